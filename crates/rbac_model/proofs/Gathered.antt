@@ -1,0 +1,83 @@
+-- the roles at places with marks are those that an aggregated role gathers from
+use Rattle.std.proofs.Common.{◌≡◌, ◌≢◌, ℕ, ◌<◌, ◌+◌, List, [], ◌∷◌, ◌++◌, length, get_or, Contains, All, AllPairs, ◌↔◌, inl, inr, sym, ap, ◌∙◌, refl, arith, subst, Bool, Result, Ok, Err, IfOk, zero, suc}
+use Rattle.std.specs.Prelude.{Option, Some, None, IsSome, slice_get, Vec, option_and_then}
+use Rattle.std.specs.List.{filter_map}
+use Rattle.std.specs.declared.alloc.Global.{Global}
+use Rattle.std.specs.declared.alloc.AllocError.{AllocError}
+use Rattle.std.proofs.lemmas.List.{get_or_default}
+use Rattle.std.proofs.lemmas.List.Elements.{Contains-get_or}
+use Rattle.std.proofs.lemmas.Option.{same_Some, slice_get_within, get_or_from_slice_get, slice_get-get_or, slice_get_cases}
+use Rattle.rbac_model.specs.Policies.{Held, IsHeld, Step, Reaches, IsPlain, AreGathered, cluster_role_name}
+use Rattle.rbac_model.specs.Lists.{by_name, IsAscendingBy}
+use Rattle.rbac_model.specs.Graphs.{Graph, LeadsTo, IsMarked}
+use Rattle.rbac_model.specs.Places.{roles_at, AreSteps, AreSourcesOf, IsPlainAt}
+use Rattle.rbac_terms.specs.declared.granting.ClusterRole.{ClusterRole}
+use Rattle.rbac_model.proofs.Kept.{length-filter_map, slice_get-filter_map}
+use Rattle.rbac_model.proofs.Stairs.{leads_reaches, reaches_leads, contains_read, read_contains}
+
+k_itself : (ks : List ℕ) (i : ℕ) → i < length ks → get_or ks i (get_or ks i 0) ≡ get_or ks i 0
+k_itself ks i l = get_or_default ks i (get_or ks i 0) 0 l
+
+-- roles at ascending places ascend
+module _ (roles : List ClusterRole) (ascending : IsAscendingBy cluster_role_name roles) (ks : List ℕ) (rising : AllPairs (λ a b. a < b) ks) (within : All (λ k. k < length roles) ks) where
+  there : All (λ k. IsSome (slice_get roles k)) ks
+  there i d l = elim ((slice_get_cases roles (get_or ks i d)).1) [
+    | inl w ↦ rw w.2 refl
+    | inr w ↦ absurd (omega (arith, within i d l, w.0))
+  ]
+
+  read_at : (i : ℕ) (d : ClusterRole) → i < length ks → get_or (filter_map (slice_get roles) ks) i d ≡ get_or roles (get_or ks i 0) d
+  read_at i d l =
+      get_or_from_slice_get (filter_map (slice_get roles) ks) i (get_or roles (get_or ks i 0) d) d
+      (slice_get-filter_map (slice_get roles) ks i there
+      ∙ ap (option_and_then (slice_get roles)) (slice_get-get_or ks i 0 l)
+      ∙ slice_get-get_or roles (get_or ks i 0) d (within i 0 l))
+
+  pub roles_ascend : IsAscendingBy cluster_role_name (filter_map (slice_get roles) ks)
+  roles_ascend i j d lt l =
+      let in_range : j < length ks = omega (arith, length-filter_map (slice_get roles) ks there) in
+      rw (read_at i d (omega arith), read_at j d in_range) (ascending (get_or ks i 0) (get_or ks j 0) d (rising i j 0 lt in_range) (within j 0 in_range))
+
+  pub in_roles : (s : ClusterRole) → Contains (filter_map (slice_get roles) ks) s → (k : ℕ) × Contains ks k × (slice_get roles k ≡ Some s)
+  in_roles s w =
+      let in_range : w.0 < length ks = omega (arith, w.1, length-filter_map (slice_get roles) ks there) in
+      let k = get_or ks w.0 0 in
+      (k, (w.0, in_range, k_itself ks w.0 in_range), slice_get-get_or roles k s (within w.0 0 in_range) ∙ ap Some (sym (read_at w.0 s in_range) ∙ w.2))
+
+  pub roles_in : (k : ℕ) (s : ClusterRole) → Contains ks k → slice_get roles k ≡ Some s → Contains (filter_map (slice_get roles) ks) s
+  roles_in k s w e =
+      let more : length (filter_map (slice_get roles) ks) ≡ length ks = length-filter_map (slice_get roles) ks there in
+      (w.0, omega (arith, w.1), read_at w.0 s w.1 ∙ ap (λ i. get_or roles i s) (get_or_default ks w.0 0 k w.1 ∙ w.2) ∙ get_or_from_slice_get roles k s s e)
+
+pub own_source : (h : Held) (at : ℕ) (r : ClusterRole) → slice_get h.cluster_roles at ≡ Some r → IsPlain r → AreSourcesOf h r (at ∷ [])
+own_source h at r e plain =
+    (λ k d l. let first : k ≡ 0 = omega arith in rw first (slice_get_within h.cluster_roles at r e), inl (plain, rw e refl))
+
+module _ (h : Held) (g : Graph) (are : AreSteps h g) (held : IsHeld h) (at : ℕ) (r : ClusterRole) (here : slice_get h.cluster_roles at ≡ Some r) (aggregated : IsPlain r → ⊥) (marks : List Bool) (reached : (k : ℕ) → IsMarked marks k ↔ LeadsTo g at k) where
+  gathered_from : (ks : List ℕ) → AllPairs (λ a b. a < b) ks → ((k : ℕ) → Contains ks k ↔ (IsMarked marks k × IsPlainAt h.cluster_roles k)) → AreSourcesOf h r ks
+  gathered_from ks rising exact =
+      let within : All (λ k. k < length h.cluster_roles) ks = λ i d l. let p = ((exact (get_or ks i d)).0 (Contains-get_or ks i d l)).1 in slice_get_within h.cluster_roles (get_or ks i d) p.0 p.1 in (
+        within,
+        inr (
+          aggregated,
+          record {
+            ordered = roles_ascend h.cluster_roles held.cluster_roles ks rising within;
+            exact = λ s. (
+              λ w.
+                  let a = in_roles h.cluster_roles held.cluster_roles ks rising within s w in
+                  let marked = (exact a.0).0 a.1 in
+                  let same = same_Some marked.1.0 s (sym marked.1.1 ∙ a.2) in
+                  let to = leads_reaches h g are at r a.0 here ((reached a.0).0 marked.0) in
+                  let same_to = same_Some to.0 s (sym to.1 ∙ a.2) in
+                  (subst IsPlain same marked.1.2, subst (Reaches h r) same_to to.2),
+              λ p.
+                  let to = reaches_leads h g are at r s here p.1 in
+                  roles_in h.cluster_roles held.cluster_roles ks rising within to.0 s ((exact to.0).1 ((reached to.0).1 to.2, (s, to.1, p.0))) to.1,
+            );
+          },
+        ),
+      )
+
+  pub gathered_sources : (o : Result (Vec ℕ Global) AllocError) → record { ascending : IfOk o (λ row. AllPairs (λ a b. a < b) row.items); exact : IfOk o (λ row. (k : ℕ) → Contains row.items k ↔ (IsMarked marks k × IsPlainAt h.cluster_roles k)) } → IfOk o (λ row. AreSourcesOf h r row.items)
+  gathered_sources (Ok row) c = gathered_from row.items c.ascending c.exact
+  gathered_sources (Err e) c = tt

@@ -1,0 +1,13 @@
+pub mod Brought
+pub mod Gathered
+pub mod Granted
+pub mod Kept
+pub mod Listed
+pub mod Lookups
+pub mod MarkedNames
+pub mod Marks
+pub mod NamePlaces
+pub mod OneList
+pub mod Reached
+pub mod Stairs
+pub mod UpTo

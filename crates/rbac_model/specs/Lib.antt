@@ -1,0 +1,7 @@
+pub mod Graphs
+pub mod Lists
+pub mod Places
+pub mod Policies
+pub mod Sources
+pub mod Unions
+pub mod Universes

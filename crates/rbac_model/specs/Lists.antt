@@ -1,0 +1,49 @@
+use Rattle.std.specs.Prelude.{◌≡◌, ℕ, ◌+◌, ◌<◌, ◌⊎◌, List, [], ◌∷◌, Some, slice_get}
+use Rattle.std.specs.List.{HoldsAt, AllWithin}
+use Rattle.std.specs.List.Sorted.{IsStrictlySortedBy}
+use Rattle.std.specs.declared.cmp.Ordering.{Ordering}
+use Rattle.std.specs.declared.cmp.Ordering.TheVariants.{Less, Equal, Greater}
+use Rattle.std.specs.Cmp.Lexicographic.{slice_cmp}
+use Rattle.std.specs.Prelude.{AllPairs, Contains, ◌↔◌, ◌≢◌, ◌≤◌, length}
+use Rattle.rbac_terms.specs.Text.{Text, text_cmp}
+
+-- x stands at place i, has the property, and nothing before it has
+pub record IsFirstAt {X : Type 0} (P : X → Type 0) (xs : List X) (i : ℕ) (x : X) : Type 0 where
+  pub here : slice_get xs i ≡ Some x
+  pub holds : P x
+  pub none_before : (k : ℕ) (y : X) → k < i → slice_get xs k ≡ Some y → ¬ P y
+
+-- ys are those of xs that have the property, in order
+abbrev pub AreKept : {X : Type 0} → (X → Type 0) → List X → List X → Type 0
+AreKept P [] ys = ys ≡ []
+AreKept {X} P (x ∷ xs) ys = (P x × ((rest : List X) × (ys ≡ x ∷ rest) × AreKept P xs rest)) ⊎ ((¬ P x) × AreKept P xs ys)
+
+-- n of xs have the property
+abbrev pub IsCount : {X : Type 0} → (X → Type 0) → List X → ℕ → Type 0
+IsCount P [] n = n ≡ 0
+IsCount P (x ∷ xs) n = (P x × ((k : ℕ) × (n ≡ k + 1) × IsCount P xs k)) ⊎ ((¬ P x) × IsCount P xs n)
+
+-- the order of two things by their names, which are lists of texts: text by text, each by its bytes
+abbrev pub by_name : {X : Type 0} → (X → List Text) → X → X → Ordering
+by_name name x y = slice_cmp text_cmp (name x) (name y)
+
+-- each name is less than each later one
+abbrev pub IsAscendingBy : {X : Type 0} → (X → List Text) → List X → Type 0
+IsAscendingBy name xs = AllPairs (λ x y. by_name name x y ≡ Less) xs
+
+-- new holds x in the place of whatever had its name, and else what old holds
+abbrev pub IsPut : {X : Type 0} → (X → List Text) → List X → List X → X → Type 0
+IsPut {X} name old new x = (y : X) → Contains new y ↔ ((y ≡ x) ⊎ (Contains old y × (name y ≢ name x)))
+
+-- x's name is at place i
+abbrev pub IsAtName : {X : Type 0} → (X → List Text) → List X → X → ℕ → Type 0
+IsAtName name xs x i = (i < length xs) × HoldsAt (λ y. by_name name y x ≡ Equal) xs i
+
+-- x's name is nowhere, and would go to place i
+abbrev pub IsGapForName : {X : Type 0} → (X → List Text) → List X → X → ℕ → Type 0
+IsGapForName name xs x i = (i ≤ length xs) × AllWithin (λ y. by_name name y x ≡ Less) xs 0 i × AllWithin (λ y. by_name name y x ≡ Greater) xs i (length xs)
+
+-- ys are the elements of xs, once each and ascending
+pub record IsOnceEach {X : Type 0} (cmp : X → X → Ordering) (xs ys : List X) : Type 0 where
+  pub ascending : IsStrictlySortedBy cmp ys
+  pub same : (x : X) → Contains ys x ↔ Contains xs x

@@ -1,0 +1,95 @@
+use Rattle.std.specs.Prelude.{◌≡◌, ◌↔◌, Contains, ℕ, ◌<◌, ◌+◌, ◌⊎◌, List, [], ◌∷◌, ◌++◌, Option, Some, None, All, Bool, IsSome, map, slice_get, length, zero, suc, Vec}
+use Rattle.std.specs.List.{filter_map, flat_map, AllZip}
+use Rattle.std.specs.Option.{option_map}
+use Rattle.std.specs.declared.alloc.Global.{Global}
+use Rattle.rbac_model.specs.Graphs.{Graph, IsMarked}
+use Rattle.rbac_model.specs.Lists.{IsAscendingBy}
+use Rattle.rbac_terms.specs.Text.{Text}
+use Rattle.rbac_model.specs.Policies.{Held, Source, InRole, InClusterRole, SourcedRule, GrantView, IsRefTo, IsPlain, Step, AreGathered, written_from, grant_at, grants_at}
+use Rattle.rbac_terms.specs.declared.granting.Binding.{Binding}
+use Rattle.rbac_terms.specs.declared.granting.ClusterRole.{ClusterRole}
+use Rattle.rbac_terms.specs.declared.granting.RoleRef.{RoleRef}
+use Rattle.rbac_terms.specs.declared.matching.Rule.{Rule}
+use Rattle.rbac_model.specs.declared.places.GrantPlace.{GrantPlace}
+use Rattle.rbac_model.specs.declared.places.RolePlace.{RolePlace}
+use Rattle.rbac_model.specs.declared.places.RolePlace.TheVariants.{RoleAt, ClusterRoleAt}
+
+-- the role at a place, and the rules that are written in it
+abbrev pub source_at : Held → RolePlace → Option Source
+source_at h (RoleAt at) = option_map (λ r. InRole r) (slice_get h.roles at)
+source_at h (ClusterRoleAt at) = option_map (λ r. InClusterRole r) (slice_get h.cluster_roles at)
+
+abbrev pub rules_of : Source → List Rule
+rules_of (InRole r) = r.rules
+rules_of (InClusterRole r) = r.rules
+
+-- a reference in that namespace, or in none, is to the role at this place
+abbrev pub IsRefAt : Held → Option Text → RoleRef → RolePlace → Type 0
+IsRefAt h namespace role place = (source : Source) × (source_at h place ≡ Some source) × IsRefTo h namespace role source
+
+-- the places of the first n rules of a role, with a binding's
+abbrev pub places_of : ℕ → RolePlace → ℕ → List GrantPlace
+places_of binding role zero = []
+places_of binding role (suc n) = places_of binding role n ++ record { binding = binding; role = role; rule = n } ∷ []
+
+-- the grants of a binding by these rules
+abbrev pub granted_by : Binding → List SourcedRule → List GrantView
+granted_by b rules = map (λ rule. record { binding = b; rule = rule }) rules
+
+-- to the places of grants those by these rules were added
+pub record IsAdded (h : Held) (b : Binding) (old new : List GrantPlace) (rules : List SourcedRule) : Type 0 where
+  pub grants : grants_at h new ≡ grants_at h old ++ granted_by b rules
+  pub held : All (λ g. IsSome (grant_at h g)) new
+
+-- the cluster roles at these places, and the rules that are written in them
+abbrev pub roles_at : Held → List ℕ → List ClusterRole
+roles_at h ps = filter_map (slice_get h.cluster_roles) ps
+
+abbrev pub rules_in : List ClusterRole → List SourcedRule
+rules_in ss = flat_map (λ s. written_from (InClusterRole s) 0 s.rules) ss
+
+-- these are the places of the roles whose rules the cluster role has: its own, or of those that it gathers from
+abbrev pub AreSourcesOf : Held → ClusterRole → List ℕ → Type 0
+AreSourcesOf h r ps =
+    All (λ p. p < length h.cluster_roles) ps
+    × ((IsPlain r × (roles_at h ps ≡ r ∷ [])) ⊎ ((¬ IsPlain r) × AreGathered h r (roles_at h ps)))
+
+-- such places, for each cluster role
+abbrev pub AreSources : Held → List (Vec ℕ Global) → Type 0
+AreSources h rows = AllZip (λ r row. AreSourcesOf h r row.items) h.cluster_roles rows
+
+-- the role at a place is plain
+abbrev pub IsPlainAt : List ClusterRole → ℕ → Type 0
+IsPlainAt roles k = (s : ClusterRole) × (slice_get roles k ≡ Some s) × IsPlain s
+
+-- one step leads from r to the role at a place
+abbrev pub IsStepTo : Held → ClusterRole → ℕ → Type 0
+IsStepTo h r k = (s : ClusterRole) × (slice_get h.cluster_roles k ≡ Some s) × Step h r s
+
+-- the places of those that one step leads to from r
+abbrev pub IsRowOf : Held → ClusterRole → Vec ℕ Global → Type 0
+IsRowOf h r row = (k : ℕ) → Contains row.items k ↔ IsStepTo h r k
+
+-- such places, for each cluster role
+abbrev pub AreSteps : Held → Graph → Type 0
+AreSteps h rows = AllZip (IsRowOf h) h.cluster_roles rows
+
+-- the places of the rules of a role, and of those of cluster roles, with a binding's
+abbrev pub rule_count : Option (List Rule) → ℕ
+rule_count None = 0
+rule_count (Some rules) = length rules
+
+abbrev pub role_places : Held → ℕ → ℕ → List GrantPlace
+role_places h binding at = places_of binding (RoleAt at) (rule_count (option_map (λ r. r.rules) (slice_get h.roles at)))
+
+abbrev pub places_in : Held → ℕ → List ℕ → List GrantPlace
+places_in h binding ps = flat_map (λ at. places_of binding (ClusterRoleAt at) (rule_count (option_map (λ r. r.rules) (slice_get h.cluster_roles at)))) ps
+
+-- a text is the name of a role at a place with a mark
+abbrev pub IsMarkedName : Held → List Bool → Text → Type 0
+IsMarkedName h marks w = (k : ℕ) × (s : ClusterRole) × IsMarked marks k × (slice_get h.cluster_roles k ≡ Some s) × (s.name ≡ w)
+
+-- such names, ascending
+pub record AreMarkedNames (h : Held) (marks : List Bool) (ws : List Text) : Type 0 where
+  pub ordered : IsAscendingBy (λ w. w ∷ []) ws
+  pub exact : (w : Text) → Contains ws w ↔ IsMarkedName h marks w

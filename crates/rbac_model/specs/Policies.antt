@@ -1,0 +1,193 @@
+use Rattle.std.specs.Prelude.{◌≡◌, ◌≢◌, ℕ, ◌+◌, ◌⊎◌, ◌↔◌, List, [], ◌∷◌, ◌++◌, Option, Some, None, Any, Contains, codes, map}
+use Rattle.std.specs.List.{flat_map, filter_map}
+use Rattle.std.specs.Option.{option_map}
+use Rattle.std.specs.Prelude.{option_and_then, slice_get}
+use Rattle.rbac_model.specs.declared.places.GrantPlace.{GrantPlace}
+use Rattle.rbac_model.specs.declared.places.RolePlace.{RolePlace}
+use Rattle.rbac_model.specs.declared.places.RolePlace.TheVariants.{RoleAt, ClusterRoleAt}
+use Rattle.rbac_model.specs.Lists.{IsFirstAt, IsAscendingBy, IsPut}
+use Rattle.rbac_terms.specs.Text.{Text}
+use Rattle.rbac_terms.specs.Targets.{What, Resource, Url}
+use Rattle.rbac_terms.specs.Principals.{Who}
+use Rattle.rbac_terms.specs.Selecting.{Selects}
+use Rattle.rbac_terms.specs.Granting.{Names}
+use Rattle.rbac_terms.specs.Matching.{RuleAllows}
+use Rattle.rbac_terms.specs.declared.matching.Rule.{Rule}
+use Rattle.rbac_model.specs.declared.holding.Object.{Object}
+use Rattle.rbac_model.specs.declared.holding.Object.TheVariants.{Role as ARole, ClusterRole as AClusterRole, Binding as ABinding}
+use Rattle.rbac_terms.specs.declared.granting.Role.{Role}
+use Rattle.rbac_terms.specs.declared.granting.ClusterRole.{ClusterRole}
+use Rattle.rbac_terms.specs.declared.granting.RoleRef.{RoleRef}
+use Rattle.rbac_terms.specs.declared.granting.RoleRef.TheVariants.{Role as ToRole, ClusterRole as ToClusterRole}
+use Rattle.rbac_terms.specs.declared.granting.Binding.{Binding}
+use Rattle.rbac_terms.specs.declared.granting.Subject.{Subject}
+use Rattle.rbac_terms.specs.declared.selecting.Selector.{Selector}
+
+-- the objects that are held, each list in order of names
+pub record Held : Type 0 where
+  pub roles : List Role
+  pub cluster_roles : List ClusterRole
+  pub bindings : List Binding
+
+-- an object's name: its kind, namespace and name; a cluster-scoped object has the empty namespace
+abbrev pub role_name : Role → List Text
+role_name r = codes "Role" ∷ r.namespace ∷ r.name ∷ []
+
+abbrev pub cluster_role_name : ClusterRole → List Text
+cluster_role_name r = codes "ClusterRole" ∷ [] ∷ r.name ∷ []
+
+abbrev pub binding_name_at : Option Text → Text → List Text
+binding_name_at None name = codes "ClusterRoleBinding" ∷ [] ∷ name ∷ []
+binding_name_at (Some namespace) name = codes "RoleBinding" ∷ namespace ∷ name ∷ []
+
+abbrev pub binding_name : Binding → List Text
+binding_name b = binding_name_at b.namespace b.name
+
+-- one object of a name, in order (own): ClusterRoleBindings by name, then RoleBindings by namespace and name
+pub record IsHeld (h : Held) : Type 0 where
+  pub roles : IsAscendingBy role_name h.roles
+  pub cluster_roles : IsAscendingBy cluster_role_name h.cluster_roles
+  pub bindings : IsAscendingBy binding_name h.bindings
+
+-- new holds the object in the place of whatever had its kind and name, and else what old holds
+abbrev pub Puts : Held → Held → Object → Type 0
+Puts old new (ARole r) = IsPut role_name old.roles new.roles r × (new.cluster_roles ≡ old.cluster_roles) × (new.bindings ≡ old.bindings)
+Puts old new (AClusterRole r) = IsPut cluster_role_name old.cluster_roles new.cluster_roles r × (new.roles ≡ old.roles) × (new.bindings ≡ old.bindings)
+Puts old new (ABinding b) = IsPut binding_name old.bindings new.bindings b × (new.roles ≡ old.roles) × (new.cluster_roles ≡ old.cluster_roles)
+
+-- an object of that kind and name is held
+abbrev pub HasNameOf : Held → Object → Type 0
+HasNameOf h (ARole r) = Any (λ y. role_name y ≡ role_name r) h.roles
+HasNameOf h (AClusterRole r) = Any (λ y. cluster_role_name y ≡ cluster_role_name r) h.cluster_roles
+HasNameOf h (ABinding b) = Any (λ y. binding_name y ≡ binding_name b) h.bindings
+
+-- a cluster role whose aggregationRule is there is aggregated, by these selectors
+abbrev pub IsPlain : ClusterRole → Type 0
+IsPlain r = r.aggregation ≡ None
+
+abbrev pub Gathers : Option (List Selector) → ClusterRole → Type 0
+Gathers None s = ⊥
+Gathers (Some selectors) s = Any (λ selector. Selects selector s.labels) selectors
+
+-- one step: r is aggregated, s is another role, and some selector of r selects its labels (Using RBAC Authorization, Aggregated ClusterRoles)
+abbrev pub Step : Held → ClusterRole → ClusterRole → Type 0
+Step h r s = Contains h.cluster_roles s × (r.name ≢ s.name) × Gathers r.aggregation s
+
+-- a path of steps from r through these roles, one after the other, to s
+abbrev pub IsPath : Held → ClusterRole → List ClusterRole → ClusterRole → Type 0
+IsPath h r [] s = Step h r s
+IsPath h r (m ∷ ms) s = Step h r m × IsPath h m ms s
+
+-- s is reached from r by one or more steps (own: the settled state, computed from plain roles alone)
+abbrev pub Reaches : Held → ClusterRole → ClusterRole → Type 0
+Reaches h r s = (between : List ClusterRole) × IsPath h r between s
+
+-- the names of all that r reaches, ascending
+pub record AreReachedNames (h : Held) (r : ClusterRole) (ws : List Text) : Type 0 where
+  pub ordered : IsAscendingBy (λ w. w ∷ []) ws
+  pub exact : (w : Text) → Contains ws w ↔ ((s : ClusterRole) × Reaches h r s × (s.name ≡ w))
+
+-- where a rule is written: a role, or a plain cluster role
+pub data Source : Type 0 where
+  InRole : Role → Source
+  InClusterRole : ClusterRole → Source
+
+-- a rule with the role where it is written and its place there, from 0
+pub record SourcedRule : Type 0 where
+  pub source : Source
+  pub rule : Rule
+  pub place : ℕ
+
+abbrev pub written_from : Source → ℕ → List Rule → List SourcedRule
+written_from source i [] = []
+written_from source i (r ∷ rs) = record { source = source; rule = r; place = i } ∷ written_from source (i + 1) rs
+
+-- the roles that r gathers from: the plain ones that it reaches, by name
+pub record AreGathered (h : Held) (r : ClusterRole) (ss : List ClusterRole) : Type 0 where
+  pub ordered : IsAscendingBy cluster_role_name ss
+  pub exact : (s : ClusterRole) → Contains ss s ↔ (IsPlain s × Reaches h r s)
+
+-- a plain role has the rules written in it; an aggregated one those of all that it gathers from, in order (own)
+abbrev pub AreRulesOf : Held → Source → List SourcedRule → Type 0
+AreRulesOf h (InRole r) rules = rules ≡ written_from (InRole r) 0 r.rules
+AreRulesOf h (InClusterRole r) rules =
+    (IsPlain r × (rules ≡ written_from (InClusterRole r) 0 r.rules))
+    ⊎ ((¬ IsPlain r) × ((ss : List ClusterRole) × AreGathered h r ss × (rules ≡ flat_map (λ s. written_from (InClusterRole s) 0 s.rules) ss)))
+
+-- the role that a reference in that namespace, or in none, is to (Using RBAC Authorization, RoleBinding and ClusterRoleBinding); from no namespace none is to a Role
+abbrev pub IsRefTo : Held → Option Text → RoleRef → Source → Type 0
+IsRefTo h (Some namespace) (ToRole name) (InRole r) = Contains h.roles r × (r.namespace ≡ namespace) × (r.name ≡ name)
+IsRefTo h _ (ToClusterRole name) (InClusterRole r) = Contains h.cluster_roles r × (r.name ≡ name)
+IsRefTo h _ _ _ = ⊥
+
+-- the rules that a binding brings; a dangling one brings none
+abbrev pub AreRulesFor : Held → Binding → List SourcedRule → Type 0
+AreRulesFor h b rules =
+    ((role : Source) × IsRefTo h b.namespace b.role role × AreRulesOf h role rules)
+    ⊎ (((role : Source) → ¬ IsRefTo h b.namespace b.role role) × (rules ≡ []))
+
+-- a binding whose role is there, and a rule of that role
+pub record GrantView : Type 0 where
+  pub binding : Binding
+  pub rule : SourcedRule
+
+-- the grants of bindings, in order of bindings, then of rules
+abbrev pub AreGrantsOf : Held → List Binding → List GrantView → Type 0
+AreGrantsOf h [] gs = gs ≡ []
+AreGrantsOf h (b ∷ bs) gs =
+    (rules : List SourcedRule) × (rest : List GrantView) × AreRulesFor h b rules × AreGrantsOf h bs rest
+    × (gs ≡ map (λ rule. record { binding = b; rule = rule }) rules ++ rest)
+
+-- places of a binding, of its role and of a rule in it, and the grant that they stand for
+abbrev pub rule_at : Source → List Rule → ℕ → Option SourcedRule
+rule_at source rules i = option_map (λ r. record { source = source; rule = r; place = i }) (slice_get rules i)
+
+abbrev pub sourced_at : Held → RolePlace → ℕ → Option SourcedRule
+sourced_at h (RoleAt at) i = option_and_then (λ role. rule_at (InRole role) role.rules i) (slice_get h.roles at)
+sourced_at h (ClusterRoleAt at) i = option_and_then (λ role. rule_at (InClusterRole role) role.rules i) (slice_get h.cluster_roles at)
+
+abbrev pub grant_at : Held → GrantPlace → Option GrantView
+grant_at h g = option_and_then (λ b. option_map (λ rule. record { binding = b; rule = rule }) (sourced_at h g.role g.rule)) (slice_get h.bindings g.binding)
+
+abbrev pub grants_at : Held → List GrantPlace → List GrantView
+grants_at h gs = filter_map (grant_at h) gs
+
+-- what contracts see of a policy: its objects, and its grants, numbered from 0
+pub record PolicyView : Type 0 where
+  pub held : Held
+  pub grants : List GrantView
+
+abbrev pub IsPolicy : PolicyView → Type 0
+IsPolicy p = IsHeld p.held × AreGrantsOf p.held p.held.bindings p.grants
+
+-- where a binding in that namespace, or in none, is live (Using RBAC Authorization): everywhere, or for resources of its own namespace
+abbrev pub Live : Option Text → Text → What → Type 0
+Live None asked t = Unit {0}
+Live (Some namespace) asked (Resource _ _ _) = (asked ≢ []) × (namespace ≡ asked)
+Live (Some namespace) asked (Url _) = ⊥
+
+abbrev pub BindingNames : Binding → Who → Type 0
+BindingNames b who = Any (λ subject. Names subject b.namespace who) b.subjects
+
+-- a binding grants: it is live, names who asks, and brings a rule that allows
+abbrev pub Grants : Held → Binding → Who → Text → Text → What → Type 0
+Grants h b who namespace verb t =
+    Live b.namespace namespace t × BindingNames b who
+    × ((rules : List SourcedRule) × AreRulesFor h b rules × Any (λ r. RuleAllows r.rule verb t) rules)
+
+-- some binding grants; there are no deny rules (Using RBAC Authorization)
+abbrev pub Allows : Held → Who → Text → Text → What → Type 0
+Allows h who namespace verb t = Any (λ b. Grants h b who namespace verb t) h.bindings
+
+-- b is the first binding that grants (own)
+abbrev pub IsFirst : Held → Who → Text → Text → What → Binding → Type 0
+IsFirst h who namespace verb t b = (i : ℕ) × IsFirstAt (λ c. Grants h c who namespace verb t) h.bindings i b
+
+-- a grant whose binding is live and names who asks, and whose rule allows
+abbrev pub GrantAllows : Who → Text → Text → What → GrantView → Type 0
+GrantAllows who namespace verb t g = Live g.binding.namespace namespace t × BindingNames g.binding who × RuleAllows g.rule.rule verb t
+
+-- why it is allowed: the least grant that allows, and the least subject of its binding that names who asks (own)
+pub record IsWhy (p : PolicyView) (who : Who) (namespace verb : Text) (t : What) (g : GrantView) (subject_place : ℕ) : Type 0 where
+  pub grant : (no : ℕ) × IsFirstAt (GrantAllows who namespace verb t) p.grants no g
+  pub subject : (s : Subject) × IsFirstAt (λ s. Names s g.binding.namespace who) g.binding.subjects subject_place s

@@ -1,0 +1,29 @@
+use Rattle.std.specs.Prelude.{◌≡◌, ℕ, ◌↔◌, ◌⊎◌, List, [], ◌∷◌, Contains, Any}
+use Rattle.rbac_terms.specs.Text.{Text}
+use Rattle.rbac_model.specs.Lists.{IsAscendingBy}
+use Rattle.rbac_terms.specs.Principals.{Who, AsUser, AsMember, key_of}
+
+-- a principal's key alone, as a list of one text
+abbrev pub who_name : Who → List Text
+who_name who = key_of who ∷ []
+
+-- the groups that are given
+abbrev pub given_of : Who → List Text
+given_of (AsUser name given) = given
+given_of (AsMember group) = []
+
+-- some principal of that key is given that group
+abbrev pub IsGiven : List Who → Text → Text → Type 0
+IsGiven ps key g = Any (λ p. (key_of p ≡ key) × Contains (given_of p) g) ps
+
+-- one principal for each key of the list, in order of keys, with all groups that are given under its key
+pub record AreUnited (listed ps : List Who) : Type 0 where
+  pub ordered : IsAscendingBy who_name ps
+  pub keys : (key : Text) → Any (λ p. key_of p ≡ key) ps ↔ Any (λ p. key_of p ≡ key) listed
+  pub given : (key g : Text) → IsGiven ps key g ↔ IsGiven listed key g
+
+-- the same after one principal more
+pub record IsUnited (old : List Who) (who : Who) (new : List Who) : Type 0 where
+  pub ordered : IsAscendingBy who_name new
+  pub keys : (key : Text) → Any (λ p. key_of p ≡ key) new ↔ (Any (λ p. key_of p ≡ key) old ⊎ (key_of who ≡ key))
+  pub given : (key g : Text) → IsGiven new key g ↔ (IsGiven old key g ⊎ ((key_of who ≡ key) × Contains (given_of who) g))

@@ -1,0 +1,129 @@
+use Rattle.std.specs.Prelude.{◌≡◌, ◌≢◌, ℕ, ◌+◌, ◌<◌, ◌⊎◌, ◌↔◌, List, [], ◌∷◌, Option, Some, None, Bool, IsTrue, Contains, map, take, filter, length, nat_lt, AllPairs}
+use Rattle.std.specs.List.{flat_map}
+use Rattle.std.specs.Ordering.{is_lt, is_gt}
+use Rattle.rbac_model.specs.Lists.{IsCount, IsAscendingBy}
+use Rattle.rbac_terms.specs.Text.{Text}
+use Rattle.rbac_terms.specs.Targets.{What, group_of, text_of, name_of}
+use Rattle.rbac_terms.specs.Principals.{Who, AsUser, AsMember, key_of as who_key}
+use Rattle.rbac_terms.specs.Keys.{KeyTexts, key_of, key_cmp}
+use Rattle.rbac_terms.specs.Matching.{VerbOk, TargetOk, RuleAllows}
+use Rattle.rbac_terms.specs.Targets.{IsProper}
+use Rattle.rbac_model.specs.Policies.{Held, PolicyView, GrantView, BindingNames, Live, IsFirst, AreRulesFor, SourcedRule}
+use Rattle.std.specs.Prelude.{Any, slice_get}
+use Rattle.rbac_terms.specs.declared.matching.Rule.{Rule}
+use Rattle.rbac_terms.specs.declared.granting.Binding.{Binding}
+use Rattle.rbac_terms.specs.declared.granting.Subject.{Subject}
+use Rattle.rbac_terms.specs.declared.granting.Subject.TheVariants.{User, Group, Account}
+use Rattle.rbac_terms.specs.Principals.{account_user}
+
+-- a target with whether it is namespaced; a URL isn't
+abbrev pub Listed : Type 0
+Listed = What × Bool
+
+-- what is asked for (own): four lists without repeats, each in order
+pub record UniverseView : Type 0 where
+  pub principals : List Who
+  pub namespaces : List Text
+  pub verbs : List Text
+  pub targets : List Listed
+
+abbrev pub target_texts : Listed → List Text
+target_texts t = group_of t.0 ∷ text_of t.0 ∷ name_of t.0 ∷ []
+
+pub record IsUniverse (u : UniverseView) : Type 0 where
+  pub principals : IsAscendingBy (λ who. who_key who ∷ []) u.principals
+  pub namespaces : IsAscendingBy (λ n. n ∷ []) u.namespaces
+  pub verbs : IsAscendingBy (λ v. v ∷ []) u.verbs
+  pub targets : IsAscendingBy target_texts u.targets
+
+-- one request of the universe
+pub record Cell : Type 0 where
+  pub who : Who
+  pub namespace : Text
+  pub verb : Text
+  pub target : Listed
+
+-- it fits: its target is namespaced, or its namespace is empty (own)
+abbrev pub Fits : Cell → Type 0
+Fits c = (IsTrue c.target.1) ⊎ (c.namespace ≡ [])
+
+abbrev pub cell_key : Cell → KeyTexts
+cell_key c = key_of c.who c.namespace c.verb c.target.0
+
+abbrev pub IsCellOf : UniverseView → Cell → Type 0
+IsCellOf u c = Contains u.principals c.who × Contains u.namespaces c.namespace × Contains u.verbs c.verb × Contains u.targets c.target
+
+-- a fitting cell with the first binding that grants it
+pub record RowView : Type 0 where
+  pub cell : Cell
+  pub binding : Binding
+
+abbrev pub IsRow : Held → UniverseView → RowView → Type 0
+IsRow h u row = IsCellOf u row.cell × Fits row.cell × IsFirst h row.cell.who row.cell.namespace row.cell.verb row.cell.target.0 row.binding
+
+-- the matrix: all rows, in order of keys (own)
+pub record IsMatrix (h : Held) (u : UniverseView) (rows : List RowView) : Type 0 where
+  pub ordered : AllPairs (λ a b. IsTrue (is_lt (key_cmp (cell_key a.cell) (cell_key b.cell)))) rows
+  pub exact : (row : RowView) → Contains rows row ↔ IsRow h u row
+
+-- the rows whose key is greater; all where no key is given
+abbrev pub rows_after : Option KeyTexts → List RowView → List RowView
+rows_after None rows = rows
+rows_after (Some k) rows = filter (λ row. is_gt (key_cmp (cell_key row.cell) k)) rows
+
+-- the first n of them, and whether one more exists
+abbrev pub page : Option KeyTexts → ℕ → List RowView → List RowView × Bool
+page k n rows = (take n (rows_after k rows), nat_lt n (length (rows_after k rows)))
+
+-- the principal key of a subject, if it has one (own): an account's is its user's, and one without any namespace has none
+abbrev pub IsSubjectKey : Subject → Option Text → Text → Type 0
+IsSubjectKey (User name) _ key = key ≡ who_key (AsUser name [])
+IsSubjectKey (Group name) _ key = key ≡ who_key (AsMember name)
+IsSubjectKey (Account (Some namespace) name) _ key = key ≡ who_key (AsUser (account_user namespace name) [])
+IsSubjectKey (Account None name) (Some namespace) key = key ≡ who_key (AsUser (account_user namespace name) [])
+IsSubjectKey (Account None name) None key = ⊥
+
+-- the key holds by that subject of that binding: the binding is live, and brings a rule that allows
+abbrev pub HoldsBy : Held → Text → Text → What → Binding → Subject → Text → Type 0
+HoldsBy h namespace verb t b s key =
+    Live b.namespace namespace t × ((rules : List SourcedRule) × AreRulesFor h b rules × Any (λ r. RuleAllows r.rule verb t) rules)
+    × IsSubjectKey s b.namespace key
+
+-- a holder: a key, with the least pair of places, of a binding and of a subject in it, by which it holds
+pub record HolderView : Type 0 where
+  pub key : Text
+  pub binding : Binding
+  pub binding_place : ℕ
+  pub subject_place : ℕ
+
+abbrev pub HoldsAt : Held → Text → Text → What → Text → ℕ → ℕ → Type 0
+HoldsAt h namespace verb t key i j =
+    (b : Binding) × (s : Subject) × (slice_get h.bindings i ≡ Some b) × (slice_get b.subjects j ≡ Some s) × HoldsBy h namespace verb t b s key
+
+abbrev pub IsHolder : Held → Text → Text → What → HolderView → Type 0
+IsHolder h namespace verb t x =
+    (slice_get h.bindings x.binding_place ≡ Some x.binding) × HoldsAt h namespace verb t x.key x.binding_place x.subject_place
+    × ((i j : ℕ) → HoldsAt h namespace verb t x.key i j → (x.binding_place < i) ⊎ ((x.binding_place ≡ i) × (x.subject_place < j + 1)))
+
+-- who can: each holder once, in order of these pairs (own)
+pub record AreHolders (h : Held) (namespace verb : Text) (t : What) (xs : List HolderView) : Type 0 where
+  pub ordered : AllPairs (λ x y. (x.binding_place < y.binding_place) ⊎ ((x.binding_place ≡ y.binding_place) × (x.subject_place < y.subject_place))) xs
+  pub exact : (x : HolderView) → Contains xs x ↔ IsHolder h namespace verb t x
+
+-- a allows whatever b allows: every verb, and every target that is proper
+abbrev pub Covers : Rule → Rule → Type 0
+Covers a b = (v : Text) (t : What) → IsProper t → RuleAllows b v t → RuleAllows a v t
+
+-- a binding is a ClusterRoleBinding, or in that namespace, which is not empty
+abbrev pub LiveForSome : Option Text → Text → Type 0
+LiveForSome None asked = Unit {0}
+LiveForSome (Some namespace) asked = (asked ≢ []) × (namespace ≡ asked)
+
+-- a line of the matrix: who, namespace and verb; the grants that may allow something on it, targets aside
+abbrev pub IsCursor : Who → Text → Text → GrantView → Type 0
+IsCursor who namespace verb g = VerbOk g.rule.rule verb × BindingNames g.binding who × LiveForSome g.binding.namespace namespace
+
+-- how many pairs of such a grant and a target of the universe match, verbs aside
+abbrev pub AreTouches : PolicyView → UniverseView → Who → Text → Text → ℕ → Type 0
+AreTouches p u who namespace verb n =
+    IsCount {X = GrantView × Listed} (λ pair. IsCursor who namespace verb pair.0 × TargetOk pair.0.rule.rule pair.1.0) (flat_map (λ g. map (λ t. (g, t)) u.targets) p.grants) n

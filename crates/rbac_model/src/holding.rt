@@ -1,0 +1,164 @@
+//! The objects that are held, in order of their names.
+
+ghost use Rattle.std.specs.Prelude.{◌≡◌, ◌↔◌, IsTrue, IfOk, IfErr, OnOk, OnErr, Any, List, [], ℕ};
+ghost use Rattle.rbac_terms.specs.Text.{Text, text_cmp};
+ghost use Rattle.rbac_model.specs.Lists.{by_name, IsAscendingBy, IsPut, IsAtName, IsGapForName};
+
+use rbac_terms::{Binding, ClusterRole, ModelFault, Role};
+use std::alloc::{AllocError, Global};
+use std::cmp::Ordering;
+use std::marker::Model;
+
+/// An object that a policy is made of.
+#[derive(Clone, Drop)]
+pub enum Object {
+    Role(Role),
+    ClusterRole(ClusterRole),
+    Binding(Binding),
+}
+
+/// Objects by kind, namespace and name, one of each.
+#[derive(Drop)]
+pub struct Objects {
+    roles: Vec<Role>,
+    cluster_roles: Vec<ClusterRole>,
+    bindings: Vec<Binding>,
+}
+
+impl Model for Objects {
+    ghost use Rattle.rbac_model.specs.Policies.{Held, IsHeld};
+
+    ghost Value = { Held };
+
+    ghost view = { λ o. record { roles = o.roles.items; cluster_roles = o.cluster_roles.items; bindings = o.bindings.items } };
+
+    ghost invariant = { λ o. IsHeld (record { roles = o.roles.items; cluster_roles = o.cluster_roles.items; bindings = o.bindings.items }) };
+}
+
+impl Objects {
+    ghost use Rattle.rbac_model.specs.Policies.{Held, IsHeld, Puts, HasNameOf};
+
+    /// No objects, which takes no memory.
+    pub fn new(alloc: Global) -> Self
+        ensures { result ≡ record { roles = []; cluster_roles = []; bindings = [] } }
+    {
+        Objects {
+            roles: Vec::new(alloc),
+            cluster_roles: Vec::new(alloc),
+            bindings: Vec::new(alloc),
+        }
+    }
+
+    /// Puts an object over the one of its kind, namespace and name: whether there was one.
+    pub fn put(&mut self, object: Object) -> Result<bool, ModelFault>
+        ensures ok { OnOk result (Puts self.old self.new object) }
+        ensures replaced { IfOk result (λ was. IsTrue was ↔ HasNameOf self.old object) }
+        ensures held { IsHeld self.new }
+        ensures err { OnErr result (self.new ≡ self.old) }
+        ensures only_memory { IfErr result (λ e. e ≡ ModelFault.NoMemory) }
+    {
+        match object {
+            Object::Role(role) => Ok(put(&mut self.roles, role)?),
+            Object::ClusterRole(role) => Ok(put(&mut self.cluster_roles, role)?),
+            Object::Binding(binding) => Ok(put(&mut self.bindings, binding)?),
+        }
+    }
+
+    /// The roles, in order of namespace and name.
+    pub fn roles(&self) -> &[Role]
+        ensures roles { result.now ≡ self.now.roles }
+        ensures held { IsHeld self.now }
+    {
+        self.roles.as_slice()
+    }
+
+    /// The cluster roles, in order of name.
+    pub fn cluster_roles(&self) -> &[ClusterRole]
+        ensures cluster_roles { result.now ≡ self.now.cluster_roles }
+        ensures held { IsHeld self.now }
+    {
+        self.cluster_roles.as_slice()
+    }
+
+    /// The bindings: ClusterRoleBindings by name, then RoleBindings by namespace and name.
+    pub fn bindings(&self) -> &[Binding]
+        ensures bindings { result.now ≡ self.now.bindings }
+        ensures held { IsHeld self.now }
+    {
+        self.bindings.as_slice()
+    }
+}
+
+/// What has a name among its kind.
+pub(crate) trait Named {
+    ghost name: { Self → List Text };
+
+    fn cmp_name(&self, other: &Self) -> Ordering
+        ensures { result ≡ by_name name self.now other.now };
+}
+
+impl Named for Role {
+    ghost use Rattle.rbac_model.specs.Policies.{role_name};
+
+    ghost name = { role_name };
+
+    fn cmp_name(&self, other: &Self) -> Ordering {
+        self.namespace
+            .cmp(&other.namespace)
+            .then(self.name.cmp(&other.name))
+    }
+}
+
+impl Named for ClusterRole {
+    ghost use Rattle.rbac_model.specs.Policies.{cluster_role_name};
+
+    ghost name = { cluster_role_name };
+
+    fn cmp_name(&self, other: &Self) -> Ordering {
+        self.name.cmp(&other.name)
+    }
+}
+
+impl Named for Binding {
+    ghost use Rattle.rbac_model.specs.Policies.{binding_name};
+
+    ghost name = { binding_name };
+
+    fn cmp_name(&self, other: &Self) -> Ordering {
+        match (&self.namespace, &other.namespace) {
+            (None, None) => self.name.cmp(&other.name),
+            (None, Some(_)) => Ordering::Less,
+            (Some(_), None) => Ordering::Greater,
+            (Some(mine), Some(theirs)) => mine.cmp(theirs).then(self.name.cmp(&other.name)),
+        }
+    }
+}
+
+// Where the name of this item is, or where it would go.
+pub(crate) fn place<T: Named>(items: &[T], item: &T) -> Result<usize, usize>
+    requires { IsAscendingBy T.name items.now }
+    ensures found { IfOk result (IsAtName T.name items.now item.now) }
+    ensures absent { IfErr result (IsGapForName T.name items.now item.now) }
+{
+    items.binary_search_by(|held| held.cmp_name(item))
+}
+
+// Puts an item in its place, over the one of its name if there is one: whether there was.
+fn put<T: Named + Drop>(items: &mut Vec<T>, item: T) -> Result<bool, AllocError>
+    requires { IsAscendingBy T.name items.old.items }
+    ensures ok { OnOk result (IsPut T.name items.old.items items.new.items item) }
+    ensures replaced { IfOk result (λ was. IsTrue was ↔ Any (λ y. T.name y ≡ T.name item) items.old.items) }
+    ensures ascending { IsAscendingBy T.name items.new.items }
+    ensures err { OnErr result (items.new.items ≡ items.old.items) }
+{
+    match place(items, &item) {
+        Ok(at) => {
+            items[at] = item;
+            Ok(true)
+        }
+        Err(at) => {
+            items.insert(at, item)?;
+            Ok(false)
+        }
+    }
+}

@@ -1,0 +1,23 @@
+//! Policies: the objects of an export, and the grants that follow from them. The words that they
+//! are made of stand in `rbac_terms`, and are reached from here too.
+#![tactic(auto)]
+
+mod fault;
+mod gathering;
+mod holding;
+mod listing;
+mod places;
+mod policy;
+mod reaching;
+mod resolving;
+
+pub use fault::ResolveFault;
+pub use holding::{Object, Objects};
+pub use policy::Policy;
+pub use rbac_terms::{
+    Binding, ClusterRole, Key, Labels, ModelFault, Principal, Requirement, Requirements, Role,
+    RoleRef, Rule, Rules, SelectOp, Selector, Selectors, Subject, Subjects, Target, Word, Words,
+    group_matches, name_matches, names, resource_matches, rule_allows, selects, target_matches,
+    url_matches, verb_matches,
+};
+pub use resolving::{Grant, SourceRole, role_of};

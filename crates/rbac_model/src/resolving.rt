@@ -1,0 +1,145 @@
+//! What the references of bindings stand for.
+
+ghost use Rattle.std.specs.Prelude.{◌≡◌, ◌<◌, Contains, Any, HoldsAt, MatchOption, IsSome, Some, length};
+ghost use Rattle.rbac_model.specs.Lists.{IsAscendingBy};
+ghost use Rattle.rbac_model.specs.Places.{IsRefAt};
+ghost use Rattle.rbac_model.specs.Policies.{Held, Source, IsRefTo, grant_at, sourced_at, role_name, cluster_role_name};
+ghost use Rattle.rbac_model.specs.Sources.{grant_of, source_of};
+
+use crate::holding::Objects;
+use crate::places::{GrantPlace, RolePlace};
+use rbac_terms::{Binding, ClusterRole, Role, RoleRef, Rule, Word};
+
+/// The role where a rule is written.
+#[derive(Clone, Copy)]
+pub enum SourceRole<'a> {
+    Role(&'a Role),
+    ClusterRole(&'a ClusterRole),
+}
+
+/// A grant: a binding, and a rule of its role with the place where it is written.
+#[derive(Clone, Copy)]
+pub struct Grant<'a> {
+    pub binding: &'a Binding,
+    pub source: SourceRole<'a>,
+    pub rule: &'a Rule,
+    pub place: usize,
+}
+
+// The grant at these places.
+pub(crate) fn grant_from<'a>(objects: &'a Objects, at: GrantPlace) -> Grant<'a>
+    requires { IsSome (grant_at objects.now at) }
+    ensures { grant_at objects.now at ≡ Some (grant_of result) }
+{
+    let binding = &objects.bindings()[at.binding];
+    let (source, rule) = sourced(objects, at.role, at.rule);
+    Grant {
+        binding,
+        source,
+        rule,
+        place: at.rule,
+    }
+}
+
+// The role at a place, and a rule of it.
+fn sourced<'a>(objects: &'a Objects, role: RolePlace, place: usize) -> (SourceRole<'a>, &'a Rule)
+    requires { IsSome (sourced_at objects.now role place) }
+    ensures { sourced_at objects.now role place ≡ Some (record { source = source_of result.0; rule = result.1.now; place = place }) }
+{
+    match role {
+        RolePlace::RoleAt(at) => {
+            let role = &objects.roles()[at];
+            (SourceRole::Role(role), &role.rules.as_slice()[place])
+        }
+        RolePlace::ClusterRoleAt(at) => {
+            let role = &objects.cluster_roles()[at];
+            (SourceRole::ClusterRole(role), &role.rules.as_slice()[place])
+        }
+    }
+}
+
+/// The role that a binding refers to, if it is held.
+pub fn role_of<'a>(objects: &'a Objects, binding: &Binding) -> Option<SourceRole<'a>>
+    ensures { MatchOption result
+        ((source : Source) → ¬ IsRefTo objects.now binding.now.namespace binding.now.role source)
+        (λ role. IsRefTo objects.now binding.now.namespace binding.now.role (source_of role)) }
+{
+    match (&binding.namespace, &binding.role) {
+        (Some(namespace), RoleRef::Role(name)) => match find_role(objects, namespace, name) {
+            Some(role) => Some(SourceRole::Role(role)),
+            None => None,
+        },
+        (None, RoleRef::Role(_)) => None,
+        (_, RoleRef::ClusterRole(name)) => match find_cluster_role(objects, name) {
+            Some(role) => Some(SourceRole::ClusterRole(role)),
+            None => None,
+        },
+    }
+}
+
+fn find_role<'a>(objects: &'a Objects, namespace: &Word, name: &Word) -> Option<&'a Role>
+    ensures { MatchOption result
+        (¬ Any (λ r. (r.namespace ≡ namespace.now) × (r.name ≡ name.now)) objects.now.roles)
+        (λ r. Contains objects.now.roles r.now × (r.now.namespace ≡ namespace.now) × (r.now.name ≡ name.now)) }
+{
+    let roles = objects.roles();
+    match role_place(roles, namespace, name) {
+        Some(at) => Some(&roles[at]),
+        None => None,
+    }
+}
+
+fn find_cluster_role<'a>(objects: &'a Objects, name: &Word) -> Option<&'a ClusterRole>
+    ensures { MatchOption result
+        (¬ Any (λ r. r.name ≡ name.now) objects.now.cluster_roles)
+        (λ r. Contains objects.now.cluster_roles r.now × (r.now.name ≡ name.now)) }
+{
+    let roles = objects.cluster_roles();
+    match cluster_role_place(roles, name) {
+        Some(at) => Some(&roles[at]),
+        None => None,
+    }
+}
+
+// Where the role of that namespace and name is.
+pub(crate) fn role_place(roles: &[Role], namespace: &Word, name: &Word) -> Option<usize>
+    requires { IsAscendingBy role_name roles.now }
+    ensures { MatchOption result
+        (¬ Any (λ r. (r.namespace ≡ namespace.now) × (r.name ≡ name.now)) roles.now)
+        (λ at. (at < length roles.now) × HoldsAt (λ r. (r.namespace ≡ namespace.now) × (r.name ≡ name.now)) roles.now at) }
+{
+    roles
+        .binary_search_by(|held| held.namespace.cmp(namespace).then(held.name.cmp(name)))
+        .ok()
+}
+
+// Where the cluster role of that name is.
+pub(crate) fn cluster_role_place(roles: &[ClusterRole], name: &Word) -> Option<usize>
+    requires { IsAscendingBy cluster_role_name roles.now }
+    ensures { MatchOption result
+        (¬ Any (λ r. r.name ≡ name.now) roles.now)
+        (λ at. (at < length roles.now) × HoldsAt (λ r. r.name ≡ name.now) roles.now at) }
+{
+    roles.binary_search_by(|held| held.name.cmp(name)).ok()
+}
+
+// Where the role is that a binding refers to, if it is held.
+pub(crate) fn ref_place(objects: &Objects, binding: &Binding) -> Option<RolePlace>
+    ensures { MatchOption result
+        ((source : Source) → ¬ IsRefTo objects.now binding.now.namespace binding.now.role source)
+        (IsRefAt objects.now binding.now.namespace binding.now.role) }
+{
+    match &binding.role {
+        RoleRef::Role(name) => match &binding.namespace {
+            Some(namespace) => match role_place(objects.roles(), namespace, name) {
+                Some(at) => Some(RolePlace::RoleAt(at)),
+                None => None,
+            },
+            None => None,
+        },
+        RoleRef::ClusterRole(name) => match cluster_role_place(objects.cluster_roles(), name) {
+            Some(at) => Some(RolePlace::ClusterRoleAt(at)),
+            None => None,
+        },
+    }
+}

@@ -1,0 +1,38 @@
+use Rattle.std.specs.Prelude.{List, [], ◌∷◌}
+use Rattle.std.specs.declared.cmp.Ordering.{Ordering}
+use Rattle.std.specs.Cmp.Lexicographic.{slice_cmp}
+use Rattle.rbac_terms.specs.Text.{Text, text_cmp}
+use Rattle.rbac_terms.specs.Principals.{Who, key_of as who_key}
+use Rattle.rbac_terms.specs.Targets.{What, Resource, Url, group_of, text_of, name_of}
+
+-- the key of a request (own): six texts, the principal's key, namespace, verb, group, resource text or URL, name
+pub record KeyTexts : Type 0 where
+  pub principal : Text
+  pub namespace : Text
+  pub verb : Text
+  pub group : Text
+  pub resource : Text
+  pub name : Text
+
+abbrev pub texts : KeyTexts → List Text
+texts k = k.principal ∷ k.namespace ∷ k.verb ∷ k.group ∷ k.resource ∷ k.name ∷ []
+
+-- of a request for a URL the namespace isn't looked at
+abbrev pub namespace_at : Text → What → Text
+namespace_at namespace (Resource group text name) = namespace
+namespace_at namespace (Url path) = []
+
+-- of a request for a URL the namespace, the group and the name are empty
+abbrev pub key_of : Who → Text → Text → What → KeyTexts
+key_of who namespace verb t = record {
+  principal = who_key who;
+  namespace = namespace_at namespace t;
+  verb = verb;
+  group = group_of t;
+  resource = text_of t;
+  name = name_of t;
+}
+
+-- text by text, each by its bytes
+abbrev pub key_cmp : KeyTexts → KeyTexts → Ordering
+key_cmp a b = slice_cmp text_cmp (texts a) (texts b)

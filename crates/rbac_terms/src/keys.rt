@@ -1,0 +1,136 @@
+//! The keys of requests, and their order.
+
+ghost use Rattle.std.specs.Prelude.{◌≡◌, ◌<◌, ℕ, IfOk, IfErr, slice_get, Some};
+ghost use Rattle.rbac_terms.specs.Keys.{KeyTexts, key_of, texts};
+
+use crate::fault::ModelFault;
+use crate::request::{Principal, Target};
+use crate::text::Word;
+use std::alloc::Global;
+use std::cmp::Ordering;
+use std::marker::Model;
+
+/// The key of a request: principal key, namespace, verb, group, resource text or URL, and name.
+#[derive(Clone, Drop)]
+pub struct Key {
+    principal: Word,
+    namespace: Word,
+    verb: Word,
+    group: Word,
+    resource: Word,
+    name: Word,
+}
+
+impl Model for Key {
+    ghost use Rattle.rbac_terms.specs.Keys.{KeyTexts};
+
+    ghost Value = { KeyTexts };
+
+    ghost view = { λ k. record { principal = k.principal; namespace = k.namespace; verb = k.verb; group = k.group; resource = k.resource; name = k.name } };
+}
+
+impl Key {
+    /// The key of this request.
+    pub fn of(
+        alloc: Global,
+        principal: &Principal,
+        namespace: &Word,
+        verb: &Word,
+        target: &Target,
+    ) -> Result<Self, ModelFault>
+        ensures ok { IfOk result (λ k. k ≡ key_of principal.now namespace.now verb.now target.now) }
+        ensures only_memory { IfErr result (λ e. e ≡ ModelFault.NoMemory) }
+    {
+        let namespace = if target.is_url() {
+            Word::new(alloc)
+        } else {
+            namespace.clone()?
+        };
+        Ok(Key {
+            principal: principal.key().clone()?,
+            namespace,
+            verb: verb.clone()?,
+            group: target.group().clone()?,
+            resource: target.text().clone()?,
+            name: target.name().clone()?,
+        })
+    }
+
+    /// The texts by their place.
+    pub fn field(&self, place: usize) -> &Word
+        requires { place < 6 }
+        ensures { slice_get (texts self.now) place ≡ Some result.now }
+    {
+        match place {
+            0 => &self.principal,
+            1 => &self.namespace,
+            2 => &self.verb,
+            3 => &self.group,
+            4 => &self.resource,
+            _ => &self.name,
+        }
+    }
+}
+
+impl PartialEq for Key {
+    ghost use Rattle.std.specs.Cmp as Cmp;
+    ghost use Rattle.std.specs.Ordering.{eq_by_cmp};
+    ghost use Rattle.rbac_terms.specs.Keys.{key_cmp};
+    ghost use Rattle.rbac_terms.specs.KeyOrder.{key_cmp_equiv};
+
+    ghost eq = { eq_by_cmp key_cmp };
+
+    ghost laws = { Cmp.partial_equiv_from_equiv key_cmp_equiv };
+
+    fn eq(&self, other: &Self) -> bool {
+        self.cmp(other) == Ordering::Equal
+    }
+}
+
+impl Eq for Key {
+    ghost use Rattle.rbac_terms.specs.KeyOrder.{key_cmp_equiv};
+
+    ghost laws = { key_cmp_equiv };
+}
+
+impl PartialOrd for Key {
+    ghost use Rattle.std.specs.Ordering.{as_partial_cmp};
+    ghost use Rattle.rbac_terms.specs.Keys.{key_cmp};
+    ghost use Rattle.rbac_terms.specs.KeyOrder.{key_cmp_partial};
+
+    ghost partial_cmp = { as_partial_cmp key_cmp };
+
+    ghost laws = { key_cmp_partial };
+
+    fn partial_cmp(&self, other: &Self) -> Option<Ordering> {
+        Some(self.cmp(other))
+    }
+}
+
+impl Ord for Key {
+    ghost use Rattle.std.specs.Prelude.{refl};
+    ghost use Rattle.rbac_terms.specs.Keys.{key_cmp};
+    ghost use Rattle.rbac_terms.specs.KeyOrder.{key_cmp_total};
+
+    ghost cmp = { key_cmp };
+
+    ghost total = { key_cmp_total };
+
+    ghost matches_partial_cmp = { λ _ _. refl };
+
+    ghost matches_eq = { λ _ _. refl };
+
+    fn cmp(&self, other: &Self) -> Ordering {
+        self.principal.cmp(&other.principal).then(
+            self.namespace.cmp(&other.namespace).then(
+                self.verb.cmp(&other.verb).then(
+                    self.group.cmp(&other.group).then(
+                        self.resource
+                            .cmp(&other.resource)
+                            .then(self.name.cmp(&other.name)),
+                    ),
+                ),
+            ),
+        )
+    }
+}

@@ -1,0 +1,22 @@
+//! The words of role-based access control (texts, rules, subjects, principals, targets, selectors,
+//! keys), and what each of them matches. `rbac_model` builds policies of them, and hands their names on.
+#![tactic(auto)]
+
+mod fault;
+mod granting;
+mod keys;
+mod matching;
+mod request;
+mod selecting;
+mod text;
+
+pub use fault::ModelFault;
+pub use granting::{Binding, ClusterRole, Role, RoleRef, Subject, Subjects, names};
+pub use keys::Key;
+pub use matching::{
+    Rule, Rules, group_matches, name_matches, resource_matches, rule_allows, target_matches,
+    url_matches, verb_matches,
+};
+pub use request::{Principal, Target};
+pub use selecting::{Labels, Requirement, Requirements, SelectOp, Selector, Selectors, selects};
+pub use text::{Word, Words};

@@ -1,0 +1,236 @@
+//! Texts, which are compared byte for byte, and lists of them.
+
+ghost use Rattle.std.specs.Prelude.{◌≡◌, ◌++◌, ◌∷◌, [], ℕ, List, length, IfOk, OnOk, OnErr, IsTrue, ◌↔◌, Contains, MatchOption, ◌<◌, ◌≢◌, slice_index};
+ghost use Rattle.rbac_terms.specs.Text.{Text, IsCutAtFirst, BeginsWith};
+
+use std::alloc::{AllocError, AllocFailed, Global};
+use std::cmp::Ordering;
+use std::marker::Model;
+
+/// A text, byte by byte.
+#[derive(Clone, Drop)]
+pub struct Word {
+    bytes: Vec<u8>,
+}
+
+impl Model for Word {
+    ghost use Rattle.std.specs.Prelude.{ℕ, List};
+
+    ghost Value = { List ℕ };
+
+    ghost view = { λ w. w.bytes.items };
+}
+
+impl Word {
+    /// The empty text, which takes no memory.
+    pub fn new(alloc: Global) -> Self
+        ensures { result ≡ [] }
+    {
+        Word {
+            bytes: Vec::new(alloc),
+        }
+    }
+
+    /// A text of these bytes; takes no memory.
+    pub fn from_vec(bytes: Vec<u8>) -> Self
+        ensures { result ≡ bytes.items }
+    {
+        Word { bytes }
+    }
+
+    /// A copy of these bytes.
+    pub fn from_slice(alloc: Global, bytes: &[u8]) -> Result<Self, AllocError>
+        ensures { IfOk result (λ w. w ≡ bytes.now) }
+    {
+        Ok(Word {
+            bytes: Vec::from_slice(alloc, bytes)?,
+        })
+    }
+
+    pub fn as_bytes(&self) -> &[u8]
+        ensures { result.now ≡ self.now }
+    {
+        self.bytes.as_slice()
+    }
+
+    pub fn is_empty(&self) -> bool
+        ensures { IsTrue result ↔ (self.now ≡ []) }
+    {
+        self.bytes.is_empty()
+    }
+
+    pub fn push(&mut self, byte: u8) -> Result<(), AllocError>
+        ensures ok { OnOk result (self.new ≡ self.old ++ byte ∷ []) }
+        ensures err { OnErr result (self.new ≡ self.old) }
+    {
+        self.bytes.push(byte)?;
+        Ok(())
+    }
+
+    pub fn push_slice(&mut self, bytes: &[u8]) -> Result<(), AllocError>
+        ensures ok { OnOk result (self.new ≡ self.old ++ bytes.now) }
+        ensures err { OnErr result (self.new ≡ self.old) }
+    {
+        self.bytes.extend_from_slice(bytes)?;
+        Ok(())
+    }
+}
+
+impl PartialEq for Word {
+    ghost use Rattle.std.specs.Cmp as Cmp;
+    ghost use Rattle.std.specs.Str.{bytes_eq};
+    ghost use Rattle.std.proofs.lemmas.Cmp.{nat_list_eq_equiv};
+
+    ghost eq = { bytes_eq };
+
+    ghost laws = { Cmp.partial_equiv_from_equiv nat_list_eq_equiv };
+
+    fn eq(&self, other: &Self) -> bool {
+        self.as_bytes() == other.as_bytes()
+    }
+}
+
+impl Eq for Word {
+    ghost use Rattle.std.proofs.lemmas.Cmp.{nat_list_eq_equiv};
+
+    ghost laws = { nat_list_eq_equiv };
+}
+
+// The parts before and after the first place of a byte.
+pub(crate) fn cut_at_first(text: &[u8], byte: u8) -> Option<(&[u8], &[u8])>
+    ensures { MatchOption result (¬ Contains text.now byte)
+        (λ parts. IsCutAtFirst text.now byte parts.0.now parts.1.now) }
+{
+    let at = first_place(text, byte)?;
+    Some((&text[..at], &text[at + 1..]))
+}
+
+// What follows this front.
+pub(crate) fn after_front<'a>(text: &'a [u8], front: &[u8]) -> Option<&'a [u8]>
+    ensures { MatchOption result (¬ BeginsWith text.now front.now)
+        (λ rest. text.now ≡ front.now ++ rest.now) }
+{
+    text.strip_prefix(front)
+}
+
+// Whether the text is these two, one after the other.
+pub(crate) fn is_joined(text: &[u8], front: &[u8], rest: &[u8]) -> bool
+    ensures { IsTrue result ↔ (text.now ≡ front.now ++ rest.now) }
+{
+    match after_front(text, front) {
+        Some(after) => after == rest,
+        None => false,
+    }
+}
+
+// The first place of a byte.
+fn first_place(text: &[u8], byte: u8) -> Option<usize>
+    ensures { MatchOption result (¬ Contains text.now byte)
+        (λ i. (i < length text.now) × (slice_index text.now i ≡ byte)
+        × ((k : ℕ) → k < i → slice_index text.now k ≢ byte)) }
+{
+    text.iter().position(|b| *b == byte)
+}
+
+impl PartialOrd for Word {
+    ghost use Rattle.std.specs.Ordering.{as_partial_cmp};
+    ghost use Rattle.rbac_terms.specs.Text.{text_cmp};
+    ghost use Rattle.std.specs.Cmp.Lexicographic.{texts_po};
+
+    ghost partial_cmp = { as_partial_cmp text_cmp };
+
+    ghost laws = { texts_po };
+
+    fn partial_cmp(&self, other: &Self) -> Option<Ordering> {
+        Some(self.cmp(other))
+    }
+}
+
+impl Ord for Word {
+    ghost use Rattle.std.specs.Prelude.{refl};
+    ghost use Rattle.std.proofs.lemmas.Cmp.{nat_list_cmp_total};
+    ghost use Rattle.rbac_terms.specs.Text.{text_cmp};
+    ghost use Rattle.std.specs.Cmp.Lexicographic.{texts_ties};
+
+    ghost cmp = { text_cmp };
+
+    ghost total = { nat_list_cmp_total };
+
+    ghost matches_partial_cmp = { λ _ _. refl };
+
+    ghost matches_eq = { texts_ties };
+
+    fn cmp(&self, other: &Self) -> Ordering {
+        self.as_bytes().cmp(other.as_bytes())
+    }
+}
+
+/// A list of texts.
+#[derive(Clone, Drop)]
+pub struct Words {
+    items: Vec<Word>,
+}
+
+impl Model for Words {
+    ghost use Rattle.std.specs.Prelude.{ℕ, List};
+
+    ghost Value = { List (List ℕ) };
+
+    ghost view = { λ ws. ws.items.items };
+}
+
+impl Words {
+    /// No texts, which takes no memory.
+    pub fn new(alloc: Global) -> Self
+        ensures { result ≡ [] }
+    {
+        Words {
+            items: Vec::new(alloc),
+        }
+    }
+
+    /// These texts; takes no memory.
+    pub fn from_vec(items: Vec<Word>) -> Self
+        ensures { result ≡ items.items }
+    {
+        Words { items }
+    }
+
+    pub fn as_slice(&self) -> &[Word]
+        ensures { result.now ≡ self.now }
+    {
+        self.items.as_slice()
+    }
+
+    /// Adds all of these at the end.
+    pub fn append(&mut self, mut more: Words) -> Result<(), AllocError>
+        ensures ok { OnOk result (self.new ≡ self.old ++ more) }
+        ensures err { OnErr result (self.new ≡ self.old) }
+    {
+        self.items.append(&mut more.items)
+    }
+
+    pub fn push(&mut self, word: Word) -> Result<(), AllocFailed<Word>>
+        ensures ok { OnOk result (self.new ≡ self.old ++ word ∷ []) }
+        ensures err { OnErr result (self.new ≡ self.old) }
+    {
+        self.items.push(word)
+    }
+
+    /// Whether this text is among them.
+    pub fn contains(&self, word: &Word) -> bool
+        ensures { IsTrue result ↔ Contains self.now word.now }
+    {
+        self.items.as_slice().contains(word)
+    }
+
+    /// Whether the text of these bytes is among them.
+    pub fn contains_bytes(&self, bytes: &[u8]) -> bool
+        ensures { IsTrue result ↔ Contains self.now bytes.now }
+    {
+        self.items
+            .as_slice()
+            .iter()
+            .any(|word| word.as_bytes() == bytes)
+    }
+}
