@@ -1,11 +1,10 @@
 -- the rules that a binding brings, by the place of its role
-use Rattle.std.proofs.Common.{◌≡◌, ℕ, ◌<◌, List, [], ◌∷◌, ◌++◌, length, All, inl, inr, sym, ap, ◌∙◌, refl, arith, subst, option_map, Result, Ok, Err, OnOk, IfErr, append-nil, length-append, ◌+◌, ◌⊎◌}
+use Rattle.std.proofs.Common.{◌≡◌, ℕ, ◌<◌, List, [], ◌∷◌, ◌++◌, length, All, inl, inr, sym, ap, ◌∙◌, refl, arith, subst, option_map, Result, Ok, Err, OnOk, IfErr, append-nil, ◌+◌, ◌⊎◌}
 use Rattle.std.specs.Prelude.{Option, Some, None, slice_get, Vec, IsSome}
-use Rattle.std.specs.List.{flat_map}
 use Rattle.std.specs.declared.alloc.Global.{Global}
 use Rattle.std.proofs.lemmas.Option.{same_Some, slice_get_within}
 use Rattle.rbac_model.specs.Policies.{Held, Source, InRole, InClusterRole, SourcedRule, IsRefTo, IsPlain, AreRulesOf, AreRulesFor, AreGathered, written_from, grant_at}
-use Rattle.rbac_model.specs.Places.{IsRefAt, source_at, AreSources, AreSourcesOf, IsAdded, rules_in, roles_at, role_places, places_in}
+use Rattle.rbac_model.specs.Places.{IsRefAt, AreSources, AreSourcesOf, IsAdded, rules_in, roles_at, role_places, places_in}
 use Rattle.rbac_terms.specs.declared.granting.Binding.{Binding}
 use Rattle.rbac_terms.specs.declared.granting.Role.{Role}
 use Rattle.rbac_terms.specs.declared.granting.ClusterRole.{ClusterRole}

@@ -1,19 +1,19 @@
 -- the roles at places with marks are those that an aggregated role gathers from
-use Rattle.std.proofs.Common.{◌≡◌, ◌≢◌, ℕ, ◌<◌, ◌+◌, List, [], ◌∷◌, ◌++◌, length, get_or, Contains, All, AllPairs, ◌↔◌, inl, inr, sym, ap, ◌∙◌, refl, arith, subst, Bool, Result, Ok, Err, IfOk, zero, suc}
-use Rattle.std.specs.Prelude.{Option, Some, None, IsSome, slice_get, Vec, option_and_then}
+use Rattle.std.proofs.Common.{◌≡◌, ℕ, ◌<◌, List, [], ◌∷◌, length, get_or, Contains, All, AllPairs, ◌↔◌, inl, inr, sym, ap, ◌∙◌, refl, arith, subst, Result, Ok, Err, IfOk}
+use Rattle.std.specs.Prelude.{Some, IsSome, slice_get, Vec, option_and_then}
 use Rattle.std.specs.List.{filter_map}
 use Rattle.std.specs.declared.alloc.Global.{Global}
 use Rattle.std.specs.declared.alloc.AllocError.{AllocError}
 use Rattle.std.proofs.lemmas.List.{get_or_default}
 use Rattle.std.proofs.lemmas.List.Elements.{Contains-get_or}
 use Rattle.std.proofs.lemmas.Option.{same_Some, slice_get_within, get_or_from_slice_get, slice_get-get_or, slice_get_cases}
-use Rattle.rbac_model.specs.Policies.{Held, IsHeld, Step, Reaches, IsPlain, AreGathered, cluster_role_name}
-use Rattle.rbac_model.specs.Lists.{by_name, IsAscendingBy}
-use Rattle.rbac_model.specs.Graphs.{Graph, LeadsTo, IsMarked}
-use Rattle.rbac_model.specs.Places.{roles_at, AreSteps, AreSourcesOf, IsPlainAt}
+use Rattle.rbac_model.specs.Policies.{Held, IsHeld, Reaches, IsPlain, cluster_role_name}
+use Rattle.rbac_model.specs.Lists.{IsAscendingBy}
+use Rattle.rbac_model.specs.Graphs.{IsMarked}
+use Rattle.rbac_model.specs.Places.{IsReachedAt, AreSourcesOf, IsPlainAt}
 use Rattle.rbac_terms.specs.declared.granting.ClusterRole.{ClusterRole}
 use Rattle.rbac_model.proofs.Kept.{length-filter_map, slice_get-filter_map}
-use Rattle.rbac_model.proofs.Stairs.{leads_reaches, reaches_leads, contains_read, read_contains}
+use Rattle.rbac_model.proofs.Stairs.{read_contains, reached_held}
 
 k_itself : (ks : List ℕ) (i : ℕ) → i < length ks → get_or ks i (get_or ks i 0) ≡ get_or ks i 0
 k_itself ks i l = get_or_default ks i (get_or ks i 0) 0 l
@@ -53,7 +53,7 @@ pub own_source : (h : Held) (at : ℕ) (r : ClusterRole) → slice_get h.cluster
 own_source h at r e plain =
     (λ k d l. let first : k ≡ 0 = omega arith in rw first (slice_get_within h.cluster_roles at r e), inl (plain, rw e refl))
 
-module _ (h : Held) (g : Graph) (are : AreSteps h g) (held : IsHeld h) (at : ℕ) (r : ClusterRole) (here : slice_get h.cluster_roles at ≡ Some r) (aggregated : IsPlain r → ⊥) (marks : List Bool) (reached : (k : ℕ) → IsMarked marks k ↔ LeadsTo g at k) where
+module _ (h : Held) (held : IsHeld h) (r : ClusterRole) (aggregated : IsPlain r → ⊥) (marks : List ℕ) (reached : (k : ℕ) → IsMarked marks k ↔ IsReachedAt h r k) where
   gathered_from : (ks : List ℕ) → AllPairs (λ a b. a < b) ks → ((k : ℕ) → Contains ks k ↔ (IsMarked marks k × IsPlainAt h.cluster_roles k)) → AreSourcesOf h r ks
   gathered_from ks rising exact =
       let within : All (λ k. k < length h.cluster_roles) ks = λ i d l. let p = ((exact (get_or ks i d)).0 (Contains-get_or ks i d l)).1 in slice_get_within h.cluster_roles (get_or ks i d) p.0 p.1 in (
@@ -67,12 +67,12 @@ module _ (h : Held) (g : Graph) (are : AreSteps h g) (held : IsHeld h) (at : ℕ
                   let a = in_roles h.cluster_roles held.cluster_roles ks rising within s w in
                   let marked = (exact a.0).0 a.1 in
                   let same = same_Some marked.1.0 s (sym marked.1.1 ∙ a.2) in
-                  let to = leads_reaches h g are at r a.0 here ((reached a.0).0 marked.0) in
+                  let to = (reached a.0).0 marked.0 in
                   let same_to = same_Some to.0 s (sym to.1 ∙ a.2) in
                   (subst IsPlain same marked.1.2, subst (Reaches h r) same_to to.2),
               λ p.
-                  let to = reaches_leads h g are at r s here p.1 in
-                  roles_in h.cluster_roles held.cluster_roles ks rising within to.0 s ((exact to.0).1 ((reached to.0).1 to.2, (s, to.1, p.0))) to.1,
+                  let at = read_contains h.cluster_roles s (reached_held h r s p.1) in
+                  roles_in h.cluster_roles held.cluster_roles ks rising within at.0 s ((exact at.0).1 ((reached at.0).1 (s, at.1, p.1), (s, at.1, p.0))) at.1,
             );
           },
         ),

@@ -1,11 +1,10 @@
 -- grants by places, and what is added to them
-use Rattle.std.proofs.Common.{◌≡◌, ◌≢◌, ℕ, ◌<◌, ◌≤◌, ◌+◌, List, [], ◌∷◌, ◌++◌, length, map, get_or, take, All, inl, inr, sym, ap, ◌∙◌, refl, arith, subst, zero, suc, add-one, append_assoc, append-nil, option_map, length-append, IsSome, take_all, length-take-le, take-append-drop, drop}
+use Rattle.std.proofs.Common.{◌≡◌, ℕ, ◌<◌, ◌≤◌, ◌+◌, List, [], ◌∷◌, ◌++◌, length, get_or, take, All, inl, inr, sym, ap, ◌∙◌, refl, arith, zero, suc, add-one, append_assoc, append-nil, option_map, length-append, IsSome, take_all, length-take-le, take-append-drop, drop}
 use Rattle.std.proofs.lemmas.Grind.{flat_map-append}
 use Rattle.std.specs.Prelude.{Option, Some, None, slice_get, option_and_then}
-use Rattle.std.specs.List.{filter_map, flat_map}
 use Rattle.std.proofs.lemmas.List.{take_more, map-append, length-map}
 use Rattle.std.proofs.lemmas.List.Elements.{filter_map-append, All-append, All-push, All-nil, All-head, All-tail}
-use Rattle.std.proofs.lemmas.Option.{same_Some, slice_get_within, get_or_from_slice_get, slice_get-get_or, slice_get_cases}
+use Rattle.std.proofs.lemmas.Option.{same_Some, slice_get_within, get_or_from_slice_get, slice_get_cases}
 use Rattle.rbac_model.specs.Policies.{Held, Source, InRole, InClusterRole, SourcedRule, GrantView, written_from, grant_at, grants_at, rule_at, sourced_at, AreGrantsOf, AreRulesFor}
 use Rattle.rbac_model.specs.Places.{source_at, rules_of, places_of, places_in, role_places, granted_by, IsAdded, rules_in, roles_at, rule_count}
 use Rattle.rbac_terms.specs.declared.granting.Binding.{Binding}

@@ -1,5 +1,5 @@
 -- what a search by name among roles finds, and what references are to
-use Rattle.std.proofs.Common.{◌≡◌, ℕ, ◌<◌, [], ◌∷◌, length, Any, HoldsAt, get_or, ap, List, option_map, Result, Ok, Err, MatchOption}
+use Rattle.std.proofs.Common.{◌≡◌, ℕ, ◌<◌, [], length, Any, HoldsAt, get_or, ap, List, option_map, Result, Ok, Err, MatchOption}
 use Rattle.std.specs.Prelude.{Option, Some, None}
 use Rattle.std.proofs.lemmas.Option.{slice_get-get_or}
 use Rattle.std.proofs.lemmas.List.Elements.{Contains-get_or}
@@ -8,10 +8,8 @@ use Rattle.std.specs.List.Sorted.{IsSearchInRange, IsBinarySearchResult}
 use Rattle.rbac_terms.specs.Text.{Text}
 use Rattle.rbac_model.specs.Lists.{by_name, IsAscendingBy}
 use Rattle.rbac_model.specs.Policies.{Held, Source, InRole, InClusterRole, IsRefTo, role_name, cluster_role_name}
-use Rattle.rbac_model.specs.Places.{IsRefAt, source_at}
-use Rattle.rbac_model.specs.declared.places.RolePlace.{RolePlace}
+use Rattle.rbac_model.specs.Places.{IsRefAt}
 use Rattle.rbac_model.specs.declared.places.RolePlace.TheVariants.{RoleAt, ClusterRoleAt}
-use Rattle.rbac_terms.specs.declared.granting.RoleRef.{RoleRef}
 use Rattle.rbac_terms.specs.declared.granting.RoleRef.TheVariants.{Role as ToRole, ClusterRole as ToClusterRole}
 use Rattle.rbac_terms.specs.declared.granting.Role.{Role}
 use Rattle.rbac_terms.specs.declared.granting.ClusterRole.{ClusterRole}
@@ -23,10 +21,10 @@ module _ {X : Type 0} (name : X → List Text) (xs : List X) (ascending : IsAsce
   by_search (Ok i) in_range equal = let f = (searched name xs ascending x (Ok i) in_range equal).found in (f.0, λ d. same_name name _ x (f.1 d))
   by_search (Err i) in_range parted = λ w. none_named name xs ascending x i (searched name xs ascending x (Err i) in_range parted).absent w
 
-same_role : (a b : Role) → role_name a ≡ role_name b → (a.namespace ≡ b.namespace) × (a.name ≡ b.name)
+pub same_role : (a b : Role) → role_name a ≡ role_name b → (a.namespace ≡ b.namespace) × (a.name ≡ b.name)
 same_role a b e = (cc, cc)
 
-same_cluster_role : (a b : ClusterRole) → cluster_role_name a ≡ cluster_role_name b → a.name ≡ b.name
+pub same_cluster_role : (a b : ClusterRole) → cluster_role_name a ≡ cluster_role_name b → a.name ≡ b.name
 same_cluster_role a b e = cc
 
 -- a role of that namespace and name

@@ -1,6 +1,6 @@
 -- the names of roles with a mark, one after the other
-use Rattle.std.proofs.Common.{◌≡◌, ◌≢◌, ℕ, ◌<◌, ◌+◌, List, [], ◌∷◌, ◌++◌, length, get_or, Contains, All, Any, AllPairs, ◌↔◌, inl, inr, sym, ap, ◌∙◌, refl, arith, subst, Bool, Less, length-append, Result, Ok, Err, IfOk}
-use Rattle.std.specs.Prelude.{Option, Some, None, slice_get, codes}
+use Rattle.std.proofs.Common.{◌≡◌, ℕ, ◌<◌, ◌+◌, List, [], ◌∷◌, ◌++◌, length, get_or, Contains, All, Any, AllPairs, ◌↔◌, inl, inr, sym, ap, ◌∙◌, arith, subst, Less, length-append, Result, Ok, Err, IfOk}
+use Rattle.std.specs.Prelude.{Some, None, slice_get, codes}
 use Rattle.std.proofs.lemmas.Bool.{cases_eq, cases_lt}
 use Rattle.std.proofs.lemmas.List.{get_or_at, get_or_default}
 use Rattle.std.proofs.Math.ListN.{get_or-append}
@@ -8,11 +8,11 @@ use Rattle.std.proofs.lemmas.List.Elements.{Contains-append_left, Contains-push,
 use Rattle.std.proofs.lemmas.Option.{same_Some, slice_get_within, get_or_from_slice_get, slice_get-get_or}
 use Rattle.rbac_terms.specs.Text.{Text}
 use Rattle.rbac_model.specs.Lists.{by_name, IsAscendingBy}
-use Rattle.rbac_model.specs.Graphs.{Graph, LeadsTo, IsMarked}
+use Rattle.rbac_model.specs.Graphs.{Graph, IsMarked}
 use Rattle.rbac_model.specs.Policies.{Held, IsHeld, Reaches, AreReachedNames, cluster_role_name}
-use Rattle.rbac_model.specs.Places.{AreSteps, IsMarkedName, AreMarkedNames}
+use Rattle.rbac_model.specs.Places.{AreReaches, IsReachedAt, IsMarkedName, AreMarkedNames}
 use Rattle.rbac_terms.specs.declared.granting.ClusterRole.{ClusterRole}
-use Rattle.rbac_model.proofs.Stairs.{leads_reaches, reaches_leads, contains_read}
+use Rattle.rbac_model.proofs.Stairs.{read_contains, reached_held, marked_reached}
 use Rattle.rbac_model.proofs.OneList.{one_of_name}
 
 -- one element more, which is above each
@@ -27,15 +27,15 @@ pairs_push R xs x pairs above i j d lt l =
           rw (get_or-append xs (x ∷ []) d i (omega arith), read) (above i d (omega arith))
     ]
 
-pub record IsNamedUpTo (h : Held) (marks : List Bool) (ws : List Text) (i : ℕ) : Type 0 where
+pub record IsNamedUpTo (h : Held) (marks : List ℕ) (ws : List Text) (i : ℕ) : Type 0 where
   pub ordered : IsAscendingBy (λ w. w ∷ []) ws
   pub from : (w : Text) → Contains ws w → (m : IsMarkedName h marks w) × (m.0 < i)
   pub there : (w : Text) (m : IsMarkedName h marks w) → m.0 < i → Contains ws w
 
-pub none_named_yet : (h : Held) (marks : List Bool) → IsNamedUpTo h marks [] 0
+pub none_named_yet : (h : Held) (marks : List ℕ) → IsNamedUpTo h marks [] 0
 none_named_yet h marks = record { ordered = λ i j d lt l. absurd (omega arith); from = λ w c. absurd (omega (arith, c.1)); there = λ w m l. absurd (omega arith) }
 
-pub named_more : (h : Held) (marks : List Bool) (ws : List Text) (i : ℕ) (r : ClusterRole) → IsHeld h → slice_get h.cluster_roles i ≡ Some r → IsMarked marks i → IsNamedUpTo h marks ws i → IsNamedUpTo h marks (ws ++ r.name ∷ []) (i + 1)
+pub named_more : (h : Held) (marks : List ℕ) (ws : List Text) (i : ℕ) (r : ClusterRole) → IsHeld h → slice_get h.cluster_roles i ≡ Some r → IsMarked marks i → IsNamedUpTo h marks ws i → IsNamedUpTo h marks (ws ++ r.name ∷ []) (i + 1)
 named_more h marks ws i r held read marked up = record {
   ordered = pairs_push (λ v w. by_name (λ (t : Text). t ∷ []) v w ≡ Less) ws r.name up.ordered (λ k d l.
       let w = get_or ws k d in
@@ -56,7 +56,7 @@ named_more h marks ws i r held read marked up = record {
   ];
 }
 
-pub named_same : (h : Held) (marks : List Bool) (ws : List Text) (i : ℕ) → (IsMarked marks i → ⊥) → IsNamedUpTo h marks ws i → IsNamedUpTo h marks ws (i + 1)
+pub named_same : (h : Held) (marks : List ℕ) (ws : List Text) (i : ℕ) → (IsMarked marks i → ⊥) → IsNamedUpTo h marks ws i → IsNamedUpTo h marks ws (i + 1)
 named_same h marks ws i isnt up = record {
   ordered = up.ordered;
   from = λ w c. let m = up.from w c in (m.0, omega (arith, m.1));
@@ -66,33 +66,34 @@ named_same h marks ws i isnt up = record {
   ];
 }
 
-pub all_named : (h : Held) (marks : List Bool) (ws : List Text) (n : ℕ) → n ≡ length h.cluster_roles → IsNamedUpTo h marks ws n → AreMarkedNames h marks ws
+pub all_named : (h : Held) (marks : List ℕ) (ws : List Text) (n : ℕ) → n ≡ length h.cluster_roles → IsNamedUpTo h marks ws n → AreMarkedNames h marks ws
 all_named h marks ws n e up = record {
   ordered = up.ordered;
   exact = λ w. (λ c. (up.from w c).0, λ m. up.there w m (omega (arith, e, slice_get_within h.cluster_roles m.0 m.1 m.3)));
 }
 
-pub reached_names : (h : Held) (g : Graph) (at : ℕ) (r : ClusterRole) (marks : List Bool) (ws : List Text) → IsHeld h → AreSteps h g → Contains h.cluster_roles r → (at < length h.cluster_roles) × ((d : ClusterRole) → (get_or h.cluster_roles at d).name ≡ r.name) → ((k : ℕ) → IsMarked marks k ↔ LeadsTo g at k) → AreMarkedNames h marks ws → AreReachedNames h r ws
-reached_names h g at r marks ws held are has place reached named =
-    let here : get_or h.cluster_roles at r ≡ r = one_of_name cluster_role_name h.cluster_roles (get_or h.cluster_roles at r) r held.cluster_roles (Contains-get_or h.cluster_roles at r place.0) has (ap (λ (n : Text). codes "ClusterRole" ∷ [] ∷ n ∷ []) (place.1 r)) in
-    let read : slice_get h.cluster_roles at ≡ Some r = slice_get-get_or h.cluster_roles at r place.0 ∙ ap Some here in
-    record {
-      ordered = named.ordered;
-      exact = λ w. (
-        λ c.
-            let m = (named.exact w).0 c in
-            let to = leads_reaches h g are at r m.0 read ((reached m.0).0 m.2) in
-            let same = same_Some to.0 m.1 (sym to.1 ∙ m.3) in
-            (m.1, subst (Reaches h r) same to.2, m.4),
-        λ s.
-            let to = reaches_leads h g are at r s.0 read s.1 in
-            (named.exact w).1 (to.0, s.0, (reached to.0).1 to.2, to.1, s.2),
-      );
-    }
+pub reached_names : (h : Held) (r : ClusterRole) (marks : List ℕ) (ws : List Text) → ((k : ℕ) → IsMarked marks k ↔ IsReachedAt h r k) → AreMarkedNames h marks ws → AreReachedNames h r ws
+reached_names h r marks ws reached named = record {
+  ordered = named.ordered;
+  exact = λ w. (
+    λ c.
+        let m = (named.exact w).0 c in
+        let to = (reached m.0).0 m.2 in
+        let same = same_Some to.0 m.1 (sym to.1 ∙ m.3) in
+        (m.1, subst (Reaches h r) same to.2, m.4),
+    λ s.
+        let at = read_contains h.cluster_roles s.0 (reached_held h r s.0 s.1) in
+        (named.exact w).1 (at.0, s.0, (reached at.0).1 (s.0, at.1, s.1), at.1, s.2),
+  );
+}
 
-pub names_reached : {E : Type 0} (h : Held) (g : Graph) (at : ℕ) (name : Text) (marks : List Bool) (o : Result (List Text) E) → IsHeld h → AreSteps h g → (at < length h.cluster_roles) × ((d : ClusterRole) → (get_or h.cluster_roles at d).name ≡ name) → ((k : ℕ) → IsMarked marks k ↔ LeadsTo g at k) → IfOk o (λ ws. AreMarkedNames h marks ws) → IfOk o (λ ws. (r : ClusterRole) → Contains h.cluster_roles r → r.name ≡ name → AreReachedNames h r ws)
-names_reached h g at name marks (Ok ws) held are place reached named = λ r has e. reached_names h g at r marks ws held are has (place.0, λ d. place.1 d ∙ sym e) reached named
-names_reached h g at name marks (Err e) held are place reached named = tt
+-- the role of that name is the one at its place
+pub names_reached : {E : Type 0} (h : Held) (rows : Graph) (at : ℕ) (name : Text) (marks : List ℕ) (o : Result (List Text) E) → IsHeld h → AreReaches h rows → (at < length h.cluster_roles) × ((d : ClusterRole) → (get_or h.cluster_roles at d).name ≡ name) → marks ≡ get_or rows at marks → IfOk o (λ ws. AreMarkedNames h marks ws) → IfOk o (λ ws. (r : ClusterRole) → Contains h.cluster_roles r → r.name ≡ name → AreReachedNames h r ws)
+names_reached h rows at name marks (Ok ws) held are place read named = λ r has e.
+    let here : get_or h.cluster_roles at r ≡ r = one_of_name cluster_role_name h.cluster_roles (get_or h.cluster_roles at r) r held.cluster_roles (Contains-get_or h.cluster_roles at r place.0) has (ap (λ (n : Text). codes "ClusterRole" ∷ [] ∷ n ∷ []) (place.1 r ∙ sym e)) in
+    let there : slice_get h.cluster_roles at ≡ Some r = slice_get-get_or h.cluster_roles at r place.0 ∙ ap Some here in
+    reached_names h r marks ws (marked_reached h rows at r marks are there read) named
+names_reached h rows at name marks (Err e) held are place read named = tt
 
 pub no_names : {E : Type 0} (h : Held) (at : ℕ) (name : Text) (o : Result (List Text) E) → (at < length h.cluster_roles) × ((d : ClusterRole) → (get_or h.cluster_roles at d).name ≡ name) → IfOk o (λ ws. (Any (λ r. r.name ≡ name) h.cluster_roles → ⊥) → ws ≡ [])
 no_names h at name (Ok ws) place = λ none.

@@ -1,16 +1,14 @@
 -- a list in order of names is one list, by its elements; so are the rules and the grants of bindings
-use Rattle.std.proofs.Common.{◌≡◌, ◌≢◌, ℕ, ◌<◌, ◌≤◌, ◌+◌, List, [], ◌∷◌, ◌++◌, length, map, get_or, take, Contains, ◌↔◌, ◌⊎◌, inl, inr, sym, ap, ap₂, ◌∙◌, refl, arith, subst, zero, suc, length-append, Less, Equal, Greater, Ordering}
+use Rattle.std.proofs.Common.{◌≡◌, ℕ, ◌≤◌, ◌+◌, List, [], ◌∷◌, ◌++◌, length, get_or, take, Contains, ◌⊎◌, inl, inr, sym, ap, ap₂, ◌∙◌, refl, arith, subst, zero, suc, length-append, Less}
 use Rattle.std.specs.Prelude.{Option, Some, None, slice_get}
 use Rattle.std.specs.List.{flat_map}
-use Rattle.std.specs.Cmp.Lexicographic.{slice_cmp}
 use Rattle.std.proofs.lemmas.Bool.{cases_eq, cases_lt}
 use Rattle.std.proofs.lemmas.Cmp.{tied_itself}
-use Rattle.std.proofs.lemmas.List.{length-map, get_or_default}
+use Rattle.std.proofs.lemmas.List.{get_or_default}
 use Rattle.std.proofs.lemmas.Option.{same_Some}
-use Rattle.std.proofs.lemmas.List.Elements.{Contains-get_or}
-use Rattle.rbac_terms.specs.Text.{Text, text_cmp}
+use Rattle.rbac_terms.specs.Text.{Text}
 use Rattle.rbac_model.specs.Lists.{by_name, IsAscendingBy}
-use Rattle.rbac_model.specs.Policies.{Held, IsHeld, Source, InRole, InClusterRole, SourcedRule, GrantView, IsPlain, AreGathered, AreRulesOf, AreRulesFor, AreGrantsOf, IsRefTo, written_from, role_name, cluster_role_name}
+use Rattle.rbac_model.specs.Policies.{Held, IsHeld, Source, InRole, InClusterRole, SourcedRule, GrantView, AreGathered, AreRulesOf, AreRulesFor, AreGrantsOf, IsRefTo, written_from, role_name, cluster_role_name}
 use Rattle.rbac_model.specs.Places.{granted_by}
 use Rattle.rbac_terms.specs.declared.granting.Binding.{Binding}
 use Rattle.rbac_terms.specs.declared.granting.Role.{Role}
@@ -138,3 +136,10 @@ grants_from h (c ∷ bs) (suc i) b first rules gs held e are r all =
     let sum = ap length all.4 ∙ length-append (granted_by c all.0) all.1 in
     let first_sum = ap length are.4 ∙ length-append (granted_by c are.0) are.1 in
     omega (arith, rest, sum, first_sum, ap (λ (v : List SourcedRule). length (granted_by c v)) one)
+
+pub one_grants : (h : Held) (bs : List Binding) (gs others : List GrantView) → IsHeld h → AreGrantsOf h bs gs → AreGrantsOf h bs others → gs ≡ others
+one_grants h [] gs others held are all = are ∙ sym all
+one_grants h (b ∷ bs) gs others held are all =
+    let first = one_rules_for h b are.0 all.0 held are.2 all.2 in
+    let rest = one_grants h bs are.1 all.1 held are.3 all.3 in
+    are.4 ∙ ap₂ (λ (rules : List SourcedRule) (v : List GrantView). granted_by b rules ++ v) first rest ∙ sym all.4

@@ -1,14 +1,14 @@
 -- steps by the places of roles
-use Rattle.std.proofs.Common.{◌≡◌, ◌≢◌, ℕ, ◌<◌, List, [], ◌∷◌, ◌++◌, length, get_or, Contains, All, ◌↔◌, sym, ap, ◌∙◌, refl, arith, subst, inl, inr, zero, suc, take, ◌+◌}
-use Rattle.std.proofs.lemmas.List.{take_more}
-use Rattle.std.specs.Prelude.{Option, Some, None, slice_get, Vec}
-use Rattle.std.specs.declared.alloc.Global.{Global}
+use Rattle.std.proofs.Common.{◌≡◌, ◌≢◌, ℕ, ◌<◌, List, [], ◌∷◌, ◌++◌, length, get_or, Contains, ◌↔◌, sym, ap, ◌∙◌, refl, arith, subst, inl, inr, zero, suc, take, ◌+◌}
+use Rattle.std.proofs.lemmas.List.{take_more, get_or_default}
+use Rattle.std.proofs.Math.ListN.{get_or-eq_default}
+use Rattle.std.specs.Prelude.{Option, Some, slice_get}
 use Rattle.std.specs.List.{AllZip}
 use Rattle.std.proofs.lemmas.Option.{same_Some, slice_get_within, get_or_from_slice_get, slice_get-get_or, slice_get_cases}
-use Rattle.std.proofs.lemmas.List.Elements.{Contains-get_or}
-use Rattle.rbac_model.specs.Policies.{Held, Step, IsPath, Reaches, Gathers, IsPlain}
-use Rattle.rbac_model.specs.Graphs.{Graph, HasEdge, IsWay, LeadsTo}
-use Rattle.rbac_model.specs.Places.{IsStepTo, IsRowOf, AreSteps}
+use Rattle.rbac_model.proofs.Marked.{none_marked}
+use Rattle.rbac_model.specs.Policies.{Held, IsPath, Reaches, Gathers, IsPlain}
+use Rattle.rbac_model.specs.Graphs.{Graph, IsGraph, IsMarked, HasEdge, IsWay, LeadsTo}
+use Rattle.rbac_model.specs.Places.{IsStepTo, IsRowOf, AreSteps, IsReachedAt, AreReaches}
 use Rattle.rbac_terms.specs.declared.granting.ClusterRole.{ClusterRole}
 use Rattle.rbac_terms.specs.declared.selecting.Selector.{Selector}
 
@@ -52,60 +52,68 @@ no_gathers r s plain g = let P : Option (List Selector) → Type 0 = λ a. Gathe
 pub no_step_plain : (h : Held) (r : ClusterRole) (k : ℕ) → IsPlain r → IsStepTo h r k → ⊥
 no_step_plain h r k plain step = no_gathers r step.0 plain step.2.2
 
+-- what is reached is held
+path_held : (h : Held) (r : ClusterRole) (between : List ClusterRole) (s : ClusterRole) → IsPath h r between s → Contains h.cluster_roles s
+path_held h r [] s step = step.0
+path_held h r (m ∷ ms) s path = path_held h m ms s path.1
+
+pub reached_held : (h : Held) (r s : ClusterRole) → Reaches h r s → Contains h.cluster_roles s
+reached_held h r s path = path_held h r path.0 s path.1
+
 module _ (h : Held) (g : Graph) (are : AreSteps h g) where
-  row_there : (a : ℕ) (r : ClusterRole) (row : Vec ℕ Global) → slice_get h.cluster_roles a ≡ Some r → slice_get g a ≡ Some row → IsRowOf h r row
-  row_there a r row e f =
-      zip_read (IsRowOf h) h.cluster_roles g a r row are e f
-
-  pub edge_step : (a : ℕ) (r : ClusterRole) (k : ℕ) → slice_get h.cluster_roles a ≡ Some r → HasEdge g a k → IsStepTo h r k
-  edge_step a r k e edge = (row_there a r edge.0 e edge.1 k).0 edge.2
-
-  pub step_edge : (a : ℕ) (r : ClusterRole) (k : ℕ) → slice_get h.cluster_roles a ≡ Some r → IsStepTo h r k → HasEdge g a k
-  step_edge a r k e step =
-      let same = zip_len (IsRowOf h) h.cluster_roles g are in
-      let l : a < length g = omega (arith, same, slice_get_within h.cluster_roles a r e) in
-      elim ((slice_get_cases g a).1) [
-        | inl w ↦ (w.0, w.2, (row_there a r w.0 e w.2 k).1 step)
-        | inr w ↦ absurd (omega (arith, l, w.0))
-      ]
-
-  -- the graph is one, and it has a row for each role
-  pub rows_len : length g ≡ length h.cluster_roles
+  -- it has a row for each role
+  rows_len : length g ≡ length h.cluster_roles
   rows_len = zip_len (IsRowOf h) h.cluster_roles g are
 
-  pub rows_within : All (λ row. All (λ w. w < length g) row.items) g
-  rows_within a d l k e w =
-      let in_range : a < length h.cluster_roles = omega (arith, rows_len, l) in
+  row_there : (a : ℕ) (r : ClusterRole) → slice_get h.cluster_roles a ≡ Some r → IsRowOf h r (get_or g a [])
+  row_there a r e =
+      let l : a < length g = omega (arith, rows_len, slice_get_within h.cluster_roles a r e) in
+      zip_read (IsRowOf h) h.cluster_roles g a r (get_or g a []) are e (slice_get-get_or g a [] l)
+
+  edge_step : (a : ℕ) (r : ClusterRole) (k : ℕ) → slice_get h.cluster_roles a ≡ Some r → HasEdge g a k → IsStepTo h r k
+  edge_step a r k e edge = (row_there a r e k).0 edge
+
+  step_edge : (a : ℕ) (r : ClusterRole) (k : ℕ) → slice_get h.cluster_roles a ≡ Some r → IsStepTo h r k → HasEdge g a k
+  step_edge a r k e step = (row_there a r e k).1 step
+
+  -- the graph is one
+  pub rows_within : IsGraph g
+  rows_within a b edge =
       elim ((slice_get_cases h.cluster_roles a).1) [
-        | inl v ↦
-            let row = get_or g a d in
-            let to = (row_there a v.0 row v.2 (slice_get-get_or g a d l) (get_or row.items k e)).0 (Contains-get_or row.items k e w) in
-            omega (arith, rows_len, slice_get_within h.cluster_roles (get_or row.items k e) to.0 to.1)
-        | inr v ↦ absurd (omega (arith, in_range, v.0))
+        | inl v ↦ let step = edge_step a v.0 b v.2 edge in omega (arith, rows_len, slice_get_within h.cluster_roles b step.0 step.1)
+        | inr v ↦ absurd (none_marked b (subst (λ (row : List ℕ). IsMarked row b) (get_or-eq_default g [] (omega (arith, rows_len, v.0))) edge))
       ]
 
   -- ways and paths are alike
-  way_path : (a : ℕ) (r : ClusterRole) (between : List ℕ) (k : ℕ) → slice_get h.cluster_roles a ≡ Some r → IsWay g a between k → (s : ClusterRole) × (slice_get h.cluster_roles k ≡ Some s) × Reaches h r s
+  way_path : (a : ℕ) (r : ClusterRole) (between : List ℕ) (k : ℕ) → slice_get h.cluster_roles a ≡ Some r → IsWay g a between k → IsReachedAt h r k
   way_path a r [] k e way = let step = edge_step a r k e way in (step.0, step.1, ([], step.2))
   way_path a r (m ∷ ms) k e way =
       let step = edge_step a r m e way.0 in
       let rest = way_path m step.0 ms k step.1 way.1 in
       (rest.0, rest.1, (step.0 ∷ rest.2.0, (step.2, rest.2.1)))
 
-  path_way : (a : ℕ) (r : ClusterRole) (between : List ClusterRole) (s : ClusterRole) → slice_get h.cluster_roles a ≡ Some r → IsPath h r between s → (k : ℕ) × (slice_get h.cluster_roles k ≡ Some s) × LeadsTo g a k
-  path_way a r [] s e step =
-      let at = read_contains h.cluster_roles s step.0 in
-      (at.0, at.1, ([], step_edge a r at.0 e (s, at.1, step)))
-  path_way a r (m ∷ ms) s e path =
+  path_way : (a : ℕ) (r : ClusterRole) (between : List ClusterRole) (s : ClusterRole) (k : ℕ) → slice_get h.cluster_roles a ≡ Some r → slice_get h.cluster_roles k ≡ Some s → IsPath h r between s → LeadsTo g a k
+  path_way a r [] s k e there step = ([], step_edge a r k e (s, there, step))
+  path_way a r (m ∷ ms) s k e there path =
       let at = read_contains h.cluster_roles m path.0.0 in
-      let rest = path_way at.0 m ms s at.1 path.1 in
-      (rest.0, rest.1, (at.0 ∷ rest.2.0, (step_edge a r at.0 e (m, at.1, path.0), rest.2.1)))
+      let rest = path_way at.0 m ms s k at.1 there path.1 in
+      (at.0 ∷ rest.0, (step_edge a r at.0 e (m, at.1, path.0), rest.1))
 
-  pub leads_reaches : (a : ℕ) (r : ClusterRole) (k : ℕ) → slice_get h.cluster_roles a ≡ Some r → LeadsTo g a k → (s : ClusterRole) × (slice_get h.cluster_roles k ≡ Some s) × Reaches h r s
-  leads_reaches a r k e way = way_path a r way.0 k e way.1
+  -- where each vertex has edges to all that it led to, the roles that are reached are marked
+  pub are_reaches : (rows : Graph) → length rows ≡ length g → ((a b : ℕ) → HasEdge rows a b ↔ LeadsTo g a b) → AreReaches h rows
+  are_reaches rows len exact = record {
+    len = len ∙ rows_len;
+    exact = λ at r e k. (
+      λ edge. let way = (exact at k).0 edge in way_path at r way.0 k e way.1,
+      λ to. (exact at k).1 (path_way at r to.2.0 to.0 k e to.1 to.2.1),
+    );
+  }
 
-  pub reaches_leads : (a : ℕ) (r s : ClusterRole) → slice_get h.cluster_roles a ≡ Some r → Reaches h r s → (k : ℕ) × (slice_get h.cluster_roles k ≡ Some s) × LeadsTo g a k
-  reaches_leads a r s e path = path_way a r path.0 s e path.1
+pub marked_reached : (h : Held) (rows : Graph) (at : ℕ) (r : ClusterRole) (marks : List ℕ) → AreReaches h rows → slice_get h.cluster_roles at ≡ Some r → marks ≡ get_or rows at marks → (k : ℕ) → IsMarked marks k ↔ IsReachedAt h r k
+marked_reached h rows at r marks are e read =
+    let l : at < length rows = omega (arith, are.len, slice_get_within h.cluster_roles at r e) in
+    let same : get_or rows at [] ≡ marks = sym (read ∙ get_or_default rows at marks [] l) in
+    subst (λ (row : List ℕ). (k : ℕ) → IsMarked row k ↔ IsReachedAt h r k) same (are.exact at r e)
 
 -- one pair more, as a loop over a list makes it
 pub zip_next : {A B : Type 0} (R : A → B → Type 0) (all xs : List A) (ys : List B) (i : ℕ) (x : A) (y : B) → xs ≡ all → i < length xs → x ≡ get_or xs i x → AllZip R (take i all) ys → R x y → AllZip R (take (i + 1) all) (ys ++ y ∷ [])

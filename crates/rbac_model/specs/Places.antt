@@ -1,11 +1,11 @@
-use Rattle.std.specs.Prelude.{◌≡◌, ◌↔◌, Contains, ℕ, ◌<◌, ◌+◌, ◌⊎◌, List, [], ◌∷◌, ◌++◌, Option, Some, None, All, Bool, IsSome, map, slice_get, length, zero, suc, Vec}
+use Rattle.std.specs.Prelude.{◌≡◌, ◌↔◌, Contains, ℕ, ◌<◌, ◌⊎◌, List, [], ◌∷◌, ◌++◌, Option, Some, None, All, IsSome, map, slice_get, length, zero, suc, Vec}
 use Rattle.std.specs.List.{filter_map, flat_map, AllZip}
 use Rattle.std.specs.Option.{option_map}
 use Rattle.std.specs.declared.alloc.Global.{Global}
-use Rattle.rbac_model.specs.Graphs.{Graph, IsMarked}
+use Rattle.rbac_model.specs.Graphs.{Graph, HasEdge, IsMarked}
 use Rattle.rbac_model.specs.Lists.{IsAscendingBy}
 use Rattle.rbac_terms.specs.Text.{Text}
-use Rattle.rbac_model.specs.Policies.{Held, Source, InRole, InClusterRole, SourcedRule, GrantView, IsRefTo, IsPlain, Step, AreGathered, written_from, grant_at, grants_at}
+use Rattle.rbac_model.specs.Policies.{Held, Source, InRole, InClusterRole, SourcedRule, GrantView, IsRefTo, IsPlain, Step, Reaches, AreGathered, written_from, grant_at, grants_at}
 use Rattle.rbac_terms.specs.declared.granting.Binding.{Binding}
 use Rattle.rbac_terms.specs.declared.granting.ClusterRole.{ClusterRole}
 use Rattle.rbac_terms.specs.declared.granting.RoleRef.{RoleRef}
@@ -66,13 +66,22 @@ IsPlainAt roles k = (s : ClusterRole) × (slice_get roles k ≡ Some s) × IsPla
 abbrev pub IsStepTo : Held → ClusterRole → ℕ → Type 0
 IsStepTo h r k = (s : ClusterRole) × (slice_get h.cluster_roles k ≡ Some s) × Step h r s
 
--- the places of those that one step leads to from r
-abbrev pub IsRowOf : Held → ClusterRole → Vec ℕ Global → Type 0
-IsRowOf h r row = (k : ℕ) → Contains row.items k ↔ IsStepTo h r k
+-- the set of those that one step leads to from r
+abbrev pub IsRowOf : Held → ClusterRole → List ℕ → Type 0
+IsRowOf h r row = (k : ℕ) → IsMarked row k ↔ IsStepTo h r k
 
--- such places, for each cluster role
+-- such a set, for each cluster role
 abbrev pub AreSteps : Held → Graph → Type 0
 AreSteps h rows = AllZip (IsRowOf h) h.cluster_roles rows
+
+-- r reaches the role at a place
+abbrev pub IsReachedAt : Held → ClusterRole → ℕ → Type 0
+IsReachedAt h r k = (s : ClusterRole) × (slice_get h.cluster_roles k ≡ Some s) × Reaches h r s
+
+-- the set of those that it reaches, for each cluster role
+pub record AreReaches (h : Held) (rows : Graph) : Type 0 where
+  pub len : length rows ≡ length h.cluster_roles
+  pub exact : (at : ℕ) (r : ClusterRole) → slice_get h.cluster_roles at ≡ Some r → (k : ℕ) → HasEdge rows at k ↔ IsReachedAt h r k
 
 -- the places of the rules of a role, and of those of cluster roles, with a binding's
 abbrev pub rule_count : Option (List Rule) → ℕ
@@ -86,10 +95,10 @@ abbrev pub places_in : Held → ℕ → List ℕ → List GrantPlace
 places_in h binding ps = flat_map (λ at. places_of binding (ClusterRoleAt at) (rule_count (option_map (λ r. r.rules) (slice_get h.cluster_roles at)))) ps
 
 -- a text is the name of a role at a place with a mark
-abbrev pub IsMarkedName : Held → List Bool → Text → Type 0
+abbrev pub IsMarkedName : Held → List ℕ → Text → Type 0
 IsMarkedName h marks w = (k : ℕ) × (s : ClusterRole) × IsMarked marks k × (slice_get h.cluster_roles k ≡ Some s) × (s.name ≡ w)
 
 -- such names, ascending
-pub record AreMarkedNames (h : Held) (marks : List Bool) (ws : List Text) : Type 0 where
+pub record AreMarkedNames (h : Held) (marks : List ℕ) (ws : List Text) : Type 0 where
   pub ordered : IsAscendingBy (λ w. w ∷ []) ws
   pub exact : (w : Text) → Contains ws w ↔ IsMarkedName h marks w

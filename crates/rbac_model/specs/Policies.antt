@@ -1,4 +1,4 @@
-use Rattle.std.specs.Prelude.{◌≡◌, ◌≢◌, ℕ, ◌+◌, ◌⊎◌, ◌↔◌, List, [], ◌∷◌, ◌++◌, Option, Some, None, Any, Contains, codes, map}
+use Rattle.std.specs.Prelude.{◌≡◌, ◌≢◌, ℕ, ◌+◌, ◌⊎◌, ◌↔◌, List, [], ◌∷◌, ◌++◌, Option, Some, None, Any, Contains, codes, map, ◌<◌, length}
 use Rattle.std.specs.List.{flat_map, filter_map}
 use Rattle.std.specs.Option.{option_map}
 use Rattle.std.specs.Prelude.{option_and_then, slice_get}
@@ -157,8 +157,17 @@ pub record PolicyView : Type 0 where
   pub held : Held
   pub grants : List GrantView
 
+-- its grants are those of its bindings
 abbrev pub IsPolicy : PolicyView → Type 0
 IsPolicy p = IsHeld p.held × AreGrantsOf p.held p.held.bindings p.grants
+
+-- the grants of the bindings are over a million (own)
+abbrev pub HasTooMany : Held → Type 0
+HasTooMany h = (gs : List GrantView) × AreGrantsOf h h.bindings gs × (1000000 < length gs)
+
+-- the grants of the bindings that are held are one list
+abbrev pub OneListOfGrants : Held → Type 0
+OneListOfGrants h = (gs others : List GrantView) → AreGrantsOf h h.bindings gs → AreGrantsOf h h.bindings others → gs ≡ others
 
 -- where a binding in that namespace, or in none, is live (Using RBAC Authorization): everywhere, or for resources of its own namespace
 abbrev pub Live : Option Text → Text → What → Type 0

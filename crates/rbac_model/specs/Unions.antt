@@ -1,16 +1,11 @@
-use Rattle.std.specs.Prelude.{◌≡◌, ℕ, ◌↔◌, ◌⊎◌, List, [], ◌∷◌, Contains, Any}
+use Rattle.std.specs.Prelude.{◌≡◌, ◌↔◌, ◌⊎◌, List, [], ◌∷◌, Contains, Any}
 use Rattle.rbac_terms.specs.Text.{Text}
 use Rattle.rbac_model.specs.Lists.{IsAscendingBy}
-use Rattle.rbac_terms.specs.Principals.{Who, AsUser, AsMember, key_of}
+use Rattle.rbac_terms.specs.Principals.{Who, key_of, given_of}
 
 -- a principal's key alone, as a list of one text
 abbrev pub who_name : Who → List Text
 who_name who = key_of who ∷ []
-
--- the groups that are given
-abbrev pub given_of : Who → List Text
-given_of (AsUser name given) = given
-given_of (AsMember group) = []
 
 -- some principal of that key is given that group
 abbrev pub IsGiven : List Who → Text → Text → Type 0

@@ -1,19 +1,29 @@
 //! What aggregated roles gather from.
 
-ghost use Rattle.std.specs.Prelude.{◌≡◌, ◌≢◌, ◌<◌, ◌↔◌, ℕ, IsTrue, Some, IfOk, Contains, length, slice_get, AllPairs, vec_len, Any, []};
-ghost use Rattle.rbac_model.specs.Policies.{Gathers, IsPlain, AreReachedNames};
+ghost use Rattle.std.specs.Prelude.{◌≡◌, ◌≢◌, ◌<◌, ◌↔◌, ℕ, IsTrue, Some, IfOk, Contains, length, slice_get, AllPairs, Any, []};
+ghost use Rattle.rbac_model.specs.Policies.{Gathers, AreReachedNames};
 ghost use Rattle.rbac_model.specs.Graphs.{IsMarked};
 ghost use Rattle.rbac_terms.specs.declared.granting.ClusterRole.{ClusterRole};
-ghost use Rattle.rbac_model.specs.Places.{IsRowOf, AreSteps, AreSources, AreSourcesOf, IsPlainAt, AreMarkedNames};
+ghost use Rattle.rbac_model.specs.Places.{IsRowOf, AreSteps, IsReachedAt, AreReaches, AreSources, AreSourcesOf, IsPlainAt, AreMarkedNames};
 
 use crate::holding::Objects;
-use crate::reaching::reach;
+use crate::marking::Marks;
+use crate::reaching::close;
 use crate::resolving::cluster_role_place;
 use rbac_terms::{ClusterRole, Word, Words, selects};
 use std::alloc::{AllocError, Global};
 
+// For each cluster role the places of those that it reaches.
+pub(crate) fn reaches_of(alloc: Global, objects: &Objects) -> Result<Vec<Marks>, AllocError>
+    ensures { IfOk result (λ rows. AreReaches objects.now rows.items) }
+{
+    let mut rows = steps_of(alloc, objects)?;
+    close(&mut rows)?;
+    Ok(rows)
+}
+
 // For each cluster role the places of those that one step leads to.
-pub(crate) fn steps_of(alloc: Global, objects: &Objects) -> Result<Vec<Vec<usize>>, AllocError>
+fn steps_of(alloc: Global, objects: &Objects) -> Result<Vec<Marks>, AllocError>
     ensures { IfOk result (λ rows. AreSteps objects.now rows.items) }
 {
     let roles = objects.cluster_roles();
@@ -24,20 +34,16 @@ pub(crate) fn steps_of(alloc: Global, objects: &Objects) -> Result<Vec<Vec<usize
     Ok(rows)
 }
 
-fn steps_from(
-    alloc: Global,
-    objects: &Objects,
-    role: &ClusterRole,
-) -> Result<Vec<usize>, AllocError>
+fn steps_from(alloc: Global, objects: &Objects, role: &ClusterRole) -> Result<Marks, AllocError>
     ensures { IfOk result (IsRowOf objects.now role.now) }
 {
-    let mut row = Vec::new(alloc);
+    let mut row = Marks::new(alloc);
     if role.aggregation.is_none() {
         return Ok(row);
     }
     for (at, other) in objects.cluster_roles().iter().enumerate() {
         if is_step(role, other) {
-            row.push(at)?;
+            row.set(at)?;
         }
     }
     Ok(row)
@@ -65,15 +71,15 @@ fn gathers(role: &ClusterRole, other: &ClusterRole) -> bool
 pub(crate) fn sources_of(
     alloc: Global,
     objects: &Objects,
-    steps: &[Vec<usize>],
+    reaches: &[Marks],
 ) -> Result<Vec<Vec<usize>>, AllocError>
-    requires { AreSteps objects.now steps.now }
+    requires { AreReaches objects.now reaches.now }
     ensures { IfOk result (λ rows. AreSources objects.now rows.items) }
 {
     let roles = objects.cluster_roles();
     let mut rows = Vec::with_capacity(alloc, roles.len())?;
     for (at, role) in roles.iter().enumerate() {
-        rows.push(sources_at(alloc, objects, steps, at, role)?)?;
+        rows.push(sources_at(alloc, objects, &reaches[at], at, role)?)?;
     }
     Ok(rows)
 }
@@ -81,12 +87,12 @@ pub(crate) fn sources_of(
 fn sources_at(
     alloc: Global,
     objects: &Objects,
-    steps: &[Vec<usize>],
+    reached: &Marks,
     at: usize,
     role: &ClusterRole,
 ) -> Result<Vec<usize>, AllocError>
-    requires steps { AreSteps objects.now steps.now }
     requires at { slice_get objects.now.cluster_roles at ≡ Some role.now }
+    requires reached { (k : ℕ) → IsMarked reached.now k ↔ IsReachedAt objects.now role.now k }
     ensures { IfOk result (λ row. AreSourcesOf objects.now role.now row.items) }
 {
     if role.aggregation.is_none() {
@@ -94,23 +100,21 @@ fn sources_at(
         own.push(at)?;
         return Ok(own);
     }
-    let marks = reach(alloc, steps, at)?;
-    plain_marked(alloc, objects.cluster_roles(), &marks)
+    plain_marked(alloc, objects.cluster_roles(), reached)
 }
 
 // The places of the plain roles with a mark, ascending.
 fn plain_marked(
     alloc: Global,
     roles: &[ClusterRole],
-    marks: &[bool],
+    marks: &Marks,
 ) -> Result<Vec<usize>, AllocError>
-    requires { length marks.now ≡ length roles.now }
     ensures ascending { IfOk result (λ row. AllPairs (λ a b. a < b) row.items) }
     ensures exact { IfOk result (λ row. (k : ℕ) → Contains row.items k ↔ (IsMarked marks.now k × IsPlainAt roles.now k)) }
 {
     let mut row = Vec::new(alloc);
     for (at, role) in roles.iter().enumerate() {
-        if marks[at] && role.aggregation.is_none() {
+        if marks.has(at) && role.aggregation.is_none() {
             row.push(at)?;
         }
     }
@@ -121,30 +125,26 @@ fn plain_marked(
 pub(crate) fn names_from(
     alloc: Global,
     objects: &Objects,
-    steps: &[Vec<usize>],
+    reaches: &[Marks],
     name: &Word,
 ) -> Result<Words, AllocError>
-    requires { AreSteps objects.now steps.now }
+    requires { AreReaches objects.now reaches.now }
     ensures reached { IfOk result (λ ws. (r : ClusterRole) → Contains objects.now.cluster_roles r → r.name ≡ name.now → AreReachedNames objects.now r ws) }
     ensures none { IfOk result (λ ws. ¬ Any (λ r. r.name ≡ name.now) objects.now.cluster_roles → ws ≡ []) }
 {
     match cluster_role_place(objects.cluster_roles(), name) {
-        Some(at) => {
-            let marks = reach(alloc, steps, at)?;
-            marked_names(alloc, objects, &marks)
-        }
+        Some(at) => marked_names(alloc, objects, &reaches[at]),
         None => Ok(Words::new(alloc)),
     }
 }
 
 // The names of the cluster roles with a mark, ascending.
-fn marked_names(alloc: Global, objects: &Objects, marks: &[bool]) -> Result<Words, AllocError>
-    requires { length marks.now ≡ length objects.now.cluster_roles }
+fn marked_names(alloc: Global, objects: &Objects, marks: &Marks) -> Result<Words, AllocError>
     ensures { IfOk result (λ ws. AreMarkedNames objects.now marks.now ws) }
 {
     let mut names = Words::new(alloc);
     for (at, role) in objects.cluster_roles().iter().enumerate() {
-        if marks[at] {
+        if marks.has(at) {
             names.push(role.name.clone()?)?;
         }
     }

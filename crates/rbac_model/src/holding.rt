@@ -9,15 +9,18 @@ use std::alloc::{AllocError, Global};
 use std::cmp::Ordering;
 use std::marker::Model;
 
-/// An object that a policy is made of.
+/// An object that a policy is made of (Using RBAC Authorization, API objects).
 #[derive(Clone, Drop)]
 pub enum Object {
+    /// A role of one namespace.
     Role(Role),
+    /// A role of the whole cluster.
     ClusterRole(ClusterRole),
+    /// A ClusterRoleBinding, or a RoleBinding of some namespace.
     Binding(Binding),
 }
 
-/// Objects by kind, namespace and name, one of each.
+/// The objects that are held: one for each kind, namespace and name, in order of these.
 #[derive(Drop)]
 pub struct Objects {
     roles: Vec<Role>,
@@ -49,7 +52,25 @@ impl Objects {
         }
     }
 
-    /// Puts an object over the one of its kind, namespace and name: whether there was one.
+    // Objects of these kinds, each in order of names.
+    pub(crate) fn of_kinds(
+        roles: Vec<Role>,
+        cluster_roles: Vec<ClusterRole>,
+        bindings: Vec<Binding>,
+    ) -> Self
+        requires { IsHeld (record { roles = roles.items; cluster_roles = cluster_roles.items; bindings = bindings.items }) }
+        ensures { result ≡ record { roles = roles.items; cluster_roles = cluster_roles.items; bindings = bindings.items } }
+    {
+        Objects {
+            roles,
+            cluster_roles,
+            bindings,
+        }
+    }
+
+    /// Puts an object in the place of the one of its kind, namespace and name, and says whether
+    /// there was one (own: the later object replaces the earlier). A ClusterRoleBinding and a
+    /// RoleBinding are of two kinds. Where memory is refused, the objects stay as they were.
     pub fn put(&mut self, object: Object) -> Result<bool, ModelFault>
         ensures ok { OnOk result (Puts self.old self.new object) }
         ensures replaced { IfOk result (λ was. IsTrue was ↔ HasNameOf self.old object) }
@@ -144,7 +165,7 @@ pub(crate) fn place<T: Named>(items: &[T], item: &T) -> Result<usize, usize>
 }
 
 // Puts an item in its place, over the one of its name if there is one: whether there was.
-fn put<T: Named + Drop>(items: &mut Vec<T>, item: T) -> Result<bool, AllocError>
+pub(crate) fn put<T: Named + Drop>(items: &mut Vec<T>, item: T) -> Result<bool, AllocError>
     requires { IsAscendingBy T.name items.old.items }
     ensures ok { OnOk result (IsPut T.name items.old.items items.new.items item) }
     ensures replaced { IfOk result (λ was. IsTrue was ↔ Any (λ y. T.name y ≡ T.name item) items.old.items) }

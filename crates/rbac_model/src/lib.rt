@@ -2,10 +2,14 @@
 //! are made of stand in `rbac_terms`, and are reached from here too.
 #![tactic(auto)]
 
+mod allowing;
 mod fault;
 mod gathering;
 mod holding;
+mod keeping;
+mod laws;
 mod listing;
+mod marking;
 mod places;
 mod policy;
 mod reaching;
@@ -13,6 +17,7 @@ mod resolving;
 
 pub use fault::ResolveFault;
 pub use holding::{Object, Objects};
+pub use laws::{grants_are_one_list, kept_objects_are_one};
 pub use policy::Policy;
 pub use rbac_terms::{
     Binding, ClusterRole, Key, Labels, ModelFault, Principal, Requirement, Requirements, Role,

@@ -1,7 +1,7 @@
 //! The grants of bindings, in order.
 
 ghost use Rattle.std.specs.Prelude.{◌≡◌, ◌+◌, ◌<◌, ◌≤◌, ◌++◌, List, Some, IsSome, All, IfOk, IfErr, OnOk, length, slice_get, vec_len};
-ghost use Rattle.rbac_model.specs.Policies.{AreGrantsOf, AreRulesFor, GrantView, SourcedRule, grant_at, grants_at};
+ghost use Rattle.rbac_model.specs.Policies.{AreGrantsOf, AreRulesFor, HasTooMany, SourcedRule, grant_at, grants_at};
 ghost use Rattle.rbac_model.specs.Places.{AreSources, IsAdded, places_of, places_in, role_places};
 
 use crate::fault::ResolveFault;
@@ -21,7 +21,7 @@ pub(crate) fn grants_of(
     ensures are { IfOk result (λ gs. AreGrantsOf objects.now objects.now.bindings (grants_at objects.now gs.items)) }
     ensures held { IfOk result (λ gs. All (λ g. IsSome (grant_at objects.now g)) gs.items) }
     ensures few { IfOk result (λ gs. vec_len gs ≤ 1000000) }
-    ensures many { IfErr result (λ e. e ≡ ResolveFault.TooMany → (gs : List GrantView) → AreGrantsOf objects.now objects.now.bindings gs → 1000000 < length gs) }
+    ensures many { IfErr result (λ e. e ≡ ResolveFault.TooMany → HasTooMany objects.now) }
 {
     let bindings = objects.bindings();
     let mut grants = Vec::new(alloc);

@@ -1,93 +1,136 @@
 //! Policies: objects, and the grants that follow from them.
 
-ghost use Rattle.std.specs.Prelude.{◌≡◌, ◌<◌, ◌≤◌, [], List, Any, Contains, IfOk, IfErr, Some, IsSome, All, length, slice_get};
-ghost use Rattle.rbac_model.specs.Policies.{PolicyView, GrantView, AreGrantsOf, AreReachedNames, grants_at, grant_at};
+ghost use Rattle.std.specs.Prelude.{◌≡◌, ◌<◌, ◌≤◌, ◌↔◌, IsTrue, [], Any, Contains, IfOk, IfErr, Some, IsSome, All, length, slice_get};
+ghost use Rattle.rbac_model.specs.Policies.{PolicyView, IsPolicy, HasTooMany, Allows, AreReachedNames, grants_at, grant_at};
 ghost use Rattle.rbac_model.specs.Sources.{grant_of};
 ghost use Rattle.rbac_terms.specs.declared.granting.ClusterRole.{ClusterRole};
 
+use crate::allowing::grant_allows;
 use crate::fault::ResolveFault;
-use crate::gathering::{names_from, sources_of, steps_of};
+use crate::gathering::{names_from, reaches_of, sources_of};
 use crate::holding::Objects;
 use crate::listing::grants_of;
+use crate::marking::Marks;
 use crate::places::GrantPlace;
 use crate::resolving::{Grant, grant_from};
-use rbac_terms::{Word, Words};
+use rbac_terms::{Binding, Principal, Target, Word, Words};
 use std::alloc::Global;
 use std::marker::Model;
 
-/// Objects, and the grants that follow from them.
+/// Objects, and the grants that follow from them: at most a million, numbered from 0 in order of
+/// bindings, then of the rules of a binding's role.
 #[derive(Drop)]
 pub struct Policy {
     objects: Objects,
-    steps: Vec<Vec<usize>>,
+    reaches: Vec<Marks>,
     grants: Vec<GrantPlace>,
 }
 
 impl Model for Policy {
-    ghost use Rattle.std.specs.Prelude.{IsSome, All};
-    ghost use Rattle.rbac_model.specs.Places.{AreSteps};
-    ghost use Rattle.rbac_model.specs.Policies.{PolicyView, grants_at, grant_at};
+    ghost use Rattle.std.specs.Prelude.{IsSome, All, ◌≤◌, vec_len};
+    ghost use Rattle.rbac_model.specs.Places.{AreReaches};
+    ghost use Rattle.rbac_model.specs.Policies.{PolicyView, IsPolicy, grants_at, grant_at};
 
     ghost Value = { PolicyView };
 
     ghost view = { λ p. record { held = p.objects; grants = grants_at p.objects p.grants.items } };
 
-    ghost invariant = { λ p. All (λ g. IsSome (grant_at p.objects g)) p.grants.items × AreSteps p.objects p.steps.items };
+    ghost invariant = { λ p. IsPolicy (record { held = p.objects; grants = grants_at p.objects p.grants.items })
+        × All (λ g. IsSome (grant_at p.objects g)) p.grants.items × (vec_len p.grants ≤ 1000000) × AreReaches p.objects p.reaches.items };
 }
 
 impl Policy {
-    /// The grants that follow from these objects, in order of bindings, then of rules.
+    /// The grants that follow from these objects. A binding whose role isn't held brings none; an
+    /// aggregated role has the rules of the plain ones that it reaches, in order of their names
+    /// (own: the state in which aggregation settles). More than a million grants are refused as
+    /// `TooMany`, and want of memory as `NoMemory`; the objects aren't handed back.
     pub fn resolve(alloc: Global, objects: Objects) -> Result<Self, ResolveFault>
         ensures held { IfOk result (λ p. p.held ≡ objects) }
-        ensures grants { IfOk result (λ p. AreGrantsOf objects objects.bindings p.grants) }
+        ensures policy { IfOk result (λ p. IsPolicy p) }
         ensures few { IfOk result (λ p. length p.grants ≤ 1000000) }
-        ensures many { IfErr result (λ e. e ≡ ResolveFault.TooMany → (gs : List GrantView) → AreGrantsOf objects objects.bindings gs → 1000000 < length gs) }
+        ensures many { IfErr result (λ e. e ≡ ResolveFault.TooMany → HasTooMany objects) }
     {
-        let steps = steps_of(alloc, &objects)?;
-        let sources = sources_of(alloc, &objects, &steps)?;
+        let reaches = reaches_of(alloc, &objects)?;
+        let sources = sources_of(alloc, &objects, &reaches)?;
         let grants = grants_of(alloc, &objects, &sources)?;
         Ok(Policy {
             objects,
-            steps,
+            reaches,
             grants,
         })
     }
 
-    /// The names of the cluster roles that the one of this name reaches, by one step or more.
+    /// Whether some binding allows the principal this verb on this target in this namespace; there
+    /// are no deny rules (Using RBAC Authorization). In the empty namespace, and for URLs,
+    /// ClusterRoleBindings alone are live. Tests the grants in turn, and takes no memory.
+    pub fn allows(
+        &self,
+        principal: &Principal,
+        namespace: &Word,
+        verb: &Word,
+        target: &Target,
+    ) -> bool
+        ensures { IsTrue result ↔ Allows self.now.held principal.now namespace.now verb.now target.now }
+    {
+        for no in 0..self.len() {
+            if grant_allows(self.grant(no), principal, namespace, verb, target) {
+                return true;
+            }
+        }
+        false
+    }
+
+    /// The names of the cluster roles that the one of this name reaches, by one step of
+    /// aggregation or more, ascending (Using RBAC Authorization, Aggregated ClusterRoles). A plain
+    /// role reaches none; nor does a name that no cluster role has.
     pub fn reached(&self, alloc: Global, name: &Word) -> Result<Words, ResolveFault>
         ensures reached { IfOk result (λ ws. (r : ClusterRole) → Contains self.now.held.cluster_roles r → r.name ≡ name.now → AreReachedNames self.now.held r ws) }
         ensures none { IfOk result (λ ws. ¬ Any (λ r. r.name ≡ name.now) self.now.held.cluster_roles → ws ≡ []) }
         ensures only_memory { IfErr result (λ e. e ≡ ResolveFault.NoMemory) }
     {
-        Ok(names_from(alloc, &self.objects, &self.steps, name)?)
+        Ok(names_from(alloc, &self.objects, &self.reaches, name)?)
     }
 
+    /// The objects that the policy was made of.
     pub fn objects(&self) -> &Objects
-        ensures { result.now ≡ self.now.held }
+        ensures held { result.now ≡ self.now.held }
+        ensures policy { IsPolicy self.now }
     {
         &self.objects
     }
 
-    /// How many grants there are.
-    pub fn len(&self) -> usize
-        ensures { result ≡ length self.now.grants }
+    /// The bindings in order: ClusterRoleBindings by name, then RoleBindings by namespace and name.
+    pub fn bindings(&self) -> &[Binding]
+        ensures bindings { result.now ≡ self.now.held.bindings }
+        ensures policy { IsPolicy self.now }
     {
-        self.places().len()
+        self.objects.bindings()
     }
 
-    /// The grant of this number.
-    pub fn grant(&self, no: usize) -> Grant<'_>
+    /// How many grants there are.
+    pub fn len(&self) -> u32
+        ensures len { result ≡ length self.now.grants }
+        ensures few { length self.now.grants ≤ 1000000 }
+        ensures policy { IsPolicy self.now }
+    {
+        self.places().len() as u32
+    }
+
+    /// The grant of this number, from 0.
+    pub fn grant(&self, no: u32) -> Grant<'_>
         requires { no < length self.now.grants }
         ensures { slice_get self.now.grants no ≡ Some (grant_of result) }
     {
         let places = self.places();
-        grant_from(&self.objects, places[no])
+        grant_from(&self.objects, places[no as usize])
     }
 
     fn places(&self) -> &[GrantPlace]
         ensures len { length result.now ≡ length self.now.grants }
+        ensures few { length result.now ≤ 1000000 }
         ensures held { All (λ at. IsSome (grant_at self.now.held at)) result.now }
         ensures grants { self.now.grants ≡ grants_at self.now.held result.now }
+        ensures policy { IsPolicy self.now }
     {
         self.grants.as_slice()
     }

@@ -13,16 +13,22 @@ use rbac_terms::{Binding, ClusterRole, Role, RoleRef, Rule, Word};
 /// The role where a rule is written.
 #[derive(Clone, Copy)]
 pub enum SourceRole<'a> {
+    /// A role of one namespace.
     Role(&'a Role),
+    /// A cluster role: for a rule that an aggregated role gathers, the plain one that has it.
     ClusterRole(&'a ClusterRole),
 }
 
-/// A grant: a binding, and a rule of its role with the place where it is written.
+/// A grant: a binding whose role is held, and a rule of that role.
 #[derive(Clone, Copy)]
 pub struct Grant<'a> {
+    /// The binding that grants.
     pub binding: &'a Binding,
+    /// The role where the rule is written.
     pub source: SourceRole<'a>,
+    /// The rule.
     pub rule: &'a Rule,
+    /// The place of the rule in that role, from 0.
     pub place: usize,
 }
 
@@ -58,7 +64,9 @@ fn sourced<'a>(objects: &'a Objects, role: RolePlace, place: usize) -> (SourceRo
     }
 }
 
-/// The role that a binding refers to, if it is held.
+/// The role that a binding refers to, if it is held: a RoleBinding to a Role of its own namespace
+/// or to a ClusterRole, a ClusterRoleBinding to a ClusterRole (Using RBAC Authorization,
+/// RoleBinding and ClusterRoleBinding). A ClusterRoleBinding that names a Role refers to none.
 pub fn role_of<'a>(objects: &'a Objects, binding: &Binding) -> Option<SourceRole<'a>>
     ensures { MatchOption result
         ((source : Source) → ¬ IsRefTo objects.now binding.now.namespace binding.now.role source)

@@ -1,10 +1,10 @@
 -- the user names of service accounts, and the groups that follow from them
-use Rattle.std.proofs.Common.{◌≡◌, List, [], ◌∷◌, ◌++◌, sym, ap, ◌∙◌, append_assoc, ◌↔◌, IsTrue, Bool, true, false, subst}
+use Rattle.std.proofs.Common.{◌≡◌, List, [], ◌∷◌, ◌++◌, sym, ap, ◌∙◌, append_assoc, ◌↔◌, IsTrue, Bool, true, false, subst, Contains}
 use Rattle.std.specs.Prelude.{codes}
 use Rattle.std.proofs.lemmas.List.{append_cancel_left}
-use Rattle.rbac_terms.specs.Text.{Text, colon, IsCutAtFirst}
+use Rattle.rbac_terms.specs.Text.{Text, colon, IsCutAtFirst, BeginsWith}
 use Rattle.rbac_terms.specs.Principals.{Who, AsUser, who_of, name_of, account_user, IsPart, IsAccountOf, IsAccountGroup, IsGroupOfAccounts}
-use Rattle.rbac_terms.proofs.Texts.{IsCutAtFirst-one, IsCutAtFirst-front}
+use Rattle.rbac_terms.proofs.Texts.{IsCutAtFirst-one, IsCutAtFirst-front, IsCutAtFirst-contains}
 
 -- what follows the prefix of such a name
 abbrev pub rest_of : Text → Text → Text
@@ -23,11 +23,20 @@ account_user-iff user parts rest namespace name r e f i = (
   λ g. i.1 (append_cancel_left namespace rest (colon ∷ name) (sym f ∙ account_rest user parts namespace name e g)),
 )
 
+-- such a name begins with the prefix
+pub IsAccountOf-begins : (user namespace : Text) → IsAccountOf user namespace → BeginsWith user (codes "system:serviceaccount:")
+IsAccountOf-begins user namespace a = (rest_of namespace a.0, a.1 ∙ user_is namespace a.0)
+
 -- such a name's rest is cut at its first colon
 pub IsAccountOf-cut : (user parts namespace : Text) → user ≡ codes "system:serviceaccount:" ++ parts → (a : IsAccountOf user namespace) → IsCutAtFirst parts colon namespace a.0
 IsAccountOf-cut user parts namespace e a =
     (append_cancel_left (codes "system:serviceaccount:") parts (rest_of namespace a.0) (sym e ∙ a.1 ∙ user_is namespace a.0), a.2.1)
 
+-- and so has one
+pub IsAccountOf-colon : (user parts namespace : Text) → user ≡ codes "system:serviceaccount:" ++ parts → IsAccountOf user namespace → Contains parts colon
+IsAccountOf-colon user parts namespace e a = IsCutAtFirst-contains parts namespace a.0 colon (IsAccountOf-cut user parts namespace e a)
+
+-- the parts of such a name are proper
 pub IsAccountOf-from : (user parts namespace name : Text) → user ≡ codes "system:serviceaccount:" ++ parts → IsCutAtFirst parts colon namespace name → IsPart namespace → IsPart name → IsAccountOf user namespace
 IsAccountOf-from user parts namespace name e c p q =
     (name, e ∙ ap (λ t. codes "system:serviceaccount:" ++ t) c.0 ∙ sym (user_is namespace name), p, q)

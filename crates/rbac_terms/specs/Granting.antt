@@ -4,10 +4,10 @@ use Rattle.rbac_terms.specs.Principals.{Who, IsUserNamed, IsInGroup, account_use
 use Rattle.rbac_terms.specs.declared.granting.Subject.{Subject}
 use Rattle.rbac_terms.specs.declared.granting.Subject.TheVariants.{User, Group, Account}
 
--- a subject of a binding in that namespace, or in none, names who asks (Using RBAC Authorization, Referring to subjects); an account without any namespace names nobody (own)
+-- a subject of a binding in that namespace, or in none, names who asks: the user of that name, whoever is in the group, the user of the service account (Using RBAC Authorization, Referring to subjects); an account without a namespace is of the binding's, and names nobody where that has none (own)
 abbrev pub Names : Subject → Option Text → Who → Type 0
 Names (User name) _ who = IsUserNamed who name
 Names (Group name) _ who = IsInGroup who name
 Names (Account (Some namespace) name) _ who = IsUserNamed who (account_user namespace name)
 Names (Account None name) (Some namespace) who = IsUserNamed who (account_user namespace name)
-Names (Account None name) None who = ⊥
+Names (Account None name) None _ = ⊥

@@ -5,7 +5,7 @@ use Rattle.rbac_terms.specs.Text.{Text, text_cmp}
 use Rattle.rbac_terms.specs.Principals.{Who, key_of as who_key}
 use Rattle.rbac_terms.specs.Targets.{What, Resource, Url, group_of, text_of, name_of}
 
--- the key of a request (own): six texts, the principal's key, namespace, verb, group, resource text or URL, name
+-- the key of a request: six texts, the principal's key, namespace, verb, API group, resource text or URL, object name (own)
 pub record KeyTexts : Type 0 where
   pub principal : Text
   pub namespace : Text
@@ -14,15 +14,16 @@ pub record KeyTexts : Type 0 where
   pub resource : Text
   pub name : Text
 
+-- the six texts in their order (own)
 abbrev pub texts : KeyTexts → List Text
 texts k = k.principal ∷ k.namespace ∷ k.verb ∷ k.group ∷ k.resource ∷ k.name ∷ []
 
--- of a request for a URL the namespace isn't looked at
+-- the namespace of a request; a URL request has the empty one, whatever is handed in (own)
 abbrev pub namespace_at : Text → What → Text
 namespace_at namespace (Resource group text name) = namespace
 namespace_at namespace (Url path) = []
 
--- of a request for a URL the namespace, the group and the name are empty
+-- the key of the request of someone, in a namespace, for a verb on what is asked for (own)
 abbrev pub key_of : Who → Text → Text → What → KeyTexts
 key_of who namespace verb t = record {
   principal = who_key who;
@@ -33,6 +34,6 @@ key_of who namespace verb t = record {
   name = name_of t;
 }
 
--- text by text, each by its bytes
+-- the order of keys: text by text, each byte by byte (own)
 abbrev pub key_cmp : KeyTexts → KeyTexts → Ordering
 key_cmp a b = slice_cmp text_cmp (texts a) (texts b)

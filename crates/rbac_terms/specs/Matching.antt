@@ -3,41 +3,41 @@ use Rattle.rbac_terms.specs.declared.matching.Rule.{Rule}
 use Rattle.rbac_terms.specs.Targets.{What, Resource, Url}
 use Rattle.rbac_terms.specs.Text.{Text, star, slash, IsCutAtFirst, BeginsWith}
 
--- a verb or API group: the rule's word is `*` or the requested text (rbac/v1 evaluation helpers)
+-- a rule's word matches a verb or an API group: it is `*`, or what is requested (rbac/v1 evaluation helpers)
 abbrev pub WordMatches : Text → Text → Type 0
 WordMatches w x = (w ≡ codes "*") ⊎ (w ≡ x)
 
--- s is what follows the first slash of x
+-- s is what follows the first slash of x: the subresource of a resource text (Using RBAC Authorization, Referring to resources)
 abbrev pub FollowsFirstSlash : Text → Text → Type 0
 FollowsFirstSlash x s = (m : Text) × IsCutAtFirst x slash m s
 
--- a resource: also `*/SUB`, where SUB is the requested text's subresource, which is not empty (rbac/v1 evaluation helpers)
+-- a rule's word matches a resource text: as above, or it is `*/` and the text's subresource, which isn't empty (rbac/v1 evaluation helpers)
 abbrev pub ResourceWordMatches : Text → Text → Type 0
 ResourceWordMatches w x = WordMatches w x ⊎ ((s : Text) × (w ≡ codes "*/" ++ s) × (s ≢ []) × FollowsFirstSlash x s)
 
--- an object name: no names at all stand for every name (rbac/v1 evaluation helpers)
+-- a rule's names match an object name: there are none, or this one is among them (rbac/v1 evaluation helpers)
 abbrev pub NameMatches : List Text → Text → Type 0
 NameMatches names x = (names ≡ []) ⊎ Contains names x
 
--- t ends in a star
+-- a text ends in a star
 abbrev pub EndsInStar : Text → Type 0
 EndsInStar t = (r : Text) × (t ≡ r ++ star ∷ [])
 
--- a URL path: the word itself, or what begins with a word that ends in stars, all of these taken off (rbac/v1 evaluation helpers; more than one star: own)
+-- a rule's word matches a URL path: it is the path, or it ends in stars and the path begins with what stands before all of them (rbac/v1 evaluation helpers; more than one star: own)
 abbrev pub UrlWordMatches : Text → Text → Type 0
 UrlWordMatches w x = (w ≡ x)
     ⊎ ((q : Text) × (k : ℕ) × (w ≡ q ++ replicate (k + 1) star) × (¬ EndsInStar q) × BeginsWith x q)
 
--- some verb of the rule matches
+-- some verb word of the rule matches (rbac/v1 evaluation helpers)
 abbrev pub VerbOk : Rule → Text → Type 0
 VerbOk r v = Any (λ w. WordMatches w v) r.verbs
 
--- the rule reaches what is asked for, verbs aside: by group, resource and name, or by URL (rbac/v1 evaluation helpers)
+-- the rule matches what is asked for, verbs aside: a resource by some group word, some resource word and the names; a URL by some URL word (rbac/v1 evaluation helpers)
 abbrev pub TargetOk : Rule → What → Type 0
 TargetOk r (Resource group text name) =
     Any (λ w. WordMatches w group) r.groups × Any (λ w. ResourceWordMatches w text) r.resources × NameMatches r.resource_names name
 TargetOk r (Url path) = Any (λ w. UrlWordMatches w path) r.urls
 
--- the rule allows the verb on it (rbac/v1 evaluation helpers, RuleAllows)
+-- the rule allows the verb on what is asked for: it matches both (rbac/v1 evaluation helpers)
 abbrev pub RuleAllows : Rule → Text → What → Type 0
 RuleAllows r v t = VerbOk r v × TargetOk r t

@@ -1,8 +1,7 @@
-use Rattle.std.specs.Prelude.{◌≡◌, ◌≢◌, [], Bool, true, false}
-use Rattle.std.specs.Prelude.{codes}
+use Rattle.std.specs.Prelude.{◌≡◌, ◌≢◌, [], Bool, true, false, codes}
 use Rattle.rbac_terms.specs.Text.{Text, BeginsWith}
 
--- what a request is for: a resource by group, text and object name, or a URL path
+-- what a request is for: a resource by API group, resource text and object name, or a URL by its path (Using RBAC Authorization)
 pub data What : Type 0 where
   Resource : (group text name : Text) → What
   Url : (path : Text) → What
@@ -12,26 +11,30 @@ abbrev pub IsProper : What → Type 0
 IsProper (Resource group text name) = (text ≢ []) × (¬ BeginsWith text (codes "/"))
 IsProper (Url path) = BeginsWith path (codes "/")
 
--- its parts; a URL has no group and no name
+-- its API group; the core group and a URL's are empty
 abbrev pub group_of : What → Text
 group_of (Resource group text name) = group
 group_of (Url path) = []
 
+-- its resource text, or its path
 abbrev pub text_of : What → Text
 text_of (Resource group text name) = text
 text_of (Url path) = path
 
+-- its object name, empty where no object is named, and a URL's
 abbrev pub name_of : What → Text
 name_of (Resource group text name) = name
 name_of (Url path) = []
 
+-- it is a URL
 abbrev pub IsUrl : What → Type 0
 IsUrl t = t ≡ Url (text_of t)
 
+-- it is a resource
 abbrev pub IsResource : What → Type 0
 IsResource t = t ≡ Resource (group_of t) (text_of t) (name_of t)
 
--- what three texts stand for, with or without the mark of a URL
+-- what is requested, where the program holds a mark, true of a URL, and three texts
 abbrev pub what_of : Bool → Text → Text → Text → What
 what_of true group text name = Url text
 what_of false group text name = Resource group text name

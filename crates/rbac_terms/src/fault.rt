@@ -3,17 +3,20 @@
 ghost use Rattle.std.specs.Prelude.{◌≡◌};
 
 use std::alloc::{AllocError, AllocFailed};
-use std::error::Error;
-use std::fmt;
+use thiserror::Error;
 
-/// Why a principal, a target or a key isn't made, or an object isn't put.
-#[derive(Debug, Drop, Clone, Copy, PartialEq, Eq)]
+/// Why a principal, a target or a key isn't made, or an object isn't put (own). Its text is the
+/// number and name of the refusal; want of memory has no number there.
+#[derive(Debug, Drop, Clone, Copy, PartialEq, Eq, Error)]
 pub enum ModelFault {
     /// P1: a principal without a name.
+    #[error("P1 empty name")]
     EmptyName,
     /// P3: a resource text that is empty or begins with a slash, or a URL that doesn't.
+    #[error("P3 bad target")]
     BadTarget,
     /// P5: memory was refused.
+    #[error("out of memory")]
     NoMemory,
 }
 
@@ -36,15 +39,3 @@ impl<T: Drop> From<AllocFailed<T>> for ModelFault {
         ModelFault::NoMemory
     }
 }
-
-impl fmt::Display for ModelFault {
-    fn fmt<W: fmt::Write>(&self, f: &mut fmt::Formatter<W>) -> fmt::Result {
-        match self {
-            ModelFault::EmptyName => write!(f, "P1 empty name"),
-            ModelFault::BadTarget => write!(f, "P3 bad target"),
-            ModelFault::NoMemory => write!(f, "out of memory"),
-        }
-    }
-}
-
-impl Error for ModelFault {}

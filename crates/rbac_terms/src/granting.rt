@@ -1,7 +1,6 @@
 //! Roles, and the bindings that grant them.
 
-ghost use Rattle.std.specs.Prelude.{◌≡◌, ◌++◌, IsTrue, ◌↔◌, MatchOption, option_copied};
-ghost use Rattle.rbac_terms.specs.Text.{Text, BeginsWith};
+ghost use Rattle.std.specs.Prelude.{◌≡◌, IsTrue, ◌↔◌, option_copied};
 ghost use Rattle.rbac_terms.specs.Granting.{Names};
 
 use crate::matching::Rules;
@@ -10,42 +9,61 @@ use crate::selecting::{Labels, Selectors};
 use crate::text::Word;
 use std::marker::Model;
 
-/// A role of one namespace.
-#[derive(Clone, Drop)]
+/// A role of one namespace (Using RBAC Authorization, "Role and ClusterRole").
+#[derive(Debug, Clone, Drop)]
 pub struct Role {
+    /// The role's namespace.
     pub namespace: Word,
+    /// The role's name, which is its own within the namespace.
     pub name: Word,
+    /// The rules, in their written order.
     pub rules: Rules,
 }
 
-/// A role of the whole cluster, whose rules may be gathered from others.
-#[derive(Clone, Drop)]
+/// A role of the whole cluster, whose rules may be gathered from others (Using RBAC Authorization,
+/// "Role and ClusterRole", "Aggregated ClusterRoles").
+#[derive(Debug, Clone, Drop)]
 pub struct ClusterRole {
+    /// The role's name, which is its own within the cluster.
     pub name: Word,
+    /// The labels by which aggregated roles select it.
     pub labels: Labels,
+    /// The rules, in their written order; those of an aggregated role aren't used.
     pub rules: Rules,
+    /// What an aggregated role gathers its rules from; a plain role has none.
     pub aggregation: Option<Selectors>,
 }
 
-/// The role that a binding grants, by name.
-#[derive(Clone, Drop)]
+/// The role that a binding grants, by name (Using RBAC Authorization, "RoleBinding and
+/// ClusterRoleBinding").
+#[derive(Debug, Clone, Drop)]
 pub enum RoleRef {
+    /// The Role of this name, in the binding's own namespace.
     Role(Word),
+    /// The ClusterRole of this name.
     ClusterRole(Word),
 }
 
-/// Whom a binding grants its role to.
-#[derive(Clone, Drop)]
+/// Whom a binding grants its role to (Using RBAC Authorization, "Referring to subjects").
+#[derive(Debug, Clone, Drop)]
 pub enum Subject {
+    /// The user of this name.
     User(Word),
+    /// Whoever is in this group.
     Group(Word),
-    Account { namespace: Option<Word>, name: Word },
+    /// A service account.
+    Account {
+        /// Its namespace; where there is none, that of the binding.
+        namespace: Option<Word>,
+        /// Its name within the namespace.
+        name: Word,
+    },
 }
 
-/// A list of subjects.
-#[derive(Clone, Drop)]
+/// The subjects of a binding in their written order: as many as memory holds.
+#[derive(Debug, Clone, Drop)]
 pub struct Subjects {
-    items: Vec<Subject>,
+    subjects: Vec<Subject>,
 }
 
 impl Model for Subjects {
@@ -54,34 +72,42 @@ impl Model for Subjects {
 
     ghost Value = { List Subject };
 
-    ghost view = { λ ss. ss.items.items };
+    ghost view = { λ ss. ss.subjects.items };
 }
 
 impl Subjects {
-    /// These subjects; takes no memory.
-    pub fn from_vec(items: Vec<Subject>) -> Self
-        ensures { result ≡ items.items }
+    /// The list of these subjects. Takes no memory.
+    pub fn from_vec(subjects: Vec<Subject>) -> Self
+        ensures { result ≡ subjects.items }
     {
-        Subjects { items }
+        Subjects { subjects }
     }
 
+    /// The subjects, in order.
     pub fn as_slice(&self) -> &[Subject]
         ensures { result.now ≡ self.now }
     {
-        self.items.as_slice()
+        self.subjects.as_slice()
     }
 }
 
-/// A binding; one without a namespace is a ClusterRoleBinding.
-#[derive(Clone, Drop)]
+/// A binding of a role to subjects (Using RBAC Authorization, "RoleBinding and ClusterRoleBinding").
+#[derive(Debug, Clone, Drop)]
 pub struct Binding {
+    /// A RoleBinding's namespace; a ClusterRoleBinding has none.
     pub namespace: Option<Word>,
+    /// The binding's name, which is its own within the namespace, or within the cluster.
     pub name: Word,
+    /// The role that it grants.
     pub role: RoleRef,
+    /// Whom it grants the role to.
     pub subjects: Subjects,
 }
 
-/// Whether a subject of a binding in that namespace names this principal.
+/// Whether a subject of a binding in that namespace, or of a ClusterRoleBinding where there is none,
+/// names this principal: the user of its name, a member of its group, or the user of its service
+/// account (Using RBAC Authorization, "Referring to subjects"). An account without a namespace is of
+/// the binding's; in a ClusterRoleBinding it names nobody (own). Takes no memory.
 pub fn names(subject: &Subject, binding_namespace: Option<&Word>, principal: &Principal) -> bool
     ensures { IsTrue result ↔ Names subject.now (option_copied binding_namespace.entry) principal.now }
 {

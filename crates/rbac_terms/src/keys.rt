@@ -1,6 +1,6 @@
 //! The keys of requests, and their order.
 
-ghost use Rattle.std.specs.Prelude.{◌≡◌, ◌<◌, ℕ, IfOk, IfErr, slice_get, Some};
+ghost use Rattle.std.specs.Prelude.{◌≡◌, ◌<◌, IfOk, IfErr, slice_get, Some, map};
 ghost use Rattle.rbac_terms.specs.Keys.{KeyTexts, key_of, texts};
 
 use crate::fault::ModelFault;
@@ -10,8 +10,10 @@ use std::alloc::Global;
 use std::cmp::Ordering;
 use std::marker::Model;
 
-/// The key of a request: principal key, namespace, verb, group, resource text or URL, and name.
-#[derive(Clone, Drop)]
+/// The key of a request: the principal's key, namespace, verb, API group, resource text or URL, and
+/// object name. A request for a URL has no namespace, group and name. Keys are ordered text by text
+/// in this order, each byte by byte (own).
+#[derive(Debug, Clone, Drop)]
 pub struct Key {
     principal: Word,
     namespace: Word,
@@ -30,7 +32,7 @@ impl Model for Key {
 }
 
 impl Key {
-    /// The key of this request.
+    /// The key of this request. Fails with P5 NoMemory, and only where memory is refused.
     pub fn of(
         alloc: Global,
         principal: &Principal,
@@ -56,19 +58,25 @@ impl Key {
         })
     }
 
-    /// The texts by their place.
+    /// The text at this place, from 0 to 5 in the key's order. Takes no memory.
     pub fn field(&self, place: usize) -> &Word
         requires { place < 6 }
         ensures { slice_get (texts self.now) place ≡ Some result.now }
     {
-        match place {
-            0 => &self.principal,
-            1 => &self.namespace,
-            2 => &self.verb,
-            3 => &self.group,
-            4 => &self.resource,
-            _ => &self.name,
-        }
+        self.texts()[place]
+    }
+
+    fn texts(&self) -> [&Word; 6]
+        ensures { map (λ text. text.now) result ≡ texts self.now }
+    {
+        [
+            &self.principal,
+            &self.namespace,
+            &self.verb,
+            &self.group,
+            &self.resource,
+            &self.name,
+        ]
     }
 }
 
@@ -121,16 +129,6 @@ impl Ord for Key {
     ghost matches_eq = { λ _ _. refl };
 
     fn cmp(&self, other: &Self) -> Ordering {
-        self.principal.cmp(&other.principal).then(
-            self.namespace.cmp(&other.namespace).then(
-                self.verb.cmp(&other.verb).then(
-                    self.group.cmp(&other.group).then(
-                        self.resource
-                            .cmp(&other.resource)
-                            .then(self.name.cmp(&other.name)),
-                    ),
-                ),
-            ),
-        )
+        self.texts().as_slice().cmp(other.texts().as_slice())
     }
 }

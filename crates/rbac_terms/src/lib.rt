@@ -19,4 +19,4 @@ pub use matching::{
 };
 pub use request::{Principal, Target};
 pub use selecting::{Labels, Requirement, Requirements, SelectOp, Selector, Selectors, selects};
-pub use text::{Word, Words};
+pub use text::{Word, Words, cut_at_first};

@@ -1,29 +1,35 @@
 //! Rules, and which requests their words match.
 
-ghost use Rattle.std.specs.Prelude.{◌≡◌, ◌≢◌, ℕ, ◌<◌, ◌++◌, ◌∷◌, [], IsTrue, ◌↔◌, Any, MatchOption, Contains, replicate, length, slice_index};
-ghost use Rattle.rbac_terms.specs.Text.{Text, star, slash};
-ghost use Rattle.rbac_terms.specs.Matching.{WordMatches, ResourceWordMatches, FollowsFirstSlash, NameMatches, UrlWordMatches, EndsInStar};
-ghost use Rattle.rbac_terms.specs.Matching.{VerbOk, TargetOk, RuleAllows};
-ghost use Rattle.rbac_terms.specs.Targets.{What, Resource, Url};
+ghost use Rattle.std.specs.Prelude.{◌≡◌, ℕ, ◌++◌, IsTrue, ◌↔◌, Any, replicate};
+ghost use Rattle.rbac_terms.specs.Text.{star};
+ghost use Rattle.rbac_terms.specs.Matching.{WordMatches, ResourceWordMatches, FollowsFirstSlash, NameMatches, UrlWordMatches, EndsInStar, TargetOk, RuleAllows};
+ghost use Rattle.rbac_terms.specs.Targets.{Resource};
 
 use crate::request::Target;
 use crate::text::{Word, Words, cut_at_first};
 use std::marker::Model;
 
-/// A rule of a role: what its verbs may be used on.
-#[derive(Clone, Drop)]
+/// A rule of a role: which verbs may be used on which resources or URLs (Using RBAC Authorization,
+/// "API objects"). Any lists of words are accepted here; what a manifest may hold is the loader's
+/// concern.
+#[derive(Debug, Clone, Drop)]
 pub struct Rule {
+    /// Verbs, or `*` for each verb.
     pub verbs: Words,
+    /// API groups, the core group as the empty text, or `*` for each group.
     pub groups: Words,
+    /// Resources as `pods` or `pods/log`, `*/log` for a subresource of each resource, or `*` for all.
     pub resources: Words,
+    /// Names of objects; no names at all stand for every name.
     pub resource_names: Words,
+    /// URL paths, where a `*` at the end stands for any end.
     pub urls: Words,
 }
 
-/// A list of rules.
-#[derive(Clone, Drop)]
+/// The rules of a role in their written order: as many as memory holds.
+#[derive(Debug, Clone, Drop)]
 pub struct Rules {
-    items: Vec<Rule>,
+    rules: Vec<Rule>,
 }
 
 impl Model for Rules {
@@ -32,97 +38,44 @@ impl Model for Rules {
 
     ghost Value = { List Rule };
 
-    ghost view = { λ rs. rs.items.items };
+    ghost view = { λ rs. rs.rules.items };
 }
 
 impl Rules {
-    /// These rules; takes no memory.
-    pub fn from_vec(items: Vec<Rule>) -> Self
-        ensures { result ≡ items.items }
+    /// The list of these rules. Takes no memory.
+    pub fn from_vec(rules: Vec<Rule>) -> Self
+        ensures { result ≡ rules.items }
     {
-        Rules { items }
+        Rules { rules }
     }
 
+    /// The rules, in order.
     pub fn as_slice(&self) -> &[Rule]
         ensures { result.now ≡ self.now }
     {
-        self.items.as_slice()
+        self.rules.as_slice()
     }
 }
 
-/// Whether a word of the rule matches this verb.
+/// Whether a word of the rule matches this verb: it is `*` or the verb itself (rbac/v1 evaluation
+/// helpers, VerbMatches). Takes no memory.
 pub fn verb_matches(rule: &Rule, verb: &Word) -> bool
     ensures { IsTrue result ↔ Any (λ w. WordMatches w verb.now) rule.now.verbs }
 {
-    rule.verbs
-        .as_slice()
-        .iter()
-        .any(|word| word_matches(word.as_bytes(), verb.as_bytes()))
+    some_word_matches(&rule.verbs, verb)
 }
 
-fn word_matches(word: &[u8], text: &[u8]) -> bool
-    ensures { IsTrue result ↔ WordMatches word.now text.now }
-{
-    word == b"*".as_slice() || word == text
-}
-
-fn without_trailing_stars(word: &[u8]) -> &[u8]
-    ensures stars { (k : ℕ) × (word.now ≡ result.now ++ replicate k star) }
-    ensures none_left { ¬ EndsInStar result.now }
-{
-    let mut rest = word;
-    while let Some((last, before)) = rest.split_last() {
-        if *last != b'*' {
-            break;
-        }
-        rest = before;
-    }
-    rest
-}
-
-// Whether this is what follows the first slash.
-fn follows_first_slash(text: &[u8], rest: &[u8]) -> bool
-    ensures { IsTrue result ↔ FollowsFirstSlash text.now rest.now }
-{
-    match cut_at_first(text, b'/') {
-        Some((_, found)) => found == rest,
-        None => false,
-    }
-}
-
-fn resource_word_matches(word: &[u8], text: &[u8]) -> bool
-    ensures { IsTrue result ↔ ResourceWordMatches word.now text.now }
-{
-    if word_matches(word, text) {
-        return true;
-    }
-    match word.strip_prefix(b"*/".as_slice()) {
-        Some(subresource) => !subresource.is_empty() && follows_first_slash(text, subresource),
-        None => false,
-    }
-}
-
-fn url_word_matches(word: &[u8], path: &[u8]) -> bool
-    ensures { IsTrue result ↔ UrlWordMatches word.now path.now }
-{
-    if word == path {
-        return true;
-    }
-    let front = without_trailing_stars(word);
-    front.len() < word.len() && path.starts_with(front)
-}
-
-/// Whether a word of the rule matches this API group.
+/// Whether a word of the rule matches this API group, where the empty text is the core group: it is
+/// `*` or the group itself (rbac/v1 evaluation helpers, APIGroupMatches). Takes no memory.
 pub fn group_matches(rule: &Rule, group: &Word) -> bool
     ensures { IsTrue result ↔ Any (λ w. WordMatches w group.now) rule.now.groups }
 {
-    rule.groups
-        .as_slice()
-        .iter()
-        .any(|word| word_matches(word.as_bytes(), group.as_bytes()))
+    some_word_matches(&rule.groups, group)
 }
 
-/// Whether a word of the rule matches this resource text.
+/// Whether a word of the rule matches this resource text, as `pods` or `pods/log`: it is `*`, the
+/// text itself, or `*/` and the text's subresource (rbac/v1 evaluation helpers, ResourceMatches).
+/// Takes no memory.
 pub fn resource_matches(rule: &Rule, text: &Word) -> bool
     ensures { IsTrue result ↔ Any (λ w. ResourceWordMatches w text.now) rule.now.resources }
 {
@@ -132,14 +85,18 @@ pub fn resource_matches(rule: &Rule, text: &Word) -> bool
     ))
 }
 
-/// Whether the rule's names match this object name.
+/// Whether the rule's names match this object name, which is empty where a request names no object:
+/// the rule has no names, or this one (rbac/v1 evaluation helpers, ResourceNameMatches). Takes no
+/// memory.
 pub fn name_matches(rule: &Rule, name: &Word) -> bool
     ensures { IsTrue result ↔ NameMatches rule.now.resource_names name.now }
 {
-    rule.resource_names.as_slice().is_empty() || rule.resource_names.contains(name)
+    rule.resource_names.is_empty() || rule.resource_names.contains(name)
 }
 
-/// Whether a word of the rule matches this URL path.
+/// Whether a word of the rule matches this URL path: it is the path itself, or it ends in `*` and
+/// the path begins with the word without the stars at its end (rbac/v1 evaluation helpers,
+/// NonResourceURLMatches; more than one star: own). Takes no memory.
 pub fn url_matches(rule: &Rule, path: &Word) -> bool
     ensures { IsTrue result ↔ Any (λ w. UrlWordMatches w path.now) rule.now.urls }
 {
@@ -149,14 +106,16 @@ pub fn url_matches(rule: &Rule, path: &Word) -> bool
         .any(|word| url_word_matches(word.as_bytes(), path.as_bytes()))
 }
 
-/// Whether the rule allows this verb on this target.
+/// Whether the rule allows this verb on this target (rbac/v1 evaluation helpers, RuleAllows). Takes
+/// no memory.
 pub fn rule_allows(rule: &Rule, verb: &Word, target: &Target) -> bool
     ensures { IsTrue result ↔ RuleAllows rule.now verb.now target.now }
 {
     verb_matches(rule, verb) && target_matches(rule, target)
 }
 
-/// Whether the rule matches this target, verbs aside.
+/// Whether the rule matches this target, verbs aside: a resource by group, resource text and name,
+/// a URL by its path (rbac/v1 evaluation helpers, RuleAllows). Takes no memory.
 pub fn target_matches(rule: &Rule, target: &Target) -> bool
     ensures { IsTrue result ↔ TargetOk rule.now target.now }
 {
@@ -171,4 +130,65 @@ fn parts_match(rule: &Rule, group: &Word, text: &Word, name: &Word) -> bool
     ensures { IsTrue result ↔ TargetOk rule.now (Resource group.now text.now name.now) }
 {
     group_matches(rule, group) && resource_matches(rule, text) && name_matches(rule, name)
+}
+
+fn some_word_matches(words: &Words, text: &Word) -> bool
+    ensures { IsTrue result ↔ Any (λ w. WordMatches w text.now) words.now }
+{
+    words
+        .as_slice()
+        .iter()
+        .any(|word| word_matches(word.as_bytes(), text.as_bytes()))
+}
+
+fn word_matches(word: &[u8], text: &[u8]) -> bool
+    ensures { IsTrue result ↔ WordMatches word.now text.now }
+{
+    word == b"*".as_slice() || word == text
+}
+
+fn resource_word_matches(word: &[u8], text: &[u8]) -> bool
+    ensures { IsTrue result ↔ ResourceWordMatches word.now text.now }
+{
+    if word_matches(word, text) {
+        return true;
+    }
+    match word.strip_prefix(b"*/".as_slice()) {
+        Some(subresource) => !subresource.is_empty() && follows_first_slash(text, subresource),
+        None => false,
+    }
+}
+
+// Whether this is what follows the first slash.
+fn follows_first_slash(text: &[u8], rest: &[u8]) -> bool
+    ensures { IsTrue result ↔ FollowsFirstSlash text.now rest.now }
+{
+    match cut_at_first(text, b'/') {
+        Some((_, found)) => found == rest,
+        None => false,
+    }
+}
+
+fn url_word_matches(word: &[u8], path: &[u8]) -> bool
+    ensures { IsTrue result ↔ UrlWordMatches word.now path.now }
+{
+    if word == path {
+        return true;
+    }
+    let front = without_trailing_stars(word);
+    front.len() < word.len() && path.starts_with(front)
+}
+
+fn without_trailing_stars(word: &[u8]) -> &[u8]
+    ensures stars { (k : ℕ) × (word.now ≡ result.now ++ replicate k star) }
+    ensures none_left { ¬ EndsInStar result.now }
+{
+    let mut rest = word;
+    while let Some((last, before)) = rest.split_last() {
+        if *last != b'*' {
+            break;
+        }
+        rest = before;
+    }
+    rest
 }

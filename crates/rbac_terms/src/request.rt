@@ -1,17 +1,40 @@
-//! Who asks, for what, and the key of a request.
+//! Who asks, and for what.
 
-ghost use Rattle.std.specs.Prelude.{◌≡◌, ◌≢◌, ℕ, ◌<◌, ◌++◌, ◌∷◌, [], List, IsTrue, ◌↔◌, MatchBool, MatchResult, MatchOption, Contains, IfOk, OnErr, IfErr, length};
-ghost use Rattle.rbac_terms.specs.Text.{Text, IsCutAtFirst, text_cmp};
-ghost use Rattle.rbac_terms.specs.Targets.{What, Resource, Url, IsProper, IsUrl, IsResource, group_of, text_of, name_of};
-ghost use Rattle.rbac_terms.specs.Principals.{Who, AsUser, AsMember, key_of as who_key, name_of as who_name, IsUserNamed, IsInGroup, account_user, IsAccountOf, IsAccountGroup, IsGroupOfAccounts, IsImpliedGroup, IsPart, IsSignInGroup};
+ghost use Rattle.std.specs.Prelude.{◌≡◌, ◌≢◌, ◌++◌, ◌⊎◌, [], IsTrue, ◌↔◌, MatchBool, MatchResult, MatchOption, IfOk, IfErr, OnOk, OnErr, Contains};
+ghost use Rattle.rbac_terms.specs.Text.{Text};
+ghost use Rattle.rbac_terms.specs.Targets.{Resource, Url, IsProper, IsUrl, IsResource, group_of, text_of, name_of};
+ghost use Rattle.rbac_terms.specs.Principals.{AsUser, AsMember, key_of as who_key, name_of as who_name, given_of, IsUserNamed, IsInGroup, account_user, IsAccountOf, IsAccountGroup, IsGroupOfAccounts, IsImpliedGroup, IsPart, IsSignInGroup};
 
 use crate::fault::ModelFault;
 use crate::text::{Word, Words, after_front, cut_at_first, is_joined};
 use std::alloc::{AllocError, Global};
 use std::marker::Model;
 
-/// What a request is for: a resource or a URL.
-#[derive(Clone, Drop)]
+// What stands between the parts of a service account's user name.
+const COLON: &[u8] = b":";
+
+// What the user name of a service account begins with.
+const ACCOUNT: &[u8] = b"system:serviceaccount:";
+
+// The group of all service accounts.
+const ACCOUNTS: &[u8] = b"system:serviceaccounts";
+
+// What the group of a namespace's service accounts begins with.
+const ACCOUNTS_OF: &[u8] = b"system:serviceaccounts:";
+
+// The user of a request without credentials.
+const ANONYMOUS: &[u8] = b"system:anonymous";
+
+// The group of the users who have signed in.
+const AUTHENTICATED: &[u8] = b"system:authenticated";
+
+// The group of those who haven't.
+const UNAUTHENTICATED: &[u8] = b"system:unauthenticated";
+
+/// What a request is for: a resource by API group, resource text and object name, or a URL by its
+/// path. A resource text isn't empty and doesn't begin with a slash, and a URL does (own, after the
+/// paths of API requests). What follows the first slash of a resource text is its subresource.
+#[derive(Debug, Clone, Drop)]
 pub struct Target {
     is_url: bool,
     group: Word,
@@ -31,7 +54,9 @@ impl Model for Target {
 }
 
 impl Target {
-    /// A resource by group, text and object name; takes no memory.
+    /// A resource by group (the core group is the empty text), resource text and object name (empty
+    /// where the request names no object). Takes no memory. P3 BadTarget exactly where the resource
+    /// text is empty or begins with a slash.
     pub fn resource(group: Word, text: Word, name: Word) -> Result<Self, ModelFault>
         ensures { MatchResult result
             (λ t. (t ≡ Resource group text name) × IsProper t)
@@ -48,7 +73,8 @@ impl Target {
         })
     }
 
-    /// A URL by its path; takes no memory.
+    /// A URL by its path. Takes no memory. P3 BadTarget exactly where the path doesn't begin with a
+    /// slash.
     pub fn url(alloc: Global, path: Word) -> Result<Self, ModelFault>
         ensures { MatchResult result
             (λ t. (t ≡ Url path) × IsProper t)
@@ -65,13 +91,14 @@ impl Target {
         })
     }
 
+    /// Whether this is a URL, and not a resource.
     pub fn is_url(&self) -> bool
         ensures { MatchBool result (IsUrl self.now) (IsResource self.now) }
     {
         self.is_url
     }
 
-    /// The API group, empty for a URL.
+    /// The API group: the empty text for the core group, and for a URL.
     pub fn group(&self) -> &Word
         ensures group { result.now ≡ group_of self.now }
         ensures proper { IsProper self.now }
@@ -79,7 +106,7 @@ impl Target {
         &self.group
     }
 
-    /// The resource text, or the path of a URL.
+    /// The resource text, with its subresource, or the path of a URL. It is never empty.
     pub fn text(&self) -> &Word
         ensures text { result.now ≡ text_of self.now }
         ensures proper { IsProper self.now }
@@ -87,7 +114,7 @@ impl Target {
         &self.text
     }
 
-    /// The object name, empty for a URL.
+    /// The object name: the empty text where the request names no object, and for a URL.
     pub fn name(&self) -> &Word
         ensures name { result.now ≡ name_of self.now }
         ensures proper { IsProper self.now }
@@ -96,8 +123,10 @@ impl Target {
     }
 }
 
-/// Who asks: a user with groups, or some member of one group.
-#[derive(Clone, Drop)]
+/// Who asks: a user of a name with the groups given, or a member of one group without a name of
+/// its own. A service account asks as the user `system:serviceaccount:NAMESPACE:NAME` (Using RBAC
+/// Authorization, "Referring to subjects"; members of a group: own). Neither name is empty.
+#[derive(Debug, Clone, Drop)]
 pub struct Principal {
     is_user: bool,
     key: Word,
@@ -116,68 +145,85 @@ impl Model for Principal {
 }
 
 impl Principal {
-    /// A user with these groups beside the implied ones.
+    /// The user of this name, with these groups beside the implied ones. P1 EmptyName exactly for
+    /// the empty name; else P5 NoMemory where memory is refused.
     pub fn user(alloc: Global, name: &Word, given: &Words) -> Result<Self, ModelFault>
         ensures ok { IfOk result (λ p. p ≡ AsUser name.now given.now) }
         ensures empty { (result ≡ Err ModelFault.EmptyName) ↔ (name.now ≡ []) }
-        ensures others { IfErr result (λ e. e ≢ ModelFault.BadTarget) }
+        ensures errors { IfErr result (λ e. (e ≡ ModelFault.EmptyName) ⊎ (e ≡ ModelFault.NoMemory)) }
     {
-        if name.is_empty() {
-            return Err(ModelFault::EmptyName);
-        }
         Ok(Principal {
             is_user: true,
-            key: with_prefix(alloc, b"u:", name)?,
+            key: named_key(alloc, b"u:", name)?,
             given: given.clone()?,
         })
     }
 
-    /// Some member of this group.
+    /// A member of this group, who is in no other (own). P1 EmptyName exactly for the empty name;
+    /// else P5 NoMemory where memory is refused.
     pub fn group(alloc: Global, name: &Word) -> Result<Self, ModelFault>
         ensures ok { IfOk result (λ p. p ≡ AsMember name.now) }
         ensures empty { (result ≡ Err ModelFault.EmptyName) ↔ (name.now ≡ []) }
-        ensures others { IfErr result (λ e. e ≢ ModelFault.BadTarget) }
+        ensures errors { IfErr result (λ e. (e ≡ ModelFault.EmptyName) ⊎ (e ≡ ModelFault.NoMemory)) }
     {
-        if name.is_empty() {
-            return Err(ModelFault::EmptyName);
-        }
         Ok(Principal {
             is_user: false,
-            key: with_prefix(alloc, b"g:", name)?,
+            key: named_key(alloc, b"g:", name)?,
             given: Words::new(alloc),
         })
     }
 
-    /// `u:` and the user's name, or `g:` and the group's.
+    /// Gives a user the groups that are given to another of its key; a group has none (own). After
+    /// an error nothing is changed.
+    pub fn give(&mut self, more: Self) -> Result<(), AllocError>
+        requires { who_key more ≡ who_key self.old }
+        ensures key { who_key self.new ≡ who_key self.old }
+        ensures given { OnOk result ((g : Text) → Contains (given_of self.new) g ↔ (Contains (given_of self.old) g ⊎ Contains (given_of more) g)) }
+        ensures err { OnErr result (self.new ≡ self.old) }
+    {
+        let Principal {
+            is_user: _,
+            key: _,
+            given,
+        } = more;
+        self.given.append(given)
+    }
+
+    /// The principal's key: `u:` and the user's name, or `g:` and the group's (own). Takes no memory.
     pub fn key(&self) -> &Word
         ensures { result.now ≡ who_key self.now }
     {
         &self.key
     }
 
-    /// The user's name, or the group's.
+    /// The user's name, or the group's. It is never empty.
     pub fn name(&self) -> &[u8]
         ensures name { result.now ≡ who_name self.now }
         ensures not_empty { result.now ≢ [] }
     {
-        &self.key.as_bytes()[2..]
+        let key = self.key.as_bytes();
+        &key[2..]
     }
 
-    /// Whether this is the user of that name.
+    /// Whether this is the user of that name, with whatever groups. Takes no memory.
     pub fn is_user_named(&self, name: &Word) -> bool
         ensures { IsTrue result ↔ IsUserNamed self.now name.now }
     {
         self.is_user && self.name() == name.as_bytes()
     }
 
-    /// Whether this is the user of that service account.
+    /// Whether this is the user of that service account, `system:serviceaccount:NAMESPACE:NAME`
+    /// (Using RBAC Authorization, "Referring to subjects"). Takes no memory.
     pub fn is_account(&self, namespace: &Word, name: &Word) -> bool
         ensures { IsTrue result ↔ IsUserNamed self.now (account_user namespace.now name.now) }
     {
         self.is_user && is_account_user(self.name(), namespace.as_bytes(), name.as_bytes())
     }
 
-    /// Whether the principal is in this group.
+    /// Whether the principal is in this group: a user is in the groups given and in the implied
+    /// ones, which are those of service accounts, `system:authenticated` and
+    /// `system:unauthenticated` (Using RBAC Authorization); a group's member is in that group alone
+    /// (own). Takes no memory.
     pub fn in_group(&self, group: &Word) -> bool
         ensures { IsTrue result ↔ IsInGroup self.now group.now }
     {
@@ -189,46 +235,32 @@ impl Principal {
     }
 }
 
-fn with_prefix(alloc: Global, prefix: &[u8; 2], name: &Word) -> Result<Word, AllocError>
-    ensures { IfOk result (λ w. w ≡ prefix.now ++ name.now) }
+// The key of a principal of this name, which may not be empty.
+fn named_key(alloc: Global, prefix: &[u8; 2], name: &Word) -> Result<Word, ModelFault>
+    ensures ok { IfOk result (λ key. key ≡ prefix.now ++ name.now) }
+    ensures empty { (result ≡ Err ModelFault.EmptyName) ↔ (name.now ≡ []) }
+    ensures errors { IfErr result (λ e. (e ≡ ModelFault.EmptyName) ⊎ (e ≡ ModelFault.NoMemory)) }
 {
-    let mut word = Word::from_slice(alloc, prefix.as_slice())?;
-    word.push_slice(name.as_bytes())?;
-    Ok(word)
+    if name.is_empty() {
+        return Err(ModelFault::EmptyName);
+    }
+    let mut key = Word::from_slice(alloc, prefix.as_slice())?;
+    key.push_slice(name.as_bytes())?;
+    Ok(key)
 }
-
-const COLON: &[u8] = b":";
-
-const ACCOUNT: &[u8] = b"system:serviceaccount:";
-
-const ACCOUNTS: &[u8] = b"system:serviceaccounts";
-
-const ACCOUNTS_OF: &[u8] = b"system:serviceaccounts:";
-
-const ANONYMOUS: &[u8] = b"system:anonymous";
-
-const AUTHENTICATED: &[u8] = b"system:authenticated";
-
-const UNAUTHENTICATED: &[u8] = b"system:unauthenticated";
 
 // The namespace of the service account whose user name this is.
 fn account_namespace(user: &[u8]) -> Option<&[u8]>
     ensures { MatchOption result ((namespace : Text) → ¬ IsAccountOf user.now namespace)
         (λ namespace. IsAccountOf user.now namespace.now) }
 {
-    let Some(parts) = user.strip_prefix(ACCOUNT) else {
-        return None;
-    };
-    let Some((namespace, name)) = cut_at_first(parts, b':') else {
-        return None;
-    };
-    if !is_part(namespace) {
-        return None;
+    let parts = after_front(user, ACCOUNT)?;
+    let (namespace, name) = cut_at_first(parts, b':')?;
+    if is_part(namespace) && is_part(name) {
+        Some(namespace)
+    } else {
+        None
     }
-    if !is_part(name) {
-        return None;
-    }
-    Some(namespace)
 }
 
 fn is_account_user(user: &[u8], namespace: &[u8], name: &[u8]) -> bool

@@ -1,15 +1,16 @@
 //! Labels, and what selects by them.
 
-ghost use Rattle.std.specs.Prelude.{◌≡◌, IsTrue, ◌↔◌, Contains, Any, All, List, ℕ};
-ghost use Rattle.rbac_terms.specs.Selecting.{Selects, Meets, HasLabel};
+ghost use Rattle.std.specs.Prelude.{◌≡◌, IsTrue, ◌↔◌, All, List, ℕ};
+ghost use Rattle.rbac_terms.specs.Selecting.{Selects, Meets, HasLabel, HasKey, HasOneOf};
 
 use crate::text::{Word, Words};
 use std::marker::Model;
 
-/// The labels of an object, by key and value.
-#[derive(Clone, Drop)]
+/// Labels as pairs of a key and a value (Labels and Selectors): as many as memory holds. A manifest
+/// gives each key once, and nothing here asks for that.
+#[derive(Debug, Clone, Drop)]
 pub struct Labels {
-    items: Vec<(Word, Word)>,
+    labels: Vec<(Word, Word)>,
 }
 
 impl Model for Labels {
@@ -17,73 +18,79 @@ impl Model for Labels {
 
     ghost Value = { List (List ℕ × List ℕ) };
 
-    ghost view = { λ ls. ls.items.items };
+    ghost view = { λ ls. ls.labels.items };
 }
 
 impl Labels {
-    /// These labels; takes no memory.
-    pub fn from_vec(items: Vec<(Word, Word)>) -> Self
-        ensures { result ≡ items.items }
+    /// The list of these labels. Takes no memory.
+    pub fn from_vec(labels: Vec<(Word, Word)>) -> Self
+        ensures { result ≡ labels.items }
     {
-        Labels { items }
+        Labels { labels }
     }
 
+    /// The labels by key and value, in order.
     pub fn as_slice(&self) -> &[(Word, Word)]
         ensures { result.now ≡ self.now }
     {
-        self.items.as_slice()
+        self.labels.as_slice()
     }
 
-    /// Whether there is a label of this key.
+    /// Whether there is a label of this key. Takes no memory.
     pub fn has_key(&self, key: &Word) -> bool
-        ensures { IsTrue result ↔ Any (λ label. label.0 ≡ key.now) self.now }
+        ensures { IsTrue result ↔ HasKey self.now key.now }
     {
-        self.items.as_slice().iter().any(|label| label.0 == *key)
+        self.as_slice().iter().any(|label| label.0 == *key)
     }
 
-    /// Whether there is a label of this key and value.
+    /// Whether there is a label of this key and this value. Takes no memory.
     #[tactic(auto, unfolding(crate::specs::Selecting::HasLabel))]
     pub fn has(&self, key: &Word, value: &Word) -> bool
         ensures { IsTrue result ↔ HasLabel self.now key.now value.now }
     {
-        self.items
-            .as_slice()
+        self.as_slice()
             .iter()
             .any(|label| label.0 == *key && label.1 == *value)
     }
 
-    /// Whether there is a label of this key, with one of these values.
+    /// Whether there is a label of this key, with one of these values. Takes no memory.
     pub fn has_one_of(&self, key: &Word, values: &Words) -> bool
-        ensures { IsTrue result ↔ Any (λ label. (label.0 ≡ key.now) × Contains values.now label.1) self.now }
+        ensures { IsTrue result ↔ HasOneOf self.now key.now values.now }
     {
-        self.items
-            .as_slice()
+        self.as_slice()
             .iter()
             .any(|label| label.0 == *key && values.contains(&label.1))
     }
 }
 
-/// What a requirement asks of a key.
+/// What a requirement asks of a key (Labels and Selectors, "Set-based requirement").
 #[derive(Debug, Drop, Clone, Copy, PartialEq, Eq)]
 pub enum SelectOp {
+    /// `In`: there is a label of the key, with one of the values.
     OneOf,
+    /// `NotIn`: there is no label of the key, or its value isn't one of these.
     NoneOf,
+    /// `Exists`: there is a label of the key.
     Present,
+    /// `DoesNotExist`: there is no label of the key.
     Absent,
 }
 
-/// What a selector asks of one key.
-#[derive(Clone, Drop)]
+/// What a selector asks of one key: an item of `matchExpressions` (Labels and Selectors).
+#[derive(Debug, Clone, Drop)]
 pub struct Requirement {
+    /// The label's key.
     pub key: Word,
+    /// What is asked of it.
     pub op: SelectOp,
+    /// The values that `OneOf` and `NoneOf` list; `Present` and `Absent` don't look at them.
     pub values: Words,
 }
 
-/// A list of requirements.
-#[derive(Clone, Drop)]
+/// A list of requirements, each of which is asked for: as many as memory holds.
+#[derive(Debug, Clone, Drop)]
 pub struct Requirements {
-    items: Vec<Requirement>,
+    requirements: Vec<Requirement>,
 }
 
 impl Model for Requirements {
@@ -92,35 +99,40 @@ impl Model for Requirements {
 
     ghost Value = { List Requirement };
 
-    ghost view = { λ rs. rs.items.items };
+    ghost view = { λ rs. rs.requirements.items };
 }
 
 impl Requirements {
-    /// These requirements; takes no memory.
-    pub fn from_vec(items: Vec<Requirement>) -> Self
-        ensures { result ≡ items.items }
+    /// The list of these requirements. Takes no memory.
+    pub fn from_vec(requirements: Vec<Requirement>) -> Self
+        ensures { result ≡ requirements.items }
     {
-        Requirements { items }
+        Requirements { requirements }
     }
 
+    /// The requirements, in order.
     pub fn as_slice(&self) -> &[Requirement]
         ensures { result.now ≡ self.now }
     {
-        self.items.as_slice()
+        self.requirements.as_slice()
     }
 }
 
-/// A selector of objects by their labels: all that it names.
-#[derive(Clone, Drop)]
+/// A label selector, which asks for all that it lists; the empty one selects everything (Labels and
+/// Selectors).
+#[derive(Debug, Clone, Drop)]
 pub struct Selector {
+    /// `matchLabels`: labels that an object must have.
     pub labels: Labels,
+    /// `matchExpressions`: requirements that its labels must meet.
     pub requirements: Requirements,
 }
 
-/// A list of selectors.
-#[derive(Clone, Drop)]
+/// The selectors of an aggregated cluster role, any of which may select (Using RBAC Authorization,
+/// "Aggregated ClusterRoles"): as many as memory holds.
+#[derive(Debug, Clone, Drop)]
 pub struct Selectors {
-    items: Vec<Selector>,
+    selectors: Vec<Selector>,
 }
 
 impl Model for Selectors {
@@ -129,25 +141,27 @@ impl Model for Selectors {
 
     ghost Value = { List Selector };
 
-    ghost view = { λ ss. ss.items.items };
+    ghost view = { λ ss. ss.selectors.items };
 }
 
 impl Selectors {
-    /// These selectors; takes no memory.
-    pub fn from_vec(items: Vec<Selector>) -> Self
-        ensures { result ≡ items.items }
+    /// The list of these selectors. Takes no memory.
+    pub fn from_vec(selectors: Vec<Selector>) -> Self
+        ensures { result ≡ selectors.items }
     {
-        Selectors { items }
+        Selectors { selectors }
     }
 
+    /// The selectors, in order.
     pub fn as_slice(&self) -> &[Selector]
         ensures { result.now ≡ self.now }
     {
-        self.items.as_slice()
+        self.selectors.as_slice()
     }
 }
 
-/// Whether the selector selects what has these labels.
+/// Whether the selector selects what has these labels: they hold each label of the selector, and
+/// meet each of its requirements (Labels and Selectors). Takes no memory.
 pub fn selects(selector: &Selector, labels: &Labels) -> bool
     ensures { IsTrue result ↔ Selects selector.now labels.now }
 {

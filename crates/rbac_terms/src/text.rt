@@ -1,14 +1,16 @@
 //! Texts, which are compared byte for byte, and lists of them.
 
-ghost use Rattle.std.specs.Prelude.{◌≡◌, ◌++◌, ◌∷◌, [], ℕ, List, length, IfOk, OnOk, OnErr, IsTrue, ◌↔◌, Contains, MatchOption, ◌<◌, ◌≢◌, slice_index};
-ghost use Rattle.rbac_terms.specs.Text.{Text, IsCutAtFirst, BeginsWith};
+ghost use Rattle.std.specs.Prelude.{◌≡◌, ◌++◌, ◌∷◌, [], ℕ, length, IfOk, IfErr, OnOk, OnErr, IsTrue, ◌↔◌, Contains, MatchOption, ◌<◌, ◌≢◌, slice_index};
+ghost use Rattle.rbac_terms.specs.Text.{IsCutAtFirst, BeginsWith};
 
 use std::alloc::{AllocError, AllocFailed, Global};
 use std::cmp::Ordering;
 use std::marker::Model;
 
-/// A text, byte by byte.
-#[derive(Clone, Drop)]
+/// A text of a manifest or of a request, as a name, a verb or an API group: any bytes, as many as
+/// memory holds. Texts are equal where their bytes are, and ordered byte by byte, a proper prefix
+/// first (own). Contracts see the list of its bytes.
+#[derive(Debug, Clone, Drop)]
 pub struct Word {
     bytes: Vec<u8>,
 }
@@ -22,7 +24,7 @@ impl Model for Word {
 }
 
 impl Word {
-    /// The empty text, which takes no memory.
+    /// The empty text. Takes no memory.
     pub fn new(alloc: Global) -> Self
         ensures { result ≡ [] }
     {
@@ -31,14 +33,14 @@ impl Word {
         }
     }
 
-    /// A text of these bytes; takes no memory.
+    /// The text of these bytes. Takes no memory.
     pub fn from_vec(bytes: Vec<u8>) -> Self
         ensures { result ≡ bytes.items }
     {
         Word { bytes }
     }
 
-    /// A copy of these bytes.
+    /// A copy of these bytes. Fails only where memory is refused.
     pub fn from_slice(alloc: Global, bytes: &[u8]) -> Result<Self, AllocError>
         ensures { IfOk result (λ w. w ≡ bytes.now) }
     {
@@ -47,18 +49,21 @@ impl Word {
         })
     }
 
+    /// The bytes of the text.
     pub fn as_bytes(&self) -> &[u8]
         ensures { result.now ≡ self.now }
     {
         self.bytes.as_slice()
     }
 
+    /// Whether the text has no bytes.
     pub fn is_empty(&self) -> bool
         ensures { IsTrue result ↔ (self.now ≡ []) }
     {
         self.bytes.is_empty()
     }
 
+    /// Adds a byte at the end. Fails only where memory is refused, and the text is then as before.
     pub fn push(&mut self, byte: u8) -> Result<(), AllocError>
         ensures ok { OnOk result (self.new ≡ self.old ++ byte ∷ []) }
         ensures err { OnErr result (self.new ≡ self.old) }
@@ -67,12 +72,13 @@ impl Word {
         Ok(())
     }
 
+    /// Adds these bytes at the end, in order. Fails only where memory is refused, and the text is
+    /// then as before.
     pub fn push_slice(&mut self, bytes: &[u8]) -> Result<(), AllocError>
         ensures ok { OnOk result (self.new ≡ self.old ++ bytes.now) }
         ensures err { OnErr result (self.new ≡ self.old) }
     {
-        self.bytes.extend_from_slice(bytes)?;
-        Ok(())
+        self.bytes.extend_from_slice(bytes)
     }
 }
 
@@ -94,42 +100,6 @@ impl Eq for Word {
     ghost use Rattle.std.proofs.lemmas.Cmp.{nat_list_eq_equiv};
 
     ghost laws = { nat_list_eq_equiv };
-}
-
-// The parts before and after the first place of a byte.
-pub(crate) fn cut_at_first(text: &[u8], byte: u8) -> Option<(&[u8], &[u8])>
-    ensures { MatchOption result (¬ Contains text.now byte)
-        (λ parts. IsCutAtFirst text.now byte parts.0.now parts.1.now) }
-{
-    let at = first_place(text, byte)?;
-    Some((&text[..at], &text[at + 1..]))
-}
-
-// What follows this front.
-pub(crate) fn after_front<'a>(text: &'a [u8], front: &[u8]) -> Option<&'a [u8]>
-    ensures { MatchOption result (¬ BeginsWith text.now front.now)
-        (λ rest. text.now ≡ front.now ++ rest.now) }
-{
-    text.strip_prefix(front)
-}
-
-// Whether the text is these two, one after the other.
-pub(crate) fn is_joined(text: &[u8], front: &[u8], rest: &[u8]) -> bool
-    ensures { IsTrue result ↔ (text.now ≡ front.now ++ rest.now) }
-{
-    match after_front(text, front) {
-        Some(after) => after == rest,
-        None => false,
-    }
-}
-
-// The first place of a byte.
-fn first_place(text: &[u8], byte: u8) -> Option<usize>
-    ensures { MatchOption result (¬ Contains text.now byte)
-        (λ i. (i < length text.now) × (slice_index text.now i ≡ byte)
-        × ((k : ℕ) → k < i → slice_index text.now k ≢ byte)) }
-{
-    text.iter().position(|b| *b == byte)
 }
 
 impl PartialOrd for Word {
@@ -165,10 +135,10 @@ impl Ord for Word {
     }
 }
 
-/// A list of texts.
-#[derive(Clone, Drop)]
+/// A list of texts, in order, with repeats: as many as memory holds.
+#[derive(Debug, Clone, Drop)]
 pub struct Words {
-    items: Vec<Word>,
+    words: Vec<Word>,
 }
 
 impl Model for Words {
@@ -176,61 +146,106 @@ impl Model for Words {
 
     ghost Value = { List (List ℕ) };
 
-    ghost view = { λ ws. ws.items.items };
+    ghost view = { λ ws. ws.words.items };
 }
 
 impl Words {
-    /// No texts, which takes no memory.
+    /// The empty list. Takes no memory.
     pub fn new(alloc: Global) -> Self
         ensures { result ≡ [] }
     {
         Words {
-            items: Vec::new(alloc),
+            words: Vec::new(alloc),
         }
     }
 
-    /// These texts; takes no memory.
-    pub fn from_vec(items: Vec<Word>) -> Self
-        ensures { result ≡ items.items }
+    /// The list of these texts. Takes no memory.
+    pub fn from_vec(words: Vec<Word>) -> Self
+        ensures { result ≡ words.items }
     {
-        Words { items }
+        Words { words }
     }
 
+    /// The texts, in order.
     pub fn as_slice(&self) -> &[Word]
         ensures { result.now ≡ self.now }
     {
-        self.items.as_slice()
+        self.words.as_slice()
     }
 
-    /// Adds all of these at the end.
+    /// Whether there are no texts.
+    pub fn is_empty(&self) -> bool
+        ensures { IsTrue result ↔ (self.now ≡ []) }
+    {
+        self.words.is_empty()
+    }
+
+    /// Adds a text at the end. Fails only where memory is refused: the text then comes back in the
+    /// error, and the list is as before.
+    pub fn push(&mut self, word: Word) -> Result<(), AllocFailed<Word>>
+        ensures ok { OnOk result (self.new ≡ self.old ++ word ∷ []) }
+        ensures err { OnErr result (self.new ≡ self.old) }
+        ensures returned { IfErr result (λ e. e.value ≡ word) }
+    {
+        self.words.push(word)
+    }
+
+    /// Adds all of these at the end, in order. Fails only where memory is refused, and the list is
+    /// then as before.
     pub fn append(&mut self, mut more: Words) -> Result<(), AllocError>
         ensures ok { OnOk result (self.new ≡ self.old ++ more) }
         ensures err { OnErr result (self.new ≡ self.old) }
     {
-        self.items.append(&mut more.items)
-    }
-
-    pub fn push(&mut self, word: Word) -> Result<(), AllocFailed<Word>>
-        ensures ok { OnOk result (self.new ≡ self.old ++ word ∷ []) }
-        ensures err { OnErr result (self.new ≡ self.old) }
-    {
-        self.items.push(word)
+        self.words.append(&mut more.words)
     }
 
     /// Whether this text is among them.
     pub fn contains(&self, word: &Word) -> bool
         ensures { IsTrue result ↔ Contains self.now word.now }
     {
-        self.items.as_slice().contains(word)
+        self.as_slice().contains(word)
     }
 
     /// Whether the text of these bytes is among them.
     pub fn contains_bytes(&self, bytes: &[u8]) -> bool
         ensures { IsTrue result ↔ Contains self.now bytes.now }
     {
-        self.items
-            .as_slice()
-            .iter()
-            .any(|word| word.as_bytes() == bytes)
+        self.as_slice().iter().any(|word| word.as_bytes() == bytes)
+    }
+}
+
+/// The parts before and after the first place of a byte; none where it has none. Takes no memory.
+pub fn cut_at_first(text: &[u8], byte: u8) -> Option<(&[u8], &[u8])>
+    ensures { MatchOption result (¬ Contains text.now byte)
+        (λ parts. IsCutAtFirst text.now byte parts.0.now parts.1.now) }
+{
+    let at = first_place(text, byte)?;
+    Some((&text[..at], &text[at + 1..]))
+}
+
+// The first place of a byte.
+fn first_place(text: &[u8], byte: u8) -> Option<usize>
+    ensures { MatchOption result (¬ Contains text.now byte)
+        (λ i. (i < length text.now) × (slice_index text.now i ≡ byte)
+        × ((k : ℕ) → k < i → slice_index text.now k ≢ byte)) }
+{
+    text.iter().position(|b| *b == byte)
+}
+
+// What follows this front.
+pub(crate) fn after_front<'a>(text: &'a [u8], front: &[u8]) -> Option<&'a [u8]>
+    ensures { MatchOption result (¬ BeginsWith text.now front.now)
+        (λ rest. text.now ≡ front.now ++ rest.now) }
+{
+    text.strip_prefix(front)
+}
+
+// Whether the text is these two, one after the other.
+pub(crate) fn is_joined(text: &[u8], front: &[u8], rest: &[u8]) -> bool
+    ensures { IsTrue result ↔ (text.now ≡ front.now ++ rest.now) }
+{
+    match after_front(text, front) {
+        Some(after) => after == rest,
+        None => false,
     }
 }

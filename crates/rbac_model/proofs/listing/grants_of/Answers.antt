@@ -1,7 +1,8 @@
-use Rattle.std.proofs.Common.{◌≡◌, ◌<◌, length, refl, rules, sym, ap, ◌∙◌, arith, take, ◌+◌, get_or}
+use Rattle.std.proofs.Common.{◌<◌, length, refl, arith, take}
 use Rattle.std.proofs.lemmas.Option.{slice_get_read}
 use Rattle.std.proofs.lemmas.Result.{err_from_is_err_and}
-use Rattle.rbac_model.specs.Policies.{AreGrantsOf, grants_at, grant_at}
+use Rattle.rbac_model.specs.Policies.{grants_at, grant_at}
+use Rattle.rbac_model.proofs.AllGranted.{all_granted}
 use Rattle.rbac_model.proofs.Kept.{length-filter_map}
 use Rattle.rbac_model.proofs.Listed.{binding_more}
 use Rattle.rbac_model.proofs.OneList.{grants_from}
@@ -26,11 +27,15 @@ returns-in_err-put_binding-clause-many c =
     let read = rw c.bindings-bindings.ensures.bindings at (slice_get_read _ _ _ _ refl in_range c.index-bindings-at.is) in
     let are = rw c.bindings-bindings.ensures.bindings at c.loop-at.invariant.are in
     let p = err_from_is_err_and c.from_residual.result c.from_residual.ensures.1 in
-    rw (p.1, p.2) (λ e gs all.
+    rw (p.1, p.2) (λ e.
     let m = c.in_err-put_binding.ensures.many e in
-    omega (
-      arith,
-      m.2,
-      length-filter_map (grant_at h) c.loop-at.grants.items c.loop-at.invariant.held,
-      grants_from h h.bindings c.loop-at.at c.index-bindings-at.result (grants_at h c.loop-at.grants.items) m.0 gs c.bindings-bindings.ensures.held read are m.1 all,
+    let all = all_granted h c.args.sources.now c.requires h.bindings in (
+      all.0,
+      all.1,
+      omega (
+        arith,
+        m.2,
+        length-filter_map (grant_at h) c.loop-at.grants.items c.loop-at.invariant.held,
+        grants_from h h.bindings c.loop-at.at c.index-bindings-at.result (grants_at h c.loop-at.grants.items) m.0 all.0 c.bindings-bindings.ensures.held read are m.1 all.1,
+      ),
     ))

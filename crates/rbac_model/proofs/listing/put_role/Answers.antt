@@ -1,4 +1,4 @@
-use Rattle.std.proofs.Common.{◌≡◌, length, ap, ◌∙◌, sym, refl}
+use Rattle.std.proofs.Common.{◌≡◌, length, ap, ◌∙◌, sym}
 use Rattle.std.proofs.lemmas.Option.{slice_get_read}
 use Rattle.rbac_model.specs.Places.{role_places}
 use Rattle.rbac_terms.specs.declared.granting.Role.{Role}

@@ -1,10 +1,8 @@
-use Rattle.std.proofs.Common.{◌≡◌, ◌<◌, ℕ, length, ap, ◌∙◌, sym, refl, arith, get_or, take, ◌+◌, ◌++◌, length-append}
-use Rattle.std.specs.Prelude.{slice_get, Some}
+use Rattle.std.proofs.Common.{◌<◌, length, ap, ◌∙◌, sym, arith, get_or, take, ◌+◌, length-append}
 use Rattle.std.proofs.lemmas.Option.{slice_get_read}
 use Rattle.std.proofs.lemmas.Result.{err_from_is_err_and}
 use Rattle.rbac_model.specs.Places.{places_in, places_of}
 use Rattle.rbac_terms.specs.declared.granting.ClusterRole.{ClusterRole}
-use Rattle.rbac_model.specs.declared.places.GrantPlace.{GrantPlace}
 use Rattle.rbac_model.specs.declared.places.RolePlace.TheVariants.{ClusterRoleAt}
 use Rattle.rbac_model.proofs.Listed.{places_more, places_some, length-places, appended}
 use Rattle.rbac_model.proofs.listing.put_sources.Goals as goal

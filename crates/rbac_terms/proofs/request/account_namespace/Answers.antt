@@ -1,25 +1,24 @@
 use Rattle.std.proofs.Common.{refl}
-use Rattle.std.specs.Prelude.{codes, Some}
-use Rattle.std.proofs.lemmas.Slice.Eq.{strip_prefix_is}
-use Rattle.std.proofs.lemmas.Bool.Decides.{Decides-eqb}
 use Rattle.std.proofs.lemmas.Bool.{both_ways}
-use Rattle.rbac_terms.proofs.Accounts.{IsAccountOf-from, IsAccountOf-parts}
+use Rattle.rbac_terms.proofs.Accounts.{IsAccountOf-begins, IsAccountOf-colon, IsAccountOf-from, IsAccountOf-parts}
+use Rattle.rbac_terms.proofs.request.account_namespace.Goals.{else-is_part-via-then-is_part+else-is_part-2, else-is_part-via-else-is_part}
 use Rattle.rbac_terms.proofs.request.account_namespace.Goals as goal
 
-pub returns : goal.returns
-returns c =
-    IsAccountOf-from c.args.user.now c.in-Some.parts.now c.in-Some-cut_at_first.namespace.now c.in-Some-cut_at_first.name.now
-    (strip_prefix_is Decides-eqb c.args.user.now (codes "system:serviceaccount:") (Some c.in-Some.parts) c.in-Some.ensures.cases)
-    c.in-Some-cut_at_first.ensures (c.if-not-is_part.ensures.0 refl) (c.if-not-is_part-2.ensures.0 refl)
+pub returns-in_err-parts : goal.returns-in_err-parts
+returns-in_err-parts c = rw c.from_residual.ensures (λ namespace a. c.in_err-parts.ensures (IsAccountOf-begins _ namespace a))
 
-pub returns-then-not-is_part : goal.returns-then-not-is_part
-returns-then-not-is_part c = λ namespace a.
-    both_ways _ c.if-not-is_part.true (c.is_part.ensures.1 (IsAccountOf-parts c.args.user.now c.in-Some.parts.now namespace c.in-Some-cut_at_first.namespace.now c.in-Some-cut_at_first.name.now
-    (strip_prefix_is Decides-eqb c.args.user.now (codes "system:serviceaccount:") (Some c.in-Some.parts) c.in-Some.ensures.cases)
-    c.in-Some-cut_at_first.ensures a).0)
+pub returns-in_err-namespace : goal.returns-in_err-namespace
+returns-in_err-namespace c = rw c.from_residual-in_err-namespace.ensures (λ namespace a. c.in_err-namespace.ensures (IsAccountOf-colon _ _ namespace c.in_ok-parts.ensures a))
 
-pub returns-then-not-is_part-2 : goal.returns-then-not-is_part-2
-returns-then-not-is_part-2 c = λ namespace a.
-    both_ways _ c.if-not-is_part-2.true (c.is_part-2.ensures.1 (IsAccountOf-parts c.args.user.now c.in-Some.parts.now namespace c.in-Some-cut_at_first.namespace.now c.in-Some-cut_at_first.name.now
-    (strip_prefix_is Decides-eqb c.args.user.now (codes "system:serviceaccount:") (Some c.in-Some.parts) c.in-Some.ensures.cases)
-    c.in-Some-cut_at_first.ensures a).1)
+pub returns-then-is_part-2 : goal.returns-then-is_part-2
+returns-then-is_part-2 c =
+    IsAccountOf-from c.args.user.now c.in_ok-parts.parts.now c.in_ok-namespace.namespace.now c.in_ok-namespace.name.now
+    c.in_ok-parts.ensures c.in_ok-namespace.ensures (c.if-is_part.ensures.0 refl) (c.if-is_part-2.ensures.0 refl)
+
+pub returns-else-is_part : goal.returns-else-is_part
+returns-else-is_part c = λ namespace a.
+    let parts = IsAccountOf-parts c.args.user.now c.in_ok-parts.parts.now namespace c.in_ok-namespace.namespace.now c.in_ok-namespace.name.now c.in_ok-parts.ensures c.in_ok-namespace.ensures a in
+    elim c.else-is_part.branch [
+      | else-is_part-via-then-is_part+else-is_part-2 w ↦ both_ways _ w.if-is_part-2.false (w.is_part-then-is_part.ensures.1 parts.1)
+      | else-is_part-via-else-is_part w ↦ both_ways _ w.if-is_part.false (c.is_part.ensures.1 parts.0)
+    ]

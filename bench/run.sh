@@ -1,0 +1,38 @@
+#!/usr/bin/env bash
+# Measures the built program on generated exports, beside reading and dropping the same JSON alone.
+# `make build` and `cd crates/json_alone && rt run < stdin` build the two programs.
+set -eu
+cd "$(dirname "$0")"
+audit=../crates/rbacaudit/out/rbacaudit
+alone=../crates/json_alone/out/json_alone
+room=$(mktemp -d)
+trap 'rm -rf "$room"' EXIT
+
+# The least of seven runs of a command, in milliseconds.
+least() {
+    local least=
+    for _ in 1 2 3 4 5 6 7; do
+        local start=$(date +%s%N)
+        "$@" > /dev/null || true
+        local took=$((($(date +%s%N) - start) / 1000000))
+        if [ -z "$least" ] || [ "$took" -lt "$least" ]; then least=$took; fi
+    done
+    echo "$least"
+}
+
+# One line for an export: its size, both times and their ratio.
+measure() {
+    local name=$1 file=$2
+    local json answer
+    json=$(least "$alone" "$file")
+    answer=$(least "$audit" can-i --as nobody@example.com -A get pods "$file")
+    printf '%-44s %9d bytes  JSON alone %5d ms  can-i %5d ms  ratio %s\n' \
+        "$name" "$(stat -c %s "$file")" "$json" "$answer" "$(python3 -c "print('%.2f' % ($answer / max(1, $json)))")"
+}
+
+for size in "1000 4000 100" "5000 20000 300" "10000 40000 500"; do
+    python3 generate_export.py $size 1 "$room/export.json" > /dev/null
+    measure "$size roles, bindings, namespaces" "$room/export.json"
+done
+python3 generate_aggregated.py 5000 500 4 "$room/export.json"
+measure "5000 cluster roles, 500 aggregated" "$room/export.json"

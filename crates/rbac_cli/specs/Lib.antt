@@ -1,0 +1,4 @@
+pub mod Ends
+pub mod Meant
+pub mod Out
+pub mod Printing

@@ -1,0 +1,17 @@
+//! The program's inside: it loads the inputs of a command, answers the command over them and writes
+//! the answer. What a program needs beside [`run`] (the command line, reader and writer) is reached
+//! from here too.
+#![tactic(auto)]
+
+mod answering;
+mod asking;
+mod ending;
+mod running;
+
+pub use asking::target_of;
+pub use ending::{RunFault, Status};
+pub use rbac_command::{UsageFault, command_of};
+pub use rbac_manifest::{At, Cause, LoadFault};
+pub use rbac_question::{Action, Asked, Command, Question};
+pub use rbac_streams::{Failed, Input, InputFault, Sink, Source, read_file, read_input};
+pub use running::run;

@@ -1,0 +1,80 @@
+//! A run: load the inputs, answer the command, write the answer.
+
+ghost use Rattle.std.specs.Prelude.{◌≡◌, [], false, MatchResult};
+ghost use Rattle.rbac_streams.specs.Taken.{Took, Printed};
+ghost use Rattle.rbac_cli.specs.Ends.{Ends, Writes, is_write_fault};
+ghost use Rattle.rbac_cli.specs.Printing.{StopsWith, fault_at};
+
+use crate::answering::print_answer;
+use crate::ending::{RunFault, Status};
+use rbac_manifest::{Cause, load};
+use rbac_model::Policy;
+use rbac_question::{Action, Command};
+use rbac_streams::{Input, Page, PrintFault, Sink};
+use std::alloc::Global;
+use std::io::Write;
+
+/// Loads the inputs, answers the command over them and writes the answer.
+///
+/// Refused are inputs that [`load`] refuses; nothing is written then. Where memory was refused or a
+/// write failed, what was written is a front of the answer, and the fault tells its length.
+pub fn run<W: Write + Drop>(
+    alloc: Global,
+    command: &Command,
+    inputs: &[Input],
+    sink: &mut Sink<W>,
+) -> Result<Status, RunFault>
+    requires { sink.old.has_failed ≡ false }
+    ensures ends { Ends (Took W.contents sink.old sink.new) command.now inputs.now result }
+    ensures failed { sink.new.has_failed ≡ is_write_fault result }
+{
+    let mut page = Page::start(alloc, sink);
+    let loaded = match load(alloc, inputs) {
+        Ok(loaded) => loaded,
+        Err(fault) => match fault.cause {
+            Cause::NoMemory => return Err(RunFault::Memory { written: 0 }),
+            _ => return Err(RunFault::Load(fault)),
+        },
+    };
+    match write_answer(alloc, loaded.policy(), &command.action, sink, &mut page) {
+        Ok(status) => Ok(status),
+        Err(fault) => Err(fault),
+    }
+}
+
+// Writes the answer of an action over a policy, from an empty page on.
+fn write_answer<W: Write + Drop>(
+    alloc: Global,
+    policy: &Policy,
+    action: &Action,
+    sink: &mut Sink<W>,
+    page: &mut Page,
+) -> Result<Status, RunFault>
+    requires works { sink.old.has_failed ≡ false }
+    requires printed { Printed W.contents sink.old sink.old page.old [] }
+    requires took { Took W.contents sink.old sink.old [] }
+    requires empty { page.old.written ≡ 0 }
+    ensures ends { MatchResult result
+        (Writes (Took W.contents sink.old sink.new) policy.now.held action.now)
+        (StopsWith (Took W.contents sink.old sink.new) policy.now.held action.now) }
+    ensures failed { sink.new.has_failed ≡ is_write_fault result }
+{
+    let status = match print_answer(alloc, policy, action, sink, page) {
+        Ok(status) => status,
+        Err(fault) => return Err(fault_of(page, fault)),
+    };
+    match page.flush(sink) {
+        Ok(()) => Ok(status),
+        Err(fault) => Err(fault_of(page, fault)),
+    }
+}
+
+fn fault_of(page: &Page, fault: PrintFault) -> RunFault
+    ensures { result ≡ fault_at page.now fault }
+{
+    let written = page.written();
+    match fault {
+        PrintFault::SinkFailed => RunFault::Write { written },
+        PrintFault::NoMemory => RunFault::Memory { written },
+    }
+}

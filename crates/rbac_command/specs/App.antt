@@ -1,0 +1,78 @@
+-- The command line of `rbacaudit`, as `clap` sees it.
+use Rattle.std.specs.Prelude.{Some, codes, true}
+use Rattle.clap.specs.Words.{App, Rule, new_app, new_rule, with_rule, with_subcommand}
+use Rattle.clap.specs.declared.builder.ArgAction.TheVariants.{SetTrue, Append}
+
+-- `--as USER`, which must be given
+abbrev pub user_rule : Rule
+user_rule = record (new_rule (codes "as")) {
+  long = Some (codes "as");
+  value_names = 1;
+  required = true;
+}
+
+-- `--groups A,B`
+abbrev pub groups_rule : Rule
+groups_rule = record (new_rule (codes "groups")) { long = Some (codes "groups"); value_names = 1 }
+
+-- `-n NS`
+abbrev pub namespace_rule : Rule
+namespace_rule = record (new_rule (codes "namespace")) { short = Some 110; value_names = 1 }
+
+-- `-A`
+abbrev pub all_rule : Rule
+all_rule = record (new_rule (codes "all")) { short = Some 65; action = Some SetTrue }
+
+-- `--subresource S`
+abbrev pub subresource_rule : Rule
+subresource_rule = record (new_rule (codes "subresource")) {
+  long = Some (codes "subresource");
+  value_names = 1;
+}
+
+-- `-q`
+abbrev pub quiet_rule : Rule
+quiet_rule = record (new_rule (codes "quiet")) { short = Some 113; action = Some SetTrue }
+
+-- VERB, which must be given
+abbrev pub verb_rule : Rule
+verb_rule = record (new_rule (codes "verb")) { value_names = 1; required = true }
+
+-- TARGET, which must be given
+abbrev pub target_rule : Rule
+target_rule = record (new_rule (codes "target")) { value_names = 1; required = true }
+
+-- [FILE]..
+abbrev pub files_rule : Rule
+files_rule = record (new_rule (codes "files")) { value_names = 1; action = Some Append }
+
+-- the options that say who asks
+abbrev pub with_asker : App → App
+with_asker a = with_rule (with_rule a user_rule) groups_rule
+
+-- the options that say where, and for which subresource
+abbrev pub with_scope : App → App
+with_scope a = with_rule (with_rule (with_rule a namespace_rule) all_rule) subresource_rule
+
+-- what is asked, and of which files
+abbrev pub with_question : App → App
+with_question a = with_rule (with_rule (with_rule a verb_rule) target_rule) files_rule
+
+-- can-i --as USER [--groups A,B] [-n NS] [-A] [--subresource S] [-q] VERB TARGET [FILE]..
+abbrev pub can_i_app : App
+can_i_app =
+    with_question (with_rule (with_scope (with_asker (new_app (codes "can-i")))) quiet_rule)
+
+-- the program: a subcommand is required, and there is no subcommand `help`
+abbrev pub without_help : App → App
+without_help a = record a {
+  top = record a.top { disable_help_subcommand = true; subcommand_required = true };
+}
+
+-- without its subcommands
+abbrev pub bare_app : App
+bare_app = without_help (new_app (codes "rbacaudit"))
+
+-- the whole command line
+unfoldable pub rbac_app : App
+rbac_app = with_subcommand bare_app can_i_app.top

@@ -1,0 +1,78 @@
+-- What the words of a command line mean, by `clap`'s matches.
+use Rattle.std.specs.Prelude.{◌≡◌, Bool, List, [], Option, Some, None, Result, map, codes, unwrap_or, MatchResult, string_bytes}
+use Rattle.std.specs.Str.{bytes_eq}
+use Rattle.clap.specs.Words.{Row, Text, all_of, fault_of, first_of, kind_of, subcommand_of}
+use Rattle.clap.specs.Kinds.{IsAmong}
+use Rattle.rbac_question.specs.Lines.{CanIParts, MeansCanI, AcceptsCanI, RefusesCanI}
+use Rattle.rbac_question.specs.declared.command.Command.{Command}
+use Rattle.rbac_question.specs.declared.fault.QuestionFault.TheVariants as question
+use Rattle.rbac_command.specs.App.{rbac_app}
+use Rattle.rbac_command.specs.declared.fault.UsageFault.{UsageFault}
+use Rattle.rbac_command.specs.declared.fault.UsageFault.TheVariants.{Refused, EmptyWord, UrlSubresource, NoMemory}
+
+-- ---- what stands under an id
+
+-- its first value, or the empty text
+abbrev pub text_at : Text → List Row → Text
+text_at id rows = unwrap_or (first_of id rows) []
+
+-- whether the flag stands
+abbrev pub has_flag : Text → List Row → Bool
+has_flag id rows = bytes_eq (text_at id rows) (codes "true")
+
+-- the files, in order
+abbrev pub files_in : List Row → List Text
+files_in rows = unwrap_or (all_of (codes "files") rows) []
+
+-- the parts of a `can-i` line
+abbrev pub parts_in : List Row → CanIParts
+parts_in rows = record {
+  user = text_at (codes "as") rows;
+  groups = text_at (codes "groups") rows;
+  all_namespaces = has_flag (codes "all") rows;
+  namespace = text_at (codes "namespace") rows;
+  subresource = text_at (codes "subresource") rows;
+  quiet = has_flag (codes "quiet") rows;
+  verb = text_at (codes "verb") rows;
+  target = text_at (codes "target") rows;
+}
+
+-- ---- a command
+
+-- one of the subcommands
+abbrev pub is_known : Text → Bool
+is_known name = bytes_eq name (codes "can-i")
+
+-- the command is what the one subcommand's matches mean
+pub record MeansRows (name : Text) (rows : List Row) (c : Command) : Type 0 where
+  pub subcommand : name ≡ codes "can-i"
+  pub accepted : AcceptsCanI (parts_in rows)
+  pub action : MeansCanI (parts_in rows) c.action
+  pub files : map string_bytes c.files.items ≡ files_in rows
+
+-- the command is what the subcommand that was met means
+abbrev pub Means : Option (Text × List Row) → Command → Type 0
+Means None c = ⊥
+Means (Some p) c = MeansRows p.0 p.1 c
+
+-- ---- refusals
+
+-- the refusal of a subcommand's matches; memory may be refused at any time
+abbrev pub IsCauseOf : Option (Text × List Row) → UsageFault → Type 0
+IsCauseOf None e = ⊥
+IsCauseOf (Some p) EmptyWord = RefusesCanI (parts_in p.1) question.EmptyWord
+IsCauseOf (Some p) UrlSubresource = RefusesCanI (parts_in p.1) question.UrlSubresource
+IsCauseOf (Some p) NoMemory = Unit {0}
+IsCauseOf (Some p) (Refused e) = ⊥
+
+-- a refusal of `clap`'s comes where it refuses the words; any other where it takes them
+abbrev pub IsRefusal : List Text → UsageFault → Type 0
+IsRefusal words NoMemory = Unit {0}
+IsRefusal words (Refused e) = IsAmong (kind_of e) (fault_of rbac_app words)
+IsRefusal words e = (fault_of rbac_app words ≡ []) × IsCauseOf (subcommand_of rbac_app words) e
+
+-- what `command_of` answers
+abbrev pub IsAnswer : List Text → Result Command UsageFault → Type 0
+IsAnswer words r = MatchResult r
+    (λ c. (fault_of rbac_app words ≡ []) × Means (subcommand_of rbac_app words) c)
+    (IsRefusal words)

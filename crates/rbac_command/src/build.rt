@@ -1,0 +1,201 @@
+//! The command line, built anew for each parse.
+
+ghost use Rattle.std.specs.Prelude.{◌≡◌, IfOk, false};
+ghost use Rattle.clap.specs.Words.{app_of, new_app, rule_of, with_rule, with_subcommand};
+ghost use Rattle.clap.specs.declared.builder.command.Command.TheViews.{out-Command as fields_of};
+ghost use Rattle.rbac_command.specs.App.{user_rule, groups_rule, namespace_rule, all_rule, subresource_rule, quiet_rule, verb_rule, target_rule, files_rule};
+ghost use Rattle.rbac_command.specs.App.{with_asker, with_scope, with_question, can_i_app, bare_app, rbac_app};
+
+use clap::{Arg, ArgAction, Command};
+use std::alloc::{AllocError, Global};
+
+fn user_arg<'a>(alloc: Global) -> Arg<'a>
+    ensures rule { rule_of result ≡ user_rule }
+    ensures local { result.global ≡ false }
+{
+    Arg::new(alloc, "as")
+        .long("as")
+        .value_name("USER")
+        .required(true)
+        .help("The user who asks, e.g. alice or system:serviceaccount:dev:ci")
+}
+
+fn groups_arg<'a>(alloc: Global) -> Arg<'a>
+    ensures rule { rule_of result ≡ groups_rule }
+    ensures local { result.global ≡ false }
+{
+    Arg::new(alloc, "groups")
+        .long("groups")
+        .value_name("A,B")
+        .help("Groups of the user beside the implied ones, e.g. dev,ops")
+}
+
+fn namespace_arg<'a>(alloc: Global) -> Arg<'a>
+    ensures rule { rule_of result ≡ namespace_rule }
+    ensures local { result.global ≡ false }
+{
+    Arg::new(alloc, "namespace")
+        .short('n')
+        .value_name("NS")
+        .help("The namespace asked about; without -n and -A it is default")
+}
+
+fn all_arg<'a>(alloc: Global) -> Arg<'a>
+    ensures rule { rule_of result ≡ all_rule }
+    ensures local { result.global ≡ false }
+{
+    Arg::new(alloc, "all")
+        .short('A')
+        .action(ArgAction::SetTrue)
+        .help("Asks for all namespaces, where only ClusterRoleBindings count; wins over -n")
+}
+
+fn subresource_arg<'a>(alloc: Global) -> Arg<'a>
+    ensures rule { rule_of result ≡ subresource_rule }
+    ensures local { result.global ≡ false }
+{
+    Arg::new(alloc, "subresource")
+        .long("subresource")
+        .value_name("S")
+        .help("The subresource asked for, e.g. log of pods; a URL has none")
+}
+
+fn quiet_arg<'a>(alloc: Global) -> Arg<'a>
+    ensures rule { rule_of result ≡ quiet_rule }
+    ensures local { result.global ≡ false }
+{
+    Arg::new(alloc, "quiet")
+        .short('q')
+        .action(ArgAction::SetTrue)
+        .help("Writes nothing: the exit status is the answer")
+}
+
+fn verb_arg<'a>(alloc: Global) -> Arg<'a>
+    ensures rule { rule_of result ≡ verb_rule }
+    ensures local { result.global ≡ false }
+{
+    Arg::new(alloc, "verb")
+        .value_name("VERB")
+        .required(true)
+        .help("What is to be done, e.g. get, list or delete")
+}
+
+fn target_arg<'a>(alloc: Global) -> Arg<'a>
+    ensures rule { rule_of result ≡ target_rule }
+    ensures local { result.global ≡ false }
+{
+    Arg::new(alloc, "target")
+        .value_name("TARGET")
+        .required(true)
+        .help("TYPE, TYPE/NAME or a URL path, e.g. pods, deployments.apps/web or /healthz")
+}
+
+fn files_arg<'a>(alloc: Global) -> Arg<'a>
+    ensures rule { rule_of result ≡ files_rule }
+    ensures local { result.global ≡ false }
+{
+    Arg::new(alloc, "files")
+        .value_name("FILE")
+        .action(ArgAction::Append)
+        .help("JSON that kubectl get -o json wrote; without a file, standard input is read")
+}
+
+// Adds an argument that is not global.
+fn with<'a>(command: Command<'a>, arg: Arg<'a>) -> Result<Command<'a>, AllocError>
+    requires arg { arg.global ≡ false }
+    requires alone { (fields_of command).has_globals ≡ false }
+    ensures app { IfOk result (λ r. app_of r ≡ with_rule (app_of command.entry) (rule_of arg.entry)) }
+    ensures local { IfOk result (λ r. (fields_of r).has_globals ≡ false) }
+{
+    command.arg(arg)
+}
+
+fn with_asker<'a>(alloc: Global, command: Command<'a>) -> Result<Command<'a>, AllocError>
+    requires { (fields_of command).has_globals ≡ false }
+    ensures app { IfOk result (λ r. app_of r ≡ with_asker (app_of command.entry)) }
+    ensures local { IfOk result (λ r. (fields_of r).has_globals ≡ false) }
+{
+    let command = with(command, user_arg(alloc))?;
+    with(command, groups_arg(alloc))
+}
+
+fn with_scope<'a>(alloc: Global, command: Command<'a>) -> Result<Command<'a>, AllocError>
+    requires { (fields_of command).has_globals ≡ false }
+    ensures app { IfOk result (λ r. app_of r ≡ with_scope (app_of command.entry)) }
+    ensures local { IfOk result (λ r. (fields_of r).has_globals ≡ false) }
+{
+    let command = with(command, namespace_arg(alloc))?;
+    let command = with(command, all_arg(alloc))?;
+    with(command, subresource_arg(alloc))
+}
+
+fn with_question<'a>(alloc: Global, command: Command<'a>) -> Result<Command<'a>, AllocError>
+    requires { (fields_of command).has_globals ≡ false }
+    ensures app { IfOk result (λ r. app_of r ≡ with_question (app_of command.entry)) }
+    ensures local { IfOk result (λ r. (fields_of r).has_globals ≡ false) }
+{
+    let command = with(command, verb_arg(alloc))?;
+    let command = with(command, target_arg(alloc))?;
+    with(command, files_arg(alloc))
+}
+
+// A command with this name and no arguments.
+fn named<'a>(alloc: Global, name: &'a str, about: &'a str) -> Command<'a>
+    ensures app { app_of result ≡ new_app name.entry.now }
+    ensures local { (fields_of result).has_globals ≡ false }
+{
+    Command::new(alloc, name).about(about)
+}
+
+fn can_i<'a>(alloc: Global) -> Result<Command<'a>, AllocError>
+    ensures app { IfOk result (λ r. app_of r ≡ can_i_app) }
+    ensures local { IfOk result (λ r. (fields_of r).has_globals ≡ false) }
+{
+    let command = named(
+        alloc,
+        "can-i",
+        "Tells whether USER may VERB TARGET: yes (exit status 0) or no (1); 2 is a fault",
+    );
+    let command = with_asker(alloc, command)?;
+    let command = with_scope(alloc, command)?;
+    let command = with(command, quiet_arg(alloc))?;
+    with_question(alloc, command)
+}
+
+// Adds a subcommand with no global argument.
+fn with_sub<'a>(command: Command<'a>, sub: Command<'a>) -> Result<Command<'a>, AllocError>
+    requires sub { (fields_of sub).has_globals ≡ false }
+    ensures app { IfOk result (λ r.
+        app_of r ≡ with_subcommand (app_of command.entry) (app_of sub.entry).top) }
+{
+    command.subcommand(sub)
+}
+
+// Names the program in usage, whatever the first word is.
+fn with_bin_name<'a>(command: Command<'a>, name: &str) -> Result<Command<'a>, AllocError>
+    ensures { IfOk result (λ r. app_of r ≡ app_of command.entry) }
+{
+    command.bin_name(name)
+}
+
+// The program with no subcommands yet.
+fn bare<'a>(alloc: Global) -> Command<'a>
+    ensures { app_of result ≡ bare_app }
+{
+    named(
+        alloc,
+        "rbacaudit",
+        "Answers questions about exported Kubernetes roles",
+    )
+    .subcommand_required(true)
+    .disable_help_subcommand(true)
+}
+
+/// The whole command line: `rbacaudit` with its subcommands.
+#[tactic(auto, unfolding(crate::specs::App::rbac_app))]
+pub(crate) fn program<'a>(alloc: Global) -> Result<Command<'a>, AllocError>
+    ensures { IfOk result (λ r. app_of r ≡ rbac_app) }
+{
+    let command = with_bin_name(bare(alloc), "rbacaudit")?;
+    with_sub(command, can_i(alloc)?)
+}

@@ -1,0 +1,73 @@
+//! Why a command line is refused.
+
+ghost use Rattle.std.specs.Prelude.{◌≡◌};
+
+use rbac_question::QuestionFault;
+use std::alloc::{AllocError, AllocFailed};
+use std::error::Error;
+use std::fmt;
+
+/// Why a command line is refused (own).
+#[derive(Debug, Drop)]
+pub enum UsageFault {
+    /// U1: by `clap`, or help was asked. Its `Display` is `clap`'s text, and `use_stderr` tells
+    /// which of the two it is.
+    Refused(clap::Error),
+    /// U2: USER, VERB or TARGET is empty, or nothing stands before the dot of a type word.
+    EmptyWord,
+    /// U3: a subresource is asked for with a URL.
+    UrlSubresource,
+    /// Memory was refused.
+    NoMemory,
+}
+
+impl From<AllocError> for UsageFault {
+    ghost use Rattle.rbac_command.specs.declared.fault.UsageFault.TheVariants.{NoMemory};
+
+    ghost from_gives = { λ _ fault. fault ≡ NoMemory };
+
+    fn from(_: AllocError) -> Self {
+        UsageFault::NoMemory
+    }
+}
+
+impl<T: Drop> From<AllocFailed<T>> for UsageFault {
+    ghost use Rattle.rbac_command.specs.declared.fault.UsageFault.TheVariants.{NoMemory};
+
+    ghost from_gives = { λ _ fault. fault ≡ NoMemory };
+
+    fn from(_: AllocFailed<T>) -> Self {
+        UsageFault::NoMemory
+    }
+}
+
+impl From<QuestionFault> for UsageFault {
+    ghost use Rattle.rbac_command.specs.Faults.{usage_fault};
+
+    ghost from_gives = { λ cause fault. fault ≡ usage_fault cause };
+
+    fn from(cause: QuestionFault) -> Self {
+        match cause {
+            QuestionFault::EmptyWord => UsageFault::EmptyWord,
+            QuestionFault::UrlSubresource => UsageFault::UrlSubresource,
+            QuestionFault::NoMemory => UsageFault::NoMemory,
+        }
+    }
+}
+
+impl fmt::Display for UsageFault {
+    ghost use Rattle.rbac_command.specs.Faults.{usage_text};
+
+    ghost output = { usage_text };
+
+    fn fmt<W: fmt::Write>(&self, f: &mut fmt::Formatter<W>) -> fmt::Result {
+        match self {
+            UsageFault::Refused(error) => write!(f, "{error}"),
+            UsageFault::EmptyWord => write!(f, "{}", QuestionFault::EmptyWord),
+            UsageFault::UrlSubresource => write!(f, "{}", QuestionFault::UrlSubresource),
+            UsageFault::NoMemory => write!(f, "{}", QuestionFault::NoMemory),
+        }
+    }
+}
+
+impl Error for UsageFault {}

@@ -1,0 +1,10 @@
+//! The command line of `rbacaudit`, read with `clap`. Hands on the names of `rbac_question`.
+#![tactic(auto)]
+
+mod build;
+mod fault;
+mod read;
+
+pub use fault::UsageFault;
+pub use rbac_question::{Action, Asked, Command, Question};
+pub use read::command_of;

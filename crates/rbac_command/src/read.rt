@@ -1,0 +1,133 @@
+//! From words to a command.
+
+ghost use Rattle.std.specs.Prelude.{◌≡◌, [], List, ℕ, Some, None, IfOk, IfErr, MatchResult, map, string_bytes, true, false, codes, option_map};
+ghost use Rattle.std.specs.Option.{option_map_or};
+ghost use Rattle.clap.specs.Words.{found_of, all_of, rows_of, first_of, subcommand_rows_of, subcommand_of, fault_of};
+ghost use Rattle.rbac_question.specs.Lines.{MeansCanI, AcceptsCanI, RefusesCanI};
+ghost use Rattle.rbac_command.specs.App.{rbac_app};
+ghost use Rattle.rbac_command.specs.Meaning.{text_at, has_flag, files_in, parts_in, is_known, MeansRows, Means, IsCauseOf, IsRefusal, IsAnswer};
+
+use crate::build::program;
+use crate::fault::UsageFault;
+use clap::ArgMatches;
+use clap::error::ErrorKind;
+use rbac_question::{Action, CanILine, Command, QuestionFault};
+use std::alloc::{AllocError, Global};
+
+// The first value of `id`, in the words of a parse's rows.
+fn value_of<'a>(matches: &ArgMatches<'a>, id: &str) -> Option<&'a str>
+    ensures { option_map (λ s. s.now) result ≡ first_of id.now (rows_of (found_of matches.now)) }
+{
+    matches.get_str(id)
+}
+
+// All values of `id`, in the same words.
+fn values_of<'m, 'a>(matches: &'m ArgMatches<'a>, id: &str) -> Option<&'m [&'a str]>
+    ensures { option_map (λ s. map (λ v. v.now) s.now) result
+        ≡ all_of id.now (rows_of (found_of matches.now)) }
+{
+    matches.get_raw(id)
+}
+
+// The first value of `id`, or the empty text.
+fn text_of<'a>(matches: &ArgMatches<'a>, id: &str) -> &'a str
+    ensures { result.now ≡ text_at id.now (rows_of (found_of matches.now)) }
+{
+    match value_of(matches, id) {
+        Some(text) => text,
+        None => "",
+    }
+}
+
+fn flag_of(matches: &ArgMatches<'_>, id: &str) -> bool
+    ensures { result ≡ has_flag id.now (rows_of (found_of matches.now)) }
+{
+    text_of(matches, id) == "true"
+}
+
+// The parts of a `can-i` line.
+fn line_of<'a>(matches: &ArgMatches<'a>) -> CanILine<'a>
+    ensures { result ≡ parts_in (rows_of (found_of matches.now)) }
+{
+    CanILine {
+        user: text_of(matches, "as"),
+        groups: text_of(matches, "groups"),
+        all_namespaces: flag_of(matches, "all"),
+        namespace: text_of(matches, "namespace"),
+        subresource: text_of(matches, "subresource"),
+        quiet: flag_of(matches, "quiet"),
+        verb: text_of(matches, "verb"),
+        target: text_of(matches, "target"),
+    }
+}
+
+fn files_of(alloc: Global, matches: &ArgMatches<'_>) -> Result<Vec<String>, AllocError>
+    ensures { IfOk result (λ v. map string_bytes v.items ≡ files_in (rows_of (found_of matches.now))) }
+{
+    let mut files = Vec::new(alloc);
+    let Some(texts) = values_of(matches, "files") else {
+        return Ok(files);
+    };
+    for text in texts {
+        files.push(String::from_str(alloc, text)?)?;
+    }
+    Ok(files)
+}
+
+// What `clap` makes of the words.
+fn parsed<'a>(alloc: Global, words: &'a [String]) -> Result<ArgMatches<'a>, UsageFault>
+    ensures ok { IfOk result (λ m. (fault_of rbac_app (map string_bytes words.entry.now) ≡ [])
+        × (subcommand_rows_of m ≡ subcommand_of rbac_app (map string_bytes words.entry.now))) }
+    ensures err { IfErr result (IsRefusal (map string_bytes words.entry.now)) }
+{
+    match program(alloc)?.try_get_matches_from(words) {
+        Ok(matches) => Ok(matches),
+        Err(error) => match error.kind() {
+            ErrorKind::OutOfMemory => Err(UsageFault::NoMemory),
+            _ => Err(UsageFault::Refused(error)),
+        },
+    }
+}
+
+// What a `can-i` line of these matches does.
+fn action_of(alloc: Global, matches: &ArgMatches<'_>) -> Result<Action, QuestionFault>
+    ensures { MatchResult result
+        (λ a. AcceptsCanI (parts_in (rows_of (found_of matches.now)))
+        × MeansCanI (parts_in (rows_of (found_of matches.now))) a)
+        (RefusesCanI (parts_in (rows_of (found_of matches.now)))) }
+{
+    Action::can_i(alloc, &line_of(matches))
+}
+
+// The subcommand that was met, in the words of a parse's rows.
+fn subcommand_of<'m, 'a>(matches: &'m ArgMatches<'a>) -> Option<(&'a str, &'m ArgMatches<'a>)>
+    ensures { option_map (λ p. (p.0.now, rows_of (found_of p.1.now))) result
+        ≡ subcommand_rows_of matches.now }
+{
+    matches.subcommand()
+}
+
+fn meaning_of(alloc: Global, matches: &ArgMatches<'_>) -> Result<Command, UsageFault>
+    requires { option_map_or (λ p. is_known p.0) (subcommand_rows_of matches.now) false ≡ true }
+    ensures { MatchResult result (Means (subcommand_rows_of matches.now))
+        (IsCauseOf (subcommand_rows_of matches.now)) }
+{
+    match subcommand_of(matches) {
+        Some((_, inner)) => {
+            let action = action_of(alloc, inner)?;
+            let files = files_of(alloc, inner)?;
+            Ok(Command { action, files })
+        }
+        None => unreachable!(),
+    }
+}
+
+/// The command that the words say; the first word is the program's name.
+///
+/// U1 where `clap` refuses the words or help is asked, then U2 and U3.
+pub fn command_of(alloc: Global, words: &[String]) -> Result<Command, UsageFault>
+    ensures { IsAnswer (map string_bytes words.now) result }
+{
+    let matches = parsed(alloc, words)?;
+    meaning_of(alloc, &matches)
+}

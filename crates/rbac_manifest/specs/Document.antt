@@ -1,0 +1,142 @@
+-- The table of a document's refusals, and the object that a document gives.
+use Rattle.std.specs.Prelude.{ℕ, ◌||◌, Bool, true, false, not, List, [], ◌∷◌, codes, Option, Some, None, option_map, option_and_then, unwrap_or, is_none, if◌then◌else◌}
+use Rattle.serde_json.specs.Data.{Data}
+use Rattle.rbac_model.specs.declared.holding.Object.{Object}
+use Rattle.rbac_model.specs.declared.holding.Object.TheVariants as object
+use Rattle.rbac_terms.specs.declared.matching.Rule.{Rule}
+use Rattle.rbac_terms.specs.declared.selecting.Selector.{Selector}
+use Rattle.rbac_terms.specs.declared.granting.RoleRef.{RoleRef}
+use Rattle.rbac_terms.specs.declared.granting.Role.{Role}
+use Rattle.rbac_terms.specs.declared.granting.ClusterRole.{ClusterRole}
+use Rattle.rbac_terms.specs.declared.granting.Binding.{Binding}
+use Rattle.rbac_terms.specs.declared.granting.Subject.{Subject}
+use Rattle.rbac_manifest.specs.Fields.{is_object, is_empty}
+use Rattle.rbac_manifest.specs.Kinds.{kind_at, version_at, kind_of}
+use Rattle.rbac_manifest.specs.Role.{bad_rules, rules_in}
+use Rattle.rbac_manifest.specs.Metadata.{metadata_at}
+use Rattle.rbac_manifest.specs.Label.{aggregation_at}
+use Rattle.rbac_manifest.specs.Binding.{role_ref_at, bad_subjects, subjects_in}
+use Rattle.rbac_manifest.specs.declared.metadata.Metadata.{Metadata}
+use Rattle.rbac_manifest.specs.declared.kind.Kind.{Kind}
+use Rattle.rbac_manifest.specs.declared.kind.Kind.TheVariants as kinds
+use Rattle.rbac_manifest.specs.declared.kind.Implied.{Implied}
+use Rattle.rbac_manifest.specs.declared.fault.Cause.{Cause}
+use Rattle.rbac_manifest.specs.declared.fault.Cause.TheVariants.{NotAnObject, BadVersion, BadMetadata, BadRoleRef, BadSelector}
+
+-- ---- the refusals by number: each row is a condition and its cause, by the kind of the document
+
+-- a condition and its cause
+abbrev pub when : Bool → Cause → Option Cause
+when holds cause = if holds then Some cause else None
+
+-- the first row whose condition holds
+abbrev pub first_of : List (Option Cause) → Option Cause
+first_of [] = None
+first_of (None ∷ rows) = first_of rows
+first_of (Some cause ∷ rows) = Some cause
+
+-- M2: no object, or its kind is missing where none is implied, or isn't a text
+unfoldable pub not_an_object : Implied → Data → Option Cause
+not_an_object implied d = when (not (is_object d) || is_none (kind_at implied d)) NotAnObject
+
+-- M3: the version is missing where the kind needs one and none is implied, isn't a text, or isn't read
+unfoldable pub bad_version : Implied → Data → Option Cause
+bad_version implied d = when (is_none (version_at implied (unwrap_or (kind_at implied d) []) d)) BadVersion
+
+-- the kinds that give an object
+abbrev pub is_object_kind : Kind → Bool
+is_object_kind kinds.Role = true
+is_object_kind kinds.ClusterRole = true
+is_object_kind kinds.RoleBinding = true
+is_object_kind kinds.ClusterRoleBinding = true
+is_object_kind (kinds.List items) = false
+is_object_kind kinds.Other = false
+
+-- M4: the metadata is bad
+abbrev pub bad_metadata : Data → Option Cause
+bad_metadata d = when (is_none (metadata_at d)) BadMetadata
+
+-- the same, of what gives an object
+abbrev pub metadata_row : Kind → Data → Option Cause
+metadata_row kind d = if is_object_kind kind then bad_metadata d else None
+
+-- M5: the first bad rule; only a ClusterRole may be for URLs
+abbrev pub rules_row : Kind → Data → Option Cause
+rules_row kinds.Role d = bad_rules true d
+rules_row kinds.ClusterRole d = bad_rules false d
+rules_row kind d = None
+
+-- M6: the role that a binding names is bad; only a RoleBinding may name a Role
+abbrev pub role_ref_row : Kind → Data → Option Cause
+role_ref_row kinds.RoleBinding d = when (is_none (role_ref_at true d)) BadRoleRef
+role_ref_row kinds.ClusterRoleBinding d = when (is_none (role_ref_at false d)) BadRoleRef
+role_ref_row kind d = None
+
+-- M7: the first bad subject of a binding
+abbrev pub subjects_row : Kind → Data → Option Cause
+subjects_row kinds.RoleBinding d = bad_subjects d
+subjects_row kinds.ClusterRoleBinding d = bad_subjects d
+subjects_row kind d = None
+
+-- M8: the aggregation rule of a ClusterRole is bad
+abbrev pub selector_row : Kind → Data → Option Cause
+selector_row kinds.ClusterRole d = when (is_none (aggregation_at d)) BadSelector
+selector_row kind d = None
+
+-- why a document is refused, if it is: the least number whose condition holds (own)
+unfoldable pub fault : Implied → Data → Option Cause
+fault implied d =
+    let kind = kind_of implied d in
+    first_of (
+    not_an_object implied d
+    ∷ bad_version implied d
+    ∷ metadata_row kind d
+    ∷ rules_row kind d
+    ∷ role_ref_row kind d
+    ∷ subjects_row kind d
+    ∷ selector_row kind d
+    ∷ [])
+
+-- ---- the object that a document gives
+
+-- the namespace of an object, `default` where none is given (own)
+unfoldable pub namespace_or_default : List ℕ → List ℕ
+namespace_or_default namespace = if is_empty namespace then codes "default" else namespace
+
+-- a Role: its namespace, its name and its rules
+unfoldable pub role_in : Data → Option Role
+role_in d = option_map (λ m. record { namespace = namespace_or_default m.namespace; name = m.name; rules = rules_in true d }) (metadata_at d)
+
+-- a ClusterRole with its parts; its namespace isn't used
+abbrev pub cluster_role_from : Metadata → List Rule → Option (List Selector) → ClusterRole
+cluster_role_from m rules a = record { name = m.name; labels = m.labels; rules = rules; aggregation = a }
+
+-- a ClusterRole
+unfoldable pub cluster_role_in : Data → Option ClusterRole
+cluster_role_in d = option_and_then (λ m. option_map (λ a. cluster_role_from m (rules_in false d) a) (aggregation_at d)) (metadata_at d)
+
+-- a binding with its parts; a ClusterRoleBinding has no namespace
+abbrev pub binding_from : Bool → Metadata → RoleRef → List Subject → Binding
+binding_from in_namespace m r ss = record {
+  namespace = if in_namespace then Some (namespace_or_default m.namespace) else None;
+  name = m.name;
+  role = r;
+  subjects = ss;
+}
+
+-- a RoleBinding, or a ClusterRoleBinding where it is in no namespace
+unfoldable pub binding_in : Bool → Data → Option Binding
+binding_in in_namespace d = option_and_then (λ m. option_map (λ r. binding_from in_namespace m r (subjects_in d)) (role_ref_at in_namespace d)) (metadata_at d)
+
+-- the object that a document of this kind gives
+abbrev pub object_in : Kind → Data → Option Object
+object_in kinds.Role d = option_map object.Role (role_in d)
+object_in kinds.ClusterRole d = option_map object.ClusterRole (cluster_role_in d)
+object_in kinds.RoleBinding d = option_map object.Binding (binding_in true d)
+object_in kinds.ClusterRoleBinding d = option_map object.Binding (binding_in false d)
+object_in (kinds.List items) d = None
+object_in kinds.Other d = None
+
+-- the object that a document gives, if it gives one
+unfoldable pub stands : Implied → Data → Option Object
+stands implied d = object_in (kind_of implied d) d

@@ -1,0 +1,77 @@
+-- What a JSON value says in its fields. A field whose value is null counts as missing (own).
+use Rattle.std.specs.Prelude.{ℕ, ◌==◌, Bool, length, List, [], ◌∷◌, map, Option, Some, None, option_map, option_and_then, unwrap_or, is_some, if◌then◌else◌, codes}
+use Rattle.std.specs.List.{list_all}
+use Rattle.serde_json.specs.Data.{Data, null, boolean, number, string, array, object, Items, no_items, item}
+use Rattle.serde_json.specs.Find.{get, as_str, as_array, as_object}
+
+-- a value, unless it is null
+abbrev pub present : Data → Option Data
+present null = None
+present (boolean b) = Some (boolean b)
+present (number n) = Some (number n)
+present (string s) = Some (string s)
+present (array ds) = Some (array ds)
+present (object ms) = Some (object ms)
+
+-- the field of this name, if it is there
+unfoldable pub field : List ℕ → Data → Option Data
+field name d = option_and_then present (get name d)
+
+-- items as a list
+abbrev pub elements : Items → List Data
+elements no_items = []
+elements (item d ds) = d ∷ elements ds
+
+-- the items of a list
+unfoldable pub as_list : Data → Option (List Data)
+as_list d = option_map elements (as_array d)
+
+-- a list that may be missing, and then is empty
+abbrev pub list_or_empty : Option Data → Option (List Data)
+list_or_empty None = Some []
+list_or_empty (Some d) = as_list d
+
+-- the items of the list in a field
+unfoldable pub list_field : List ℕ → Data → Option (List Data)
+list_field name d = list_or_empty (field name d)
+
+-- whether a value is a text
+abbrev pub is_text : Data → Bool
+is_text d = is_some (as_str d)
+
+-- the text that a value is
+abbrev pub text_in : Data → List ℕ
+text_in d = unwrap_or (as_str d) []
+
+-- texts, if each item is one
+unfoldable pub all_texts : List Data → Option (List (List ℕ))
+all_texts ds = if list_all is_text ds then Some (map text_in ds) else None
+
+-- the texts of a field that is a list of texts
+unfoldable pub texts_field : List ℕ → Data → Option (List (List ℕ))
+texts_field name d = option_and_then all_texts (list_field name d)
+
+-- whether a value is an object
+abbrev pub is_object : Data → Bool
+is_object d = is_some (as_object d)
+
+-- whether a list or a text is empty
+abbrev pub is_empty : {A : Type 0} → List A → Bool
+is_empty xs = length xs == 0
+
+-- a text that may be missing, and then is empty
+abbrev pub text_or_empty : Option Data → Option (List ℕ)
+text_or_empty None = Some []
+text_or_empty (Some d) = as_str d
+
+-- the text in a field
+unfoldable pub text_at : List ℕ → Data → Option (List ℕ)
+text_at name d = text_or_empty (field name d)
+
+-- a text, unless it is empty
+abbrev pub non_empty : List ℕ → Option (List ℕ)
+non_empty t = if is_empty t then None else Some t
+
+-- a name: a text that isn't empty
+unfoldable pub name_at : Data → Option (List ℕ)
+name_at d = option_and_then non_empty (text_at (codes "name") d)

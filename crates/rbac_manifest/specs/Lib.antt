@@ -1,0 +1,12 @@
+pub mod Fields
+pub mod Reads
+pub mod Rule
+pub mod Lists
+pub mod Role
+pub mod Label
+pub mod Metadata
+pub mod Binding
+pub mod Kinds
+pub mod Document
+pub mod Walk
+pub mod Load

@@ -1,0 +1,32 @@
+-- A list of items, each of which gives a value or is bad.
+use Rattle.std.specs.Prelude.{ℕ, List, [], ◌∷◌, Option, Some, None, is_none, option_map}
+use Rattle.std.specs.List.{position_from, filter_map}
+use Rattle.serde_json.specs.Data.{Data}
+
+-- the place of the first item that is bad
+unfoldable pub bad_place : {X : Type 0} → (Data → Option X) → ℕ → List Data → Option ℕ
+bad_place read i ds = position_from (λ d. is_none (read d)) i ds
+
+-- what the items give
+unfoldable pub given_by : {X : Type 0} → (Data → Option X) → List Data → List X
+given_by read ds = filter_map read ds
+
+-- the place of the first bad item, or 0 where it is no list
+abbrev pub bad_item : {X : Type 0} → (Data → Option X) → Option (List Data) → Option ℕ
+bad_item read None = Some 0
+bad_item read (Some ds) = bad_place read 0 ds
+
+-- what the items of a list give, nothing where it is no list
+abbrev pub items_given : {X : Type 0} → (Data → Option X) → Option (List Data) → List X
+items_given read None = []
+items_given read (Some ds) = given_by read ds
+
+-- one more, if both are there
+abbrev pub cons_if : {X : Type 0} → Option X → Option (List X) → Option (List X)
+cons_if None rest = None
+cons_if (Some x) rest = option_map (λ xs. x ∷ xs) rest
+
+-- what all items give, if none is bad
+abbrev pub all_at : {X : Type 0} → (Data → Option X) → List Data → Option (List X)
+all_at read [] = Some []
+all_at read (d ∷ ds) = cons_if (read d) (all_at read ds)

@@ -1,0 +1,148 @@
+-- What inputs give, and which document is refused first.
+use Rattle.std.specs.Prelude.{◌≡◌, ◌⊎◌, ◌≤◌, ℕ, ◌+◌, List, [], ◌∷◌, length, codes, Option, Some, None, if◌then◌else◌}
+use Rattle.std.specs.Option.{option_to_list}
+use Rattle.std.specs.List.{flat_map}
+use Rattle.std.specs.Str.{is_utf8}
+use Rattle.serde_json.specs.Data.{Data}
+use Rattle.serde_json.specs.Read.{read}
+use Rattle.rbac_manifest.specs.Fields.{list_field}
+use Rattle.rbac_manifest.specs.Kinds.{kind_of}
+use Rattle.rbac_manifest.specs.Document.{fault, stands, object_in}
+use Rattle.rbac_model.specs.declared.holding.Object.{Object}
+use Rattle.rbac_model.specs.Kept.{AreKept}
+use Rattle.rbac_model.specs.Policies.{Held, PolicyView, IsPolicy, HasTooMany}
+use Rattle.rbac_manifest.specs.declared.kind.Kind.{Kind}
+use Rattle.rbac_manifest.specs.declared.kind.Kind.TheVariants as kinds
+use Rattle.rbac_manifest.specs.declared.kind.Implied.{Implied}
+use Rattle.rbac_manifest.specs.declared.kind.Implied.TheVariants as lists
+use Rattle.rbac_manifest.specs.declared.fault.Cause.{Cause}
+use Rattle.rbac_manifest.specs.declared.fault.Cause.TheVariants.{NotAnObject, NotJson, TooMany}
+use Rattle.rbac_manifest.specs.declared.fault.Refusal.{Refusal}
+use Rattle.rbac_manifest.specs.declared.fault.LoadFault.{LoadFault}
+
+-- ---- one input
+
+-- a refusal of the item at a place, counted from 0
+abbrev pub in_item : ℕ → Cause → Refusal
+in_item place cause = record { item = Some place; cause = cause }
+
+-- a refusal of the whole input
+abbrev pub as_whole : Cause → Refusal
+as_whole cause = record { item = None; cause = cause }
+
+-- a fault of this item, or else what the later ones have
+abbrev pub item_or : ℕ → Option Cause → Option Refusal → Option Refusal
+item_or place None later = later
+item_or place (Some cause) later = Some (in_item place cause)
+
+-- the first item with a fault, counted from a place
+abbrev pub first_refusal : Implied → ℕ → List Data → Option Refusal
+first_refusal implied place [] = None
+first_refusal implied place (d ∷ ds) = item_or place (fault implied d) (first_refusal implied (place + 1) ds)
+
+-- what the items give
+abbrev pub objects_in : Implied → List Data → List Object
+objects_in implied ds = flat_map (λ d. option_to_list (stands implied d)) ds
+
+-- why a list is refused: its items aren't a list (M2), or an item has a fault
+abbrev pub list_refusal : Implied → Option (List Data) → Option Refusal
+list_refusal implied None = Some (as_whole NotAnObject)
+list_refusal implied (Some ds) = first_refusal implied 0 ds
+
+-- what a list gives
+abbrev pub list_objects : Implied → Option (List Data) → List Object
+list_objects implied None = []
+list_objects implied (Some ds) = objects_in implied ds
+
+-- why an input is refused for its items, where it is a list
+abbrev pub items_refusal : Kind → Data → Option Refusal
+items_refusal (kinds.List implied) d = list_refusal implied (list_field (codes "items") d)
+items_refusal kind d = None
+
+-- what an input of this kind gives
+abbrev pub body_objects : Kind → Data → List Object
+body_objects (kinds.List implied) d = list_objects implied (list_field (codes "items") d)
+body_objects kind d = option_to_list (object_in kind d)
+
+-- a fault of the whole input, or else of its items
+abbrev pub whole_or : Option Cause → Option Refusal → Option Refusal
+whole_or None items = items
+whole_or (Some cause) items = Some (as_whole cause)
+
+-- why an input is refused, if it is: for a fault of its own, or of the first item that has one
+unfoldable pub refusal_in : Data → Option Refusal
+refusal_in d = whole_or (fault lists.Nothing d) (items_refusal (kind_of lists.Nothing d) d)
+
+-- the objects of an input
+unfoldable pub input_objects : Data → List Object
+input_objects d = body_objects (kind_of lists.Nothing d) d
+
+-- ---- all inputs
+
+-- the JSON value that bytes spell, as `serde_json` reads it
+unfoldable pub json_in : List ℕ → Option Data
+json_in bytes = if is_utf8 bytes then read bytes else None
+
+-- a refusal in the file at a place, counted from 0
+abbrev pub in_file : ℕ → Refusal → LoadFault
+in_file file r = record { at = Some (record { file = file; item = r.item }); cause = r.cause }
+
+-- why the value of a file is refused; bytes that spell none are M1
+abbrev pub refusal_of : Option Data → Option Refusal
+refusal_of None = Some (as_whole NotJson)
+refusal_of (Some d) = refusal_in d
+
+-- what the value of a file gives
+abbrev pub objects_of : Option Data → List Object
+objects_of None = []
+objects_of (Some d) = input_objects d
+
+-- why a file is refused, if it is
+unfoldable pub file_refusal : List ℕ → Option Refusal
+file_refusal bytes = refusal_of (json_in bytes)
+
+-- what a file gives, in order
+unfoldable pub file_objects : List ℕ → List Object
+file_objects bytes = objects_of (json_in bytes)
+
+-- a fault of this file, or else what the later ones have
+abbrev pub file_or : ℕ → Option Refusal → Option LoadFault → Option LoadFault
+file_or file None later = later
+file_or file (Some r) later = Some (in_file file r)
+
+-- the first fault, with files counted from a place
+abbrev pub fault_from : ℕ → List (List ℕ) → Option LoadFault
+fault_from file [] = None
+fault_from file (bytes ∷ rest) = file_or file (file_refusal bytes) (fault_from (file + 1) rest)
+
+-- the fault of the first document that has one
+abbrev pub document_fault : List (List ℕ) → Option LoadFault
+document_fault inputs = fault_from 0 inputs
+
+-- what all documents give, in order
+abbrev pub given : List (List ℕ) → List Object
+given inputs = flat_map file_objects inputs
+
+-- ---- what is loaded
+
+-- what contracts see of what was loaded
+pub record LoadedView : Type 0 where
+  pub policy : PolicyView
+
+-- every document is accepted, of each kind, namespace and name the last object is kept (own), and the grants
+-- follow from what is kept and are no more than there may be
+pub record IsLoaded (inputs : List (List ℕ)) (l : LoadedView) : Type 0 where
+  pub accepted : document_fault inputs ≡ None
+  pub kept : AreKept (given inputs) l.policy.held
+  pub policy : IsPolicy l.policy
+  pub few : length l.policy.grants ≤ 1000000
+
+-- more grants than there may be, of all inputs together; this fault has no place
+abbrev pub too_many : LoadFault
+too_many = record { at = None; cause = TooMany }
+
+-- the fault of the first document that has one, or else that what is kept gives too many grants
+abbrev pub HasFault : List (List ℕ) → LoadFault → Type 0
+HasFault inputs f =
+    (document_fault inputs ≡ Some f)
+    ⊎ ((document_fault inputs ≡ None) × (f ≡ too_many) × ((held : Held) × AreKept (given inputs) held × HasTooMany held))

@@ -1,0 +1,45 @@
+-- Which rule an object gives, and which is bad (Using RBAC Authorization, Role and ClusterRole).
+use Rattle.std.specs.Prelude.{ℕ, ◌||◌, ◌&&◌, Bool, not, List, [], codes, Option, Some, None, unwrap_or, is_none, if◌then◌else◌}
+use Rattle.serde_json.specs.Data.{Data}
+use Rattle.rbac_manifest.specs.Fields.{texts_field, is_object, is_empty}
+use Rattle.rbac_terms.specs.declared.matching.Rule.{Rule}
+
+-- the texts of a field, none where it is missing
+abbrev pub texts : List ℕ → Data → List (List ℕ)
+texts name d = unwrap_or (texts_field name d) []
+
+-- a field is there and isn't a list of texts
+abbrev pub is_no_texts : List ℕ → Data → Bool
+is_no_texts name d = is_none (texts_field name d)
+
+-- the rule that an object's fields give
+abbrev pub rule_in : Data → Rule
+rule_in d = record {
+  verbs = texts (codes "verbs") d;
+  groups = texts (codes "apiGroups") d;
+  resources = texts (codes "resources") d;
+  resource_names = texts (codes "resourceNames") d;
+  urls = texts (codes "nonResourceURLs") d;
+}
+
+-- some field of a rule has another shape
+abbrev pub has_bad_field : Data → Bool
+has_bad_field d =
+    is_no_texts (codes "verbs") d || is_no_texts (codes "apiGroups") d || is_no_texts (codes "resources") d
+    || is_no_texts (codes "resourceNames") d || is_no_texts (codes "nonResourceURLs") d
+
+-- a rule without verbs, for nothing, for both resources and URLs, or in a Role for URLs
+unfoldable pub is_bad_target : Bool → Rule → Bool
+is_bad_target in_role r =
+    is_empty r.verbs
+    || (is_empty r.urls && (is_empty r.groups || is_empty r.resources))
+    || (not (is_empty r.urls) && (not (is_empty r.groups) || not (is_empty r.resources) || not (is_empty r.resource_names)))
+    || (not (is_empty r.urls) && in_role)
+
+-- no object, a field of another shape, or a bad target
+abbrev pub is_bad_rule : Bool → Data → Bool
+is_bad_rule in_role d = not (is_object d) || has_bad_field d || is_bad_target in_role (rule_in d)
+
+-- the rule, unless it is bad
+unfoldable pub rule_at : Bool → Data → Option Rule
+rule_at in_role d = if is_bad_rule in_role d then None else Some (rule_in d)

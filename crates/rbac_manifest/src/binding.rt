@@ -1,0 +1,71 @@
+//! The role that a binding names.
+
+ghost use Rattle.std.specs.Prelude.{◌≡◌};
+ghost use Rattle.serde_json.specs.View.{view};
+ghost use Rattle.rbac_manifest.specs.Reads.{Reads};
+ghost use Rattle.rbac_manifest.specs.Binding.{is_rbac_group, role_named, role_ref_from, role_ref_at};
+
+use crate::fault::Trouble;
+use crate::fields::{field, name_of, text_field, word_of};
+use rbac_terms::RoleRef;
+use serde_json::Value;
+use std::alloc::Global;
+
+const RBAC_GROUP: &str = "rbac.authorization.k8s.io";
+
+// The group of RBAC, which an empty one stands for.
+#[tactic(auto, unfolding(crate::specs::Binding::is_rbac_group))]
+pub(crate) fn is_rbac_group(group: &str) -> bool
+    ensures { result ≡ is_rbac_group group.now }
+{
+    group.is_empty() || group == RBAC_GROUP
+}
+
+// The reference to a role of this kind, group and name.
+#[tactic(auto, unfolding(crate::specs::Binding::role_named))]
+fn role_named(
+    alloc: Global,
+    in_namespace: bool,
+    kind: &str,
+    group: &str,
+    name: &str,
+) -> Result<RoleRef, Trouble>
+    ensures { Reads result (role_named in_namespace kind.now group.now name.now) }
+{
+    if !is_rbac_group(group) {
+        return Err(Trouble::Shape);
+    }
+    if kind == "ClusterRole" {
+        return Ok(RoleRef::ClusterRole(word_of(alloc, name)?));
+    }
+    if in_namespace && kind == "Role" {
+        return Ok(RoleRef::Role(word_of(alloc, name)?));
+    }
+    Err(Trouble::Shape)
+}
+
+// The reference that an object gives.
+#[tactic(auto, unfolding(crate::specs::Binding::role_ref_from))]
+fn role_ref_from(alloc: Global, value: &Value, in_namespace: bool) -> Result<RoleRef, Trouble>
+    ensures { Reads result (role_ref_from in_namespace (view value.now)) }
+{
+    let kind = text_field(value, "kind").ok_or(Trouble::Shape)?;
+    let group = text_field(value, "apiGroup").ok_or(Trouble::Shape)?;
+    let name = name_of(value).ok_or(Trouble::Shape)?;
+    role_named(alloc, in_namespace, kind, group, name)
+}
+
+// The role that a binding names; a Role only where the binding is in a namespace.
+#[tactic(auto, unfolding(crate::specs::Binding::role_ref_at))]
+pub(crate) fn role_ref_of(
+    alloc: Global,
+    document: &Value,
+    in_namespace: bool,
+) -> Result<RoleRef, Trouble>
+    ensures { Reads result (role_ref_at in_namespace (view document.now)) }
+{
+    match field(document, "roleRef") {
+        Some(reference) if reference.is_object() => role_ref_from(alloc, reference, in_namespace),
+        _ => Err(Trouble::Shape),
+    }
+}

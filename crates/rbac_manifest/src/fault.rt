@@ -1,0 +1,232 @@
+//! Why inputs are refused.
+
+ghost use Rattle.std.specs.Prelude.{◌≡◌, ◌+◌};
+ghost use Rattle.rbac_manifest.specs.declared.fault.Trouble.TheVariants.{Memory};
+ghost use Rattle.rbac_manifest.specs.declared.fault.Cause.TheVariants.{NoMemory};
+ghost use Rattle.rbac_manifest.specs.Reads.{cause_of};
+
+use std::alloc::{AllocError, AllocFailed};
+use std::error::Error;
+use std::fmt;
+
+// Why a value was not read.
+#[derive(Clone, Copy, Debug, Drop)]
+pub(crate) enum Trouble {
+    // It has another shape than the format says.
+    Shape,
+    Memory,
+}
+
+impl From<AllocError> for Trouble {
+    ghost from_gives = { λ _ trouble. trouble ≡ Memory };
+
+    fn from(_: AllocError) -> Self {
+        Trouble::Memory
+    }
+}
+
+impl<T: Drop> From<AllocFailed<T>> for Trouble {
+    ghost from_gives = { λ _ trouble. trouble ≡ Memory };
+
+    fn from(_: AllocFailed<T>) -> Self {
+        Trouble::Memory
+    }
+}
+
+impl Trouble {
+    // This cause where the shape is wrong.
+    pub(crate) fn cause(self, refused: Cause) -> Cause
+        ensures { result ≡ cause_of self refused }
+    {
+        match self {
+            Trouble::Shape => refused,
+            Trouble::Memory => Cause::NoMemory,
+        }
+    }
+}
+
+/// Why a document is refused (own): M1 to M8, M11 and M12. Within a document the least number
+/// stands. Places of rules and subjects count from 0; where the field isn't a list the place is 0.
+#[derive(Clone, Copy, Debug, Drop, PartialEq, Eq)]
+pub enum Cause {
+    /// M1: the bytes of the input aren't JSON.
+    NotJson,
+    /// M2: the document isn't an object that tells its kind, or the items of a list aren't a list.
+    NotAnObject,
+    /// M3: the version is missing, isn't a text, or is one of the RBAC group that isn't read.
+    BadVersion,
+    /// M4: the metadata has no name, or another shape.
+    BadMetadata,
+    /// M5: the rule at this place is the first bad one.
+    BadRule(usize),
+    /// M6: the role that a binding names is missing, of a wrong kind, or has another shape.
+    BadRoleRef,
+    /// M7: the subject at this place is the first bad one.
+    BadSubject(usize),
+    /// M8: the selectors of an aggregated role have another shape.
+    BadSelector,
+    /// M11: there are more than a million grants.
+    TooMany,
+    /// M12: memory was refused.
+    NoMemory,
+}
+
+impl From<AllocError> for Cause {
+    ghost from_gives = { λ _ cause. cause ≡ NoMemory };
+
+    fn from(_: AllocError) -> Self {
+        Cause::NoMemory
+    }
+}
+
+impl<T: Drop> From<AllocFailed<T>> for Cause {
+    ghost from_gives = { λ _ cause. cause ≡ NoMemory };
+
+    fn from(_: AllocFailed<T>) -> Self {
+        Cause::NoMemory
+    }
+}
+
+impl fmt::Display for Cause {
+    fn fmt<W: fmt::Write>(&self, f: &mut fmt::Formatter<W>) -> fmt::Result {
+        match self {
+            Cause::NotJson => write!(f, "M1 not JSON"),
+            Cause::NotAnObject => write!(f, "M2 not an object"),
+            Cause::BadVersion => write!(f, "M3 bad version"),
+            Cause::BadMetadata => write!(f, "M4 bad metadata"),
+            Cause::BadRule(place) => write!(f, "M5 bad rule {}", from_one(*place)),
+            Cause::BadRoleRef => write!(f, "M6 bad roleRef"),
+            Cause::BadSubject(place) => write!(f, "M7 bad subject {}", from_one(*place)),
+            Cause::BadSelector => write!(f, "M8 bad selector"),
+            Cause::TooMany => write!(f, "M11 too many grants"),
+            Cause::NoMemory => write!(f, "out of memory"),
+        }
+    }
+}
+
+// A place as it is printed.
+fn from_one(place: usize) -> u128
+    ensures { result ≡ place + 1 }
+{
+    place as u128 + 1
+}
+
+// Why an input is refused, and which item of it, where it is a list.
+#[derive(Drop)]
+pub(crate) struct Refusal {
+    pub item: Option<usize>,
+    pub cause: Cause,
+}
+
+impl Refusal {
+    ghost use Rattle.rbac_manifest.specs.Load.{as_whole, in_item};
+
+    // A refusal of the whole input.
+    pub(crate) fn whole(cause: Cause) -> Refusal
+        ensures { result ≡ as_whole cause }
+    {
+        Refusal { item: None, cause }
+    }
+
+    // A refusal of the item at a place.
+    pub(crate) fn item(place: usize, cause: Cause) -> Refusal
+        ensures { result ≡ in_item place cause }
+    {
+        Refusal {
+            item: Some(place),
+            cause,
+        }
+    }
+}
+
+impl From<AllocError> for Refusal {
+    ghost from_gives = { λ _ refusal. refusal.cause ≡ NoMemory };
+
+    fn from(_: AllocError) -> Self {
+        Refusal::whole(Cause::NoMemory)
+    }
+}
+
+/// The place of a document, from 0: its file, and its item where the file holds a list. A fault of
+/// the list itself has no item.
+#[derive(Clone, Copy, Debug, Drop, PartialEq, Eq)]
+pub struct At {
+    /// The file, in the order of the inputs.
+    pub file: usize,
+    /// The item of the list.
+    pub item: Option<usize>,
+}
+
+impl fmt::Display for At {
+    fn fmt<W: fmt::Write>(&self, f: &mut fmt::Formatter<W>) -> fmt::Result {
+        write!(f, "file {}", from_one(self.file))?;
+        match self.item {
+            Some(item) => write!(f, " item {}", from_one(item)),
+            None => Ok(()),
+        }
+    }
+}
+
+/// Why inputs are refused: where, and for which cause. Too many grants and want of memory have no
+/// place. It prints as `file F item I: CAUSE`, all numbers from 1.
+#[derive(Clone, Copy, Debug, Drop, PartialEq, Eq)]
+pub struct LoadFault {
+    /// The document that is refused.
+    pub at: Option<At>,
+    /// Why it is refused.
+    pub cause: Cause,
+}
+
+impl LoadFault {
+    ghost use Rattle.std.specs.Prelude.{◌≢◌, None};
+    ghost use Rattle.rbac_manifest.specs.Load.{in_file, too_many};
+
+    // A refusal of the whole file, or of an item of it. Want of memory has no place.
+    pub(crate) fn in_file(file: usize, refusal: Refusal) -> LoadFault
+        ensures cause { result.cause ≡ refusal.cause }
+        ensures place { refusal.cause ≢ NoMemory → result ≡ in_file file refusal }
+        ensures memory { refusal.cause ≡ NoMemory → result.at ≡ None }
+    {
+        match refusal.cause {
+            Cause::NoMemory => LoadFault::no_memory(),
+            cause => LoadFault {
+                at: Some(At {
+                    file,
+                    item: refusal.item,
+                }),
+                cause,
+            },
+        }
+    }
+
+    // More grants than there may be, of all inputs together.
+    pub(crate) fn too_many() -> LoadFault
+        ensures { result ≡ too_many }
+    {
+        LoadFault {
+            at: None,
+            cause: Cause::TooMany,
+        }
+    }
+
+    // Memory was refused, somewhere.
+    pub(crate) fn no_memory() -> LoadFault
+        ensures { result ≡ record { at = None; cause = NoMemory } }
+    {
+        LoadFault {
+            at: None,
+            cause: Cause::NoMemory,
+        }
+    }
+}
+
+impl fmt::Display for LoadFault {
+    fn fmt<W: fmt::Write>(&self, f: &mut fmt::Formatter<W>) -> fmt::Result {
+        if let Some(at) = self.at {
+            write!(f, "{at}: ")?;
+        }
+        write!(f, "{}", self.cause)
+    }
+}
+
+impl Error for LoadFault {}

@@ -1,0 +1,95 @@
+//! The fields of a JSON value. A field whose value is null counts as missing.
+
+ghost use Rattle.std.specs.Prelude.{◌≡◌, map, option_map, IfOk};
+ghost use Rattle.serde_json.specs.View.{view};
+ghost use Rattle.rbac_manifest.specs.Fields.{field, as_list, list_field, texts_field, all_texts, text_at, name_at};
+ghost use Rattle.rbac_manifest.specs.Reads.{Reads};
+
+use crate::fault::Trouble;
+use rbac_terms::{Word, Words};
+use serde_json::Value;
+use std::alloc::{AllocError, Global};
+
+// The member of this name, unless it is null.
+#[tactic(auto, unfolding(crate::specs::Fields::field))]
+pub(crate) fn field<'v>(value: &'v Value, name: &str) -> Option<&'v Value>
+    ensures { option_map (λ v. view v.now) result ≡ field name.now (view value.now) }
+{
+    match value.get(name) {
+        Some(Value::Null) => None,
+        found => found,
+    }
+}
+
+// The items of a list.
+#[tactic(auto, using(crate::proofs::Elements::elements_of_items), unfolding(crate::specs::Fields::as_list))]
+pub(crate) fn as_list(value: &Value) -> Option<&[Value]>
+    ensures { option_map (λ vs. map view vs.now) result ≡ as_list (view value.now) }
+{
+    match value.as_array() {
+        Some(items) => Some(items.as_slice()),
+        None => None,
+    }
+}
+
+// The items of the list in a field; a missing one is empty.
+#[tactic(auto, unfolding(crate::specs::Fields::list_field))]
+pub(crate) fn list_field<'v>(value: &'v Value, name: &str) -> Option<&'v [Value]>
+    ensures { option_map (λ vs. map view vs.now) result ≡ list_field name.now (view value.now) }
+{
+    match field(value, name) {
+        Some(list) => as_list(list),
+        None => Some(&[]),
+    }
+}
+
+// The texts that all of these values are.
+#[tactic(auto, unfolding(crate::specs::Fields::all_texts))]
+fn words_of(alloc: Global, values: &[Value]) -> Result<Words, Trouble>
+    ensures { Reads result (all_texts (map view values.now)) }
+{
+    let mut words = Vec::new(alloc);
+    for value in values {
+        let text = value.as_str().ok_or(Trouble::Shape)?;
+        words.push(word_of(alloc, text)?)?;
+    }
+    Ok(Words::from_vec(words))
+}
+
+// The texts of a field that is a list of texts; a missing one is empty.
+#[tactic(auto, unfolding(crate::specs::Fields::texts_field))]
+pub(crate) fn words_field(alloc: Global, value: &Value, name: &str) -> Result<Words, Trouble>
+    ensures { Reads result (texts_field name.now (view value.now)) }
+{
+    let values = list_field(value, name).ok_or(Trouble::Shape)?;
+    words_of(alloc, values)
+}
+
+// The text in a field; a missing one is empty.
+#[tactic(auto, unfolding(crate::specs::Fields::text_at))]
+pub(crate) fn text_field<'v>(value: &'v Value, name: &str) -> Option<&'v str>
+    ensures { option_map (λ s. s.now) result ≡ text_at name.now (view value.now) }
+{
+    match field(value, name) {
+        Some(text) => text.as_str(),
+        None => Some(""),
+    }
+}
+
+// The field `name`, a text that isn't empty.
+#[tactic(auto, unfolding(crate::specs::Fields::name_at))]
+pub(crate) fn name_of(value: &Value) -> Option<&str>
+    ensures { option_map (λ s. s.now) result ≡ name_at (view value.now) }
+{
+    match text_field(value, "name") {
+        Some(name) if !name.is_empty() => Some(name),
+        _ => None,
+    }
+}
+
+// A copy of a text.
+pub(crate) fn word_of(alloc: Global, text: &str) -> Result<Word, AllocError>
+    ensures { IfOk result (λ w. w ≡ text.now) }
+{
+    Word::from_slice(alloc, text.as_bytes())
+}

@@ -1,0 +1,17 @@
+//! Laws of loading: what follows from the definitions alone. The functions do little or nothing;
+//! their contracts are the laws.
+
+ghost use Rattle.std.specs.Prelude.{List, ℕ};
+ghost use Rattle.rbac_manifest.specs.declared.fault.LoadFault.{LoadFault};
+ghost use Rattle.rbac_manifest.specs.Load.{LoadedView, IsLoaded, HasFault};
+
+use rbac_model::{grants_are_one_list, kept_objects_are_one};
+
+/// Inputs that are loaded have no fault. So whether `load` accepts inputs is told by them, want of
+/// memory aside (own).
+pub fn loaded_inputs_have_no_fault()
+    ensures { (inputs : List (List ℕ)) (l : LoadedView) (f : LoadFault) → IsLoaded inputs l → HasFault inputs f → ⊥ }
+{
+    kept_objects_are_one();
+    grants_are_one_list();
+}

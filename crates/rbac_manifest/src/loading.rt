@@ -1,0 +1,119 @@
+//! Inputs, read to objects, and the policy that follows from what they give.
+
+ghost use Rattle.std.specs.Prelude.{◌≡◌, ◌≢◌, ◌≤◌, ◌++◌, length, OnOk, IfOk, IfErr, None, Some};
+ghost use Rattle.serde_json.specs.View.{view};
+ghost use Rattle.rbac_manifest.specs.declared.fault.Cause.TheVariants.{NotJson, NoMemory};
+ghost use Rattle.rbac_manifest.specs.Load.{json_in, in_file, file_refusal, file_objects, document_fault, given, too_many, IsLoaded, HasFault};
+ghost use Rattle.rbac_model.specs.Kept.{AreKept};
+ghost use Rattle.rbac_model.specs.Policies.{Held, IsPolicy, HasTooMany};
+
+use crate::fault::{Cause, LoadFault, Refusal};
+use crate::items::input_into;
+use rbac_model::{Object, Objects, Policy, ResolveFault};
+use rbac_streams::Input;
+use serde_json::Value;
+use std::alloc::Global;
+use std::marker::Model;
+
+/// What inputs give, once all of them are accepted.
+#[derive(Drop)]
+pub struct Loaded {
+    policy: Policy,
+}
+
+impl Model for Loaded {
+    ghost use Rattle.rbac_manifest.specs.Load.{LoadedView};
+
+    ghost Value = { LoadedView };
+
+    ghost view = { λ l. record { policy = l.policy } };
+}
+
+impl Loaded {
+    /// The policy of the objects that are kept.
+    pub fn policy(&self) -> &Policy
+        ensures { result.now ≡ self.now.policy }
+    {
+        &self.policy
+    }
+
+    /// The objects that are kept: for each kind, namespace and name the last that was given.
+    pub fn objects(&self) -> &Objects
+        ensures { result.now ≡ self.now.policy.held }
+    {
+        self.policy.objects()
+    }
+}
+
+// The JSON value that bytes spell.
+#[tactic(auto, using(crate::proofs::Json::json_in_text, crate::proofs::Json::json_in_none))]
+fn parse(alloc: Global, bytes: &[u8]) -> Result<Value, Cause>
+    ensures value { IfOk result (λ v. json_in bytes.now ≡ Some (view v)) }
+    ensures refused { IfErr result (λ e. e ≢ NoMemory → (e ≡ NotJson) × (json_in bytes.now ≡ None)) }
+{
+    match Value::from_slice(alloc, bytes) {
+        Ok(value) => Ok(value),
+        Err(error) if error.is_memory() => Err(Cause::NoMemory),
+        Err(_) => Err(Cause::NotJson),
+    }
+}
+
+// Adds the objects of one file, whose JSON value is let go at the end.
+#[tactic(auto, unfolding(crate::specs::Load::file_refusal, crate::specs::Load::file_objects))]
+fn file_into(alloc: Global, bytes: &[u8], objects: &mut Vec<Object>) -> Result<(), Refusal>
+    ensures sound { OnOk result (file_refusal bytes.now ≡ None) }
+    ensures objects { OnOk result (objects.new.items ≡ objects.old.items ++ file_objects bytes.now) }
+    ensures refusal { IfErr result (λ e. e.cause ≢ NoMemory → file_refusal bytes.now ≡ Some e) }
+{
+    let value = parse(alloc, bytes).map_err(Refusal::whole)?;
+    input_into(alloc, &value, objects)
+}
+
+// The objects of all inputs, in order. The first document with a fault decides.
+fn objects_of(alloc: Global, inputs: &[Input]) -> Result<Vec<Object>, LoadFault>
+    ensures sound { OnOk result (document_fault inputs.now ≡ None) }
+    ensures objects { IfOk result (λ os. os.items ≡ given inputs.now) }
+    ensures fault { IfErr result (λ e. e.cause ≢ NoMemory → document_fault inputs.now ≡ Some e) }
+    ensures memory { IfErr result (λ e. e.cause ≡ NoMemory → e.at ≡ None) }
+{
+    let mut objects = Vec::new(alloc);
+    for (file, input) in inputs.iter().enumerate() {
+        file_into(alloc, input.as_bytes(), &mut objects).map_err(|refusal| LoadFault::in_file(
+            file, refusal,
+        ))?;
+    }
+    Ok(objects)
+}
+
+// The policy of these objects, of each kind, namespace and name the last.
+fn policy_of(alloc: Global, objects: Vec<Object>) -> Result<Policy, LoadFault>
+    ensures kept { IfOk result (λ p. AreKept objects.items p.held) }
+    ensures policy { IfOk result (λ p. IsPolicy p) }
+    ensures few { IfOk result (λ p. length p.grants ≤ 1000000) }
+    ensures many { IfErr result (λ e. e.cause ≢ NoMemory → (e ≡ too_many) × ((held : Held) × AreKept objects.items held × HasTooMany held)) }
+    ensures memory { IfErr result (λ e. e.cause ≡ NoMemory → e.at ≡ None) }
+{
+    let held = Objects::from_given(alloc, objects).map_err(|_| LoadFault::no_memory())?;
+    match Policy::resolve(alloc, held) {
+        Ok(policy) => Ok(policy),
+        Err(ResolveFault::TooMany) => Err(LoadFault::too_many()),
+        Err(ResolveFault::NoMemory) => Err(LoadFault::no_memory()),
+    }
+}
+
+/// Reads inputs, in order, to the policy of what they give: of each kind, namespace and name the
+/// last object (own). Documents of other kinds are passed over.
+///
+/// # Errors
+///
+/// The fault of the first document that has one, within it the least number; after all documents
+/// M11 where there are over 1,000,000 grants. M12 where memory was refused.
+pub fn load(alloc: Global, inputs: &[Input]) -> Result<Loaded, LoadFault>
+    ensures ok { IfOk result (IsLoaded inputs.now) }
+    ensures fault { IfErr result (λ e. e.cause ≢ NoMemory → HasFault inputs.now e) }
+    ensures memory { IfErr result (λ e. e.cause ≡ NoMemory → e.at ≡ None) }
+{
+    let objects = objects_of(alloc, inputs)?;
+    let policy = policy_of(alloc, objects)?;
+    Ok(Loaded { policy })
+}

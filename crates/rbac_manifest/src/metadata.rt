@@ -1,0 +1,50 @@
+//! The name, namespace and labels of an object.
+
+ghost use Rattle.std.specs.Prelude.{◌≡◌};
+ghost use Rattle.serde_json.specs.View.{view};
+ghost use Rattle.rbac_manifest.specs.Reads.{Reads};
+ghost use Rattle.rbac_manifest.specs.Metadata.{metadata_from, metadata_at};
+
+use crate::fault::Trouble;
+use crate::fields::{field, name_of, text_field, word_of};
+use crate::label::labels_field;
+use rbac_terms::{Labels, Word};
+use serde_json::Value;
+use std::alloc::Global;
+
+// The name of an object, its namespace, which is empty where it is missing, and its labels.
+#[derive(Drop)]
+pub(crate) struct Metadata {
+    pub name: Word,
+    pub namespace: Word,
+    pub labels: Labels,
+}
+
+// The metadata that an object gives.
+#[tactic(auto, unfolding(crate::specs::Metadata::metadata_from))]
+fn metadata_from(alloc: Global, metadata: &Value) -> Result<Metadata, Trouble>
+    ensures { Reads result (metadata_from (view metadata.now)) }
+{
+    if !metadata.is_object() {
+        return Err(Trouble::Shape);
+    }
+    let labels = labels_field(alloc, metadata, "labels")?;
+    let name = name_of(metadata).ok_or(Trouble::Shape)?;
+    let namespace = text_field(metadata, "namespace").ok_or(Trouble::Shape)?;
+    Ok(Metadata {
+        name: word_of(alloc, name)?,
+        namespace: word_of(alloc, namespace)?,
+        labels,
+    })
+}
+
+// The metadata of a document.
+#[tactic(auto, unfolding(crate::specs::Metadata::metadata_at))]
+pub(crate) fn metadata_of(alloc: Global, document: &Value) -> Result<Metadata, Trouble>
+    ensures { Reads result (metadata_at (view document.now)) }
+{
+    match field(document, "metadata") {
+        Some(metadata) => metadata_from(alloc, metadata),
+        None => Err(Trouble::Shape),
+    }
+}

@@ -1,0 +1,81 @@
+//! The rules of a role.
+
+ghost use Rattle.std.specs.Prelude.{◌≡◌, map, option_map};
+ghost use Rattle.serde_json.specs.View.{view};
+ghost use Rattle.rbac_manifest.specs.Reads.{Reads, Loads};
+ghost use Rattle.rbac_manifest.specs.Lists.{bad_place, given_by};
+ghost use Rattle.rbac_manifest.specs.Role.{bad_rules, rules_in};
+ghost use Rattle.rbac_manifest.specs.declared.fault.Cause.TheVariants.{BadRule};
+ghost use Rattle.rbac_manifest.specs.Rule.{rule_at, is_bad_target};
+
+use crate::fault::{Cause, Trouble};
+use crate::fields::{list_field, words_field};
+use rbac_terms::{Rule, Rules};
+use serde_json::Value;
+use std::alloc::Global;
+
+// A rule is for resources or for URLs, and in a role not for URLs.
+#[tactic(auto, unfolding(crate::specs::Rule::is_bad_target))]
+fn is_bad_target(rule: &Rule, in_role: bool) -> bool
+    ensures { result ≡ is_bad_target in_role rule.now }
+{
+    if rule.verbs.as_slice().is_empty() {
+        return true;
+    }
+    if rule.urls.as_slice().is_empty() {
+        rule.groups.as_slice().is_empty() || rule.resources.as_slice().is_empty()
+    } else {
+        in_role
+            || !rule.groups.as_slice().is_empty()
+            || !rule.resources.as_slice().is_empty()
+            || !rule.resource_names.as_slice().is_empty()
+    }
+}
+
+// The rule that an object gives.
+#[tactic(auto, unfolding(crate::specs::Rule::rule_at))]
+fn rule_of(alloc: Global, value: &Value, in_role: bool) -> Result<Rule, Trouble>
+    ensures { Reads result (rule_at in_role (view value.now)) }
+{
+    if !value.is_object() {
+        return Err(Trouble::Shape);
+    }
+    let rule = Rule {
+        verbs: words_field(alloc, value, "verbs")?,
+        groups: words_field(alloc, value, "apiGroups")?,
+        resources: words_field(alloc, value, "resources")?,
+        resource_names: words_field(alloc, value, "resourceNames")?,
+        urls: words_field(alloc, value, "nonResourceURLs")?,
+    };
+    if is_bad_target(&rule, in_role) {
+        return Err(Trouble::Shape);
+    }
+    Ok(rule)
+}
+
+// The rules that all items give. The first bad one decides.
+#[tactic(auto, unfolding(crate::specs::Lists::bad_place, crate::specs::Lists::given_by))]
+fn rules_from(alloc: Global, values: &[Value], in_role: bool) -> Result<Rules, Cause>
+    ensures { Loads result (option_map BadRule (bad_place (rule_at in_role) 0 (map view values.now)))
+        (given_by (rule_at in_role) (map view values.now)) }
+{
+    let mut rules = Vec::new(alloc);
+    for (place, value) in values.iter().enumerate() {
+        let rule = rule_of(alloc, value, in_role).map_err(|trouble| trouble.cause(Cause::BadRule(
+            place,
+        )))?;
+        rules.push(rule)?;
+    }
+    Ok(Rules::from_vec(rules))
+}
+
+// The rules of a role.
+#[tactic(auto, unfolding(crate::specs::Role::bad_rules, crate::specs::Role::rules_in))]
+pub(crate) fn rules_of(alloc: Global, document: &Value, in_role: bool) -> Result<Rules, Cause>
+    ensures { Loads result (bad_rules in_role (view document.now)) (rules_in in_role (view document.now)) }
+{
+    match list_field(document, "rules") {
+        Some(values) => rules_from(alloc, values, in_role),
+        None => Err(Cause::BadRule(0)),
+    }
+}

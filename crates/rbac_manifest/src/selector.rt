@@ -1,0 +1,131 @@
+//! The selectors of an aggregated role.
+
+ghost use Rattle.std.specs.Prelude.{◌≡◌, map};
+ghost use Rattle.serde_json.specs.View.{view};
+ghost use Rattle.rbac_manifest.specs.Reads.{Reads};
+ghost use Rattle.rbac_manifest.specs.Lists.{all_at};
+ghost use Rattle.rbac_manifest.specs.Label.{operator_named, requirement_from, requirement_at, selector_from, selector_at, selectors_from, aggregation_at};
+
+use crate::fault::Trouble;
+use crate::fields::{field, list_field, text_field, word_of, words_field};
+use crate::label::labels_field;
+use rbac_terms::{Requirement, Requirements, SelectOp, Selector, Selectors, Words};
+use serde_json::Value;
+use std::alloc::Global;
+
+// The operator of this name, with as many values as it takes.
+#[tactic(auto, unfolding(crate::specs::Label::operator_named))]
+fn operator_named(name: &str, values: &Words) -> Option<SelectOp>
+    ensures { result ≡ operator_named name.now values.now }
+{
+    if name == "In" && !values.as_slice().is_empty() {
+        Some(SelectOp::OneOf)
+    } else if name == "NotIn" && !values.as_slice().is_empty() {
+        Some(SelectOp::NoneOf)
+    } else if name == "Exists" && values.as_slice().is_empty() {
+        Some(SelectOp::Present)
+    } else if name == "DoesNotExist" && values.as_slice().is_empty() {
+        Some(SelectOp::Absent)
+    } else {
+        None
+    }
+}
+
+// The requirement that an object gives.
+#[tactic(auto, unfolding(crate::specs::Label::requirement_from))]
+fn requirement_from(alloc: Global, value: &Value) -> Result<Requirement, Trouble>
+    ensures { Reads result (requirement_from (view value.now)) }
+{
+    let key = text_field(value, "key").ok_or(Trouble::Shape)?;
+    if key.is_empty() {
+        return Err(Trouble::Shape);
+    }
+    let name = text_field(value, "operator").ok_or(Trouble::Shape)?;
+    let values = words_field(alloc, value, "values")?;
+    let op = operator_named(name, &values).ok_or(Trouble::Shape)?;
+    let key = word_of(alloc, key)?;
+    Ok(Requirement { key, op, values })
+}
+
+// The requirement that an item gives.
+#[tactic(auto, unfolding(crate::specs::Label::requirement_at))]
+fn requirement_of(alloc: Global, value: &Value) -> Result<Requirement, Trouble>
+    ensures { Reads result (requirement_at (view value.now)) }
+{
+    if value.is_object() {
+        requirement_from(alloc, value)
+    } else {
+        Err(Trouble::Shape)
+    }
+}
+
+// The requirements that all items give.
+fn requirements_of(alloc: Global, values: &[Value]) -> Result<Requirements, Trouble>
+    ensures { Reads result (all_at requirement_at (map view values.now)) }
+{
+    let mut requirements = Vec::new(alloc);
+    for value in values {
+        requirements.push(requirement_of(alloc, value)?)?;
+    }
+    Ok(Requirements::from_vec(requirements))
+}
+
+// The selector that an object gives.
+#[tactic(auto, unfolding(crate::specs::Label::selector_from))]
+fn selector_from(alloc: Global, value: &Value) -> Result<Selector, Trouble>
+    ensures { Reads result (selector_from (view value.now)) }
+{
+    let labels = labels_field(alloc, value, "matchLabels")?;
+    let expressions = list_field(value, "matchExpressions").ok_or(Trouble::Shape)?;
+    let requirements = requirements_of(alloc, expressions)?;
+    Ok(Selector {
+        labels,
+        requirements,
+    })
+}
+
+// The selector that an item gives.
+#[tactic(auto, unfolding(crate::specs::Label::selector_at))]
+fn selector_of(alloc: Global, value: &Value) -> Result<Selector, Trouble>
+    ensures { Reads result (selector_at (view value.now)) }
+{
+    if value.is_object() {
+        selector_from(alloc, value)
+    } else {
+        Err(Trouble::Shape)
+    }
+}
+
+// The selectors that all items give.
+fn selectors_in(alloc: Global, values: &[Value]) -> Result<Selectors, Trouble>
+    ensures { Reads result (all_at selector_at (map view values.now)) }
+{
+    let mut selectors = Vec::new(alloc);
+    for value in values {
+        selectors.push(selector_of(alloc, value)?)?;
+    }
+    Ok(Selectors::from_vec(selectors))
+}
+
+// The selectors of an aggregation rule.
+#[tactic(auto, unfolding(crate::specs::Label::selectors_from))]
+fn selectors_from(alloc: Global, value: &Value) -> Result<Selectors, Trouble>
+    ensures { Reads result (selectors_from (view value.now)) }
+{
+    if !value.is_object() {
+        return Err(Trouble::Shape);
+    }
+    let selectors = list_field(value, "clusterRoleSelectors").ok_or(Trouble::Shape)?;
+    selectors_in(alloc, selectors)
+}
+
+// The selectors of a cluster role, if it is aggregated.
+#[tactic(auto, unfolding(crate::specs::Label::aggregation_at))]
+pub(crate) fn aggregation_of(alloc: Global, document: &Value) -> Result<Option<Selectors>, Trouble>
+    ensures { Reads result (aggregation_at (view document.now)) }
+{
+    match field(document, "aggregationRule") {
+        Some(rule) => Ok(Some(selectors_from(alloc, rule)?)),
+        None => Ok(None),
+    }
+}

@@ -1,0 +1,102 @@
+//! The subjects of a binding.
+
+ghost use Rattle.std.specs.Prelude.{◌≡◌, map, option_map, IfOk};
+ghost use Rattle.serde_json.specs.View.{view};
+ghost use Rattle.rbac_manifest.specs.Fields.{non_empty};
+ghost use Rattle.rbac_manifest.specs.Reads.{Reads, Loads};
+ghost use Rattle.rbac_manifest.specs.Lists.{bad_place, given_by};
+ghost use Rattle.rbac_manifest.specs.Binding.{subject_named, subject_from, subject_at, bad_subjects, subjects_in};
+ghost use Rattle.rbac_manifest.specs.declared.fault.Cause.TheVariants.{BadSubject};
+
+use crate::binding::is_rbac_group;
+use crate::fault::{Cause, Trouble};
+use crate::fields::{list_field, name_of, text_field, word_of};
+use rbac_terms::{Subject, Subjects, Word};
+use serde_json::Value;
+use std::alloc::{AllocError, Global};
+
+// A text, unless it is empty.
+fn word_unless_empty(alloc: Global, text: &str) -> Result<Option<Word>, AllocError>
+    ensures { IfOk result (λ w. w ≡ non_empty text.now) }
+{
+    if text.is_empty() {
+        return Ok(None);
+    }
+    Ok(Some(word_of(alloc, text)?))
+}
+
+// The subject of this kind, group, name and namespace.
+#[tactic(auto, unfolding(crate::specs::Binding::subject_named))]
+fn subject_named(
+    alloc: Global,
+    kind: &str,
+    group: &str,
+    name: &str,
+    namespace: &str,
+) -> Result<Subject, Trouble>
+    ensures { Reads result (subject_named kind.now group.now name.now namespace.now) }
+{
+    if kind == "User" && is_rbac_group(group) {
+        return Ok(Subject::User(word_of(alloc, name)?));
+    }
+    if kind == "Group" && is_rbac_group(group) {
+        return Ok(Subject::Group(word_of(alloc, name)?));
+    }
+    if kind == "ServiceAccount" && group.is_empty() {
+        let namespace = word_unless_empty(alloc, namespace)?;
+        let name = word_of(alloc, name)?;
+        return Ok(Subject::Account { namespace, name });
+    }
+    Err(Trouble::Shape)
+}
+
+// The subject that an object gives.
+#[tactic(auto, unfolding(crate::specs::Binding::subject_from))]
+fn subject_from(alloc: Global, value: &Value) -> Result<Subject, Trouble>
+    ensures { Reads result (subject_from (view value.now)) }
+{
+    let kind = text_field(value, "kind").ok_or(Trouble::Shape)?;
+    let group = text_field(value, "apiGroup").ok_or(Trouble::Shape)?;
+    let name = name_of(value).ok_or(Trouble::Shape)?;
+    let namespace = text_field(value, "namespace").ok_or(Trouble::Shape)?;
+    subject_named(alloc, kind, group, name, namespace)
+}
+
+// The subject that an item gives.
+#[tactic(auto, unfolding(crate::specs::Binding::subject_at))]
+fn subject_of(alloc: Global, value: &Value) -> Result<Subject, Trouble>
+    ensures { Reads result (subject_at (view value.now)) }
+{
+    if value.is_object() {
+        subject_from(alloc, value)
+    } else {
+        Err(Trouble::Shape)
+    }
+}
+
+// The subjects that all items give. The first bad one decides.
+#[tactic(auto, unfolding(crate::specs::Lists::bad_place, crate::specs::Lists::given_by))]
+fn subjects_from(alloc: Global, values: &[Value]) -> Result<Subjects, Cause>
+    ensures { Loads result (option_map BadSubject (bad_place subject_at 0 (map view values.now)))
+        (given_by subject_at (map view values.now)) }
+{
+    let mut subjects = Vec::new(alloc);
+    for (place, value) in values.iter().enumerate() {
+        let subject = subject_of(alloc, value).map_err(|trouble| trouble.cause(Cause::BadSubject(
+            place,
+        )))?;
+        subjects.push(subject)?;
+    }
+    Ok(Subjects::from_vec(subjects))
+}
+
+// The subjects of a binding.
+#[tactic(auto, unfolding(crate::specs::Binding::bad_subjects, crate::specs::Binding::subjects_in))]
+pub(crate) fn subjects_of(alloc: Global, document: &Value) -> Result<Subjects, Cause>
+    ensures { Loads result (bad_subjects (view document.now)) (subjects_in (view document.now)) }
+{
+    match list_field(document, "subjects") {
+        Some(values) => subjects_from(alloc, values),
+        None => Err(Cause::BadSubject(0)),
+    }
+}

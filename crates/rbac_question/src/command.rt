@@ -1,0 +1,38 @@
+//! What a command line says.
+
+use crate::asked::Asked;
+use rbac_terms::{Principal, Word};
+
+/// Whether a verb may be used on what is asked for, in a namespace (own, after `kubectl auth can-i`).
+#[derive(Clone, Drop)]
+pub struct Question {
+    /// What `-n` names, or `default`; empty with `-A`.
+    pub namespace: Word,
+    /// Never empty where a line was accepted.
+    pub verb: Word,
+    /// What TARGET and `--subresource` ask for.
+    pub asked: Asked,
+}
+
+/// What to do.
+#[derive(Clone, Drop)]
+pub enum Action {
+    /// Answers yes or no, whether the principal is allowed what is asked.
+    CanI {
+        /// The user of `--as`, with the groups of `--groups`.
+        principal: Principal,
+        /// Whether the answer is the exit status alone.
+        quiet: bool,
+        /// What is asked.
+        question: Question,
+    },
+}
+
+/// A command line that was accepted.
+#[derive(Drop)]
+pub struct Command {
+    /// What to do with the files.
+    pub action: Action,
+    /// The names of the files to read, in order; without any, standard input is read.
+    pub files: Vec<String>,
+}

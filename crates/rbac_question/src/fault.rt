@@ -1,0 +1,55 @@
+//! Why the texts of a line ask nothing.
+
+ghost use Rattle.std.specs.Prelude.{◌≡◌};
+
+use std::alloc::{AllocError, AllocFailed};
+use std::error::Error;
+use std::fmt;
+
+/// Why the texts of a line ask nothing (own).
+#[derive(Debug, Drop, Clone, Copy, PartialEq, Eq)]
+pub enum QuestionFault {
+    /// U2: USER, VERB or TARGET is empty, or nothing stands before the dot of a type word.
+    EmptyWord,
+    /// U3: a subresource is asked for with a URL.
+    UrlSubresource,
+    /// Memory was refused.
+    NoMemory,
+}
+
+impl From<AllocError> for QuestionFault {
+    ghost use Rattle.rbac_question.specs.declared.fault.QuestionFault.TheVariants.{NoMemory};
+
+    ghost from_gives = { λ _ fault. fault ≡ NoMemory };
+
+    fn from(_: AllocError) -> Self {
+        QuestionFault::NoMemory
+    }
+}
+
+impl<T: Drop> From<AllocFailed<T>> for QuestionFault {
+    ghost use Rattle.rbac_question.specs.declared.fault.QuestionFault.TheVariants.{NoMemory};
+
+    ghost from_gives = { λ _ fault. fault ≡ NoMemory };
+
+    fn from(_: AllocFailed<T>) -> Self {
+        QuestionFault::NoMemory
+    }
+}
+
+impl fmt::Display for QuestionFault {
+    ghost use Rattle.std.specs.Prelude.{Some};
+    ghost use Rattle.rbac_question.specs.Faults.{fault_text};
+
+    ghost output = { λ fault. Some (fault_text fault) };
+
+    fn fmt<W: fmt::Write>(&self, f: &mut fmt::Formatter<W>) -> fmt::Result {
+        match self {
+            QuestionFault::EmptyWord => write!(f, "U2 empty word"),
+            QuestionFault::UrlSubresource => write!(f, "U3 subresource with a URL"),
+            QuestionFault::NoMemory => write!(f, "out of memory"),
+        }
+    }
+}
+
+impl Error for QuestionFault {}

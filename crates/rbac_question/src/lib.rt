@@ -1,0 +1,13 @@
+//! What a command line asks, apart from how its words are told apart: the command, its question, and
+//! what the texts of its words mean. `rbac_command` reads the words and hands these names on.
+#![tactic(auto)]
+
+mod asked;
+mod command;
+mod fault;
+mod line;
+
+pub use asked::Asked;
+pub use command::{Action, Command, Question};
+pub use fault::QuestionFault;
+pub use line::{CanILine, groups_from, namespace_from};

@@ -1,0 +1,135 @@
+//! What the texts of a line mean.
+
+ghost use Rattle.std.specs.Prelude.{◌≡◌, ◌≢◌, [], map, IfOk, MatchResult};
+ghost use Rattle.rbac_terms.specs.Principals.{AsUser};
+ghost use Rattle.rbac_question.specs.Lines.{comma, parts_between, groups_in, namespace_meant, IsQuestion, MeansCanI, AcceptsQuestion, RefusesQuestion, AcceptsCanI, RefusesCanI, RefusesUser};
+
+use crate::asked::Asked;
+use crate::command::{Action, Question};
+use crate::fault::QuestionFault;
+use rbac_terms::{ModelFault, Principal, Word, Words};
+use std::alloc::{AllocError, Global};
+use std::marker::Model;
+
+/// The parts of a `can-i` line; the text of an option that isn't given is empty.
+#[derive(Drop)]
+pub struct CanILine<'a> {
+    /// The name after `--as`.
+    pub user: &'a str,
+    /// The names after `--groups`, not yet split.
+    pub groups: &'a str,
+    /// Whether `-A` stands.
+    pub all_namespaces: bool,
+    /// The name after `-n`.
+    pub namespace: &'a str,
+    /// The name after `--subresource`.
+    pub subresource: &'a str,
+    /// Whether `-q` stands.
+    pub quiet: bool,
+    /// VERB.
+    pub verb: &'a str,
+    /// TARGET.
+    pub target: &'a str,
+}
+
+impl<'a> Model for CanILine<'a> {
+    ghost use Rattle.rbac_question.specs.Lines.{CanIParts};
+
+    ghost Value = { CanIParts };
+
+    ghost view = { λ l. record {
+      user = l.user.now;
+      groups = l.groups.now;
+      all_namespaces = l.all_namespaces;
+      namespace = l.namespace.now;
+      subresource = l.subresource.now;
+      quiet = l.quiet;
+      verb = l.verb.now;
+      target = l.target.now;
+    } };
+}
+
+// The parts between commas.
+fn parts_of<'a>(alloc: Global, text: &'a str) -> Result<Vec<&'a str>, AllocError>
+    ensures { IfOk result (λ v. map (λ part. part.now) v.items ≡ parts_between comma text.now) }
+{
+    text.split(',').collect(alloc)
+}
+
+/// The groups of `--groups`: the parts between commas that are not empty, in order (own).
+pub fn groups_from(alloc: Global, text: &str) -> Result<Words, AllocError>
+    ensures { IfOk result (λ groups. groups ≡ groups_in text.now) }
+{
+    let mut groups = Vec::new(alloc);
+    for part in parts_of(alloc, text)?.as_slice() {
+        if !part.is_empty() {
+            groups.push(Word::from_slice(alloc, part.as_bytes())?)?;
+        }
+    }
+    Ok(Words::from_vec(groups))
+}
+
+/// The namespace of `-A` and `-n` (own): with `-A` the empty one, else the one given, and `default`
+/// where none is.
+pub fn namespace_from(alloc: Global, all: bool, given: &str) -> Result<Word, AllocError>
+    ensures { IfOk result (λ namespace. namespace ≡ namespace_meant all given.now) }
+{
+    if all {
+        return Ok(Word::new(alloc));
+    }
+    if given.is_empty() {
+        return Word::from_slice(alloc, b"default".as_slice());
+    }
+    Word::from_slice(alloc, given.as_bytes())
+}
+
+// The user that asks, with the groups given.
+fn principal_of(alloc: Global, user: &str, groups: &str) -> Result<Principal, QuestionFault>
+    ensures { MatchResult result
+        (λ principal. (principal ≡ AsUser user.now (groups_in groups.now)) × (user.now ≢ []))
+        (RefusesUser user.now) }
+{
+    let name = Word::from_slice(alloc, user.as_bytes())?;
+    let given = groups_from(alloc, groups)?;
+    match Principal::user(alloc, &name, &given) {
+        Ok(principal) => Ok(principal),
+        Err(ModelFault::EmptyName) => Err(QuestionFault::EmptyWord),
+        Err(ModelFault::NoMemory) => Err(QuestionFault::NoMemory),
+        Err(ModelFault::BadTarget) => unreachable!(),
+    }
+}
+
+// The question that a line asks, whoever asks it.
+fn question_of(alloc: Global, line: &CanILine<'_>) -> Result<Question, QuestionFault>
+    ensures { MatchResult result (λ question. AcceptsQuestion line.now × IsQuestion line.now question)
+        (RefusesQuestion line.now) }
+{
+    if line.verb.is_empty() {
+        return Err(QuestionFault::EmptyWord);
+    }
+    let asked = Asked::from_target(alloc, line.target, line.subresource)?;
+    Ok(Question {
+        namespace: namespace_from(alloc, line.all_namespaces, line.namespace)?,
+        verb: Word::from_slice(alloc, line.verb.as_bytes())?,
+        asked,
+    })
+}
+
+impl Action {
+    /// What a `can-i` line means.
+    ///
+    /// U2 where USER, VERB or TARGET is empty, or TARGET begins with `.`; else U3 where a URL has a
+    /// subresource.
+    pub fn can_i(alloc: Global, line: &CanILine<'_>) -> Result<Self, QuestionFault>
+        ensures { MatchResult result (λ action. AcceptsCanI line.now × MeansCanI line.now action)
+            (RefusesCanI line.now) }
+    {
+        let principal = principal_of(alloc, line.user, line.groups)?;
+        let question = question_of(alloc, line)?;
+        Ok(Action::CanI {
+            principal,
+            quiet: line.quiet,
+            question,
+        })
+    }
+}

@@ -1,0 +1,19 @@
+-- What contracts see of a reader, of a writer and of text on its way.
+use Rattle.std.specs.Prelude.{ℕ, Bool, List}
+
+-- a reader, whether a read of it failed, and how many reads there were
+pub record SourceView (R : Type 0) : Type 0 where
+  pub reader : R
+  pub has_failed : Bool
+  pub reads : ℕ
+
+-- a writer, whether a write to it failed, and how many bytes it took
+pub record SinkView (W : Type 0) : Type 0 where
+  pub writer : W
+  pub has_failed : Bool
+  pub taken : ℕ
+
+-- text that no sink was handed yet, and how many bytes of the text before it a sink took
+pub record PageView : Type 0 where
+  pub pending : List ℕ
+  pub written : ℕ

@@ -1,0 +1,12 @@
+//! A reader and a writer that stay failed, and reading an input whole.
+#![tactic(auto)]
+
+mod input;
+mod page;
+mod sink;
+mod source;
+
+pub use input::Input;
+pub use page::{Page, PrintFault};
+pub use sink::{Failed, Sink};
+pub use source::{InputFault, MOST_BYTES, Source, read_file, read_input};

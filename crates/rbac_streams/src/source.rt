@@ -1,0 +1,150 @@
+//! A reader that stays failed, and reading an input whole.
+
+ghost use Rattle.std.specs.Prelude.{◌≡◌, ℕ, ◌+◌, ◌<◌, ◌≤◌, List, length, take, true, false, IfOk, OnErr, IsErrOf};
+ghost use Rattle.std.specs.Io.KnownBytes.{Consumes, IsAtEnd, Keeps};
+ghost use Rattle.rbac_streams.specs.Given.{is_read_fault};
+ghost use Rattle.rbac_streams.specs.Taken.{counted};
+
+use crate::input::Input;
+use crate::sink::Failed;
+use std::alloc::Global;
+use std::error::Error;
+use std::io::Read;
+use std::marker::Model;
+use std::rt::Files;
+use std::{fmt, fs};
+
+/// How many bytes an input may have: 64 MiB (own).
+pub const MOST_BYTES: usize = 67108864;
+
+/// A reader that isn't called again once a read of it failed, with the number of reads.
+///
+/// An interruption is such a failure too (own).
+#[derive(Drop)]
+pub struct Source<R> {
+    reader: R,
+    has_failed: bool,
+    reads: u128,
+}
+
+impl<R> Model for Source<R> {
+    ghost use Rattle.rbac_streams.specs.Streams.{SourceView};
+
+    ghost Value = { SourceView R };
+
+    ghost view = { λ s. record { reader = s.reader; has_failed = s.has_failed; reads = s.reads } };
+}
+
+/// Why an input couldn't be read.
+#[derive(Clone, Copy, Debug, PartialEq, Eq)]
+pub enum InputFault {
+    /// I1: a read failed, or the file couldn't be opened.
+    ReadFault,
+    /// I2: more than [`MOST_BYTES`] came.
+    TooLong,
+    /// I3: memory was refused.
+    NoMemory,
+}
+
+impl<R: Read + Drop> Source<R> {
+    /// A reader that hasn't failed and wasn't read yet.
+    pub fn new(reader: R) -> Source<R>
+        ensures { result ≡ record { reader = reader; has_failed = false; reads = 0 } }
+    {
+        Source {
+            reader,
+            has_failed: false,
+            reads: 0,
+        }
+    }
+
+    /// Whether a read failed.
+    pub fn failed(&self) -> bool
+        ensures { result ≡ self.now.has_failed }
+    {
+        self.has_failed
+    }
+
+    /// Reads once, into the front of the room, and says how many bytes: none only at the end.
+    ///
+    /// Where the reader has failed, it isn't called, and nothing changes.
+    pub fn read(&mut self, room: &mut [u8]) -> Result<usize, Failed>
+        requires { 0 < length room.old }
+        ensures ok { IfOk result (λ n. (n ≤ length room.new)
+            × Consumes (R.remaining self.old.reader) (R.remaining self.new.reader) (take n room.new)
+            × (n ≡ 0 → IsAtEnd (R.remaining self.new.reader)) × (self.new.has_failed ≡ false)) }
+        ensures err { OnErr result (Keeps (R.remaining self.old.reader) (R.remaining self.new.reader)
+            × (self.new.has_failed ≡ true)) }
+        ensures reads { self.old.has_failed ≡ false → self.new.reads ≡ counted self.old.reads 1 }
+        ensures stays { self.old.has_failed ≡ true
+            → (result ≡ Err record {}) × (self.new ≡ self.old) × (room.new ≡ room.old) }
+    {
+        if self.has_failed {
+            return Err(Failed);
+        }
+        self.reads = self.reads.saturating_add(1);
+        match self.reader.read(room) {
+            Ok(n) => Ok(n),
+            Err(_) => {
+                self.has_failed = true;
+                Err(Failed)
+            }
+        }
+    }
+}
+
+/// Reads all there is, at most [`MOST_BYTES`], by at most 67,108,865 reads.
+///
+/// I1 where a read failed, I2 where more bytes came, I3 where memory was refused.
+pub fn read_input<R: Read + Drop>(
+    alloc: Global,
+    source: &mut Source<R>,
+) -> Result<Input, InputFault>
+    requires { source.old.has_failed ≡ false }
+    ensures ok { IfOk result (λ input. (length input ≤ MOST_BYTES)
+        × Consumes (R.remaining source.old.reader) (R.remaining source.new.reader) input
+        × IsAtEnd (R.remaining source.new.reader)) }
+    ensures failed { source.new.has_failed ≡ is_read_fault result }
+    ensures long { IsErrOf result InputFault.TooLong → (bytes : List ℕ) × (MOST_BYTES < length bytes)
+        × Consumes (R.remaining source.old.reader) (R.remaining source.new.reader) bytes }
+    ensures reads { source.new.reads ≤ source.old.reads + 67108865 }
+{
+    let mut chunk = [0u8; 65536];
+    let mut bytes = Vec::new(alloc);
+    'whole: loop {
+        match source.read(&mut chunk) {
+            Err(Failed) => return Err(InputFault::ReadFault),
+            Ok(0) => return Ok(Input::from_bytes(bytes)),
+            Ok(n) => {
+                if n > MOST_BYTES - bytes.len() {
+                    return Err(InputFault::TooLong);
+                }
+                if bytes.extend_from_slice(&chunk[..n]).is_err() {
+                    return Err(InputFault::NoMemory);
+                }
+            }
+        }
+    }
+}
+
+/// Reads the file at `path` whole, as [`read_input`] does; I1 also where it can't be opened.
+pub fn read_file<R: Files>(rt: &R, alloc: Global, path: &str) -> Result<Input, InputFault>
+    ensures { IfOk result (λ input. length input ≤ MOST_BYTES) }
+{
+    match fs::open(rt, path) {
+        Ok(file) => read_input(alloc, &mut Source::new(file)),
+        Err(_) => Err(InputFault::ReadFault),
+    }
+}
+
+impl fmt::Display for InputFault {
+    fn fmt<W: fmt::Write>(&self, f: &mut fmt::Formatter<W>) -> fmt::Result {
+        match self {
+            InputFault::ReadFault => write!(f, "I1 read fault"),
+            InputFault::TooLong => write!(f, "I2 too long"),
+            InputFault::NoMemory => write!(f, "out of memory"),
+        }
+    }
+}
+
+impl Error for InputFault {}

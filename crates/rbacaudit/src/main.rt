@@ -1,0 +1,102 @@
+//! `rbacaudit`: answers questions about exported Kubernetes roles.
+//!
+//! Reads the command line, then each FILE in order or standard input, runs the command to standard
+//! output, and tells a fault on standard error. The status is 0, or 1 for `no`, or 2 for a fault.
+#![tactic(auto)]
+
+use rbac_cli::{
+    Input, InputFault, RunFault, Sink, Source, Status, UsageFault, command_of, read_file,
+    read_input, run,
+};
+use std::process::ExitCode;
+use std::{env, fmt, io};
+
+// Why no answer is told.
+#[derive(Drop)]
+enum Fault {
+    // The words of the command line couldn't be had.
+    Words(io::Error),
+    Usage(UsageFault),
+    // Of the input at this place, from 0.
+    Input { place: usize, fault: InputFault },
+    Run(RunFault),
+}
+
+impl fmt::Display for Fault {
+    fn fmt<W: fmt::Write>(&self, f: &mut fmt::Formatter<W>) -> fmt::Result {
+        match self {
+            Fault::Words(error) => write!(f, "{error}"),
+            Fault::Usage(fault) => write!(f, "{fault}"),
+            Fault::Input {
+                fault: InputFault::NoMemory,
+                ..
+            } => write!(f, "{}", InputFault::NoMemory),
+            Fault::Input { place, fault } => write!(f, "file {}: {fault}", *place as u128 + 1),
+            Fault::Run(fault) => write!(f, "{fault}"),
+        }
+    }
+}
+
+fn main(rt: HostRuntime) -> ExitCode {
+    match audit(&rt) {
+        Ok(Status::Zero) => ExitCode::SUCCESS,
+        Ok(Status::One) => ExitCode::from(1),
+        Err(Fault::Usage(UsageFault::Refused(error))) => {
+            let printed = error.print(&rt);
+            if error.use_stderr() || printed.is_err() {
+                ExitCode::from(2)
+            } else {
+                ExitCode::SUCCESS
+            }
+        }
+        Err(fault) => {
+            // A fault that can't be told has its status all the same.
+            let _ = eprintln!(&rt; "rbacaudit: {fault}");
+            ExitCode::from(2)
+        }
+    }
+}
+
+fn audit(rt: &HostRuntime) -> Result<Status, Fault> {
+    let alloc = rt.alloc();
+    let words = words_of(rt).map_err(Fault::Words)?;
+    let command = command_of(alloc, words.as_slice()).map_err(Fault::Usage)?;
+    let inputs = inputs_of(rt, command.files.as_slice())?;
+    let mut sink = Sink::new(rt.stdout());
+    run(alloc, &command, inputs.as_slice(), &mut sink).map_err(Fault::Run)
+}
+
+fn words_of(rt: &HostRuntime) -> io::Result<Vec<String>> {
+    let words: Vec<String> = env::args(rt)?.collect(rt.alloc())?;
+    Ok(words)
+}
+
+// The inputs of a command: its files, or standard input where it names none.
+fn inputs_of(rt: &HostRuntime, files: &[String]) -> Result<Vec<Input>, Fault> {
+    let mut inputs = Vec::new(rt.alloc());
+    if files.is_empty() {
+        add(
+            &mut inputs,
+            read_input(rt.alloc(), &mut Source::new(rt.stdin())),
+        )?;
+    }
+    for path in files {
+        add(&mut inputs, read_file(rt, rt.alloc(), path.as_str()))?;
+    }
+    Ok(inputs)
+}
+
+// Adds an input that was read, in its place.
+fn add(inputs: &mut Vec<Input>, read: Result<Input, InputFault>) -> Result<(), Fault> {
+    let place = inputs.len();
+    match read {
+        Ok(input) => match inputs.push(input) {
+            Ok(()) => Ok(()),
+            Err(_) => Err(Fault::Input {
+                place,
+                fault: InputFault::NoMemory,
+            }),
+        },
+        Err(fault) => Err(Fault::Input { place, fault }),
+    }
+}

@@ -1,0 +1,156 @@
+"""Tests of the built program: what only a process can show.
+
+Texts and statuses on the real streams, files that can't be read, full disks, inputs at the limits, and every
+`console` block of the documents: a line `$ COMMAND` is run in examples/, and what follows is what it must print.
+The last line is `N passed, M failed`.
+"""
+
+import json
+import os
+import re
+import subprocess
+import sys
+import tempfile
+
+TOP = os.path.dirname(os.path.dirname(os.path.abspath(__file__)))
+PROGRAM = os.path.join(TOP, 'crates/rbacaudit/out/rbacaudit')
+V1 = 'rbac.authorization.k8s.io/v1'
+MOST_BYTES = 67_108_864
+results = []
+
+
+def told(name, well, said=''):
+    results.append(well)
+    print(('ok   ' if well else 'FAIL ') + name + ('' if well else ': ' + said))
+
+
+def run(words, given=b'', **how):
+    return subprocess.run([PROGRAM, *words], input=given, stdout=how.get('stdout', subprocess.PIPE),
+                          stderr=subprocess.PIPE, timeout=120)
+
+
+def expect(name, words, status, out=b'', err=b'', given=b''):
+    ended = run(words, given)
+    got = (ended.returncode, ended.stdout, ended.stderr)
+    told(name, got == (status, out, err), 'got %r' % (got,))
+
+
+def role(namespace, name, rules):
+    return {'apiVersion': V1, 'kind': 'Role', 'metadata': {'namespace': namespace, 'name': name}, 'rules': rules}
+
+
+def cluster_role(name, rules):
+    return {'apiVersion': V1, 'kind': 'ClusterRole', 'metadata': {'name': name}, 'rules': rules}
+
+
+def binding(kind, name, role_kind, role_name, namespace=None):
+    metadata = {'name': name}
+    if namespace is not None:
+        metadata['namespace'] = namespace
+    return {'apiVersion': V1, 'kind': kind, 'metadata': metadata,
+            'roleRef': {'kind': role_kind, 'name': role_name}, 'subjects': [{'kind': 'User', 'name': 'alice'}]}
+
+
+def export(*items):
+    return json.dumps({'apiVersion': 'v1', 'kind': 'List', 'items': items}).encode()
+
+
+PODS = {'verbs': ['get'], 'apiGroups': [''], 'resources': ['pods']}
+ALICE_GETS_PODS = ['can-i', '--as', 'alice', 'get', 'pods']
+BOUND = binding('RoleBinding', 'b', 'Role', 'r', 'default')
+GRANTED = export(role('default', 'r', [PODS]), BOUND)
+
+
+def streams():
+    """Standard input, files in their order, statuses, and faults on standard error alone."""
+    expect('yes from standard input', ALICE_GETS_PODS, 0, b'yes\n', given=GRANTED)
+    expect('no has status 1', ALICE_GETS_PODS, 1, b'no\n', given=export())
+    expect('a bad document has status 2', ALICE_GETS_PODS, 2, err=b'rbacaudit: file 1: M1 not JSON\n', given=b'')
+    expect('an empty word has status 2', ['can-i', '--as', 'alice', 'get', '.apps'], 2,
+           err=b'rbacaudit: U2 empty word\n')
+    expect('a subresource of a URL has status 2',
+           ['can-i', '--as', 'alice', '--subresource', 'log', 'get', '/healthz'], 2,
+           err=b'rbacaudit: U3 subresource with a URL\n')
+    with tempfile.TemporaryDirectory() as room:
+        def put(name, text):
+            path = os.path.join(room, name)
+            with open(path, 'wb') as file:
+                file.write(text)
+            return path
+
+        roles = put('roles.json', json.dumps({'apiVersion': V1, 'kind': 'RoleList', 'items': [
+            {'metadata': {'name': 'r'}, 'rules': [PODS]}]}).encode())
+        bindings = put('bindings.json', export(BOUND))
+        missing = os.path.join(room, 'missing.json')
+        expect('two files are one export', ALICE_GETS_PODS + [roles, bindings], 0, b'yes\n')
+        expect('a missing file', ALICE_GETS_PODS + [missing], 2, err=b'rbacaudit: file 1: I1 read fault\n')
+        expect('the first fault of the files stands', ALICE_GETS_PODS + [roles, missing, missing], 2,
+               err=b'rbacaudit: file 2: I1 read fault\n')
+        expect('a folder is no file', ALICE_GETS_PODS + [room], 2, err=b'rbacaudit: file 1: I1 read fault\n')
+        expect('the file of a bad document', ALICE_GETS_PODS + [roles, put('bad.json', b'[]')], 2,
+               err=b'rbacaudit: file 2: M2 not an object\n')
+        least = b'{"apiVersion":"v1","kind":"List"}'
+        full = put('full.json', least + b' ' * (MOST_BYTES - len(least)))
+        expect('the longest input is read', ALICE_GETS_PODS + [full], 1, b'no\n')
+        with open(full, 'ab') as file:
+            file.write(b' ')
+        expect('a byte more is refused', ALICE_GETS_PODS + [full], 2, err=b'rbacaudit: file 1: I2 too long\n')
+
+
+def help_and_usage():
+    """Help on standard output with status 0; a refused line on standard error with status 2."""
+    for words in (['--help'], ['can-i', '--help']):
+        ended = run(words)
+        told('%s is on standard output' % ' '.join(words),
+             ended.returncode == 0 and b'can-i' in ended.stdout and not ended.stderr, repr(ended))
+    options = run(['can-i', '--help']).stdout
+    for option in (b'--as', b'--groups', b'-n', b'-A', b'--subresource', b'-q', b'VERB', b'TARGET', b'FILE'):
+        told('help names %s' % option.decode(), option in options, repr(options))
+    for words in ([], ['can-i'], ['can-i', 'get', 'pods'], ['who-knows'], ['can-i', '--as', 'alice', '--why', 'get']):
+        ended = run(words)
+        told('refused: %s' % (' '.join(words) or 'no words'),
+             ended.returncode == 2 and not ended.stdout and b'Usage' in ended.stderr, repr(ended))
+
+
+def full_disk():
+    with open('/dev/full', 'wb') as full:
+        ended = run(ALICE_GETS_PODS, GRANTED, stdout=full)
+    told('a full disk', (ended.returncode, ended.stderr) == (2, b'rbacaudit: write failed after 0 bytes\n'), repr(ended))
+
+
+def limits():
+    """A million grants, and one binding more."""
+    many = [cluster_role('r', [PODS] * 1000)]
+    many += [binding('ClusterRoleBinding', 'b%04d' % i, 'ClusterRole', 'r') for i in range(1001)]
+    expect('1,000 rules by 1,000 bindings', ALICE_GETS_PODS, 0, b'yes\n', given=export(*many[:-1]))
+    expect('1,000 rules by 1,001 bindings', ALICE_GETS_PODS, 2, err=b'rbacaudit: M11 too many grants\n',
+           given=export(*many))
+
+
+def transcripts():
+    """Each console block of the documents."""
+    documents = [os.path.join(TOP, 'README.md')]
+    documents += sorted(os.path.join(TOP, 'docs', name) for name in os.listdir(os.path.join(TOP, 'docs')))
+    environment = dict(os.environ, PATH=os.path.dirname(PROGRAM) + os.pathsep + os.environ['PATH'])
+    for path in documents:
+        with open(path, encoding='utf-8') as file:
+            blocks = re.findall(r'^```console\n(.*?)^```', file.read(), re.S | re.M)
+        for block in blocks:
+            for part in re.split(r'^\$ ', block, flags=re.M)[1:]:
+                command, _, wanted = part.partition('\n')
+                ended = subprocess.run(['bash', '-c', command], cwd=os.path.join(TOP, 'examples'), env=environment,
+                                       stdout=subprocess.PIPE, stderr=subprocess.STDOUT, timeout=60)
+                told('%s: %s' % (os.path.basename(path), command), ended.stdout.decode() == wanted,
+                     'got %r' % ended.stdout.decode())
+
+
+if not os.path.isfile(PROGRAM):
+    told('the program is built', False, 'no file %s' % os.path.relpath(PROGRAM, TOP))
+else:
+    streams()
+    help_and_usage()
+    full_disk()
+    limits()
+    transcripts()
+print('%d passed, %d failed' % (results.count(True), results.count(False)))
+sys.exit(0 if all(results) else 1)
