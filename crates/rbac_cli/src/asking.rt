@@ -1,11 +1,10 @@
 //! What a question asks for.
 
 ghost use Rattle.std.specs.Prelude.{◌≡◌, ℕ, ◌<◌, ◌≢◌, length, slice_index, Contains, IfOk, MatchOption, codes};
-ghost use Rattle.std.specs.List.{position_or_len};
 ghost use Rattle.rbac_terms.specs.Targets.{Url};
 ghost use Rattle.rbac_terms.specs.Text.{BeginsWith};
 ghost use Rattle.rbac_question.specs.Asked.{ForType, IsTypeWord};
-ghost use Rattle.rbac_cli.specs.Meant.{is_dot, group_word, resource_word, target_meant, with_subresource};
+ghost use Rattle.rbac_cli.specs.Meant.{dot, group_word, resource_word, target_meant, with_subresource};
 
 use rbac_question::Asked;
 use rbac_terms::{Target, Word};
@@ -63,9 +62,9 @@ fn resource_and_group(word: &[u8]) -> (&[u8], &[u8])
 }
 
 fn first_dot(word: &[u8]) -> Option<usize>
-    ensures { MatchOption result (¬ Contains word.now 46)
-        (λ i. (i < length word.now) × (slice_index word.now i ≡ 46)
-        × ((k : ℕ) → k < i → slice_index word.now k ≢ 46)) }
+    ensures { MatchOption result (¬ Contains word.now dot)
+        (λ i. (i < length word.now) × (slice_index word.now i ≡ dot)
+        × ((k : ℕ) → k < i → slice_index word.now k ≢ dot)) }
 {
     word.iter().position(|b| *b == b'.')
 }

@@ -36,10 +36,7 @@ pub fn run<W: Write + Drop>(
             _ => return Err(RunFault::Load(fault)),
         },
     };
-    match write_answer(alloc, loaded.policy(), &command.action, sink, &mut page) {
-        Ok(status) => Ok(status),
-        Err(fault) => Err(fault),
-    }
+    write_answer(alloc, loaded.policy(), &command.action, sink, &mut page)
 }
 
 // Writes the answer of an action over a policy, from an empty page on.

@@ -1,6 +1,6 @@
 //! Text on its way to a sink, handed on in large pieces.
 
-ghost use Rattle.std.specs.Prelude.{◌≡◌, List, ℕ, [], ◌≤◌, ◌^◌, ◌<◌, true, false, OnOk, OnErr, IsErrOf};
+ghost use Rattle.std.specs.Prelude.{◌≡◌, List, ℕ, [], true, false, OnOk, OnErr, IsErrOf};
 ghost use Rattle.rbac_streams.specs.Streams.{SinkView};
 ghost use Rattle.rbac_streams.specs.Taken.{Took, Printed, Prints, Stopped, StopsIn};
 
@@ -38,13 +38,13 @@ pub enum PrintFault {
 }
 
 impl Page {
-    /// An empty page for text that begins at this sink; takes no memory.
-    pub fn start<W: Write + Drop>(alloc: Global, sink: &Sink<W>) -> Page
-        ensures printed { Printed W.contents sink.now sink.now result [] }
-        ensures took { Took W.contents sink.now sink.now [] }
+    /// An empty page for text that begins at this sink; takes no memory. The sink is named so that
+    /// what is printed counts from here.
+    pub fn start<W: Write + Drop>(alloc: Global, _sink: &Sink<W>) -> Page
+        ensures printed { Printed W.contents _sink.now _sink.now result [] }
+        ensures took { Took W.contents _sink.now _sink.now [] }
         ensures written { result ≡ record { pending = []; written = 0 } }
     {
-        let _sink = sink;
         Page {
             pending: Vec::new(alloc),
             written: 0,

@@ -1,0 +1,3 @@
+mod Least
+mod Meaning
+mod Scoping

@@ -1,0 +1,31 @@
+-- The catalogue, and which of its resources are outside all namespaces.
+use Rattle.std.specs.Prelude.{◌≡◌, ◌⊎◌, List, Any, Bool, IsTrue}
+use Rattle.rbac_terms.specs.Text.{Text, slash, IsCutAtFirst}
+use Rattle.rbac_catalogue.specs.declared.entry.Entry.{Entry}
+
+-- the entries of all API resource lists given, in order, and whether there was such a list, be it without entries
+pub record CatalogueView : Type 0 where
+  pub is_given : Bool
+  pub entries : List Entry
+
+-- an entry is about the resource of that group and full text
+abbrev pub IsAbout : Text → Text → Entry → Type 0
+IsAbout group text e = (e.group ≡ group) × (e.name ≡ text)
+
+-- some entry, of whatever version, is about the resource
+abbrev pub IsListed : List Entry → Text → Text → Type 0
+IsListed entries group text = Any (IsAbout group text) entries
+
+-- a resource is namespaced where any of its versions is (own)
+abbrev pub IsNamespaced : List Entry → Text → Text → Type 0
+IsNamespaced entries group text = Any (λ e. IsAbout group text e × IsTrue e.namespaced) entries
+
+-- a resource that is listed, and not namespaced
+abbrev pub IsClusterScoped : List Entry → Text → Text → Type 0
+IsClusterScoped entries group text = IsListed entries group text × (¬ IsNamespaced entries group text)
+
+-- a resource text that isn't listed is as what stands before its first slash; one of which nothing is listed isn't cluster-only (own)
+unfoldable pub IsClusterOnly : List Entry → Text → Text → Type 0
+IsClusterOnly entries group text =
+    IsClusterScoped entries group text
+    ⊎ ((¬ IsListed entries group text) × ((resource subresource : Text) × IsCutAtFirst text slash resource subresource × IsClusterScoped entries group resource))

@@ -1,0 +1,89 @@
+//! The catalogue that API resource lists make up.
+
+ghost use Rattle.std.specs.Prelude.{◌≡◌, ◌++◌, [], IfOk, OnOk, OnErr, IsTrue, ◌↔◌, true, false};
+ghost use Rattle.rbac_catalogue.specs.Lookups.{IsFound, IsOnlyFound};
+ghost use Rattle.rbac_catalogue.specs.Catalogue.{IsClusterOnly};
+
+use crate::entry::Entry;
+use crate::lookup::{Found, resource_meant};
+use crate::scope::is_cluster_only;
+use rbac_terms::Word;
+use std::alloc::{AllocError, Global};
+use std::marker::Model;
+
+/// What all API resource lists together tell of the resources of a cluster. Entries of one group
+/// and name, of several versions, are taken as one resource.
+#[derive(Drop)]
+pub struct Catalogue {
+    is_given: bool,
+    entries: Vec<Entry>,
+}
+
+impl Model for Catalogue {
+    ghost use Rattle.rbac_catalogue.specs.Catalogue.{CatalogueView};
+
+    ghost Value = { CatalogueView };
+
+    ghost view = { λ c. record { is_given = c.is_given; entries = c.entries.items } };
+}
+
+impl Catalogue {
+    /// The catalogue of no lists, which takes no memory.
+    pub fn new(alloc: Global) -> Self
+        ensures { result ≡ record { is_given = false; entries = [] } }
+    {
+        Catalogue {
+            is_given: false,
+            entries: Vec::new(alloc),
+        }
+    }
+
+    /// Adds the entries of an API resource list, of which there may be none. Where memory is
+    /// refused the catalogue is as before.
+    pub fn give(&mut self, mut entries: Vec<Entry>) -> Result<(), AllocError>
+        ensures ok { OnOk result (self.new ≡ record { is_given = true; entries = self.old.entries ++ entries.items }) }
+        ensures err { OnErr result (self.new ≡ self.old) }
+    {
+        self.entries.append(&mut entries)?;
+        self.is_given = true;
+        Ok(())
+    }
+
+    /// Whether there was an API resource list, be it without entries. Takes no memory.
+    pub fn is_given(&self) -> bool
+        ensures { result ≡ self.now.is_given }
+    {
+        self.is_given
+    }
+
+    /// The entries of all lists, in the order given. Takes no memory.
+    pub fn entries(&self) -> &[Entry]
+        ensures { result.now ≡ self.now.entries }
+    {
+        self.entries.as_slice()
+    }
+
+    /// The resource that a type word means (own). A word without a dot means the least resource, by
+    /// group and then by name, whose name, singular name or short name it is, as `po` means `pods`.
+    /// In a word with a dot what follows the first dot is the group, and what stands before it is
+    /// looked up in that group alone, as `deploy` in `deploy.apps`. Where no resource is named so,
+    /// the word stands as written, without a dot in the core group.
+    ///
+    /// Subresources have no type words, and the empty word names nothing. Takes memory for the
+    /// result alone.
+    pub fn resolve_word(&self, alloc: Global, word: &Word) -> Result<Found, AllocError>
+        ensures found { IfOk result (IsFound self.now.entries word.now) }
+        ensures only { IfOk result (IsOnlyFound self.now.entries word.now) }
+    {
+        resource_meant(alloc, self.entries(), word)
+    }
+
+    /// Whether the resource of that group and full text is known to be outside all namespaces
+    /// (own): it is listed, and namespaced in none of its versions. A subresource that isn't listed,
+    /// as `pods/log`, is asked by its resource, `pods`. Takes no memory.
+    pub fn cluster_only(&self, group: &Word, text: &Word) -> bool
+        ensures { IsTrue result ↔ IsClusterOnly self.now.entries group.now text.now }
+    {
+        is_cluster_only(self.entries(), group.as_bytes(), text.as_bytes())
+    }
+}

@@ -1,0 +1,12 @@
+//! The catalogue of API resources: what API resource lists tell of groups, names and scopes, and
+//! which resource a type word such as `po`, `deploy` or `deployments.apps` means.
+#![tactic(auto)]
+
+mod catalogue;
+mod entry;
+mod lookup;
+mod scope;
+
+pub use catalogue::Catalogue;
+pub use entry::Entry;
+pub use lookup::Found;

@@ -1,0 +1,7 @@
+use Rattle.std.proofs.Common.{◌≡◌, take}
+use Rattle.std.specs.List.{flat_map}
+use Rattle.rbac_universe.specs.Stems.{flags_of}
+use Rattle.rbac_universe.proofs.stems.all_flags.Given as goal
+
+abbrev pub invariant-loop-stem : goal.invariant-loop-stem
+invariant-loop-stem l = l.flags.items ≡ flat_map (flags_of l.names) (take l.stem-index l.stems)

@@ -1,0 +1,8 @@
+use Rattle.std.proofs.Common.{◌≡◌, ◌≤◌, ◌*◌, ◌^◌, length, take}
+use Rattle.std.specs.List.{flat_map}
+use Rattle.rbac_universe.specs.Stems.{targets_of}
+use Rattle.rbac_universe.proofs.stems.count_targets.Given as goal
+
+abbrev pub invariant-loop-stem : goal.invariant-loop-stem
+invariant-loop-stem l =
+    (l.count ≡ length (flat_map (targets_of l.names) (take l.stem-index l.stems))) × (l.count ≤ l.stem-index * 2 ^ 64)

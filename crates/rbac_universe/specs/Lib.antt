@@ -1,0 +1,5 @@
+pub mod Gathering
+pub mod Made
+pub mod Sets
+pub mod Stems
+pub mod Uniting

@@ -1,0 +1,36 @@
+-- Stems, of which targets are made: a resource, which takes each name, or a URL.
+use Rattle.std.specs.Prelude.{◌≡◌, ◌≢◌, List, [], IsTrue, ◌∷◌, ◌++◌, Bool, false, cond, map, ◌==◌}
+use Rattle.rbac_terms.specs.Text.{Text, slash}
+use Rattle.rbac_terms.specs.Targets.{What, Resource, Url}
+use Rattle.rbac_model.specs.Universes.{Listed}
+use Rattle.rbac_universe.specs.declared.lists.UniverseLists.{UniverseLists}
+use Rattle.rbac_universe.specs.declared.lists.ListedResource.{ListedResource}
+
+-- a URL begins with a slash, which a resource doesn't
+abbrev pub is_path : Text → Bool
+is_path [] = false
+is_path (b ∷ rest) = b == slash
+
+abbrev pub stem_name : ListedResource → List Text
+stem_name s = s.group ∷ s.text ∷ []
+
+-- a URL as a stem: no group, and not namespaced
+abbrev pub url_stem : Text → ListedResource
+url_stem path = record { group = []; text = path; namespaced = false }
+
+abbrev pub stems_of : UniverseLists → List ListedResource
+stems_of lists = lists.resources ++ map url_stem lists.urls
+
+-- a stem's targets
+abbrev pub targets_of : List Text → ListedResource → List What
+targets_of names s = cond (is_path s.text) (Url s.text ∷ []) (map (λ n. Resource s.group s.text n) names)
+
+abbrev pub listed_of : List Text → ListedResource → List Listed
+listed_of names s = map (λ t. (t, s.namespaced)) (targets_of names s)
+
+abbrev pub flags_of : List Text → ListedResource → List Bool
+flags_of names s = map (λ t. s.namespaced) (targets_of names s)
+
+-- a URL without group, or a resource with a text
+abbrev pub IsStem : ListedResource → Type 0
+IsStem s = (s.text ≢ []) × (IsTrue (is_path s.text) → s.group ≡ [])

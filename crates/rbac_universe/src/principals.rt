@@ -1,0 +1,26 @@
+//! Principals once for each key, with all groups that are given.
+
+ghost use Rattle.std.specs.Prelude.{◌≡◌};
+
+use crate::uniting::Unites;
+use rbac_terms::Principal;
+use std::alloc::AllocError;
+use std::cmp::Ordering;
+
+impl Unites for Principal {
+    ghost use Rattle.std.specs.Prelude.{Contains};
+    ghost use Rattle.rbac_terms.specs.Principals.{given_of};
+    ghost use Rattle.rbac_model.specs.Unions.{who_name};
+
+    ghost name = { who_name };
+
+    ghost has = { λ who group. Contains (given_of who) group };
+
+    fn cmp_name(&self, other: &Self) -> Ordering {
+        self.key().cmp(other.key())
+    }
+
+    fn unite(&mut self, more: Self) -> Result<(), AllocError> {
+        self.give(more)
+    }
+}
