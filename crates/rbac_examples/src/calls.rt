@@ -1,9 +1,11 @@
 //! Single calls, each once with memory to spare.
 
+use rbac_cli::target_of;
 use rbac_model::{
     Binding, ClusterRole, Key, Labels, ModelFault, Object, Objects, Principal, Role, RoleRef,
     Rules, Subjects, Target, Word, Words,
 };
+use rbac_question::{Asked, groups_from, namespace_from};
 use std::alloc::{AllocError, Global};
 use std::cmp::Ordering;
 use std::test::Fail;
@@ -135,5 +137,55 @@ fn the_last_of_each_name_is_kept(rt: HostRuntime) -> Result<(), Fail> {
     }
     assert_eq!(rt; names.as_slice(), b"abc".as_slice());
     assert_eq!(rt; objects.roles().len(), 1);
+    Ok(())
+}
+
+// Texts and lists of texts grow at their ends.
+#[test]
+fn texts_grow(rt: HostRuntime) -> Result<(), Fail> {
+    let alloc = rt.alloc();
+    let mut text = word(alloc, "po")?;
+    text.push(b'd')?;
+    text.push_slice(b"s".as_slice())?;
+    assert_eq!(rt; text.as_bytes(), b"pods".as_slice());
+    let mut texts = Words::new(alloc);
+    texts.push(text)?;
+    let mut more = Words::new(alloc);
+    more.push(word(alloc, "nodes")?)?;
+    texts.append(more)?;
+    assert_eq!(rt; texts.as_slice().len(), 2);
+    assert!(rt; texts.contains(&word(alloc, "nodes")?) && texts.contains_bytes(b"pods".as_slice()));
+    Ok(())
+}
+
+// What is asked for by TARGET and the subresource, and as a target.
+#[test]
+fn questions_ask_for_targets(rt: HostRuntime) -> Result<(), Fail> {
+    let alloc = rt.alloc();
+    let rows: &[(&str, &str, [&str; 3])] = &[
+        ("pods", "", ["", "pods", ""]),
+        ("pods/a", "log", ["", "pods/log", "a"]),
+        (
+            "deployments.apps/a/b",
+            "scale",
+            ["apps", "deployments/scale", "a/b"],
+        ),
+        ("x.g.io", "", ["g.io", "x", ""]),
+        ("/healthz", "", ["", "/healthz", ""]),
+    ];
+    for (target, subresource, [group, text, name]) in rows {
+        let asked = Asked::from_target(alloc, target, subresource)?;
+        let meant = target_of(alloc, &asked)?;
+        assert_eq!(rt; meant.group().as_bytes(), group.as_bytes(), "{target}");
+        assert_eq!(rt; meant.text().as_bytes(), text.as_bytes(), "{target}");
+        assert_eq!(rt; meant.name().as_bytes(), name.as_bytes(), "{target}");
+    }
+    let groups = groups_from(alloc, ",dev,,qa,")?;
+    assert_eq!(rt; groups.as_slice().len(), 2);
+    assert_eq!(rt;
+        namespace_from(alloc, false, "")?.as_bytes(),
+        b"default".as_slice()
+    );
+    assert!(rt; namespace_from(alloc, true, "dev")?.is_empty());
     Ok(())
 }

@@ -15,4 +15,8 @@ mod refusals;
 #[cfg(test)]
 mod resolving;
 #[cfg(test)]
+mod scopes;
+#[cfg(test)]
 mod streams;
+#[cfg(test)]
+mod universes;

@@ -7,9 +7,9 @@ use crate::exports::{DEV, list};
 use rbac_cli::{
     InputFault, RunFault, Sink, Source, Status, UsageFault, command_of, read_file, read_input, run,
 };
-use std::io;
 use std::io::{ErrorKind, Read, Write};
 use std::test::Fail;
+use std::{fs, io};
 
 /// Gives so many spaces, `step` at a time, and fails at its call `fails_at`, from 1.
 #[derive(Drop)]
@@ -172,5 +172,36 @@ fn a_failed_write_tells_what_was_taken(rt: HostRuntime) -> Result<(), Fail> {
             }
         }
     }
+    Ok(())
+}
+
+// Two files, read in turn, are one export.
+#[test]
+fn two_files_are_read(rt: HostRuntime) -> Result<(), Fail> {
+    let alloc = rt.alloc();
+    let mut inputs = Vec::new(alloc);
+    for (path, item) in [("roles.json", DEV[0]), ("bindings.json", DEV[1])] {
+        let text = list(alloc, &[item])?;
+        fs::write(&rt, path, text.as_str())?;
+        inputs.push(read_file(&rt, alloc, path)?)?;
+    }
+    let words = line(
+        alloc,
+        &["can-i", "--as", "alice", "-n", "dev", "get", "pods"],
+    )?;
+    let command = command_of(alloc, words.as_slice())?;
+    let mut room = Room {
+        bytes: [0; 16],
+        len: 0,
+    };
+    let mut sink = Sink::new(Sip {
+        taken: &mut room,
+        step: 16,
+        calls: 0,
+        fails_at: 0,
+    });
+    let ended = run(alloc, &command, inputs.as_slice(), &mut sink);
+    assert!(rt; matches!(ended, Ok(Status::Zero)));
+    assert!(rt; !sink.failed());
     Ok(())
 }
