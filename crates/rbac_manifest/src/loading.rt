@@ -66,7 +66,7 @@ fn file_into(alloc: Global, bytes: &[u8], objects: &mut Vec<Object>) -> Result<(
     ensures refusal { IfErr result (λ e. e.cause ≢ NoMemory → file_refusal bytes.now ≡ Some e) }
 {
     let value = parse(alloc, bytes).map_err(Refusal::whole)?;
-    input_into(alloc, &value, objects)
+    input_into(alloc, value, objects)
 }
 
 // The objects of all inputs, in order. The first document with a fault decides.
