@@ -63,6 +63,7 @@ fn items_into(
     ensures refusal { IfErr result
         (λ e. e.cause ≢ NoMemory → first_refusal implied 0 (map view items.items) ≡ Some e) }
 {
+    objects.reserve(items.len())?;
     let mut place = 0;
     for item in items {
         let found = document_of(alloc, &item, implied).map_err(|cause| Refusal::item(

@@ -63,7 +63,7 @@ fn last_named<T: Named + Drop>(alloc: Global, mut given: Vec<T>) -> Result<Vec<T
     ensures { IfOk result (λ kept. AreLastNamed T.name given.items kept.items) }
 {
     given.sort_by(|a, b| a.cmp_name(b))?;
-    let mut kept = Vec::new(alloc);
+    let mut kept = Vec::with_capacity(alloc, given.len())?;
     for item in given {
         put(&mut kept, item)?;
     }

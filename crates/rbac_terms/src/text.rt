@@ -3,16 +3,21 @@
 ghost use Rattle.std.specs.Prelude.{◌≡◌, ◌++◌, ◌∷◌, [], ℕ, length, IfOk, IfErr, OnOk, OnErr, IsTrue, ◌↔◌, Contains, MatchOption, ◌<◌, ◌≢◌, slice_index};
 ghost use Rattle.rbac_terms.specs.Text.{IsCutAtFirst, BeginsWith};
 
+use smallvec::SmallVec;
 use std::alloc::{AllocError, AllocFailed, Global};
 use std::cmp::Ordering;
 use std::marker::Model;
+
+// How many bytes a text has at most without an allocation.
+const INLINE: usize = 24;
 
 /// A text of a manifest or of a request, as a name, a verb or an API group: any bytes, as many as
 /// memory holds. Texts are equal where their bytes are, and ordered byte by byte, a proper prefix
 /// first (own). Contracts see the list of its bytes.
 #[derive(Debug, Clone, Drop)]
 pub struct Word {
-    bytes: Vec<u8>,
+    // Most texts are short, and stand in the value itself: no allocation, and no look elsewhere.
+    bytes: SmallVec<u8, INLINE>,
 }
 
 impl Model for Word {
@@ -29,15 +34,8 @@ impl Word {
         ensures { result ≡ [] }
     {
         Word {
-            bytes: Vec::new(alloc),
+            bytes: SmallVec::new(alloc),
         }
-    }
-
-    /// The text of these bytes. Takes no memory.
-    pub fn from_vec(bytes: Vec<u8>) -> Self
-        ensures { result ≡ bytes.items }
-    {
-        Word { bytes }
     }
 
     /// A copy of these bytes. Fails only where memory is refused.
@@ -45,7 +43,7 @@ impl Word {
         ensures { IfOk result (λ w. w ≡ bytes.now) }
     {
         Ok(Word {
-            bytes: Vec::from_slice(alloc, bytes)?,
+            bytes: SmallVec::from_slice(alloc, bytes)?,
         })
     }
 

@@ -37,7 +37,7 @@ principals_united listed ps are =
       );
     }
 
-words_ascend : (listed once : List Text) → IsOnceEach text_cmp listed once → IsAscendingBy (λ n. n ∷ []) once
+pub words_ascend : (listed once : List Text) → IsOnceEach text_cmp listed once → IsAscendingBy (λ n. n ∷ []) once
 words_ascend listed once are i j d lt l = rw (Less-from_sorted text_cmp once i j d are.ascending lt l) refl
 
 -- sets are in order

@@ -2,18 +2,22 @@
 
 ghost use Rattle.std.specs.Prelude.{◌≡◌};
 
-use std::alloc::{AllocError, AllocFailed};
-use std::error::Error;
-use std::fmt;
+use std::alloc::AllocError;
+use thiserror::Error;
 
-/// Why lists don't make a universe (own).
-#[derive(Debug, Drop, Clone, Copy, PartialEq, Eq)]
+/// Why lists don't make a universe (own). Its text is the number and name of the refusal; want of
+/// memory has no number there.
+#[derive(Debug, Drop, Clone, Copy, PartialEq, Eq, Error)]
 pub enum UniverseFault {
-    /// P3: a listed resource whose text is empty or begins with a slash, or a listed URL that doesn't begin with one.
+    /// P3: a listed resource whose text is empty or begins with a slash, or a listed URL that
+    /// doesn't begin with one. It is told before P4, and also where there are no names.
+    #[error("P3 bad target")]
     BadTarget,
-    /// P4: more than 65,535 principals, namespaces or verbs, or more than 1,000,000 targets, without repeats.
+    /// P4: over 65,535 principals, namespaces or verbs, or over 1,000,000 targets, without repeats.
+    #[error("P4 universe too large")]
     TooLarge,
     /// P5: memory was refused.
+    #[error("out of memory")]
     NoMemory,
 }
 
@@ -26,25 +30,3 @@ impl From<AllocError> for UniverseFault {
         UniverseFault::NoMemory
     }
 }
-
-impl<T: Drop> From<AllocFailed<T>> for UniverseFault {
-    ghost use Rattle.rbac_universe.specs.declared.fault.UniverseFault.TheVariants.{NoMemory};
-
-    ghost from_gives = { λ _ fault. fault ≡ NoMemory };
-
-    fn from(_: AllocFailed<T>) -> Self {
-        UniverseFault::NoMemory
-    }
-}
-
-impl fmt::Display for UniverseFault {
-    fn fmt<W: fmt::Write>(&self, f: &mut fmt::Formatter<W>) -> fmt::Result {
-        match self {
-            UniverseFault::BadTarget => write!(f, "P3 bad target"),
-            UniverseFault::TooLarge => write!(f, "P4 universe too large"),
-            UniverseFault::NoMemory => write!(f, "out of memory"),
-        }
-    }
-}
-
-impl Error for UniverseFault {}

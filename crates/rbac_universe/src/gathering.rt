@@ -13,7 +13,7 @@ use crate::uniting::united;
 use rbac_terms::{Principal, Word, Words};
 use std::alloc::{AllocError, Global};
 
-/// The sets, with the stems and names of which targets are made.
+/// The sets of a universe, with the stems and names of which its targets are made.
 #[derive(Drop)]
 pub(crate) struct Gathered {
     pub(crate) principals: Vec<Principal>,
@@ -23,6 +23,7 @@ pub(crate) struct Gathered {
     pub(crate) names: Vec<Word>,
 }
 
+// The limits of a universe, without repeats: of principals, namespaces and verbs, and of targets (own).
 const MOST_WORDS: usize = 65_535;
 
 const MOST_TARGETS: u128 = 1_000_000;

@@ -3,6 +3,7 @@
 
 mod fault;
 mod gathering;
+mod laws;
 mod lists;
 mod principals;
 mod stems;
@@ -10,5 +11,6 @@ mod uniting;
 mod universe;
 
 pub use fault::UniverseFault;
+pub use laws::{sets_are_one, universes_have_no_fault};
 pub use lists::{ListedResource, ListedResources, Principals, UniverseLists};
 pub use universe::Universe;

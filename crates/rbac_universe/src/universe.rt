@@ -16,7 +16,7 @@ use std::marker::Model;
 
 /// The requests that a matrix ranges over: principals, namespaces, verbs and targets, each a set in
 /// byte order (own).
-#[derive(Drop)]
+#[derive(Debug, Drop)]
 pub struct Universe {
     principals: Vec<Principal>,
     namespaces: Vec<Word>,
@@ -45,7 +45,8 @@ impl Universe {
     /// namespaced where one of its entries is, and a URL isn't.
     ///
     /// A bad resource or URL is told first, whatever the names, and then sets beyond the limits:
-    /// 65,535 principals, namespaces and verbs, 1,000,000 targets.
+    /// 65,535 principals, namespaces and verbs, 1,000,000 targets (own). Targets are counted before
+    /// any of them is made.
     pub fn build(alloc: Global, lists: &UniverseLists) -> Result<Self, UniverseFault>
         ensures ok { IfOk result (IsUniverseOf lists.now) }
         ensures fault { IfErr result (HasFault lists.now) }
@@ -60,6 +61,7 @@ impl Universe {
         Ok(Universe::of(alloc, gathered)?)
     }
 
+    // The universe that these sets make.
     fn of(alloc: Global, gathered: Gathered) -> Result<Self, AllocError>
         requires stems { All IsStem gathered.stems.items }
         requires made { IsMade (universe_of gathered) }
