@@ -118,6 +118,21 @@ def full_disk():
     told('a full disk', (ended.returncode, ended.stderr) == (2, b'rbacaudit: write failed after 0 bytes\n'), repr(ended))
 
 
+def rows():
+    """The worked rows of rows.json: questions over an export, and documents alone in their file, which are refused or
+    (where the answer is a status) accepted."""
+    with open(os.path.join(TOP, 'tests', 'rows.json'), encoding='utf-8') as file:
+        table = json.load(file)
+    for row in table['answers']:
+        for line, answer in row['asks']:
+            status = 0 if answer == 'yes' else 1
+            expect('%s can-i %s' % (row['rule'], line), ['can-i', *line.split(' ')], status, answer.encode() + b'\n',
+                   given=export(*row['items']))
+    for text, wanted in table['documents']:
+        told_as = ('accepted', 1, b'no\n', b'') if wanted == '1' else (wanted, 2, b'', b'rbacaudit: %s\n' % wanted.encode())
+        expect('%s: %s' % (told_as[0], text[:160]), ALICE_GETS_PODS, *told_as[1:], given=text.encode())
+
+
 def limits():
     """A million grants, and one binding more."""
     many = [cluster_role('r', [PODS] * 1000)]
@@ -150,6 +165,7 @@ else:
     streams()
     help_and_usage()
     full_disk()
+    rows()
     limits()
     transcripts()
 print('%d passed, %d failed' % (results.count(True), results.count(False)))
