@@ -1,11 +1,14 @@
 //! Type words and scopes over small catalogues.
 
-use crate::calls::word;
 use rbac_catalogue::{Catalogue, Entry};
-use rbac_terms::Words;
+use rbac_terms::{Word, Words};
 use std::alloc::{AllocError, Global};
 use std::process::Abort;
 use std::test::Fail;
+
+fn word(alloc: Global, text: &str) -> Result<Word, AllocError> {
+    Word::from_slice(alloc, text.as_bytes())
+}
 
 fn words(alloc: Global, texts: &[&str]) -> Result<Words, AllocError> {
     let mut all = Vec::new(alloc);

@@ -1,0 +1,269 @@
+//! Runs of `can-i`.
+
+ghost use Rattle.std.specs.Prelude.{◌≤◌, length};
+
+use rbac_cli::{Command, Input, RunFault, Sink, Status, command_of, run};
+use std::alloc::{AllocError, Global};
+use std::io;
+use std::io::{ErrorKind, Write};
+use std::test::Fail;
+
+const DEV: &str =
+    "{\"apiVersion\":\"v1\",\"kind\":\"List\",\"items\":[{\"apiVersion\":\"rbac.authorization.k8s.io/v1\",\"kind\":\"Role\",\"metadata\":{\"namespace\":\"dev\",\"name\":\"r\"},\"rules\":[{\"verbs\":[\"*\"],\"apiGroups\":[\"\"],\"resources\":[\"pods\"]}]},{\"apiVersion\":\"rbac.authorization.k8s.io/v1\",\"kind\":\"RoleBinding\",\"metadata\":{\"namespace\":\"dev\",\"name\":\"b\"},\"roleRef\":{\"kind\":\"Role\",\"name\":\"r\"},\"subjects\":[{\"kind\":\"User\",\"name\":\"alice\"}]}]}";
+
+const SCALE: &str =
+    "{\"apiVersion\":\"v1\",\"kind\":\"List\",\"items\":[{\"apiVersion\":\"rbac.authorization.k8s.io/v1\",\"kind\":\"ClusterRole\",\"metadata\":{\"name\":\"r\"},\"rules\":[{\"verbs\":[\"get\"],\"apiGroups\":[\"*\"],\"resources\":[\"*/scale\"]}]},{\"apiVersion\":\"rbac.authorization.k8s.io/v1\",\"kind\":\"ClusterRoleBinding\",\"metadata\":{\"name\":\"b\"},\"roleRef\":{\"kind\":\"ClusterRole\",\"name\":\"r\"},\"subjects\":[{\"kind\":\"User\",\"name\":\"alice\"}]}]}";
+
+#[derive(Drop)]
+struct Taken {
+    room: [u8; 64],
+    len: usize,
+    ghost in_room: { len ≤ 64 },
+}
+
+impl Taken {
+    fn new() -> Taken {
+        Taken {
+            room: [0; 64],
+            len: 0,
+        }
+    }
+
+    fn take(&mut self, bytes: &[u8]) -> usize
+        ensures { result ≤ length bytes.now }
+    {
+        let most = bytes.len().min(64 - self.len);
+        let end = self.len + most;
+        self.room[self.len..end].copy_from_slice(&bytes[..most]);
+        self.len = end;
+        most
+    }
+
+    fn bytes(&self) -> &[u8] {
+        &self.room[..self.len]
+    }
+}
+
+// Takes `step` bytes at a time, and is interrupted at call `fails_at`, from 1.
+#[derive(Drop)]
+struct Sip<'a> {
+    taken: &'a mut Taken,
+    step: usize,
+    calls: usize,
+    fails_at: usize,
+}
+
+impl Write for Sip<'_> {
+    fn write(&mut self, buf: &[u8]) -> io::Result<usize> {
+        self.calls = self.calls.saturating_add(1);
+        if self.calls == self.fails_at {
+            return Err(io::Error::from(ErrorKind::Interrupted));
+        }
+        let most = self.step.min(buf.len());
+        Ok(self.taken.take(&buf[..most]))
+    }
+
+    fn flush(&mut self) -> io::Result<()> {
+        Ok(())
+    }
+}
+
+fn command(alloc: Global, words: &[&str]) -> Result<Command, Fail> {
+    let mut all = Vec::new(alloc);
+    for word in words {
+        all.push(String::from_str(alloc, word)?)?;
+    }
+    Ok(command_of(alloc, all.as_slice())?)
+}
+
+fn input(alloc: Global, text: &str) -> Result<Input, AllocError> {
+    Ok(Input::from_bytes(Vec::from_slice(alloc, text.as_bytes())?))
+}
+
+// The answer of a command over one input, and what it writes.
+fn answer(alloc: Global, words: &[&str], text: &str, taken: &mut Taken) -> Result<Status, Fail> {
+    let command = command(alloc, words)?;
+    let inputs = [input(alloc, text)?];
+    let mut sink = Sink::new(Sip {
+        taken,
+        step: 64,
+        calls: 0,
+        fails_at: 0,
+    });
+    Ok(run(alloc, &command, &inputs, &mut sink)?)
+}
+
+#[test]
+fn says_yes_and_no(rt: HostRuntime) -> Result<(), Fail> {
+    let asked: [(&[&str], &str, &[u8], Status); 7] = [
+        (
+            &[
+                "rbacaudit",
+                "can-i",
+                "--as",
+                "alice",
+                "-n",
+                "dev",
+                "get",
+                "pods",
+            ],
+            DEV,
+            b"yes\n",
+            Status::Zero,
+        ),
+        (
+            &[
+                "rbacaudit",
+                "can-i",
+                "--as",
+                "alice",
+                "-n",
+                "prod",
+                "get",
+                "pods",
+            ],
+            DEV,
+            b"no\n",
+            Status::One,
+        ),
+        (
+            &["rbacaudit", "can-i", "--as", "alice", "get", "pods"],
+            DEV,
+            b"no\n",
+            Status::One,
+        ),
+        (
+            &[
+                "rbacaudit",
+                "can-i",
+                "--as",
+                "alice",
+                "-q",
+                "-n",
+                "prod",
+                "get",
+                "pods",
+            ],
+            DEV,
+            b"",
+            Status::One,
+        ),
+        (
+            &[
+                "rbacaudit",
+                "can-i",
+                "--as",
+                "alice",
+                "--subresource",
+                "scale",
+                "get",
+                "deployments.apps",
+            ],
+            SCALE,
+            b"yes\n",
+            Status::Zero,
+        ),
+        (
+            &[
+                "rbacaudit",
+                "can-i",
+                "--as",
+                "alice",
+                "get",
+                "deployments.apps",
+            ],
+            SCALE,
+            b"no\n",
+            Status::One,
+        ),
+        (
+            &[
+                "rbacaudit",
+                "can-i",
+                "--as",
+                "alice",
+                "--subresource",
+                "autoscale",
+                "get",
+                "x",
+            ],
+            SCALE,
+            b"no\n",
+            Status::One,
+        ),
+    ];
+    for (words, text, line, status) in asked {
+        let mut taken = Taken::new();
+        assert_eq!(rt; answer(rt.alloc(), words, text, &mut taken)?, status);
+        assert_eq!(rt; taken.bytes(), line);
+    }
+    Ok(())
+}
+
+#[test]
+fn stops_where_the_writer_does(rt: HostRuntime) -> Result<(), Fail> {
+    let alloc = rt.alloc();
+    let command = command(
+        alloc,
+        &[
+            "rbacaudit",
+            "can-i",
+            "--as",
+            "alice",
+            "-n",
+            "dev",
+            "get",
+            "pods",
+        ],
+    )?;
+    let inputs = [input(alloc, DEV)?];
+    for (step, fails_at, want) in [(1, 4, "yes"), (0, 9, ""), (64, 1, "")] {
+        let mut taken = Taken::new();
+        let mut sink = Sink::new(Sip {
+            taken: &mut taken,
+            step,
+            calls: 0,
+            fails_at,
+        });
+        let ended = run(alloc, &command, &inputs, &mut sink);
+        let written = want.len() as u128;
+        assert_eq!(rt; ended.err(), Some(RunFault::Write { written }));
+        assert!(rt; sink.failed() && sink.taken() == written);
+        drop(sink);
+        assert_eq!(rt; taken.bytes(), want.as_bytes());
+    }
+    let fault = RunFault::Write { written: 3 };
+    assert_eq!(rt;
+        format!(in alloc; "{fault}")?.as_str(),
+        "write failed after 3 bytes"
+    );
+    let fault = RunFault::Memory { written: 0 };
+    assert_eq!(rt; format!(in alloc; "{fault}")?.as_str(), "out of memory");
+    Ok(())
+}
+
+#[test]
+fn tells_why_inputs_are_refused(rt: HostRuntime) -> Result<(), Fail> {
+    let alloc = rt.alloc();
+    let command = command(
+        alloc,
+        &["rbacaudit", "can-i", "--as", "alice", "get", "pods"],
+    )?;
+    let inputs = [input(alloc, DEV)?, input(alloc, "[]")?];
+    let mut taken = Taken::new();
+    let mut sink = Sink::new(Sip {
+        taken: &mut taken,
+        step: 64,
+        calls: 0,
+        fails_at: 0,
+    });
+    match run(alloc, &command, &inputs, &mut sink) {
+        Ok(_) => return Err(Fail::from("accepted")),
+        Err(fault) => assert_eq!(rt;
+            format!(in alloc; "{fault}")?.as_str(),
+            "file 2: M2 not an object"
+        ),
+    }
+    assert!(rt; !sink.failed() && sink.taken() == 0);
+    Ok(())
+}
