@@ -30,9 +30,24 @@ measure() {
         "$name" "$(stat -c %s "$file")" "$json" "$answer" "$(python3 -c "print('%.2f' % ($answer / max(1, $json)))")"
 }
 
+# One line for a matrix over an export: its requests, and how many are tested in a second beside loading.
+measure_matrix() {
+    local name=$1 file=$2 universe=$3 requests=$4
+    local load whole
+    load=$(least "$audit" can-i --as nobody@example.com -A get pods "$file" "$universe")
+    whole=$(least "$audit" matrix "$file" "$universe")
+    printf '%-44s %9d requests  matrix %7d ms  %s requests a second\n' \
+        "$name" "$requests" "$whole" "$((requests * 1000 / (whole - load + 1)))"
+}
+
 for size in "1000 4000 100" "5000 20000 300" "10000 40000 500"; do
     python3 generate_export.py $size 1 "$room/export.json" > /dev/null
     measure "$size roles, bindings, namespaces" "$room/export.json"
 done
 python3 generate_aggregated.py 5000 500 4 "$room/export.json"
 measure "5000 cluster roles, 500 aggregated" "$room/export.json"
+for size in "200 800 20" "1000 4000 100"; do
+    python3 generate_export.py $size 1 "$room/export.json" > /dev/null
+    requests=$(python3 generate_universe.py "$room/export.json" 50 5 "$room/universe.json")
+    measure_matrix "matrix, $size roles, bindings, namespaces" "$room/export.json" "$room/universe.json" "$requests"
+done

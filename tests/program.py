@@ -99,14 +99,19 @@ def streams():
 
 def help_and_usage():
     """Help on standard output with status 0; a refused line on standard error with status 2."""
-    for words in (['--help'], ['can-i', '--help']):
+    for words in (['--help'], ['can-i', '--help'], ['matrix', '--help']):
         ended = run(words)
         told('%s is on standard output' % ' '.join(words),
-             ended.returncode == 0 and b'can-i' in ended.stdout and not ended.stderr, repr(ended))
+             ended.returncode == 0 and b'Usage' in ended.stdout and not ended.stderr, repr(ended))
+    commands = run(['--help']).stdout
+    for command in (b'can-i', b'matrix'):
+        told('help names %s' % command.decode(), command in commands, repr(commands))
+    told('help of matrix names FILE', b'FILE' in run(['matrix', '--help']).stdout)
     options = run(['can-i', '--help']).stdout
     for option in (b'--as', b'--groups', b'-n', b'-A', b'--subresource', b'-q', b'VERB', b'TARGET', b'FILE'):
         told('help names %s' % option.decode(), option in options, repr(options))
-    for words in ([], ['can-i'], ['can-i', 'get', 'pods'], ['who-knows'], ['can-i', '--as', 'alice', '--why', 'get']):
+    for words in ([], ['can-i'], ['can-i', 'get', 'pods'], ['who-knows'], ['can-i', '--as', 'alice', '--why', 'get'],
+                  ['matrix', '--limit', '1'], ['matrix', '-n', 'dev']):
         ended = run(words)
         told('refused: %s' % (' '.join(words) or 'no words'),
              ended.returncode == 2 and not ended.stdout and b'Usage' in ended.stderr, repr(ended))
@@ -131,6 +136,39 @@ def rows():
     for text, wanted in table['documents']:
         told_as = ('accepted', 1, b'no\n', b'') if wanted == '1' else (wanted, 2, b'', b'rbacaudit: %s\n' % wanted.encode())
         expect('%s: %s' % (told_as[0], text[:160]), ALICE_GETS_PODS, *told_as[1:], given=text.encode())
+
+
+def matrices():
+    """The worked matrices of rows.json, each with its rows or the fault that refuses it."""
+    with open(os.path.join(TOP, 'tests', 'rows.json'), encoding='utf-8') as file:
+        table = json.load(file)['matrices']
+    for row in table:
+        if 'fault' in row:
+            wanted = 2, b'', b'rbacaudit: %s\n' % row['fault'].encode()
+        else:
+            wanted = 0, '\n'.join([*row['rows'], 'end', '']).encode(), b''
+        expect('%s matrix' % row['rule'], ['matrix'], *wanted, given=export(*row['items']))
+    expect('a matrix of a bad document', ['matrix'], 2, err=b'rbacaudit: file 1: M2 not an object\n', given=b'[]')
+    with open('/dev/full', 'wb') as full:
+        ended = run(['matrix'], export(), stdout=full)
+    told('a matrix on a full disk', (ended.returncode, ended.stderr) == (2, b'rbacaudit: write failed after 0 bytes\n'), repr(ended))
+
+
+def universe(**lists):
+    return export({'apiVersion': 'rbacaudit/v1', 'kind': 'Universe', **lists})
+
+
+def universe_limits():
+    """The most verbs and targets, and one more of each."""
+    verbs = ['v%d' % i for i in range(65536)]
+    large = dict(status=2, err=b'rbacaudit: P4 universe too large\n')
+    expect('65,535 verbs, each twice', ['matrix'], 0, b'end\n', given=universe(verbs=verbs[:65535] * 2))
+    expect('65,536 verbs', ['matrix'], given=universe(verbs=verbs), **large)
+    expect('a bad target before too many verbs', ['matrix'], 2, err=b'rbacaudit: P3 bad target\n',
+           given=universe(verbs=verbs, urls=['x']))
+    targets = {'resources': [{'resource': 'r%d' % i} for i in range(1000)], 'names': ['n%d' % i for i in range(1000)]}
+    expect('1,000 resources by 1,000 names', ['matrix'], 0, b'end\n', given=universe(**targets))
+    expect('the same and a URL', ['matrix'], given=universe(urls=['/x'], **targets), **large)
 
 
 def limits():
@@ -166,7 +204,9 @@ else:
     help_and_usage()
     full_disk()
     rows()
+    matrices()
     limits()
+    universe_limits()
     transcripts()
 print('%d passed, %d failed' % (results.count(True), results.count(False)))
 sys.exit(0 if all(results) else 1)

@@ -15,9 +15,13 @@ dot = 46
 abbrev pub IsCalled : Text → Entry → Type 0
 IsCalled word e = (word ≡ e.name) ⊎ (word ≡ e.singular) ⊎ Contains e.short_names word
 
--- a word names an entry that is called so and has no subresource; the empty word names nothing (own)
+-- an entry that words can name: it has a name, and no subresource (own)
+abbrev pub HasWords : Entry → Type 0
+HasWords e = (e.name ≢ []) × (¬ Contains e.name slash)
+
+-- a word names such an entry that is called so; the empty word names nothing (own)
 abbrev pub IsNamed : Text → Entry → Type 0
-IsNamed word e = (word ≢ []) × (¬ Contains e.name slash) × IsCalled word e
+IsNamed word e = (word ≢ []) × HasWords e × IsCalled word e
 
 -- it names the entry in that group, or in any where none is given
 abbrev pub IsNamedIn : Option Text → Text → Entry → Type 0

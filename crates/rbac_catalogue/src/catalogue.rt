@@ -4,7 +4,7 @@ ghost use Rattle.std.specs.Prelude.{◌≡◌, ◌++◌, [], IfOk, OnOk, OnErr, 
 ghost use Rattle.rbac_catalogue.specs.Lookups.{IsFound, IsOnlyFound};
 ghost use Rattle.rbac_catalogue.specs.Catalogue.{IsClusterOnly};
 
-use crate::entry::Entry;
+use crate::entry::{Entries, Entry};
 use crate::lookup::{Found, resource_meant};
 use crate::scope::is_cluster_only;
 use rbac_terms::Word;
@@ -40,11 +40,11 @@ impl Catalogue {
 
     /// Adds the entries of an API resource list, of which there may be none. Where memory is
     /// refused the catalogue is as before.
-    pub fn give(&mut self, mut entries: Vec<Entry>) -> Result<(), AllocError>
-        ensures ok { OnOk result (self.new ≡ record { is_given = true; entries = self.old.entries ++ entries.items }) }
+    pub fn give(&mut self, entries: Entries) -> Result<(), AllocError>
+        ensures ok { OnOk result (self.new ≡ record { is_given = true; entries = self.old.entries ++ entries }) }
         ensures err { OnErr result (self.new ≡ self.old) }
     {
-        self.entries.append(&mut entries)?;
+        self.entries.append(&mut entries.into_vec())?;
         self.is_given = true;
         Ok(())
     }
@@ -69,8 +69,8 @@ impl Catalogue {
     /// looked up in that group alone, as `deploy` in `deploy.apps`. Where no resource is named so,
     /// the word stands as written, without a dot in the core group.
     ///
-    /// Subresources have no type words, and the empty word names nothing. Takes memory for the
-    /// result alone.
+    /// Subresources and entries without a name have no type words, and the empty word names nothing.
+    /// Takes memory for the result alone.
     pub fn resolve_word(&self, alloc: Global, word: &Word) -> Result<Found, AllocError>
         ensures found { IfOk result (IsFound self.now.entries word.now) }
         ensures only { IfOk result (IsOnlyFound self.now.entries word.now) }

@@ -8,5 +8,5 @@ mod lookup;
 mod scope;
 
 pub use catalogue::Catalogue;
-pub use entry::Entry;
+pub use entry::{Entries, Entry};
 pub use lookup::Found;

@@ -4,7 +4,7 @@ ghost use Rattle.std.specs.Prelude.{◌≡◌, IsTrue, ◌↔◌, IfOk, MatchOpt
 ghost use Rattle.std.specs.Option.{option_copied};
 ghost use Rattle.std.specs.declared.cmp.Ordering.TheVariants.{Less};
 ghost use Rattle.rbac_terms.specs.Text.{slash};
-ghost use Rattle.rbac_catalogue.specs.Lookups.{IsCalled, IsNamed, IsNamedIn, resource_of, resource_cmp, IsLeastOf, IsMeant, IsFound};
+ghost use Rattle.rbac_catalogue.specs.Lookups.{IsCalled, HasWords, IsNamed, IsNamedIn, resource_of, resource_cmp, IsLeastOf, IsMeant, IsFound};
 
 use crate::entry::Entry;
 use rbac_terms::{Word, cut_at_first};
@@ -28,17 +28,18 @@ fn is_called(word: &[u8], entry: &Entry) -> bool
         || entry.short_names.contains_bytes(word)
 }
 
-fn has_subresource(entry: &Entry) -> bool
-    ensures { IsTrue result ↔ Contains entry.now.name slash }
+// Whether words can name the entry.
+fn has_words(entry: &Entry) -> bool
+    ensures { IsTrue result ↔ HasWords entry.now }
 {
-    entry.name.as_bytes().contains(&b'/')
+    !entry.name.is_empty() && !entry.name.as_bytes().contains(&b'/')
 }
 
 // Whether the word names the entry.
 fn is_named(word: &[u8], entry: &Entry) -> bool
     ensures { IsTrue result ↔ IsNamed word.now entry.now }
 {
-    if word.is_empty() || has_subresource(entry) {
+    if word.is_empty() || !has_words(entry) {
         return false;
     }
     is_called(word, entry)

@@ -63,6 +63,10 @@ abbrev pub can_i_app : App
 can_i_app =
     with_question (with_rule (with_scope (with_asker (new_app (codes "can-i")))) quiet_rule)
 
+-- matrix [FILE]..
+abbrev pub matrix_app : App
+matrix_app = with_rule (new_app (codes "matrix")) files_rule
+
 -- the program: a subcommand is required, and there is no subcommand `help`
 abbrev pub without_help : App → App
 without_help a = record a {
@@ -75,4 +79,4 @@ bare_app = without_help (new_app (codes "rbacaudit"))
 
 -- the whole command line
 unfoldable pub rbac_app : App
-rbac_app = with_subcommand bare_app can_i_app.top
+rbac_app = with_subcommand (with_subcommand bare_app can_i_app.top) matrix_app.top

@@ -1,10 +1,13 @@
 -- What the words of a command line mean, by `clap`'s matches.
-use Rattle.std.specs.Prelude.{◌≡◌, Bool, List, [], Option, Some, None, Result, map, codes, unwrap_or, MatchResult, string_bytes}
+use Rattle.std.specs.Prelude.{◌≡◌, ◌||◌, Bool, List, [], Option, Some, None, Result, map, codes, unwrap_or, MatchResult, string_bytes}
 use Rattle.std.specs.Str.{bytes_eq}
 use Rattle.clap.specs.Words.{Row, Text, all_of, fault_of, first_of, kind_of, subcommand_of}
 use Rattle.clap.specs.Kinds.{IsAmong}
 use Rattle.rbac_question.specs.Lines.{CanIParts, MeansCanI, AcceptsCanI, RefusesCanI}
+use Rattle.rbac_question.specs.declared.command.Action.{Action}
+use Rattle.rbac_question.specs.declared.command.Action.TheVariants.{CanI, Matrix}
 use Rattle.rbac_question.specs.declared.command.Command.{Command}
+use Rattle.rbac_question.specs.declared.fault.QuestionFault.{QuestionFault}
 use Rattle.rbac_question.specs.declared.fault.QuestionFault.TheVariants as question
 use Rattle.rbac_command.specs.App.{rbac_app}
 use Rattle.rbac_command.specs.declared.fault.UsageFault.{UsageFault}
@@ -41,13 +44,17 @@ parts_in rows = record {
 
 -- one of the subcommands
 abbrev pub is_known : Text → Bool
-is_known name = bytes_eq name (codes "can-i")
+is_known name = bytes_eq name (codes "can-i") || bytes_eq name (codes "matrix")
 
--- the command is what the one subcommand's matches mean
+-- what the subcommand of that name does, by its matches
+abbrev pub DoesAction : Text → List Row → Action → Type 0
+DoesAction name rows (CanI principal quiet question) =
+    (name ≡ codes "can-i") × AcceptsCanI (parts_in rows) × MeansCanI (parts_in rows) (CanI principal quiet question)
+DoesAction name rows Matrix = name ≡ codes "matrix"
+
+-- the command is what the matches of the subcommand of that name mean
 pub record MeansRows (name : Text) (rows : List Row) (c : Command) : Type 0 where
-  pub subcommand : name ≡ codes "can-i"
-  pub accepted : AcceptsCanI (parts_in rows)
-  pub action : MeansCanI (parts_in rows) c.action
+  pub action : DoesAction name rows c.action
   pub files : map string_bytes c.files.items ≡ files_in rows
 
 -- the command is what the subcommand that was met means
@@ -57,12 +64,17 @@ Means (Some p) c = MeansRows p.0 p.1 c
 
 -- ---- refusals
 
--- the refusal of a subcommand's matches; memory may be refused at any time
+-- the refusal of a subcommand's matches: `can-i` alone has any but want of memory, which may come at any time
+abbrev pub RefusesAction : Text → List Row → QuestionFault → Type 0
+RefusesAction name rows question.NoMemory = Unit {0}
+RefusesAction name rows e = (name ≡ codes "can-i") × RefusesCanI (parts_in rows) e
+
+-- the same as a refusal of a command line
 abbrev pub IsCauseOf : Option (Text × List Row) → UsageFault → Type 0
 IsCauseOf None e = ⊥
-IsCauseOf (Some p) EmptyWord = RefusesCanI (parts_in p.1) question.EmptyWord
-IsCauseOf (Some p) UrlSubresource = RefusesCanI (parts_in p.1) question.UrlSubresource
-IsCauseOf (Some p) NoMemory = Unit {0}
+IsCauseOf (Some p) EmptyWord = RefusesAction p.0 p.1 question.EmptyWord
+IsCauseOf (Some p) UrlSubresource = RefusesAction p.0 p.1 question.UrlSubresource
+IsCauseOf (Some p) NoMemory = RefusesAction p.0 p.1 question.NoMemory
 IsCauseOf (Some p) (Refused e) = ⊥
 
 -- a refusal of `clap`'s comes where it refuses the words; any other where it takes them

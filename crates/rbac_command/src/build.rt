@@ -4,7 +4,7 @@ ghost use Rattle.std.specs.Prelude.{◌≡◌, IfOk, false};
 ghost use Rattle.clap.specs.Words.{app_of, new_app, rule_of, with_rule, with_subcommand};
 ghost use Rattle.clap.specs.declared.builder.command.Command.TheViews.{out-Command as fields_of};
 ghost use Rattle.rbac_command.specs.App.{user_rule, groups_rule, namespace_rule, all_rule, subresource_rule, quiet_rule, verb_rule, target_rule, files_rule};
-ghost use Rattle.rbac_command.specs.App.{with_asker, with_scope, with_question, can_i_app, bare_app, rbac_app};
+ghost use Rattle.rbac_command.specs.App.{with_asker, with_scope, with_question, can_i_app, matrix_app, bare_app, rbac_app};
 
 use clap::{Arg, ArgAction, Command};
 use std::alloc::{AllocError, Global};
@@ -162,6 +162,18 @@ fn can_i<'a>(alloc: Global) -> Result<Command<'a>, AllocError>
     with_question(alloc, command)
 }
 
+fn matrix<'a>(alloc: Global) -> Result<Command<'a>, AllocError>
+    ensures app { IfOk result (λ r. app_of r ≡ matrix_app) }
+    ensures local { IfOk result (λ r. (fields_of r).has_globals ≡ false) }
+{
+    let command = named(
+        alloc,
+        "matrix",
+        "Lists everything that anyone may do: a line for each request that is allowed, then end",
+    );
+    with(command, files_arg(alloc))
+}
+
 // Adds a subcommand with no global argument.
 fn with_sub<'a>(command: Command<'a>, sub: Command<'a>) -> Result<Command<'a>, AllocError>
     requires sub { (fields_of sub).has_globals ≡ false }
@@ -185,7 +197,7 @@ fn bare<'a>(alloc: Global) -> Command<'a>
     named(
         alloc,
         "rbacaudit",
-        "Answers questions about exported Kubernetes roles",
+        "Answers questions about Kubernetes roles from files that kubectl get -o json wrote",
     )
     .subcommand_required(true)
     .disable_help_subcommand(true)
@@ -197,5 +209,6 @@ pub(crate) fn program<'a>(alloc: Global) -> Result<Command<'a>, AllocError>
     ensures { IfOk result (λ r. app_of r ≡ rbac_app) }
 {
     let command = with_bin_name(bare(alloc), "rbacaudit")?;
-    with_sub(command, can_i(alloc)?)
+    let command = with_sub(command, can_i(alloc)?)?;
+    with_sub(command, matrix(alloc)?)
 }

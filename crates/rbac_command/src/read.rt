@@ -3,9 +3,8 @@
 ghost use Rattle.std.specs.Prelude.{◌≡◌, [], List, ℕ, Some, None, IfOk, IfErr, MatchResult, map, string_bytes, true, false, codes, option_map};
 ghost use Rattle.std.specs.Option.{option_map_or};
 ghost use Rattle.clap.specs.Words.{found_of, all_of, rows_of, first_of, subcommand_rows_of, subcommand_of, fault_of};
-ghost use Rattle.rbac_question.specs.Lines.{MeansCanI, AcceptsCanI, RefusesCanI};
 ghost use Rattle.rbac_command.specs.App.{rbac_app};
-ghost use Rattle.rbac_command.specs.Meaning.{text_at, has_flag, files_in, parts_in, is_known, MeansRows, Means, IsCauseOf, IsRefusal, IsAnswer};
+ghost use Rattle.rbac_command.specs.Meaning.{text_at, has_flag, files_in, parts_in, is_known, DoesAction, RefusesAction, MeansRows, Means, IsCauseOf, IsRefusal, IsAnswer};
 
 use crate::build::program;
 use crate::fault::UsageFault;
@@ -89,13 +88,15 @@ fn parsed<'a>(alloc: Global, words: &'a [String]) -> Result<ArgMatches<'a>, Usag
     }
 }
 
-// What a `can-i` line of these matches does.
-fn action_of(alloc: Global, matches: &ArgMatches<'_>) -> Result<Action, QuestionFault>
-    ensures { MatchResult result
-        (λ a. AcceptsCanI (parts_in (rows_of (found_of matches.now)))
-        × MeansCanI (parts_in (rows_of (found_of matches.now))) a)
-        (RefusesCanI (parts_in (rows_of (found_of matches.now)))) }
+// What the subcommand of that name does, by its matches.
+fn action_of(alloc: Global, name: &str, matches: &ArgMatches<'_>) -> Result<Action, QuestionFault>
+    requires { is_known name.now ≡ true }
+    ensures { MatchResult result (DoesAction name.now (rows_of (found_of matches.now)))
+        (RefusesAction name.now (rows_of (found_of matches.now))) }
 {
+    if name == "matrix" {
+        return Ok(Action::Matrix);
+    }
     Action::can_i(alloc, &line_of(matches))
 }
 
@@ -113,8 +114,8 @@ fn meaning_of(alloc: Global, matches: &ArgMatches<'_>) -> Result<Command, UsageF
         (IsCauseOf (subcommand_rows_of matches.now)) }
 {
     match subcommand_of(matches) {
-        Some((_, inner)) => {
-            let action = action_of(alloc, inner)?;
+        Some((name, inner)) => {
+            let action = action_of(alloc, name, inner)?;
             let files = files_of(alloc, inner)?;
             Ok(Command { action, files })
         }

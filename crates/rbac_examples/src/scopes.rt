@@ -1,6 +1,6 @@
 //! Type words and scopes over small catalogues.
 
-use rbac_catalogue::{Catalogue, Entry};
+use rbac_catalogue::{Catalogue, Entries, Entry};
 use rbac_terms::{Word, Words};
 use std::alloc::{AllocError, Global};
 use std::process::Abort;
@@ -41,7 +41,7 @@ fn catalogue(alloc: Global, lists: &[&[Line<'_>]]) -> Result<Catalogue, AllocErr
         for line in *list {
             entries.push(entry(alloc, line)?)?;
         }
-        catalogue.give(entries)?;
+        catalogue.give(Entries::from_vec(entries))?;
     }
     Ok(catalogue)
 }
@@ -128,7 +128,7 @@ fn an_empty_catalogue_names_nothing(rt: HostRuntime) -> Result<(), Fail> {
     assert!(rt; !known.is_given());
     let meanings: &[Meaning<'_>] = &[("po", "", "po"), ("deploy.apps", "apps", "deploy")];
     means(&rt, alloc, &known, meanings)?;
-    known.give(Vec::new(alloc))?;
+    known.give(Entries::from_vec(Vec::new(alloc)))?;
     assert!(rt; known.is_given());
     assert!(rt; known.entries().is_empty());
     means(&rt, alloc, &known, meanings)

@@ -2,36 +2,48 @@
 use Rattle.std.proofs.Common.{◌≡◌, List, [], ◌∷◌, Option, Some, None, refl}
 use Rattle.serde_json.specs.Data.{Data}
 use Rattle.rbac_manifest.specs.Kinds.{kind_of}
-use Rattle.rbac_manifest.specs.Document.{fault, first_of, not_an_object, bad_version, metadata_row, rules_row, role_ref_row, subjects_row, selector_row}
-use Rattle.rbac_manifest.specs.Walk.{bad_header, bad_object, bad_role, bad_cluster_role, bad_binding}
+use Rattle.rbac_manifest.specs.Document.{fault, first_of, not_an_object, bad_version, metadata_row, rules_row, role_ref_row, subjects_row, selector_row, catalogue_row, universe_row}
+use Rattle.rbac_manifest.specs.Walk.{bad_header, bad_body, bad_role, bad_cluster_role, bad_binding}
 use Rattle.rbac_manifest.specs.declared.kind.Kind.{Kind}
 use Rattle.rbac_manifest.specs.declared.kind.Kind.TheVariants as kinds
 use Rattle.rbac_manifest.specs.declared.kind.Implied.{Implied}
 use Rattle.rbac_manifest.specs.declared.fault.Cause.{Cause}
 
-two : (a b : Option Cause) → first_of (a ∷ b ∷ None ∷ None ∷ None ∷ []) ≡ first_of (first_of (a ∷ b ∷ []) ∷ [])
-two None None = refl
-two None (Some c) = refl
-two (Some c) b = refl
+role_rows : (a b : Option Cause) → first_of (a ∷ b ∷ None ∷ None ∷ None ∷ None ∷ None ∷ []) ≡ first_of (first_of (a ∷ b ∷ []) ∷ [])
+role_rows None None = refl
+role_rows None (Some c) = refl
+role_rows (Some c) b = refl
 
-role_rows : (a b e : Option Cause) → first_of (a ∷ b ∷ None ∷ None ∷ e ∷ []) ≡ first_of (first_of (a ∷ b ∷ e ∷ []) ∷ [])
-role_rows None None None = refl
-role_rows None None (Some c) = refl
-role_rows None (Some c) e = refl
-role_rows (Some c) b e = refl
+cluster_role_rows : (a b e : Option Cause) → first_of (a ∷ b ∷ None ∷ None ∷ e ∷ None ∷ None ∷ []) ≡ first_of (first_of (a ∷ b ∷ e ∷ []) ∷ [])
+cluster_role_rows None None None = refl
+cluster_role_rows None None (Some c) = refl
+cluster_role_rows None (Some c) e = refl
+cluster_role_rows (Some c) b e = refl
 
-binding_rows : (a b e : Option Cause) → first_of (a ∷ None ∷ b ∷ e ∷ None ∷ []) ≡ first_of (first_of (a ∷ b ∷ e ∷ []) ∷ [])
+binding_rows : (a b e : Option Cause) → first_of (a ∷ None ∷ b ∷ e ∷ None ∷ None ∷ None ∷ []) ≡ first_of (first_of (a ∷ b ∷ e ∷ []) ∷ [])
 binding_rows None None None = refl
 binding_rows None None (Some c) = refl
 binding_rows None (Some c) e = refl
 binding_rows (Some c) b e = refl
 
-of_kind : (k : Kind) (d : Data) → first_of (metadata_row k d ∷ rules_row k d ∷ role_ref_row k d ∷ subjects_row k d ∷ selector_row k d ∷ []) ≡ first_of (bad_object k d ∷ [])
+metadata_rows : (a : Option Cause) → first_of (a ∷ None ∷ None ∷ None ∷ None ∷ None ∷ None ∷ []) ≡ first_of (a ∷ [])
+metadata_rows None = refl
+metadata_rows (Some c) = refl
+
+list_rows : (a : Option Cause) → first_of (None ∷ None ∷ None ∷ None ∷ None ∷ a ∷ None ∷ []) ≡ first_of (a ∷ [])
+list_rows None = refl
+list_rows (Some c) = refl
+
+of_kind : (k : Kind) (d : Data) → first_of (metadata_row k d ∷ rules_row k d ∷ role_ref_row k d ∷ subjects_row k d ∷ selector_row k d ∷ catalogue_row k d ∷ universe_row k d ∷ []) ≡ first_of (bad_body k d ∷ [])
 unfolding bad_role bad_cluster_role bad_binding
-of_kind kinds.Role d = two (metadata_row kinds.Role d) (rules_row kinds.Role d)
-of_kind kinds.ClusterRole d = role_rows (metadata_row kinds.ClusterRole d) (rules_row kinds.ClusterRole d) (selector_row kinds.ClusterRole d)
+of_kind kinds.Role d = role_rows (metadata_row kinds.Role d) (rules_row kinds.Role d)
+of_kind kinds.ClusterRole d = cluster_role_rows (metadata_row kinds.ClusterRole d) (rules_row kinds.ClusterRole d) (selector_row kinds.ClusterRole d)
 of_kind kinds.RoleBinding d = binding_rows (metadata_row kinds.RoleBinding d) (role_ref_row kinds.RoleBinding d) (subjects_row kinds.RoleBinding d)
 of_kind kinds.ClusterRoleBinding d = binding_rows (metadata_row kinds.ClusterRoleBinding d) (role_ref_row kinds.ClusterRoleBinding d) (subjects_row kinds.ClusterRoleBinding d)
+of_kind kinds.Namespace d = metadata_rows (metadata_row kinds.Namespace d)
+of_kind kinds.ServiceAccount d = metadata_rows (metadata_row kinds.ServiceAccount d)
+of_kind kinds.ApiList d = list_rows (catalogue_row kinds.ApiList d)
+of_kind kinds.Universe d = refl
 of_kind (kinds.List items) d = refl
 of_kind kinds.Other d = refl
 
@@ -40,6 +52,6 @@ behind None None rows o e = e
 behind None (Some c) rows o e = refl
 behind (Some c) b rows o e = refl
 
-pub fault_by_kind : (implied : Implied) (d : Data) → fault implied d ≡ first_of (bad_header implied d ∷ bad_object (kind_of implied d) d ∷ [])
+pub fault_by_kind : (implied : Implied) (d : Data) → fault implied d ≡ first_of (bad_header implied d ∷ bad_body (kind_of implied d) d ∷ [])
 unfolding fault bad_header
-fault_by_kind implied d = behind (not_an_object implied d) (bad_version implied d) _ (bad_object (kind_of implied d) d) (of_kind (kind_of implied d) d)
+fault_by_kind implied d = behind (not_an_object implied d) (bad_version implied d) _ (bad_body (kind_of implied d) d) (of_kind (kind_of implied d) d)

@@ -1,7 +1,10 @@
 pub mod Elements
 pub mod Faults
+pub mod Gathering
+pub mod GroupVersions
 pub mod Json
 pub mod Members
 pub mod OneLoad
+pub mod Outcomes
 pub mod Rules
 pub mod Texts

@@ -5,6 +5,7 @@ use Rattle.rbac_model.specs.Kept.{AreKept}
 use Rattle.rbac_model.specs.Policies.{Held, IsHeld, AreGrantsOf, OneListOfGrants}
 use Rattle.rbac_manifest.specs.declared.fault.LoadFault.{LoadFault}
 use Rattle.rbac_manifest.specs.Load.{LoadedView, IsLoaded, HasFault, document_fault, given}
+use Rattle.rbac_manifest.specs.Gathered.{objects_in}
 
 abbrev pub KeptIsOne : Type 0
 KeptIsOne = (os : List Object) (held : Held) (others : Held) → AreKept os held → AreKept os others → held ≡ others
@@ -19,7 +20,7 @@ pub no_fault : KeptIsOne → GrantsAreOne → (inputs : List (List ℕ)) (l : Lo
 no_fault kept grants inputs l f loaded fault = elim fault [
   | inl e ↦ not_both (document_fault inputs) f loaded.accepted e
   | inr w ↦
-      let held : w.2.0 ≡ l.policy.held = kept (given inputs) w.2.0 l.policy.held w.2.1 loaded.kept in
+      let held : w.2.0 ≡ l.policy.held = kept (objects_in (given inputs)) w.2.0 l.policy.held w.2.1 loaded.kept in
       let P : Held → Type 0 = λ h. AreGrantsOf h h.bindings w.2.2.0 in
       let same = grants l.policy.held loaded.policy.0 w.2.2.0 l.policy.grants (subst P held w.2.2.1) loaded.policy.1 in
       omega (arith, ap length same, w.2.2.2, loaded.few)

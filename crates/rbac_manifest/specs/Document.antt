@@ -1,7 +1,6 @@
--- The table of a document's refusals, and the object that a document gives.
+-- The table of a document's refusals, and what a document gives.
 use Rattle.std.specs.Prelude.{ℕ, ◌||◌, Bool, true, false, not, List, [], ◌∷◌, codes, Option, Some, None, option_map, option_and_then, unwrap_or, is_none, if◌then◌else◌}
 use Rattle.serde_json.specs.Data.{Data}
-use Rattle.rbac_model.specs.declared.holding.Object.{Object}
 use Rattle.rbac_model.specs.declared.holding.Object.TheVariants as object
 use Rattle.rbac_terms.specs.declared.matching.Rule.{Rule}
 use Rattle.rbac_terms.specs.declared.selecting.Selector.{Selector}
@@ -10,18 +9,23 @@ use Rattle.rbac_terms.specs.declared.granting.Role.{Role}
 use Rattle.rbac_terms.specs.declared.granting.ClusterRole.{ClusterRole}
 use Rattle.rbac_terms.specs.declared.granting.Binding.{Binding}
 use Rattle.rbac_terms.specs.declared.granting.Subject.{Subject}
+use Rattle.rbac_lists.specs.declared.given.Account.{Account}
 use Rattle.rbac_manifest.specs.Fields.{is_object, is_empty}
 use Rattle.rbac_manifest.specs.Kinds.{kind_at, version_at, kind_of}
 use Rattle.rbac_manifest.specs.Role.{bad_rules, rules_in}
 use Rattle.rbac_manifest.specs.Metadata.{metadata_at}
 use Rattle.rbac_manifest.specs.Label.{aggregation_at}
 use Rattle.rbac_manifest.specs.Binding.{role_ref_at, bad_subjects, subjects_in}
+use Rattle.rbac_manifest.specs.ApiList.{entries_at}
+use Rattle.rbac_manifest.specs.UniverseDocument.{given_lists_at}
 use Rattle.rbac_manifest.specs.declared.metadata.Metadata.{Metadata}
+use Rattle.rbac_manifest.specs.declared.given.Given.{Given}
+use Rattle.rbac_manifest.specs.declared.given.Given.TheVariants as givens
 use Rattle.rbac_manifest.specs.declared.kind.Kind.{Kind}
 use Rattle.rbac_manifest.specs.declared.kind.Kind.TheVariants as kinds
 use Rattle.rbac_manifest.specs.declared.kind.Implied.{Implied}
 use Rattle.rbac_manifest.specs.declared.fault.Cause.{Cause}
-use Rattle.rbac_manifest.specs.declared.fault.Cause.TheVariants.{NotAnObject, BadVersion, BadMetadata, BadRoleRef, BadSelector}
+use Rattle.rbac_manifest.specs.declared.fault.Cause.TheVariants.{NotAnObject, BadVersion, BadMetadata, BadRoleRef, BadSelector, BadCatalogue, BadUniverse}
 
 -- ---- the refusals by number: each row is a condition and its cause, by the kind of the document
 
@@ -43,22 +47,26 @@ not_an_object implied d = when (not (is_object d) || is_none (kind_at implied d)
 unfoldable pub bad_version : Implied → Data → Option Cause
 bad_version implied d = when (is_none (version_at implied (unwrap_or (kind_at implied d) []) d)) BadVersion
 
--- the kinds that give an object
-abbrev pub is_object_kind : Kind → Bool
-is_object_kind kinds.Role = true
-is_object_kind kinds.ClusterRole = true
-is_object_kind kinds.RoleBinding = true
-is_object_kind kinds.ClusterRoleBinding = true
-is_object_kind (kinds.List items) = false
-is_object_kind kinds.Other = false
+-- the kinds of Kubernetes objects, which have metadata
+abbrev pub has_metadata : Kind → Bool
+has_metadata kinds.Role = true
+has_metadata kinds.ClusterRole = true
+has_metadata kinds.RoleBinding = true
+has_metadata kinds.ClusterRoleBinding = true
+has_metadata kinds.Namespace = true
+has_metadata kinds.ServiceAccount = true
+has_metadata kinds.ApiList = false
+has_metadata kinds.Universe = false
+has_metadata (kinds.List items) = false
+has_metadata kinds.Other = false
 
 -- M4: the metadata is bad
 abbrev pub bad_metadata : Data → Option Cause
 bad_metadata d = when (is_none (metadata_at d)) BadMetadata
 
--- the same, of what gives an object
+-- the same, of the kinds that have it
 abbrev pub metadata_row : Kind → Data → Option Cause
-metadata_row kind d = if is_object_kind kind then bad_metadata d else None
+metadata_row kind d = if has_metadata kind then bad_metadata d else None
 
 -- M5: the first bad rule; only a ClusterRole may be for URLs
 abbrev pub rules_row : Kind → Data → Option Cause
@@ -83,6 +91,16 @@ abbrev pub selector_row : Kind → Data → Option Cause
 selector_row kinds.ClusterRole d = when (is_none (aggregation_at d)) BadSelector
 selector_row kind d = None
 
+-- M9: an API resource list is bad
+abbrev pub catalogue_row : Kind → Data → Option Cause
+catalogue_row kinds.ApiList d = when (is_none (entries_at d)) BadCatalogue
+catalogue_row kind d = None
+
+-- M10: a Universe document is bad
+abbrev pub universe_row : Kind → Data → Option Cause
+universe_row kinds.Universe d = when (is_none (given_lists_at d)) BadUniverse
+universe_row kind d = None
+
 -- why a document is refused, if it is: the least number whose condition holds (own)
 unfoldable pub fault : Implied → Data → Option Cause
 fault implied d =
@@ -95,9 +113,11 @@ fault implied d =
     ∷ role_ref_row kind d
     ∷ subjects_row kind d
     ∷ selector_row kind d
+    ∷ catalogue_row kind d
+    ∷ universe_row kind d
     ∷ [])
 
--- ---- the object that a document gives
+-- ---- what a document gives
 
 -- the namespace of an object, `default` where none is given (own)
 unfoldable pub namespace_or_default : List ℕ → List ℕ
@@ -128,15 +148,23 @@ binding_from in_namespace m r ss = record {
 unfoldable pub binding_in : Bool → Data → Option Binding
 binding_in in_namespace d = option_and_then (λ m. option_map (λ r. binding_from in_namespace m r (subjects_in d)) (role_ref_at in_namespace d)) (metadata_at d)
 
--- the object that a document of this kind gives
-abbrev pub object_in : Kind → Data → Option Object
-object_in kinds.Role d = option_map object.Role (role_in d)
-object_in kinds.ClusterRole d = option_map object.ClusterRole (cluster_role_in d)
-object_in kinds.RoleBinding d = option_map object.Binding (binding_in true d)
-object_in kinds.ClusterRoleBinding d = option_map object.Binding (binding_in false d)
-object_in (kinds.List items) d = None
-object_in kinds.Other d = None
+-- a ServiceAccount
+abbrev pub account_from : Metadata → Account
+account_from m = record { namespace = namespace_or_default m.namespace; name = m.name }
 
--- the object that a document gives, if it gives one
-unfoldable pub stands : Implied → Data → Option Object
-stands implied d = object_in (kind_of implied d) d
+-- what a document of this kind gives; of a Namespace its name alone
+abbrev pub given_in : Kind → Data → Option Given
+given_in kinds.Role d = option_map (λ r. givens.Object (object.Role r)) (role_in d)
+given_in kinds.ClusterRole d = option_map (λ r. givens.Object (object.ClusterRole r)) (cluster_role_in d)
+given_in kinds.RoleBinding d = option_map (λ b. givens.Object (object.Binding b)) (binding_in true d)
+given_in kinds.ClusterRoleBinding d = option_map (λ b. givens.Object (object.Binding b)) (binding_in false d)
+given_in kinds.Namespace d = option_map (λ m. givens.Namespace m.name) (metadata_at d)
+given_in kinds.ServiceAccount d = option_map (λ m. givens.Account (account_from m)) (metadata_at d)
+given_in kinds.ApiList d = option_map givens.ApiList (entries_at d)
+given_in kinds.Universe d = option_map givens.Lists (given_lists_at d)
+given_in (kinds.List items) d = None
+given_in kinds.Other d = None
+
+-- what a document gives, if it gives anything
+unfoldable pub stands : Implied → Data → Option Given
+stands implied d = given_in (kind_of implied d) d

@@ -2,7 +2,7 @@
 use Rattle.std.specs.Prelude.{ℕ, ◌==◌, Bool, length, List, [], ◌∷◌, map, Option, Some, None, option_map, option_and_then, unwrap_or, is_some, if◌then◌else◌, codes}
 use Rattle.std.specs.List.{list_all}
 use Rattle.serde_json.specs.Data.{Data, null, boolean, number, string, array, object, Items, no_items, item}
-use Rattle.serde_json.specs.Find.{get, as_str, as_array, as_object}
+use Rattle.serde_json.specs.Find.{get, as_bool, as_str, as_array, as_object}
 
 -- a value, unless it is null
 abbrev pub present : Data → Option Data
@@ -75,3 +75,12 @@ non_empty t = if is_empty t then None else Some t
 -- a name: a text that isn't empty
 unfoldable pub name_at : Data → Option (List ℕ)
 name_at d = option_and_then non_empty (text_at (codes "name") d)
+
+-- a yes or no that may be missing, and then is as this says
+abbrev pub flag_or : Bool → Option Data → Option Bool
+flag_or missing None = Some missing
+flag_or missing (Some d) = as_bool d
+
+-- the yes or no in a field
+unfoldable pub flag_at : Bool → List ℕ → Data → Option Bool
+flag_at missing name d = flag_or missing (field name d)

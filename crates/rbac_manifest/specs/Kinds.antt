@@ -4,7 +4,7 @@ use Rattle.std.specs.Str.{bytes_eq}
 use Rattle.std.specs.List.{starts_with, list_any}
 use Rattle.serde_json.specs.Data.{Data}
 use Rattle.serde_json.specs.Find.{as_str}
-use Rattle.rbac_manifest.specs.Fields.{field}
+use Rattle.rbac_manifest.specs.Fields.{field, is_empty}
 use Rattle.rbac_manifest.specs.declared.kind.Kind.{Kind}
 use Rattle.rbac_manifest.specs.declared.kind.Kind.TheVariants as kinds
 use Rattle.rbac_manifest.specs.declared.kind.Implied.{Implied}
@@ -84,9 +84,14 @@ kind_named version kind =
     else kinds.Other)
     else if bytes_eq version (codes "v1") then
     (if bytes_eq kind (codes "List") then kinds.List lists.Nothing
+    else if bytes_eq kind (codes "Namespace") then kinds.Namespace
+    else if bytes_eq kind (codes "ServiceAccount") then kinds.ServiceAccount
     else if bytes_eq kind (codes "NamespaceList") then kinds.List lists.Namespace
     else if bytes_eq kind (codes "ServiceAccountList") then kinds.List lists.ServiceAccount
+    else if bytes_eq kind (codes "APIResourceList") then kinds.ApiList
     else kinds.Other)
+    else if is_empty version && bytes_eq kind (codes "APIResourceList") then kinds.ApiList
+    else if bytes_eq version (codes "rbacaudit/v1") && bytes_eq kind (codes "Universe") then kinds.Universe
     else kinds.Other
 
 -- the kind of a document by its kind and version texts

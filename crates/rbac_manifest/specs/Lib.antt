@@ -7,6 +7,9 @@ pub mod Label
 pub mod Metadata
 pub mod Binding
 pub mod Kinds
+pub mod ApiList
+pub mod UniverseDocument
 pub mod Document
 pub mod Walk
+pub mod Gathered
 pub mod Load

@@ -7,10 +7,14 @@ use Rattle.serde_json.specs.Data.{Data}
 use Rattle.serde_json.specs.Read.{read}
 use Rattle.rbac_manifest.specs.Fields.{list_field}
 use Rattle.rbac_manifest.specs.Kinds.{kind_of}
-use Rattle.rbac_manifest.specs.Document.{fault, stands, object_in}
-use Rattle.rbac_model.specs.declared.holding.Object.{Object}
+use Rattle.rbac_manifest.specs.Document.{fault, stands, given_in}
+use Rattle.rbac_manifest.specs.Gathered.{objects_in, namespaces_in, accounts_in, catalogue_in, documents_in}
+use Rattle.rbac_catalogue.specs.Catalogue.{CatalogueView}
+use Rattle.rbac_universe.specs.declared.lists.UniverseLists.{UniverseLists}
+use Rattle.rbac_lists.specs.Meant.{lists_meant}
 use Rattle.rbac_model.specs.Kept.{AreKept}
 use Rattle.rbac_model.specs.Policies.{Held, PolicyView, IsPolicy, HasTooMany}
+use Rattle.rbac_manifest.specs.declared.given.Given.{Given}
 use Rattle.rbac_manifest.specs.declared.kind.Kind.{Kind}
 use Rattle.rbac_manifest.specs.declared.kind.Kind.TheVariants as kinds
 use Rattle.rbac_manifest.specs.declared.kind.Implied.{Implied}
@@ -41,8 +45,8 @@ first_refusal implied place [] = None
 first_refusal implied place (d ∷ ds) = item_or place (fault implied d) (first_refusal implied (place + 1) ds)
 
 -- what the items give
-abbrev pub objects_in : Implied → List Data → List Object
-objects_in implied ds = flat_map (λ d. option_to_list (stands implied d)) ds
+abbrev pub given_by_items : Implied → List Data → List Given
+given_by_items implied ds = flat_map (λ d. option_to_list (stands implied d)) ds
 
 -- why a list is refused: its items aren't a list (M2), or an item has a fault
 abbrev pub list_refusal : Implied → Option (List Data) → Option Refusal
@@ -50,9 +54,9 @@ list_refusal implied None = Some (as_whole NotAnObject)
 list_refusal implied (Some ds) = first_refusal implied 0 ds
 
 -- what a list gives
-abbrev pub list_objects : Implied → Option (List Data) → List Object
-list_objects implied None = []
-list_objects implied (Some ds) = objects_in implied ds
+abbrev pub given_by_list : Implied → Option (List Data) → List Given
+given_by_list implied None = []
+given_by_list implied (Some ds) = given_by_items implied ds
 
 -- why an input is refused for its items, where it is a list
 abbrev pub items_refusal : Kind → Data → Option Refusal
@@ -60,9 +64,9 @@ items_refusal (kinds.List implied) d = list_refusal implied (list_field (codes "
 items_refusal kind d = None
 
 -- what an input of this kind gives
-abbrev pub body_objects : Kind → Data → List Object
-body_objects (kinds.List implied) d = list_objects implied (list_field (codes "items") d)
-body_objects kind d = option_to_list (object_in kind d)
+abbrev pub given_by_body : Kind → Data → List Given
+given_by_body (kinds.List implied) d = given_by_list implied (list_field (codes "items") d)
+given_by_body kind d = option_to_list (given_in kind d)
 
 -- a fault of the whole input, or else of its items
 abbrev pub whole_or : Option Cause → Option Refusal → Option Refusal
@@ -73,9 +77,9 @@ whole_or (Some cause) items = Some (as_whole cause)
 unfoldable pub refusal_in : Data → Option Refusal
 refusal_in d = whole_or (fault lists.Nothing d) (items_refusal (kind_of lists.Nothing d) d)
 
--- the objects of an input
-unfoldable pub input_objects : Data → List Object
-input_objects d = body_objects (kind_of lists.Nothing d) d
+-- what an input gives
+unfoldable pub given_by_input : Data → List Given
+given_by_input d = given_by_body (kind_of lists.Nothing d) d
 
 -- ---- all inputs
 
@@ -93,17 +97,17 @@ refusal_of None = Some (as_whole NotJson)
 refusal_of (Some d) = refusal_in d
 
 -- what the value of a file gives
-abbrev pub objects_of : Option Data → List Object
-objects_of None = []
-objects_of (Some d) = input_objects d
+abbrev pub given_by_value : Option Data → List Given
+given_by_value None = []
+given_by_value (Some d) = given_by_input d
 
 -- why a file is refused, if it is
 unfoldable pub file_refusal : List ℕ → Option Refusal
 file_refusal bytes = refusal_of (json_in bytes)
 
 -- what a file gives, in order
-unfoldable pub file_objects : List ℕ → List Object
-file_objects bytes = objects_of (json_in bytes)
+unfoldable pub given_by_file : List ℕ → List Given
+given_by_file bytes = given_by_value (json_in bytes)
 
 -- a fault of this file, or else what the later ones have
 abbrev pub file_or : ℕ → Option Refusal → Option LoadFault → Option LoadFault
@@ -120,22 +124,27 @@ abbrev pub document_fault : List (List ℕ) → Option LoadFault
 document_fault inputs = fault_from 0 inputs
 
 -- what all documents give, in order
-abbrev pub given : List (List ℕ) → List Object
-given inputs = flat_map file_objects inputs
+abbrev pub given : List (List ℕ) → List Given
+given inputs = flat_map given_by_file inputs
 
 -- ---- what is loaded
 
--- what contracts see of what was loaded
+-- what contracts see of what was loaded: a policy, a catalogue, and the lists of a universe
 pub record LoadedView : Type 0 where
   pub policy : PolicyView
+  pub catalogue : CatalogueView
+  pub lists : UniverseLists
 
--- every document is accepted, of each kind, namespace and name the last object is kept (own), and the grants
--- follow from what is kept and are no more than there may be
+-- every document is accepted, of each kind, namespace and name the last object is kept (own), the grants
+-- follow from what is kept and are no more than there may be, the catalogue is that of all API resource
+-- lists, and the lists are those that all of it means
 pub record IsLoaded (inputs : List (List ℕ)) (l : LoadedView) : Type 0 where
   pub accepted : document_fault inputs ≡ None
-  pub kept : AreKept (given inputs) l.policy.held
+  pub kept : AreKept (objects_in (given inputs)) l.policy.held
   pub policy : IsPolicy l.policy
   pub few : length l.policy.grants ≤ 1000000
+  pub catalogue : l.catalogue ≡ catalogue_in (given inputs)
+  pub lists : l.lists ≡ lists_meant l.policy.held l.catalogue (namespaces_in (given inputs)) (accounts_in (given inputs)) (documents_in (given inputs))
 
 -- more grants than there may be, of all inputs together; this fault has no place
 abbrev pub too_many : LoadFault
@@ -145,4 +154,4 @@ too_many = record { at = None; cause = TooMany }
 abbrev pub HasFault : List (List ℕ) → LoadFault → Type 0
 HasFault inputs f =
     (document_fault inputs ≡ Some f)
-    ⊎ ((document_fault inputs ≡ None) × (f ≡ too_many) × ((held : Held) × AreKept (given inputs) held × HasTooMany held))
+    ⊎ ((document_fault inputs ≡ None) × (f ≡ too_many) × ((held : Held) × AreKept (objects_in (given inputs)) held × HasTooMany held))

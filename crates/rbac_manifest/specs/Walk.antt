@@ -4,12 +4,14 @@ use Rattle.serde_json.specs.Data.{Data}
 use Rattle.rbac_manifest.specs.Role.{bad_rules}
 use Rattle.rbac_manifest.specs.Label.{aggregation_at}
 use Rattle.rbac_manifest.specs.Binding.{role_ref_at, bad_subjects}
+use Rattle.rbac_manifest.specs.ApiList.{entries_at}
+use Rattle.rbac_manifest.specs.UniverseDocument.{given_lists_at}
 use Rattle.rbac_manifest.specs.Document.{when, first_of, not_an_object, bad_version, bad_metadata}
 use Rattle.rbac_manifest.specs.declared.kind.Kind.{Kind}
 use Rattle.rbac_manifest.specs.declared.kind.Kind.TheVariants as kinds
 use Rattle.rbac_manifest.specs.declared.kind.Implied.{Implied}
 use Rattle.rbac_manifest.specs.declared.fault.Cause.{Cause}
-use Rattle.rbac_manifest.specs.declared.fault.Cause.TheVariants.{BadRoleRef, BadSelector}
+use Rattle.rbac_manifest.specs.declared.fault.Cause.TheVariants.{BadRoleRef, BadSelector, BadCatalogue, BadUniverse}
 
 -- what is wrong with the kind or version of a document
 unfoldable pub bad_header : Implied → Data → Option Cause
@@ -36,10 +38,14 @@ bad_binding in_namespace d = first_of (
     ∷ [])
 
 -- what is wrong with a document of this kind
-abbrev pub bad_object : Kind → Data → Option Cause
-bad_object kinds.Role d = bad_role d
-bad_object kinds.ClusterRole d = bad_cluster_role d
-bad_object kinds.RoleBinding d = bad_binding true d
-bad_object kinds.ClusterRoleBinding d = bad_binding false d
-bad_object (kinds.List items) d = None
-bad_object kinds.Other d = None
+abbrev pub bad_body : Kind → Data → Option Cause
+bad_body kinds.Role d = bad_role d
+bad_body kinds.ClusterRole d = bad_cluster_role d
+bad_body kinds.RoleBinding d = bad_binding true d
+bad_body kinds.ClusterRoleBinding d = bad_binding false d
+bad_body kinds.Namespace d = bad_metadata d
+bad_body kinds.ServiceAccount d = bad_metadata d
+bad_body kinds.ApiList d = when (is_none (entries_at d)) BadCatalogue
+bad_body kinds.Universe d = when (is_none (given_lists_at d)) BadUniverse
+bad_body (kinds.List items) d = None
+bad_body kinds.Other d = None

@@ -1,19 +1,24 @@
-//! The object that one document gives, or why the document is refused.
+//! What one document gives, or why the document is refused.
 
-ghost use Rattle.std.specs.Prelude.{◌≡◌, IfOk};
+ghost use Rattle.std.specs.Prelude.{◌≡◌, IfOk, option_map};
 ghost use Rattle.serde_json.specs.View.{view};
-ghost use Rattle.rbac_manifest.specs.Document.{namespace_or_default, role_in, cluster_role_in, binding_in, object_in, fault, stands};
-ghost use Rattle.rbac_manifest.specs.Walk.{bad_role, bad_cluster_role, bad_binding, bad_object};
+ghost use Rattle.rbac_manifest.specs.Document.{namespace_or_default, role_in, cluster_role_in, binding_in, account_from, given_in, fault, stands, bad_metadata};
+ghost use Rattle.rbac_manifest.specs.Walk.{bad_role, bad_cluster_role, bad_binding, bad_body};
+ghost use Rattle.rbac_manifest.specs.Metadata.{metadata_at};
 ghost use Rattle.rbac_manifest.specs.Reads.{Loads, Gives};
 
+use crate::api_list::entries_of;
 use crate::binding::role_ref_of;
 use crate::fault::Cause;
 use crate::fields::word_of;
+use crate::given::Given;
 use crate::kind::{Implied, Kind, kind_of};
 use crate::metadata::{Metadata, metadata_of};
 use crate::rule::rules_of;
 use crate::selector::aggregation_of;
 use crate::subject::subjects_of;
+use crate::universe_document::given_lists_of;
+use rbac_lists::Account;
 use rbac_model::Object;
 use rbac_terms::{Binding, ClusterRole, Role, Word};
 use serde_json::Value;
@@ -98,32 +103,65 @@ fn binding_of(alloc: Global, document: &Value, in_namespace: bool) -> Result<Bin
     })
 }
 
-// The object of a document of this kind.
-pub(crate) fn object_of(
-    alloc: Global,
-    kind: Kind,
-    document: &Value,
-) -> Result<Option<Object>, Cause>
-    ensures { Loads result (bad_object kind (view document.now)) (object_in kind (view document.now)) }
+// The name of a Namespace.
+fn namespace_of(alloc: Global, document: &Value) -> Result<Word, Cause>
+    ensures { Gives result (bad_metadata (view document.now))
+        (option_map (λ m. m.name) (metadata_at (view document.now))) }
 {
-    match kind {
-        Kind::Role => Ok(Some(Object::Role(role_of(alloc, document)?))),
-        Kind::ClusterRole => Ok(Some(Object::ClusterRole(cluster_role_of(alloc, document)?))),
-        Kind::RoleBinding => Ok(Some(Object::Binding(binding_of(alloc, document, true)?))),
-        Kind::ClusterRoleBinding => Ok(Some(Object::Binding(binding_of(alloc, document, false)?))),
-        Kind::List(_) | Kind::Other => Ok(None),
-    }
+    let Metadata { name, .. } = metadata_of(alloc, document).map_err(|trouble| trouble.cause(
+        Cause::BadMetadata,
+    ))?;
+    Ok(name)
 }
 
-// The object that a document gives.
+// The ServiceAccount that a document gives.
+fn account_of(alloc: Global, document: &Value) -> Result<Account, Cause>
+    ensures { Gives result (bad_metadata (view document.now))
+        (option_map account_from (metadata_at (view document.now))) }
+{
+    let Metadata {
+        name,
+        namespace,
+        ..
+    } = metadata_of(alloc, document).map_err(|trouble| trouble.cause(Cause::BadMetadata))?;
+    Ok(Account {
+        namespace: namespace_or_default(alloc, namespace)?,
+        name,
+    })
+}
+
+// What a document of this kind gives.
+pub(crate) fn given_of(alloc: Global, kind: Kind, document: &Value) -> Result<Option<Given>, Cause>
+    ensures { Loads result (bad_body kind (view document.now)) (given_in kind (view document.now)) }
+{
+    Ok(Some(match kind {
+        Kind::Role => Given::Object(Object::Role(role_of(alloc, document)?)),
+        Kind::ClusterRole => Given::Object(Object::ClusterRole(cluster_role_of(alloc, document)?)),
+        Kind::RoleBinding => Given::Object(Object::Binding(binding_of(alloc, document, true)?)),
+        Kind::ClusterRoleBinding => Given::Object(Object::Binding(binding_of(
+            alloc, document, false,
+        )?)),
+        Kind::Namespace => Given::Namespace(namespace_of(alloc, document)?),
+        Kind::ServiceAccount => Given::Account(account_of(alloc, document)?),
+        Kind::ApiList => Given::ApiList(entries_of(alloc, document).map_err(|trouble| trouble.cause(
+            Cause::BadCatalogue,
+        ))?),
+        Kind::Universe => Given::Lists(given_lists_of(alloc, document).map_err(
+            |trouble| trouble.cause(Cause::BadUniverse),
+        )?),
+        Kind::List(_) | Kind::Other => return Ok(None),
+    }))
+}
+
+// What a document gives.
 #[tactic(auto, using(crate::proofs::Faults::fault_by_kind), unfolding(crate::specs::Document::stands))]
 pub(crate) fn document_of(
     alloc: Global,
     document: &Value,
     implied: Implied,
-) -> Result<Option<Object>, Cause>
+) -> Result<Option<Given>, Cause>
     ensures { Loads result (fault implied (view document.now)) (stands implied (view document.now)) }
 {
     let kind = kind_of(document, implied)?;
-    object_of(alloc, kind, document)
+    given_of(alloc, kind, document)
 }

@@ -45,8 +45,7 @@ impl Trouble {
     }
 }
 
-/// Why a document is refused (own): M1 to M8, M11 and M12. Within a document the least number
-/// stands. Places of rules and subjects count from 0; where the field isn't a list the place is 0.
+/// Why a document is refused (own): M1 to M12. Within a document the least number stands. Places of rules and subjects count from 0; where the field isn't a list the place is 0.
 #[derive(Clone, Copy, Debug, Drop, PartialEq, Eq)]
 pub enum Cause {
     /// M1: the bytes of the input aren't JSON.
@@ -65,6 +64,10 @@ pub enum Cause {
     BadSubject(usize),
     /// M8: the selectors of an aggregated role have another shape.
     BadSelector,
+    /// M9: an API resource list has another shape.
+    BadCatalogue,
+    /// M10: a Universe document has a field of another shape.
+    BadUniverse,
     /// M11: there are more than a million grants.
     TooMany,
     /// M12: memory was refused.
@@ -98,6 +101,8 @@ impl fmt::Display for Cause {
             Cause::BadRoleRef => write!(f, "M6 bad roleRef"),
             Cause::BadSubject(place) => write!(f, "M7 bad subject {}", from_one(*place)),
             Cause::BadSelector => write!(f, "M8 bad selector"),
+            Cause::BadCatalogue => write!(f, "M9 bad API resource list"),
+            Cause::BadUniverse => write!(f, "M10 bad universe"),
             Cause::TooMany => write!(f, "M11 too many grants"),
             Cause::NoMemory => write!(f, "out of memory"),
         }

@@ -2,7 +2,7 @@
 
 ghost use Rattle.std.specs.Prelude.{◌≡◌, map, option_map, IfOk};
 ghost use Rattle.serde_json.specs.View.{view};
-ghost use Rattle.rbac_manifest.specs.Fields.{field, as_list, list_field, texts_field, all_texts, text_at, name_at};
+ghost use Rattle.rbac_manifest.specs.Fields.{field, as_list, list_field, texts_field, all_texts, text_at, name_at, flag_at};
 ghost use Rattle.rbac_manifest.specs.Reads.{Reads};
 
 use crate::fault::Trouble;
@@ -92,4 +92,23 @@ pub(crate) fn word_of(alloc: Global, text: &str) -> Result<Word, AllocError>
     ensures { IfOk result (λ w. w ≡ text.now) }
 {
     Word::from_slice(alloc, text.as_bytes())
+}
+
+// The yes or no in a field; a missing one is as this says.
+#[tactic(auto, unfolding(crate::specs::Fields::flag_at))]
+pub(crate) fn flag_field(value: &Value, name: &str, missing: bool) -> Result<bool, Trouble>
+    ensures { Reads result (flag_at missing name.now (view value.now)) }
+{
+    match field(value, name) {
+        Some(flag) => flag.as_bool().ok_or(Trouble::Shape),
+        None => Ok(missing),
+    }
+}
+
+// A copy of the text in a field; a missing one is empty.
+pub(crate) fn word_field(alloc: Global, value: &Value, name: &str) -> Result<Word, Trouble>
+    ensures { Reads result (text_at name.now (view value.now)) }
+{
+    let text = text_field(value, name).ok_or(Trouble::Shape)?;
+    Ok(word_of(alloc, text)?)
 }

@@ -31,6 +31,12 @@ pub(crate) enum Kind {
     ClusterRole,
     RoleBinding,
     ClusterRoleBinding,
+    Namespace,
+    ServiceAccount,
+    // A list of API resources, which isn't a list of documents.
+    ApiList,
+    // Lists of a universe.
+    Universe,
     List(Implied),
     // Passed over.
     Other,
@@ -154,13 +160,23 @@ fn kind_named(version: &str, kind: &str) -> Kind
     } else if version == "v1" {
         if kind == "List" {
             Kind::List(Implied::Nothing)
+        } else if kind == "Namespace" {
+            Kind::Namespace
+        } else if kind == "ServiceAccount" {
+            Kind::ServiceAccount
         } else if kind == "NamespaceList" {
             Kind::List(Implied::Namespace)
         } else if kind == "ServiceAccountList" {
             Kind::List(Implied::ServiceAccount)
+        } else if kind == "APIResourceList" {
+            Kind::ApiList
         } else {
             Kind::Other
         }
+    } else if version.is_empty() && kind == "APIResourceList" {
+        Kind::ApiList
+    } else if version == "rbacaudit/v1" && kind == "Universe" {
+        Kind::Universe
     } else {
         Kind::Other
     }

@@ -1,11 +1,15 @@
 //! Kubernetes manifests in JSON, as `kubectl get -o json` and `kubectl get --raw` write them, read
-//! to the objects of the RBAC API and the policy that follows from them.
+//! to the objects of the RBAC API and the policy that follows from them, to the catalogue of API
+//! resources, and to the lists that a universe is made of.
 #![tactic(auto)]
 
+mod api_list;
 mod binding;
 mod document;
 mod fault;
 mod fields;
+mod gathered;
+mod given;
 mod items;
 mod kind;
 mod label;
@@ -15,8 +19,11 @@ mod metadata;
 mod rule;
 mod selector;
 mod subject;
+mod universe_document;
 
 pub use fault::{At, Cause, LoadFault};
 pub use laws::loaded_inputs_have_no_fault;
 pub use loading::{Loaded, load};
+pub use rbac_catalogue::Catalogue;
 pub use rbac_streams::Input;
+pub use rbac_universe::UniverseLists;

@@ -1,47 +1,90 @@
-//! Inputs, read to objects, and the policy that follows from what they give.
+//! Inputs, read to what they give, and the policy that follows from it.
 
-ghost use Rattle.std.specs.Prelude.{◌≡◌, ◌≢◌, ◌≤◌, ◌++◌, length, OnOk, IfOk, IfErr, None, Some};
+ghost use Rattle.std.specs.Prelude.{◌≡◌, ◌≢◌, ◌≤◌, length, OnOk, IfOk, IfErr, None, Some};
 ghost use Rattle.serde_json.specs.View.{view};
 ghost use Rattle.rbac_manifest.specs.declared.fault.Cause.TheVariants.{NotJson, NoMemory};
-ghost use Rattle.rbac_manifest.specs.Load.{json_in, in_file, file_refusal, file_objects, document_fault, given, too_many, IsLoaded, HasFault};
+ghost use Rattle.rbac_manifest.specs.Load.{json_in, in_file, file_refusal, given_by_file, document_fault, given, too_many, IsLoaded, HasFault};
+ghost use Rattle.rbac_manifest.specs.Gathered.{gathered, with_given};
 ghost use Rattle.rbac_model.specs.Kept.{AreKept};
 ghost use Rattle.rbac_model.specs.Policies.{Held, IsPolicy, HasTooMany};
 
 use crate::fault::{Cause, LoadFault, Refusal};
+use crate::gathered::Gathered;
 use crate::items::input_into;
+use rbac_catalogue::Catalogue;
+use rbac_lists::{Account, GivenLists, lists_of};
 use rbac_model::{Object, Objects, Policy, ResolveFault};
 use rbac_streams::Input;
+use rbac_terms::Word;
+use rbac_universe::UniverseLists;
 use serde_json::Value;
-use std::alloc::Global;
+use std::alloc::{AllocError, Global};
 use std::marker::Model;
 
 /// What inputs give, once all of them are accepted.
 #[derive(Drop)]
 pub struct Loaded {
     policy: Policy,
+    catalogue: Catalogue,
+    namespaces: Vec<Word>,
+    accounts: Vec<Account>,
+    documents: Vec<GivenLists>,
 }
 
 impl Model for Loaded {
+    ghost use Rattle.rbac_lists.specs.Meant.{lists_meant};
     ghost use Rattle.rbac_manifest.specs.Load.{LoadedView};
 
     ghost Value = { LoadedView };
 
-    ghost view = { λ l. record { policy = l.policy } };
+    ghost view = { λ l. record {
+      policy = l.policy;
+      catalogue = l.catalogue;
+      lists = lists_meant l.policy.held l.catalogue l.namespaces.items l.accounts.items l.documents.items;
+    } };
 }
 
 impl Loaded {
-    /// The policy of the objects that are kept.
+    /// The policy of the objects that are kept. Takes no memory.
     pub fn policy(&self) -> &Policy
         ensures { result.now ≡ self.now.policy }
     {
         &self.policy
     }
 
-    /// The objects that are kept: for each kind, namespace and name the last that was given.
+    /// The objects that are kept: for each kind, namespace and name the last that was given. Takes
+    /// no memory.
     pub fn objects(&self) -> &Objects
         ensures { result.now ≡ self.now.policy.held }
     {
         self.policy.objects()
+    }
+
+    /// The catalogue of all API resource lists (own). Takes no memory.
+    pub fn catalogue(&self) -> &Catalogue
+        ensures { result.now ≡ self.now.catalogue }
+    {
+        &self.catalogue
+    }
+
+    /// The lists that a universe is made of (own): each as the last of the Universe documents that
+    /// has it gives it, and else as it is derived from the objects that are kept, the catalogue, and
+    /// Namespace and ServiceAccount objects. They are made when asked for.
+    ///
+    /// # Errors
+    ///
+    /// Where memory was refused.
+    pub fn lists(&self, alloc: Global) -> Result<UniverseLists, AllocError>
+        ensures { IfOk result (λ lists. lists ≡ self.now.lists) }
+    {
+        lists_of(
+            alloc,
+            self.objects(),
+            self.catalogue(),
+            self.namespaces.as_slice(),
+            self.accounts.as_slice(),
+            self.documents.as_slice(),
+        )
     }
 }
 
@@ -58,31 +101,32 @@ fn parse(alloc: Global, bytes: &[u8]) -> Result<Value, Cause>
     }
 }
 
-// Adds the objects of one file, whose JSON value is let go at the end.
-#[tactic(auto, unfolding(crate::specs::Load::file_refusal, crate::specs::Load::file_objects))]
-fn file_into(alloc: Global, bytes: &[u8], objects: &mut Vec<Object>) -> Result<(), Refusal>
+// Takes over what one file gives, whose JSON value is let go at the end.
+#[tactic(auto, unfolding(crate::specs::Load::file_refusal, crate::specs::Load::given_by_file))]
+fn file_into(alloc: Global, bytes: &[u8], gathered: &mut Gathered) -> Result<(), Refusal>
     ensures sound { OnOk result (file_refusal bytes.now ≡ None) }
-    ensures objects { OnOk result (objects.new.items ≡ objects.old.items ++ file_objects bytes.now) }
+    ensures given { OnOk result (gathered.new ≡ with_given gathered.old (given_by_file bytes.now)) }
     ensures refusal { IfErr result (λ e. e.cause ≢ NoMemory → file_refusal bytes.now ≡ Some e) }
 {
     let value = parse(alloc, bytes).map_err(Refusal::whole)?;
-    input_into(alloc, value, objects)
+    input_into(alloc, value, gathered)
 }
 
-// The objects of all inputs, in order. The first document with a fault decides.
-fn objects_of(alloc: Global, inputs: &[Input]) -> Result<Vec<Object>, LoadFault>
+// What all inputs give, in order. The first document with a fault decides.
+#[tactic(auto, using(crate::proofs::Gathering::given_next))]
+fn gathered_of(alloc: Global, inputs: &[Input]) -> Result<Gathered, LoadFault>
     ensures sound { OnOk result (document_fault inputs.now ≡ None) }
-    ensures objects { IfOk result (λ os. os.items ≡ given inputs.now) }
+    ensures given { IfOk result (λ g. g ≡ gathered (given inputs.now)) }
     ensures fault { IfErr result (λ e. e.cause ≢ NoMemory → document_fault inputs.now ≡ Some e) }
     ensures memory { IfErr result (λ e. e.cause ≡ NoMemory → e.at ≡ None) }
 {
-    let mut objects = Vec::new(alloc);
+    let mut gathered = Gathered::new(alloc);
     for (file, input) in inputs.iter().enumerate() {
-        file_into(alloc, input.as_bytes(), &mut objects).map_err(|refusal| LoadFault::in_file(
+        file_into(alloc, input.as_bytes(), &mut gathered).map_err(|refusal| LoadFault::in_file(
             file, refusal,
         ))?;
     }
-    Ok(objects)
+    Ok(gathered)
 }
 
 // The policy of these objects, of each kind, namespace and name the last.
@@ -101,8 +145,9 @@ fn policy_of(alloc: Global, objects: Vec<Object>) -> Result<Policy, LoadFault>
     }
 }
 
-/// Reads inputs, in order, to the policy of what they give: of each kind, namespace and name the
-/// last object (own). Documents of other kinds are passed over.
+/// Reads inputs, in order, to what they give: the policy of their objects, of each kind, namespace
+/// and name the last (own), the catalogue of their API resource lists, and what the lists of a
+/// universe are made of. Documents of other kinds are passed over.
 ///
 /// # Errors
 ///
@@ -113,7 +158,19 @@ pub fn load(alloc: Global, inputs: &[Input]) -> Result<Loaded, LoadFault>
     ensures fault { IfErr result (λ e. e.cause ≢ NoMemory → HasFault inputs.now e) }
     ensures memory { IfErr result (λ e. e.cause ≡ NoMemory → e.at ≡ None) }
 {
-    let objects = objects_of(alloc, inputs)?;
+    let Gathered {
+        objects,
+        namespaces,
+        accounts,
+        catalogue,
+        documents,
+    } = gathered_of(alloc, inputs)?;
     let policy = policy_of(alloc, objects)?;
-    Ok(Loaded { policy })
+    Ok(Loaded {
+        policy,
+        catalogue,
+        namespaces,
+        accounts,
+        documents,
+    })
 }

@@ -1,4 +1,4 @@
--- each grant is of a binding and of a rule that it brings, and each such rule is of a grant; so what is allowed is what some grant allows
+-- each rule that a binding brings is of a grant, and grants are in order of bindings; so what is allowed is what some grant allows, and the first grant that does is of the first binding that grants
 use Rattle.std.proofs.Common.{◌≡◌, ℕ, ◌+◌, ◌-◌, ◌<◌, List, [], ◌∷◌, ◌++◌, length, ap, sym, ◌∙◌, refl, subst, suc, zero, inl, inr, arith, Any}
 use Rattle.std.specs.Prelude.{Option, Some, None, slice_get}
 use Rattle.std.specs.Option.{option_map}
@@ -9,7 +9,8 @@ use Rattle.rbac_terms.specs.Targets.{What}
 use Rattle.rbac_terms.specs.Principals.{Who}
 use Rattle.rbac_terms.specs.Matching.{RuleAllows}
 use Rattle.rbac_terms.specs.declared.granting.Binding.{Binding}
-use Rattle.rbac_model.specs.Policies.{Held, IsHeld, SourcedRule, GrantView, AreRulesFor, AreGrantsOf, Allows, Grants, GrantAllows}
+use Rattle.rbac_model.specs.Policies.{Held, IsHeld, SourcedRule, GrantView, AreRulesFor, AreGrantsOf, Allows, IsFirst, Grants, GrantAllows}
+use Rattle.rbac_model.specs.Lists.{IsFirstAt}
 use Rattle.rbac_model.specs.Places.{granted_by}
 use Rattle.rbac_model.proofs.OneList.{one_rules_for}
 
@@ -30,6 +31,13 @@ parts_of : (b : Binding) (o : Option SourcedRule) (g : GrantView) → option_map
 parts_of b None g e = cc
 parts_of b (Some r) g e = let same = same_Some (grant_by b r) g e in (ap (λ (v : GrantView). v.binding) same, ap (λ (v : GrantView). Some v.rule) same)
 
+any_at : {X : Type 0} (P : X → Type 0) (xs : List X) (k : ℕ) (x : X) → slice_get xs k ≡ Some x → P x → Any P xs
+any_at P xs k x e p = (k, x, slice_get_within xs k x e, get_or_from_slice_get xs k x x e, p)
+
+none_earlier : {X : Type 0} {P : X → Type 0} (c : X) (bs : List X) (i : ℕ) → ¬ P c → ((k : ℕ) (y : X) → k < i → slice_get bs k ≡ Some y → ¬ P y) → (k : ℕ) (y : X) → k < suc i → slice_get (c ∷ bs) k ≡ Some y → ¬ P y
+none_earlier {X} {P} c bs i none before zero y lt read p = none (subst P (sym (same_Some c y read)) p)
+none_earlier c bs i none before (suc k) y lt read p = before k y (omega (arith, lt)) read p
+
 module _ (h : Held) where
   -- each rule that a binding brings is of a grant
   number_of : (held : IsHeld h) (bs : List Binding) (gs : List GrantView) (i : ℕ) (b : Binding) (rules : List SourcedRule) (k : ℕ) (rule : SourcedRule) → AreGrantsOf h bs gs → slice_get bs i ≡ Some b → AreRulesFor h b rules → slice_get rules k ≡ Some rule → (n : ℕ) × (slice_get gs n ≡ Some (grant_by b rule))
@@ -46,25 +54,50 @@ module _ (h : Held) where
       let n = length (granted_by c all.0) + rest.0 in
       (n, ap (λ (l : List GrantView). slice_get l n) all.4 ∙ read_right (granted_by c all.0) all.1 n rest.0 refl ∙ rest.1)
 
-  -- each grant is of some binding, and of a rule that it brings
-  parts_at : (bs : List Binding) (gs : List GrantView) (n : ℕ) (g : GrantView) → AreGrantsOf h bs gs → slice_get gs n ≡ Some g → (i : ℕ) × (slice_get bs i ≡ Some g.binding) × ((rules : List SourcedRule) × AreRulesFor h g.binding rules × ((k : ℕ) × (slice_get rules k ≡ Some g.rule)))
-  parts_at [] gs n g all at = let bad = sym (ap (λ (l : List GrantView). slice_get l n) all) ∙ at in cc
-  parts_at (c ∷ bs) gs n g all at =
-      let here : slice_get (granted_by c all.0 ++ all.1) n ≡ Some g = sym (ap (λ (l : List GrantView). slice_get l n) all.4) ∙ at in
-      elim (cases_lt n (length (granted_by c all.0))) [
+  -- the binding of the first grant that allows is the first that grants
+  first_in : (held : IsHeld h) (who : Who) (namespace verb : Text) (t : What) (bs : List Binding) (gs : List GrantView) (n : ℕ) (g : GrantView) → AreGrantsOf h bs gs → IsFirstAt (GrantAllows who namespace verb t) gs n g
+      → (i : ℕ) × IsFirstAt (λ b. Grants h b who namespace verb t) bs i g.binding
+  first_in held who namespace verb t [] gs n g all f = let bad = sym (ap (λ (l : List GrantView). slice_get l n) all) ∙ f.here in cc
+  first_in held who namespace verb t (c ∷ bs) gs n g all f =
+      let P = GrantAllows who namespace verb t in
+      let first = granted_by c all.0 in
+      let at : (m : ℕ) → slice_get gs m ≡ slice_get (first ++ all.1) m = λ m. ap (λ (l : List GrantView). slice_get l m) all.4 in
+      elim (cases_lt n (length first)) [
         | inl l ↦
-            let made = sym (slice_get-map (grant_by c) all.0 n) ∙ sym (read_left (granted_by c all.0) all.1 n l) ∙ here in
-            let of = parts_of c (slice_get all.0 n) g made in
-            let P : Binding → Type 0 = λ v. AreRulesFor h v all.0 in
-            (0, ap (λ (v : Binding). Some v) of.0, (all.0, subst P of.0 all.2, (n, of.1)))
+            let of = parts_of c (slice_get all.0 n) g (sym (slice_get-map (grant_by c) all.0 n) ∙ sym (read_left first all.1 n l) ∙ sym (at n) ∙ f.here) in
+            let rules = subst (λ v. AreRulesFor h v all.0) of.0 all.2 in (
+              0,
+              record {
+                here = ap (λ (v : Binding). Some v) of.0;
+                holds = (f.holds.0, f.holds.1, (all.0, rules, any_at (λ (r : SourcedRule). RuleAllows r.rule verb t) all.0 n g.rule of.1 f.holds.2));
+                none_before = λ k y lt read p. absurd (omega (arith, lt));
+              },
+            )
         | inr l ↦
-            let j = n - length (granted_by c all.0) in
-            let rest = parts_at bs all.1 j g all.3 (sym (read_right (granted_by c all.0) all.1 n j (omega arith)) ∙ here) in
-            (suc rest.0, rest.1, rest.2)
+            let j = n - length first in
+            let right : (m : ℕ) → slice_get gs (length first + m) ≡ slice_get all.1 m = λ m. at (length first + m) ∙ read_right first all.1 (length first + m) m refl in
+            let rest = first_in held who namespace verb t bs all.1 j g all.3 (record {
+              here = sym (right j) ∙ ap (slice_get gs) (omega arith) ∙ f.here;
+              holds = f.holds;
+              none_before = λ k y lt read. f.none_before (length first + k) y (omega (arith, lt, l)) (right k ∙ read);
+            }) in
+            let none_here : ¬ Grants h c who namespace verb t = λ p.
+            let brings = p.2.2 in
+            let one = one_rules_for h c p.2.0 all.0 held p.2.1 all.2 in
+            let k = brings.0 in
+            let rule = brings.1 in
+            let read : slice_get all.0 k ≡ Some rule = sym (ap (λ (rs : List SourcedRule). slice_get rs k) one) ∙ slice_get-get_or p.2.0 k rule brings.2 ∙ ap (λ (v : SourcedRule). Some v) brings.3 in
+            let made : slice_get first k ≡ Some (grant_by c rule) = slice_get-map (grant_by c) all.0 k ∙ ap (option_map (grant_by c)) read in
+            let below = slice_get_within first k (grant_by c rule) made in
+            f.none_before k (grant_by c rule) (omega (arith, below, l)) (at k ∙ read_left first all.1 k below ∙ made) (p.0, p.1, brings.4) in (
+              suc rest.0,
+              record {
+                here = rest.1.here;
+                holds = rest.1.holds;
+                none_before = none_earlier c bs rest.0 none_here rest.1.none_before;
+              },
+            )
       ]
-
-any_at : {X : Type 0} (P : X → Type 0) (xs : List X) (k : ℕ) (x : X) → slice_get xs k ≡ Some x → P x → Any P xs
-any_at P xs k x e p = (k, x, slice_get_within xs k x e, get_or_from_slice_get xs k x x e, p)
 
 module _ (h : Held) (gs : List GrantView) (who : Who) (namespace verb : Text) (t : What) (held : IsHeld h) (all : AreGrantsOf h h.bindings gs) where
   pub some_grant : Allows h who namespace verb t → Any (GrantAllows who namespace verb t) gs
@@ -76,8 +109,5 @@ module _ (h : Held) (gs : List GrantView) (who : Who) (namespace verb : Text) (t
       (slice_get-get_or brings.0 brings.2.0 rule brings.2.2 ∙ ap (λ (v : SourcedRule). Some v) brings.2.3) in
       any_at (GrantAllows who namespace verb t) gs at.0 (grant_by b rule) at.1 (w.4.0, w.4.1, brings.2.4)
 
-  pub by_grant : (n : ℕ) (g : GrantView) → slice_get gs n ≡ Some g → GrantAllows who namespace verb t g → Allows h who namespace verb t
-  by_grant n g read p =
-      let of = parts_at h h.bindings gs n g all read in
-      any_at (λ b. Grants h b who namespace verb t) h.bindings of.0 g.binding of.1
-      (p.0, p.1, (of.2.0, of.2.1, any_at (λ (r : SourcedRule). RuleAllows r.rule verb t) of.2.0 of.2.2.0 g.rule of.2.2.1 p.2))
+  pub first_grant : (n : ℕ) (g : GrantView) → IsFirstAt (GrantAllows who namespace verb t) gs n g → IsFirst h who namespace verb t g.binding
+  first_grant n g f = first_in h held who namespace verb t h.bindings gs n g all f

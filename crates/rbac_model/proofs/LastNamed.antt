@@ -1,6 +1,6 @@
 -- the last of each name, as more are given and as the list is sorted
-use Rattle.std.proofs.Common.{◌≡◌, ◌≢◌, ℕ, ◌<◌, List, [], ◌∷◌, ◌++◌, length, Contains, ◌↔◌, ◌⊎◌, inl, inr, sym, ap, ◌∙◌, refl, arith, subst, Bool, true, false, Less, Equal, Greater, Ordering}
-use Rattle.std.specs.Prelude.{All, not, ◌&&◌}
+use Rattle.std.proofs.Common.{◌≡◌, ◌≢◌, List, [], ◌∷◌, ◌++◌, ◌↔◌, ◌⊎◌, inl, inr, sym, ap, refl, arith, subst, Bool, true, false, Equal}
+use Rattle.std.specs.Prelude.{All}
 use Rattle.std.specs.List.{filter}
 use Rattle.std.specs.Ordering.{is_lt}
 use Rattle.std.specs.Cmp.{IsStrictWeakOrder}
@@ -11,7 +11,7 @@ use Rattle.std.proofs.lemmas.Cmp.{nat_list_cmp_total, lists_total}
 use Rattle.rbac_terms.specs.Text.{Text}
 use Rattle.rbac_model.specs.Lists.{by_name, IsAscendingBy, IsPut}
 use Rattle.rbac_model.specs.Kept.{IsLastNamed, AreLastNamed}
-use Rattle.rbac_model.proofs.NamePlaces.{total, same_name, equal_from_name}
+use Rattle.rbac_model.proofs.NamePlaces.{equal_from_name}
 
 module _ {X : Type 0} (name : X → List Text) where
   abbrev Unnamed : X → List X → Type 0

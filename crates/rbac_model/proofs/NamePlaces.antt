@@ -3,15 +3,17 @@ use Rattle.std.proofs.Common.{◌≡◌, ◌≢◌, ℕ, ◌+◌, ◌-◌, ◌<�
 use Rattle.std.specs.List.{insert}
 use Rattle.std.specs.Cmp.{IsTotalOrder}
 use Rattle.std.specs.Cmp.Lexicographic.{slice_cmp}
-use Rattle.std.specs.Ordering.{nat_cmp, ordering_index, ordering_then, ordering_reverse}
+use Rattle.std.specs.Ordering.{nat_cmp, is_lt, ordering_index, ordering_then, ordering_reverse}
 use Rattle.std.specs.List.Sorted.{IsSearchInRange, IsBinarySearchResult, IsNonDecreasingBy}
 use Rattle.std.specs.declared.cmp.Ordering.{Ordering}
 use Rattle.std.specs.declared.cmp.Ordering.TheVariants.{Less, Equal, Greater}
+use Rattle.std.specs.Prelude.{Some, slice_get, IsTrue}
 use Rattle.std.proofs.lemmas.Bool.{cases_eq, cases_lt}
 use Rattle.std.proofs.lemmas.Cmp.{nat_list_cmp_total, lists_total, on_total, tied_itself, alike_right}
 use Rattle.std.proofs.lemmas.List.{get_or-set_same, get_or-set_other, get_or_default, length-set}
 use Rattle.std.proofs.lemmas.List.Edits.{length-insert, get_or-insert_below, get_or-insert_at, get_or-insert_above}
 use Rattle.std.proofs.lemmas.Map.Lookups.{exact_unsigned}
+use Rattle.std.proofs.lemmas.Option.{get_or_from_slice_get}
 use Rattle.rbac_terms.specs.Text.{Text, text_cmp}
 use Rattle.rbac_model.specs.Lists.{by_name, IsAscendingBy, IsPut, IsAtName, IsGapForName}
 
@@ -19,6 +21,11 @@ pub by_ordering : {G : Type 0} (o : Ordering) → (o ≡ Less → G) → (o ≡ 
 by_ordering Less f g h = f refl
 by_ordering Equal f g h = g refl
 by_ordering Greater f g h = h refl
+
+pub is_less : (o : Ordering) → IsTrue (is_lt o) → o ≡ Less
+is_less Less t = refl
+is_less Equal t = cc
+is_less Greater t = cc
 
 index_at_most : (o : Ordering) → ordering_index o ≤ 2
 index_at_most Less = omega arith
@@ -74,6 +81,19 @@ module _ {X : Type 0} (name : X → List Text) where
     pub searched : (r : Result ℕ ℕ) → IsSearchInRange r (length xs) → IsBinarySearchResult (λ y. by_name name y x) xs r → record { found : IfOk r (IsAtName name xs x); absent : IfErr r (IsGapForName name xs x) }
     searched (Ok i) in_range equal = record { found = (in_range, equal); absent = tt }
     searched (Err i) in_range parted = record { found = tt; absent = (in_range, (parted rises).0, (parted rises).1) }
+
+    -- a name greater than the last goes to the end
+    pub after_last : (y : X) → slice_get xs (length xs - 1) ≡ Some y → by_name name y x ≡ Less → IsGapForName name xs x (length xs)
+    after_last y last less = (
+      omega arith,
+      λ k d _ in_range.
+          let ends : (e : X) → get_or xs (length xs - 1) e ≡ y = λ e. get_or_from_slice_get xs (length xs - 1) y e last in
+          elim (cases_eq k (length xs - 1)) [
+            | inl e ↦ ap (λ i. by_name name (get_or xs i d) x) e ∙ ap (λ (z : X). by_name name z x) (ends d) ∙ less
+            | inr ne ↦ total.trans (get_or xs k d) y x (ap (by_name name (get_or xs k d)) (sym (ends d)) ∙ ascending k (length xs - 1) d (omega arith) (omega arith)) less
+          ],
+      λ k d past in_range. absurd (omega arith),
+    )
 
     module _ (i : ℕ) (at : IsAtName name xs x i) where
       before_at : (k : ℕ) (d : X) → k < i → by_name name (get_or xs k d) x ≡ Less

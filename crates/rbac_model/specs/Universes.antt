@@ -1,9 +1,9 @@
-use Rattle.std.specs.Prelude.{◌≡◌, ◌≢◌, ℕ, ◌+◌, ◌<◌, ◌⊎◌, ◌↔◌, List, [], ◌∷◌, Option, Some, None, Bool, IsTrue, Contains, map, take, filter, length, nat_lt, AllPairs}
+use Rattle.std.specs.Prelude.{◌≡◌, ◌≢◌, ℕ, ◌+◌, ◌<◌, ◌⊎◌, ◌↔◌, List, [], ◌∷◌, Option, Some, None, Bool, true, IsTrue, Contains, map, take, filter, length, nat_lt, AllPairs}
 use Rattle.std.specs.List.{flat_map}
 use Rattle.std.specs.Ordering.{is_lt, is_gt}
 use Rattle.rbac_model.specs.Lists.{IsCount, IsAscendingBy}
 use Rattle.rbac_terms.specs.Text.{Text}
-use Rattle.rbac_terms.specs.Targets.{What, group_of, text_of, name_of}
+use Rattle.rbac_terms.specs.Targets.{What, Url, group_of, text_of, name_of}
 use Rattle.rbac_terms.specs.Principals.{Who, AsUser, AsMember, key_of as who_key}
 use Rattle.rbac_terms.specs.Keys.{KeyTexts, key_of, key_cmp}
 use Rattle.rbac_terms.specs.Matching.{VerbOk, TargetOk, RuleAllows}
@@ -30,11 +30,13 @@ pub record UniverseView : Type 0 where
 abbrev pub target_texts : Listed → List Text
 target_texts t = group_of t.0 ∷ text_of t.0 ∷ name_of t.0 ∷ []
 
+-- the lists are in order, and no URL is namespaced (own)
 pub record IsUniverse (u : UniverseView) : Type 0 where
   pub principals : IsAscendingBy (λ who. who_key who ∷ []) u.principals
   pub namespaces : IsAscendingBy (λ n. n ∷ []) u.namespaces
   pub verbs : IsAscendingBy (λ v. v ∷ []) u.verbs
   pub targets : IsAscendingBy target_texts u.targets
+  pub urls : (path : Text) → ¬ Contains u.targets (Url path, true)
 
 -- one request of the universe
 pub record Cell : Type 0 where

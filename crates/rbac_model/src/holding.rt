@@ -1,6 +1,6 @@
 //! The objects that are held, in order of their names.
 
-ghost use Rattle.std.specs.Prelude.{◌≡◌, ◌↔◌, IsTrue, IfOk, IfErr, OnOk, OnErr, Any, List, [], ℕ};
+ghost use Rattle.std.specs.Prelude.{◌≡◌, ◌↔◌, IsTrue, IfOk, IfErr, OnOk, OnErr, Any, List, [], ℕ, length};
 ghost use Rattle.rbac_terms.specs.Text.{Text, text_cmp};
 ghost use Rattle.rbac_model.specs.Lists.{by_name, IsAscendingBy, IsPut, IsAtName, IsGapForName};
 
@@ -155,12 +155,26 @@ impl Named for Binding {
     }
 }
 
+// Whether the item's name is greater than all of these, as where items come in order of names.
+fn comes_last<T: Named>(items: &[T], item: &T) -> bool
+    requires { IsAscendingBy T.name items.now }
+    ensures { IsTrue result → IsGapForName T.name items.now item.now (length items.now) }
+{
+    match items.last() {
+        Some(last) => last.cmp_name(item).is_lt(),
+        None => true,
+    }
+}
+
 // Where the name of this item is, or where it would go.
 pub(crate) fn place<T: Named>(items: &[T], item: &T) -> Result<usize, usize>
     requires { IsAscendingBy T.name items.now }
     ensures found { IfOk result (IsAtName T.name items.now item.now) }
     ensures absent { IfErr result (IsGapForName T.name items.now item.now) }
 {
+    if comes_last(items, item) {
+        return Err(items.len());
+    }
     items.binary_search_by(|held| held.cmp_name(item))
 }
 

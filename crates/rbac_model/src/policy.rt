@@ -1,7 +1,8 @@
 //! Policies: objects, and the grants that follow from them.
 
-ghost use Rattle.std.specs.Prelude.{◌≡◌, ◌<◌, ◌≤◌, ◌↔◌, IsTrue, [], Any, Contains, IfOk, IfErr, Some, IsSome, All, length, slice_get};
-ghost use Rattle.rbac_model.specs.Policies.{PolicyView, IsPolicy, HasTooMany, Allows, AreReachedNames, grants_at, grant_at};
+ghost use Rattle.std.specs.Prelude.{◌≡◌, ◌<◌, ◌≤◌, ◌↔◌, IsTrue, [], Any, Contains, IfOk, IfErr, MatchOption, Some, IsSome, All, length, slice_get};
+ghost use Rattle.std.specs.Option.{option_copied};
+ghost use Rattle.rbac_model.specs.Policies.{PolicyView, IsPolicy, HasTooMany, Allows, IsFirst, AreReachedNames, grants_at, grant_at};
 ghost use Rattle.rbac_model.specs.Sources.{grant_of};
 ghost use Rattle.rbac_terms.specs.declared.granting.ClusterRole.{ClusterRole};
 
@@ -72,12 +73,29 @@ impl Policy {
     ) -> bool
         ensures { IsTrue result ↔ Allows self.now.held principal.now namespace.now verb.now target.now }
     {
+        self.first(principal, namespace, verb, target).is_some()
+    }
+
+    /// The first binding, in order, that allows the principal this verb on this target in this
+    /// namespace (own); none where it isn't allowed. Tests the grants in turn, which stand in order
+    /// of bindings, and takes no memory.
+    pub fn first(
+        &self,
+        principal: &Principal,
+        namespace: &Word,
+        verb: &Word,
+        target: &Target,
+    ) -> Option<&Binding>
+        ensures { MatchOption (option_copied result)
+            (¬ Allows self.now.held principal.now namespace.now verb.now target.now)
+            (IsFirst self.now.held principal.now namespace.now verb.now target.now) }
+    {
         for no in 0..self.len() {
             if grant_allows(self.grant(no), principal, namespace, verb, target) {
-                return true;
+                return Some(self.grant(no).binding);
             }
         }
-        false
+        None
     }
 
     /// The names of the cluster roles that the one of this name reaches, by one step of

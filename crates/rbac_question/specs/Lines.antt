@@ -4,7 +4,7 @@ use Rattle.rbac_terms.specs.Text.{Text}
 use Rattle.rbac_terms.specs.Principals.{AsUser}
 use Rattle.rbac_question.specs.Asked.{AsksFor, LacksType, HasUrlSubresource}
 use Rattle.rbac_question.specs.declared.command.Action.{Action}
-use Rattle.rbac_question.specs.declared.command.Action.TheVariants.{CanI}
+use Rattle.rbac_question.specs.declared.command.Action.TheVariants.{CanI, Matrix}
 use Rattle.rbac_question.specs.declared.command.Question.{Question}
 use Rattle.rbac_question.specs.declared.fault.QuestionFault.{QuestionFault}
 use Rattle.rbac_question.specs.declared.fault.QuestionFault.TheVariants.{EmptyWord, UrlSubresource, NoMemory}
@@ -50,6 +50,7 @@ pub record IsQuestion (l : CanIParts) (q : Question) : Type 0 where
 abbrev pub MeansCanI : CanIParts → Action → Type 0
 MeansCanI l (CanI principal quiet question) =
     (principal ≡ AsUser l.user (groups_in l.groups)) × (quiet ≡ l.quiet) × IsQuestion l question
+MeansCanI l Matrix = ⊥
 
 -- which refusal USER comes to
 abbrev pub RefusesUser : Text → QuestionFault → Type 0

@@ -26,6 +26,8 @@ pub enum Action {
         /// What is asked.
         question: Question,
     },
+    /// Lists all that anyone may do.
+    Matrix,
 }
 
 /// A command line that was accepted.

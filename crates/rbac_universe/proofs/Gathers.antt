@@ -1,11 +1,11 @@
 -- the sets that are gathered are those of the lists
-use Rattle.std.proofs.Common.{◌≡◌, ℕ, ◌+◌, ◌<◌, List, [], ◌∷◌, ◌++◌, length, map, Any, sym, ap, ap₂, ◌∙◌, refl, arith, Bool, length-append}
+use Rattle.std.proofs.Common.{◌≡◌, ℕ, ◌+◌, ◌<◌, List, [], ◌∷◌, ◌++◌, length, map, Any, sym, ap, ap₂, ◌∙◌, refl, arith, Bool, true, length-append}
 use Rattle.std.specs.List.{flat_map, zip}
 use Rattle.std.proofs.lemmas.List.{length-map}
 use Rattle.std.proofs.lemmas.Slice.Zip.{length-zip}
 use Rattle.std.proofs.lemmas.Map.Keys.{Less-from_sorted}
 use Rattle.rbac_terms.specs.Text.{Text, text_cmp}
-use Rattle.rbac_terms.specs.Targets.{What}
+use Rattle.rbac_terms.specs.Targets.{What, Url}
 use Rattle.rbac_terms.specs.Principals.{Who, key_of, given_of}
 use Rattle.rbac_model.specs.Unions.{AreUnited, who_name}
 use Rattle.rbac_model.specs.Lists.{IsAscendingBy, IsOnceEach}
@@ -47,6 +47,7 @@ sets_ordered lists u are = record {
   namespaces = words_ascend lists.namespaces u.namespaces are.namespaces;
   verbs = words_ascend lists.verbs u.verbs are.verbs;
   targets = are.ordered;
+  urls = λ path w. ((are.targets (Url path, true)).0 w).1.0 refl;
 }
 
 -- targets and flags go together

@@ -4,7 +4,6 @@ use Rattle.std.proofs.lemmas.Iterator.Consumers.{YieldsList-end}
 use Rattle.std.proofs.lemmas.Iterator.Adapters.{YieldsList-from_vec}
 use Rattle.std.specs.Ordering.{is_lt}
 use Rattle.rbac_model.specs.Lists.{by_name}
-use Rattle.rbac_model.specs.Kept.{AreLastNamed}
 use Rattle.rbac_model.proofs.LastNamed.{one_more, last_sorted, ranks}
 use Rattle.rbac_model.proofs.keeping.last_named.Goals as goal
 

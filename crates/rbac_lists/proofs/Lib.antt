@@ -1,0 +1,2 @@
+pub mod LastGiven
+pub mod Walks

@@ -1,0 +1,67 @@
+//! Texts: copies of them, and what they may be.
+
+ghost use Rattle.std.specs.Prelude.{◌≡◌, ◌++◌, OnOk, IfOk};
+ghost use Rattle.rbac_lists.specs.Derived.{is_verb, has_star, begins_with_slash, ends_in_star, is_resource_text, is_path_word};
+
+use rbac_terms::{Word, Words};
+use std::alloc::{AllocError, AllocFailed, Global};
+
+// A derived clone tells callers of its parts, a copy made so only of its bytes.
+pub(crate) fn copied(alloc: Global, word: &Word) -> Result<Word, AllocError>
+    ensures { IfOk result (λ copy. copy ≡ word.now) }
+{
+    Word::from_slice(alloc, word.as_bytes())
+}
+
+// Adds copies of these texts.
+pub(crate) fn put_words(
+    alloc: Global,
+    words: &[Word],
+    list: &mut Vec<Word>,
+) -> Result<(), AllocError>
+    ensures { OnOk result (list.new.items ≡ list.old.items ++ words.now) }
+{
+    for word in words {
+        list.push(copied(alloc, word)?)?;
+    }
+    Ok(())
+}
+
+// Whether a verb is another than `*`.
+pub(crate) fn is_verb(verb: &Word) -> bool
+    ensures { result ≡ is_verb verb.now }
+{
+    verb.as_bytes() != b"*".as_slice()
+}
+
+pub(crate) fn has_star(word: &Word) -> bool
+    ensures { result ≡ has_star word.now }
+{
+    word.as_bytes().iter().any(|byte| *byte == b'*')
+}
+
+fn begins_with_slash(word: &Word) -> bool
+    ensures { result ≡ begins_with_slash word.now }
+{
+    word.as_bytes().starts_with(b"/".as_slice())
+}
+
+fn ends_in_star(word: &Word) -> bool
+    ensures { result ≡ ends_in_star word.now }
+{
+    word.as_bytes().ends_with(b"*".as_slice())
+}
+
+// Whether a word of a rule is the text of one resource.
+pub(crate) fn is_resource_text(word: &Word) -> bool
+    ensures { result ≡ is_resource_text word.now }
+{
+    !word.is_empty() && !begins_with_slash(word) && !has_star(word)
+}
+
+// Whether a URL word of a rule is the path of one URL.
+pub(crate) fn is_path_word(word: &Word) -> bool
+    ensures { result ≡ is_path_word word.now }
+{
+    begins_with_slash(word) && !ends_in_star(word)
+}

@@ -1,0 +1,37 @@
+-- what was gathered from all inputs, and the policy that follows
+use Rattle.std.proofs.Common.{◌≡◌, ◌≤◌, ℕ, List, None, inr, length, subst, ap}
+use Rattle.rbac_model.specs.Kept.{AreKept}
+use Rattle.rbac_model.specs.Policies.{Held, PolicyView, IsPolicy, HasTooMany}
+use Rattle.rbac_lists.specs.Meant.{lists_meant}
+use Rattle.rbac_manifest.specs.declared.fault.LoadFault.{LoadFault}
+use Rattle.rbac_manifest.specs.Gathered.{GatheredView, gathered}
+use Rattle.rbac_manifest.specs.Load.{LoadedView, IsLoaded, HasFault, document_fault, given, too_many}
+
+abbrev pub view_of : GatheredView → PolicyView → LoadedView
+view_of g p = record { policy = p; catalogue = g.catalogue; lists = lists_meant p.held g.catalogue g.namespaces g.accounts g.documents }
+
+pub loaded : (inputs : List (List ℕ)) (g : GatheredView) (p : PolicyView)
+    → g ≡ gathered (given inputs)
+    → document_fault inputs ≡ None
+    → AreKept g.objects p.held
+    → IsPolicy p
+    → length p.grants ≤ 1000000
+    → IsLoaded inputs (view_of g p)
+unfolding gathered
+loaded inputs g p e accepted kept policy few = record {
+  accepted = accepted;
+  kept = subst (λ h. AreKept h.objects p.held) e kept;
+  policy = policy;
+  few = few;
+  catalogue = ap (λ h. h.catalogue) e;
+  lists = ap (λ h. lists_meant p.held g.catalogue h.namespaces h.accounts h.documents) e;
+}
+
+pub refused : (inputs : List (List ℕ)) (g : GatheredView)
+    → g ≡ gathered (given inputs)
+    → document_fault inputs ≡ None
+    → (f : LoadFault)
+    → (f ≡ too_many) × ((held : Held) × AreKept g.objects held × HasTooMany held)
+    → HasFault inputs f
+unfolding gathered
+refused inputs g e accepted f many = inr (accepted, many.0, (many.1.0, subst (λ h. AreKept h.objects many.1.0) e many.1.1, many.1.2))

@@ -1,8 +1,0 @@
-use Rattle.std.proofs.Common.{◌≡◌, ◌++◌, drop}
-use Rattle.rbac_manifest.specs.Load.{fault_from, given}
-use Rattle.rbac_manifest.proofs.loading.objects_of.Given as goal
-
-abbrev pub invariant-loop-file : goal.invariant-loop-file
-invariant-loop-file l =
-    (fault_from l.file-counter (drop l.file-counter l.inputs) ≡ fault_from 0 l.inputs)
-    × (l.objects.items ++ given (drop l.file-counter l.inputs) ≡ given l.inputs)

@@ -1,0 +1,45 @@
+-- API resource lists (Kubernetes API, APIResourceList).
+use Rattle.std.specs.Prelude.{◌==◌, nat_eq, false, List, [], ◌∷◌, codes, Option, Some, None, if◌then◌else◌}
+use Rattle.std.specs.List.{list_any, slice_split, starts_with}
+use Rattle.serde_json.specs.Data.{Data}
+use Rattle.rbac_manifest.specs.Fields.{list_field, texts_field, text_at, name_at, flag_at, is_empty}
+use Rattle.rbac_manifest.specs.Binding.{◌>>=◌}
+use Rattle.rbac_manifest.specs.Lists.{all_at}
+use Rattle.rbac_terms.specs.Text.{Text, slash}
+use Rattle.rbac_catalogue.specs.declared.entry.Entry.{Entry}
+
+-- the parts of a text, between its slashes
+abbrev pub parts : Text → List Text
+parts text = slice_split (λ b. b == slash) text
+
+-- the group of VERSION or GROUP/VERSION by its parts; VERSION alone is of the core group, which is the empty text
+abbrev pub group_by : List Text → Option Text
+group_by (version ∷ []) = Some []
+group_by (group ∷ version ∷ []) = Some group
+group_by others = None
+
+-- the group that a group version names, unless it has another form; none of its parts is empty
+unfoldable pub group_of : Text → Option Text
+group_of version = if list_any is_empty (parts version) then None else group_by (parts version)
+
+-- the name of an entry, as `pods` or `pods/log`: a text that isn't empty and doesn't begin with a slash (own)
+unfoldable pub resource_name_at : Data → Option Text
+resource_name_at d = name_at d >>= λ name. if starts_with nat_eq name (codes "/") then None else Some name
+
+-- the entry that an item gives, unless it is bad: its group is that of the list, and where it doesn't say otherwise it isn't namespaced
+unfoldable pub entry_at : Text → Data → Option Entry
+entry_at group d =
+    resource_name_at d >>= λ name.
+    text_at (codes "singularName") d >>= λ singular.
+    flag_at false (codes "namespaced") d >>= λ namespaced.
+    texts_field (codes "shortNames") d >>= λ short_names.
+    texts_field (codes "verbs") d >>= λ verbs.
+    Some (record { group = group; name = name; singular = singular; short_names = short_names; namespaced = namespaced; verbs = verbs })
+
+-- the entries of an API resource list, in written order, unless its group version or an item is bad (M9)
+unfoldable pub entries_at : Data → Option (List Entry)
+entries_at d =
+    text_at (codes "groupVersion") d >>= λ version.
+    group_of version >>= λ group.
+    list_field (codes "resources") d >>= λ items.
+    all_at (entry_at group) items

@@ -1,0 +1,80 @@
+-- The Universe document (own).
+use Rattle.std.specs.Prelude.{true, List, codes, Option, Some, None, option_map, is_none, if◌then◌else◌}
+use Rattle.serde_json.specs.Data.{Data}
+use Rattle.serde_json.specs.Find.{as_str}
+use Rattle.rbac_manifest.specs.Fields.{field, list_field, texts_field, text_at, flag_at, non_empty}
+use Rattle.rbac_manifest.specs.Binding.{◌>>=◌}
+use Rattle.rbac_manifest.specs.Lists.{all_at}
+use Rattle.rbac_manifest.specs.declared.fault.Trouble.{Trouble}
+use Rattle.rbac_manifest.specs.declared.fault.Trouble.TheVariants.{Shape, Memory}
+use Rattle.rbac_terms.specs.Text.{Text}
+use Rattle.rbac_terms.specs.Principals.{Who, AsUser, AsMember}
+use Rattle.rbac_terms.specs.declared.fault.ModelFault.{ModelFault}
+use Rattle.rbac_terms.specs.declared.fault.ModelFault.TheVariants.{EmptyName, BadTarget, NoMemory}
+use Rattle.rbac_universe.specs.declared.lists.ListedResource.{ListedResource}
+use Rattle.rbac_lists.specs.declared.given.GivenLists.{GivenLists}
+
+-- a principal is refused for its name, which is of the wrong shape, or for want of memory
+abbrev pub trouble_of : ModelFault → Trouble
+trouble_of EmptyName = Shape
+trouble_of BadTarget = Shape
+trouble_of NoMemory = Memory
+
+-- ---- principals
+
+-- the name that a value is: a text that isn't empty
+abbrev pub name_in : Data → Option Text
+name_in d = as_str d >>= non_empty
+
+-- the user of this name, with the groups that the item gives; missing ones are none
+unfoldable pub user_at : Data → Data → Option Who
+user_at name d =
+    name_in name >>= λ user.
+    texts_field (codes "groups") d >>= λ groups.
+    Some (AsUser user groups)
+
+-- a member of the group of this name
+unfoldable pub member_at : Data → Option Who
+member_at name = option_map AsMember (name_in name)
+
+-- a user, perhaps with groups, or a member of one group: exactly one of the two is there, and no groups beside a group
+abbrev pub principal_by : (user group groups : Option Data) → Data → Option Who
+principal_by (Some user) None groups d = user_at user d
+principal_by None (Some group) None d = member_at group
+principal_by user group groups d = None
+
+-- the principal that an item gives, unless it is bad
+unfoldable pub principal_at : Data → Option Who
+principal_at d = principal_by (field (codes "user") d) (field (codes "group") d) (field (codes "groups") d) d
+
+-- ---- resources
+
+-- the resource that an item gives, unless it is bad: its text must be there, a missing group is the core group, and where it doesn't say otherwise it is namespaced
+unfoldable pub resource_at : Data → Option ListedResource
+resource_at d =
+    field (codes "resource") d >>= λ resource.
+    as_str resource >>= λ text.
+    text_at (codes "group") d >>= λ group.
+    flag_at true (codes "namespaced") d >>= λ namespaced.
+    Some (record { group = group; text = text; namespaced = namespaced })
+
+-- ---- the document
+
+-- what the items of the list in a field give, if none is bad
+abbrev pub items_field : {X : Type 0} → (Data → Option X) → Text → Data → Option (List X)
+items_field read name d = list_field name d >>= λ items. all_at read items
+
+-- what a field gives where it is there, be it an empty list; a missing one isn't given
+abbrev pub where_given : {X : Type 0} → (Text → Data → Option X) → Text → Data → Option (Option X)
+where_given read name d = if is_none (field name d) then Some None else option_map Some (read name d)
+
+-- the lists that a Universe document gives, unless one of them is bad (M10)
+unfoldable pub given_lists_at : Data → Option GivenLists
+given_lists_at d =
+    where_given (items_field principal_at) (codes "principals") d >>= λ principals.
+    where_given texts_field (codes "namespaces") d >>= λ namespaces.
+    where_given texts_field (codes "verbs") d >>= λ verbs.
+    where_given (items_field resource_at) (codes "resources") d >>= λ resources.
+    where_given texts_field (codes "names") d >>= λ names.
+    where_given texts_field (codes "urls") d >>= λ urls.
+    Some (record { principals = principals; namespaces = namespaces; verbs = verbs; resources = resources; names = names; urls = urls })

@@ -1,0 +1,87 @@
+//! API resource lists, as `kubectl get --raw /api/v1` and `/apis/GROUP/VERSION` write them.
+
+ghost use Rattle.std.specs.Prelude.{◌≡◌, ◌≢◌, ◌↔◌, [], Contains, IsTrue, map, option_map};
+ghost use Rattle.serde_json.specs.View.{view};
+ghost use Rattle.rbac_terms.specs.Text.{slash};
+ghost use Rattle.rbac_manifest.specs.Reads.{Reads};
+ghost use Rattle.rbac_manifest.specs.Lists.{all_at};
+ghost use Rattle.rbac_manifest.specs.ApiList.{group_of, resource_name_at, entry_at, entries_at};
+
+use crate::fault::Trouble;
+use crate::fields::{
+    flag_field, list_field, name_of, text_field, word_field, word_of, words_field,
+};
+use rbac_catalogue::{Entries, Entry};
+use rbac_terms::{Word, cut_at_first};
+use serde_json::Value;
+use std::alloc::Global;
+
+// Whether a text isn't empty and has no slash.
+fn is_part(text: &[u8]) -> bool
+    ensures { IsTrue result ↔ ((text.now ≢ []) × (¬ Contains text.now slash)) }
+{
+    !text.is_empty() && !text.contains(&b'/')
+}
+
+// The group that a group version names.
+fn group_of(version: &[u8]) -> Option<&[u8]>
+    ensures { option_map (λ group. group.now) result ≡ group_of version.now }
+{
+    if is_part(version) {
+        return Some(&[]);
+    }
+    let (group, version) = cut_at_first(version, b'/')?;
+    if is_part(group) && is_part(version) {
+        Some(group)
+    } else {
+        None
+    }
+}
+
+// The name of an entry's resource.
+#[tactic(auto, unfolding(crate::specs::ApiList::resource_name_at))]
+fn resource_name_of(alloc: Global, value: &Value) -> Result<Word, Trouble>
+    ensures { Reads result (resource_name_at (view value.now)) }
+{
+    match name_of(value) {
+        Some(name) if !name.as_bytes().starts_with(b"/") => Ok(word_of(alloc, name)?),
+        _ => Err(Trouble::Shape),
+    }
+}
+
+// The entry of a list of this group that an item gives.
+#[tactic(auto, unfolding(crate::specs::ApiList::entry_at))]
+fn entry_of(alloc: Global, group: &[u8], value: &Value) -> Result<Entry, Trouble>
+    ensures { Reads result (entry_at group.now (view value.now)) }
+{
+    Ok(Entry {
+        group: Word::from_slice(alloc, group)?,
+        name: resource_name_of(alloc, value)?,
+        singular: word_field(alloc, value, "singularName")?,
+        short_names: words_field(alloc, value, "shortNames")?,
+        namespaced: flag_field(value, "namespaced", false)?,
+        verbs: words_field(alloc, value, "verbs")?,
+    })
+}
+
+// The entries that all items give.
+fn entries_in(alloc: Global, group: &[u8], values: &[Value]) -> Result<Entries, Trouble>
+    ensures { Reads result (all_at (entry_at group.now) (map view values.now)) }
+{
+    let mut entries = Vec::new(alloc);
+    for value in values {
+        entries.push(entry_of(alloc, group, value)?)?;
+    }
+    Ok(Entries::from_vec(entries))
+}
+
+// The entries of an API resource list.
+#[tactic(auto, unfolding(crate::specs::ApiList::entries_at))]
+pub(crate) fn entries_of(alloc: Global, document: &Value) -> Result<Entries, Trouble>
+    ensures { Reads result (entries_at (view document.now)) }
+{
+    let version = text_field(document, "groupVersion").ok_or(Trouble::Shape)?;
+    let group = group_of(version.as_bytes()).ok_or(Trouble::Shape)?;
+    let items = list_field(document, "resources").ok_or(Trouble::Shape)?;
+    entries_in(alloc, group, items)
+}

@@ -1,0 +1,146 @@
+//! The lists that a Universe document gives (own).
+
+ghost use Rattle.std.specs.Prelude.{◌≡◌, map, codes};
+ghost use Rattle.serde_json.specs.View.{view};
+ghost use Rattle.rbac_manifest.specs.Fields.{texts_field};
+ghost use Rattle.rbac_manifest.specs.Reads.{Reads};
+ghost use Rattle.rbac_manifest.specs.Lists.{all_at};
+ghost use Rattle.rbac_manifest.specs.UniverseDocument.{trouble_of, user_at, member_at, principal_at, resource_at, items_field, where_given, given_lists_at};
+
+use crate::fault::Trouble;
+use crate::fields::{field, flag_field, list_field, word_field, word_of, words_field};
+use rbac_lists::GivenLists;
+use rbac_terms::{ModelFault, Principal, Words};
+use rbac_universe::{ListedResource, ListedResources, Principals};
+use serde_json::Value;
+use std::alloc::Global;
+
+// A principal is refused for its name, which is of the wrong shape, or for want of memory.
+fn trouble_of(fault: ModelFault) -> Trouble
+    ensures { result ≡ trouble_of fault }
+{
+    match fault {
+        ModelFault::EmptyName | ModelFault::BadTarget => Trouble::Shape,
+        ModelFault::NoMemory => Trouble::Memory,
+    }
+}
+
+// The user of this name with the groups that an item gives.
+#[tactic(auto, unfolding(crate::specs::UniverseDocument::user_at))]
+fn user_of(alloc: Global, name: &Value, value: &Value) -> Result<Principal, Trouble>
+    ensures { Reads result (user_at (view name.now) (view value.now)) }
+{
+    let name = word_of(alloc, name.as_str().ok_or(Trouble::Shape)?)?;
+    let groups = words_field(alloc, value, "groups")?;
+    Principal::user(alloc, &name, &groups).map_err(trouble_of)
+}
+
+// A member of the group of this name.
+#[tactic(auto, unfolding(crate::specs::UniverseDocument::member_at))]
+fn member_of(alloc: Global, name: &Value) -> Result<Principal, Trouble>
+    ensures { Reads result (member_at (view name.now)) }
+{
+    let name = word_of(alloc, name.as_str().ok_or(Trouble::Shape)?)?;
+    Principal::group(alloc, &name).map_err(trouble_of)
+}
+
+// The principal that an item gives.
+#[tactic(auto, unfolding(crate::specs::UniverseDocument::principal_at))]
+fn principal_of(alloc: Global, value: &Value) -> Result<Principal, Trouble>
+    ensures { Reads result (principal_at (view value.now)) }
+{
+    match (
+        field(value, "user"),
+        field(value, "group"),
+        field(value, "groups"),
+    ) {
+        (Some(user), None, _) => user_of(alloc, user, value),
+        (None, Some(group), None) => member_of(alloc, group),
+        _ => Err(Trouble::Shape),
+    }
+}
+
+// The principals that all items give.
+fn principals_in(alloc: Global, values: &[Value]) -> Result<Principals, Trouble>
+    ensures { Reads result (all_at principal_at (map view values.now)) }
+{
+    let mut principals = Vec::new(alloc);
+    for value in values {
+        principals.push(principal_of(alloc, value)?)?;
+    }
+    Ok(Principals::from_vec(principals))
+}
+
+// The principals of a document, where it gives them.
+fn principals_given(alloc: Global, document: &Value) -> Result<Option<Principals>, Trouble>
+    ensures { Reads result
+        (where_given (items_field principal_at) (codes "principals") (view document.now)) }
+{
+    if field(document, "principals").is_none() {
+        return Ok(None);
+    }
+    let items = list_field(document, "principals").ok_or(Trouble::Shape)?;
+    Ok(Some(principals_in(alloc, items)?))
+}
+
+// The resource that an item gives.
+#[tactic(auto, unfolding(crate::specs::UniverseDocument::resource_at))]
+fn resource_of(alloc: Global, value: &Value) -> Result<ListedResource, Trouble>
+    ensures { Reads result (resource_at (view value.now)) }
+{
+    let resource = field(value, "resource").ok_or(Trouble::Shape)?;
+    let text = resource.as_str().ok_or(Trouble::Shape)?;
+    Ok(ListedResource {
+        group: word_field(alloc, value, "group")?,
+        text: word_of(alloc, text)?,
+        namespaced: flag_field(value, "namespaced", true)?,
+    })
+}
+
+// The resources that all items give.
+fn resources_in(alloc: Global, values: &[Value]) -> Result<ListedResources, Trouble>
+    ensures { Reads result (all_at resource_at (map view values.now)) }
+{
+    let mut resources = Vec::new(alloc);
+    for value in values {
+        resources.push(resource_of(alloc, value)?)?;
+    }
+    Ok(ListedResources::from_vec(resources))
+}
+
+// The resources of a document, where it gives them.
+fn resources_given(alloc: Global, document: &Value) -> Result<Option<ListedResources>, Trouble>
+    ensures { Reads result
+        (where_given (items_field resource_at) (codes "resources") (view document.now)) }
+{
+    if field(document, "resources").is_none() {
+        return Ok(None);
+    }
+    let items = list_field(document, "resources").ok_or(Trouble::Shape)?;
+    Ok(Some(resources_in(alloc, items)?))
+}
+
+// The texts in a field of a document, where it gives them.
+fn words_given(alloc: Global, document: &Value, name: &str) -> Result<Option<Words>, Trouble>
+    ensures { Reads result (where_given texts_field name.now (view document.now)) }
+{
+    if field(document, name).is_none() {
+        return Ok(None);
+    }
+    Ok(Some(words_field(alloc, document, name)?))
+}
+
+// The lists that a Universe document gives.
+#[tactic(auto, unfolding(crate::specs::UniverseDocument::given_lists_at))]
+pub(crate) fn given_lists_of(alloc: Global, document: &Value) -> Result<GivenLists, Trouble>
+    ensures { Reads result (given_lists_at (view document.now)) }
+{
+    Ok(GivenLists {
+        principals: principals_given(alloc, document)?,
+        namespaces: words_given(alloc, document, "namespaces")?,
+        verbs: words_given(alloc, document, "verbs")?,
+        resources: resources_given(alloc, document)?,
+        names: words_given(alloc, document, "names")?,
+        urls: words_given(alloc, document, "urls")?,
+    })
+}

@@ -1,0 +1,4 @@
+pub mod OneMatrix
+pub mod PrintedRows
+pub mod Product
+pub mod Rows

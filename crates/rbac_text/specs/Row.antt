@@ -1,0 +1,33 @@
+-- How a binding and a row of the matrix are printed (own).
+use Rattle.std.specs.Prelude.{ℕ, [], ◌∷◌, ◌++◌, codes, Option, Some, None}
+use Rattle.rbac_terms.specs.Text.{Text}
+use Rattle.rbac_terms.specs.Keys.{KeyTexts}
+use Rattle.rbac_terms.specs.declared.granting.Binding.{Binding}
+use Rattle.rbac_text.specs.Field.{field_text}
+
+-- the bytes that end a field, and a line
+abbrev pub tab : ℕ
+tab = 9
+
+abbrev pub newline : ℕ
+newline = 10
+
+-- a binding's kind and namespace, each with a slash after it; a ClusterRoleBinding has no namespace
+abbrev pub binding_scope : Option Text → Text
+binding_scope None = codes "ClusterRoleBinding/"
+binding_scope (Some namespace) = codes "RoleBinding/" ++ namespace ++ codes "/"
+
+-- the binding's name after these, as one field
+abbrev pub binding_text : Binding → Text
+binding_text b = field_text (binding_scope b.namespace ++ b.name)
+
+-- a field with the tab after it
+abbrev pub field_and_tab : Text → Text
+field_and_tab t = field_text t ++ tab ∷ []
+
+-- the line of a row: the six fields of its key and its binding, joined by tabs
+abbrev pub row_text : KeyTexts → Binding → Text
+row_text k b =
+    field_and_tab k.principal ++ field_and_tab k.namespace ++ field_and_tab k.verb
+    ++ field_and_tab k.group ++ field_and_tab k.resource ++ field_and_tab k.name
+    ++ binding_text b ++ newline ∷ []
