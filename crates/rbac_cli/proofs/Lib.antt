@@ -1,3 +1,4 @@
-pub mod Dots
+pub mod Matrices
+pub mod Named
 pub mod Stops
 pub mod Verdicts

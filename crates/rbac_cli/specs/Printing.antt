@@ -1,38 +1,61 @@
 -- How printing an answer ends, on the way to writing it.
-use Rattle.std.specs.Prelude.{◌≡◌, ℕ, ◌⊎◌, Bool, true, false, List, Option, Result, Ok, Err}
+use Rattle.std.specs.Prelude.{◌≡◌, ℕ, ◌⊎◌, Bool, true, false, List, [], Option, Result, Ok, Err}
 use Rattle.rbac_model.specs.Policies.{Held}
+use Rattle.rbac_model.specs.Universes.{UniverseView, RowView, IsMatrix}
 use Rattle.rbac_streams.specs.Streams.{SinkView, PageView}
 use Rattle.rbac_streams.specs.Taken.{Prints, StopsIn}
 use Rattle.rbac_streams.specs.declared.page.PrintFault.{PrintFault}
 use Rattle.rbac_streams.specs.declared.page.PrintFault.TheVariants.{SinkFailed, NoMemory}
+use Rattle.rbac_manifest.specs.Load.{LoadedView}
 use Rattle.rbac_question.specs.declared.command.Action.{Action}
-use Rattle.rbac_cli.specs.Out.{Answers}
-use Rattle.rbac_cli.specs.Ends.{WritesFront, WritesNothing}
+use Rattle.rbac_cli.specs.Out.{Answers, HoldsOfAnswer, matrix_text}
+use Rattle.rbac_cli.specs.Ends.{WritesFront, WritesNothing, LacksUniverse}
 use Rattle.rbac_cli.specs.declared.ending.Status.{Status}
 use Rattle.rbac_cli.specs.declared.ending.RunFault.{RunFault}
-use Rattle.rbac_cli.specs.declared.ending.RunFault.TheVariants.{Load, Memory, Write}
+use Rattle.rbac_cli.specs.declared.ending.RunFault.TheVariants.{Load, Universe, Memory, Write}
 
--- more text was printed, one that the action means over these objects
-abbrev pub PrintsAnswer : {W : Type 0} → (W → Option (List ℕ)) → SinkView W → PageView → SinkView W → PageView → Held → Action → Status → Type 0
-PrintsAnswer contents old page new after held action status =
-    (text : List ℕ) × Answers held action text status × Prints contents old page new after text
+-- more text was printed, one that the action means over what was loaded
+abbrev pub PrintsAnswer : {W : Type 0} → (W → Option (List ℕ)) → SinkView W → PageView → SinkView W → PageView → LoadedView → Action → Status → Type 0
+PrintsAnswer contents old page new after l action status =
+    (text : List ℕ) × Answers l action text status × Prints contents old page new after text
 
--- printing stopped within such a text, or, for want of memory, before it
-abbrev pub StopsInAnswer : {W : Type 0} → (W → Option (List ℕ)) → SinkView W → PageView → SinkView W → PageView → Held → Action → PrintFault → Type 0
-StopsInAnswer contents old page new after held action fault =
-    ((fault ≡ NoMemory) × (new ≡ old) × (after ≡ page))
-    ⊎ ((text : List ℕ) × (status : Status) × Answers held action text status × StopsIn contents old page new after text)
+-- printing stopped within such a text
+abbrev pub StopsInAnswer : {W : Type 0} → (W → Option (List ℕ)) → SinkView W → PageView → SinkView W → PageView → LoadedView → Action → Type 0
+StopsInAnswer contents old page new after l action = HoldsOfAnswer l action (StopsIn contents old page new after)
+
+-- nothing was printed
+abbrev pub IsUntouched : {W : Type 0} → SinkView W → PageView → SinkView W → PageView → Type 0
+IsUntouched old page new after = (new ≡ old) × (after ≡ page)
 
 -- the fault of a run whose printing stopped
 abbrev pub fault_at : PageView → PrintFault → RunFault
 fault_at page SinkFailed = Write page.written
 fault_at page NoMemory = Memory page.written
 
--- how writing the answer stops, over these objects
-abbrev pub StopsWith : (List ℕ → Type 0) → Held → Action → RunFault → Type 0
-StopsWith took held action (Load fault) = ⊥
-StopsWith took held action (Memory n) = WritesNothing took n ⊎ WritesFront took held action n
-StopsWith took held action (Write n) = WritesFront took held action n
+-- how printing an answer stops: for want of a universe or of memory before any of it, or within it
+abbrev pub StopsPrinting : {W : Type 0} → (W → Option (List ℕ)) → SinkView W → PageView → SinkView W → PageView → LoadedView → Action → RunFault → Type 0
+StopsPrinting contents old page new after l action (Load fault) = ⊥
+StopsPrinting contents old page new after l action (Universe fault) = LacksUniverse l action fault × IsUntouched old page new after
+StopsPrinting contents old page new after l action (Memory n) =
+    (n ≡ after.written) × (IsUntouched old page new after ⊎ StopsInAnswer contents old page new after l action)
+StopsPrinting contents old page new after l action (Write n) = (n ≡ after.written) × StopsInAnswer contents old page new after l action
+
+-- the lines of a matrix and the last line were printed
+abbrev pub PrintsRows : {W : Type 0} → (W → Option (List ℕ)) → SinkView W → PageView → SinkView W → PageView → Held → UniverseView → Type 0
+PrintsRows contents old page new after held u =
+    (rows : List RowView) × IsMatrix held u rows × Prints contents old page new after (matrix_text rows)
+
+-- printing stopped within them, whichever rows are the matrix
+abbrev pub StopsInRows : {W : Type 0} → (W → Option (List ℕ)) → SinkView W → PageView → SinkView W → PageView → Held → UniverseView → Type 0
+StopsInRows contents old page new after held u =
+    (rows : List RowView) → IsMatrix held u rows → StopsIn contents old page new after (matrix_text rows)
+
+-- how writing the answer stops, over what was loaded
+abbrev pub StopsWith : (List ℕ → Type 0) → LoadedView → Action → RunFault → Type 0
+StopsWith took l action (Load fault) = ⊥
+StopsWith took l action (Universe fault) = LacksUniverse l action fault × took []
+StopsWith took l action (Memory n) = WritesNothing took n ⊎ WritesFront took l action n
+StopsWith took l action (Write n) = WritesFront took l action n
 
 -- the sink failed
 abbrev pub is_sink_fault : {T : Type 0} → Result T PrintFault → Bool

@@ -1,77 +1,88 @@
 //! The answer of each action.
 
 ghost use Rattle.std.specs.Prelude.{◌≡◌, ◌↔◌, IsTrue, false, IfOk, IfErr, if◌then◌else◌, codes};
-ghost use Rattle.rbac_question.specs.declared.command.Action.TheVariants.{CanI};
+ghost use Rattle.rbac_question.specs.declared.command.Action.TheVariants.{CanI, Matrix};
 ghost use Rattle.rbac_cli.specs.Out.{IsAllowed, line_unless};
+ghost use Rattle.rbac_cli.specs.Ends.{is_write_fault};
 ghost use Rattle.rbac_cli.specs.declared.ending.Status.TheVariants.{Zero, One};
-ghost use Rattle.rbac_cli.specs.Printing.{PrintsAnswer, StopsInAnswer, is_sink_fault};
+ghost use Rattle.rbac_cli.specs.Printing.{PrintsAnswer, StopsPrinting};
 
-use crate::asking::target_of;
-use crate::ending::Status;
-use rbac_model::Policy;
+use crate::asking::{namespace_for, target_of};
+use crate::ending::{RunFault, Status, fault_of};
+use crate::listing::print_listing;
+use rbac_manifest::Loaded;
 use rbac_question::{Action, Question};
 use rbac_streams::{Page, PrintFault, Sink};
-use rbac_terms::Principal;
+use rbac_terms::{Principal, Word};
 use std::alloc::{AllocError, Global};
 use std::io::Write;
 
-/// Prints the answer of an action over a policy.
+/// Prints the answer of an action over what was loaded.
 pub(crate) fn print_answer<W: Write + Drop>(
     alloc: Global,
-    policy: &Policy,
+    loaded: &Loaded,
     action: &Action,
     sink: &mut Sink<W>,
     page: &mut Page,
-) -> Result<Status, PrintFault>
+) -> Result<Status, RunFault>
     requires { sink.old.has_failed ≡ false }
-    ensures ok { IfOk result (PrintsAnswer W.contents sink.old page.old sink.new page.new policy.now.held action.now) }
-    ensures err { IfErr result (StopsInAnswer W.contents sink.old page.old sink.new page.new policy.now.held action.now) }
-    ensures failed { sink.new.has_failed ≡ is_sink_fault result }
+    ensures ok { IfOk result (PrintsAnswer W.contents sink.old page.old sink.new page.new loaded.now action.now) }
+    ensures err { IfErr result (StopsPrinting W.contents sink.old page.old sink.new page.new loaded.now action.now) }
+    ensures failed { sink.new.has_failed ≡ is_write_fault result }
 {
     match action {
         Action::CanI {
             principal,
             quiet,
             question,
-        } => print_can_i(alloc, policy, principal, *quiet, question, sink, page),
+        } => print_verdict(alloc, loaded, principal, *quiet, question, sink, page),
+        Action::Matrix => print_listing(alloc, loaded, sink, page),
     }
 }
 
 // Prints whether the principal is allowed what the question asks.
-fn print_can_i<W: Write + Drop>(
+fn print_verdict<W: Write + Drop>(
     alloc: Global,
-    policy: &Policy,
+    loaded: &Loaded,
     principal: &Principal,
     quiet: bool,
     question: &Question,
     sink: &mut Sink<W>,
     page: &mut Page,
-) -> Result<Status, PrintFault>
+) -> Result<Status, RunFault>
     requires { sink.old.has_failed ≡ false }
-    ensures ok { IfOk result (PrintsAnswer W.contents sink.old page.old sink.new page.new policy.now.held (CanI principal.now quiet question.now)) }
-    ensures err { IfErr result (StopsInAnswer W.contents sink.old page.old sink.new page.new policy.now.held (CanI principal.now quiet question.now)) }
-    ensures failed { sink.new.has_failed ≡ is_sink_fault result }
+    ensures ok { IfOk result (PrintsAnswer W.contents sink.old page.old sink.new page.new loaded.now (CanI principal.now quiet question.now)) }
+    ensures err { IfErr result (StopsPrinting W.contents sink.old page.old sink.new page.new loaded.now (CanI principal.now quiet question.now)) }
+    ensures failed { sink.new.has_failed ≡ is_write_fault result }
 {
-    let is_allowed = match is_allowed(alloc, policy, principal, question) {
+    let is_allowed = match is_allowed(alloc, loaded, principal, question) {
         Ok(is_allowed) => is_allowed,
-        Err(_) => return Err(PrintFault::NoMemory),
+        Err(_) => return Err(fault_of(page, PrintFault::NoMemory)),
     };
     match page.print(sink, line_of(is_allowed, quiet)) {
         Ok(()) => Ok(status_of(is_allowed)),
-        Err(fault) => Err(fault),
+        Err(fault) => Err(fault_of(page, fault)),
     }
 }
 
 fn is_allowed(
     alloc: Global,
-    policy: &Policy,
+    loaded: &Loaded,
     principal: &Principal,
     question: &Question,
 ) -> Result<bool, AllocError>
-    ensures { IfOk result (λ is_allowed. IsTrue is_allowed ↔ IsAllowed policy.now.held principal.now question.now) }
+    ensures { IfOk result (λ is_allowed. IsTrue is_allowed
+        ↔ IsAllowed loaded.now.policy.held loaded.now.catalogue.entries principal.now question.now) }
 {
-    let target = target_of(alloc, &question.asked)?;
-    Ok(policy.allows(principal, &question.namespace, &question.verb, &target))
+    let catalogue = loaded.catalogue();
+    let target = target_of(alloc, catalogue, &question.asked)?;
+    let nowhere = Word::new(alloc);
+    let namespace = namespace_for(catalogue, &target, &question.namespace, &nowhere);
+    Ok(
+        loaded
+            .policy()
+            .allows(principal, namespace, &question.verb, &target),
+    )
 }
 
 // What is printed of the verdict.

@@ -1,24 +1,32 @@
-//! What a question asks for.
+//! What a question asks for, over a catalogue.
 
-ghost use Rattle.std.specs.Prelude.{◌≡◌, ℕ, ◌<◌, ◌≢◌, length, slice_index, Contains, IfOk, MatchOption, codes};
+ghost use Rattle.std.specs.Prelude.{◌≡◌, [], IfOk, codes};
 ghost use Rattle.rbac_terms.specs.Targets.{Url};
 ghost use Rattle.rbac_terms.specs.Text.{BeginsWith};
 ghost use Rattle.rbac_question.specs.Asked.{ForType, IsTypeWord};
-ghost use Rattle.rbac_cli.specs.Meant.{dot, group_word, resource_word, target_meant, with_subresource};
+ghost use Rattle.rbac_cli.specs.Meant.{IsTargetMeant, IsOnlyTargetMeant, IsNamespaceMeant, with_subresource};
 
+use rbac_catalogue::Catalogue;
 use rbac_question::Asked;
 use rbac_terms::{Target, Word};
 use std::alloc::{AllocError, Global};
 
-/// What a question asks for, where no API resources are known: the type word stands as it is
-/// written, `RESOURCE` in the core group or `RESOURCE.GROUP` (own).
-pub fn target_of(alloc: Global, asked: &Asked) -> Result<Target, AllocError>
-    ensures { IfOk result (λ target. target ≡ target_meant asked.now) }
+/// What a question asks for (own): a URL as it is written; a type word is what
+/// [`Catalogue::resolve_word`] makes of it, and a subresource stands after it and a slash.
+pub fn target_of(alloc: Global, catalogue: &Catalogue, asked: &Asked) -> Result<Target, AllocError>
+    ensures meant { IfOk result (IsTargetMeant catalogue.now.entries asked.now) }
+    ensures only { IfOk result (IsOnlyTargetMeant catalogue.now.entries asked.now) }
 {
     if asked.is_url() {
         url_target(alloc, asked.text())
     } else {
-        resource_target(alloc, asked.text(), asked.subresource(), asked.name())
+        resource_target(
+            alloc,
+            catalogue,
+            asked.text(),
+            asked.subresource(),
+            asked.name(),
+        )
     }
 }
 
@@ -34,39 +42,22 @@ fn url_target(alloc: Global, path: &Word) -> Result<Target, AllocError>
 
 fn resource_target(
     alloc: Global,
+    catalogue: &Catalogue,
     word: &Word,
     subresource: &Word,
     name: &Word,
 ) -> Result<Target, AllocError>
     requires { IsTypeWord word.now }
-    ensures { IfOk result (λ target. target ≡ target_meant (ForType word.now subresource.now name.now)) }
+    ensures meant { IfOk result (IsTargetMeant catalogue.now.entries (ForType word.now subresource.now name.now)) }
+    ensures only { IfOk result (IsOnlyTargetMeant catalogue.now.entries (ForType word.now subresource.now name.now)) }
 {
-    let (resource, group) = resource_and_group(word.as_bytes());
-    let group = Word::from_slice(alloc, group)?;
-    let text = resource_text(alloc, resource, subresource.as_bytes())?;
-    match Target::resource(group, text, Word::from_slice(alloc, name.as_bytes())?) {
+    let found = catalogue.resolve_word(alloc, word)?;
+    let text = resource_text(alloc, found.resource.as_bytes(), subresource.as_bytes())?;
+    let name = Word::from_slice(alloc, name.as_bytes())?;
+    match Target::resource(found.group, text, name) {
         Ok(target) => Ok(target),
         Err(_) => unreachable!(),
     }
-}
-
-// What stands before the first dot of a type word, and what follows it.
-fn resource_and_group(word: &[u8]) -> (&[u8], &[u8])
-    ensures resource { result.0.now ≡ resource_word word.now }
-    ensures group { result.1.now ≡ group_word word.now }
-{
-    match first_dot(word) {
-        Some(at) => (&word[..at], &word[at + 1..]),
-        None => (word, &[]),
-    }
-}
-
-fn first_dot(word: &[u8]) -> Option<usize>
-    ensures { MatchOption result (¬ Contains word.now dot)
-        (λ i. (i < length word.now) × (slice_index word.now i ≡ dot)
-        × ((k : ℕ) → k < i → slice_index word.now k ≢ dot)) }
-{
-    word.iter().position(|b| *b == b'.')
 }
 
 // A resource with its subresource, if there is one.
@@ -79,4 +70,22 @@ fn resource_text(alloc: Global, resource: &[u8], subresource: &[u8]) -> Result<W
         text.push_slice(subresource)?;
     }
     Ok(text)
+}
+
+/// Where a target is asked for (own): in `nowhere`, the empty namespace, where the catalogue knows
+/// it to be outside all namespaces, else in the one given.
+pub(crate) fn namespace_for<'a>(
+    catalogue: &Catalogue,
+    target: &Target,
+    given: &'a Word,
+    nowhere: &'a Word,
+) -> &'a Word
+    requires { nowhere.now ≡ [] }
+    ensures { IsNamespaceMeant catalogue.now.entries target.now given.now result.now }
+{
+    if catalogue.cluster_only(target.group(), target.text()) {
+        nowhere
+    } else {
+        given
+    }
 }

@@ -6,12 +6,15 @@
 mod answering;
 mod asking;
 mod ending;
+mod listing;
 mod running;
 
 pub use asking::target_of;
 pub use ending::{RunFault, Status};
+pub use rbac_catalogue::Catalogue;
 pub use rbac_command::{UsageFault, command_of};
 pub use rbac_manifest::{At, Cause, LoadFault};
 pub use rbac_question::{Action, Asked, Command, Question};
 pub use rbac_streams::{Failed, Input, InputFault, Sink, Source, read_file, read_input};
+pub use rbac_universe::UniverseFault;
 pub use running::run;

@@ -3,21 +3,21 @@
 ghost use Rattle.std.specs.Prelude.{◌≡◌, [], false, MatchResult};
 ghost use Rattle.rbac_streams.specs.Taken.{Took, Printed};
 ghost use Rattle.rbac_cli.specs.Ends.{Ends, Writes, is_write_fault};
-ghost use Rattle.rbac_cli.specs.Printing.{StopsWith, fault_at};
+ghost use Rattle.rbac_cli.specs.Printing.{StopsWith};
 
 use crate::answering::print_answer;
-use crate::ending::{RunFault, Status};
-use rbac_manifest::{Cause, load};
-use rbac_model::Policy;
+use crate::ending::{RunFault, Status, fault_of};
+use rbac_manifest::{Cause, Loaded, load};
 use rbac_question::{Action, Command};
-use rbac_streams::{Input, Page, PrintFault, Sink};
+use rbac_streams::{Input, Page, Sink};
 use std::alloc::Global;
 use std::io::Write;
 
 /// Loads the inputs, answers the command over them and writes the answer.
 ///
-/// Refused are inputs that [`load`] refuses; nothing is written then. Where memory was refused or a
-/// write failed, what was written is a front of the answer, and the fault tells its length.
+/// Refused are inputs that [`load`] refuses, and for a matrix those whose lists make no universe;
+/// nothing is written then. Where memory was refused or a write failed, what was written is a front
+/// of the answer, and the fault tells its length.
 pub fn run<W: Write + Drop>(
     alloc: Global,
     command: &Command,
@@ -36,13 +36,13 @@ pub fn run<W: Write + Drop>(
             _ => return Err(RunFault::Load(fault)),
         },
     };
-    write_answer(alloc, loaded.policy(), &command.action, sink, &mut page)
+    write_answer(alloc, &loaded, &command.action, sink, &mut page)
 }
 
-// Writes the answer of an action over a policy, from an empty page on.
+// Writes the answer of an action over what was loaded, from an empty page on.
 fn write_answer<W: Write + Drop>(
     alloc: Global,
-    policy: &Policy,
+    loaded: &Loaded,
     action: &Action,
     sink: &mut Sink<W>,
     page: &mut Page,
@@ -52,26 +52,16 @@ fn write_answer<W: Write + Drop>(
     requires took { Took W.contents sink.old sink.old [] }
     requires empty { page.old.written ≡ 0 }
     ensures ends { MatchResult result
-        (Writes (Took W.contents sink.old sink.new) policy.now.held action.now)
-        (StopsWith (Took W.contents sink.old sink.new) policy.now.held action.now) }
+        (Writes (Took W.contents sink.old sink.new) loaded.now action.now)
+        (StopsWith (Took W.contents sink.old sink.new) loaded.now action.now) }
     ensures failed { sink.new.has_failed ≡ is_write_fault result }
 {
-    let status = match print_answer(alloc, policy, action, sink, page) {
+    let status = match print_answer(alloc, loaded, action, sink, page) {
         Ok(status) => status,
-        Err(fault) => return Err(fault_of(page, fault)),
+        Err(fault) => return Err(fault),
     };
     match page.flush(sink) {
         Ok(()) => Ok(status),
         Err(fault) => Err(fault_of(page, fault)),
-    }
-}
-
-fn fault_of(page: &Page, fault: PrintFault) -> RunFault
-    ensures { result ≡ fault_at page.now fault }
-{
-    let written = page.written();
-    match fault {
-        PrintFault::SinkFailed => RunFault::Write { written },
-        PrintFault::NoMemory => RunFault::Memory { written },
     }
 }

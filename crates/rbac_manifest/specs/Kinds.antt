@@ -69,7 +69,7 @@ version_or needed implied (Some d) = version_read (as_str d)
 unfoldable pub version_at : Implied → List ℕ → Data → Option (List ℕ)
 version_at implied kind d = version_or (needs_version kind) (implied_version implied) (field (codes "apiVersion") d)
 
--- the documents that are read, and the lists with what they imply; every other pair is passed over
+-- the documents that are read, an API resource list also without a version, and the lists with what they imply; every other pair is passed over
 unfoldable pub kind_named : List ℕ → List ℕ → Kind
 kind_named version kind =
     if bytes_eq version (codes "rbac.authorization.k8s.io/v1") then
