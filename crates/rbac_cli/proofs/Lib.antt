@@ -1,5 +1,5 @@
+pub mod Lines
 pub mod Matrices
 pub mod Named
-pub mod OneAnswer
 pub mod Stops
 pub mod Verdicts

@@ -9,11 +9,11 @@ use Rattle.rbac_model.specs.Universes.{UniverseView, RowView, IsMatrix, cell_key
 use Rattle.rbac_model.proofs.OneList.{one_list}
 use Rattle.rbac_manifest.specs.Load.{LoadedView}
 use Rattle.rbac_question.specs.declared.command.Action.{Action}
-use Rattle.rbac_question.specs.declared.command.Action.TheVariants.{CanI, Matrix}
+use Rattle.rbac_question.specs.declared.command.Action.TheVariants.{CanI, WhoCan, Matrix}
 use Rattle.rbac_cli.specs.Out.{Answers, HoldsOfAnswer, matrix_text}
 use Rattle.rbac_cli.specs.declared.ending.Status.{Status}
 
-abbrev pub row_name : RowView → List Text
+abbrev row_name : RowView → List Text
 row_name row = texts (cell_key row.cell)
 
 less : (o : Ordering) → IsTrue (is_lt o) → o ≡ Less
@@ -21,7 +21,7 @@ less Less h = refl
 less Equal h = cc
 less Greater h = cc
 
-pub ascends : (rows : List RowView) → AllPairs (λ a b. IsTrue (is_lt (key_cmp (cell_key a.cell) (cell_key b.cell)))) rows → IsAscendingBy row_name rows
+ascends : (rows : List RowView) → AllPairs (λ a b. IsTrue (is_lt (key_cmp (cell_key a.cell) (cell_key b.cell)))) rows → IsAscendingBy row_name rows
 ascends rows up = λ i j d lt l. less _ (up i j d lt l)
 
 pub one_matrix : (held : Held) (u : UniverseView) (rows others : List RowView) → IsMatrix held u rows → IsMatrix held u others → rows ≡ others
@@ -31,7 +31,8 @@ one_matrix held u rows others m n =
 
 -- what holds of a text that is meant
 pub of_text : (l : LoadedView) (action : Action) (text : List ℕ) (status : Status) (P : List ℕ → Type 0) → Answers l action text status → P text → HoldsOfAnswer l action P
-of_text l (CanI who quiet q) text status P a p = (text, status, a, p)
+of_text l (CanI who quiet why q) text status P a p = (text, status, a, p)
+of_text l (WhoCan q) text status P a p = (text, status, a, p)
 of_text l Matrix text status P (u, rows, is_universe, matrix, same, zero) p = (
   u,
   is_universe,
@@ -40,5 +41,6 @@ of_text l Matrix text status P (u, rows, is_universe, matrix, same, zero) p = (
 
 -- what follows from what holds of it
 pub of_weaker : (l : LoadedView) (action : Action) (P Q : List ℕ → Type 0) → ((text : List ℕ) → P text → Q text) → HoldsOfAnswer l action P → HoldsOfAnswer l action Q
-of_weaker l (CanI who quiet q) P Q f h = (h.0, h.1, h.2, f h.0 h.3)
+of_weaker l (CanI who quiet why q) P Q f h = (h.0, h.1, h.2, f h.0 h.3)
+of_weaker l (WhoCan q) P Q f h = (h.0, h.1, h.2, f h.0 h.3)
 of_weaker l Matrix P Q f h = (h.0, h.1, λ rows matrix. f (matrix_text rows) (h.2 rows matrix))

@@ -1,17 +1,21 @@
--- A verdict, its line and its status.
-use Rattle.std.proofs.Common.{◌≡◌, ◌∙◌, ◌↔◌, IsTrue, Bool, true, false, List, ℕ, codes, refl, sym, subst, inl, inr, if◌then◌else◌}
+-- A verdict, its text and its status.
+use Rattle.std.proofs.Common.{◌≡◌, ◌∙◌, Bool, true, false, List, [], codes, refl, sym, subst, inl, inr, append-nil}
+use Rattle.std.specs.Prelude.{Option, Some, None, MatchOption, IfSome}
+use Rattle.std.proofs.lemmas.Option.{slice_get_within, get_or_from_slice_get}
 use Rattle.rbac_terms.specs.Text.{Text}
 use Rattle.rbac_terms.specs.Targets.{What}
 use Rattle.rbac_terms.specs.Principals.{Who}
-use Rattle.rbac_model.specs.Policies.{Held, Allows}
+use Rattle.rbac_terms.specs.declared.granting.Binding.{Binding}
+use Rattle.rbac_model.specs.Policies.{Held, Allows, IsFirst}
 use Rattle.rbac_catalogue.specs.declared.entry.Entry.{Entry}
+use Rattle.rbac_index.specs.declared.deciding.Why.{Why}
+use Rattle.rbac_index.specs.Deciding.{IsWhyShown}
 use Rattle.rbac_manifest.specs.Load.{LoadedView}
 use Rattle.rbac_question.specs.declared.command.Action.TheVariants.{CanI}
 use Rattle.rbac_question.specs.declared.command.Question.{Question}
-use Rattle.rbac_cli.specs.Meant.{IsTargetMeant, IsOnlyTargetMeant, IsNamespaceMeant}
-use Rattle.rbac_cli.specs.Out.{Answers, IsAllowed, line_unless}
-use Rattle.rbac_cli.specs.declared.ending.Status.{Status}
-use Rattle.rbac_cli.specs.declared.ending.Status.TheVariants.{Zero, One}
+use Rattle.rbac_cli.specs.Meant.{IsOnlyTargetMeant, IsNamespaceMeant, IsMeant}
+use Rattle.rbac_cli.specs.Out.{Answers, IsAllowed, IsWhyText, line}
+use Rattle.rbac_cli.specs.Telling.{verdict_text, verdict_status, found_text}
 
 one_namespace : (entries : List Entry) (target : What) (given n m : Text) → IsNamespaceMeant entries target given n → IsNamespaceMeant entries target given m → n ≡ m
 one_namespace entries target given n m (inl a) (inl b) = a.1 ∙ sym b.1
@@ -19,26 +23,31 @@ one_namespace entries target given n m (inl a) (inr b) = absurd (b.0 a.0)
 one_namespace entries target given n m (inr a) (inl b) = absurd (a.0 b.0)
 one_namespace entries target given n m (inr a) (inr b) = a.1 ∙ sym b.1
 
--- what holds of the one target and namespace that are meant decides whether the question is allowed
-pub allowed : (held : Held) (entries : List Entry) (who : Who) (q : Question) (target : What) (namespace : Text) (b : Bool)
-    → IsTargetMeant entries q.asked target → IsOnlyTargetMeant entries q.asked target → IsNamespaceMeant entries target q.namespace namespace
-    → IsTrue b ↔ Allows held who namespace q.verb target → IsTrue b ↔ IsAllowed held entries who q
-allowed held entries who q target namespace b meant only there h = (
-  λ t. (target, namespace, meant, there, h.0 t),
-  λ (other, elsewhere, means, is_there, allows).
-      let same : other ≡ target = only other means in
+-- the first binding that grants grants
+allows_first : (h : Held) (who : Who) (namespace verb : Text) (t : What) (b : Binding) → IsFirst h who namespace verb t b → Allows h who namespace verb t
+allows_first h who namespace verb t b f = (f.0, b, slice_get_within h.bindings f.0 b f.1.here, get_or_from_slice_get h.bindings f.0 b b f.1.here, f.1.holds)
+
+module _ (l : LoadedView) (who : Who) (q : Question) (target : What) (namespace : Text)
+    (meant : IsMeant l.catalogue.entries q target namespace) (only : IsOnlyTargetMeant l.catalogue.entries q.asked target) where
+  -- what is not allowed on the one target and namespace that are meant is not allowed
+  denied : (¬ Allows l.policy.held who namespace q.verb target) → ¬ IsAllowed l.policy.held l.catalogue.entries who q
+  denied none (other, elsewhere, means, allows) =
+      let same : other ≡ target = only other means.0 in
       let place : elsewhere ≡ namespace =
-      one_namespace entries target q.namespace elsewhere namespace (subst (λ t. IsNamespaceMeant entries t q.namespace elsewhere) same is_there) there in
-      h.1 (subst (λ n. Allows held who n q.verb target) place (subst (λ t. Allows held who elsewhere q.verb t) same allows)),
-)
+      one_namespace l.catalogue.entries target q.namespace elsewhere namespace (subst (λ t. IsNamespaceMeant l.catalogue.entries t q.namespace elsewhere) same means.1) meant.1 in
+      none (subst (λ n. Allows l.policy.held who n q.verb target) place (subst (λ t. Allows l.policy.held who elsewhere q.verb t) same allows))
 
-told : (l : LoadedView) (who : Who) (quiet : Bool) (q : Question) (b : Bool) → IsTrue b ↔ IsAllowed l.policy.held l.catalogue.entries who q
-    → Answers l (CanI who quiet q) (line_unless quiet (if b then codes "yes" else codes "no")) (if b then Zero else One)
-told l who quiet q true h = inl (h.0 refl, refl, refl)
-told l who quiet q false h = inr (λ a. let bad = h.1 a in cc, refl, refl)
+  why_line : (found : Why) → IsWhyShown l.policy who namespace q.verb target found → IsWhyText l.policy l.catalogue.entries who q (found_text found)
+  why_line found (g, is_why, shows) = (target, namespace, meant, (g, found.subject_place, is_why, rw (shows.0, shows.1, shows.2) refl))
 
-pub answers : (l : LoadedView) (who : Who) (quiet : Bool) (q : Question) (b : Bool) (line : List ℕ) (status : Status)
-    → IsTrue b ↔ IsAllowed l.policy.held l.catalogue.entries who q
-    → line ≡ line_unless quiet (if b then codes "yes" else codes "no") → status ≡ (if b then Zero else One)
-    → Answers l (CanI who quiet q) line status
-answers l who quiet q b line status h e f = rw (e, f) (told l who quiet q b h)
+  pub told : (quiet why : Bool) (found : Option Why)
+      → MatchOption found (¬ Allows l.policy.held who namespace q.verb target) (IsWhyShown l.policy who namespace q.verb target)
+      → IfSome found (λ f. IsFirst l.policy.held who namespace q.verb target f.binding.now)
+      → Answers l (CanI who quiet why q) (verdict_text quiet why found) (verdict_status found)
+  told true why None none first = inr (denied none, refl, refl)
+  told false why None none first = inr (denied none, refl, refl)
+  told true why (Some found) shown first = inl ((target, namespace, meant, allows_first l.policy.held who namespace q.verb target found.binding.now first), ([], refl, refl), refl)
+  told false true (Some found) shown first =
+      inl ((target, namespace, meant, allows_first l.policy.held who namespace q.verb target found.binding.now first), (found_text found, why_line found shown, refl), refl)
+  told false false (Some found) shown first =
+      inl ((target, namespace, meant, allows_first l.policy.held who namespace q.verb target found.binding.now first), ([], refl, sym (append-nil (line (codes "yes")))), refl)

@@ -7,7 +7,7 @@ use Rattle.rbac_universe.specs.declared.fault.UniverseFault.{UniverseFault}
 use Rattle.rbac_universe.specs.declared.fault.UniverseFault.TheVariants as universe
 use Rattle.rbac_manifest.specs.Load.{LoadedView, IsLoaded, HasFault}
 use Rattle.rbac_question.specs.declared.command.Action.{Action}
-use Rattle.rbac_question.specs.declared.command.Action.TheVariants.{CanI, Matrix}
+use Rattle.rbac_question.specs.declared.command.Action.TheVariants.{CanI, WhoCan, Matrix}
 use Rattle.rbac_question.specs.declared.command.Command.{Command}
 use Rattle.rbac_cli.specs.Out.{Answers, HoldsOfAnswer}
 use Rattle.rbac_cli.specs.declared.ending.Status.{Status}
@@ -32,7 +32,8 @@ WritesNothing took n = took [] × (n ≡ 0)
 
 -- the action is `matrix`, and the lists make no universe, for this fault; want of memory is told by itself
 abbrev pub LacksUniverse : LoadedView → Action → UniverseFault → Type 0
-LacksUniverse l (CanI who quiet q) fault = ⊥
+LacksUniverse l (CanI who quiet why q) fault = ⊥
+LacksUniverse l (WhoCan q) fault = ⊥
 LacksUniverse l Matrix fault = HasUniverseFault l.lists fault × (fault ≢ universe.NoMemory)
 
 -- the inputs are loaded, and what the command means over them is written

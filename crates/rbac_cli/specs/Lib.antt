@@ -2,3 +2,4 @@ pub mod Ends
 pub mod Meant
 pub mod Out
 pub mod Printing
+pub mod Telling

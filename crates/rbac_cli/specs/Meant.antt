@@ -7,6 +7,7 @@ use Rattle.rbac_catalogue.specs.declared.lookup.Found.{Found}
 use Rattle.rbac_catalogue.specs.Lookups.{IsFound}
 use Rattle.rbac_catalogue.specs.Catalogue.{IsClusterOnly}
 use Rattle.rbac_question.specs.Asked.{AskedFor, ForUrl, ForType}
+use Rattle.rbac_question.specs.declared.command.Question.{Question}
 
 -- a subresource is written after a slash (Using RBAC Authorization, Referring to resources); an empty one is as none (own)
 abbrev pub with_subresource : Text → Text → Text
@@ -28,3 +29,7 @@ abbrev pub IsNamespaceMeant : List Entry → What → Text → Text → Type 0
 IsNamespaceMeant entries target given namespace =
     (IsClusterOnly entries (group_of target) (text_of target) × (namespace ≡ []))
     ⊎ ((¬ IsClusterOnly entries (group_of target) (text_of target)) × (namespace ≡ given))
+
+-- what a question asks for, and where
+abbrev pub IsMeant : List Entry → Question → What → Text → Type 0
+IsMeant entries q target namespace = IsTargetMeant entries q.asked target × IsNamespaceMeant entries target q.namespace namespace

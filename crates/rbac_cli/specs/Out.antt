@@ -1,18 +1,21 @@
 -- What a command writes, and its status.
 use Rattle.std.specs.Prelude.{◌≡◌, ℕ, ◌⊎◌, Bool, true, false, List, [], ◌∷◌, ◌++◌, codes}
+use Rattle.std.specs.List.{flat_map}
 use Rattle.rbac_terms.specs.Text.{Text}
 use Rattle.rbac_terms.specs.Targets.{What}
 use Rattle.rbac_terms.specs.Principals.{Who}
-use Rattle.rbac_model.specs.Policies.{Held, Allows}
-use Rattle.rbac_model.specs.Universes.{UniverseView, RowView, IsMatrix}
+use Rattle.rbac_model.specs.Policies.{Held, Allows, PolicyView, GrantView, IsWhy}
+use Rattle.rbac_model.specs.Universes.{UniverseView, RowView, IsMatrix, HolderView, AreHolders}
 use Rattle.rbac_catalogue.specs.declared.entry.Entry.{Entry}
 use Rattle.rbac_universe.specs.Sets.{IsUniverseOf}
+use Rattle.rbac_text.specs.Row.{holder_text}
+use Rattle.rbac_text.specs.Why.{why_text}
 use Rattle.rbac_matrix.specs.Printed.{rows_text}
 use Rattle.rbac_manifest.specs.Load.{LoadedView}
 use Rattle.rbac_question.specs.declared.command.Action.{Action}
-use Rattle.rbac_question.specs.declared.command.Action.TheVariants.{CanI, Matrix}
+use Rattle.rbac_question.specs.declared.command.Action.TheVariants.{CanI, WhoCan, Matrix}
 use Rattle.rbac_question.specs.declared.command.Question.{Question}
-use Rattle.rbac_cli.specs.Meant.{IsTargetMeant, IsNamespaceMeant}
+use Rattle.rbac_cli.specs.Meant.{IsMeant}
 use Rattle.rbac_cli.specs.declared.ending.Status.{Status}
 use Rattle.rbac_cli.specs.declared.ending.Status.TheVariants.{Zero, One}
 
@@ -28,25 +31,51 @@ line_unless false word = line word
 -- whoever asks is allowed what the question asks, by the objects that are held and the entries of the catalogue
 abbrev pub IsAllowed : Held → List Entry → Who → Question → Type 0
 IsAllowed held entries who q =
-    (target : What) × (namespace : Text) × IsTargetMeant entries q.asked target
-    × IsNamespaceMeant entries target q.namespace namespace × Allows held who namespace q.verb target
+    (target : What) × (namespace : Text) × IsMeant entries q target namespace × Allows held who namespace q.verb target
+
+-- the line that tells why: the least grant that allows it, and the least subject there that names who asks
+abbrev pub IsWhyText : PolicyView → List Entry → Who → Question → Text → Type 0
+IsWhyText p entries who q text =
+    (target : What) × (namespace : Text) × IsMeant entries q target namespace
+    × ((g : GrantView) × (subject : ℕ) × IsWhy p who namespace q.verb target g subject
+    × (text ≡ why_text g.binding g.rule.source g.rule.place subject))
+
+-- what stands after `yes`: with `--why`, and without `-q`, that line
+abbrev pub IsReason : PolicyView → List Entry → Who → Bool → Bool → Question → Text → Type 0
+IsReason p entries who false true q text = IsWhyText p entries who q text
+IsReason p entries who false false q text = text ≡ []
+IsReason p entries who true why q text = text ≡ []
+
+-- who may do what the question asks
+abbrev pub AreHoldersMeant : Held → List Entry → Question → List HolderView → Type 0
+AreHoldersMeant held entries q xs =
+    (target : What) × (namespace : Text) × IsMeant entries q target namespace × AreHolders held namespace q.verb target xs
+
+-- a line for each holder, in order
+abbrev pub holders_text : List HolderView → List ℕ
+holders_text xs = flat_map (λ x. holder_text x.key x.binding) xs
 
 -- the lines of a matrix, and a last one that says that it is whole (own)
 abbrev pub matrix_text : List RowView → List ℕ
 matrix_text rows = rows_text rows ++ line (codes "end")
 
 -- the text and the status that an action means over what was loaded: `can-i` answers `yes` and 0 or `no` and 1 (kubectl auth can-i);
--- `matrix` answers the matrix of a universe of the lists, and 0 (own)
+-- `who-can` answers a line for each holder, and 0; `matrix` the matrix of a universe of the lists, and 0 (own)
 abbrev pub Answers : LoadedView → Action → List ℕ → Status → Type 0
-Answers l (CanI who quiet q) text status =
-    (IsAllowed l.policy.held l.catalogue.entries who q × (text ≡ line_unless quiet (codes "yes")) × (status ≡ Zero))
+Answers l (CanI who quiet why q) text status =
+    (IsAllowed l.policy.held l.catalogue.entries who q
+    × ((reason : Text) × IsReason l.policy l.catalogue.entries who quiet why q reason × (text ≡ line_unless quiet (codes "yes") ++ reason))
+    × (status ≡ Zero))
     ⊎ ((¬ IsAllowed l.policy.held l.catalogue.entries who q) × (text ≡ line_unless quiet (codes "no")) × (status ≡ One))
+Answers l (WhoCan q) text status =
+    (xs : List HolderView) × AreHoldersMeant l.policy.held l.catalogue.entries q xs × (text ≡ holders_text xs) × (status ≡ Zero)
 Answers l Matrix text status =
     (u : UniverseView) × (rows : List RowView) × IsUniverseOf l.lists u × IsMatrix l.policy.held u rows
     × (text ≡ matrix_text rows) × (status ≡ Zero)
 
--- P holds of such a text: of the verdict's, or, for a universe of the lists, of whichever rows are its matrix
+-- P holds of such a text: of a verdict's, of the holders', or, for a universe of the lists, of whichever rows are its matrix
 abbrev pub HoldsOfAnswer : LoadedView → Action → (List ℕ → Type 0) → Type 0
-HoldsOfAnswer l (CanI who quiet q) P = (text : List ℕ) × (status : Status) × Answers l (CanI who quiet q) text status × P text
+HoldsOfAnswer l (CanI who quiet why q) P = (text : List ℕ) × (status : Status) × Answers l (CanI who quiet why q) text status × P text
+HoldsOfAnswer l (WhoCan q) P = (text : List ℕ) × (status : Status) × Answers l (WhoCan q) text status × P text
 HoldsOfAnswer l Matrix P =
     (u : UniverseView) × IsUniverseOf l.lists u × ((rows : List RowView) → IsMatrix l.policy.held u rows → P (matrix_text rows))

@@ -4,12 +4,35 @@ ghost use Rattle.std.specs.Prelude.{◌≡◌, [], IfOk, codes};
 ghost use Rattle.rbac_terms.specs.Targets.{Url};
 ghost use Rattle.rbac_terms.specs.Text.{BeginsWith};
 ghost use Rattle.rbac_question.specs.Asked.{ForType, IsTypeWord};
-ghost use Rattle.rbac_cli.specs.Meant.{IsTargetMeant, IsOnlyTargetMeant, IsNamespaceMeant, with_subresource};
+ghost use Rattle.rbac_cli.specs.Meant.{IsTargetMeant, IsOnlyTargetMeant, IsNamespaceMeant, IsMeant, with_subresource};
 
 use rbac_catalogue::Catalogue;
-use rbac_question::Asked;
+use rbac_question::{Asked, Question};
 use rbac_terms::{Target, Word};
 use std::alloc::{AllocError, Global};
+
+// What a question asks for, and where.
+#[derive(Drop)]
+pub(crate) struct Meant {
+    pub(crate) target: Target,
+    pub(crate) namespace: Word,
+}
+
+// What a question asks for, and where, over a catalogue.
+pub(crate) fn meant_by(
+    alloc: Global,
+    catalogue: &Catalogue,
+    question: &Question,
+) -> Result<Meant, AllocError>
+    ensures meant { IfOk result (λ meant. IsMeant catalogue.now.entries question.now meant.target meant.namespace) }
+    ensures only { IfOk result (λ meant. IsOnlyTargetMeant catalogue.now.entries question.now.asked meant.target) }
+{
+    let target = target_of(alloc, catalogue, &question.asked)?;
+    let nowhere = Word::new(alloc);
+    let namespace = namespace_for(catalogue, &target, &question.namespace, &nowhere);
+    let namespace = Word::from_slice(alloc, namespace.as_bytes())?;
+    Ok(Meant { target, namespace })
+}
 
 /// What a question asks for (own): a URL as it is written; a type word is what
 /// [`Catalogue::resolve_word`] makes of it, and a subresource stands after it and a slash.
@@ -72,9 +95,9 @@ fn resource_text(alloc: Global, resource: &[u8], subresource: &[u8]) -> Result<W
     Ok(text)
 }
 
-/// Where a target is asked for (own): in `nowhere`, the empty namespace, where the catalogue knows
-/// it to be outside all namespaces, else in the one given.
-pub(crate) fn namespace_for<'a>(
+// Where a target is asked for (own): in `nowhere`, the empty namespace, where the catalogue knows
+// it to be outside all namespaces, else in the one given.
+fn namespace_for<'a>(
     catalogue: &Catalogue,
     target: &Target,
     given: &'a Word,

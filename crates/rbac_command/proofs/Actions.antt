@@ -1,33 +1,39 @@
 -- What each subcommand does.
-use Rattle.std.proofs.Common.{◌≡◌, ◌∙◌, refl, sym, subst, Bool, true, false, List, codes, Result, Ok, Err, MatchResult}
+use Rattle.std.proofs.Common.{◌≡◌, ◌∙◌, refl, sym, subst, inl, inr, Bool, true, false, List, codes, Result, Ok, Err, MatchResult}
 use Rattle.std.specs.Prelude.{◌||◌}
 use Rattle.std.specs.Str.{bytes_eq}
 use Rattle.std.proofs.lemmas.Slice.Eq.{bytes_eq-Decides}
 use Rattle.clap.specs.Words.{Row, Text}
-use Rattle.rbac_question.specs.Lines.{CanIParts, MeansCanI, AcceptsCanI, RefusesCanI}
+use Rattle.rbac_question.specs.Lines.{QuestionParts, CanIParts, MeansCanI, MeansWhoCan, AcceptsCanI, AcceptsQuestion, RefusesCanI, RefusesQuestion}
 use Rattle.rbac_question.specs.declared.command.Action.{Action}
-use Rattle.rbac_question.specs.declared.command.Action.TheVariants.{CanI, Matrix}
+use Rattle.rbac_question.specs.declared.command.Action.TheVariants.{CanI, WhoCan, Matrix}
 use Rattle.rbac_question.specs.declared.fault.QuestionFault.{QuestionFault}
 use Rattle.rbac_question.specs.declared.fault.QuestionFault.TheVariants.{EmptyWord, UrlSubresource, NoMemory}
-use Rattle.rbac_command.specs.Meaning.{parts_in, is_known, DoesAction, RefusesAction}
+use Rattle.rbac_command.specs.Meaning.{question_in, parts_in, is_known, DoesAction, RefusesAction}
 
-either : (a b : Bool) → a || b ≡ true → b ≡ false → a ≡ true
-either true b h e = refl
-either false b h e = cc
+first_of_three : (a b c : Bool) → a || (b || c) ≡ true → b ≡ false → c ≡ false → a ≡ true
+first_of_three true b c h e k = refl
+first_of_three false true c h e k = cc
+first_of_three false false c h e k = cc
 
--- a known name that isn't `matrix` is `can-i`
-pub the_other : (name : Text) (is_matrix : Bool) → is_known name ≡ true → is_matrix ≡ bytes_eq name (codes "matrix") → is_matrix ≡ false
+-- a known name that is neither `matrix` nor `who-can` is `can-i`
+pub the_other : (name : Text) (is_matrix is_who_can : Bool) → is_known name ≡ true
+    → is_matrix ≡ bytes_eq name (codes "matrix") → is_matrix ≡ false
+    → is_who_can ≡ bytes_eq name (codes "who-can") → is_who_can ≡ false
     → name ≡ codes "can-i"
-the_other name is_matrix known e no_matrix =
-    (bytes_eq-Decides name (codes "can-i")).0 (either (bytes_eq name (codes "can-i")) (bytes_eq name (codes "matrix")) known (sym e ∙ no_matrix))
+the_other name is_matrix is_who_can known m no_matrix w no_who_can =
+    (bytes_eq-Decides name (codes "can-i")).0
+    (first_of_three (bytes_eq name (codes "can-i")) (bytes_eq name (codes "who-can")) (bytes_eq name (codes "matrix"))
+    known (sym w ∙ no_who_can) (sym m ∙ no_matrix))
 
 as_can_i : (name : Text) (rows : List Row) (r : Result Action QuestionFault) → name ≡ codes "can-i"
     → MatchResult r (λ a. AcceptsCanI (parts_in rows) × MeansCanI (parts_in rows) a) (RefusesCanI (parts_in rows))
     → MatchResult r (DoesAction name rows) (RefusesAction name rows)
-as_can_i name rows (Ok (CanI principal quiet question)) e h = (e, h.0, h.1)
+as_can_i name rows (Ok (CanI principal quiet why question)) e h = (e, h.0, h.1)
+as_can_i name rows (Ok (WhoCan question)) e h = absurd h.1
 as_can_i name rows (Ok Matrix) e h = absurd h.1
-as_can_i name rows (Err EmptyWord) e h = (e, h)
-as_can_i name rows (Err UrlSubresource) e h = (e, h)
+as_can_i name rows (Err EmptyWord) e h = inl (e, h)
+as_can_i name rows (Err UrlSubresource) e h = inl (e, h)
 as_can_i name rows (Err NoMemory) e h = tt
 
 pub can_i_line : (name : Text) (rows : List Row) (l : CanIParts) (r : Result Action QuestionFault) → name ≡ codes "can-i" → l ≡ parts_in rows
@@ -35,3 +41,19 @@ pub can_i_line : (name : Text) (rows : List Row) (l : CanIParts) (r : Result Act
     → MatchResult r (DoesAction name rows) (RefusesAction name rows)
 can_i_line name rows l r e same h =
     as_can_i name rows r e (subst (λ (parts : CanIParts). MatchResult r (λ a. AcceptsCanI parts × MeansCanI parts a) (RefusesCanI parts)) same h)
+
+as_who_can : (name : Text) (rows : List Row) (r : Result Action QuestionFault) → name ≡ codes "who-can"
+    → MatchResult r (λ a. AcceptsQuestion (question_in rows) × MeansWhoCan (question_in rows) a) (RefusesQuestion (question_in rows))
+    → MatchResult r (DoesAction name rows) (RefusesAction name rows)
+as_who_can name rows (Ok (CanI principal quiet why question)) e h = absurd h.1
+as_who_can name rows (Ok (WhoCan question)) e h = (e, h.0, h.1)
+as_who_can name rows (Ok Matrix) e h = absurd h.1
+as_who_can name rows (Err EmptyWord) e h = inr (e, h)
+as_who_can name rows (Err UrlSubresource) e h = inr (e, h)
+as_who_can name rows (Err NoMemory) e h = tt
+
+pub who_can_line : (name : Text) (rows : List Row) (l : QuestionParts) (r : Result Action QuestionFault) → name ≡ codes "who-can" → l ≡ question_in rows
+    → MatchResult r (λ a. AcceptsQuestion l × MeansWhoCan l a) (RefusesQuestion l)
+    → MatchResult r (DoesAction name rows) (RefusesAction name rows)
+who_can_line name rows l r e same h =
+    as_who_can name rows r e (subst (λ (parts : QuestionParts). MatchResult r (λ a. AcceptsQuestion parts × MeansWhoCan parts a) (RefusesQuestion parts)) same h)

@@ -34,6 +34,10 @@ subresource_rule = record (new_rule (codes "subresource")) {
 abbrev pub quiet_rule : Rule
 quiet_rule = record (new_rule (codes "quiet")) { short = Some 113; action = Some SetTrue }
 
+-- `--why`
+abbrev pub why_rule : Rule
+why_rule = record (new_rule (codes "why")) { long = Some (codes "why"); action = Some SetTrue }
+
 -- VERB, which must be given
 abbrev pub verb_rule : Rule
 verb_rule = record (new_rule (codes "verb")) { value_names = 1; required = true }
@@ -58,10 +62,14 @@ with_scope a = with_rule (with_rule (with_rule a namespace_rule) all_rule) subre
 abbrev pub with_question : App → App
 with_question a = with_rule (with_rule (with_rule a verb_rule) target_rule) files_rule
 
--- can-i --as USER [--groups A,B] [-n NS] [-A] [--subresource S] [-q] VERB TARGET [FILE]..
+-- can-i --as USER [--groups A,B] [-n NS] [-A] [--subresource S] [-q] [--why] VERB TARGET [FILE]..
 abbrev pub can_i_app : App
 can_i_app =
-    with_question (with_rule (with_scope (with_asker (new_app (codes "can-i")))) quiet_rule)
+    with_question (with_rule (with_rule (with_scope (with_asker (new_app (codes "can-i")))) quiet_rule) why_rule)
+
+-- who-can [-n NS] [-A] [--subresource S] VERB TARGET [FILE]..
+abbrev pub who_can_app : App
+who_can_app = with_question (with_scope (new_app (codes "who-can")))
 
 -- matrix [FILE]..
 abbrev pub matrix_app : App
@@ -79,4 +87,5 @@ bare_app = without_help (new_app (codes "rbacaudit"))
 
 -- the whole command line
 unfoldable pub rbac_app : App
-rbac_app = with_subcommand (with_subcommand bare_app can_i_app.top) matrix_app.top
+rbac_app =
+    with_subcommand (with_subcommand (with_subcommand bare_app can_i_app.top) who_can_app.top) matrix_app.top

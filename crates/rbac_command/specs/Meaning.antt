@@ -1,11 +1,11 @@
 -- What the words of a command line mean, by `clap`'s matches.
-use Rattle.std.specs.Prelude.{◌≡◌, ◌||◌, Bool, List, [], Option, Some, None, Result, map, codes, unwrap_or, MatchResult, string_bytes}
+use Rattle.std.specs.Prelude.{◌≡◌, ◌||◌, ◌⊎◌, Bool, List, [], Option, Some, None, Result, map, codes, unwrap_or, MatchResult, string_bytes}
 use Rattle.std.specs.Str.{bytes_eq}
 use Rattle.clap.specs.Words.{Row, Text, all_of, fault_of, first_of, kind_of, subcommand_of}
 use Rattle.clap.specs.Kinds.{IsAmong}
-use Rattle.rbac_question.specs.Lines.{CanIParts, MeansCanI, AcceptsCanI, RefusesCanI}
+use Rattle.rbac_question.specs.Lines.{QuestionParts, CanIParts, MeansCanI, MeansWhoCan, AcceptsCanI, AcceptsQuestion, RefusesCanI, RefusesQuestion}
 use Rattle.rbac_question.specs.declared.command.Action.{Action}
-use Rattle.rbac_question.specs.declared.command.Action.TheVariants.{CanI, Matrix}
+use Rattle.rbac_question.specs.declared.command.Action.TheVariants.{CanI, WhoCan, Matrix}
 use Rattle.rbac_question.specs.declared.command.Command.{Command}
 use Rattle.rbac_question.specs.declared.fault.QuestionFault.{QuestionFault}
 use Rattle.rbac_question.specs.declared.fault.QuestionFault.TheVariants as question
@@ -27,29 +27,38 @@ has_flag id rows = bytes_eq (text_at id rows) (codes "true")
 abbrev pub files_in : List Row → List Text
 files_in rows = unwrap_or (all_of (codes "files") rows) []
 
+-- the parts that ask a question
+abbrev pub question_in : List Row → QuestionParts
+question_in rows = record {
+  all_namespaces = has_flag (codes "all") rows;
+  namespace = text_at (codes "namespace") rows;
+  subresource = text_at (codes "subresource") rows;
+  verb = text_at (codes "verb") rows;
+  target = text_at (codes "target") rows;
+}
+
 -- the parts of a `can-i` line
 abbrev pub parts_in : List Row → CanIParts
 parts_in rows = record {
   user = text_at (codes "as") rows;
   groups = text_at (codes "groups") rows;
-  all_namespaces = has_flag (codes "all") rows;
-  namespace = text_at (codes "namespace") rows;
-  subresource = text_at (codes "subresource") rows;
   quiet = has_flag (codes "quiet") rows;
-  verb = text_at (codes "verb") rows;
-  target = text_at (codes "target") rows;
+  why = has_flag (codes "why") rows;
+  question = question_in rows;
 }
 
 -- ---- a command
 
 -- one of the subcommands
 abbrev pub is_known : Text → Bool
-is_known name = bytes_eq name (codes "can-i") || bytes_eq name (codes "matrix")
+is_known name = bytes_eq name (codes "can-i") || (bytes_eq name (codes "who-can") || bytes_eq name (codes "matrix"))
 
 -- what the subcommand of that name does, by its matches
 abbrev pub DoesAction : Text → List Row → Action → Type 0
-DoesAction name rows (CanI principal quiet question) =
-    (name ≡ codes "can-i") × AcceptsCanI (parts_in rows) × MeansCanI (parts_in rows) (CanI principal quiet question)
+DoesAction name rows (CanI principal quiet why question) =
+    (name ≡ codes "can-i") × AcceptsCanI (parts_in rows) × MeansCanI (parts_in rows) (CanI principal quiet why question)
+DoesAction name rows (WhoCan question) =
+    (name ≡ codes "who-can") × AcceptsQuestion (question_in rows) × MeansWhoCan (question_in rows) (WhoCan question)
 DoesAction name rows Matrix = name ≡ codes "matrix"
 
 -- the command is what the matches of the subcommand of that name mean
@@ -64,10 +73,11 @@ Means (Some p) c = MeansRows p.0 p.1 c
 
 -- ---- refusals
 
--- the refusal of a subcommand's matches: `can-i` alone has any but want of memory, which may come at any time
+-- the refusal of a subcommand's matches: `matrix` has none but want of memory, which may come at any time
 abbrev pub RefusesAction : Text → List Row → QuestionFault → Type 0
 RefusesAction name rows question.NoMemory = Unit {0}
-RefusesAction name rows e = (name ≡ codes "can-i") × RefusesCanI (parts_in rows) e
+RefusesAction name rows e = ((name ≡ codes "can-i") × RefusesCanI (parts_in rows) e)
+    ⊎ ((name ≡ codes "who-can") × RefusesQuestion (question_in rows) e)
 
 -- the same as a refusal of a command line
 abbrev pub IsCauseOf : Option (Text × List Row) → UsageFault → Type 0

@@ -3,8 +3,8 @@
 ghost use Rattle.std.specs.Prelude.{◌≡◌, IfOk, false};
 ghost use Rattle.clap.specs.Words.{app_of, new_app, rule_of, with_rule, with_subcommand};
 ghost use Rattle.clap.specs.declared.builder.command.Command.TheViews.{out-Command as fields_of};
-ghost use Rattle.rbac_command.specs.App.{user_rule, groups_rule, namespace_rule, all_rule, subresource_rule, quiet_rule, verb_rule, target_rule, files_rule};
-ghost use Rattle.rbac_command.specs.App.{with_asker, with_scope, with_question, can_i_app, matrix_app, bare_app, rbac_app};
+ghost use Rattle.rbac_command.specs.App.{user_rule, groups_rule, namespace_rule, all_rule, subresource_rule, quiet_rule, why_rule, verb_rule, target_rule, files_rule};
+ghost use Rattle.rbac_command.specs.App.{with_asker, with_scope, with_question, can_i_app, who_can_app, matrix_app, bare_app, rbac_app};
 
 use clap::{Arg, ArgAction, Command};
 use std::alloc::{AllocError, Global};
@@ -68,6 +68,16 @@ fn quiet_arg<'a>(alloc: Global) -> Arg<'a>
         .short('q')
         .action(ArgAction::SetTrue)
         .help("Writes nothing: the exit status is the answer")
+}
+
+fn why_arg<'a>(alloc: Global) -> Arg<'a>
+    ensures rule { rule_of result ≡ why_rule }
+    ensures local { result.global ≡ false }
+{
+    Arg::new(alloc, "why")
+        .long("why")
+        .action(ArgAction::SetTrue)
+        .help("After yes, tells the binding, its role and rule that allow it, and the subject")
 }
 
 fn verb_arg<'a>(alloc: Global) -> Arg<'a>
@@ -159,6 +169,20 @@ fn can_i<'a>(alloc: Global) -> Result<Command<'a>, AllocError>
     let command = with_asker(alloc, command)?;
     let command = with_scope(alloc, command)?;
     let command = with(command, quiet_arg(alloc))?;
+    let command = with(command, why_arg(alloc))?;
+    with_question(alloc, command)
+}
+
+fn who_can<'a>(alloc: Global) -> Result<Command<'a>, AllocError>
+    ensures app { IfOk result (λ r. app_of r ≡ who_can_app) }
+    ensures local { IfOk result (λ r. (fields_of r).has_globals ≡ false) }
+{
+    let command = named(
+        alloc,
+        "who-can",
+        "Lists who may VERB TARGET, each with the first binding that lets them",
+    );
+    let command = with_scope(alloc, command)?;
     with_question(alloc, command)
 }
 
@@ -210,5 +234,6 @@ pub(crate) fn program<'a>(alloc: Global) -> Result<Command<'a>, AllocError>
 {
     let command = with_bin_name(bare(alloc), "rbacaudit")?;
     let command = with_sub(command, can_i(alloc)?)?;
+    let command = with_sub(command, who_can(alloc)?)?;
     with_sub(command, matrix(alloc)?)
 }

@@ -4,13 +4,13 @@ ghost use Rattle.std.specs.Prelude.{◌≡◌, [], List, ℕ, Some, None, IfOk, 
 ghost use Rattle.std.specs.Option.{option_map_or};
 ghost use Rattle.clap.specs.Words.{found_of, all_of, rows_of, first_of, subcommand_rows_of, subcommand_of, fault_of};
 ghost use Rattle.rbac_command.specs.App.{rbac_app};
-ghost use Rattle.rbac_command.specs.Meaning.{text_at, has_flag, files_in, parts_in, is_known, DoesAction, RefusesAction, MeansRows, Means, IsCauseOf, IsRefusal, IsAnswer};
+ghost use Rattle.rbac_command.specs.Meaning.{text_at, has_flag, files_in, question_in, parts_in, is_known, DoesAction, RefusesAction, MeansRows, Means, IsCauseOf, IsRefusal, IsAnswer};
 
 use crate::build::program;
 use crate::fault::UsageFault;
 use clap::ArgMatches;
 use clap::error::ErrorKind;
-use rbac_question::{Action, CanILine, Command, QuestionFault};
+use rbac_question::{Action, CanILine, Command, QuestionFault, QuestionLine};
 use std::alloc::{AllocError, Global};
 
 // The first value of `id`, in the words of a parse's rows.
@@ -44,6 +44,19 @@ fn flag_of(matches: &ArgMatches<'_>, id: &str) -> bool
     text_of(matches, id) == "true"
 }
 
+// The parts that ask a question.
+fn question_of<'a>(matches: &ArgMatches<'a>) -> QuestionLine<'a>
+    ensures { result ≡ question_in (rows_of (found_of matches.now)) }
+{
+    QuestionLine {
+        all_namespaces: flag_of(matches, "all"),
+        namespace: text_of(matches, "namespace"),
+        subresource: text_of(matches, "subresource"),
+        verb: text_of(matches, "verb"),
+        target: text_of(matches, "target"),
+    }
+}
+
 // The parts of a `can-i` line.
 fn line_of<'a>(matches: &ArgMatches<'a>) -> CanILine<'a>
     ensures { result ≡ parts_in (rows_of (found_of matches.now)) }
@@ -51,12 +64,9 @@ fn line_of<'a>(matches: &ArgMatches<'a>) -> CanILine<'a>
     CanILine {
         user: text_of(matches, "as"),
         groups: text_of(matches, "groups"),
-        all_namespaces: flag_of(matches, "all"),
-        namespace: text_of(matches, "namespace"),
-        subresource: text_of(matches, "subresource"),
         quiet: flag_of(matches, "quiet"),
-        verb: text_of(matches, "verb"),
-        target: text_of(matches, "target"),
+        why: flag_of(matches, "why"),
+        question: question_of(matches),
     }
 }
 
@@ -96,6 +106,9 @@ fn action_of(alloc: Global, name: &str, matches: &ArgMatches<'_>) -> Result<Acti
 {
     if name == "matrix" {
         return Ok(Action::Matrix);
+    }
+    if name == "who-can" {
+        return Action::who_can(alloc, &question_of(matches));
     }
     Action::can_i(alloc, &line_of(matches))
 }

@@ -2,8 +2,24 @@
 #![tactic(auto)]
 
 #[cfg(test)]
+mod matching;
+#[cfg(test)]
+mod objects;
+#[cfg(test)]
+mod principals;
+#[cfg(test)]
+mod questions;
+#[cfg(test)]
+mod reaching;
+#[cfg(test)]
+mod requests;
+#[cfg(test)]
 mod running;
 #[cfg(test)]
 mod scopes;
 #[cfg(test)]
 mod streams;
+#[cfg(test)]
+mod universes;
+#[cfg(test)]
+mod words;

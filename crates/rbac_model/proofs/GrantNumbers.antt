@@ -1,5 +1,5 @@
 -- each rule that a binding brings is of a grant, and grants are in order of bindings; so what is allowed is what some grant allows, and the first grant that does is of the first binding that grants
-use Rattle.std.proofs.Common.{◌≡◌, ℕ, ◌+◌, ◌-◌, ◌<◌, List, [], ◌∷◌, ◌++◌, length, ap, sym, ◌∙◌, refl, subst, suc, zero, inl, inr, arith, Any}
+use Rattle.std.proofs.Common.{◌≡◌, ℕ, ◌+◌, ◌-◌, ◌<◌, ◌≤◌, List, [], ◌∷◌, ◌++◌, length, ap, sym, ◌∙◌, refl, subst, suc, zero, inl, inr, arith, Any}
 use Rattle.std.specs.Prelude.{Option, Some, None, slice_get}
 use Rattle.std.specs.Option.{option_map}
 use Rattle.std.proofs.lemmas.Bool.{cases_lt}
@@ -24,7 +24,7 @@ read_right [] ys i j e = let same : i ≡ j = omega arith in ap (slice_get ys) s
 read_right (x ∷ xs) ys zero j e = absurd (omega arith)
 read_right (x ∷ xs) ys (suc i) j e = read_right xs ys i j (omega arith)
 
-abbrev grant_by : Binding → SourcedRule → GrantView
+abbrev pub grant_by : Binding → SourcedRule → GrantView
 grant_by b rule = record { binding = b; rule = rule }
 
 parts_of : (b : Binding) (o : Option SourcedRule) (g : GrantView) → option_map (grant_by b) o ≡ Some g → (b ≡ g.binding) × (o ≡ Some g.rule)
@@ -40,7 +40,7 @@ none_earlier c bs i none before (suc k) y lt read p = before k y (omega (arith, 
 
 module _ (h : Held) where
   -- each rule that a binding brings is of a grant
-  number_of : (held : IsHeld h) (bs : List Binding) (gs : List GrantView) (i : ℕ) (b : Binding) (rules : List SourcedRule) (k : ℕ) (rule : SourcedRule) → AreGrantsOf h bs gs → slice_get bs i ≡ Some b → AreRulesFor h b rules → slice_get rules k ≡ Some rule → (n : ℕ) × (slice_get gs n ≡ Some (grant_by b rule))
+  pub number_of : (held : IsHeld h) (bs : List Binding) (gs : List GrantView) (i : ℕ) (b : Binding) (rules : List SourcedRule) (k : ℕ) (rule : SourcedRule) → AreGrantsOf h bs gs → slice_get bs i ≡ Some b → AreRulesFor h b rules → slice_get rules k ≡ Some rule → (n : ℕ) × (slice_get gs n ≡ Some (grant_by b rule))
   number_of held [] gs i b rules k rule all at are there = cc
   number_of held (c ∷ bs) gs zero b rules k rule all at are there =
       let same : c ≡ b = same_Some c b at in
@@ -53,6 +53,39 @@ module _ (h : Held) where
       let rest = number_of held bs all.1 i b rules k rule all.3 at are there in
       let n = length (granted_by c all.0) + rest.0 in
       (n, ap (λ (l : List GrantView). slice_get l n) all.4 ∙ read_right (granted_by c all.0) all.1 n rest.0 refl ∙ rest.1)
+
+  -- each grant is of some binding, and of one of the rules that it brings
+  pub binding_of : (bs : List Binding) (gs : List GrantView) (n : ℕ) (g : GrantView) → AreGrantsOf h bs gs → slice_get gs n ≡ Some g → (i : ℕ) × (slice_get bs i ≡ Some g.binding) × ((rules : List SourcedRule) × AreRulesFor h g.binding rules × ((k : ℕ) × (slice_get rules k ≡ Some g.rule)))
+  binding_of [] gs n g all at = let bad = sym (ap (λ (l : List GrantView). slice_get l n) all) ∙ at in cc
+  binding_of (c ∷ bs) gs n g all at =
+      let first = granted_by c all.0 in
+      let here : slice_get (first ++ all.1) n ≡ Some g = sym (ap (λ (l : List GrantView). slice_get l n) all.4) ∙ at in
+      elim (cases_lt n (length first)) [
+        | inl l ↦
+            let of = parts_of c (slice_get all.0 n) g (sym (slice_get-map (grant_by c) all.0 n) ∙ sym (read_left first all.1 n l) ∙ here) in
+            (0, ap (λ (v : Binding). Some v) of.0, (all.0, subst (λ (v : Binding). AreRulesFor h v all.0) of.0 all.2, (n, of.1)))
+        | inr l ↦
+            let rest = binding_of bs all.1 (n - length first) g all.3 (sym (read_right first all.1 n (n - length first) (omega arith)) ∙ here) in
+            (suc rest.0, rest.1, rest.2)
+      ]
+
+  -- the places of bindings rise with the numbers of grants
+  pub bindings_rise : (bs : List Binding) (gs : List GrantView) (n m : ℕ) (g f : GrantView) → AreGrantsOf h bs gs → n ≤ m → slice_get gs n ≡ Some g → slice_get gs m ≡ Some f → (i : ℕ) × (j : ℕ) × (slice_get bs i ≡ Some g.binding) × (slice_get bs j ≡ Some f.binding) × (i ≤ j)
+  bindings_rise [] gs n m g f all le at there = let bad = sym (ap (λ (l : List GrantView). slice_get l n) all) ∙ at in cc
+  bindings_rise (c ∷ bs) gs n m g f all le at there =
+      let first = granted_by c all.0 in
+      let here : slice_get (first ++ all.1) n ≡ Some g = sym (ap (λ (l : List GrantView). slice_get l n) all.4) ∙ at in
+      let later : slice_get (first ++ all.1) m ≡ Some f = sym (ap (λ (l : List GrantView). slice_get l m) all.4) ∙ there in
+      elim (cases_lt n (length first)) [
+        | inl l ↦
+            let of = parts_of c (slice_get all.0 n) g (sym (slice_get-map (grant_by c) all.0 n) ∙ sym (read_left first all.1 n l) ∙ here) in
+            let last = binding_of (c ∷ bs) gs m f all there in
+            (0, last.0, ap (λ (v : Binding). Some v) of.0, last.1, omega arith)
+        | inr l ↦
+            let k = length first in
+            let rest = bindings_rise bs all.1 (n - k) (m - k) g f all.3 (omega arith) (sym (read_right first all.1 n (n - k) (omega arith)) ∙ here) (sym (read_right first all.1 m (m - k) (omega arith)) ∙ later) in
+            (suc rest.0, suc rest.1, rest.2, rest.3, omega (arith, rest.4))
+      ]
 
   -- the binding of the first grant that allows is the first that grants
   first_in : (held : IsHeld h) (who : Who) (namespace verb : Text) (t : What) (bs : List Binding) (gs : List GrantView) (n : ℕ) (g : GrantView) → AreGrantsOf h bs gs → IsFirstAt (GrantAllows who namespace verb t) gs n g

@@ -1,4 +1,5 @@
 pub mod AllGranted
+pub mod BindingPlaces
 pub mod Brought
 pub mod ByKind
 pub mod Closing

@@ -157,6 +157,10 @@ pub record PolicyView : Type 0 where
   pub held : Held
   pub grants : List GrantView
 
+-- the grant of that number is of the binding at that place
+abbrev pub IsOfBinding : PolicyView → ℕ → ℕ → Type 0
+IsOfBinding p n at = (g : GrantView) × (slice_get p.grants n ≡ Some g) × (slice_get p.held.bindings at ≡ Some g.binding)
+
 -- its grants are those of its bindings
 abbrev pub IsPolicy : PolicyView → Type 0
 IsPolicy p = IsHeld p.held × AreGrantsOf p.held p.held.bindings p.grants

@@ -23,8 +23,10 @@ pub(crate) fn grant_allows(
     rule_allows(grant.rule, verb, target) && binding_names(grant.binding, principal)
 }
 
-// Whether the binding is live for this target in this namespace.
-fn is_live(binding: &Binding, namespace: &Word, target: &Target) -> bool
+/// Whether the binding is live for this target in this namespace (Using RBAC Authorization): a
+/// ClusterRoleBinding everywhere, a RoleBinding for resources of its own namespace, which isn't the
+/// empty one. Takes no memory.
+pub fn is_live(binding: &Binding, namespace: &Word, target: &Target) -> bool
     ensures { IsTrue result ↔ Live binding.now.namespace namespace.now target.now }
 {
     match &binding.namespace {

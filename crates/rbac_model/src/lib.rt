@@ -15,9 +15,11 @@ mod policy;
 mod reaching;
 mod resolving;
 
+pub use allowing::is_live;
 pub use fault::ResolveFault;
 pub use holding::{Object, Objects};
 pub use laws::{grants_are_one_list, kept_objects_are_one};
+pub use places::{GrantPlace, RolePlace};
 pub use policy::Policy;
 pub use rbac_terms::{
     Binding, ClusterRole, Key, Labels, ModelFault, Principal, Requirement, Requirements, Role,

@@ -1,8 +1,8 @@
 //! Policies: objects, and the grants that follow from them.
 
-ghost use Rattle.std.specs.Prelude.{◌≡◌, ◌<◌, ◌≤◌, ◌↔◌, IsTrue, [], Any, Contains, IfOk, IfErr, MatchOption, Some, IsSome, All, length, slice_get};
+ghost use Rattle.std.specs.Prelude.{ℕ, ◌≡◌, ◌<◌, ◌≤◌, ◌↔◌, IsTrue, [], Any, Contains, IfOk, IfErr, MatchOption, Some, IsSome, All, length, slice_get};
 ghost use Rattle.std.specs.Option.{option_copied};
-ghost use Rattle.rbac_model.specs.Policies.{PolicyView, IsPolicy, HasTooMany, Allows, IsFirst, AreReachedNames, grants_at, grant_at};
+ghost use Rattle.rbac_model.specs.Policies.{PolicyView, IsPolicy, HasTooMany, Allows, IsFirst, AreReachedNames, IsOfBinding, grants_at, grant_at};
 ghost use Rattle.rbac_model.specs.Sources.{grant_of};
 ghost use Rattle.rbac_terms.specs.declared.granting.ClusterRole.{ClusterRole};
 
@@ -141,6 +141,30 @@ impl Policy {
     {
         let places = self.places();
         grant_from(&self.objects, places[no as usize])
+    }
+
+    /// The places of the parts of the grant of this number, from 0: of its binding, of the role
+    /// where its rule is written, and of the rule in it.
+    pub fn place(&self, no: u32) -> GrantPlace
+        requires { no < length self.now.grants }
+        ensures grant { grant_at self.now.held result ≡ slice_get self.now.grants no }
+        ensures binding { IsOfBinding self.now no result.binding }
+    {
+        self.places()[no as usize]
+    }
+
+    /// The numbers of the grants of the binding at this place: from the first number, up to the
+    /// second. The grants of a binding stand together, in order of bindings. Takes no memory.
+    pub fn grants_of(&self, place: usize) -> (u32, u32)
+        ensures within { result.1 ≤ length self.now.grants }
+        ensures between { (n at : ℕ) → IsOfBinding self.now n at → ((result.0 ≤ n) × (n < result.1)) ↔ (at ≡ place) }
+        ensures policy { IsPolicy self.now }
+    {
+        let places = self.places();
+        (
+            places.partition_point(|at| at.binding < place) as u32,
+            places.partition_point(|at| at.binding <= place) as u32,
+        )
     }
 
     fn places(&self) -> &[GrantPlace]

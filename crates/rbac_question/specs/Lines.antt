@@ -4,21 +4,26 @@ use Rattle.rbac_terms.specs.Text.{Text}
 use Rattle.rbac_terms.specs.Principals.{AsUser}
 use Rattle.rbac_question.specs.Asked.{AsksFor, LacksType, HasUrlSubresource}
 use Rattle.rbac_question.specs.declared.command.Action.{Action}
-use Rattle.rbac_question.specs.declared.command.Action.TheVariants.{CanI, Matrix}
+use Rattle.rbac_question.specs.declared.command.Action.TheVariants.{CanI, WhoCan, Matrix}
 use Rattle.rbac_question.specs.declared.command.Question.{Question}
 use Rattle.rbac_question.specs.declared.fault.QuestionFault.{QuestionFault}
 use Rattle.rbac_question.specs.declared.fault.QuestionFault.TheVariants.{EmptyWord, UrlSubresource, NoMemory}
 
--- the parts of a `can-i` line; the text of an option that isn't given is empty
-pub record CanIParts : Type 0 where
-  pub user : Text
-  pub groups : Text
+-- the parts of a line that ask a question; the text of an option that isn't given is empty
+pub record QuestionParts : Type 0 where
   pub all_namespaces : Bool
   pub namespace : Text
   pub subresource : Text
-  pub quiet : Bool
   pub verb : Text
   pub target : Text
+
+-- the parts of a `can-i` line
+pub record CanIParts : Type 0 where
+  pub user : Text
+  pub groups : Text
+  pub quiet : Bool
+  pub why : Bool
+  pub question : QuestionParts
 
 -- the byte `,`
 abbrev pub comma : ℕ
@@ -41,16 +46,23 @@ namespace_meant true given = []
 namespace_meant false given = if length given == 0 then codes "default" else given
 
 -- the question that the parts ask
-pub record IsQuestion (l : CanIParts) (q : Question) : Type 0 where
+pub record IsQuestion (l : QuestionParts) (q : Question) : Type 0 where
   pub namespace : q.namespace ≡ namespace_meant l.all_namespaces l.namespace
   pub verb : q.verb ≡ l.verb
   pub asked : AsksFor l.target l.subresource q.asked
 
 -- what a `can-i` line means: the user with these groups asks it
 abbrev pub MeansCanI : CanIParts → Action → Type 0
-MeansCanI l (CanI principal quiet question) =
-    (principal ≡ AsUser l.user (groups_in l.groups)) × (quiet ≡ l.quiet) × IsQuestion l question
+MeansCanI l (CanI principal quiet why question) =
+    (principal ≡ AsUser l.user (groups_in l.groups)) × (quiet ≡ l.quiet) × (why ≡ l.why) × IsQuestion l.question question
+MeansCanI l (WhoCan question) = ⊥
 MeansCanI l Matrix = ⊥
+
+-- what a `who-can` line means: it asks who is allowed this
+abbrev pub MeansWhoCan : QuestionParts → Action → Type 0
+MeansWhoCan l (CanI principal quiet why question) = ⊥
+MeansWhoCan l (WhoCan question) = IsQuestion l question
+MeansWhoCan l Matrix = ⊥
 
 -- which refusal USER comes to
 abbrev pub RefusesUser : Text → QuestionFault → Type 0
@@ -59,25 +71,25 @@ RefusesUser user UrlSubresource = ⊥
 RefusesUser user NoMemory = Unit {0}
 
 -- U2 of a question: VERB or TARGET is empty, or nothing stands before the dot of the type word (own)
-abbrev pub LacksWord : CanIParts → Type 0
+abbrev pub LacksWord : QuestionParts → Type 0
 LacksWord l = (l.verb ≡ []) ⊎ LacksType l.target
 
 -- a question without U2 and U3
-abbrev pub AcceptsQuestion : CanIParts → Type 0
+abbrev pub AcceptsQuestion : QuestionParts → Type 0
 AcceptsQuestion l = (¬ LacksWord l) × (¬ HasUrlSubresource l.target l.subresource)
 
 -- the least refusal of a question
-abbrev pub RefusesQuestion : CanIParts → QuestionFault → Type 0
+abbrev pub RefusesQuestion : QuestionParts → QuestionFault → Type 0
 RefusesQuestion l EmptyWord = LacksWord l
 RefusesQuestion l UrlSubresource = (¬ LacksWord l) × HasUrlSubresource l.target l.subresource
 RefusesQuestion l NoMemory = Unit {0}
 
 -- a line without U2 and U3: U2 of `can-i` is an empty USER too (own)
 abbrev pub AcceptsCanI : CanIParts → Type 0
-AcceptsCanI l = (l.user ≢ []) × AcceptsQuestion l
+AcceptsCanI l = (l.user ≢ []) × AcceptsQuestion l.question
 
 -- the least refusal of a line; memory may be refused at any time
 abbrev pub RefusesCanI : CanIParts → QuestionFault → Type 0
-RefusesCanI l EmptyWord = (l.user ≡ []) ⊎ LacksWord l
-RefusesCanI l UrlSubresource = (l.user ≢ []) × RefusesQuestion l UrlSubresource
+RefusesCanI l EmptyWord = (l.user ≡ []) ⊎ LacksWord l.question
+RefusesCanI l UrlSubresource = (l.user ≢ []) × RefusesQuestion l.question UrlSubresource
 RefusesCanI l NoMemory = Unit {0}

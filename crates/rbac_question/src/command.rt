@@ -23,6 +23,13 @@ pub enum Action {
         principal: Principal,
         /// Whether the answer is the exit status alone.
         quiet: bool,
+        /// Whether a second line tells why, after yes.
+        why: bool,
+        /// What is asked.
+        question: Question,
+    },
+    /// Lists who is allowed what is asked.
+    WhoCan {
         /// What is asked.
         question: Question,
     },

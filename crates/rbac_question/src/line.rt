@@ -2,7 +2,7 @@
 
 ghost use Rattle.std.specs.Prelude.{◌≡◌, ◌≢◌, [], map, IfOk, MatchResult};
 ghost use Rattle.rbac_terms.specs.Principals.{AsUser};
-ghost use Rattle.rbac_question.specs.Lines.{comma, parts_between, groups_in, namespace_meant, IsQuestion, MeansCanI, AcceptsQuestion, RefusesQuestion, AcceptsCanI, RefusesCanI, RefusesUser};
+ghost use Rattle.rbac_question.specs.Lines.{comma, parts_between, groups_in, namespace_meant, IsQuestion, MeansCanI, MeansWhoCan, AcceptsQuestion, RefusesQuestion, AcceptsCanI, RefusesCanI, RefusesUser};
 
 use crate::asked::Asked;
 use crate::command::{Action, Question};
@@ -11,6 +11,36 @@ use rbac_terms::{ModelFault, Principal, Word, Words};
 use std::alloc::{AllocError, Global};
 use std::marker::Model;
 
+/// The parts of a line that ask a question, whoever asks it; the text of an option that isn't given
+/// is empty.
+#[derive(Drop)]
+pub struct QuestionLine<'a> {
+    /// Whether `-A` stands.
+    pub all_namespaces: bool,
+    /// The name after `-n`.
+    pub namespace: &'a str,
+    /// The name after `--subresource`.
+    pub subresource: &'a str,
+    /// VERB.
+    pub verb: &'a str,
+    /// TARGET.
+    pub target: &'a str,
+}
+
+impl<'a> Model for QuestionLine<'a> {
+    ghost use Rattle.rbac_question.specs.Lines.{QuestionParts};
+
+    ghost Value = { QuestionParts };
+
+    ghost view = { λ l. record {
+      all_namespaces = l.all_namespaces;
+      namespace = l.namespace.now;
+      subresource = l.subresource.now;
+      verb = l.verb.now;
+      target = l.target.now;
+    } };
+}
+
 /// The parts of a `can-i` line; the text of an option that isn't given is empty.
 #[derive(Drop)]
 pub struct CanILine<'a> {
@@ -18,18 +48,12 @@ pub struct CanILine<'a> {
     pub user: &'a str,
     /// The names after `--groups`, not yet split.
     pub groups: &'a str,
-    /// Whether `-A` stands.
-    pub all_namespaces: bool,
-    /// The name after `-n`.
-    pub namespace: &'a str,
-    /// The name after `--subresource`.
-    pub subresource: &'a str,
     /// Whether `-q` stands.
     pub quiet: bool,
-    /// VERB.
-    pub verb: &'a str,
-    /// TARGET.
-    pub target: &'a str,
+    /// Whether `--why` stands.
+    pub why: bool,
+    /// The parts that ask the question.
+    pub question: QuestionLine<'a>,
 }
 
 impl<'a> Model for CanILine<'a> {
@@ -40,12 +64,9 @@ impl<'a> Model for CanILine<'a> {
     ghost view = { λ l. record {
       user = l.user.now;
       groups = l.groups.now;
-      all_namespaces = l.all_namespaces;
-      namespace = l.namespace.now;
-      subresource = l.subresource.now;
       quiet = l.quiet;
-      verb = l.verb.now;
-      target = l.target.now;
+      why = l.why;
+      question = l.question;
     } };
 }
 
@@ -100,7 +121,7 @@ fn principal_of(alloc: Global, user: &str, groups: &str) -> Result<Principal, Qu
 }
 
 // The question that a line asks, whoever asks it.
-fn question_of(alloc: Global, line: &CanILine<'_>) -> Result<Question, QuestionFault>
+fn question_of(alloc: Global, line: &QuestionLine<'_>) -> Result<Question, QuestionFault>
     ensures { MatchResult result (λ question. AcceptsQuestion line.now × IsQuestion line.now question)
         (RefusesQuestion line.now) }
 {
@@ -125,11 +146,26 @@ impl Action {
             (RefusesCanI line.now) }
     {
         let principal = principal_of(alloc, line.user, line.groups)?;
-        let question = question_of(alloc, line)?;
+        let question = question_of(alloc, &line.question)?;
         Ok(Action::CanI {
             principal,
             quiet: line.quiet,
+            why: line.why,
             question,
+        })
+    }
+
+    /// What a `who-can` line means.
+    ///
+    /// U2 where VERB or TARGET is empty, or TARGET begins with `.`; else U3 where a URL has a
+    /// subresource.
+    pub fn who_can(alloc: Global, line: &QuestionLine<'_>) -> Result<Self, QuestionFault>
+        ensures { MatchResult result
+            (λ action. AcceptsQuestion line.now × MeansWhoCan line.now action)
+            (RefusesQuestion line.now) }
+    {
+        Ok(Action::WhoCan {
+            question: question_of(alloc, line)?,
         })
     }
 }

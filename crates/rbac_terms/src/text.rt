@@ -6,6 +6,7 @@ ghost use Rattle.rbac_terms.specs.Text.{IsCutAtFirst, BeginsWith};
 use smallvec::SmallVec;
 use std::alloc::{AllocError, AllocFailed, Global};
 use std::cmp::Ordering;
+use std::hash::{Hash, Hasher};
 use std::marker::Model;
 
 // How many bytes a text has at most without an allocation.
@@ -130,6 +131,19 @@ impl Ord for Word {
 
     fn cmp(&self, other: &Self) -> Ordering {
         self.as_bytes().cmp(other.as_bytes())
+    }
+}
+
+impl Hash for Word {
+    ghost use Rattle.std.specs.Hash as fed;
+    ghost use Rattle.std.proofs.lemmas.Slice.Eq.{bytes_eq-Decides};
+
+    ghost hash_input = { fed.slice fed.u8 };
+
+    ghost respects_eq = { (fed.same_Alike (fed.slice fed.u8) bytes_eq-Decides).fed };
+
+    fn hash<H: Hasher>(&self, state: &mut H) {
+        self.as_bytes().hash(state);
     }
 }
 

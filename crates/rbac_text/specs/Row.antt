@@ -1,4 +1,4 @@
--- How a binding and a row of the matrix are printed (own).
+-- How a binding, a row of the matrix and a holder are printed (own).
 use Rattle.std.specs.Prelude.{ℕ, [], ◌∷◌, ◌++◌, codes, Option, Some, None}
 use Rattle.rbac_terms.specs.Text.{Text}
 use Rattle.rbac_terms.specs.Keys.{KeyTexts}
@@ -31,3 +31,7 @@ row_text k b =
     field_and_tab k.principal ++ field_and_tab k.namespace ++ field_and_tab k.verb
     ++ field_and_tab k.group ++ field_and_tab k.resource ++ field_and_tab k.name
     ++ binding_text b ++ newline ∷ []
+
+-- the line of a holder: its key, and the binding that lets it
+abbrev pub holder_text : Text → Binding → Text
+holder_text key b = field_and_tab key ++ binding_text b ++ newline ∷ []

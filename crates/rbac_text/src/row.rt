@@ -81,7 +81,7 @@ fn put_target(line: &mut Vec<u8>, target: &Target) -> Result<(), AllocError>
     put_field_and_tab(line, target.name().as_bytes())
 }
 
-fn put_field_and_tab(line: &mut Vec<u8>, field: &[u8]) -> Result<(), AllocError>
+pub(crate) fn put_field_and_tab(line: &mut Vec<u8>, field: &[u8]) -> Result<(), AllocError>
     ensures { OnOk result (line.new.items ≡ line.old.items ++ field_and_tab field.now) }
 {
     put_field(line, field)?;

@@ -1,8 +1,17 @@
+use Rattle.std.proofs.Common.{◌∙◌, sym}
+use Rattle.std.specs.Prelude.{codes}
+use Rattle.std.proofs.lemmas.Slice.Eq.{bytes_eq-Decides}
 use Rattle.clap.specs.Words.{found_of, rows_of}
-use Rattle.rbac_command.proofs.Actions.{the_other, can_i_line}
+use Rattle.rbac_command.proofs.Actions.{the_other, can_i_line, who_can_line}
 use Rattle.rbac_command.proofs.read.action_of.Goals as goal
+
+pub returns-then-eq-2 : goal.returns-then-eq-2
+returns-then-eq-2 c =
+    who_can_line c.args.name.now (rows_of (found_of c.args.matches.now)) _ c.who_can.result
+    ((bytes_eq-Decides c.args.name.now (codes "who-can")).0 (sym c.eq-2.ensures ∙ c.if-eq-2.true)) c.question_of.ensures c.who_can.ensures
 
 pub returns : goal.returns
 returns c =
     can_i_line c.args.name.now (rows_of (found_of c.args.matches.now)) _ c.can_i.result
-    (the_other c.args.name.now c.eq.result c.requires c.eq.ensures c.if-eq.false) c.line_of.ensures c.can_i.ensures
+    (the_other c.args.name.now c.eq.result c.eq-2.result c.requires c.eq.ensures c.if-eq.false c.eq-2.ensures c.if-eq-2.false)
+    c.line_of.ensures c.can_i.ensures

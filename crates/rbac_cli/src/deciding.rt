@@ -1,0 +1,134 @@
+//! Verdicts.
+
+ghost use Rattle.std.specs.Prelude.{◌≡◌, false, IfOk, IfErr, MatchOption, IfSome};
+ghost use Rattle.rbac_model.specs.Policies.{Allows, IsFirst};
+ghost use Rattle.rbac_index.specs.Deciding.{IsWhyShown};
+ghost use Rattle.rbac_manifest.specs.Load.{LoadedView};
+ghost use Rattle.rbac_question.specs.declared.command.Action.{Action};
+ghost use Rattle.rbac_question.specs.declared.command.Action.TheVariants.{CanI};
+ghost use Rattle.rbac_cli.specs.Out.{Answers};
+ghost use Rattle.rbac_cli.specs.Ends.{is_write_fault};
+ghost use Rattle.rbac_cli.specs.Printing.{PrintsAnswer, StopsPrinting};
+ghost use Rattle.rbac_cli.specs.Telling.{verdict_text, verdict_status};
+
+use crate::asking::{Meant, meant_by};
+use crate::ending::{RunFault, Status, fault_of};
+use rbac_index::{Index, IndexFault, Why};
+use rbac_manifest::Loaded;
+use rbac_model::Policy;
+use rbac_question::Question;
+use rbac_streams::{Page, PrintFault, Sink};
+use rbac_terms::{Principal, Word};
+use rbac_text::put_why;
+use std::alloc::{AllocError, Global};
+use std::io::Write;
+
+// What is told of a verdict: the whole text and the status.
+#[derive(Drop)]
+pub(crate) struct Told {
+    text: Vec<u8>,
+    status: Status,
+}
+
+/// What is told of whether the principal is allowed what the question asks: with `quiet` nothing but
+/// the status, and with `why` a second line that tells why, after yes.
+pub(crate) fn told_of(
+    alloc: Global,
+    loaded: &Loaded,
+    principal: &Principal,
+    quiet: bool,
+    why: bool,
+    question: &Question,
+) -> Result<Told, IndexFault>
+    ensures { IfOk result (λ told. Answers loaded.now (CanI principal.now quiet why question.now) told.text.items told.status) }
+{
+    let meant = meant_by(alloc, loaded.catalogue(), question)?;
+    let found = find(alloc, loaded.policy(), principal, &question.verb, &meant)?;
+    let text = text_of(alloc, quiet, why, &found)?;
+    Ok(Told {
+        text,
+        status: status_of(&found),
+    })
+}
+
+// Why the principal may use the verb on what is meant, if it may.
+fn find<'p>(
+    alloc: Global,
+    policy: &'p Policy,
+    principal: &Principal,
+    verb: &Word,
+    meant: &Meant,
+) -> Result<Option<Why<'p>>, IndexFault>
+    ensures why { IfOk result (λ found. MatchOption found
+        (¬ Allows policy.now.held principal.now meant.now.namespace verb.now meant.now.target)
+        (IsWhyShown policy.now principal.now meant.now.namespace verb.now meant.now.target)) }
+    ensures first { IfOk result (λ found. IfSome found
+        (λ why. IsFirst policy.now.held principal.now meant.now.namespace verb.now meant.now.target why.binding.now)) }
+{
+    let index = Index::build(alloc, policy)?;
+    Ok(index.can_i(principal, &meant.namespace, verb, &meant.target))
+}
+
+// What is printed of a verdict.
+fn text_of(
+    alloc: Global,
+    quiet: bool,
+    why: bool,
+    found: &Option<Why>,
+) -> Result<Vec<u8>, AllocError>
+    ensures { IfOk result (λ text. text.items ≡ verdict_text quiet why found.now) }
+{
+    let mut text = Vec::new(alloc);
+    if quiet {
+        return Ok(text);
+    }
+    match found {
+        None => text.extend_from_slice(b"no\n")?,
+        Some(found) => {
+            text.extend_from_slice(b"yes\n")?;
+            if why {
+                put_why(
+                    &mut text,
+                    found.binding,
+                    found.source,
+                    found.rule_place,
+                    found.subject_place,
+                )?;
+            }
+        }
+    }
+    Ok(text)
+}
+
+fn status_of(found: &Option<Why>) -> Status
+    ensures { result ≡ verdict_status found.now }
+{
+    if found.is_some() {
+        Status::Zero
+    } else {
+        Status::One
+    }
+}
+
+/// Prints what is told of a verdict.
+pub(crate) fn print_told<W: Write + Drop>(
+    told: Result<Told, IndexFault>,
+    sink: &mut Sink<W>,
+    page: &mut Page,
+) -> Result<Status, RunFault>
+    requires { sink.old.has_failed ≡ false }
+    ensures ok { (l : LoadedView) (action : Action) → IfOk told (λ t. Answers l action t.text.items t.status)
+        → IfOk result (PrintsAnswer W.contents sink.old page.old sink.new page.new l action) }
+    ensures err { (l : LoadedView) (action : Action) → IfOk told (λ t. Answers l action t.text.items t.status)
+        → IfErr result (StopsPrinting W.contents sink.old page.old sink.new page.new l action) }
+    ensures failed { sink.new.has_failed ≡ is_write_fault result }
+{
+    let told = match told {
+        Ok(told) => told,
+        Err(_) => return Err(fault_of(page, PrintFault::NoMemory)),
+    };
+    match page.print(sink, told.text.as_slice()) {
+        Ok(()) => Ok(told.status),
+        Err(fault) => Err(fault_of(page, fault)),
+    }
+}

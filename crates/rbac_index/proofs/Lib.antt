@@ -1,0 +1,11 @@
+pub mod DecidingLemmas
+pub mod EntryLemmas
+pub mod GrantedLemmas
+pub mod HolderLaw
+pub mod HoldingLemmas
+pub mod IndexLemmas
+pub mod ListingLemmas
+pub mod LivingLemmas
+pub mod MergeLemmas
+pub mod ReadLemmas
+pub mod SeenLemmas

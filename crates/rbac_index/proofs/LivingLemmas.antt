@@ -1,0 +1,134 @@
+-- bindings are in order of namespaces, the ClusterRoleBindings first
+use Rattle.std.proofs.Common.{◌≡◌, ◌≢◌, ℕ, ◌<◌, ◌≤◌, List, [], ◌∷◌, length, get_or, ap, sym, ◌∙◌, refl, inl, inr, arith, ◌⊎◌, ◌↔◌, Bool, true, false}
+use Rattle.std.specs.Prelude.{Option, Some, None, slice_get, is_none}
+use Rattle.std.specs.Cmp.{IsTotalOrder}
+use Rattle.std.specs.Cmp.Lexicographic.{slice_cmp}
+use Rattle.std.specs.Ordering.{ordering_index, is_lt, is_le, ordering_then}
+use Rattle.std.specs.List.Sorted.{IsPartitionedBy, IsPartitionPoint}
+use Rattle.std.specs.declared.cmp.Ordering.{Ordering}
+use Rattle.std.specs.declared.cmp.Ordering.TheVariants.{Less, Equal, Greater}
+use Rattle.std.proofs.lemmas.Bool.{cases_eq, cases_lt}
+use Rattle.std.proofs.lemmas.Cmp.{nat_list_cmp_total, alike_right, tied_itself}
+use Rattle.std.proofs.lemmas.Map.Lookups.{exact_bytes}
+use Rattle.std.proofs.lemmas.Option.{slice_get_within, get_or_from_slice_get}
+use Rattle.rbac_terms.specs.Text.{Text, text_cmp}
+use Rattle.rbac_terms.specs.Targets.{What, Resource, Url, IsUrl, IsResource, group_of, text_of, name_of}
+use Rattle.rbac_terms.specs.declared.granting.Binding.{Binding}
+use Rattle.rbac_model.specs.Lists.{IsAscendingBy}
+use Rattle.rbac_model.specs.Policies.{Live, binding_name, binding_name_at}
+use Rattle.rbac_model.proofs.NamePlaces.{by_ordering}
+use Rattle.rbac_index.specs.Living.{namespace_cmp, IsLiveRoleBinding}
+
+-- before a ClusterRoleBinding stand ClusterRoleBindings alone
+none_before : (m n : Option Text) (a b : Text) → slice_cmp text_cmp (binding_name_at m a) (binding_name_at n b) ≡ Less → is_none n ≡ true → is_none m ≡ true
+none_before None n a b l e = refl
+none_before (Some x) None a b l e = cc
+none_before (Some x) (Some y) a b l e = cc
+
+index_at_most : (o : Ordering) → ordering_index o ≤ 2
+index_at_most Less = omega arith
+index_at_most Equal = omega arith
+index_at_most Greater = omega arith
+
+-- what is less stands no higher to a third
+index_rises : (x y z : Text) → text_cmp x y ≡ Less → ordering_index (text_cmp x z) ≤ ordering_index (text_cmp y z)
+index_rises x y z l =
+    by_ordering (text_cmp y z)
+    (λ e. let p : ordering_index (text_cmp x z) ≡ 0 = ap ordering_index (nat_list_cmp_total.trans x y z l e) in omega arith)
+    (λ e. let p : ordering_index (text_cmp x z) ≡ 0 = ap ordering_index (sym (alike_right nat_list_cmp_total y z x e) ∙ l) in omega arith)
+    (λ e. let p : ordering_index (text_cmp y z) ≡ 2 = ap ordering_index e in omega (arith, index_at_most (text_cmp x z)))
+
+then_less : (o p : Ordering) → ordering_then o p ≡ Less → (o ≡ Less) ⊎ (o ≡ Equal)
+then_less Less p e = inl refl
+then_less Equal p e = inr refl
+then_less Greater p e = cc
+
+namespaces_rise : (m n : Option Text) (a b asked : Text) → slice_cmp text_cmp (binding_name_at m a) (binding_name_at n b) ≡ Less → ordering_index (namespace_cmp m asked) ≤ ordering_index (namespace_cmp n asked)
+namespaces_rise None n a b asked l = omega arith
+namespaces_rise (Some x) None a b asked l = cc
+namespaces_rise (Some x) (Some y) a b asked l = elim (then_less (text_cmp x y) (slice_cmp text_cmp (a ∷ []) (b ∷ [])) l) [
+  | inl e ↦ index_rises x y asked e
+  | inr e ↦ let same : x ≡ y = exact_bytes x y e in rw same (omega arith)
+]
+
+lt_back : (o p : Ordering) → ordering_index o ≤ ordering_index p → is_lt p ≡ true → is_lt o ≡ true
+lt_back Less p le e = refl
+lt_back Equal Less le e = absurd (omega arith)
+lt_back Equal Equal le e = cc
+lt_back Equal Greater le e = cc
+lt_back Greater Less le e = absurd (omega arith)
+lt_back Greater Equal le e = cc
+lt_back Greater Greater le e = cc
+
+le_back : (o p : Ordering) → ordering_index o ≤ ordering_index p → is_le p ≡ true → is_le o ≡ true
+le_back Less p le e = refl
+le_back Equal p le e = refl
+le_back Greater Less le e = absurd (omega arith)
+le_back Greater Equal le e = absurd (omega arith)
+le_back Greater Greater le e = cc
+
+between_is : (o : Ordering) → is_lt o ≡ false → is_le o ≡ true → o ≡ Equal
+between_is Less e f = cc
+between_is Equal e f = refl
+between_is Greater e f = cc
+
+is_asked : (m : Option Text) (asked : Text) → namespace_cmp m asked ≡ Equal → m ≡ Some asked
+is_asked None asked e = cc
+is_asked (Some x) asked e = ap (λ (t : Text). Some t) (exact_bytes x asked e)
+
+is_none_none : (m : Option Text) → is_none m ≡ true → m ≡ None
+is_none_none None e = refl
+is_none_none (Some x) e = cc
+
+module _ (xs : List Binding) (up : IsAscendingBy binding_name xs) where
+  pub parted_by_kind : IsPartitionedBy (λ (b : Binding). is_none b.namespace) xs
+  parted_by_kind i j d le lt e = elim (cases_eq i j) [
+    | inl same ↦ rw same e
+    | inr ne ↦ none_before (get_or xs i d).namespace (get_or xs j d).namespace (get_or xs i d).name (get_or xs j d).name (up i j d (omega arith) lt) e
+  ]
+
+  module _ (asked : Text) where
+    rises : (i j : ℕ) (d : Binding) → i ≤ j → j < length xs → ordering_index (namespace_cmp (get_or xs i d).namespace asked) ≤ ordering_index (namespace_cmp (get_or xs j d).namespace asked)
+    rises i j d le lt = elim (cases_eq i j) [
+      | inl same ↦ rw same (omega arith)
+      | inr ne ↦ namespaces_rise (get_or xs i d).namespace (get_or xs j d).namespace (get_or xs i d).name (get_or xs j d).name asked (up i j d (omega arith) lt)
+    ]
+
+    pub parted_before : IsPartitionedBy (λ (b : Binding). is_lt (namespace_cmp b.namespace asked)) xs
+    parted_before i j d le lt e = lt_back (namespace_cmp (get_or xs i d).namespace asked) (namespace_cmp (get_or xs j d).namespace asked) (rises i j d le lt) e
+
+    pub parted_upto : IsPartitionedBy (λ (b : Binding). is_le (namespace_cmp b.namespace asked)) xs
+    parted_upto i j d le lt e = le_back (namespace_cmp (get_or xs i d).namespace asked) (namespace_cmp (get_or xs j d).namespace asked) (rises i j d le lt) e
+
+-- on which side of a point a binding stands
+module _ (xs : List Binding) (p : Binding → Bool) (point : ℕ) (parted : IsPartitionPoint (λ b. p b ≡ true) (λ b. p b ≡ false) xs point) (at : ℕ) (b : Binding) (there : slice_get xs at ≡ Some b) where
+  before_point : at < point → p b ≡ true
+  before_point lt = rw (get_or_from_slice_get xs at b b there) at (parted.0 at b (omega arith) lt)
+
+  past_point : point ≤ at → p b ≡ false
+  past_point le = rw (get_or_from_slice_get xs at b b there) at (parted.1 at b le (slice_get_within xs at b there))
+
+  point_past : p b ≡ true → at < point
+  point_past e = elim (cases_lt at point) [ inl l ↦ l | inr l ↦ let f = past_point l in cc ]
+
+  point_before : p b ≡ false → point ≤ at
+  point_before e = elim (cases_lt at point) [ inl l ↦ (let f = before_point l in cc) | inr l ↦ l ]
+
+pub cluster_first : (xs : List Binding) (point : ℕ) → IsPartitionPoint (λ (b : Binding). is_none b.namespace ≡ true) (λ (b : Binding). is_none b.namespace ≡ false) xs point → (at : ℕ) (b : Binding) → slice_get xs at ≡ Some b → (at < point) ↔ (b.namespace ≡ None)
+cluster_first xs point parted at b there = (
+  λ l. is_none_none b.namespace (before_point xs (λ c. is_none c.namespace) point parted at b there l),
+  λ e. point_past xs (λ c. is_none c.namespace) point parted at b there (ap is_none e),
+)
+
+pub between_points : (xs : List Binding) (asked : Text) (first last : ℕ)
+    → IsPartitionPoint (λ (b : Binding). is_lt (namespace_cmp b.namespace asked) ≡ true) (λ (b : Binding). is_lt (namespace_cmp b.namespace asked) ≡ false) xs first
+    → IsPartitionPoint (λ (b : Binding). is_le (namespace_cmp b.namespace asked) ≡ true) (λ (b : Binding). is_le (namespace_cmp b.namespace asked) ≡ false) xs last
+    → (at : ℕ) (b : Binding) → slice_get xs at ≡ Some b → ((first ≤ at) × (at < last)) ↔ (b.namespace ≡ Some asked)
+between_points xs asked first last before upto at b there =
+    let lt : Binding → Bool = λ c. is_lt (namespace_cmp c.namespace asked) in
+    let le : Binding → Bool = λ c. is_le (namespace_cmp c.namespace asked) in (
+      λ within. is_asked b.namespace asked (between_is (namespace_cmp b.namespace asked) (past_point xs lt first before at b there within.0) (before_point xs le last upto at b there within.1)),
+      λ e.
+          let tied : namespace_cmp b.namespace asked ≡ Equal = ap (λ (m : Option Text). namespace_cmp m asked) e ∙ tied_itself nat_list_cmp_total asked in
+          (point_before xs lt first before at b there (ap is_lt tied), point_past xs le last upto at b there (ap is_le tied)),
+    )

@@ -1,0 +1,8 @@
+pub mod Deciding
+pub mod HolderViews
+pub mod Holding
+pub mod Indexed
+pub mod Listing
+pub mod Living
+pub mod Merging
+pub mod Written

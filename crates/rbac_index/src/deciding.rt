@@ -1,0 +1,116 @@
+//! The first grant that allows a request.
+
+ghost use Rattle.std.specs.Prelude.{◌≡◌, ◌<◌, ◌≤◌, ◌+◌, ℕ, length, slice_get, Some, MatchOption};
+ghost use Rattle.rbac_terms.specs.Granting.{Names};
+ghost use Rattle.rbac_terms.specs.Matching.{RuleAllows};
+ghost use Rattle.rbac_terms.specs.declared.granting.Subject.{Subject};
+ghost use Rattle.rbac_model.specs.Lists.{IsFirstAt};
+ghost use Rattle.rbac_model.specs.Policies.{BindingNames, IsPolicy};
+ghost use Rattle.rbac_index.specs.Deciding.{NoneAmong, IsFirstAmong, IsFirstAllowing, NoneAllowing};
+
+use rbac_model::{Policy, SourceRole};
+use rbac_terms::{Binding, Principal, Target, Word, names, rule_allows};
+
+/// Why a request is allowed: the first grant that allows it, by its binding and by where its rule is
+/// written, and the first subject of the binding that names who asks.
+#[derive(Clone, Copy)]
+pub struct Why<'p> {
+    /// The binding that grants.
+    pub binding: &'p Binding,
+    /// The role where the rule is written.
+    pub source: SourceRole<'p>,
+    /// The place of the rule in that role, from 0.
+    pub rule_place: usize,
+    /// The place among the binding's subjects of the first that names who asks, from 0.
+    pub subject_place: usize,
+}
+
+// The place of the first subject that names the principal.
+fn naming_place(binding: &Binding, principal: &Principal) -> Option<usize>
+    ensures { MatchOption result (¬ BindingNames binding.now principal.now)
+        (λ at. (s : Subject) × IsFirstAt (λ s. Names s binding.now.namespace principal.now) binding.now.subjects at s) }
+{
+    for (place, subject) in binding.subjects.as_slice().iter().enumerate() {
+        if names(subject, binding.namespace.as_ref(), principal) {
+            return Some(place);
+        }
+    }
+    None
+}
+
+// The binding at this place.
+pub(crate) fn binding_at<'p>(policy: &'p Policy, place: usize) -> &'p Binding
+    requires { place < length policy.now.held.bindings }
+    ensures binding { slice_get policy.now.held.bindings place ≡ Some result.now }
+    ensures policy { IsPolicy policy.now }
+{
+    let bindings: &'p [Binding] = policy.bindings();
+    &bindings[place]
+}
+
+// The first grant of the binding at this place whose rule allows this.
+fn first_allowing(policy: &Policy, place: usize, verb: &Word, target: &Target) -> Option<u32>
+    ensures { MatchOption result
+        (NoneAllowing policy.now verb.now target.now place)
+        (IsFirstAllowing policy.now verb.now target.now place) }
+{
+    let (from, to) = policy.grants_of(place);
+    for no in from..to {
+        if rule_allows(policy.grant(no).rule, verb, target) {
+            return Some(no);
+        }
+    }
+    None
+}
+
+// Why the binding at this place grants, live or not.
+fn by_binding<'p>(
+    policy: &'p Policy,
+    place: usize,
+    principal: &Principal,
+    verb: &Word,
+    target: &Target,
+) -> Option<Why<'p>>
+    requires { place < length policy.now.held.bindings }
+    ensures why { MatchOption result
+        (NoneAmong policy.now principal.now verb.now target.now place (place + 1))
+        (IsFirstAmong policy.now principal.now verb.now target.now place (place + 1)) }
+    ensures policy { IsPolicy policy.now }
+{
+    let binding = binding_at(policy, place);
+    let Some(subject_place) = naming_place(binding, principal) else {
+        return None;
+    };
+    let Some(no) = first_allowing(policy, place, verb, target) else {
+        return None;
+    };
+    let grant = policy.grant(no);
+    Some(Why {
+        binding,
+        source: grant.source,
+        rule_place: grant.place,
+        subject_place,
+    })
+}
+
+// Why the first of the bindings at these places that grants does so, live or not.
+pub(crate) fn first_among<'p>(
+    policy: &'p Policy,
+    from: usize,
+    to: usize,
+    principal: &Principal,
+    verb: &Word,
+    target: &Target,
+) -> Option<Why<'p>>
+    requires { to ≤ length policy.now.held.bindings }
+    ensures { MatchOption result
+        (NoneAmong policy.now principal.now verb.now target.now from to)
+        (IsFirstAmong policy.now principal.now verb.now target.now from to) }
+{
+    for place in from..to {
+        if let Some(why) = by_binding(policy, place, principal, verb, target) {
+            return Some(why);
+        }
+    }
+    None
+}

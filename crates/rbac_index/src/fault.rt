@@ -1,0 +1,44 @@
+//! Why a call of this crate is refused.
+
+ghost use Rattle.std.specs.Prelude.{◌≡◌};
+
+use std::alloc::{AllocError, AllocFailed};
+use std::error::Error;
+use std::fmt;
+
+/// Why an index can't be made or asked.
+#[derive(Debug, Drop, Clone, Copy, PartialEq, Eq)]
+pub enum IndexFault {
+    /// X1: memory was refused.
+    NoMemory,
+}
+
+impl From<AllocError> for IndexFault {
+    ghost use Rattle.rbac_index.specs.declared.fault.IndexFault.TheVariants.{NoMemory};
+
+    ghost from_gives = { λ _ fault. fault ≡ NoMemory };
+
+    fn from(_: AllocError) -> Self {
+        IndexFault::NoMemory
+    }
+}
+
+impl<T: Drop> From<AllocFailed<T>> for IndexFault {
+    ghost use Rattle.rbac_index.specs.declared.fault.IndexFault.TheVariants.{NoMemory};
+
+    ghost from_gives = { λ _ fault. fault ≡ NoMemory };
+
+    fn from(_: AllocFailed<T>) -> Self {
+        IndexFault::NoMemory
+    }
+}
+
+impl fmt::Display for IndexFault {
+    fn fmt<W: fmt::Write>(&self, f: &mut fmt::Formatter<W>) -> fmt::Result {
+        match self {
+            IndexFault::NoMemory => write!(f, "out of memory"),
+        }
+    }
+}
+
+impl Error for IndexFault {}

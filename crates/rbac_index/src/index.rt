@@ -1,0 +1,199 @@
+//! The index of a policy.
+
+ghost use Rattle.std.specs.Prelude.{◌≡◌, ◌<◌, ◌≤◌, ◌↔◌, ℕ, length, map, slice_get, slice_index_or, Some, All, Any, Contains, IfOk, IfSome, MatchOption, []};
+ghost use Rattle.std.specs.List.Sorted.{IsStrictlyIncreasing};
+ghost use Rattle.rbac_model.specs.Sources.{grant_of};
+ghost use Rattle.rbac_model.specs.Policies.{Allows, IsFirst};
+ghost use Rattle.rbac_model.specs.Universes.{AreHolders};
+ghost use Rattle.rbac_index.specs.Indexed.{AreCandidates, IsAllowedBy, AllowsRule};
+ghost use Rattle.rbac_index.specs.Deciding.{IsWhyShown};
+ghost use Rattle.rbac_index.specs.Holding.{AllowsByHolders};
+ghost use Rattle.rbac_index.specs.Merging.{numbers_of};
+
+use crate::deciding::{Why, first_among};
+use crate::fault::IndexFault;
+use crate::granted::grants_by_rule;
+use crate::holders::Holders;
+use crate::listing::{Listing, listing_of, matching};
+use crate::living::{cluster_wide, live_role_bindings};
+use crate::merging::{Numbers, merged};
+use crate::numbers::GrantNos;
+use crate::written::{laid_out, written};
+use rbac_model::{Grant, Policy};
+use rbac_terms::{Binding, Principal, Rule, Target, Word, rule_allows};
+use std::alloc::{AllocError, Global};
+use std::marker::Model;
+
+/// The rules of a policy's roles, each listed once under the words of its resources, and the grants
+/// by each of them. A question looks at the rules that may match alone, and at the bindings that may
+/// be live.
+#[derive(Drop)]
+pub struct Index<'p> {
+    policy: &'p Policy,
+    rules: Vec<&'p Rule>,
+    listing: Listing,
+    // The grants by each rule.
+    numbers: Vec<GrantNos>,
+}
+
+impl<'p> Model for Index<'p> {
+    ghost use Rattle.std.specs.Prelude.{map};
+    ghost use Rattle.rbac_model.specs.Policies.{PolicyView};
+    ghost use Rattle.rbac_index.specs.Indexed.{IsIndexOf};
+
+    ghost Value = { PolicyView };
+
+    ghost view = { λ i. i.policy.now };
+
+    ghost invariant = { λ i. IsIndexOf i.policy.now (map (λ r. r.now) i.rules.items) i.listing i.numbers.items };
+}
+
+impl<'p> Index<'p> {
+    /// The index of this policy. X1 NoMemory where memory is refused.
+    pub fn build(alloc: Global, policy: &'p Policy) -> Result<Self, IndexFault>
+        ensures { IfOk result (λ i. i ≡ policy.now) }
+    {
+        let rows = written(alloc, policy.objects())?;
+        let layout = laid_out(alloc, rows.as_slice())?;
+        let listing = listing_of(alloc, layout.rules.as_slice())?;
+        let numbers = grants_by_rule(alloc, policy, &layout)?;
+        Ok(Index {
+            policy,
+            rules: layout.rules,
+            listing,
+            numbers,
+        })
+    }
+
+    /// How many grants there are.
+    pub fn len(&self) -> u32
+        ensures { result ≡ length self.now.grants }
+    {
+        self.policy.len()
+    }
+
+    /// The grant of this number, from 0.
+    pub fn grant(&self, no: u32) -> Grant<'p>
+        requires { no < length self.now.grants }
+        ensures { slice_get self.now.grants no ≡ Some (grant_of result) }
+    {
+        let policy: &'p Policy = self.policy;
+        policy.grant(no)
+    }
+
+    /// The numbers of the grants whose rule allows the verb on the target, ascending; where bindings
+    /// are live and whom they name is left aside. X1 NoMemory where memory is refused.
+    pub fn candidates(
+        &self,
+        alloc: Global,
+        verb: &Word,
+        target: &Target,
+    ) -> Result<GrantNos, IndexFault>
+        ensures { IfOk result (λ ns. AreCandidates self.now verb.now target.now ns) }
+    {
+        let rules = self.rules.as_slice();
+        let numbers = self.numbers.as_slice();
+        if target.is_url() {
+            let places = self.listing.with_urls.as_slice();
+            Ok(allowed_by(alloc, rules, numbers, places, verb, target)?)
+        } else {
+            let places = matching(alloc, &self.listing.by_word, target.text())?;
+            Ok(allowed_by(alloc, rules, numbers, places.as_slice(), verb, target)?)
+        }
+    }
+
+    /// Why the principal may use the verb on the target in this namespace; none where it may not
+    /// (Using RBAC Authorization). It is the first grant that allows, in order of bindings and of
+    /// their rules (own). Looks at the bindings that are live there alone, and takes no memory.
+    pub fn can_i(
+        &self,
+        principal: &Principal,
+        namespace: &Word,
+        verb: &Word,
+        target: &Target,
+    ) -> Option<Why<'p>>
+        ensures why { MatchOption result
+            (¬ Allows self.now.held principal.now namespace.now verb.now target.now)
+            (IsWhyShown self.now principal.now namespace.now verb.now target.now) }
+        ensures first { IfSome result (λ why. IsFirst self.now.held principal.now namespace.now verb.now target.now why.binding.now) }
+    {
+        let policy: &'p Policy = self.policy;
+        let bindings = policy.bindings();
+        let by_cluster = first_among(policy, 0, cluster_wide(bindings), principal, verb, target);
+        if by_cluster.is_some() {
+            return by_cluster;
+        }
+        let (from, to) = live_role_bindings(bindings, namespace, target);
+        first_among(policy, from, to, principal, verb, target)
+    }
+
+    /// Who may use the verb on the target in this namespace: each holder once, in order of the
+    /// bindings and subjects by which they hold (own). A service account without a namespace holds
+    /// nothing by a ClusterRoleBinding. X1 NoMemory where memory is refused.
+    pub fn who_can(
+        &self,
+        alloc: Global,
+        namespace: &Word,
+        verb: &Word,
+        target: &Target,
+    ) -> Result<Holders<'p>, IndexFault>
+        ensures holders { IfOk result (AreHolders self.now.held namespace.now verb.now target.now) }
+        ensures law { IfOk result (AllowsByHolders self.now.held namespace.now verb.now target.now) }
+    {
+        let policy: &'p Policy = self.policy;
+        let bindings: &'p [Binding] = policy.bindings();
+        let numbers = self.candidates(alloc, verb, target)?;
+        let mut holders = Holders::new(alloc);
+        // The place after the last binding that was seen.
+        let mut next = 0;
+        for no in numbers.as_slice() {
+            let place = policy.place(*no).binding;
+            if next <= place {
+                holders.see_binding(alloc, &bindings[place], place, namespace, target)?;
+                next = place + 1;
+            }
+        }
+        Ok(holders)
+    }
+}
+
+// The numbers of the grants by those of these rules that allow the verb on the target.
+fn allowed_by(
+    alloc: Global,
+    rules: &[&Rule],
+    numbers: &[GrantNos],
+    places: &[usize],
+    verb: &Word,
+    target: &Target,
+) -> Result<GrantNos, AllocError>
+    requires rules { All (λ at. at < length rules.now) places.now }
+    requires numbers { length numbers.now ≡ length rules.now }
+    ensures ascending { IfOk result (λ ns. IsStrictlyIncreasing ns) }
+    ensures exact { IfOk result (λ ns. (n : ℕ) → Contains ns n ↔ IsAllowedBy (map (λ r. r.now) rules.now) numbers.now places.now verb.now target.now n) }
+{
+    let lists = allowing(alloc, rules, numbers, places, verb, target)?;
+    Ok(merged(alloc, lists)?)
+}
+
+// The grants by each of these rules that allows the verb on the target.
+fn allowing<'a>(
+    alloc: Global,
+    rules: &[&Rule],
+    numbers: &'a [GrantNos],
+    places: &[usize],
+    verb: &Word,
+    target: &Target,
+) -> Result<Vec<Numbers<'a>>, AllocError>
+    requires rules { All (λ at. at < length rules.now) places.now }
+    requires numbers { length numbers.now ≡ length rules.now }
+    ensures ascending { IfOk result (λ v. All (λ l. IsStrictlyIncreasing (numbers_of l)) v.items) }
+    ensures exact { IfOk result (λ v. (n : ℕ) → Any (λ l. Contains (numbers_of l) n) v.items ↔ IsAllowedBy (map (λ r. r.now) rules.now) numbers.now places.now verb.now target.now n) }
+{
+    let mut lists = Vec::new(alloc);
+    for place in places {
+        if rule_allows(rules[*place], verb, target) {
+            lists.push(Numbers(numbers[*place].as_slice()))?;
+        }
+    }
+    Ok(lists)
+}

@@ -1,0 +1,20 @@
+//! An index over a policy: which grants allow a verb on a target, whether someone may do it and why,
+//! and who may. Everything here is told of the policy alone; the index only makes it fast.
+#![tactic(auto)]
+
+mod deciding;
+mod fault;
+mod granted;
+mod holders;
+mod index;
+mod listing;
+mod living;
+mod merging;
+mod numbers;
+mod written;
+
+pub use deciding::Why;
+pub use fault::IndexFault;
+pub use holders::{Holder, Holders};
+pub use index::Index;
+pub use numbers::GrantNos;

@@ -1,0 +1,180 @@
+//! Rules, listed under the words of their resources.
+
+ghost use Rattle.std.specs.Prelude.{◌≡◌, ◌≢◌, ◌++◌, ◌∷◌, [], ℕ, IfOk, OnOk, Contains, ◌↔◌, ◌⊎◌, MatchOption, codes, length, map};
+ghost use Rattle.rbac_terms.specs.Text.{Text};
+ghost use Rattle.rbac_terms.specs.Matching.{ResourceWordMatches, FollowsFirstSlash};
+ghost use Rattle.rbac_index.specs.Listing.{listed, ListsMore, ListsUnder, ListsRule, AreListed};
+
+use rbac_terms::{Rule, Word, cut_at_first};
+use std::alloc::{AllocError, Global};
+use std::collections::BTreeMap;
+use std::marker::Model;
+
+// Numbers of rules, with repeats.
+#[derive(Drop)]
+pub(crate) struct RuleNos {
+    items: Vec<usize>,
+}
+
+impl Model for RuleNos {
+    ghost use Rattle.std.specs.Prelude.{ℕ, List};
+
+    ghost Value = { List ℕ };
+
+    ghost view = { λ ns. ns.items.items };
+}
+
+impl RuleNos {
+    // No numbers, which takes no memory.
+    pub(crate) fn new(alloc: Global) -> Self
+        ensures { result ≡ [] }
+    {
+        RuleNos {
+            items: Vec::new(alloc),
+        }
+    }
+
+    // The numbers, in order.
+    pub(crate) fn as_slice(&self) -> &[usize]
+        ensures { result.now ≡ self.now }
+    {
+        self.items.as_slice()
+    }
+
+    // Puts a number at the end.
+    fn push(&mut self, no: usize) -> Result<(), AllocError>
+        ensures { OnOk result (self.new ≡ self.old ++ no ∷ []) }
+    {
+        self.items.push(no)?;
+        Ok(())
+    }
+}
+
+// The numbers of rules, under each word of their resources, and of those with URLs.
+#[derive(Drop)]
+pub(crate) struct Listing {
+    pub(crate) by_word: BTreeMap<Word, RuleNos>,
+    pub(crate) with_urls: RuleNos,
+}
+
+// Lists these rules by their places.
+pub(crate) fn listing_of(alloc: Global, rules: &[&Rule]) -> Result<Listing, AllocError>
+    ensures { IfOk result (AreListed (map (λ r. r.now) rules.now) (length rules.now)) }
+{
+    let mut listing = Listing {
+        by_word: BTreeMap::new(alloc),
+        with_urls: RuleNos::new(alloc),
+    };
+    for (no, rule) in rules.iter().enumerate() {
+        list_rule(alloc, &mut listing, rule, no)?;
+    }
+    Ok(listing)
+}
+
+// Lists one rule under its words, and among those with URLs if it has some.
+fn list_rule(alloc: Global, listing: &mut Listing, rule: &Rule, no: usize) -> Result<(), AllocError>
+    ensures { OnOk result (ListsRule listing.old listing.new rule.now no) }
+{
+    list_under_all(alloc, &mut listing.by_word, rule.resources.as_slice(), no)?;
+    if !rule.urls.is_empty() {
+        listing.with_urls.push(no)?;
+    }
+    Ok(())
+}
+
+// Lists a number under these words.
+fn list_under_all(
+    alloc: Global,
+    lists: &mut BTreeMap<Word, RuleNos>,
+    words: &[Word],
+    no: usize,
+) -> Result<(), AllocError>
+    ensures { OnOk result (ListsUnder lists.old lists.new words.now no) }
+{
+    for word in words {
+        list_under(alloc, lists, word, no)?;
+    }
+    Ok(())
+}
+
+// Lists a number under one word.
+fn list_under(
+    alloc: Global,
+    lists: &mut BTreeMap<Word, RuleNos>,
+    word: &Word,
+    no: usize,
+) -> Result<(), AllocError>
+    ensures { OnOk result (ListsMore lists.old lists.new word.now no) }
+{
+    match lists.get_mut(word) {
+        Some(numbers) => numbers.push(no)?,
+        None => {
+            let mut numbers = RuleNos::new(alloc);
+            numbers.push(no)?;
+            let key = Word::from_slice(alloc, word.as_bytes())?;
+            lists.insert(key, numbers)?;
+        }
+    }
+    Ok(())
+}
+
+// The numbers under a word.
+fn under<'a>(lists: &'a BTreeMap<Word, RuleNos>, word: &Word) -> &'a [usize]
+    ensures { result.now ≡ listed lists.now word.now }
+{
+    match lists.get(word) {
+        Some(numbers) => numbers.as_slice(),
+        None => &[],
+    }
+}
+
+// The word for each resource with the subresource of this text, if it has one.
+fn subresource_word(alloc: Global, text: &Word) -> Result<Option<Word>, AllocError>
+    ensures { IfOk result (λ o. MatchOption o
+        ((s : Text) → s ≢ [] → ¬ FollowsFirstSlash text.now s)
+        (λ w. (s : Text) × (w ≡ codes "*/" ++ s) × (s ≢ []) × FollowsFirstSlash text.now s)) }
+{
+    let Some((_, subresource)) = cut_at_first(text.as_bytes(), b'/') else {
+        return Ok(None);
+    };
+    if subresource.is_empty() {
+        return Ok(None);
+    }
+    let mut word = Word::from_slice(alloc, b"*/".as_slice())?;
+    word.push_slice(subresource)?;
+    Ok(Some(word))
+}
+
+// The numbers under the words that match this resource text, each once.
+pub(crate) fn matching(
+    alloc: Global,
+    lists: &BTreeMap<Word, RuleNos>,
+    text: &Word,
+) -> Result<Vec<usize>, AllocError>
+    ensures { IfOk result (λ v. (n : ℕ) → Contains v.items n ↔ ((w : Text) × ResourceWordMatches w text.now × Contains (listed lists.now w) n)) }
+{
+    let star = Word::from_slice(alloc, b"*".as_slice())?;
+    let every = under(lists, &star);
+    let same = under(lists, text);
+    match subresource_word(alloc, text)? {
+        Some(word) => united(alloc, every, same, under(lists, &word)),
+        None => united(alloc, every, same, &[]),
+    }
+}
+
+// The numbers of three lists, each once.
+fn united(
+    alloc: Global,
+    first: &[usize],
+    second: &[usize],
+    third: &[usize],
+) -> Result<Vec<usize>, AllocError>
+    ensures { IfOk result (λ v. (n : ℕ) → Contains v.items n ↔ (Contains first.now n ⊎ (Contains second.now n ⊎ Contains third.now n))) }
+{
+    let mut numbers = Vec::from_slice(alloc, first)?;
+    numbers.extend_from_slice(second)?;
+    numbers.extend_from_slice(third)?;
+    numbers.sort_unstable();
+    numbers.dedup();
+    Ok(numbers)
+}

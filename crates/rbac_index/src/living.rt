@@ -1,0 +1,57 @@
+//! Where the live bindings stand.
+
+ghost use Rattle.std.specs.Prelude.{◌≡◌, ◌<◌, ◌≤◌, ◌↔◌, ℕ, Some, None, length, slice_get};
+ghost use Rattle.rbac_terms.specs.declared.granting.Binding.{Binding};
+ghost use Rattle.rbac_model.specs.Lists.{IsAscendingBy};
+ghost use Rattle.rbac_model.specs.Policies.{binding_name, Live};
+ghost use Rattle.rbac_index.specs.Living.{namespace_cmp, IsLiveRoleBinding};
+
+use rbac_terms::{Binding, Target, Word};
+use std::cmp::Ordering;
+
+// How many ClusterRoleBindings there are, which stand first.
+pub(crate) fn cluster_wide(bindings: &[Binding]) -> usize
+    requires { IsAscendingBy binding_name bindings.now }
+    ensures within { result ≤ length bindings.now }
+    ensures first { (at : ℕ) (b : Binding) → slice_get bindings.now at ≡ Some b → (at < result) ↔ (b.namespace ≡ None) }
+{
+    bindings.partition_point(|binding| binding.namespace.is_none())
+}
+
+// Where the RoleBindings of this namespace stand: from the first place, up to the second.
+fn of_namespace(bindings: &[Binding], namespace: &Word) -> (usize, usize)
+    requires { IsAscendingBy binding_name bindings.now }
+    ensures within { result.1 ≤ length bindings.now }
+    ensures between { (at : ℕ) (b : Binding) → slice_get bindings.now at ≡ Some b → ((result.0 ≤ at) × (at < result.1)) ↔ (b.namespace ≡ Some namespace.now) }
+{
+    (
+        bindings.partition_point(|binding| cmp_namespace(binding, namespace).is_lt()),
+        bindings.partition_point(|binding| cmp_namespace(binding, namespace).is_le()),
+    )
+}
+
+// How the binding's namespace stands to this one; a ClusterRoleBinding stands before each.
+fn cmp_namespace(binding: &Binding, namespace: &Word) -> Ordering
+    ensures { result ≡ namespace_cmp binding.now.namespace namespace.now }
+{
+    match &binding.namespace {
+        None => Ordering::Less,
+        Some(own) => own.cmp(namespace),
+    }
+}
+
+// Where the RoleBindings stand that are live for this target in this namespace.
+pub(crate) fn live_role_bindings(
+    bindings: &[Binding],
+    namespace: &Word,
+    target: &Target,
+) -> (usize, usize)
+    requires { IsAscendingBy binding_name bindings.now }
+    ensures within { result.1 ≤ length bindings.now }
+    ensures between { (at : ℕ) (b : Binding) → slice_get bindings.now at ≡ Some b → ((result.0 ≤ at) × (at < result.1)) ↔ IsLiveRoleBinding b namespace.now target.now }
+{
+    if target.is_url() || namespace.is_empty() {
+        return (0, 0);
+    }
+    of_namespace(bindings, namespace)
+}

@@ -1,0 +1,124 @@
+//! The line that tells why a request is allowed.
+
+ghost use Rattle.std.specs.Prelude.{◌≡◌, ◌++◌, ◌∷◌, [], OnErr, OnOk};
+ghost use Rattle.rbac_model.specs.Sources.{source_of};
+ghost use Rattle.rbac_text.specs.Row.{tab};
+ghost use Rattle.rbac_text.specs.Why.{role_text, cluster_role_text, named_text, source_text, place_text, roles_text, places_text, why_text};
+
+use crate::field::put_text;
+use crate::row::put_binding;
+use itoa::Buffer;
+use rbac_model::SourceRole;
+use rbac_terms::{Binding, RoleRef, Word};
+use std::alloc::{AllocError, AllocFailed};
+
+/// Adds the name of a role of a namespace as one field (own): `Role/NAMESPACE/NAME`. Where memory is
+/// refused a front of it may have been added.
+pub fn put_role(line: &mut Vec<u8>, namespace: &Word, name: &Word) -> Result<(), AllocError>
+    ensures { OnOk result (line.new.items ≡ line.old.items ++ role_text namespace.now name.now) }
+{
+    line.extend_from_slice(b"Role/")?;
+    put_text(line, namespace.as_bytes())?;
+    line.push(b'/')?;
+    put_text(line, name.as_bytes())
+}
+
+/// Adds the name of a role of the whole cluster as one field (own): `ClusterRole/NAME`. Where memory
+/// is refused a front of it may have been added.
+pub fn put_cluster_role(line: &mut Vec<u8>, name: &Word) -> Result<(), AllocError>
+    ensures { OnOk result (line.new.items ≡ line.old.items ++ cluster_role_text name.now) }
+{
+    line.extend_from_slice(b"ClusterRole/")?;
+    put_text(line, name.as_bytes())
+}
+
+/// Adds a place that is counted from 0 as one field (own): from 1, in decimal digits. Where memory is
+/// refused nothing is added.
+pub fn put_place(line: &mut Vec<u8>, place: usize) -> Result<(), AllocError>
+    ensures added { OnOk result (line.new.items ≡ line.old.items ++ place_text place) }
+    ensures kept { OnErr result (line.new.items ≡ line.old.items) }
+{
+    // The greatest place has a number too.
+    let number = place as u128 + 1;
+    let mut buffer = Buffer::new();
+    line.extend_from_slice(buffer.format(number).as_bytes())
+}
+
+/// Adds the line that tells why a request is allowed (own): the binding that grants it, the role that
+/// this binding names, the role where the rule is written, and the places of the rule there and of
+/// the subject in the binding, joined by tabs, with the line's end. Where memory is refused a front
+/// of it may have been added.
+pub fn put_why(
+    line: &mut Vec<u8>,
+    binding: &Binding,
+    source: SourceRole<'_>,
+    rule_place: usize,
+    subject_place: usize,
+) -> Result<(), AllocError>
+    ensures { OnOk result (line.new.items
+        ≡ line.old.items ++ why_text binding.now (source_of source.entry) rule_place subject_place) }
+{
+    put_binding(line, binding)?;
+    put_tab(line)?;
+    put_roles(line, binding, source)?;
+    put_tab(line)?;
+    put_places(line, rule_place, subject_place)?;
+    line.push(b'\n')?;
+    Ok(())
+}
+
+fn put_tab(line: &mut Vec<u8>) -> Result<(), AllocError>
+    ensures { OnOk result (line.new.items ≡ line.old.items ++ tab ∷ []) }
+{
+    line.push(b'\t')?;
+    Ok(())
+}
+
+// Adds the role that a binding names, and the one where the rule is written.
+fn put_roles(
+    line: &mut Vec<u8>,
+    binding: &Binding,
+    source: SourceRole<'_>,
+) -> Result<(), AllocError>
+    ensures { OnOk result (line.new.items
+        ≡ line.old.items ++ roles_text binding.now (source_of source.entry)) }
+{
+    put_named_role(line, binding)?;
+    put_tab(line)?;
+    put_source(line, source)
+}
+
+// Adds the role that a binding names.
+fn put_named_role(line: &mut Vec<u8>, binding: &Binding) -> Result<(), AllocError>
+    ensures { OnOk result (line.new.items
+        ≡ line.old.items ++ named_text binding.now.namespace binding.now.role) }
+{
+    match (&binding.namespace, &binding.role) {
+        (Some(namespace), RoleRef::Role(name)) => put_role(line, namespace, name),
+        // A ClusterRoleBinding can name a Role, but grants nothing then.
+        (None, RoleRef::Role(name)) => {
+            line.extend_from_slice(b"Role//")?;
+            put_text(line, name.as_bytes())
+        }
+        (_, RoleRef::ClusterRole(name)) => put_cluster_role(line, name),
+    }
+}
+
+// Adds the role where a rule is written.
+fn put_source(line: &mut Vec<u8>, source: SourceRole<'_>) -> Result<(), AllocError>
+    ensures { OnOk result (line.new.items ≡ line.old.items ++ source_text (source_of source.entry)) }
+{
+    match source {
+        SourceRole::Role(role) => put_role(line, &role.namespace, &role.name),
+        SourceRole::ClusterRole(role) => put_cluster_role(line, &role.name),
+    }
+}
+
+// Adds the places of a rule and of a subject.
+fn put_places(line: &mut Vec<u8>, rule: usize, subject: usize) -> Result<(), AllocError>
+    ensures { OnOk result (line.new.items ≡ line.old.items ++ places_text rule subject) }
+{
+    put_place(line, rule)?;
+    put_tab(line)?;
+    put_place(line, subject)
+}
