@@ -99,19 +99,20 @@ def streams():
 
 def help_and_usage():
     """Help on standard output with status 0; a refused line on standard error with status 2."""
-    for words in (['--help'], ['can-i', '--help'], ['matrix', '--help']):
+    for words in (['--help'], ['can-i', '--help'], ['who-can', '--help'], ['matrix', '--help']):
         ended = run(words)
         told('%s is on standard output' % ' '.join(words),
              ended.returncode == 0 and b'Usage' in ended.stdout and not ended.stderr, repr(ended))
     commands = run(['--help']).stdout
-    for command in (b'can-i', b'matrix'):
+    for command in (b'can-i', b'who-can', b'matrix'):
         told('help names %s' % command.decode(), command in commands, repr(commands))
     told('help of matrix names FILE', b'FILE' in run(['matrix', '--help']).stdout)
     options = run(['can-i', '--help']).stdout
-    for option in (b'--as', b'--groups', b'-n', b'-A', b'--subresource', b'-q', b'VERB', b'TARGET', b'FILE'):
+    for option in (b'--as', b'--groups', b'-n', b'-A', b'--subresource', b'-q', b'--why', b'VERB', b'TARGET', b'FILE'):
         told('help names %s' % option.decode(), option in options, repr(options))
     for words in ([], ['can-i'], ['can-i', 'get', 'pods'], ['who-knows'], ['can-i', '--as', 'alice', '--why', 'get'],
-                  ['matrix', '--limit', '1'], ['matrix', '-n', 'dev']):
+                  ['who-can', 'get'], ['who-can', '--as', 'alice', 'get', 'pods'], ['matrix', '--limit', '1'],
+                  ['matrix', '-n', 'dev']):
         ended = run(words)
         told('refused: %s' % (' '.join(words) or 'no words'),
              ended.returncode == 2 and not ended.stdout and b'Usage' in ended.stderr, repr(ended))
@@ -124,14 +125,18 @@ def full_disk():
 
 
 def rows():
-    """The worked rows of rows.json: questions over an export, and documents alone in their file, which are refused or
-    (where the answer is a status) accepted."""
+    """The worked rows of rows.json: questions over an export, answers of several lines, and documents alone in their
+    file, which are refused or (where the answer is a status) accepted."""
     with open(os.path.join(TOP, 'tests', 'rows.json'), encoding='utf-8') as file:
         table = json.load(file)
     for row in table['answers']:
         for line, answer in row['asks']:
             status = 0 if answer == 'yes' else 1
             expect('%s can-i %s' % (row['rule'], line), ['can-i', *line.split(' ')], status, answer.encode() + b'\n',
+                   given=export(*row['items']))
+    for row in table['lines']:
+        for line, status, lines in row['asks']:
+            expect('%s %s' % (row['rule'], line), line.split(' '), status, ''.join(l + '\n' for l in lines).encode(),
                    given=export(*row['items']))
     for text, wanted in table['documents']:
         told_as = ('accepted', 1, b'no\n', b'') if wanted == '1' else (wanted, 2, b'', b'rbacaudit: %s\n' % wanted.encode())

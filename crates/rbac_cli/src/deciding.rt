@@ -11,14 +11,13 @@ ghost use Rattle.rbac_cli.specs.Ends.{is_write_fault};
 ghost use Rattle.rbac_cli.specs.Printing.{PrintsAnswer, StopsPrinting};
 ghost use Rattle.rbac_cli.specs.Telling.{verdict_text, verdict_status};
 
-use crate::asking::{Meant, meant_by};
+use crate::asking::meant_by;
 use crate::ending::{RunFault, Status, fault_of};
-use rbac_index::{Index, IndexFault, Why};
+use rbac_index::{IndexFault, Why, why_allowed};
 use rbac_manifest::Loaded;
-use rbac_model::Policy;
 use rbac_question::Question;
 use rbac_streams::{Page, PrintFault, Sink};
-use rbac_terms::{Principal, Word};
+use rbac_terms::Principal;
 use rbac_text::put_why;
 use std::alloc::{AllocError, Global};
 use std::io::Write;
@@ -43,30 +42,18 @@ pub(crate) fn told_of(
     ensures { IfOk result (λ told. Answers loaded.now (CanI principal.now quiet why question.now) told.text.items told.status) }
 {
     let meant = meant_by(alloc, loaded.catalogue(), question)?;
-    let found = find(alloc, loaded.policy(), principal, &question.verb, &meant)?;
+    let found = why_allowed(
+        loaded.policy(),
+        principal,
+        &meant.namespace,
+        &question.verb,
+        &meant.target,
+    );
     let text = text_of(alloc, quiet, why, &found)?;
     Ok(Told {
         text,
         status: status_of(&found),
     })
-}
-
-// Why the principal may use the verb on what is meant, if it may.
-fn find<'p>(
-    alloc: Global,
-    policy: &'p Policy,
-    principal: &Principal,
-    verb: &Word,
-    meant: &Meant,
-) -> Result<Option<Why<'p>>, IndexFault>
-    ensures why { IfOk result (λ found. MatchOption found
-        (¬ Allows policy.now.held principal.now meant.now.namespace verb.now meant.now.target)
-        (IsWhyShown policy.now principal.now meant.now.namespace verb.now meant.now.target)) }
-    ensures first { IfOk result (λ found. IfSome found
-        (λ why. IsFirst policy.now.held principal.now meant.now.namespace verb.now meant.now.target why.binding.now)) }
-{
-    let index = Index::build(alloc, policy)?;
-    Ok(index.can_i(principal, &meant.namespace, verb, &meant.target))
 }
 
 // What is printed of a verdict.

@@ -1,13 +1,14 @@
 //! The first grant that allows a request.
 
-ghost use Rattle.std.specs.Prelude.{◌≡◌, ◌<◌, ◌≤◌, ◌+◌, ℕ, length, slice_get, Some, MatchOption};
+ghost use Rattle.std.specs.Prelude.{◌≡◌, ◌<◌, ◌≤◌, ◌+◌, ℕ, length, slice_get, Some, MatchOption, IfSome};
 ghost use Rattle.rbac_terms.specs.Granting.{Names};
 ghost use Rattle.rbac_terms.specs.Matching.{RuleAllows};
 ghost use Rattle.rbac_terms.specs.declared.granting.Subject.{Subject};
 ghost use Rattle.rbac_model.specs.Lists.{IsFirstAt};
-ghost use Rattle.rbac_model.specs.Policies.{BindingNames, IsPolicy};
-ghost use Rattle.rbac_index.specs.Deciding.{NoneAmong, IsFirstAmong, IsFirstAllowing, NoneAllowing};
+ghost use Rattle.rbac_model.specs.Policies.{Allows, BindingNames, IsFirst, IsPolicy};
+ghost use Rattle.rbac_index.specs.Deciding.{IsWhyShown, NoneAmong, IsFirstAmong, IsFirstAllowing, NoneAllowing};
 
+use crate::living::{cluster_wide, live_role_bindings};
 use rbac_model::{Policy, SourceRole};
 use rbac_terms::{Binding, Principal, Target, Word, names, rule_allows};
 
@@ -113,4 +114,28 @@ pub(crate) fn first_among<'p>(
         }
     }
     None
+}
+
+/// Why the principal may use the verb on the target in this namespace; none where it may not (Using
+/// RBAC Authorization). It is the first grant that allows, in order of bindings and of their rules
+/// (own). Looks at the bindings that are live there alone, needs no index, and takes no memory.
+pub fn why_allowed<'p>(
+    policy: &'p Policy,
+    principal: &Principal,
+    namespace: &Word,
+    verb: &Word,
+    target: &Target,
+) -> Option<Why<'p>>
+    ensures why { MatchOption result
+        (¬ Allows policy.now.held principal.now namespace.now verb.now target.now)
+        (IsWhyShown policy.now principal.now namespace.now verb.now target.now) }
+    ensures first { IfSome result (λ why. IsFirst policy.now.held principal.now namespace.now verb.now target.now why.binding.now) }
+{
+    let bindings = policy.bindings();
+    let by_cluster = first_among(policy, 0, cluster_wide(bindings), principal, verb, target);
+    if by_cluster.is_some() {
+        return by_cluster;
+    }
+    let (from, to) = live_role_bindings(bindings, namespace, target);
+    first_among(policy, from, to, principal, verb, target)
 }

@@ -10,12 +10,11 @@ ghost use Rattle.rbac_index.specs.Deciding.{IsWhyShown};
 ghost use Rattle.rbac_index.specs.Holding.{AllowsByHolders};
 ghost use Rattle.rbac_index.specs.Merging.{numbers_of};
 
-use crate::deciding::{Why, first_among};
+use crate::deciding::{Why, why_allowed};
 use crate::fault::IndexFault;
 use crate::granted::grants_by_rule;
 use crate::holders::Holders;
 use crate::listing::{Listing, listing_of, matching};
-use crate::living::{cluster_wide, live_role_bindings};
 use crate::merging::{Numbers, merged};
 use crate::numbers::GrantNos;
 use crate::written::{laid_out, written};
@@ -102,9 +101,8 @@ impl<'p> Index<'p> {
         }
     }
 
-    /// Why the principal may use the verb on the target in this namespace; none where it may not
-    /// (Using RBAC Authorization). It is the first grant that allows, in order of bindings and of
-    /// their rules (own). Looks at the bindings that are live there alone, and takes no memory.
+    /// Why the principal may use the verb on the target in this namespace, as [`why_allowed`] tells
+    /// of the policy. Takes no memory.
     pub fn can_i(
         &self,
         principal: &Principal,
@@ -118,13 +116,7 @@ impl<'p> Index<'p> {
         ensures first { IfSome result (λ why. IsFirst self.now.held principal.now namespace.now verb.now target.now why.binding.now) }
     {
         let policy: &'p Policy = self.policy;
-        let bindings = policy.bindings();
-        let by_cluster = first_among(policy, 0, cluster_wide(bindings), principal, verb, target);
-        if by_cluster.is_some() {
-            return by_cluster;
-        }
-        let (from, to) = live_role_bindings(bindings, namespace, target);
-        first_among(policy, from, to, principal, verb, target)
+        why_allowed(policy, principal, namespace, verb, target)
     }
 
     /// Who may use the verb on the target in this namespace: each holder once, in order of the

@@ -13,7 +13,7 @@ mod merging;
 mod numbers;
 mod written;
 
-pub use deciding::Why;
+pub use deciding::{Why, why_allowed};
 pub use fault::IndexFault;
 pub use holders::{Holder, Holders};
 pub use index::Index;

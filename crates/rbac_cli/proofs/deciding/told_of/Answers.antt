@@ -14,10 +14,10 @@ returns c =
     let q = c.args.question.now in
     let target = c.in_ok-meant.meant.target in
     let namespace = c.in_ok-meant.meant.namespace in
-    let found = c.in_ok-found.found in
+    let found = c.why_allowed-found.result in
     rw (c.in_ok-text.ensures, c.status_of.ensures) (told l who q target namespace
     (subst (λ (v : CatalogueView). IsMeant v.entries q target namespace) c.catalogue.ensures c.in_ok-meant.ensures.meant)
     (subst (λ (v : CatalogueView). IsOnlyTargetMeant v.entries q.asked target) c.catalogue.ensures c.in_ok-meant.ensures.only)
     c.args.quiet c.args.why found
-    (subst (λ (p : PolicyView). MatchOption found (¬ Allows p.held who namespace q.verb target) (IsWhyShown p who namespace q.verb target)) c.policy.ensures c.in_ok-found.ensures.why)
-    (subst (λ (p : PolicyView). IfSome found (λ f. IsFirst p.held who namespace q.verb target f.binding.now)) c.policy.ensures c.in_ok-found.ensures.first))
+    (subst (λ (p : PolicyView). MatchOption found (¬ Allows p.held who namespace q.verb target) (IsWhyShown p who namespace q.verb target)) c.policy.ensures c.why_allowed-found.ensures.why)
+    (subst (λ (p : PolicyView). IfSome found (λ f. IsFirst p.held who namespace q.verb target f.binding.now)) c.policy.ensures c.why_allowed-found.ensures.first))

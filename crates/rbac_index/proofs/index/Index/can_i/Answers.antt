@@ -1,38 +1,4 @@
-use Rattle.std.proofs.Common.{◌≡◌, ◌∙◌, sym, ℕ, List, ◌<◌, ◌≤◌, slice_get, ◌↔◌, true, false}
-use Rattle.std.specs.Prelude.{Some, None, is_some}
-use Rattle.rbac_terms.specs.declared.granting.Binding.{Binding}
-use Rattle.rbac_index.specs.Living.{IsLiveRoleBinding}
-use Rattle.rbac_index.proofs.DecidingLemmas.{decided_first, decided_second}
 use Rattle.rbac_index.proofs.index.Index.can_i.Goals as goal
 
-abbrev FirstAre : List Binding → ℕ → Type 0
-FirstAre bs count = (at : ℕ) (b : Binding) → slice_get bs at ≡ Some b → (at < count) ↔ (b.namespace ≡ None)
-
-pub returns-then-is_some-clause-why : goal.returns-then-is_some-clause-why
-returns-then-is_some-clause-why c =
-    let first : FirstAre c.self.inside.policy.now.held.bindings c.cluster_wide.result = rw c.bindings-bindings.ensures.bindings at c.cluster_wide.ensures.first in
-    rw (← c.self.view_is) (decided_first c.self.inside.policy.now c.args.principal.now c.args.verb.now c.args.target.now c.bindings-bindings.ensures.policy c.args.namespace.now c.cluster_wide.result first
-    c.first_among-by_cluster.result (sym c.is_some.ensures ∙ c.if-is_some.true) c.first_among-by_cluster.ensures).0
-
-pub returns-then-is_some-clause-first : goal.returns-then-is_some-clause-first
-returns-then-is_some-clause-first c =
-    let first : FirstAre c.self.inside.policy.now.held.bindings c.cluster_wide.result = rw c.bindings-bindings.ensures.bindings at c.cluster_wide.ensures.first in
-    rw (← c.self.view_is) (decided_first c.self.inside.policy.now c.args.principal.now c.args.verb.now c.args.target.now c.bindings-bindings.ensures.policy c.args.namespace.now c.cluster_wide.result first
-    c.first_among-by_cluster.result (sym c.is_some.ensures ∙ c.if-is_some.true) c.first_among-by_cluster.ensures).1
-
-abbrev AreBetween : List Binding → ℕ × ℕ → (Binding → Type 0) → Type 0
-AreBetween bs places P = (at : ℕ) (b : Binding) → slice_get bs at ≡ Some b → ((places.0 ≤ at) × (at < places.1)) ↔ P b
-
 pub returns-clause-why : goal.returns-clause-why
-returns-clause-why c =
-    let first : FirstAre c.self.inside.policy.now.held.bindings c.cluster_wide.result = rw c.bindings-bindings.ensures.bindings at c.cluster_wide.ensures.first in
-    let between : AreBetween c.self.inside.policy.now.held.bindings c.live_role_bindings-from.result (λ b. IsLiveRoleBinding b c.args.namespace.now c.args.target.now) = rw c.bindings-bindings.ensures.bindings at c.live_role_bindings-from.ensures.between in
-    rw (← c.self.view_is) (decided_second c.self.inside.policy.now c.args.principal.now c.args.verb.now c.args.target.now c.bindings-bindings.ensures.policy c.args.namespace.now c.cluster_wide.result first
-    c.live_role_bindings-from.result.0 c.live_role_bindings-from.result.1 between c.first_among-by_cluster.result c.first_among.result (sym c.is_some.ensures ∙ c.if-is_some.false) c.first_among-by_cluster.ensures c.first_among.ensures).0
-
-pub returns-clause-first : goal.returns-clause-first
-returns-clause-first c =
-    let first : FirstAre c.self.inside.policy.now.held.bindings c.cluster_wide.result = rw c.bindings-bindings.ensures.bindings at c.cluster_wide.ensures.first in
-    let between : AreBetween c.self.inside.policy.now.held.bindings c.live_role_bindings-from.result (λ b. IsLiveRoleBinding b c.args.namespace.now c.args.target.now) = rw c.bindings-bindings.ensures.bindings at c.live_role_bindings-from.ensures.between in
-    rw (← c.self.view_is) (decided_second c.self.inside.policy.now c.args.principal.now c.args.verb.now c.args.target.now c.bindings-bindings.ensures.policy c.args.namespace.now c.cluster_wide.result first
-    c.live_role_bindings-from.result.0 c.live_role_bindings-from.result.1 between c.first_among-by_cluster.result c.first_among.result (sym c.is_some.ensures ∙ c.if-is_some.false) c.first_among-by_cluster.ensures c.first_among.ensures).1
+returns-clause-why c = rw (← c.self.view_is) c.why_allowed.ensures.why
