@@ -20,14 +20,16 @@ least() {
     echo "$least"
 }
 
-# One line for an export: its size, both times and their ratio.
+# One line for an export: its size, the times of the three programs, and the ratio of can-i to JSON alone.
 measure() {
     local name=$1 file=$2
-    local json answer
+    local json answer holders
     json=$(least "$alone" "$file")
     answer=$(least "$audit" can-i --as nobody@example.com -A get pods "$file")
-    printf '%-44s %9d bytes  JSON alone %5d ms  can-i %5d ms  ratio %s\n' \
-        "$name" "$(stat -c %s "$file")" "$json" "$answer" "$(python3 -c "print('%.2f' % ($answer / max(1, $json)))")"
+    holders=$(least "$audit" who-can -A get pods "$file")
+    printf '%-44s %9d bytes  JSON alone %5d ms  can-i %5d ms  who-can %5d ms  ratio %s\n' \
+        "$name" "$(stat -c %s "$file")" "$json" "$answer" "$holders" \
+        "$(python3 -c "print('%.2f' % ($answer / max(1, $json)))")"
 }
 
 # One line for a matrix over an export: its requests, and how many are tested in a second beside loading.
@@ -46,6 +48,10 @@ for size in "1000 4000 100" "5000 20000 300" "10000 40000 500"; do
 done
 python3 generate_aggregated.py 5000 500 4 "$room/export.json"
 measure "5000 cluster roles, 500 aggregated" "$room/export.json"
+for size in "1000 1000" "100 10000" "10 100000"; do
+    python3 generate_grants.py $size "$room/export.json"
+    measure "a million grants: $size rules, bindings" "$room/export.json"
+done
 for size in "200 800 20" "1000 4000 100"; do
     python3 generate_export.py $size 1 "$room/export.json" > /dev/null
     requests=$(python3 generate_universe.py "$room/export.json" 50 5 "$room/universe.json")

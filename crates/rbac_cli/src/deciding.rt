@@ -1,8 +1,6 @@
 //! Verdicts.
 
-ghost use Rattle.std.specs.Prelude.{◌≡◌, false, IfOk, IfErr, MatchOption, IfSome};
-ghost use Rattle.rbac_model.specs.Policies.{Allows, IsFirst};
-ghost use Rattle.rbac_index.specs.Deciding.{IsWhyShown};
+ghost use Rattle.std.specs.Prelude.{◌≡◌, false, IfOk, IfErr};
 ghost use Rattle.rbac_manifest.specs.Load.{LoadedView};
 ghost use Rattle.rbac_question.specs.declared.command.Action.{Action};
 ghost use Rattle.rbac_question.specs.declared.command.Action.TheVariants.{CanI};
@@ -13,7 +11,7 @@ ghost use Rattle.rbac_cli.specs.Telling.{verdict_text, verdict_status};
 
 use crate::asking::meant_by;
 use crate::ending::{RunFault, Status, fault_of};
-use rbac_index::{IndexFault, Why, why_allowed};
+use rbac_index::{Why, why_allowed};
 use rbac_manifest::Loaded;
 use rbac_question::Question;
 use rbac_streams::{Page, PrintFault, Sink};
@@ -38,7 +36,7 @@ pub(crate) fn told_of(
     quiet: bool,
     why: bool,
     question: &Question,
-) -> Result<Told, IndexFault>
+) -> Result<Told, AllocError>
     ensures { IfOk result (λ told. Answers loaded.now (CanI principal.now quiet why question.now) told.text.items told.status) }
 {
     let meant = meant_by(alloc, loaded.catalogue(), question)?;
@@ -99,7 +97,7 @@ fn status_of(found: &Option<Why>) -> Status
 
 /// Prints what is told of a verdict.
 pub(crate) fn print_told<W: Write + Drop>(
-    told: Result<Told, IndexFault>,
+    told: Result<Told, AllocError>,
     sink: &mut Sink<W>,
     page: &mut Page,
 ) -> Result<Status, RunFault>

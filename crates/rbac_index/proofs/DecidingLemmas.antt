@@ -1,10 +1,10 @@
 -- the first grant that allows is of the first live binding that grants
-use Rattle.std.proofs.Common.{◌≡◌, ℕ, ◌+◌, ◌<◌, ◌≤◌, List, length, ap, sym, ◌∙◌, refl, subst, inl, inr, arith, slice_get, ◌↔◌, true, false}
-use Rattle.std.specs.Prelude.{Option, Some, None, MatchOption, IfSome, Any, is_some}
+use Rattle.std.proofs.Common.{◌≡◌, ℕ, ◌+◌, ◌<◌, ◌≤◌, ap, sym, ◌∙◌, subst, inl, inr, arith, slice_get, ◌↔◌, true, false}
+use Rattle.std.specs.Prelude.{Option, Some, None, MatchOption, IfSome, is_some}
 use Rattle.std.proofs.lemmas.Bool.{cases_lt, cases_eq}
 use Rattle.std.proofs.lemmas.Option.{same_Some, slice_get-get_or, slice_get_within, get_or_from_slice_get}
 use Rattle.rbac_terms.specs.Text.{Text}
-use Rattle.rbac_terms.specs.Targets.{What, Resource, Url}
+use Rattle.rbac_terms.specs.Targets.{What}
 use Rattle.rbac_terms.specs.Principals.{Who}
 use Rattle.rbac_terms.specs.Granting.{Names}
 use Rattle.rbac_terms.specs.declared.granting.Binding.{Binding}
@@ -15,7 +15,7 @@ use Rattle.rbac_model.specs.Sources.{source_of}
 use Rattle.rbac_model.proofs.GrantNumbers.{some_grant, first_grant}
 use Rattle.rbac_model.proofs.BindingPlaces.{places_rise, of_some_binding}
 use Rattle.rbac_index.specs.Living.{IsLiveRoleBinding}
-use Rattle.rbac_index.specs.Deciding.{ShowsGrant, IsWhyShown, AllowsOf, NoneAllowing, IsFirstAllowing, GrantsOf, NoneAmong, IsFirstAmong}
+use Rattle.rbac_index.specs.Deciding.{IsWhyShown, AllowsOf, NoneAllowing, IsFirstAllowing, GrantsOf, NoneAmong, IsFirstAmong}
 use Rattle.rbac_index.specs.declared.deciding.Why.{Why}
 
 module _ (p : PolicyView) (who : Who) (verb : Text) (t : What) where
@@ -28,11 +28,6 @@ module _ (p : PolicyView) (who : Who) (verb : Text) (t : What) where
 
   allows_of : (at n : ℕ) → GrantsOf p who verb t at n → AllowsOf p verb t at n
   allows_of at n g = ((g.0, g.1, g.2), (g.0, g.1, g.4))
-
-  pub none_named : (place : ℕ) (b : Binding) → slice_get p.held.bindings place ≡ Some b → ¬ BindingNames b who → NoneAmong p who verb t place (place + 1)
-  none_named place b there none at n from to g =
-      let e : at ≡ place = omega arith in
-      none (naming_of at n b (rw e there) g)
 
   pub none_allowed : (place : ℕ) → NoneAllowing p verb t place → NoneAmong p who verb t place (place + 1)
   none_allowed place none at n from to g =

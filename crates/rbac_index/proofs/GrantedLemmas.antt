@@ -119,9 +119,3 @@ laid_more rows rules new starts all rs laid is are = rw (is, are) (record {
         rw start (read_right rules rs (length rules + k) k refl ∙ ap (λ (l : List Rule). slice_get l k) same ∙ there)
   ];
 })
-
-pub laid_none : AreLaidOut [] [] []
-laid_none = record {
-  len = refl;
-  each = λ row k qs r at there. cc;
-}

@@ -1,7 +1,5 @@
 -- the bindings of candidates, passed in order
-use Rattle.std.proofs.Common.{◌≡◌, ℕ, ◌+◌, ◌<◌, ◌≤◌, List, length, get_or, ap, sym, ◌∙◌, subst, inl, inr, arith, slice_get, Contains, Any}
-use Rattle.std.specs.Prelude.{Some}
-use Rattle.std.specs.List.Sorted.{IsStrictlyIncreasing}
+use Rattle.std.proofs.Common.{◌≡◌, ℕ, ◌+◌, ◌<◌, ◌≤◌, List, length, get_or, ap, ◌∙◌, inl, inr, arith}
 use Rattle.std.proofs.lemmas.Bool.{cases_eq, cases_lt}
 use Rattle.std.proofs.lemmas.List.{get_or_default}
 use Rattle.std.proofs.lemmas.List.Elements.{Contains-get_or}
@@ -9,14 +7,13 @@ use Rattle.std.proofs.lemmas.List.Kept.{AllPairs-from_increasing}
 use Rattle.std.proofs.lemmas.Option.{slice_get_within}
 use Rattle.rbac_terms.specs.Text.{Text}
 use Rattle.rbac_terms.specs.Targets.{What}
-use Rattle.rbac_terms.specs.Matching.{RuleAllows}
-use Rattle.rbac_model.specs.Policies.{PolicyView, IsPolicy, IsOfBinding, SourcedRule}
+use Rattle.rbac_model.specs.Policies.{PolicyView, IsPolicy, IsOfBinding}
 use Rattle.rbac_model.specs.Universes.{HolderView, AreHolders}
 use Rattle.rbac_model.proofs.GrantNumbers.{grant_by}
 use Rattle.rbac_model.proofs.BindingPlaces.{places_rise, one_binding_place, rule_of_binding, grant_of_rule}
-use Rattle.rbac_index.specs.Indexed.{AllowsAt, AreCandidates}
+use Rattle.rbac_index.specs.Indexed.{AreCandidates}
 use Rattle.rbac_index.specs.Holding.{BringsAt, BringsRuleAt, AreSeen, ArePassed}
-use Rattle.rbac_index.proofs.SeenLemmas.{seen_none, seen_entered, seen_ended}
+use Rattle.rbac_index.proofs.SeenLemmas.{seen_entered, seen_ended}
 
 module _ (p : PolicyView) (ok : IsPolicy p) (namespace verb : Text) (t : What) (ns : List ℕ) (are : AreCandidates p verb t ns) where
   pub candidate_within : (k : ℕ) → k < length ns → get_or ns k 0 < length p.grants

@@ -1,10 +1,10 @@
 -- the grants by the rules that are listed under matching words and allow are the candidates
-use Rattle.std.proofs.Common.{◌≡◌, ◌≢◌, ℕ, ◌<◌, ◌+◌, List, [], ◌∷◌, ◌++◌, length, map, take, get_or, ap, sym, ◌∙◌, subst, refl, All, Any, Contains, ◌⊎◌, ◌↔◌, inl, inr, arith, slice_get, Bor}
+use Rattle.std.proofs.Common.{◌≡◌, ◌≢◌, ℕ, ◌<◌, ◌+◌, List, [], ◌∷◌, ◌++◌, length, take, get_or, ap, sym, ◌∙◌, subst, All, Any, Contains, ◌↔◌, inl, inr, arith, slice_get}
 use Rattle.std.specs.Prelude.{Some}
 use Rattle.std.specs.List.Sorted.{IsStrictlyIncreasing}
-use Rattle.std.proofs.lemmas.List.{length-map, take_more}
-use Rattle.std.proofs.lemmas.List.Elements.{All-weaker, All-contains_itself, All-push, Contains-push, Contains-append_left, Contains-push_cases}
-use Rattle.std.proofs.lemmas.Option.{same_Some, slice_get_within, slice_get-get_or}
+use Rattle.std.proofs.lemmas.List.{take_more}
+use Rattle.std.proofs.lemmas.List.Elements.{All-weaker, All-contains_itself, Contains-push, Contains-append_left, Contains-push_cases}
+use Rattle.std.proofs.lemmas.Option.{same_Some, slice_get_within}
 use Rattle.rbac_terms.specs.Text.{Text}
 use Rattle.rbac_terms.specs.Targets.{What, Resource, Url, IsUrl, IsResource, group_of, text_of, name_of}
 use Rattle.rbac_terms.specs.Matching.{RuleAllows, ResourceWordMatches}
@@ -12,10 +12,9 @@ use Rattle.rbac_terms.specs.declared.matching.Rule.{Rule}
 use Rattle.rbac_model.specs.Policies.{PolicyView, GrantView}
 use Rattle.rbac_index.specs.declared.listing.Listing.{Listing}
 use Rattle.rbac_index.specs.declared.merging.Numbers.{Numbers}
-use Rattle.rbac_index.specs.Listing.{listed, AreListed}
+use Rattle.rbac_index.specs.Listing.{listed}
 use Rattle.rbac_index.specs.Merging.{numbers_of}
-use Rattle.rbac_index.specs.Indexed.{AllowsAt, AreCandidates, IsByRule, AreByRule, IsIndexOf, AllowsRule, IsAllowedBy}
-use Rattle.rbac_index.proofs.ReadLemmas.{read_now}
+use Rattle.rbac_index.specs.Indexed.{AreCandidates, IsIndexOf, AllowsRule, IsAllowedBy}
 
 all_from : {P : ℕ → Type 0} (xs : List ℕ) → ((n : ℕ) → Contains xs n → P n) → All P xs
 all_from {P} xs h = All-weaker (Contains xs) P h xs (All-contains_itself xs)

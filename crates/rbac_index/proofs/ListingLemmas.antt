@@ -1,6 +1,6 @@
 -- lists under words, as they grow and as they are read
-use Rattle.std.proofs.Common.{◌≡◌, ◌≢◌, ℕ, ◌<◌, ◌+◌, List, [], ◌∷◌, ◌++◌, length, take, refl, sym, ap, ◌∙◌, subst, eqb, Bool, true, false, cond, All, Contains, Vec, Global, ◌⊎◌, ◌↔◌, inl, inr, arith, get_or, slice_get}
-use Rattle.std.specs.Prelude.{Option, Some, None, unwrap_or, codes, Result, Ok, Err, IfOk}
+use Rattle.std.proofs.Common.{◌≡◌, ◌≢◌, ℕ, ◌<◌, ◌+◌, List, [], ◌∷◌, ◌++◌, length, take, refl, sym, ap, ◌∙◌, subst, eqb, Bool, true, false, cond, Contains, Vec, Global, ◌⊎◌, ◌↔◌, inl, inr, arith, get_or, slice_get}
+use Rattle.std.specs.Prelude.{Option, Some, unwrap_or, codes, Result, Ok, Err, IfOk}
 use Rattle.std.specs.BTreeMap.{get}
 use Rattle.std.specs.Ordering.{is_eq}
 use Rattle.std.specs.declared.cmp.Ordering.{Ordering}
@@ -8,7 +8,7 @@ use Rattle.std.specs.declared.cmp.Ordering.TheVariants.{Less, Equal, Greater}
 use Rattle.std.proofs.lemmas.Bool.{eqb-true}
 use Rattle.std.proofs.lemmas.Cmp.{tied_itself, nat_list_cmp_total}
 use Rattle.std.proofs.lemmas.List.{nil_from_length, take_more}
-use Rattle.std.proofs.lemmas.List.Elements.{All-weaker, All-contains_itself, Contains-append_left, Contains-push, Contains-push_cases}
+use Rattle.std.proofs.lemmas.List.Elements.{Contains-append_left, Contains-push, Contains-push_cases}
 use Rattle.std.proofs.lemmas.Map.Lookups.{exact_bytes}
 use Rattle.rbac_terms.specs.Text.{Text, text_cmp, slash}
 use Rattle.rbac_terms.proofs.Texts.{IsCutAtFirst-one}
@@ -25,12 +25,6 @@ by_bool false f g = g refl
 
 pub nil_from_test : (s : Text) (b : Bool) → b ≡ eqb (length s) 0 → b ≡ true → s ≡ []
 nil_from_test s b e h = nil_from_length s (eqb-true (length s) 0 (sym e ∙ h))
-
-pub filled_from_test : (s : Text) (b : Bool) → b ≡ eqb (length s) 0 → b ≡ false → s ≢ []
-filled_from_test s b e h n = let t : eqb (length s) 0 ≡ true = ap (λ (x : Text). eqb (length x) 0) n in cc
-
-pub All-from_contains : (P : ℕ → Type 0) (xs : List ℕ) → ((n : ℕ) → Contains xs n → P n) → All P xs
-All-from_contains P xs h = All-weaker (Contains xs) P h xs (All-contains_itself xs)
 
 equal_from_test : (o : Ordering) → is_eq o ≡ true → o ≡ Equal
 equal_from_test Less h = cc
@@ -161,14 +155,4 @@ listed_more rules n old new r at are more = record {
       | inr ne ↦ inl ((are.urls k).1 (omega (arith, h.0), h.1))
     ]),
   );
-}
-
--- nothing is listed in the beginning
-pub listed_none : (rules : List Rule) (l : Listing) → ((w : Text) → get text_cmp l.by_word w ≡ None) → l.with_urls ≡ [] → AreListed rules 0 l
-listed_none rules l empty urls = record {
-  words = λ w n. (
-    λ c. absurd (omega (arith, c.1, ap (λ (o : Option (List ℕ)). length (unwrap_or o [])) (empty w))),
-    λ h. absurd (omega (arith, h.0)),
-  );
-  urls = λ n. (λ c. absurd (omega (arith, c.1, ap length urls)), λ h. absurd (omega (arith, h.0)));
 }

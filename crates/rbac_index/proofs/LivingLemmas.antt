@@ -1,7 +1,6 @@
 -- bindings are in order of namespaces, the ClusterRoleBindings first
-use Rattle.std.proofs.Common.{◌≡◌, ◌≢◌, ℕ, ◌<◌, ◌≤◌, List, [], ◌∷◌, length, get_or, ap, sym, ◌∙◌, refl, inl, inr, arith, ◌⊎◌, ◌↔◌, Bool, true, false}
+use Rattle.std.proofs.Common.{◌≡◌, ℕ, ◌<◌, ◌≤◌, List, [], ◌∷◌, length, get_or, ap, sym, ◌∙◌, refl, inl, inr, arith, ◌⊎◌, ◌↔◌, Bool, true, false}
 use Rattle.std.specs.Prelude.{Option, Some, None, slice_get, is_none}
-use Rattle.std.specs.Cmp.{IsTotalOrder}
 use Rattle.std.specs.Cmp.Lexicographic.{slice_cmp}
 use Rattle.std.specs.Ordering.{ordering_index, is_lt, is_le, ordering_then}
 use Rattle.std.specs.List.Sorted.{IsPartitionedBy, IsPartitionPoint}
@@ -12,12 +11,11 @@ use Rattle.std.proofs.lemmas.Cmp.{nat_list_cmp_total, alike_right, tied_itself}
 use Rattle.std.proofs.lemmas.Map.Lookups.{exact_bytes}
 use Rattle.std.proofs.lemmas.Option.{slice_get_within, get_or_from_slice_get}
 use Rattle.rbac_terms.specs.Text.{Text, text_cmp}
-use Rattle.rbac_terms.specs.Targets.{What, Resource, Url, IsUrl, IsResource, group_of, text_of, name_of}
 use Rattle.rbac_terms.specs.declared.granting.Binding.{Binding}
 use Rattle.rbac_model.specs.Lists.{IsAscendingBy}
-use Rattle.rbac_model.specs.Policies.{Live, binding_name, binding_name_at}
+use Rattle.rbac_model.specs.Policies.{binding_name, binding_name_at}
 use Rattle.rbac_model.proofs.NamePlaces.{by_ordering}
-use Rattle.rbac_index.specs.Living.{namespace_cmp, IsLiveRoleBinding}
+use Rattle.rbac_index.specs.Living.{namespace_cmp}
 
 -- before a ClusterRoleBinding stand ClusterRoleBindings alone
 none_before : (m n : Option Text) (a b : Text) → slice_cmp text_cmp (binding_name_at m a) (binding_name_at n b) ≡ Less → is_none n ≡ true → is_none m ≡ true

@@ -1,5 +1,5 @@
 -- a merge of slices gives all their numbers, in order
-use Rattle.std.proofs.Common.{◌≡◌, ℕ, ◌+◌, List, [], ◌∷◌, ◌++◌, map, refl, ap, ◌∙◌, sym, true, subst, IsPermutation, Option, Result, Ok, Err, Bool, Vec, Global, IfOk, vec_len, length, Contains, ◌⊎◌, ◌↔◌, inl, inr, arith, get_or, zero, suc, Any, ◌<◌}
+use Rattle.std.proofs.Common.{◌≡◌, ℕ, ◌+◌, List, [], ◌∷◌, ◌++◌, map, refl, ap, ◌∙◌, sym, true, subst, IsPermutation, Option, Result, Ok, Err, Bool, Vec, Global, IfOk, vec_len, length, Contains, inl, inr, arith, get_or, zero, suc, Any}
 use Rattle.std.proofs.lemmas.List.{append-nil, get_or_default}
 use Rattle.std.proofs.lemmas.List.Elements.{Contains-append_left, Contains-append_right, Contains-append_cases}
 use Rattle.std.specs.Prelude.{⊤}

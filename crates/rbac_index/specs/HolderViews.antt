@@ -8,6 +8,7 @@ use Rattle.rbac_index.specs.declared.holders.Holder.{Holder}
 abbrev pub holder_of : Text × Seen → HolderView
 holder_of e = record { key = e.0; binding = e.1.binding.now; binding_place = e.1.binding_place; subject_place = e.1.subject_place }
 
+-- the holders that entries stand for, in order
 abbrev pub holders_of : List (Text × Seen) → List HolderView
 holders_of es = map holder_of es
 

@@ -1,8 +1,7 @@
 //! The first grant that allows a request.
 
-ghost use Rattle.std.specs.Prelude.{◌≡◌, ◌<◌, ◌≤◌, ◌+◌, ℕ, length, slice_get, Some, MatchOption, IfSome};
+ghost use Rattle.std.specs.Prelude.{◌≡◌, ◌<◌, ◌≤◌, ◌+◌, length, slice_get, Some, MatchOption, IfSome};
 ghost use Rattle.rbac_terms.specs.Granting.{Names};
-ghost use Rattle.rbac_terms.specs.Matching.{RuleAllows};
 ghost use Rattle.rbac_terms.specs.declared.granting.Subject.{Subject};
 ghost use Rattle.rbac_model.specs.Lists.{IsFirstAt};
 ghost use Rattle.rbac_model.specs.Policies.{Allows, BindingNames, IsFirst, IsPolicy};

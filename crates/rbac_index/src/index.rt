@@ -1,11 +1,11 @@
 //! The index of a policy.
 
-ghost use Rattle.std.specs.Prelude.{◌≡◌, ◌<◌, ◌≤◌, ◌↔◌, ℕ, length, map, slice_get, slice_index_or, Some, All, Any, Contains, IfOk, IfSome, MatchOption, []};
+ghost use Rattle.std.specs.Prelude.{◌≡◌, ◌<◌, ◌↔◌, ℕ, length, map, slice_get, Some, All, Any, Contains, IfOk, IfSome, MatchOption};
 ghost use Rattle.std.specs.List.Sorted.{IsStrictlyIncreasing};
 ghost use Rattle.rbac_model.specs.Sources.{grant_of};
 ghost use Rattle.rbac_model.specs.Policies.{Allows, IsFirst};
 ghost use Rattle.rbac_model.specs.Universes.{AreHolders};
-ghost use Rattle.rbac_index.specs.Indexed.{AreCandidates, IsAllowedBy, AllowsRule};
+ghost use Rattle.rbac_index.specs.Indexed.{AreCandidates, IsAllowedBy};
 ghost use Rattle.rbac_index.specs.Deciding.{IsWhyShown};
 ghost use Rattle.rbac_index.specs.Holding.{AllowsByHolders};
 ghost use Rattle.rbac_index.specs.Merging.{numbers_of};

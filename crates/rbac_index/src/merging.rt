@@ -1,6 +1,6 @@
 //! Ascending lists, merged.
 
-ghost use Rattle.std.specs.Prelude.{◌≡◌, ℕ, IfOk, Any, Contains, ◌↔◌, IsPermutation, IsSorted, map, All};
+ghost use Rattle.std.specs.Prelude.{ℕ, IfOk, Any, Contains, ◌↔◌, IsPermutation, IsSorted, map, All};
 ghost use Rattle.std.specs.Ordering.{nat_cmp};
 ghost use Rattle.std.specs.List.Sorted.{IsStrictlyIncreasing};
 ghost use Rattle.std.specs.Iterator.{YieldsFirst, item_count};

@@ -1,6 +1,6 @@
 //! The rules that are written in roles, each at one place.
 
-ghost use Rattle.std.specs.Prelude.{◌≡◌, ◌++◌, IfOk, OnOk, length, map};
+ghost use Rattle.std.specs.Prelude.{◌≡◌, ◌++◌, IfOk, OnOk, map};
 ghost use Rattle.rbac_index.specs.Written.{written_rules, AreLaidOut};
 
 use rbac_model::Objects;

@@ -1,9 +1,9 @@
 -- a grant is of one binding, at one place, and these places rise with the numbers of grants
 use Rattle.std.proofs.Common.{◌≡◌, ℕ, ◌<◌, ◌≤◌, List, length, get_or, ap, sym, ◌∙◌, refl, inl, inr, arith, All, ltb, leb, true, false, [], ◌∷◌, zero, suc, Contains}
-use Rattle.std.specs.Prelude.{Option, Some, None, slice_get, IsSome, option_and_then, ◌↔◌, AllPairs}
+use Rattle.std.specs.Prelude.{Option, Some, None, slice_get, IsSome, option_and_then, ◌↔◌}
 use Rattle.std.specs.Option.{option_map}
 use Rattle.std.specs.List.Sorted.{IsNonDecreasingBy, IsPartitionPoint}
-use Rattle.std.specs.declared.cmp.Ordering.TheVariants.{Less, Equal}
+use Rattle.std.specs.declared.cmp.Ordering.TheVariants.{Less}
 use Rattle.std.proofs.lemmas.Bool.{cases_order, cases_lt}
 use Rattle.std.proofs.lemmas.List.Elements.{All-get_or}
 use Rattle.std.proofs.lemmas.Option.{same_Some, slice_get_within, get_or_from_slice_get, slice_get-get_or}

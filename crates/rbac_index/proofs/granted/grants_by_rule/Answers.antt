@@ -1,10 +1,8 @@
-use Rattle.std.proofs.Common.{◌≡◌, ◌∙◌, ap, sym, ℕ, ◌<◌, ◌+◌, List, Bor, [], map, length, arith}
+use Rattle.std.proofs.Common.{◌≡◌, ◌∙◌, ap, ◌<◌, List, Bor, map, length, arith}
 use Rattle.std.proofs.lemmas.List.{length-map}
 use Rattle.std.proofs.lemmas.Option.{slice_get_within}
 use Rattle.rbac_terms.specs.declared.matching.Rule.{Rule}
-use Rattle.rbac_terms.specs.declared.granting.Role.{Role}
 use Rattle.rbac_model.specs.Policies.{Held}
-use Rattle.rbac_index.specs.Indexed.{AreByRule}
 use Rattle.rbac_index.specs.Written.{rule_no}
 use Rattle.rbac_index.proofs.GrantedLemmas.{placed, by_rule_none, by_rule_more, all_below}
 use Rattle.rbac_index.proofs.granted.grants_by_rule.Goals as goal

@@ -1,4 +1,4 @@
-use Rattle.std.proofs.Common.{◌≡◌, ◌∙◌, ◌++◌, ◌∷◌, [], ℕ, ◌<◌, ◌↔◌, List, Bor, ap, sym, map, take, length, get_or, slice_get, arith, All, Any, Contains}
+use Rattle.std.proofs.Common.{◌≡◌, ◌∙◌, [], ◌<◌, List, map, take, length, get_or, slice_get, arith}
 use Rattle.std.specs.Prelude.{Some}
 use Rattle.std.specs.List.Sorted.{IsStrictlyIncreasing}
 use Rattle.std.proofs.Math.Seq.{take-length}
@@ -7,7 +7,6 @@ use Rattle.std.proofs.lemmas.List.{get_or_default}
 use Rattle.std.proofs.lemmas.List.Elements.{All-push, All-get_or}
 use Rattle.rbac_terms.specs.declared.matching.Rule.{Rule}
 use Rattle.rbac_index.specs.declared.merging.Numbers.{Numbers}
-use Rattle.rbac_index.specs.Indexed.{IsAllowedBy}
 use Rattle.rbac_index.specs.Merging.{numbers_of}
 use Rattle.rbac_index.proofs.ReadLemmas.{read_now}
 use Rattle.rbac_index.proofs.IndexLemmas.{skipped, added}

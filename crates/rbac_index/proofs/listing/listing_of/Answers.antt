@@ -1,5 +1,5 @@
 use Rattle.std.proofs.Common.{map}
-use Rattle.rbac_index.proofs.ListingLemmas.{listed_none, listed_more}
+use Rattle.rbac_index.proofs.ListingLemmas.{listed_more}
 use Rattle.rbac_index.proofs.ReadLemmas.{read_now}
 use Rattle.rbac_index.proofs.listing.listing_of.Goals as goal
 

@@ -1,4 +1,4 @@
-use Rattle.std.proofs.Common.{◌≡◌, map, take}
+use Rattle.std.proofs.Common.{map, take}
 use Rattle.rbac_index.specs.Written.{AreLaidOut}
 use Rattle.rbac_index.proofs.written.laid_out.Given as goal
 

@@ -1,4 +1,4 @@
-use Rattle.std.proofs.Common.{◌≡◌, ◌∙◌, ◌<◌, List, Bor, All, map, length, sym, ap}
+use Rattle.std.proofs.Common.{◌≡◌, ◌∙◌, Bor, map, length, sym, ap}
 use Rattle.std.proofs.lemmas.List.{length-map}
 use Rattle.rbac_terms.specs.declared.matching.Rule.{Rule}
 use Rattle.rbac_index.proofs.IndexLemmas.{urls_within, found_within, candidates_urls, candidates_listed}

@@ -1,7 +1,6 @@
-use Rattle.std.proofs.Common.{◌≡◌, ℕ, ◌<◌, List, length, get_or, slice_get, refl, ap, sym, ◌∙◌, subst, arith}
+use Rattle.std.proofs.Common.{◌≡◌, ◌<◌, length, slice_get, refl}
 use Rattle.std.specs.Prelude.{Some}
 use Rattle.std.proofs.lemmas.Option.{slice_get_within, slice_get_read}
-use Rattle.rbac_terms.specs.declared.granting.Binding.{Binding}
 use Rattle.rbac_index.specs.Indexed.{AreCandidates}
 use Rattle.rbac_index.proofs.HolderLaw.{allows_by_holders}
 use Rattle.rbac_index.proofs.HoldingLemmas.{candidate_within, candidate_brings, entered, passed_none, passed_more, passed_again, all_seen}
