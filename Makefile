@@ -5,9 +5,9 @@ PROGRAM = crates/rbacaudit/out/rbacaudit
 
 .PHONY: run test build install
 
-# One question on the example export: may the CI account of the shop update deployments there?
+# One question on the example export: may the CI account of the shop update deployments there, and why?
 run: build
-	$(PROGRAM) can-i --as system:serviceaccount:shop:ci -n shop update deployments.apps examples/shop.json
+	$(PROGRAM) can-i --as system:serviceaccount:shop:ci -n shop --why update deployments.apps examples/shop.json
 
 # Everything that must hold; the last line is `N passed, M failed`.
 test:
