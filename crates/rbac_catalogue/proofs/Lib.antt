@@ -1,3 +1,3 @@
 mod Least
-mod Meaning
+pub mod Meaning
 mod Scoping

@@ -47,7 +47,7 @@ module _ (entries : List Entry) where
   same_parts typed v w (Some g) None a b = absurd (b.1 (IsCutAtFirst-contains typed v g dot a))
   same_parts typed v w (Some g) (Some h) a b = (IsCutAtFirst-front typed v w g h dot a b, ap (λ t. Some t) (IsCutAtFirst-one typed v w g h dot a b))
 
-  found_one : (typed : Text) (f : Found) → IsFound entries typed f → IsOnlyFound entries typed f
+  pub found_one : (typed : Text) (f : Found) → IsFound entries typed f → IsOnlyFound entries typed f
   unfolding IsFound
   found_one typed f (word, group, reads, means) other (w, g, r, m) =
       let same = same_parts typed w word g group r reads in

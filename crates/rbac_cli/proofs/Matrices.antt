@@ -13,7 +13,7 @@ use Rattle.rbac_question.specs.declared.command.Action.TheVariants.{CanI, WhoCan
 use Rattle.rbac_cli.specs.Out.{Answers, HoldsOfAnswer, matrix_text}
 use Rattle.rbac_cli.specs.declared.ending.Status.{Status}
 
-abbrev row_name : RowView → List Text
+abbrev pub row_name : RowView → List Text
 row_name row = texts (cell_key row.cell)
 
 less : (o : Ordering) → IsTrue (is_lt o) → o ≡ Less
@@ -21,7 +21,7 @@ less Less h = refl
 less Equal h = cc
 less Greater h = cc
 
-ascends : (rows : List RowView) → AllPairs (λ a b. IsTrue (is_lt (key_cmp (cell_key a.cell) (cell_key b.cell)))) rows → IsAscendingBy row_name rows
+pub ascends : (rows : List RowView) → AllPairs (λ a b. IsTrue (is_lt (key_cmp (cell_key a.cell) (cell_key b.cell)))) rows → IsAscendingBy row_name rows
 ascends rows up = λ i j d lt l. less _ (up i j d lt l)
 
 pub one_matrix : (held : Held) (u : UniverseView) (rows others : List RowView) → IsMatrix held u rows → IsMatrix held u others → rows ≡ others

@@ -17,7 +17,7 @@ use Rattle.rbac_cli.specs.Meant.{IsOnlyTargetMeant, IsNamespaceMeant, IsMeant}
 use Rattle.rbac_cli.specs.Out.{Answers, IsAllowed, IsWhyText, line}
 use Rattle.rbac_cli.specs.Telling.{verdict_text, verdict_status, found_text}
 
-one_namespace : (entries : List Entry) (target : What) (given n m : Text) → IsNamespaceMeant entries target given n → IsNamespaceMeant entries target given m → n ≡ m
+pub one_namespace : (entries : List Entry) (target : What) (given n m : Text) → IsNamespaceMeant entries target given n → IsNamespaceMeant entries target given m → n ≡ m
 one_namespace entries target given n m (inl a) (inl b) = a.1 ∙ sym b.1
 one_namespace entries target given n m (inl a) (inr b) = absurd (b.0 a.0)
 one_namespace entries target given n m (inr a) (inl b) = absurd (a.0 b.0)

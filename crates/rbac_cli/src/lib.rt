@@ -8,11 +8,13 @@ mod asking;
 mod deciding;
 mod ending;
 mod holding;
+mod laws;
 mod listing;
 mod running;
 
 pub use asking::target_of;
 pub use ending::{RunFault, Status};
+pub use laws::answers_are_one;
 pub use rbac_catalogue::Catalogue;
 pub use rbac_command::{UsageFault, command_of};
 pub use rbac_manifest::{At, Cause, LoadFault};

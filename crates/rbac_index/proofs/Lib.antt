@@ -7,5 +7,6 @@ pub mod IndexLemmas
 pub mod ListingLemmas
 pub mod LivingLemmas
 pub mod MergeLemmas
+pub mod OneHolders
 pub mod ReadLemmas
 pub mod SeenLemmas

@@ -4,7 +4,7 @@ use Rattle.std.specs.Str.{bytes_eq}
 use Rattle.std.specs.List.{starts_with, list_any}
 use Rattle.serde_json.specs.Data.{Data}
 use Rattle.serde_json.specs.Find.{as_str}
-use Rattle.rbac_manifest.specs.Fields.{field, is_empty}
+use Rattle.rbac_manifest.specs.Fields.{field}
 use Rattle.rbac_manifest.specs.declared.kind.Kind.{Kind}
 use Rattle.rbac_manifest.specs.declared.kind.Kind.TheVariants as kinds
 use Rattle.rbac_manifest.specs.declared.kind.Implied.{Implied}
@@ -55,9 +55,9 @@ abbrev pub version_read : Option (List ℕ) → Option (List ℕ)
 version_read None = None
 version_read (Some v) = if is_unread_version v then None else Some v
 
--- the implied version, or none where the kind needs none; none is the empty text
+-- the implied version, or where the kind needs none `v1`, which an API resource list is of (own)
 abbrev pub version_implied : Bool → Option (List ℕ) → Option (List ℕ)
-version_implied needed None = if needed then None else Some []
+version_implied needed None = if needed then None else Some (codes "v1")
 version_implied needed (Some v) = Some v
 
 -- a field's own version, or where the field is missing the implied one
@@ -69,7 +69,7 @@ version_or needed implied (Some d) = version_read (as_str d)
 unfoldable pub version_at : Implied → List ℕ → Data → Option (List ℕ)
 version_at implied kind d = version_or (needs_version kind) (implied_version implied) (field (codes "apiVersion") d)
 
--- the documents that are read, an API resource list also without a version, and the lists with what they imply; every other pair is passed over
+-- the documents that are read, and the lists with what they imply; every other pair is passed over
 unfoldable pub kind_named : List ℕ → List ℕ → Kind
 kind_named version kind =
     if bytes_eq version (codes "rbac.authorization.k8s.io/v1") then
@@ -90,7 +90,6 @@ kind_named version kind =
     else if bytes_eq kind (codes "ServiceAccountList") then kinds.List lists.ServiceAccount
     else if bytes_eq kind (codes "APIResourceList") then kinds.ApiList
     else kinds.Other)
-    else if is_empty version && bytes_eq kind (codes "APIResourceList") then kinds.ApiList
     else if bytes_eq version (codes "rbacaudit/v1") && bytes_eq kind (codes "Universe") then kinds.Universe
     else kinds.Other
 

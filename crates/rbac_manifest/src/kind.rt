@@ -114,7 +114,7 @@ fn is_unread_version(version: &str) -> bool
         && version != RBAC_V1
 }
 
-// The text of a document's version, its own or the implied one; empty where the kind needs none.
+// The text of a document's version, its own or the implied one; `v1` where the kind needs none.
 #[tactic(auto, unfolding(crate::specs::Kinds::version_at))]
 fn version_text<'v>(document: &'v Value, implied: Implied, kind: &str) -> Option<&'v str>
     ensures { option_map (λ s. s.now) result ≡ version_at implied kind.now (view document.now) }
@@ -127,7 +127,7 @@ fn version_text<'v>(document: &'v Value, implied: Implied, kind: &str) -> Option
         None => match implied.version() {
             Some(version) => Some(version),
             None if needs_version(kind) => None,
-            None => Some(""),
+            None => Some("v1"),
         },
     }
 }
@@ -173,8 +173,6 @@ fn kind_named(version: &str, kind: &str) -> Kind
         } else {
             Kind::Other
         }
-    } else if version.is_empty() && kind == "APIResourceList" {
-        Kind::ApiList
     } else if version == "rbacaudit/v1" && kind == "Universe" {
         Kind::Universe
     } else {

@@ -1,0 +1,204 @@
+-- What an action means is one text and one status.
+use Rattle.std.proofs.Common.{◌≡◌, ◌∙◌, ◌↔◌, ℕ, List, [], ◌∷◌, ◌++◌, map, inl, inr, Contains, get_or, Less, arith, ap, sym, subst, refl, codes}
+use Rattle.std.specs.Prelude.{Option, Some, None}
+use Rattle.std.specs.List.{flat_map}
+use Rattle.std.proofs.lemmas.List.{append_cancel_left}
+use Rattle.rbac_terms.specs.Text.{Text}
+use Rattle.rbac_terms.specs.Keys.{KeyTexts, texts}
+use Rattle.rbac_terms.specs.Targets.{What}
+use Rattle.rbac_terms.specs.Principals.{Who, AsUser, AsMember, key_of, given_of, IsInGroup, IsUserNamed, IsSignInGroup, IsImpliedGroup, account_user}
+use Rattle.rbac_terms.specs.Granting.{Names}
+use Rattle.rbac_terms.specs.declared.granting.Binding.{Binding}
+use Rattle.rbac_terms.specs.declared.granting.Subject.{Subject}
+use Rattle.rbac_terms.specs.declared.granting.Subject.TheVariants.{User, Group, Account}
+use Rattle.rbac_model.specs.Lists.{by_name, IsAscendingBy}
+use Rattle.rbac_model.specs.Policies.{Held, Grants, IsFirst}
+use Rattle.rbac_model.specs.Unions.{AreUnited, who_name}
+use Rattle.rbac_model.specs.Universes.{UniverseView, RowView, Cell, IsRow, IsMatrix, cell_key, HolderView, AreHolders}
+use Rattle.rbac_model.proofs.OneList.{one_list, one_of_name}
+use Rattle.rbac_catalogue.specs.declared.entry.Entry.{Entry}
+use Rattle.rbac_universe.specs.declared.lists.UniverseLists.{UniverseLists}
+use Rattle.rbac_universe.specs.Sets.{AreSets}
+use Rattle.rbac_universe.proofs.Flattened.{contains_map, map_contains, pairs_map}
+use Rattle.rbac_universe.proofs.OneMore.{as_any}
+use Rattle.rbac_universe.proofs.OneUniverse.{one_sets}
+use Rattle.rbac_text.specs.Row.{row_text}
+use Rattle.rbac_matrix.specs.Printed.{rows_text}
+use Rattle.rbac_index.proofs.OneHolders.{one_holders}
+use Rattle.rbac_manifest.specs.Load.{LoadedView}
+use Rattle.rbac_question.specs.declared.command.Action.{Action}
+use Rattle.rbac_question.specs.declared.command.Action.TheVariants.{CanI, WhoCan, Matrix}
+use Rattle.rbac_question.specs.declared.command.Question.{Question}
+use Rattle.rbac_cli.specs.Out.{Answers, AreHoldersMeant, holders_text, line, line_unless}
+use Rattle.rbac_cli.specs.declared.ending.Status.{Status}
+use Rattle.rbac_cli.proofs.Matrices.{row_name, ascends}
+use Rattle.rbac_cli.proofs.OneMeant.{one_meant}
+use Rattle.rbac_cli.proofs.OneReason.{one_reason}
+
+-- ---- two of one key with the same groups are named alike
+
+record AreAlike (p q : Who) : Type 0 where
+  pub key : key_of p ≡ key_of q
+  pub given : (g : Text) → Contains (given_of p) g ↔ Contains (given_of q) g
+
+alike_back : (p q : Who) → AreAlike p q → AreAlike q p
+alike_back p q a = record { key = sym a.key; given = λ g. ((a.given g).1, (a.given g).0) }
+
+same_user : (m n : Text) (gs hs : List Text) → AreAlike (AsUser m gs) (AsUser n hs) → m ≡ n
+same_user m n gs hs a = append_cancel_left (codes "u:") m n a.key
+
+same_member : (m n : Text) → AreAlike (AsMember m) (AsMember n) → m ≡ n
+same_member m n a = append_cancel_left (codes "g:") m n a.key
+
+mixed : (m n : Text) → codes "u:" ++ m ≡ codes "g:" ++ n → ⊥
+mixed m n e = let bad : 117 ≡ 103 = ap (λ (t : Text). get_or t 0 0) e in omega (arith, bad)
+
+signed_in : (user : Text) (gs hs : List Text) (g : Text) → (Contains hs (codes "system:unauthenticated") → Contains gs (codes "system:unauthenticated"))
+    → IsSignInGroup user gs g → IsSignInGroup user hs g
+signed_in user gs hs g f (inl h) = inl h
+signed_in user gs hs g f (inr h) = inr (h.0, λ w. h.1 (f w), h.2)
+
+in_group : (p q : Who) (g : Text) → AreAlike p q → IsInGroup p g → IsInGroup q g
+in_group (AsUser m gs) (AsUser n hs) g a h = let same = same_user m n gs hs a in elim h [
+  | inl w ↦ inl ((a.given g).0 w)
+  | inr i ↦ inr (subst (λ user. IsImpliedGroup user hs g) same (elim i [
+    | inl account ↦ inl account
+    | inr s ↦ inr (signed_in m gs hs g (a.given (codes "system:unauthenticated")).1 s)
+  ]))
+]
+in_group (AsUser m gs) (AsMember n) g a h = absurd (mixed m n a.key)
+in_group (AsMember m) (AsUser n hs) g a h = absurd (mixed n m (sym a.key))
+in_group (AsMember m) (AsMember n) g a h = h ∙ same_member m n a
+
+user_named : (p q : Who) (name : Text) → AreAlike p q → IsUserNamed p name → IsUserNamed q name
+user_named (AsUser m gs) (AsUser n hs) name a h = sym (same_user m n gs hs a) ∙ h
+user_named (AsUser m gs) (AsMember n) name a h = absurd (mixed m n a.key)
+user_named (AsMember m) q name a h = absurd h
+
+names : (s : Subject) (namespace : Option Text) (p q : Who) → AreAlike p q → Names s namespace p → Names s namespace q
+names (User name) namespace p q a h = user_named p q name a h
+names (Group name) namespace p q a h = in_group p q name a h
+names (Account (Some own) name) namespace p q a h = user_named p q (account_user own name) a h
+names (Account None name) (Some namespace) p q a h = user_named p q (account_user namespace name) a h
+names (Account None name) None p q a h = h
+
+grants : (held : Held) (b : Binding) (p q : Who) (namespace verb : Text) (t : What) → AreAlike p q → Grants held b p namespace verb t → Grants held b q namespace verb t
+grants held b p q namespace verb t a h =
+    let (k, s, lt, at, named) = h.1 in (h.0, (k, s, lt, at, names s b.namespace p q a named), h.2)
+
+first : (held : Held) (p q : Who) (namespace verb : Text) (t : What) (b : Binding) → AreAlike p q → IsFirst held p namespace verb t b → IsFirst held q namespace verb t b
+first held p q namespace verb t b a (i, f) = (
+  i,
+  record {
+    here = f.here;
+    holds = grants held b p q namespace verb t a f.holds;
+    none_before = λ k c lt at g. f.none_before k c lt at (grants held c q p namespace verb t (alike_back p q a) g);
+  },
+)
+
+-- ---- united lists of one list have such principals
+
+module _ (listed ps qs : List Who) (m : AreUnited listed ps) (n : AreUnited listed qs) where
+  given_there : (p q : Who) → Contains ps p → Contains qs q → key_of p ≡ key_of q → (g : Text) → Contains (given_of p) g → Contains (given_of q) g
+  given_there p q inp inq e g w =
+      let (k, other, lt, at, has) = (n.given (key_of p) g).1 ((m.given (key_of p) g).0 (as_any (λ x. (key_of x ≡ key_of p) × Contains (given_of x) g) ps p inp (refl, w))) in
+      let same : other ≡ q = one_of_name who_name qs other q n.ordered (k, lt, at) inq (ap (λ (x : Text). x ∷ []) (has.0 ∙ e)) in
+      subst (λ x. Contains (given_of x) g) same has.1
+
+  there : (p : Who) → Contains ps p → (q : Who) × Contains qs q × (key_of q ≡ key_of p)
+  there p inp = let (k, q, lt, at, e) = (n.keys (key_of p)).1 ((m.keys (key_of p)).0 (as_any (λ x. key_of x ≡ key_of p) ps p inp refl)) in
+      (q, (k, lt, at), e)
+
+alike_there : (listed ps qs : List Who) → AreUnited listed ps → AreUnited listed qs → (p : Who) → Contains ps p → (q : Who) × Contains qs q × AreAlike p q
+alike_there listed ps qs m n p inp = let (q, inq, e) = there listed ps qs m n p inp in (
+  q,
+  inq,
+  record {
+    key = sym e;
+    given = λ g. (given_there listed ps qs m n p q inp inq (sym e) g, given_there listed qs ps n m q p inq inp e g);
+  },
+)
+
+-- ---- the matrices of such universes print alike
+
+abbrev Line : Type 0
+Line = KeyTexts × Binding
+
+abbrev line_of : RowView → Line
+line_of row = (cell_key row.cell, row.binding)
+
+abbrev line_name : Line → List Text
+line_name l = texts l.0
+
+same_key : (p q : Who) (c : Cell) → key_of p ≡ key_of q → cell_key (record c { who = p }) ≡ cell_key (record c { who = q })
+same_key p q c e = cc
+
+module _ (held : Held) (lists : UniverseLists) (u v : UniverseView) (m : AreSets lists u) (n : AreSets lists v) where
+  row_there : (row : RowView) → IsRow held u row → (other : RowView) × IsRow held v other × (line_of other ≡ line_of row)
+  row_there row (cell, fits, is_first) =
+      let one = one_sets lists u v m n in
+      let (q, inq, a) = alike_there lists.principals u.principals v.principals m.principals n.principals row.cell.who cell.0 in (
+        record { cell = record row.cell { who = q }; binding = row.binding },
+        (
+          (
+            inq,
+            subst (λ xs. Contains xs row.cell.namespace) one.1 cell.1,
+            subst (λ xs. Contains xs row.cell.verb) one.2 cell.2,
+            subst (λ xs. Contains xs row.cell.target) one.3 cell.3,
+          ),
+          fits,
+          first held row.cell.who q row.cell.namespace row.cell.verb row.cell.target.0 row.binding a is_first,
+        ),
+        ap (λ (k : KeyTexts). (k, row.binding)) (sym (same_key row.cell.who q row.cell a.key)),
+      )
+
+  line_there : (rows others : List RowView) → IsMatrix held u rows → IsMatrix held v others → (l : Line) → Contains (map line_of rows) l → Contains (map line_of others) l
+  line_there rows others x y l w =
+      let (row, inrows, e) = contains_map line_of rows l w in
+      let (other, is_row, same) = row_there row ((x.exact row).0 inrows) in
+      subst (Contains (map line_of others)) (same ∙ e) (map_contains line_of others other ((y.exact other).1 is_row))
+
+lines_ascend : (rows : List RowView) → IsAscendingBy row_name rows → IsAscendingBy line_name (map line_of rows)
+lines_ascend rows up = pairs_map (λ a b. by_name line_name a b ≡ Less) line_of rows up
+
+one_lines : (held : Held) (lists : UniverseLists) (u v : UniverseView) (rows others : List RowView) → AreSets lists u → AreSets lists v
+    → IsMatrix held u rows → IsMatrix held v others → map line_of rows ≡ map line_of others
+one_lines held lists u v rows others m n x y =
+    one_list line_name (map line_of rows) (map line_of others) (lines_ascend rows (ascends rows x.ordered)) (lines_ascend others (ascends others y.ordered))
+    (line_there held lists u v m n rows others x y) (line_there held lists v u n m others rows y x)
+
+abbrev lines_text : List Line → List ℕ
+lines_text ls = flat_map (λ l. row_text l.0 l.1) ls
+
+as_lines : (rows : List RowView) → rows_text rows ≡ lines_text (map line_of rows)
+as_lines [] = refl
+as_lines (row ∷ rows) = ap (λ (t : List ℕ). row_text (cell_key row.cell) row.binding ++ t) (as_lines rows)
+
+one_text : (held : Held) (lists : UniverseLists) (u v : UniverseView) (rows others : List RowView) → AreSets lists u → AreSets lists v
+    → IsMatrix held u rows → IsMatrix held v others → rows_text rows ≡ rows_text others
+one_text held lists u v rows others m n x y = as_lines rows ∙ ap lines_text (one_lines held lists u v rows others m n x y) ∙ sym (as_lines others)
+
+-- ---- the holders are one list
+
+one_holders_meant : (held : Held) (entries : List Entry) (q : Question) (xs ys : List HolderView) → AreHoldersMeant held entries q xs
+    → AreHoldersMeant held entries q ys → xs ≡ ys
+one_holders_meant held entries q xs ys (t, n, meant, a) (u, m, means, b) =
+    let same = one_meant entries q t u n m meant means in
+    let here = subst (λ x. AreHolders held m q.verb x xs) same.0 (subst (λ x. AreHolders held x q.verb t xs) same.1 a) in
+    one_holders held m q.verb u xs ys here b
+
+pub one_answer : (l : LoadedView) (action : Action) (text other : List ℕ) (status ending : Status) → Answers l action text status → Answers l action other ending
+    → (text ≡ other) × (status ≡ ending)
+one_answer l (CanI who quiet why q) text other status ending (inl (a, (r, is, e), s)) (inl (b, (o, are, f), t)) = (
+  e ∙ ap (λ (reason : List ℕ). line_unless quiet (codes "yes") ++ reason) (one_reason l.policy l.catalogue.entries who q r o quiet why is are) ∙ sym f,
+  s ∙ sym t,
+)
+one_answer l (CanI who quiet why q) text other status ending (inl a) (inr b) = absurd (b.0 a.0)
+one_answer l (CanI who quiet why q) text other status ending (inr a) (inl b) = absurd (a.0 b.0)
+one_answer l (CanI who quiet why q) text other status ending (inr a) (inr b) = (a.1 ∙ sym b.1, a.2 ∙ sym b.2)
+one_answer l (WhoCan q) text other status ending (xs, are, e, s) (ys, others, f, t) =
+    (e ∙ ap holders_text (one_holders_meant l.policy.held l.catalogue.entries q xs ys are others) ∙ sym f, s ∙ sym t)
+one_answer l Matrix text other status ending (u, rows, m, x, e, s) (v, others, n, y, f, t) = (
+  e ∙ ap (λ (ls : List ℕ). ls ++ line (codes "end")) (one_text l.policy.held l.lists u v rows others m.sets n.sets x y) ∙ sym f,
+  s ∙ sym t,
+)

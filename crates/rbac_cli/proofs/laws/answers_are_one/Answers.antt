@@ -1,0 +1,5 @@
+use Rattle.rbac_cli.proofs.OneAnswer.{one_answer}
+use Rattle.rbac_cli.proofs.laws.answers_are_one.Goals as goal
+
+pub returns : goal.returns
+returns c = one_answer

@@ -1,0 +1,14 @@
+//! A law of holders, told by the contract of a function that does nothing.
+
+ghost use Rattle.std.specs.Prelude.{◌≡◌, List};
+ghost use Rattle.rbac_terms.specs.Targets.{What};
+ghost use Rattle.rbac_terms.specs.Text.{Text};
+ghost use Rattle.rbac_model.specs.Policies.{Held};
+ghost use Rattle.rbac_model.specs.Universes.{HolderView, AreHolders};
+
+/// Who may do a verb on a target in a namespace, by the objects that are held, is one list, so that
+/// whoever lists the holders lists the same in the same order (own).
+pub fn holders_are_one()
+    ensures { (held : Held) (namespace verb : Text) (t : What) (xs others : List HolderView) → AreHolders held namespace verb t xs
+        → AreHolders held namespace verb t others → xs ≡ others }
+{}
