@@ -2,6 +2,8 @@
 #![tactic(auto)]
 
 #[cfg(test)]
+mod indexes;
+#[cfg(test)]
 mod matching;
 #[cfg(test)]
 mod objects;
