@@ -14,6 +14,17 @@ const DEV: &str =
 const SCALE: &str =
     "{\"apiVersion\":\"v1\",\"kind\":\"List\",\"items\":[{\"apiVersion\":\"rbac.authorization.k8s.io/v1\",\"kind\":\"ClusterRole\",\"metadata\":{\"name\":\"r\"},\"rules\":[{\"verbs\":[\"get\"],\"apiGroups\":[\"*\"],\"resources\":[\"*/scale\"]}]},{\"apiVersion\":\"rbac.authorization.k8s.io/v1\",\"kind\":\"ClusterRoleBinding\",\"metadata\":{\"name\":\"b\"},\"roleRef\":{\"kind\":\"ClusterRole\",\"name\":\"r\"},\"subjects\":[{\"kind\":\"User\",\"name\":\"alice\"}]}]}";
 
+const ALICE_IN_DEV: &[&str] = &[
+    "rbacaudit",
+    "can-i",
+    "--as",
+    "alice",
+    "-n",
+    "dev",
+    "get",
+    "pods",
+];
+
 #[derive(Drop)]
 struct Taken {
     room: [u8; 64],
@@ -200,38 +211,42 @@ fn says_yes_and_no(rt: HostRuntime) -> Result<(), Fail> {
     Ok(())
 }
 
+// How a run stops whose writer takes `step` bytes at a time and fails at call `fails_at`, whether the
+// sink says that it failed, and how many bytes it counts.
+fn stopped(
+    alloc: Global,
+    step: usize,
+    fails_at: usize,
+    taken: &mut Taken,
+) -> Result<(Option<RunFault>, bool, u128), Fail> {
+    let command = command(alloc, ALICE_IN_DEV)?;
+    let inputs = [input(alloc, DEV)?];
+    let mut sink = Sink::new(Sip {
+        taken,
+        step,
+        calls: 0,
+        fails_at,
+    });
+    let fault = run(alloc, &command, &inputs, &mut sink).err();
+    Ok((fault, sink.failed(), sink.taken()))
+}
+
 #[test]
 fn stops_where_the_writer_does(rt: HostRuntime) -> Result<(), Fail> {
-    let alloc = rt.alloc();
-    let command = command(
-        alloc,
-        &[
-            "rbacaudit",
-            "can-i",
-            "--as",
-            "alice",
-            "-n",
-            "dev",
-            "get",
-            "pods",
-        ],
-    )?;
-    let inputs = [input(alloc, DEV)?];
     for (step, fails_at, want) in [(1, 4, "yes"), (0, 9, ""), (64, 1, "")] {
         let mut taken = Taken::new();
-        let mut sink = Sink::new(Sip {
-            taken: &mut taken,
-            step,
-            calls: 0,
-            fails_at,
-        });
-        let ended = run(alloc, &command, &inputs, &mut sink);
+        let (fault, failed, count) = stopped(rt.alloc(), step, fails_at, &mut taken)?;
         let written = want.len() as u128;
-        assert_eq!(rt; ended.err(), Some(RunFault::Write { written }));
-        assert!(rt; sink.failed() && sink.taken() == written);
-        drop(sink);
+        assert_eq!(rt; fault, Some(RunFault::Write { written }));
+        assert!(rt; failed && count == written);
         assert_eq!(rt; taken.bytes(), want.as_bytes());
     }
+    Ok(())
+}
+
+#[test]
+fn tells_how_a_run_stopped(rt: HostRuntime) -> Result<(), Fail> {
+    let alloc = rt.alloc();
     let fault = RunFault::Write { written: 3 };
     assert_eq!(rt;
         format!(in alloc; "{fault}")?.as_str(),
@@ -242,14 +257,10 @@ fn stops_where_the_writer_does(rt: HostRuntime) -> Result<(), Fail> {
     Ok(())
 }
 
-#[test]
-fn tells_why_inputs_are_refused(rt: HostRuntime) -> Result<(), Fail> {
-    let alloc = rt.alloc();
-    let command = command(
-        alloc,
-        &["rbacaudit", "can-i", "--as", "alice", "get", "pods"],
-    )?;
-    let inputs = [input(alloc, DEV)?, input(alloc, "[]")?];
+// What a run over two inputs is refused for, and whether the sink was left as it was.
+fn refused(alloc: Global, first: &str, second: &str) -> Result<(Option<RunFault>, bool), Fail> {
+    let command = command(alloc, ALICE_IN_DEV)?;
+    let inputs = [input(alloc, first)?, input(alloc, second)?];
     let mut taken = Taken::new();
     let mut sink = Sink::new(Sip {
         taken: &mut taken,
@@ -257,13 +268,21 @@ fn tells_why_inputs_are_refused(rt: HostRuntime) -> Result<(), Fail> {
         calls: 0,
         fails_at: 0,
     });
-    match run(alloc, &command, &inputs, &mut sink) {
-        Ok(_) => return Err(Fail::from("accepted")),
-        Err(fault) => assert_eq!(rt;
-            format!(in alloc; "{fault}")?.as_str(),
-            "file 2: M2 not an object"
-        ),
-    }
-    assert!(rt; !sink.failed() && sink.taken() == 0);
+    let fault = run(alloc, &command, &inputs, &mut sink).err();
+    Ok((fault, !sink.failed() && sink.taken() == 0))
+}
+
+#[test]
+fn tells_why_inputs_are_refused(rt: HostRuntime) -> Result<(), Fail> {
+    let alloc = rt.alloc();
+    let (fault, untouched) = refused(alloc, DEV, "[]")?;
+    assert!(rt; untouched);
+    let Some(fault) = fault else {
+        return Err(Fail::from("accepted"));
+    };
+    assert_eq!(rt;
+        format!(in alloc; "{fault}")?.as_str(),
+        "file 2: M2 not an object"
+    );
     Ok(())
 }
