@@ -8,16 +8,9 @@ alone=../crates/json_alone/out/json_alone
 room=$(mktemp -d)
 trap 'rm -rf "$room"' EXIT
 
-# The least of seven runs of a command, in milliseconds.
+# The least processor time of seven runs of a command, in milliseconds.
 least() {
-    local least=
-    for _ in 1 2 3 4 5 6 7; do
-        local start=$(date +%s%N)
-        "$@" > /dev/null || true
-        local took=$((($(date +%s%N) - start) / 1000000))
-        if [ -z "$least" ] || [ "$took" -lt "$least" ]; then least=$took; fi
-    done
-    echo "$least"
+    python3 least.py 7 "$@"
 }
 
 # One line for an export: its size, the times of the three programs, and the ratio of can-i to JSON alone.
@@ -37,7 +30,7 @@ measure_matrix() {
     local name=$1 file=$2 universe=$3 requests=$4
     local load whole
     load=$(least "$audit" can-i --as nobody@example.com -A get pods "$file" "$universe")
-    whole=$(least "$audit" matrix "$file" "$universe")
+    whole=$(python3 least.py 3 "$audit" matrix "$file" "$universe")
     printf '%-44s %9d requests  matrix %7d ms  %s requests a second\n' \
         "$name" "$requests" "$whole" "$((requests * 1000 / (whole - load + 1)))"
 }
