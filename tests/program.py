@@ -111,8 +111,8 @@ def help_and_usage():
     for option in (b'--as', b'--groups', b'-n', b'-A', b'--subresource', b'-q', b'--why', b'VERB', b'TARGET', b'FILE'):
         told('help names %s' % option.decode(), option in options, repr(options))
     for words in ([], ['can-i'], ['can-i', 'get', 'pods'], ['who-knows'], ['can-i', '--as', 'alice', '--why', 'get'],
-                  ['who-can', 'get'], ['who-can', '--as', 'alice', 'get', 'pods'], ['matrix', '--limit', '1'],
-                  ['matrix', '-n', 'dev']):
+                  ['can-i', '--as', 'a', '--as', 'b', 'get', 'pods'], ['who-can', 'get'],
+                  ['who-can', '--as', 'alice', 'get', 'pods'], ['matrix', '--limit', '1'], ['matrix', '-n', 'dev']):
         ended = run(words)
         told('refused: %s' % (' '.join(words) or 'no words'),
              ended.returncode == 2 and not ended.stdout and b'Usage' in ended.stderr, repr(ended))
@@ -125,35 +125,54 @@ def full_disk():
 
 
 def rows():
-    """The worked rows of rows.json: questions over an export, answers of several lines, and documents alone in their
-    file, which are refused or (where the answer is a status) accepted."""
+    """The worked rows of rows.json, each under the rule that it shows."""
     with open(os.path.join(TOP, 'tests', 'rows.json'), encoding='utf-8') as file:
         table = json.load(file)
-    for row in table['answers']:
+    answers(table['answers'])
+    lines(table['lines'])
+    matrices(table['matrices'])
+    documents(table['documents'])
+
+
+def answers(table):
+    """Questions over an export, each with yes or no."""
+    for row in table:
         for line, answer in row['asks']:
             status = 0 if answer == 'yes' else 1
             expect('%s can-i %s' % (row['rule'], line), ['can-i', *line.split(' ')], status, answer.encode() + b'\n',
                    given=export(*row['items']))
-    for row in table['lines']:
-        for line, status, lines in row['asks']:
-            expect('%s %s' % (row['rule'], line), line.split(' '), status, ''.join(l + '\n' for l in lines).encode(),
+
+
+def lines(table):
+    """Commands over an export, each with its status and the lines that it writes."""
+    for row in table:
+        for line, status, wanted in row['asks']:
+            expect('%s %s' % (row['rule'], line), line.split(' '), status, ''.join(l + '\n' for l in wanted).encode(),
                    given=export(*row['items']))
-    for text, wanted in table['documents']:
-        told_as = ('accepted', 1, b'no\n', b'') if wanted == '1' else (wanted, 2, b'', b'rbacaudit: %s\n' % wanted.encode())
-        expect('%s: %s' % (told_as[0], text[:160]), ALICE_GETS_PODS, *told_as[1:], given=text.encode())
 
 
-def matrices():
-    """The worked matrices of rows.json, each with its rows or the fault that refuses it."""
-    with open(os.path.join(TOP, 'tests', 'rows.json'), encoding='utf-8') as file:
-        table = json.load(file)['matrices']
+def matrices(table):
+    """Matrices of an export, each with its rows or the fault that refuses it."""
     for row in table:
         if 'fault' in row:
             wanted = 2, b'', b'rbacaudit: %s\n' % row['fault'].encode()
         else:
             wanted = 0, '\n'.join([*row['rows'], 'end', '']).encode(), b''
         expect('%s matrix' % row['rule'], ['matrix'], *wanted, given=export(*row['items']))
+
+
+def documents(table):
+    """Texts that are the whole input, each with the fault that refuses it; those without one are accepted."""
+    for row in table:
+        wanted = (1, b'no\n', b'') if row['fault'] is None else (2, b'', b'rbacaudit: %s\n' % row['fault'].encode())
+        expect(row['rule'], ALICE_GETS_PODS, *wanted, given=row['document'].encode())
+
+
+def matrix_streams():
+    """Matrices of inputs that are no list, and on a full disk."""
     expect('a matrix of a bad document', ['matrix'], 2, err=b'rbacaudit: file 1: M2 not an object\n', given=b'[]')
+    expect('a matrix of a document that is passed over', ['matrix'], 0, b'end\n',
+           given=b'{"kind":"APIVersions","versions":["v1"]}')
     with open('/dev/full', 'wb') as full:
         ended = run(['matrix'], export(), stdout=full)
     told('a matrix on a full disk', (ended.returncode, ended.stderr) == (2, b'rbacaudit: write failed after 0 bytes\n'), repr(ended))
@@ -209,7 +228,7 @@ else:
     help_and_usage()
     full_disk()
     rows()
-    matrices()
+    matrix_streams()
     limits()
     universe_limits()
     transcripts()

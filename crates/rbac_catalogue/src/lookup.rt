@@ -1,9 +1,8 @@
 //! Which resource a type word means.
 
-ghost use Rattle.std.specs.Prelude.{◌≡◌, IsTrue, ◌↔◌, IfOk, MatchOption, Any, Contains, ⊤};
+ghost use Rattle.std.specs.Prelude.{◌≡◌, IsTrue, ◌↔◌, IfOk, MatchOption, Any, ⊤};
 ghost use Rattle.std.specs.Option.{option_copied};
 ghost use Rattle.std.specs.declared.cmp.Ordering.TheVariants.{Less};
-ghost use Rattle.rbac_terms.specs.Text.{slash};
 ghost use Rattle.rbac_catalogue.specs.Lookups.{IsCalled, HasWords, IsNamed, IsNamedIn, resource_of, resource_cmp, IsLeastOf, IsMeant, IsFound};
 
 use crate::entry::Entry;

@@ -1,6 +1,6 @@
 //! Which resources are outside all namespaces.
 
-ghost use Rattle.std.specs.Prelude.{◌≡◌, IsTrue, ◌↔◌};
+ghost use Rattle.std.specs.Prelude.{IsTrue, ◌↔◌};
 ghost use Rattle.rbac_catalogue.specs.Catalogue.{IsAbout, IsListed, IsNamespaced, IsClusterScoped, IsClusterOnly};
 
 use crate::entry::Entry;

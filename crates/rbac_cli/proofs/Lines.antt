@@ -4,7 +4,7 @@ use Rattle.std.specs.Prelude.{slice_get}
 use Rattle.std.proofs.lemmas.Grind.{flat_map-append}
 use Rattle.std.proofs.lemmas.List.{take_more, take_all, take-append-drop}
 use Rattle.std.proofs.lemmas.Option.{slice_get_within, get_or_from_slice_get}
-use Rattle.rbac_model.specs.Universes.{HolderView}
+use Rattle.rbac_model.specs.Holders.{HolderView}
 use Rattle.rbac_streams.specs.Streams.{SinkView, PageView}
 use Rattle.rbac_streams.specs.Taken.{Prints, StopsIn}
 use Rattle.rbac_streams.proofs.TakenLemmas.{Prints-trans, Stops-more, Stops-after}

@@ -1,7 +1,7 @@
--- A universe has one matrix, so what holds of its text holds of the answer.
+-- A universe has one matrix, so a front of its text is one of the answer.
 use Rattle.std.proofs.Common.{◌≡◌, ◌∙◌, ℕ, List, IsTrue, AllPairs, ap, subst, refl, Less, Equal, Greater, Ordering}
 use Rattle.std.specs.Ordering.{is_lt}
-use Rattle.rbac_terms.specs.Text.{Text}
+use Rattle.rbac_terms.specs.Text.{Text, BeginsWith}
 use Rattle.rbac_terms.specs.Keys.{texts, key_cmp}
 use Rattle.rbac_model.specs.Policies.{Held}
 use Rattle.rbac_model.specs.Lists.{IsAscendingBy}
@@ -10,7 +10,7 @@ use Rattle.rbac_model.proofs.OneList.{one_list}
 use Rattle.rbac_manifest.specs.Load.{LoadedView}
 use Rattle.rbac_question.specs.declared.command.Action.{Action}
 use Rattle.rbac_question.specs.declared.command.Action.TheVariants.{CanI, WhoCan, Matrix}
-use Rattle.rbac_cli.specs.Out.{Answers, HoldsOfAnswer, matrix_text}
+use Rattle.rbac_cli.specs.Out.{Answers, IsFrontOfAnswer, matrix_text}
 use Rattle.rbac_cli.specs.declared.ending.Status.{Status}
 
 abbrev pub row_name : RowView → List Text
@@ -29,18 +29,12 @@ one_matrix held u rows others m n =
     one_list row_name rows others (ascends rows m.ordered) (ascends others n.ordered)
     (λ row w. (n.exact row).1 ((m.exact row).0 w)) (λ row w. (m.exact row).1 ((n.exact row).0 w))
 
--- what holds of a text that is meant
-pub of_text : (l : LoadedView) (action : Action) (text : List ℕ) (status : Status) (P : List ℕ → Type 0) → Answers l action text status → P text → HoldsOfAnswer l action P
-of_text l (CanI who quiet why q) text status P a p = (text, status, a, p)
-of_text l (WhoCan q) text status P a p = (text, status, a, p)
-of_text l Matrix text status P (u, rows, is_universe, matrix, same, zero) p = (
+-- a front of a text that is meant
+pub front_of_text : (l : LoadedView) (action : Action) (text front : List ℕ) (status : Status) → Answers l action text status → BeginsWith text front → IsFrontOfAnswer l action front
+front_of_text l (CanI who quiet why q) text front status a b = (text, status, a, b)
+front_of_text l (WhoCan q) text front status a b = (text, status, a, b)
+front_of_text l Matrix text front status (u, rows, is_universe, matrix, same, zero) b = (
   u,
   is_universe,
-  λ others other. subst P (same ∙ ap matrix_text (one_matrix l.policy.held u rows others matrix other)) p,
+  λ others other. subst (λ (x : List ℕ). BeginsWith x front) (same ∙ ap matrix_text (one_matrix l.policy.held u rows others matrix other)) b,
 )
-
--- what follows from what holds of it
-pub of_weaker : (l : LoadedView) (action : Action) (P Q : List ℕ → Type 0) → ((text : List ℕ) → P text → Q text) → HoldsOfAnswer l action P → HoldsOfAnswer l action Q
-of_weaker l (CanI who quiet why q) P Q f h = (h.0, h.1, h.2, f h.0 h.3)
-of_weaker l (WhoCan q) P Q f h = (h.0, h.1, h.2, f h.0 h.3)
-of_weaker l Matrix P Q f h = (h.0, h.1, λ rows matrix. f (matrix_text rows) (h.2 rows matrix))

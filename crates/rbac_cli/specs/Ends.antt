@@ -1,6 +1,5 @@
 -- How a run ends. `took` says of some bytes that the writer took exactly these in the run.
 use Rattle.std.specs.Prelude.{◌≡◌, ◌≢◌, ℕ, ◌⊎◌, Bool, true, false, List, [], length, Result, Ok, Err, MatchResult}
-use Rattle.rbac_terms.specs.Text.{BeginsWith}
 use Rattle.rbac_streams.specs.Taken.{counted}
 use Rattle.rbac_universe.specs.Sets.{HasFault as HasUniverseFault}
 use Rattle.rbac_universe.specs.declared.fault.UniverseFault.{UniverseFault}
@@ -9,7 +8,7 @@ use Rattle.rbac_manifest.specs.Load.{LoadedView, IsLoaded, HasFault}
 use Rattle.rbac_question.specs.declared.command.Action.{Action}
 use Rattle.rbac_question.specs.declared.command.Action.TheVariants.{CanI, WhoCan, Matrix}
 use Rattle.rbac_question.specs.declared.command.Command.{Command}
-use Rattle.rbac_cli.specs.Out.{Answers, HoldsOfAnswer}
+use Rattle.rbac_cli.specs.Out.{Answers, IsFrontOfAnswer}
 use Rattle.rbac_cli.specs.declared.ending.Status.{Status}
 use Rattle.rbac_cli.specs.declared.ending.RunFault.{RunFault}
 use Rattle.rbac_cli.specs.declared.ending.RunFault.TheVariants.{Load, Universe, Memory, Write}
@@ -18,13 +17,9 @@ use Rattle.rbac_cli.specs.declared.ending.RunFault.TheVariants.{Load, Universe, 
 abbrev pub Writes : (List ℕ → Type 0) → LoadedView → Action → Status → Type 0
 Writes took l action status = (text : List ℕ) × Answers l action text status × took text
 
--- it took a front of this text, and n is how many bytes that is
-abbrev pub TakesFront : (List ℕ → Type 0) → ℕ → List ℕ → Type 0
-TakesFront took n text = (front : List ℕ) × BeginsWith text front × took front × (n ≡ counted 0 (length front))
-
 -- it took a front of what the action means, and n is how many bytes that is
 abbrev pub WritesFront : (List ℕ → Type 0) → LoadedView → Action → ℕ → Type 0
-WritesFront took l action n = HoldsOfAnswer l action (TakesFront took n)
+WritesFront took l action n = (front : List ℕ) × IsFrontOfAnswer l action front × took front × (n ≡ counted 0 (length front))
 
 -- the writer took nothing, and n is 0
 abbrev pub WritesNothing : (List ℕ → Type 0) → ℕ → Type 0

@@ -1,11 +1,12 @@
 -- What a command writes, and its status.
 use Rattle.std.specs.Prelude.{◌≡◌, ℕ, ◌⊎◌, Bool, true, false, List, [], ◌∷◌, ◌++◌, codes}
 use Rattle.std.specs.List.{flat_map}
-use Rattle.rbac_terms.specs.Text.{Text}
+use Rattle.rbac_terms.specs.Text.{Text, BeginsWith}
 use Rattle.rbac_terms.specs.Targets.{What}
 use Rattle.rbac_terms.specs.Principals.{Who}
 use Rattle.rbac_model.specs.Policies.{Held, Allows, PolicyView, GrantView, IsWhy}
-use Rattle.rbac_model.specs.Universes.{UniverseView, RowView, IsMatrix, HolderView, AreHolders}
+use Rattle.rbac_model.specs.Universes.{UniverseView, RowView, IsMatrix}
+use Rattle.rbac_model.specs.Holders.{HolderView, AreHolders}
 use Rattle.rbac_catalogue.specs.declared.entry.Entry.{Entry}
 use Rattle.rbac_universe.specs.Sets.{IsUniverseOf}
 use Rattle.rbac_text.specs.Row.{holder_text}
@@ -73,9 +74,10 @@ Answers l Matrix text status =
     (u : UniverseView) × (rows : List RowView) × IsUniverseOf l.lists u × IsMatrix l.policy.held u rows
     × (text ≡ matrix_text rows) × (status ≡ Zero)
 
--- P holds of such a text: of a verdict's, of the holders', or, for a universe of the lists, of whichever rows are its matrix
-abbrev pub HoldsOfAnswer : LoadedView → Action → (List ℕ → Type 0) → Type 0
-HoldsOfAnswer l (CanI who quiet why q) P = (text : List ℕ) × (status : Status) × Answers l (CanI who quiet why q) text status × P text
-HoldsOfAnswer l (WhoCan q) P = (text : List ℕ) × (status : Status) × Answers l (WhoCan q) text status × P text
-HoldsOfAnswer l Matrix P =
-    (u : UniverseView) × IsUniverseOf l.lists u × ((rows : List RowView) → IsMatrix l.policy.held u rows → P (matrix_text rows))
+-- a front of the text that the action means: of a verdict's, of the holders', or, for a universe of the lists, of whichever rows are its matrix
+abbrev pub IsFrontOfAnswer : LoadedView → Action → List ℕ → Type 0
+IsFrontOfAnswer l (CanI who quiet why q) front =
+    (text : List ℕ) × (status : Status) × Answers l (CanI who quiet why q) text status × BeginsWith text front
+IsFrontOfAnswer l (WhoCan q) front = (text : List ℕ) × (status : Status) × Answers l (WhoCan q) text status × BeginsWith text front
+IsFrontOfAnswer l Matrix front =
+    (u : UniverseView) × IsUniverseOf l.lists u × ((rows : List RowView) → IsMatrix l.policy.held u rows → BeginsWith (matrix_text rows) front)

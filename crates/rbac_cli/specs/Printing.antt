@@ -6,22 +6,40 @@ use Rattle.rbac_streams.specs.Streams.{SinkView, PageView}
 use Rattle.rbac_streams.specs.Taken.{Prints, StopsIn}
 use Rattle.rbac_streams.specs.declared.page.PrintFault.{PrintFault}
 use Rattle.rbac_streams.specs.declared.page.PrintFault.TheVariants.{SinkFailed, NoMemory}
+use Rattle.rbac_universe.specs.Sets.{IsUniverseOf}
+use Rattle.rbac_matrix.specs.Printed.{StopsWithin}
 use Rattle.rbac_manifest.specs.Load.{LoadedView}
 use Rattle.rbac_question.specs.declared.command.Action.{Action}
-use Rattle.rbac_cli.specs.Out.{Answers, HoldsOfAnswer, matrix_text}
+use Rattle.rbac_question.specs.declared.command.Action.TheVariants.{CanI, WhoCan, Matrix}
+use Rattle.rbac_cli.specs.Out.{Answers, matrix_text}
 use Rattle.rbac_cli.specs.Ends.{WritesFront, WritesNothing, LacksUniverse}
 use Rattle.rbac_cli.specs.declared.ending.Status.{Status}
 use Rattle.rbac_cli.specs.declared.ending.RunFault.{RunFault}
 use Rattle.rbac_cli.specs.declared.ending.RunFault.TheVariants.{Load, Universe, Memory, Write}
+
+-- the lines of a matrix and the last line were printed
+abbrev pub PrintsListing : {W : Type 0} → (W → Option (List ℕ)) → SinkView W → PageView → SinkView W → PageView → Held → UniverseView → Type 0
+PrintsListing contents old page new after held u =
+    (rows : List RowView) × IsMatrix held u rows × Prints contents old page new after (matrix_text rows)
+
+-- printing stopped within them
+abbrev pub StopsInListing : {W : Type 0} → (W → Option (List ℕ)) → SinkView W → PageView → SinkView W → PageView → Held → UniverseView → Type 0
+StopsInListing contents old page new after held u =
+    StopsWithin contents old page new after (λ more. (rows : List RowView) × IsMatrix held u rows × (more ≡ matrix_text rows))
 
 -- more text was printed, one that the action means over what was loaded
 abbrev pub PrintsAnswer : {W : Type 0} → (W → Option (List ℕ)) → SinkView W → PageView → SinkView W → PageView → LoadedView → Action → Status → Type 0
 PrintsAnswer contents old page new after l action status =
     (text : List ℕ) × Answers l action text status × Prints contents old page new after text
 
--- printing stopped within such a text
+-- printing stopped within such a text: a verdict's, the holders', or, for a universe of the lists, the lines of its matrix
 abbrev pub StopsInAnswer : {W : Type 0} → (W → Option (List ℕ)) → SinkView W → PageView → SinkView W → PageView → LoadedView → Action → Type 0
-StopsInAnswer contents old page new after l action = HoldsOfAnswer l action (StopsIn contents old page new after)
+StopsInAnswer contents old page new after l (CanI who quiet why q) =
+    (text : List ℕ) × (status : Status) × Answers l (CanI who quiet why q) text status × StopsIn contents old page new after text
+StopsInAnswer contents old page new after l (WhoCan q) =
+    (text : List ℕ) × (status : Status) × Answers l (WhoCan q) text status × StopsIn contents old page new after text
+StopsInAnswer contents old page new after l Matrix =
+    (u : UniverseView) × IsUniverseOf l.lists u × StopsInListing contents old page new after l.policy.held u
 
 -- nothing was printed
 abbrev pub IsUntouched : {W : Type 0} → SinkView W → PageView → SinkView W → PageView → Type 0
@@ -39,16 +57,6 @@ StopsPrinting contents old page new after l action (Universe fault) = LacksUnive
 StopsPrinting contents old page new after l action (Memory n) =
     (n ≡ after.written) × (IsUntouched old page new after ⊎ StopsInAnswer contents old page new after l action)
 StopsPrinting contents old page new after l action (Write n) = (n ≡ after.written) × StopsInAnswer contents old page new after l action
-
--- the lines of a matrix and the last line were printed
-abbrev pub PrintsRows : {W : Type 0} → (W → Option (List ℕ)) → SinkView W → PageView → SinkView W → PageView → Held → UniverseView → Type 0
-PrintsRows contents old page new after held u =
-    (rows : List RowView) × IsMatrix held u rows × Prints contents old page new after (matrix_text rows)
-
--- printing stopped within them, whichever rows are the matrix
-abbrev pub StopsInRows : {W : Type 0} → (W → Option (List ℕ)) → SinkView W → PageView → SinkView W → PageView → Held → UniverseView → Type 0
-StopsInRows contents old page new after held u =
-    (rows : List RowView) → IsMatrix held u rows → StopsIn contents old page new after (matrix_text rows)
 
 -- how writing the answer stops, over what was loaded
 abbrev pub StopsWith : (List ℕ → Type 0) → LoadedView → Action → RunFault → Type 0

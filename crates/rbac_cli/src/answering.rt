@@ -4,10 +4,10 @@ ghost use Rattle.std.specs.Prelude.{◌≡◌, false, IfOk, IfErr};
 ghost use Rattle.rbac_cli.specs.Ends.{is_write_fault};
 ghost use Rattle.rbac_cli.specs.Printing.{PrintsAnswer, StopsPrinting};
 
-use crate::deciding::{print_told, told_of};
+use crate::can_i::{print_told, told_of};
 use crate::ending::{RunFault, Status};
-use crate::holding::print_holders;
-use crate::listing::print_listing;
+use crate::matrix::print_listing;
+use crate::who_can::print_holders;
 use rbac_manifest::Loaded;
 use rbac_question::Action;
 use rbac_streams::{Page, Sink};

@@ -6,8 +6,7 @@ ghost use Rattle.rbac_cli.specs.Printing.{fault_at};
 use rbac_manifest::LoadFault;
 use rbac_streams::{Page, PrintFault};
 use rbac_universe::UniverseFault;
-use std::error::Error;
-use std::fmt;
+use thiserror::Error;
 
 /// The exit status of a run that told its answer.
 #[derive(Clone, Copy, Debug, PartialEq, Eq)]
@@ -19,33 +18,24 @@ pub enum Status {
 }
 
 /// Why a run stopped. Texts that were written up to then stay written.
-#[derive(Clone, Copy, Debug, PartialEq, Eq)]
+#[derive(Clone, Copy, Debug, PartialEq, Eq, Error)]
 pub enum RunFault {
     /// The inputs are refused, and nothing was written.
+    #[error("{0}")]
     Load(LoadFault),
     /// The lists that were loaded make no universe for a matrix, and nothing was written. Want of
     /// memory is told as such.
+    #[error("{0}")]
     Universe(UniverseFault),
     /// Memory was refused after this many bytes were written, at most the last value of `u128`.
+    #[error("out of memory")]
     Memory { written: u128 },
     /// A write failed after this many bytes were written, at most the last value of `u128`.
+    #[error("write failed after {written} bytes")]
     Write { written: u128 },
 }
 
-impl fmt::Display for RunFault {
-    fn fmt<W: fmt::Write>(&self, f: &mut fmt::Formatter<W>) -> fmt::Result {
-        match self {
-            RunFault::Load(fault) => write!(f, "{fault}"),
-            RunFault::Universe(fault) => write!(f, "{fault}"),
-            RunFault::Memory { .. } => write!(f, "out of memory"),
-            RunFault::Write { written } => write!(f, "write failed after {written} bytes"),
-        }
-    }
-}
-
-impl Error for RunFault {}
-
-/// Why a run stopped whose printing stopped so.
+// Why a run stopped whose printing stopped so.
 pub(crate) fn fault_of(page: &Page, fault: PrintFault) -> RunFault
     ensures { result ≡ fault_at page.now fault }
 {

@@ -5,12 +5,12 @@
 
 mod answering;
 mod asking;
-mod deciding;
+mod can_i;
 mod ending;
-mod holding;
 mod laws;
-mod listing;
+mod matrix;
 mod running;
+mod who_can;
 
 pub use asking::target_of;
 pub use ending::{RunFault, Status};

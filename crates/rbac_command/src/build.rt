@@ -107,7 +107,7 @@ fn files_arg<'a>(alloc: Global) -> Arg<'a>
     Arg::new(alloc, "files")
         .value_name("FILE")
         .action(ArgAction::Append)
-        .help("JSON that kubectl get -o json wrote; without a file, standard input is read")
+        .help("JSON of kubectl get -o json or --raw, or a Universe document; else standard input")
 }
 
 // Adds an argument that is not global.
@@ -180,7 +180,7 @@ fn who_can<'a>(alloc: Global) -> Result<Command<'a>, AllocError>
     let command = named(
         alloc,
         "who-can",
-        "Lists who may VERB TARGET, each with the first binding that lets them",
+        "Lists who may VERB TARGET, u:USER or g:GROUP, each with the first binding that lets them",
     );
     let command = with_scope(alloc, command)?;
     with_question(alloc, command)
@@ -193,7 +193,7 @@ fn matrix<'a>(alloc: Global) -> Result<Command<'a>, AllocError>
     let command = named(
         alloc,
         "matrix",
-        "Lists everything that anyone may do: a line for each request that is allowed, then end",
+        "Lists everything that anyone may do, then end; a Universe document says whom and what to ask",
     );
     with(command, files_arg(alloc))
 }

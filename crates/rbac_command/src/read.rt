@@ -1,10 +1,10 @@
 //! From words to a command.
 
-ghost use Rattle.std.specs.Prelude.{◌≡◌, [], List, ℕ, Some, None, IfOk, IfErr, MatchResult, map, string_bytes, true, false, codes, option_map};
+ghost use Rattle.std.specs.Prelude.{◌≡◌, [], Some, None, IfOk, IfErr, MatchResult, map, string_bytes, true, false, option_map};
 ghost use Rattle.std.specs.Option.{option_map_or};
 ghost use Rattle.clap.specs.Words.{found_of, all_of, rows_of, first_of, subcommand_rows_of, subcommand_of, fault_of};
 ghost use Rattle.rbac_command.specs.App.{rbac_app};
-ghost use Rattle.rbac_command.specs.Meaning.{text_at, has_flag, files_in, question_in, parts_in, is_known, DoesAction, RefusesAction, MeansRows, Means, IsCauseOf, IsRefusal, IsAnswer};
+ghost use Rattle.rbac_command.specs.Meaning.{text_at, has_flag, files_in, question_in, parts_in, is_known, DoesAction, RefusesAction, Means, IsCauseOf, IsRefusal, IsAnswer};
 
 use crate::build::program;
 use crate::fault::UsageFault;
@@ -32,10 +32,7 @@ fn values_of<'m, 'a>(matches: &'m ArgMatches<'a>, id: &str) -> Option<&'m [&'a s
 fn text_of<'a>(matches: &ArgMatches<'a>, id: &str) -> &'a str
     ensures { result.now ≡ text_at id.now (rows_of (found_of matches.now)) }
 {
-    match value_of(matches, id) {
-        Some(text) => text,
-        None => "",
-    }
+    value_of(matches, id).unwrap_or("")
 }
 
 fn flag_of(matches: &ArgMatches<'_>, id: &str) -> bool

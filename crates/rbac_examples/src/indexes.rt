@@ -1,108 +1,36 @@
 //! What an index tells of a policy: candidates, holders, and why a request is allowed; and how the
 //! fields of such lines are printed.
 
+use crate::fixtures::{self, Named, RuleRow, binding, cluster_role, rules};
 use crate::principals::user;
 use crate::requests::resource;
-use crate::words::{word, words};
+use crate::words::word;
 use rbac_index::{Holders, Index, IndexFault, why_allowed};
-use rbac_model::{Object, Objects, Policy};
-use rbac_terms::{
-    Binding, ClusterRole, Labels, ModelFault, Principal, RoleRef, Rule, Rules, Subject, Subjects,
-    Target, Word, Words,
-};
+use rbac_model::{Object, Policy};
+use rbac_terms::{ModelFault, Principal, RoleRef, Target, Word};
 use rbac_text::{put_field, put_place};
 use std::alloc::{AllocError, Global};
 use std::process::Abort;
 use std::test::Fail;
 
-// Verbs, groups and resources of a rule.
-type RuleRow<'a> = [&'a [&'a str]; 3];
-
-fn rule(alloc: Global, row: &RuleRow<'_>) -> Result<Rule, AllocError> {
-    let [verbs, groups, resources] = *row;
-    Ok(Rule {
-        verbs: words(alloc, verbs)?,
-        groups: words(alloc, groups)?,
-        resources: words(alloc, resources)?,
-        resource_names: Words::new(alloc),
-        urls: Words::new(alloc),
-    })
-}
-
-fn rules(alloc: Global, rows: &[RuleRow<'_>]) -> Result<Rules, AllocError> {
-    let mut all = Vec::new(alloc);
-    for row in rows {
-        all.push(rule(alloc, row)?)?;
-    }
-    Ok(Rules::from_vec(all))
-}
-
-// The role that each binding names but the dangling one.
-fn role(alloc: Global, rows: &[RuleRow<'_>]) -> Result<Object, AllocError> {
-    Ok(Object::ClusterRole(ClusterRole {
-        name: word(alloc, "r")?,
-        labels: Labels::from_vec(Vec::new(alloc)),
-        rules: rules(alloc, rows)?,
-        aggregation: None,
-    }))
-}
-
-// Whom a binding names; a service account without its namespace.
-#[derive(Clone, Copy)]
-enum Named<'a> {
-    User(&'a str),
-    Group(&'a str),
-    Account(&'a str),
-}
-
-fn subject(alloc: Global, named: Named<'_>) -> Result<Subject, AllocError> {
-    match named {
-        Named::User(name) => Ok(Subject::User(word(alloc, name)?)),
-        Named::Group(name) => Ok(Subject::Group(word(alloc, name)?)),
-        Named::Account(name) => Ok(Subject::Account {
-            namespace: None,
-            name: word(alloc, name)?,
-        }),
-    }
-}
-
-fn subjects(alloc: Global, all_named: &[Named<'_>]) -> Result<Subjects, AllocError> {
-    let mut all = Vec::new(alloc);
-    for named in all_named {
-        all.push(subject(alloc, *named)?)?;
-    }
-    Ok(Subjects::from_vec(all))
-}
-
-fn namespace_of(alloc: Global, namespace: Option<&str>) -> Result<Option<Word>, AllocError> {
-    match namespace {
-        Some(namespace) => Ok(Some(word(alloc, namespace)?)),
-        None => Ok(None),
-    }
-}
-
 // Namespace, name, the cluster role that it binds, and whom it names.
 type BindingRow<'a> = (Option<&'a str>, &'a str, &'a str, &'a [Named<'a>]);
 
-fn binding(alloc: Global, row: &BindingRow<'_>) -> Result<Object, AllocError> {
+fn bound(alloc: Global, row: &BindingRow<'_>) -> Result<Object, AllocError> {
     let (namespace, name, role, named) = *row;
-    Ok(Object::Binding(Binding {
-        namespace: namespace_of(alloc, namespace)?,
-        name: word(alloc, name)?,
-        role: RoleRef::ClusterRole(word(alloc, role)?),
-        subjects: subjects(alloc, named)?,
-    }))
+    let role = RoleRef::ClusterRole(word(alloc, role)?);
+    binding(alloc, namespace, name, role, named)
 }
 
 fn objects(
     alloc: Global,
-    rules: &[RuleRow<'_>],
+    rows: &[RuleRow<'_>],
     bindings: &[BindingRow<'_>],
 ) -> Result<Vec<Object>, AllocError> {
     let mut given = Vec::new(alloc);
-    given.push(role(alloc, rules)?)?;
+    given.push(cluster_role(alloc, "r", rules(alloc, rows)?)?)?;
     for row in bindings {
-        given.push(binding(alloc, row)?)?;
+        given.push(bound(alloc, row)?)?;
     }
     Ok(given)
 }
@@ -110,11 +38,10 @@ fn objects(
 // The cluster role `r` with these rules, and these bindings.
 fn policy(
     alloc: Global,
-    rules: &[RuleRow<'_>],
+    rows: &[RuleRow<'_>],
     bindings: &[BindingRow<'_>],
 ) -> Result<Policy, Fail> {
-    let objects = Objects::from_given(alloc, objects(alloc, rules, bindings)?)?;
-    Ok(Policy::resolve(alloc, objects)?)
+    fixtures::policy(alloc, objects(alloc, rows, bindings)?)
 }
 
 #[derive(Drop)]
@@ -245,7 +172,7 @@ fn are_holders(rt: &impl Abort, told: &Holders<'_>, wanted: &[(&str, &str)]) {
     for place in 0..told.len() {
         let holder = told.get(place);
         let (key, binding) = wanted[place];
-        assert_eq!(rt; holder.key.as_bytes(), key.as_bytes());
+        assert_eq!(rt; holder.principal.as_bytes(), key.as_bytes());
         assert_eq!(rt; holder.binding.name.as_bytes(), binding.as_bytes());
     }
 }

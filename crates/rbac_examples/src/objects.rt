@@ -1,83 +1,14 @@
 //! Objects that are held, one for each kind, namespace and name.
 
+use crate::fixtures::{cluster_role, cluster_role_binding, role, role_binding, rule_on_pods};
 use crate::principals::user;
 use crate::requests::resource;
-use crate::words::{word, words};
+use crate::words::word;
 use rbac_model::{Object, Objects, Policy};
-use rbac_terms::{
-    Binding, ClusterRole, Labels, ModelFault, Role, RoleRef, Rule, Rules, Subject, Subjects, Word,
-    Words,
-};
+use rbac_terms::{Binding, ModelFault, RoleRef, Rules, Word};
 use std::alloc::{AllocError, Global};
 use std::process::Abort;
 use std::test::Fail;
-
-// A rule that allows this verb on pods.
-fn rule(alloc: Global, verb: &str) -> Result<Rule, AllocError> {
-    Ok(Rule {
-        verbs: words(alloc, &[verb])?,
-        groups: words(alloc, &[""])?,
-        resources: words(alloc, &["pods"])?,
-        resource_names: Words::new(alloc),
-        urls: Words::new(alloc),
-    })
-}
-
-pub(crate) fn one_rule(alloc: Global, verb: &str) -> Result<Rules, AllocError> {
-    let mut rules = Vec::new(alloc);
-    rules.push(rule(alloc, verb)?)?;
-    Ok(Rules::from_vec(rules))
-}
-
-fn role(alloc: Global, namespace: &str, name: &str, verb: &str) -> Result<Object, AllocError> {
-    Ok(Object::Role(Role {
-        namespace: word(alloc, namespace)?,
-        name: word(alloc, name)?,
-        rules: one_rule(alloc, verb)?,
-    }))
-}
-
-fn cluster_role(alloc: Global, name: &str, verb: &str) -> Result<Object, AllocError> {
-    Ok(Object::ClusterRole(ClusterRole {
-        name: word(alloc, name)?,
-        labels: Labels::from_vec(Vec::new(alloc)),
-        rules: one_rule(alloc, verb)?,
-        aggregation: None,
-    }))
-}
-
-fn alice(alloc: Global) -> Result<Subjects, AllocError> {
-    let mut subjects = Vec::new(alloc);
-    subjects.push(Subject::User(word(alloc, "alice")?))?;
-    Ok(Subjects::from_vec(subjects))
-}
-
-pub(crate) fn cluster_role_binding(
-    alloc: Global,
-    name: &str,
-    role: &str,
-) -> Result<Object, AllocError> {
-    Ok(Object::Binding(Binding {
-        namespace: None,
-        name: word(alloc, name)?,
-        role: RoleRef::ClusterRole(word(alloc, role)?),
-        subjects: alice(alloc)?,
-    }))
-}
-
-fn role_binding(
-    alloc: Global,
-    namespace: &str,
-    name: &str,
-    role: &str,
-) -> Result<Object, AllocError> {
-    Ok(Object::Binding(Binding {
-        namespace: Some(word(alloc, namespace)?),
-        name: word(alloc, name)?,
-        role: RoleRef::Role(word(alloc, role)?),
-        subjects: alice(alloc)?,
-    }))
-}
 
 #[derive(Clone, Copy)]
 enum Kind {
@@ -108,8 +39,8 @@ const GIVEN: &[Row<'static>] = &[
 fn object(alloc: Global, row: &Row<'_>) -> Result<Object, AllocError> {
     let (kind, namespace, name, word, _) = *row;
     match kind {
-        Kind::Role => role(alloc, namespace, name, word),
-        Kind::ClusterRole => cluster_role(alloc, name, word),
+        Kind::Role => role(alloc, namespace, name, rule_on_pods(alloc, word)?),
+        Kind::ClusterRole => cluster_role(alloc, name, rule_on_pods(alloc, word)?),
         Kind::RoleBinding => role_binding(alloc, namespace, name, word),
         Kind::ClusterRoleBinding => cluster_role_binding(alloc, name, word),
     }
@@ -205,7 +136,8 @@ fn objects_given_at_once_are_those_put_in_turn(rt: HostRuntime) -> Result<(), Fa
 // A role and a binding to it in this namespace.
 fn bound_role(alloc: Global, namespace: &str) -> Result<Objects, ModelFault> {
     let mut objects = Objects::new(alloc);
-    objects.put(role(alloc, namespace, "r", "get")?)?;
+    let rules = rule_on_pods(alloc, "get")?;
+    objects.put(role(alloc, namespace, "r", rules)?)?;
     objects.put(role_binding(alloc, namespace, "b", "r")?)?;
     Ok(objects)
 }

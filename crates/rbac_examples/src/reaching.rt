@@ -1,9 +1,9 @@
 //! Which cluster roles an aggregated one reaches, and the grants that follow.
 
-use crate::objects::{cluster_role_binding, one_rule};
+use crate::fixtures::{cluster_role_binding, labelled_role, policy, rule_on_pods};
 use crate::words::{are, word};
-use rbac_model::{Object, Objects, Policy};
-use rbac_terms::{ClusterRole, Labels, Requirements, Selector, Selectors, Words};
+use rbac_model::{Object, Policy};
+use rbac_terms::{Labels, Requirements, Selector, Selectors, Words};
 use std::alloc::{AllocError, Global};
 use std::process::Abort;
 use std::test::Fail;
@@ -33,12 +33,8 @@ fn selectors(alloc: Global, values: &[&str]) -> Result<Selectors, AllocError> {
 }
 
 fn plain(alloc: Global, name: &str, labelled: &str) -> Result<Object, AllocError> {
-    Ok(Object::ClusterRole(ClusterRole {
-        name: word(alloc, name)?,
-        labels: label(alloc, labelled)?,
-        rules: one_rule(alloc, "get")?,
-        aggregation: None,
-    }))
+    let labels = label(alloc, labelled)?;
+    labelled_role(alloc, name, labels, rule_on_pods(alloc, "get")?, None)
 }
 
 fn aggregated(
@@ -47,22 +43,13 @@ fn aggregated(
     labelled: &str,
     gathers: Selectors,
 ) -> Result<Object, AllocError> {
-    Ok(Object::ClusterRole(ClusterRole {
-        name: word(alloc, name)?,
-        labels: label(alloc, labelled)?,
-        rules: one_rule(alloc, "delete")?,
-        aggregation: Some(gathers),
-    }))
+    let labels = label(alloc, labelled)?;
+    let rules = rule_on_pods(alloc, "delete")?;
+    labelled_role(alloc, name, labels, rules, Some(gathers))
 }
 
 fn reached(alloc: Global, policy: &Policy, name: &str) -> Result<Words, Fail> {
     Ok(policy.reached(alloc, &word(alloc, name)?)?)
-}
-
-// These objects, resolved.
-fn policy(alloc: Global, given: Vec<Object>) -> Result<Policy, Fail> {
-    let objects = Objects::from_given(alloc, given)?;
-    Ok(Policy::resolve(alloc, objects)?)
 }
 
 // Whether each role of these names reaches the wanted ones.

@@ -1,22 +1,10 @@
 //! Type words and scopes over small catalogues.
 
+use crate::words::{word, words};
 use rbac_catalogue::{Catalogue, Entries, Entry};
-use rbac_terms::{Word, Words};
 use std::alloc::{AllocError, Global};
 use std::process::Abort;
 use std::test::Fail;
-
-fn word(alloc: Global, text: &str) -> Result<Word, AllocError> {
-    Word::from_slice(alloc, text.as_bytes())
-}
-
-fn words(alloc: Global, texts: &[&str]) -> Result<Words, AllocError> {
-    let mut all = Vec::new(alloc);
-    for text in texts {
-        all.push(word(alloc, text)?)?;
-    }
-    Ok(Words::from_vec(all))
-}
 
 // Group, name, singular name, short name, and whether it is namespaced.
 type Line<'a> = (&'a str, &'a str, &'a str, &'a str, bool);

@@ -7,7 +7,7 @@ use Rattle.std.specs.Str.{bytes_eq}
 use Rattle.std.proofs.lemmas.Slice.Eq.{bytes_eq-Decides}
 use Rattle.indexmap.specs.IndexMap.{insert_entry}
 use Rattle.rbac_terms.specs.Text.{Text}
-use Rattle.rbac_model.specs.Universes.{HolderView}
+use Rattle.rbac_model.specs.Holders.{HolderView}
 use Rattle.rbac_index.specs.declared.holders.Seen.{Seen}
 use Rattle.rbac_index.specs.HolderViews.{holder_of, holders_of}
 use Rattle.rbac_index.specs.Holding.{IsSeenMore}

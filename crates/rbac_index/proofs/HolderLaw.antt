@@ -11,7 +11,8 @@ use Rattle.rbac_terms.specs.Targets.{What}
 use Rattle.rbac_terms.specs.Principals.{Who, AsUser, AsMember, key_of, account_user, IsInGroup, IsUserNamed}
 use Rattle.rbac_terms.specs.Granting.{Names}
 use Rattle.rbac_model.specs.Policies.{Held}
-use Rattle.rbac_model.specs.Universes.{HolderView, HoldsAt, IsHolder, AreHolders, IsSubjectKey}
+use Rattle.rbac_terms.specs.Granting.{IsSubjectKey}
+use Rattle.rbac_model.specs.Holders.{HolderView, HoldsAt, IsHolder, AreHolders}
 use Rattle.rbac_terms.specs.declared.granting.Subject.{Subject}
 use Rattle.rbac_terms.specs.declared.granting.Subject.TheVariants.{User, Group, Account}
 use Rattle.rbac_index.specs.Holding.{IsKeyFor, AllowsByHolders}

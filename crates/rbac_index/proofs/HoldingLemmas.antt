@@ -8,7 +8,7 @@ use Rattle.std.proofs.lemmas.Option.{slice_get_within}
 use Rattle.rbac_terms.specs.Text.{Text}
 use Rattle.rbac_terms.specs.Targets.{What}
 use Rattle.rbac_model.specs.Policies.{PolicyView, IsPolicy, IsOfBinding}
-use Rattle.rbac_model.specs.Universes.{HolderView, AreHolders}
+use Rattle.rbac_model.specs.Holders.{HolderView, AreHolders}
 use Rattle.rbac_model.proofs.GrantNumbers.{grant_by}
 use Rattle.rbac_model.proofs.BindingPlaces.{places_rise, one_binding_place, rule_of_binding, grant_of_rule}
 use Rattle.rbac_index.specs.Indexed.{AreCandidates}

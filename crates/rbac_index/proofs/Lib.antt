@@ -1,6 +1,5 @@
 pub mod DecidingLemmas
 pub mod EntryLemmas
-pub mod GrantedLemmas
 pub mod HolderLaw
 pub mod HoldingLemmas
 pub mod IndexLemmas
@@ -9,4 +8,7 @@ pub mod LivingLemmas
 pub mod MergeLemmas
 pub mod OneHolders
 pub mod ReadLemmas
+pub mod RowLemmas
+pub mod RunLemmas
 pub mod SeenLemmas
+pub mod WrittenLemmas

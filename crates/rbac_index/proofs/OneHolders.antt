@@ -3,8 +3,7 @@ use Rattle.std.proofs.Common.{◌≡◌, ◌∙◌, ℕ, List, [], ◌∷◌, Co
 use Rattle.rbac_terms.specs.Text.{Text}
 use Rattle.rbac_terms.specs.Targets.{What}
 use Rattle.rbac_model.specs.Policies.{Held}
-use Rattle.rbac_model.specs.Universes.{HolderView, AreHolders}
-use Rattle.rbac_index.specs.Holding.{Lex}
+use Rattle.rbac_model.specs.Holders.{HolderView, AreHolders, IsBefore}
 
 module _ {X : Type 0} (Before : X → X → Type 0) (none_itself : (x : X) → ¬ Before x x) (trans : (x y z : X) → Before x y → Before y z → Before x z) where
   rest_ordered : (x : X) (xs : List X) → AllPairs Before (x ∷ xs) → AllPairs Before xs
@@ -42,13 +41,13 @@ module _ {X : Type 0} (Before : X → X → Type 0) (none_itself : (x : X) → �
       ap₂ (λ (h : X) (t : List X). h ∷ t) heads rest
 
 abbrev Earlier : HolderView → HolderView → Type 0
-Earlier x y = Lex x.binding_place x.subject_place y.binding_place y.subject_place
+Earlier x y = IsBefore x.binding_place x.subject_place y.binding_place y.subject_place
 
-none_earlier : (i j : ℕ) → ¬ Lex i j i j
+none_earlier : (i j : ℕ) → ¬ IsBefore i j i j
 none_earlier i j (inl m) = omega arith
 none_earlier i j (inr e) = omega (arith, e.1)
 
-earlier_still : (i j k l m n : ℕ) → Lex i j k l → Lex k l m n → Lex i j m n
+earlier_still : (i j k l m n : ℕ) → IsBefore i j k l → IsBefore k l m n → IsBefore i j m n
 earlier_still i j k l m n (inl a) (inl b) = inl (omega arith)
 earlier_still i j k l m n (inl a) (inr b) = inl (omega (arith, b.0))
 earlier_still i j k l m n (inr a) (inl b) = inl (omega (arith, a.0))

@@ -3,7 +3,6 @@ use Rattle.std.proofs.Common.{◌≡◌, ◌∙◌, ap, ℕ, ◌<◌, ◌+◌, L
 use Rattle.std.specs.Prelude.{Some}
 use Rattle.std.specs.Option.{option_map}
 use Rattle.std.proofs.lemmas.Option.{slice_get-map, slice_get-get_or}
-use Rattle.rbac_terms.specs.declared.matching.Rule.{Rule}
 
 pub read_left : {X : Type 0} (xs ys : List X) (i : ℕ) → i < length xs → slice_get (xs ++ ys) i ≡ slice_get xs i
 read_left [] ys i l = absurd (omega arith)
@@ -15,9 +14,9 @@ read_right [] ys i j e = let same : i ≡ j = omega arith in ap (slice_get ys) s
 read_right (x ∷ xs) ys zero j e = absurd (omega arith)
 read_right (x ∷ xs) ys (suc i) j e = read_right xs ys i j (omega arith)
 
--- a rule that a reference at that place leads to
-pub read_now : (rs : List (Bor Rule)) (i : ℕ) (r : Bor Rule) → i < length rs → r ≡ get_or rs i r → slice_get (map (λ x. x.now) rs) i ≡ Some r.now
-read_now rs i r lt e = slice_get-map (λ (x : Bor Rule). x.now) rs i ∙ ap (option_map (λ (x : Bor Rule). x.now)) (slice_get-get_or rs i r lt ∙ ap (λ (x : Bor Rule). Some x) (sym e))
+-- what a reference at that place leads to
+pub read_now : {X : Type 0} (rs : List (Bor X)) (i : ℕ) (r : Bor X) → i < length rs → r ≡ get_or rs i r → slice_get (map (λ x. x.now) rs) i ≡ Some r.now
+read_now {X} rs i r lt e = slice_get-map (λ (x : Bor X). x.now) rs i ∙ ap (option_map (λ (x : Bor X). x.now)) (slice_get-get_or rs i r lt ∙ ap (λ (x : Bor X). Some x) (sym e))
 
 pub read_some : {X : Type 0} (xs : List X) (i : ℕ) → i < length xs → (x : X) × (slice_get xs i ≡ Some x)
 read_some (x ∷ xs) zero lt = (x, refl)

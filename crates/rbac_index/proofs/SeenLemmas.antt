@@ -11,10 +11,11 @@ use Rattle.rbac_terms.specs.Targets.{What}
 use Rattle.rbac_model.specs.Policies.{Held, Live, AreRulesFor, SourcedRule}
 use Rattle.rbac_terms.specs.Matching.{RuleAllows}
 use Rattle.std.proofs.lemmas.Option.{same_Some}
-use Rattle.rbac_model.specs.Universes.{HolderView, HoldsAt, IsHolder, AreHolders, IsSubjectKey}
+use Rattle.rbac_terms.specs.Granting.{IsSubjectKey}
+use Rattle.rbac_model.specs.Holders.{HolderView, HoldsAt, IsHolder, AreHolders, IsBefore}
 use Rattle.rbac_terms.specs.declared.granting.Binding.{Binding}
 use Rattle.rbac_terms.specs.declared.granting.Subject.{Subject}
-use Rattle.rbac_index.specs.Holding.{Lex, BringsAt, BringsRuleAt, AreSeen, IsSeenMore}
+use Rattle.rbac_index.specs.Holding.{BringsAt, BringsRuleAt, AreSeen, IsSeenMore}
 
 AllPairs-push : {X : Type 0} (R : X → X → Type 0) (xs : List X) (y : X) → AllPairs R xs → ((x : X) → Contains xs x → R x y) → AllPairs R (xs ++ y ∷ [])
 AllPairs-push R xs y up last i j d less within =
@@ -25,7 +26,7 @@ AllPairs-push R xs y up last i j d less within =
           rw (get_or-append xs (y ∷ []) d i (omega arith), get_or_at xs y [] d j (sym at)) (last (get_or xs i d) (Contains-get_or xs i d (omega arith)))
     ]
 
-lex_cases : (i j k l : ℕ) → Lex i j k l ⊎ (Lex k l i j ⊎ ((i ≡ k) × (j ≡ l)))
+lex_cases : (i j k l : ℕ) → IsBefore i j k l ⊎ (IsBefore k l i j ⊎ ((i ≡ k) × (j ≡ l)))
 lex_cases i j k l = elim (cases_order i k) [
   | inl e ↦ elim (cases_order j l) [
     | inl f ↦ inr (inr (e, f))
@@ -40,18 +41,18 @@ lex_cases i j k l = elim (cases_order i k) [
   ]
 ]
 
-lex_not_both : (i j k l : ℕ) → Lex i j k l → (k < i) ⊎ ((k ≡ i) × (l < j + 1)) → ⊥
+lex_not_both : (i j k l : ℕ) → IsBefore i j k l → (k < i) ⊎ ((k ≡ i) × (l < j + 1)) → ⊥
 lex_not_both i j k l (inl a) (inl b) = omega arith
 lex_not_both i j k l (inl a) (inr b) = omega (arith, b.0)
 lex_not_both i j k l (inr a) (inl b) = omega (arith, a.0)
 lex_not_both i j k l (inr a) (inr b) = omega (arith, a.1, b.1)
 
-lex_next : (i j k l : ℕ) → Lex i j k l → Lex i j k (l + 1)
+lex_next : (i j k l : ℕ) → IsBefore i j k l → IsBefore i j k (l + 1)
 lex_next i j k l (inl a) = inl a
 lex_next i j k l (inr a) = inr (a.0, omega (arith, a.1))
 
 -- before the next pair stands what is before this one, and this one
-lex_last : (i j k l : ℕ) → Lex i j k (l + 1) → Lex i j k l ⊎ ((i ≡ k) × (j ≡ l))
+lex_last : (i j k l : ℕ) → IsBefore i j k (l + 1) → IsBefore i j k l ⊎ ((i ≡ k) × (j ≡ l))
 lex_last i j k l (inl a) = inl (inl a)
 lex_last i j k l (inr a) = elim (cases_order j l) [
   | inl e ↦ inr (a.0, e)
@@ -61,8 +62,8 @@ lex_last i j k l (inr a) = elim (cases_order j l) [
   ]
 ]
 
-pushed : (xs : List HolderView) (y : HolderView) → AllPairs (λ a b. Lex a.binding_place a.subject_place b.binding_place b.subject_place) xs → ((x : HolderView) → Contains xs x → Lex x.binding_place x.subject_place y.binding_place y.subject_place) → AllPairs (λ a b. Lex a.binding_place a.subject_place b.binding_place b.subject_place) (xs ++ y ∷ [])
-pushed xs y up last = AllPairs-push (λ a b. Lex a.binding_place a.subject_place b.binding_place b.subject_place) xs y up last
+pushed : (xs : List HolderView) (y : HolderView) → AllPairs (λ a b. IsBefore a.binding_place a.subject_place b.binding_place b.subject_place) xs → ((x : HolderView) → Contains xs x → IsBefore x.binding_place x.subject_place y.binding_place y.subject_place) → AllPairs (λ a b. IsBefore a.binding_place a.subject_place b.binding_place b.subject_place) (xs ++ y ∷ [])
+pushed xs y up last = AllPairs-push (λ a b. IsBefore a.binding_place a.subject_place b.binding_place b.subject_place) xs y up last
 
 abbrev pub holder_by : Text → Binding → ℕ → ℕ → HolderView
 holder_by key b i j = record { key = key; binding = b; binding_place = i; subject_place = j }
@@ -83,7 +84,7 @@ module _ (h : Held) (namespace verb : Text) (t : What) where
   }
 
   -- nothing holds between the two pairs
-  pub seen_moved : (i j k l : ℕ) (xs : List HolderView) → ((m n : ℕ) → Lex m n i j → Lex m n k l) → ((key : Text) (m n : ℕ) → HoldsAt h namespace verb t key m n → Lex m n k l → Lex m n i j) → AreSeen h namespace verb t i j xs → AreSeen h namespace verb t k l xs
+  pub seen_moved : (i j k l : ℕ) (xs : List HolderView) → ((m n : ℕ) → IsBefore m n i j → IsBefore m n k l) → ((key : Text) (m n : ℕ) → HoldsAt h namespace verb t key m n → IsBefore m n k l → IsBefore m n i j) → AreSeen h namespace verb t i j xs → AreSeen h namespace verb t k l xs
   seen_moved i j k l xs on back seen = record {
     ordered = seen.ordered;
     exact = λ x. (
@@ -140,7 +141,7 @@ module _ (h : Held) (namespace verb : Text) (t : What) where
         exact = λ x. (
           λ w. elim (Contains-push_cases xs y x w) [
             | inl a ↦ let c = (seen.exact x).0 a in (c.0, lex_next x.binding_place x.subject_place i j c.1)
-            | inr e ↦ subst (λ (z : HolderView). IsHolder h namespace verb t z × Lex z.binding_place z.subject_place i (j + 1)) e (holder, inr (refl, omega arith))
+            | inr e ↦ subst (λ (z : HolderView). IsHolder h namespace verb t z × IsBefore z.binding_place z.subject_place i (j + 1)) e (holder, inr (refl, omega arith))
           ],
           λ c. elim (lex_last x.binding_place x.subject_place i j c.1) [
             | inl l ↦ Contains-append_left xs (y ∷ []) x ((seen.exact x).1 (c.0, l))
@@ -160,7 +161,7 @@ module _ (h : Held) (namespace verb : Text) (t : What) where
       }
 
   -- all that holds is seen
-  pub seen_all : (i j : ℕ) (xs : List HolderView) → ((key : Text) (m n : ℕ) → HoldsAt h namespace verb t key m n → Lex m n i j) → AreSeen h namespace verb t i j xs → AreHolders h namespace verb t xs
+  pub seen_all : (i j : ℕ) (xs : List HolderView) → ((key : Text) (m n : ℕ) → HoldsAt h namespace verb t key m n → IsBefore m n i j) → AreSeen h namespace verb t i j xs → AreHolders h namespace verb t xs
   seen_all i j xs before seen = record {
     ordered = seen.ordered;
     exact = λ x. (λ w. ((seen.exact x).0 w).0, λ b. (seen.exact x).1 (b, before x.key x.binding_place x.subject_place b.1));

@@ -1,6 +1,6 @@
 use Rattle.std.specs.Prelude.{List, map}
 use Rattle.rbac_terms.specs.Text.{Text}
-use Rattle.rbac_model.specs.Universes.{HolderView}
+use Rattle.rbac_model.specs.Holders.{HolderView}
 use Rattle.rbac_index.specs.declared.holders.Seen.{Seen}
 use Rattle.rbac_index.specs.declared.holders.Holder.{Holder}
 
@@ -14,4 +14,4 @@ holders_of es = map holder_of es
 
 -- the holder that is shown
 abbrev pub holder_shown : Holder → HolderView
-holder_shown x = record { key = x.key.now; binding = x.binding.now; binding_place = x.binding_place; subject_place = x.subject_place }
+holder_shown x = record { key = x.principal.now; binding = x.binding.now; binding_place = x.binding_place; subject_place = x.subject_place }

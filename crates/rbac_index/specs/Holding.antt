@@ -2,31 +2,25 @@ use Rattle.std.specs.Prelude.{◌≡◌, ℕ, ◌<◌, ◌≤◌, ◌+◌, ◌�
 use Rattle.rbac_terms.specs.Text.{Text}
 use Rattle.rbac_terms.specs.Targets.{What}
 use Rattle.rbac_terms.specs.Principals.{Who, AsMember, key_of, IsInGroup}
-use Rattle.rbac_terms.specs.Matching.{RuleAllows}
 use Rattle.rbac_terms.specs.declared.granting.Binding.{Binding}
-use Rattle.rbac_model.specs.Policies.{Held, PolicyView, IsOfBinding, Live, Allows, AreRulesFor, SourcedRule}
-use Rattle.rbac_model.specs.Universes.{HolderView, HoldsAt, IsHolder}
-
--- the first pair of places stands before the second
-abbrev pub Lex : ℕ → ℕ → ℕ → ℕ → Type 0
-Lex i j k l = (i < k) ⊎ ((i ≡ k) × (j < l))
+use Rattle.rbac_model.specs.Policies.{Held, PolicyView, IsOfBinding, Live, Allows, Brings}
+use Rattle.rbac_model.specs.Holders.{IsBefore, HolderView, HoldsAt, IsHolder}
 
 -- the binding at that place brings a rule that allows
 abbrev pub BringsRuleAt : Held → Text → What → ℕ → Type 0
 BringsRuleAt h verb t i =
-    (b : Binding) × (slice_get h.bindings i ≡ Some b) × ((rules : List SourcedRule) × AreRulesFor h b rules × Any (λ r. RuleAllows r.rule verb t) rules)
+    (b : Binding) × (slice_get h.bindings i ≡ Some b) × Brings h b verb t
 
 -- the binding at that place is live and brings a rule that allows
 abbrev pub BringsAt : Held → Text → Text → What → ℕ → Type 0
 BringsAt h namespace verb t i =
-    (b : Binding) × (slice_get h.bindings i ≡ Some b) × Live b.namespace namespace t
-    × ((rules : List SourcedRule) × AreRulesFor h b rules × Any (λ r. RuleAllows r.rule verb t) rules)
+    (b : Binding) × (slice_get h.bindings i ≡ Some b) × Live b.namespace namespace t × Brings h b verb t
 
 -- the holders that are seen before a pair of places, in order
 pub record AreSeen (h : Held) (namespace verb : Text) (t : What) (i j : ℕ) (xs : List HolderView) : Type 0 where
-  pub ordered : AllPairs (λ x y. Lex x.binding_place x.subject_place y.binding_place y.subject_place) xs
-  pub exact : (x : HolderView) → Contains xs x ↔ (IsHolder h namespace verb t x × Lex x.binding_place x.subject_place i j)
-  pub complete : (key : Text) (k l : ℕ) → HoldsAt h namespace verb t key k l → Lex k l i j → (x : HolderView) × Contains xs x × (x.key ≡ key)
+  pub ordered : AllPairs (λ x y. IsBefore x.binding_place x.subject_place y.binding_place y.subject_place) xs
+  pub exact : (x : HolderView) → Contains xs x ↔ (IsHolder h namespace verb t x × IsBefore x.binding_place x.subject_place i j)
+  pub complete : (key : Text) (k l : ℕ) → HoldsAt h namespace verb t key k l → IsBefore k l i j → (x : HolderView) × Contains xs x × (x.key ≡ key)
 
 -- the bindings of so many first numbers stand before the place, and those of the others no earlier than right before it
 pub record ArePassed (p : PolicyView) (ns : List ℕ) (count place : ℕ) : Type 0 where

@@ -1,4 +1,4 @@
-use Rattle.std.specs.Prelude.{◌≡◌, ℕ, ◌<◌, ◌↔◌, List, [], Contains, slice_get, slice_index_or, Some, length}
+use Rattle.std.specs.Prelude.{◌≡◌, ℕ, ◌+◌, ◌<◌, ◌≤◌, ◌^◌, ◌↔◌, List, [], All, Contains, map, slice_get, slice_index_or, Some, length}
 use Rattle.std.specs.List.Sorted.{IsStrictlyIncreasing}
 use Rattle.rbac_terms.specs.Text.{Text}
 use Rattle.rbac_terms.specs.Targets.{What}
@@ -6,7 +6,9 @@ use Rattle.rbac_terms.specs.Matching.{RuleAllows}
 use Rattle.rbac_terms.specs.declared.matching.Rule.{Rule}
 use Rattle.rbac_model.specs.Policies.{PolicyView, GrantView}
 use Rattle.rbac_index.specs.declared.listing.Listing.{Listing}
+use Rattle.rbac_index.specs.declared.written.Written.{Written}
 use Rattle.rbac_index.specs.Listing.{AreListed}
+use Rattle.rbac_index.specs.Written.{written_rules, IsRuleAt, AreWritten, rules_of}
 
 -- the rule of the grant of that number allows the verb on the target
 abbrev pub AllowsAt : PolicyView → Text → What → ℕ → Type 0
@@ -17,25 +19,39 @@ pub record AreCandidates (p : PolicyView) (verb : Text) (t : What) (ns : List �
   pub ascending : IsStrictlyIncreasing ns
   pub exact : (n : ℕ) → Contains ns n ↔ AllowsAt p verb t n
 
--- the grant of that number is by the rule of that number
-abbrev pub IsByRule : PolicyView → List Rule → ℕ → ℕ → Type 0
-IsByRule p rules at n = (g : GrantView) × (slice_get p.grants n ≡ Some g) × (slice_get rules at ≡ Some g.rule.rule)
+-- the grant of that number is by that rule
+abbrev pub IsByRule : PolicyView → Rule → ℕ → Type 0
+IsByRule p r n = (g : GrantView) × (slice_get p.grants n ≡ Some g) × (g.rule.rule ≡ r)
 
--- each of the first grants stands in the list of a rule that it is by, and nothing else does
-pub record AreByRule (p : PolicyView) (rules : List Rule) (count : ℕ) (numbers : List (List ℕ)) : Type 0 where
-  pub len : length numbers ≡ length rules
-  pub sound : (at n : ℕ) → Contains (slice_index_or numbers at []) n → (n < count) × IsByRule p rules at n
-  pub complete : (n : ℕ) → n < count → n < length p.grants → (at : ℕ) × Contains (slice_index_or numbers at []) n × IsByRule p rules at n
+-- the grants from that number on are by these rules, one after the other
+abbrev pub IsRun : PolicyView → List Rule → ℕ → Type 0
+IsRun p rs start = (k : ℕ) (r : Rule) → slice_get rs k ≡ Some r → IsByRule p r (start + k)
 
--- the rules are listed by their words, and the grants by their rules
-pub record IsIndexOf (p : PolicyView) (rules : List Rule) (l : Listing) (numbers : List (List ℕ)) : Type 0 where
-  pub listed : AreListed rules (length rules) l
-  pub granted : AreByRule p rules (length p.grants) numbers
+-- runs of grants by the rules of each row, by where they begin, which end before the grant of that number; each grant before it is in one of them
+pub record AreRuns (p : PolicyView) (rows : List (List Rule)) (count : ℕ) (runs : List (List ℕ)) : Type 0 where
+  pub len : length runs ≡ length rows
+  pub sound : (row start : ℕ) (rs : List Rule) → slice_get rows row ≡ Some rs → Contains (slice_index_or runs row []) start → (start + length rs ≤ count) × IsRun p rs start
+  pub complete : (n : ℕ) → n < count → (row start place : ℕ) × (r : Rule) × IsRuleAt rows row place r × Contains (slice_index_or runs row []) start × (n ≡ start + place)
+
+-- the rules are told and listed by their words, and the grants are told by runs
+pub record IsIndexOf (p : PolicyView) (ws : List Written) (l : Listing) (runs : List (List ℕ)) : Type 0 where
+  pub written : AreWritten (written_rules p.held) ws
+  pub listed : AreListed (rules_of ws) (length ws) l
+  pub granted : AreRuns p (written_rules p.held) (length p.grants) runs
+  pub few : length p.grants < 2 ^ 32
+
+-- the numbers of the grants by a rule
+abbrev pub numbers_by : List (List ℕ) → Written → List ℕ
+numbers_by runs w = map (λ start. start + w.place) (slice_index_or runs w.row [])
+
+-- the rule's row has runs, and the numbers of its grants fit
+abbrev pub HaveNumbers : List (List ℕ) → Written → Type 0
+HaveNumbers runs w = (w.row < length runs) × All (λ start. start + w.place < 2 ^ 32) (slice_index_or runs w.row [])
 
 -- the rule of that number allows the verb on the target
 abbrev pub AllowsRule : List Rule → Text → What → ℕ → Type 0
 AllowsRule rules verb t at = (r : Rule) × (slice_get rules at ≡ Some r) × RuleAllows r verb t
 
--- the number stands in the list of one of these rules that allows the verb on the target
-abbrev pub IsAllowedBy : List Rule → List (List ℕ) → List ℕ → Text → What → ℕ → Type 0
-IsAllowedBy rules numbers places verb t n = (at : ℕ) × Contains places at × AllowsRule rules verb t at × Contains (slice_index_or numbers at []) n
+-- the number is of a grant by one of the rules at these places that allows the verb on the target
+abbrev pub IsAllowedBy : List Written → List (List ℕ) → List ℕ → Text → What → ℕ → Type 0
+IsAllowedBy ws runs places verb t n = (at : ℕ) × Contains places at × ((w : Written) × (slice_get ws at ≡ Some w) × RuleAllows w.rule.now verb t × Contains (numbers_by runs w) n)

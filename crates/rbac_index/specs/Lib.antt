@@ -4,5 +4,4 @@ pub mod Holding
 pub mod Indexed
 pub mod Listing
 pub mod Living
-pub mod Merging
 pub mod Written

@@ -1,9 +1,9 @@
-use Rattle.std.specs.Prelude.{◌≡◌, ℕ, ◌+◌, List, ◌++◌, map, Some, slice_get, slice_index, length}
+use Rattle.std.specs.Prelude.{◌≡◌, ℕ, ◌+◌, ◌↔◌, List, ◌++◌, map, Any, Some, slice_get}
 use Rattle.rbac_terms.specs.declared.matching.Rule.{Rule}
 use Rattle.rbac_model.specs.Policies.{Held}
-use Rattle.rbac_model.specs.declared.places.GrantPlace.{GrantPlace}
 use Rattle.rbac_model.specs.declared.places.RolePlace.{RolePlace}
 use Rattle.rbac_model.specs.declared.places.RolePlace.TheVariants.{RoleAt, ClusterRoleAt}
+use Rattle.rbac_index.specs.declared.written.Written.{Written}
 
 -- the rules of each role, then of each cluster role
 abbrev pub written_rules : Held → List (List Rule)
@@ -14,11 +14,18 @@ abbrev pub row_of : ℕ → RolePlace → ℕ
 row_of roles (RoleAt at) = at
 row_of roles (ClusterRoleAt at) = roles + at
 
--- rows stand one after the other, each from its start
-pub record AreLaidOut (rows : List (List Rule)) (rules : List Rule) (starts : List ℕ) : Type 0 where
-  pub len : length starts ≡ length rows
-  pub each : (row k : ℕ) (rs : List Rule) (r : Rule) → slice_get rows row ≡ Some rs → slice_get rs k ≡ Some r → slice_get rules (slice_index starts row + k) ≡ Some r
+-- the rule stands at that place of that row
+abbrev pub IsRuleAt : List (List Rule) → ℕ → ℕ → Rule → Type 0
+IsRuleAt rows row place r = (rs : List Rule) × (slice_get rows row ≡ Some rs) × (slice_get rs place ≡ Some r)
 
--- the number of the rule of a grant at these places
-abbrev pub rule_no : List ℕ → ℕ → GrantPlace → ℕ
-rule_no starts roles place = slice_index starts (row_of roles place.role) + place.rule
+-- the rule is told with that row and that place
+abbrev pub HasWritten : List Written → ℕ → ℕ → Rule → Type 0
+HasWritten ws row place r = Any (λ w. (w.row ≡ row) × (w.place ≡ place) × (w.rule.now ≡ r)) ws
+
+-- exactly the rules of these rows, each with its row and its place there
+abbrev pub AreWritten : List (List Rule) → List Written → Type 0
+AreWritten rows ws = (row place : ℕ) (r : Rule) → HasWritten ws row place r ↔ IsRuleAt rows row place r
+
+-- the rules themselves
+abbrev pub rules_of : List Written → List Rule
+rules_of ws = map (λ w. w.rule.now) ws

@@ -3,13 +3,13 @@
 ghost use Rattle.std.specs.Prelude.{◌≡◌};
 
 use std::alloc::{AllocError, AllocFailed};
-use std::error::Error;
-use std::fmt;
+use thiserror::Error;
 
 /// Why an index can't be made or asked.
-#[derive(Debug, Drop, Clone, Copy, PartialEq, Eq)]
+#[derive(Debug, Drop, Clone, Copy, PartialEq, Eq, Error)]
 pub enum IndexFault {
     /// X1: memory was refused.
+    #[error("out of memory")]
     NoMemory,
 }
 
@@ -32,13 +32,3 @@ impl<T: Drop> From<AllocFailed<T>> for IndexFault {
         IndexFault::NoMemory
     }
 }
-
-impl fmt::Display for IndexFault {
-    fn fmt<W: fmt::Write>(&self, f: &mut fmt::Formatter<W>) -> fmt::Result {
-        match self {
-            IndexFault::NoMemory => write!(f, "out of memory"),
-        }
-    }
-}
-
-impl Error for IndexFault {}

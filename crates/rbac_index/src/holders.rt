@@ -1,16 +1,14 @@
 //! Who holds a verb on a target, each once.
 
-ghost use Rattle.std.specs.Prelude.{◌≡◌, ◌++◌, ◌<◌, ◌+◌, ◌↔◌, [], IfOk, OnOk, MatchOption, codes, option_copied, slice_get, Some, length};
+ghost use Rattle.std.specs.Prelude.{◌≡◌, ◌<◌, ◌+◌, [], OnOk, slice_get, Some, length};
 ghost use Rattle.rbac_terms.specs.Text.{Text};
-ghost use Rattle.rbac_terms.specs.Principals.{account_user};
 ghost use Rattle.rbac_terms.specs.Targets.{What};
 ghost use Rattle.rbac_model.specs.Policies.{Held};
-ghost use Rattle.rbac_model.specs.Universes.{IsSubjectKey};
 ghost use Rattle.rbac_index.specs.Holding.{IsSeenMore, AreSeen, BringsAt, BringsRuleAt};
 
 use indexmap::IndexMap;
 use rbac_model::is_live;
-use rbac_terms::{Binding, Subject, Target, Word};
+use rbac_terms::{Binding, Target, Word, subject_key};
 use std::alloc::{AllocError, Global};
 use std::marker::Model;
 
@@ -26,7 +24,7 @@ struct Seen<'p> {
 #[derive(Clone, Copy)]
 pub struct Holder<'a> {
     /// The principal's key: `u:` and a user's name, or `g:` and a group's (own).
-    pub key: &'a Word,
+    pub principal: &'a Word,
     /// The first binding by which it holds.
     pub binding: &'a Binding,
     /// The place of that binding among the bindings, from 0.
@@ -43,7 +41,7 @@ pub struct Holders<'p> {
 
 impl<'p> Model for Holders<'p> {
     ghost use Rattle.std.specs.Prelude.{List};
-    ghost use Rattle.rbac_model.specs.Universes.{HolderView};
+    ghost use Rattle.rbac_model.specs.Holders.{HolderView};
 
     ghost Value = { List HolderView };
 
@@ -78,7 +76,7 @@ impl<'p> Holders<'p> {
     {
         let (key, seen) = self.by_key.get_index(place).unwrap();
         Holder {
-            key,
+            principal: key,
             binding: seen.binding,
             binding_place: seen.binding_place,
             subject_place: seen.subject_place,
@@ -135,51 +133,4 @@ impl<'p> Holders<'p> {
         }
         Ok(())
     }
-}
-
-// What the key of a service account begins with.
-const ACCOUNT: &[u8] = b"u:system:serviceaccount:";
-
-// The principal key of a subject of a binding in that namespace, if it has one.
-fn subject_key(
-    alloc: Global,
-    subject: &Subject,
-    binding_namespace: Option<&Word>,
-) -> Result<Option<Word>, AllocError>
-    ensures { IfOk result (λ o. MatchOption o
-        ((key : Text) → ¬ IsSubjectKey subject.now (option_copied binding_namespace.entry) key)
-        (λ w. (key : Text) → IsSubjectKey subject.now (option_copied binding_namespace.entry) key ↔ (key ≡ w))) }
-{
-    match subject {
-        Subject::User(name) => Ok(Some(with_front(alloc, b"u:".as_slice(), name)?)),
-        Subject::Group(name) => Ok(Some(with_front(alloc, b"g:".as_slice(), name)?)),
-        Subject::Account {
-            namespace: Some(namespace),
-            name,
-        } => Ok(Some(account_key(alloc, namespace, name)?)),
-        Subject::Account {
-            namespace: None,
-            name,
-        } => match binding_namespace {
-            Some(namespace) => Ok(Some(account_key(alloc, namespace, name)?)),
-            None => Ok(None),
-        },
-    }
-}
-
-fn with_front(alloc: Global, front: &[u8], name: &Word) -> Result<Word, AllocError>
-    ensures { IfOk result (λ w. w ≡ front.now ++ name.now) }
-{
-    let mut word = Word::from_slice(alloc, front)?;
-    word.push_slice(name.as_bytes())?;
-    Ok(word)
-}
-
-fn account_key(alloc: Global, namespace: &Word, name: &Word) -> Result<Word, AllocError>
-    ensures { IfOk result (λ w. w ≡ codes "u:" ++ account_user namespace.now name.now) }
-{
-    let mut word = with_front(alloc, ACCOUNT, namespace)?;
-    word.push(b':')?;
-    word.push_slice(name.as_bytes())?;
-    Ok(word)
 }

@@ -1,42 +1,40 @@
 //! The index of a policy.
 
-ghost use Rattle.std.specs.Prelude.{◌≡◌, ◌<◌, ◌↔◌, ℕ, length, map, slice_get, Some, All, Any, Contains, IfOk, IfSome, MatchOption};
+ghost use Rattle.std.specs.Prelude.{◌≡◌, ◌<◌, ◌↔◌, ℕ, length, slice_get, Some, All, Any, Contains, IfOk, IfSome, MatchOption};
 ghost use Rattle.std.specs.List.Sorted.{IsStrictlyIncreasing};
 ghost use Rattle.rbac_model.specs.Sources.{grant_of};
 ghost use Rattle.rbac_model.specs.Policies.{Allows, IsFirst};
-ghost use Rattle.rbac_model.specs.Universes.{AreHolders};
-ghost use Rattle.rbac_index.specs.Indexed.{AreCandidates, IsAllowedBy};
+ghost use Rattle.rbac_model.specs.Holders.{AreHolders};
+ghost use Rattle.rbac_index.specs.Indexed.{AreCandidates, HaveNumbers, IsAllowedBy};
 ghost use Rattle.rbac_index.specs.Deciding.{IsWhyShown};
 ghost use Rattle.rbac_index.specs.Holding.{AllowsByHolders};
-ghost use Rattle.rbac_index.specs.Merging.{numbers_of};
 
 use crate::deciding::{Why, why_allowed};
 use crate::fault::IndexFault;
-use crate::granted::grants_by_rule;
 use crate::holders::Holders;
 use crate::listing::{Listing, listing_of, matching};
 use crate::merging::{Numbers, merged};
 use crate::numbers::GrantNos;
-use crate::written::{laid_out, written};
+use crate::runs::runs_by_row;
+use crate::written::{Written, laid_out, rows_of};
 use rbac_model::{Grant, Policy};
-use rbac_terms::{Binding, Principal, Rule, Target, Word, rule_allows};
+use rbac_terms::{Binding, Principal, Target, Word, rule_allows};
 use std::alloc::{AllocError, Global};
 use std::marker::Model;
 
-/// The rules of a policy's roles, each listed once under the words of its resources, and the grants
-/// by each of them. A question looks at the rules that may match alone, and at the bindings that may
-/// be live.
+/// The rules of a policy's roles, each listed once under the words of its resources, and the runs of
+/// grants by each role's rules. A question looks at the rules that may match alone, and at the
+/// bindings that may be live.
 #[derive(Drop)]
 pub struct Index<'p> {
     policy: &'p Policy,
-    rules: Vec<&'p Rule>,
+    rules: Vec<Written<'p>>,
     listing: Listing,
-    // The grants by each rule.
-    numbers: Vec<GrantNos>,
+    // Where the runs of grants begin that each row of rules brings.
+    runs: Vec<GrantNos>,
 }
 
 impl<'p> Model for Index<'p> {
-    ghost use Rattle.std.specs.Prelude.{map};
     ghost use Rattle.rbac_model.specs.Policies.{PolicyView};
     ghost use Rattle.rbac_index.specs.Indexed.{IsIndexOf};
 
@@ -44,7 +42,7 @@ impl<'p> Model for Index<'p> {
 
     ghost view = { λ i. i.policy.now };
 
-    ghost invariant = { λ i. IsIndexOf i.policy.now (map (λ r. r.now) i.rules.items) i.listing i.numbers.items };
+    ghost invariant = { λ i. IsIndexOf i.policy.now i.rules.items i.listing i.runs.items };
 }
 
 impl<'p> Index<'p> {
@@ -52,15 +50,15 @@ impl<'p> Index<'p> {
     pub fn build(alloc: Global, policy: &'p Policy) -> Result<Self, IndexFault>
         ensures { IfOk result (λ i. i ≡ policy.now) }
     {
-        let rows = written(alloc, policy.objects())?;
-        let layout = laid_out(alloc, rows.as_slice())?;
-        let listing = listing_of(alloc, layout.rules.as_slice())?;
-        let numbers = grants_by_rule(alloc, policy, &layout)?;
+        let rows = rows_of(alloc, policy.objects())?;
+        let rules = laid_out(alloc, rows.as_slice())?;
+        let listing = listing_of(alloc, rules.as_slice())?;
+        let runs = runs_by_row(alloc, policy, rows.as_slice())?;
         Ok(Index {
             policy,
-            rules: layout.rules,
+            rules,
             listing,
-            numbers,
+            runs,
         })
     }
 
@@ -91,13 +89,13 @@ impl<'p> Index<'p> {
         ensures { IfOk result (λ ns. AreCandidates self.now verb.now target.now ns) }
     {
         let rules = self.rules.as_slice();
-        let numbers = self.numbers.as_slice();
+        let runs = self.runs.as_slice();
         if target.is_url() {
             let places = self.listing.with_urls.as_slice();
-            Ok(allowed_by(alloc, rules, numbers, places, verb, target)?)
+            Ok(allowed_by(alloc, rules, runs, places, verb, target)?)
         } else {
             let places = matching(alloc, &self.listing.by_word, target.text())?;
-            Ok(allowed_by(alloc, rules, numbers, places.as_slice(), verb, target)?)
+            Ok(allowed_by(alloc, rules, runs, places.as_slice(), verb, target)?)
         }
     }
 
@@ -152,39 +150,43 @@ impl<'p> Index<'p> {
 // The numbers of the grants by those of these rules that allow the verb on the target.
 fn allowed_by(
     alloc: Global,
-    rules: &[&Rule],
-    numbers: &[GrantNos],
+    rules: &[Written<'_>],
+    runs: &[GrantNos],
     places: &[usize],
     verb: &Word,
     target: &Target,
 ) -> Result<GrantNos, AllocError>
     requires rules { All (λ at. at < length rules.now) places.now }
-    requires numbers { length numbers.now ≡ length rules.now }
+    requires numbers { All (HaveNumbers runs.now) rules.now }
     ensures ascending { IfOk result (λ ns. IsStrictlyIncreasing ns) }
-    ensures exact { IfOk result (λ ns. (n : ℕ) → Contains ns n ↔ IsAllowedBy (map (λ r. r.now) rules.now) numbers.now places.now verb.now target.now n) }
+    ensures exact { IfOk result (λ ns. (n : ℕ) → Contains ns n ↔ IsAllowedBy rules.now runs.now places.now verb.now target.now n) }
 {
-    let lists = allowing(alloc, rules, numbers, places, verb, target)?;
+    let lists = allowing(alloc, rules, runs, places, verb, target)?;
     Ok(merged(alloc, lists)?)
 }
 
 // The grants by each of these rules that allows the verb on the target.
 fn allowing<'a>(
     alloc: Global,
-    rules: &[&Rule],
-    numbers: &'a [GrantNos],
+    rules: &[Written<'_>],
+    runs: &'a [GrantNos],
     places: &[usize],
     verb: &Word,
     target: &Target,
 ) -> Result<Vec<Numbers<'a>>, AllocError>
     requires rules { All (λ at. at < length rules.now) places.now }
-    requires numbers { length numbers.now ≡ length rules.now }
-    ensures ascending { IfOk result (λ v. All (λ l. IsStrictlyIncreasing (numbers_of l)) v.items) }
-    ensures exact { IfOk result (λ v. (n : ℕ) → Any (λ l. Contains (numbers_of l) n) v.items ↔ IsAllowedBy (map (λ r. r.now) rules.now) numbers.now places.now verb.now target.now n) }
+    requires numbers { All (HaveNumbers runs.now) rules.now }
+    ensures ascending { IfOk result (λ v. All IsStrictlyIncreasing v.items) }
+    ensures exact { IfOk result (λ v. (n : ℕ) → Any (λ l. Contains l n) v.items ↔ IsAllowedBy rules.now runs.now places.now verb.now target.now n) }
 {
     let mut lists = Vec::new(alloc);
-    for place in places {
-        if rule_allows(rules[*place], verb, target) {
-            lists.push(Numbers(numbers[*place].as_slice()))?;
+    for at in places {
+        let written = rules[*at];
+        if rule_allows(written.rule, verb, target) {
+            lists.push(Numbers {
+                starts: runs[written.row].as_slice(),
+                place: written.place,
+            })?;
         }
     }
     Ok(lists)

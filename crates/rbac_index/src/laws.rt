@@ -4,7 +4,7 @@ ghost use Rattle.std.specs.Prelude.{◌≡◌, List};
 ghost use Rattle.rbac_terms.specs.Targets.{What};
 ghost use Rattle.rbac_terms.specs.Text.{Text};
 ghost use Rattle.rbac_model.specs.Policies.{Held};
-ghost use Rattle.rbac_model.specs.Universes.{HolderView, AreHolders};
+ghost use Rattle.rbac_model.specs.Holders.{HolderView, AreHolders};
 
 /// Who may do a verb on a target in a namespace, by the objects that are held, is one list, so that
 /// whoever lists the holders lists the same in the same order (own).

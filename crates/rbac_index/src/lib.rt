@@ -4,7 +4,6 @@
 
 mod deciding;
 mod fault;
-mod granted;
 mod holders;
 mod index;
 mod laws;
@@ -12,6 +11,7 @@ mod listing;
 mod living;
 mod merging;
 mod numbers;
+mod runs;
 mod written;
 
 pub use deciding::{Why, why_allowed};

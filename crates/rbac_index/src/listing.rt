@@ -1,10 +1,12 @@
 //! Rules, listed under the words of their resources.
 
-ghost use Rattle.std.specs.Prelude.{◌≡◌, ◌≢◌, ◌++◌, ◌∷◌, [], ℕ, IfOk, OnOk, Contains, ◌↔◌, ◌⊎◌, MatchOption, codes, length, map};
+ghost use Rattle.std.specs.Prelude.{◌≡◌, ◌≢◌, ◌++◌, ◌∷◌, [], ℕ, IfOk, OnOk, Contains, ◌↔◌, ◌⊎◌, MatchOption, codes, length};
 ghost use Rattle.rbac_terms.specs.Text.{Text};
 ghost use Rattle.rbac_terms.specs.Matching.{ResourceWordMatches, FollowsFirstSlash};
+ghost use Rattle.rbac_index.specs.Written.{rules_of};
 ghost use Rattle.rbac_index.specs.Listing.{listed, ListsMore, ListsUnder, ListsRule, AreListed};
 
+use crate::written::Written;
 use rbac_terms::{Rule, Word, cut_at_first};
 use std::alloc::{AllocError, Global};
 use std::collections::BTreeMap;
@@ -58,15 +60,15 @@ pub(crate) struct Listing {
 }
 
 // Lists these rules by their places.
-pub(crate) fn listing_of(alloc: Global, rules: &[&Rule]) -> Result<Listing, AllocError>
-    ensures { IfOk result (AreListed (map (λ r. r.now) rules.now) (length rules.now)) }
+pub(crate) fn listing_of(alloc: Global, rules: &[Written<'_>]) -> Result<Listing, AllocError>
+    ensures { IfOk result (AreListed (rules_of rules.now) (length rules.now)) }
 {
     let mut listing = Listing {
         by_word: BTreeMap::new(alloc),
         with_urls: RuleNos::new(alloc),
     };
-    for (no, rule) in rules.iter().enumerate() {
-        list_rule(alloc, &mut listing, rule, no)?;
+    for (no, written) in rules.iter().enumerate() {
+        list_rule(alloc, &mut listing, written.rule, no)?;
     }
     Ok(listing)
 }

@@ -3,7 +3,7 @@
 ghost use Rattle.std.specs.Prelude.{◌≡◌, ◌<◌, ◌≤◌, ◌↔◌, ℕ, Some, None, length, slice_get};
 ghost use Rattle.rbac_terms.specs.declared.granting.Binding.{Binding};
 ghost use Rattle.rbac_model.specs.Lists.{IsAscendingBy};
-ghost use Rattle.rbac_model.specs.Policies.{binding_name, Live};
+ghost use Rattle.rbac_model.specs.Policies.{binding_name};
 ghost use Rattle.rbac_index.specs.Living.{namespace_cmp, IsLiveRoleBinding};
 
 use rbac_terms::{Binding, Target, Word};

@@ -1,14 +1,15 @@
 //! The rules that are written in roles, each at one place.
 
-ghost use Rattle.std.specs.Prelude.{◌≡◌, ◌++◌, IfOk, OnOk, map};
-ghost use Rattle.rbac_index.specs.Written.{written_rules, AreLaidOut};
+ghost use Rattle.std.specs.Prelude.{◌≡◌, ◌<◌, ◌^◌, ℕ, ◌++◌, ◌⊎◌, ◌↔◌, IfOk, OnOk, map, slice_get, Some};
+ghost use Rattle.rbac_terms.specs.declared.matching.Rule.{Rule as RuleView};
+ghost use Rattle.rbac_index.specs.Written.{written_rules, AreWritten, HasWritten, row_of};
 
-use rbac_model::Objects;
+use rbac_model::{Objects, RolePlace};
 use rbac_terms::{Rule, Rules};
 use std::alloc::{AllocError, Global};
 
 // The rules of each role, then of each cluster role.
-pub(crate) fn written<'p>(alloc: Global, objects: &'p Objects) -> Result<Vec<&'p Rules>, AllocError>
+pub(crate) fn rows_of<'p>(alloc: Global, objects: &'p Objects) -> Result<Vec<&'p Rules>, AllocError>
     ensures { IfOk result (λ v. map (λ r. r.now) v.items ≡ written_rules objects.now) }
 {
     let mut rows = Vec::new(alloc);
@@ -29,34 +30,49 @@ fn push_cluster_roles<'p>(objects: &'p Objects, rows: &mut Vec<&'p Rules>) -> Re
     Ok(())
 }
 
-// Rows of rules, one after the other.
-#[derive(Drop)]
-pub(crate) struct Layout<'p> {
-    // All rules.
-    pub(crate) rules: Vec<&'p Rule>,
-    // The place of each row's first rule.
-    pub(crate) starts: Vec<usize>,
+// The row of a role's rules, where there are so many roles.
+pub(crate) fn row_at(roles: usize, role: RolePlace) -> usize
+    requires { row_of roles role < 2 ^ 64 }
+    ensures { result ≡ row_of roles role }
+{
+    match role {
+        RolePlace::RoleAt(at) => at,
+        RolePlace::ClusterRoleAt(at) => roles + at,
+    }
 }
 
-// Lays these rows out, one after the other.
-pub(crate) fn laid_out<'p>(alloc: Global, rows: &[&'p Rules]) -> Result<Layout<'p>, AllocError>
-    ensures { IfOk result (λ l. AreLaidOut (map (λ r. r.now) rows.now) (map (λ r. r.now) l.rules.items) l.starts.items) }
+// A rule, the row where it is written, and its place there.
+#[derive(Clone, Copy)]
+pub(crate) struct Written<'p> {
+    pub(crate) rule: &'p Rule,
+    pub(crate) row: usize,
+    pub(crate) place: usize,
+}
+
+// The rules of these rows, one row after the other.
+pub(crate) fn laid_out<'p>(
+    alloc: Global,
+    rows: &[&'p Rules],
+) -> Result<Vec<Written<'p>>, AllocError>
+    ensures { IfOk result (λ v. AreWritten (map (λ r. r.now) rows.now) v.items) }
 {
     let mut rules = Vec::new(alloc);
-    let mut starts = Vec::new(alloc);
-    for row in rows {
-        starts.push(rules.len())?;
-        push_row(row, &mut rules)?;
+    for (row, of_row) in rows.iter().enumerate() {
+        push_row(row, of_row, &mut rules)?;
     }
-    Ok(Layout { rules, starts })
+    Ok(rules)
 }
 
 // Adds the rules of a row.
-fn push_row<'p>(row: &'p Rules, rules: &mut Vec<&'p Rule>) -> Result<(), AllocError>
-    ensures { OnOk result (map (λ r. r.now) rules.new.items ≡ map (λ r. r.now) rules.old.items ++ row.now) }
+fn push_row<'p>(
+    row: usize,
+    of_row: &'p Rules,
+    rules: &mut Vec<Written<'p>>,
+) -> Result<(), AllocError>
+    ensures { OnOk result ((at k : ℕ) (r : RuleView) → HasWritten rules.new.items at k r ↔ (HasWritten rules.old.items at k r ⊎ ((at ≡ row) × (slice_get of_row.now k ≡ Some r)))) }
 {
-    for rule in row.as_slice() {
-        rules.push(rule)?;
+    for (place, rule) in of_row.as_slice().iter().enumerate() {
+        rules.push(Written { rule, row, place })?;
     }
     Ok(())
 }

@@ -12,7 +12,7 @@ use rbac_catalogue::{Catalogue, Entry};
 use rbac_model::Objects;
 use rbac_terms::{Binding, Role, Word, Words};
 use rbac_universe::{ListedResource, ListedResources, Principals};
-use std::alloc::{AllocError, AllocFailed, Global};
+use std::alloc::{AllocError, Global};
 
 // Whom bindings name, and the users of service accounts.
 pub(crate) fn principals_of(

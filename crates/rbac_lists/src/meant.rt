@@ -41,12 +41,15 @@ pub fn lists_of(
 {
     let given = last_lists(documents);
     Ok(UniverseLists {
-        principals: principals_meant(alloc, given.principals, objects, accounts)?,
-        namespaces: namespaces_meant(alloc, given.namespaces, objects, namespaces, accounts)?,
-        verbs: verbs_meant(alloc, given.verbs, objects, catalogue)?,
-        resources: resources_meant(alloc, given.resources, objects, catalogue)?,
-        names: names_meant(alloc, given.names, objects)?,
-        urls: urls_meant(alloc, given.urls, objects)?,
+        principals: given_or(given.principals, || principals_of(alloc, objects, accounts))?,
+        namespaces: given_or(
+            given.namespaces,
+            || namespaces_of(alloc, objects, namespaces, accounts),
+        )?,
+        verbs: given_or(given.verbs, || verbs_of(alloc, objects, catalogue))?,
+        resources: given_or(given.resources, || resources_of(alloc, objects, catalogue))?,
+        names: given_or(given.names, || names_of(alloc, objects))?,
+        urls: given_or(given.urls, || urls_of(alloc, objects))?,
     })
 }
 
@@ -92,77 +95,41 @@ fn over<'a>(document: &'a GivenLists, earlier: Given<'a>) -> Given<'a>
     }
 }
 
-fn principals_meant(
-    alloc: Global,
-    given: Option<&Principals>,
-    objects: &Objects,
-    accounts: &[Account],
-) -> Result<Principals, AllocError>
-    ensures { IfOk result (λ list. list ≡ unwrap_or (option_copied given.entry) (principals_of objects.now accounts.now)) }
-{
-    match given {
-        Some(list) => list.clone(),
-        None => principals_of(alloc, objects, accounts),
+// A list that can be copied as it is. A derived clone of one unknown list tells too little of it.
+trait Copied: Drop {
+    fn copied(&self) -> Result<Self, AllocError>
+        ensures { IfOk result (λ copy. copy ≡ self.now) };
+}
+
+impl Copied for Words {
+    fn copied(&self) -> Result<Words, AllocError> {
+        self.clone()
     }
 }
 
-fn namespaces_meant(
-    alloc: Global,
-    given: Option<&Words>,
-    objects: &Objects,
-    names: &[Word],
-    accounts: &[Account],
-) -> Result<Words, AllocError>
-    ensures { IfOk result (λ list. list ≡ unwrap_or (option_copied given.entry) (namespaces_of objects.now names.now accounts.now)) }
-{
-    match given {
-        Some(list) => list.clone(),
-        None => namespaces_of(alloc, objects, names, accounts),
+impl Copied for Principals {
+    fn copied(&self) -> Result<Principals, AllocError> {
+        self.clone()
     }
 }
 
-fn verbs_meant(
-    alloc: Global,
-    given: Option<&Words>,
-    objects: &Objects,
-    catalogue: &Catalogue,
-) -> Result<Words, AllocError>
-    ensures { IfOk result (λ list. list ≡ unwrap_or (option_copied given.entry) (verbs_of objects.now catalogue.now)) }
-{
-    match given {
-        Some(list) => list.clone(),
-        None => verbs_of(alloc, objects, catalogue),
+impl Copied for ListedResources {
+    fn copied(&self) -> Result<ListedResources, AllocError> {
+        self.clone()
     }
 }
 
-fn resources_meant(
-    alloc: Global,
-    given: Option<&ListedResources>,
-    objects: &Objects,
-    catalogue: &Catalogue,
-) -> Result<ListedResources, AllocError>
-    ensures { IfOk result (λ list. list ≡ unwrap_or (option_copied given.entry) (resources_of objects.now catalogue.now)) }
+// The list that is given, also where it is empty, or else the derived one.
+fn given_or<T: Copied, F: FnOnce() -> Result<T, AllocError>>(
+    given: Option<&T>,
+    derive: F,
+) -> Result<T, AllocError>
+    requires { F.IsAlwaysCallable derive }
+    ensures { (derived : T) → ((made : _) → F.post derive made → IfOk made (λ list. list ≡ derived))
+        → IfOk result (λ list. list ≡ unwrap_or (option_copied given.entry) derived) }
 {
     match given {
-        Some(list) => list.clone(),
-        None => resources_of(alloc, objects, catalogue),
-    }
-}
-
-fn names_meant(alloc: Global, given: Option<&Words>, objects: &Objects) -> Result<Words, AllocError>
-    ensures { IfOk result (λ list. list ≡ unwrap_or (option_copied given.entry) (names_of objects.now)) }
-{
-    match given {
-        Some(list) => list.clone(),
-        None => names_of(alloc, objects),
-    }
-}
-
-fn urls_meant(alloc: Global, given: Option<&Words>, objects: &Objects) -> Result<Words, AllocError>
-    ensures { IfOk result (λ list. list ≡ unwrap_or (option_copied given.entry) (urls_of objects.now)) }
-{
-    match given {
-        Some(list) => list.clone(),
-        None => urls_of(alloc, objects),
+        Some(list) => list.copied(),
+        None => derive(),
     }
 }

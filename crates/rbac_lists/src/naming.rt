@@ -9,7 +9,7 @@ use crate::texts::{copied, has_star, is_resource_text, put_words};
 use rbac_model::Objects;
 use rbac_terms::{ClusterRole, Role, Rule, Word};
 use rbac_universe::ListedResource;
-use std::alloc::{AllocError, AllocFailed, Global};
+use std::alloc::{AllocError, Global};
 
 /// A list to which each rule adds what it names.
 pub(crate) trait Naming {

@@ -3,12 +3,12 @@
 ghost use Rattle.std.specs.Prelude.{◌≡◌, ◌++◌, [], OnOk, IfOk, map};
 ghost use Rattle.std.specs.List.{filter_map};
 ghost use Rattle.std.specs.Option.{option_copied};
-ghost use Rattle.rbac_terms.specs.Principals.{AsUser, AsMember, account_user};
+ghost use Rattle.rbac_terms.specs.Principals.{AsUser, AsMember};
 ghost use Rattle.rbac_lists.specs.Derived.{named, subject_principal, account_principal};
 
 use crate::given::Account;
-use rbac_terms::{Binding, ModelFault, Principal, Subject, Word, Words};
-use std::alloc::{AllocError, AllocFailed, Global};
+use rbac_terms::{Binding, ModelFault, Principal, Subject, Word, Words, account_user};
+use std::alloc::{AllocError, Global};
 
 // Adds those of the subjects of a binding.
 pub(crate) fn put_subjects(
@@ -45,22 +45,15 @@ pub(crate) fn put_accounts(
 // The principal of a subject of a binding in that namespace, or in none.
 fn principal_of(
     alloc: Global,
-    namespace: Option<&Word>,
+    binding_namespace: Option<&Word>,
     subject: &Subject,
 ) -> Result<Option<Principal>, AllocError>
-    ensures { IfOk result (λ p. p ≡ subject_principal (option_copied namespace.entry) subject.now) }
+    ensures { IfOk result (λ p. p ≡ subject_principal (option_copied binding_namespace.entry) subject.now) }
 {
     match subject {
         Subject::User(name) => user_of(alloc, name),
         Subject::Group(name) => member_of(alloc, name),
-        Subject::Account {
-            namespace: Some(own),
-            name,
-        } => Ok(Some(account_of(alloc, own, name)?)),
-        Subject::Account {
-            namespace: None,
-            name,
-        } => match namespace {
+        Subject::Account { namespace, name } => match namespace.as_ref().or(binding_namespace) {
             Some(namespace) => Ok(Some(account_of(alloc, namespace, name)?)),
             None => Ok(None),
         },
@@ -98,14 +91,4 @@ fn account_of(alloc: Global, namespace: &Word, name: &Word) -> Result<Principal,
         Ok(user) => Ok(user),
         Err(_) => Err(AllocError),
     }
-}
-
-fn account_user(alloc: Global, namespace: &Word, name: &Word) -> Result<Word, AllocError>
-    ensures { IfOk result (λ user. user ≡ account_user namespace.now name.now) }
-{
-    let mut user = Word::from_slice(alloc, b"system:serviceaccount:")?;
-    user.push_slice(namespace.as_bytes())?;
-    user.push(b':')?;
-    user.push_slice(name.as_bytes())?;
-    Ok(user)
 }

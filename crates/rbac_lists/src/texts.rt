@@ -3,8 +3,8 @@
 ghost use Rattle.std.specs.Prelude.{◌≡◌, ◌++◌, OnOk, IfOk};
 ghost use Rattle.rbac_lists.specs.Derived.{is_verb, has_star, begins_with_slash, ends_in_star, is_resource_text, is_path_word};
 
-use rbac_terms::{Word, Words};
-use std::alloc::{AllocError, AllocFailed, Global};
+use rbac_terms::Word;
+use std::alloc::{AllocError, Global};
 
 // A derived clone tells callers of its parts, a copy made so only of its bytes.
 pub(crate) fn copied(alloc: Global, word: &Word) -> Result<Word, AllocError>

@@ -1,28 +1,23 @@
--- A list of texts, read one after another.
-use Rattle.std.proofs.Common.{◌≡◌, ℕ, Bool, true, false, List, [], ◌∷◌, ◌++◌, map, Option, Some, None, option_map, cond, refl, sym, ap, append_assoc}
+-- Lists that are read item by item.
+use Rattle.std.proofs.Common.{◌≡◌, ℕ, ◌&&◌, Bool, true, false, List, [], ◌∷◌, ◌++◌, map, Option, Some, None, option_map, unwrap_or, is_some, cond, refl, ap, ◌∙◌}
 use Rattle.std.specs.List.{list_all}
 use Rattle.serde_json.specs.Data.{Data}
 use Rattle.serde_json.specs.Find.{as_str}
 use Rattle.rbac_manifest.specs.Fields.{all_texts, is_text, text_in}
+use Rattle.rbac_manifest.specs.Lists.{all_at, cons_if}
 
 -- what was read so far, before what the rest gives
 abbrev pub with_front : {A : Type 0} → List A → Option (List A) → Option (List A)
 with_front front rest = option_map (λ xs. front ++ xs) rest
 
-pub with_front-nil : {A : Type 0} (rest : Option (List A)) → with_front [] rest ≡ rest
-with_front-nil None = refl
-with_front-nil (Some xs) = refl
+one_more : (o : Option (List ℕ)) (b : Bool) (ts : List (List ℕ))
+    → cond (is_some o && b) (Some (unwrap_or o [] ∷ ts)) None ≡ cons_if o (cond b (Some ts) None)
+one_more None b ts = refl
+one_more (Some t) true ts = refl
+one_more (Some t) false ts = refl
 
-all_more : (b : Bool) (front : List (List ℕ)) (t : List ℕ) (ts : List (List ℕ))
-    → with_front front (cond b (Some (t ∷ ts)) None) ≡ with_front (front ++ t ∷ []) (cond b (Some ts) None)
-all_more true front t ts = ap Some (sym (append_assoc front (t ∷ []) ts))
-all_more false front t ts = refl
-
-pub texts_more : (front : List (List ℕ)) (d : Data) (t : List ℕ) (ds : List Data) → Some t ≡ as_str d
-    → with_front front (all_texts (d ∷ ds)) ≡ with_front (front ++ t ∷ []) (all_texts ds)
+-- a list of texts is read text by text
+pub all_texts_at : (ds : List Data) → all_texts ds ≡ all_at as_str ds
 unfolding all_texts
-texts_more front d t ds e = rw (← e) (all_more (list_all is_text ds) front t (map text_in ds))
-
-pub texts_none : (d : Data) (ds : List Data) → None ≡ as_str d → all_texts (d ∷ ds) ≡ None
-unfolding all_texts
-texts_none d ds e = rw (← e) refl
+all_texts_at [] = refl
+all_texts_at (d ∷ ds) = one_more (as_str d) (list_all is_text ds) (map text_in ds) ∙ ap (cons_if (as_str d)) (all_texts_at ds)

@@ -2,8 +2,7 @@
 use Rattle.std.specs.Prelude.{◌==◌, nat_eq, false, List, [], ◌∷◌, codes, Option, Some, None, if◌then◌else◌}
 use Rattle.std.specs.List.{list_any, slice_split, starts_with}
 use Rattle.serde_json.specs.Data.{Data}
-use Rattle.rbac_manifest.specs.Fields.{list_field, texts_field, text_at, name_at, flag_at, is_empty}
-use Rattle.rbac_manifest.specs.Binding.{◌>>=◌}
+use Rattle.rbac_manifest.specs.Fields.{◌>>=◌, list_field, texts_field, text_at, name_at, flag_at, is_empty}
 use Rattle.rbac_manifest.specs.Lists.{all_at}
 use Rattle.rbac_terms.specs.Text.{Text, slash}
 use Rattle.rbac_catalogue.specs.declared.entry.Entry.{Entry}

@@ -2,7 +2,7 @@
 use Rattle.std.specs.Prelude.{ℕ, ◌||◌, ◌&&◌, Bool, not, List, codes, Option, Some, None, option_map, option_and_then, if◌then◌else◌}
 use Rattle.std.specs.Str.{bytes_eq}
 use Rattle.serde_json.specs.Data.{Data}
-use Rattle.rbac_manifest.specs.Fields.{field, list_field, text_at, name_at, is_object, is_empty, non_empty}
+use Rattle.rbac_manifest.specs.Fields.{◌>>=◌, field, list_field, text_at, name_at, is_object, is_empty, non_empty}
 use Rattle.rbac_manifest.specs.Lists.{bad_item, items_given}
 use Rattle.rbac_terms.specs.declared.granting.RoleRef.{RoleRef}
 use Rattle.rbac_terms.specs.declared.granting.RoleRef.TheVariants.{Role, ClusterRole}
@@ -10,12 +10,6 @@ use Rattle.rbac_terms.specs.declared.granting.Subject.{Subject}
 use Rattle.rbac_terms.specs.declared.granting.Subject.TheVariants.{User, Group, Account}
 use Rattle.rbac_manifest.specs.declared.fault.Cause.{Cause}
 use Rattle.rbac_manifest.specs.declared.fault.Cause.TheVariants.{BadSubject}
-
--- what follows, where there is a value
-infixr 5 ◌>>=◌
-abbrev pub ◌>>=◌ : {A B : Type 0} → Option A → (A → Option B) → Option B
-None >>= f = None
-(Some x) >>= f = f x
 
 -- the group of RBAC, also by default
 unfoldable pub is_rbac_group : List ℕ → Bool

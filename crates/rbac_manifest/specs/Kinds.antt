@@ -1,14 +1,19 @@
 -- Kind and version of a document, which a list may imply for its items.
-use Rattle.std.specs.Prelude.{ℕ, ◌&&◌, Bool, not, nat_eq, List, [], ◌∷◌, codes, Option, Some, None, unwrap_or, if◌then◌else◌}
+use Rattle.std.specs.Prelude.{ℕ, ◌&&◌, Bool, true, false, not, nat_eq, List, [], ◌∷◌, codes, Option, Some, None, option_map, unwrap_or, if◌then◌else◌}
 use Rattle.std.specs.Str.{bytes_eq}
-use Rattle.std.specs.List.{starts_with, list_any}
+use Rattle.std.specs.List.{starts_with, list_any, find}
 use Rattle.serde_json.specs.Data.{Data}
 use Rattle.serde_json.specs.Find.{as_str}
 use Rattle.rbac_manifest.specs.Fields.{field}
 use Rattle.rbac_manifest.specs.declared.kind.Kind.{Kind}
 use Rattle.rbac_manifest.specs.declared.kind.Kind.TheVariants as kinds
 use Rattle.rbac_manifest.specs.declared.kind.Implied.{Implied}
+use Rattle.rbac_manifest.specs.declared.kind.Row.{Row}
 use Rattle.rbac_manifest.specs.declared.kind.Implied.TheVariants as lists
+
+-- the version of the RBAC group that is read
+abbrev pub rbac_v1 : List ℕ
+rbac_v1 = codes "rbac.authorization.k8s.io/v1"
 
 -- the kind that a list implies for its items
 abbrev pub implied_kind : Implied → Option (List ℕ)
@@ -23,10 +28,10 @@ implied_kind lists.ServiceAccount = Some (codes "ServiceAccount")
 -- the version that a list implies for its items
 abbrev pub implied_version : Implied → Option (List ℕ)
 implied_version lists.Nothing = None
-implied_version lists.Role = Some (codes "rbac.authorization.k8s.io/v1")
-implied_version lists.ClusterRole = Some (codes "rbac.authorization.k8s.io/v1")
-implied_version lists.RoleBinding = Some (codes "rbac.authorization.k8s.io/v1")
-implied_version lists.ClusterRoleBinding = Some (codes "rbac.authorization.k8s.io/v1")
+implied_version lists.Role = Some rbac_v1
+implied_version lists.ClusterRole = Some rbac_v1
+implied_version lists.RoleBinding = Some rbac_v1
+implied_version lists.ClusterRoleBinding = Some rbac_v1
 implied_version lists.Namespace = Some (codes "v1")
 implied_version lists.ServiceAccount = Some (codes "v1")
 
@@ -39,16 +44,56 @@ own_or implied (Some d) = as_str d
 unfoldable pub kind_at : Implied → Data → Option (List ℕ)
 kind_at implied d = own_or (implied_kind implied) (field (codes "kind") d)
 
+-- a pair of version and kind that is read, and what a document of it is
+pub record Reading : Type 0 where
+  pub version : List ℕ
+  pub kind : List ℕ
+  pub means : Kind
+
+-- the table of the pairs that are read; a list of objects implies the kind of its items (Kubernetes API, own for Universe)
+abbrev pub kinds_read : List Reading
+kinds_read =
+    record { version = rbac_v1; kind = codes "Role"; means = kinds.Role }
+    ∷ record { version = rbac_v1; kind = codes "ClusterRole"; means = kinds.ClusterRole }
+    ∷ record { version = rbac_v1; kind = codes "RoleBinding"; means = kinds.RoleBinding }
+    ∷ record { version = rbac_v1; kind = codes "ClusterRoleBinding"; means = kinds.ClusterRoleBinding }
+    ∷ record { version = rbac_v1; kind = codes "RoleList"; means = kinds.List lists.Role }
+    ∷ record { version = rbac_v1; kind = codes "ClusterRoleList"; means = kinds.List lists.ClusterRole }
+    ∷ record { version = rbac_v1; kind = codes "RoleBindingList"; means = kinds.List lists.RoleBinding }
+    ∷ record { version = rbac_v1; kind = codes "ClusterRoleBindingList"; means = kinds.List lists.ClusterRoleBinding }
+    ∷ record { version = codes "v1"; kind = codes "List"; means = kinds.List lists.Nothing }
+    ∷ record { version = codes "v1"; kind = codes "Namespace"; means = kinds.Namespace }
+    ∷ record { version = codes "v1"; kind = codes "ServiceAccount"; means = kinds.ServiceAccount }
+    ∷ record { version = codes "v1"; kind = codes "NamespaceList"; means = kinds.List lists.Namespace }
+    ∷ record { version = codes "v1"; kind = codes "ServiceAccountList"; means = kinds.List lists.ServiceAccount }
+    ∷ record { version = codes "v1"; kind = codes "APIResourceList"; means = kinds.ApiList }
+    ∷ record { version = codes "rbacaudit/v1"; kind = codes "Universe"; means = kinds.Universe }
+    ∷ []
+
+-- API resource lists, whose version may be missing (own)
+abbrev pub is_api_list : Kind → Bool
+is_api_list kinds.ApiList = true
+is_api_list kinds.Role = false
+is_api_list kinds.ClusterRole = false
+is_api_list kinds.RoleBinding = false
+is_api_list kinds.ClusterRoleBinding = false
+is_api_list kinds.Namespace = false
+is_api_list kinds.ServiceAccount = false
+is_api_list kinds.Universe = false
+is_api_list (kinds.List items) = false
+is_api_list kinds.Other = false
+
+-- a row of this kind that needs a version
+abbrev pub asks_version : List ℕ → Reading → Bool
+asks_version kind row = bytes_eq kind row.kind && not (is_api_list row.means)
+
 -- the kinds that need a version: those that are read, API resource lists aside (own)
 unfoldable pub needs_version : List ℕ → Bool
-needs_version kind = list_any (bytes_eq kind) (
-    codes "Role" ∷ codes "ClusterRole" ∷ codes "RoleBinding" ∷ codes "ClusterRoleBinding"
-    ∷ codes "List" ∷ codes "RoleList" ∷ codes "ClusterRoleList" ∷ codes "RoleBindingList" ∷ codes "ClusterRoleBindingList"
-    ∷ codes "Namespace" ∷ codes "ServiceAccount" ∷ codes "NamespaceList" ∷ codes "ServiceAccountList" ∷ codes "Universe" ∷ [])
+needs_version kind = list_any (asks_version kind) kinds_read
 
 -- a version of the RBAC group that isn't read
 unfoldable pub is_unread_version : List ℕ → Bool
-is_unread_version v = starts_with nat_eq v (codes "rbac.authorization.k8s.io/") && not (bytes_eq v (codes "rbac.authorization.k8s.io/v1"))
+is_unread_version v = starts_with nat_eq v (codes "rbac.authorization.k8s.io/") && not (bytes_eq v rbac_v1)
 
 -- a version that may stand there
 abbrev pub version_read : Option (List ℕ) → Option (List ℕ)
@@ -69,29 +114,21 @@ version_or needed implied (Some d) = version_read (as_str d)
 unfoldable pub version_at : Implied → List ℕ → Data → Option (List ℕ)
 version_at implied kind d = version_or (needs_version kind) (implied_version implied) (field (codes "apiVersion") d)
 
--- the documents that are read, and the lists with what they imply; every other pair is passed over
+-- the row of this version and kind
+abbrev pub is_row : List ℕ → List ℕ → Reading → Bool
+is_row version kind row = bytes_eq version row.version && bytes_eq kind row.kind
+
+-- the same of the program's own row
+abbrev pub as_reading : Row → Reading
+as_reading row = record { version = row.version.now; kind = row.kind.now; means = row.means }
+
+-- what a document of this version and kind is by these rows; every pair that has none is passed over
+abbrev pub meaning_in : List Reading → List ℕ → List ℕ → Kind
+meaning_in rows version kind = unwrap_or (option_map (λ row. row.means) (find (is_row version kind) rows)) kinds.Other
+
+-- what a document of this version and kind is; every pair that isn't in the table is passed over
 unfoldable pub kind_named : List ℕ → List ℕ → Kind
-kind_named version kind =
-    if bytes_eq version (codes "rbac.authorization.k8s.io/v1") then
-    (if bytes_eq kind (codes "Role") then kinds.Role
-    else if bytes_eq kind (codes "ClusterRole") then kinds.ClusterRole
-    else if bytes_eq kind (codes "RoleBinding") then kinds.RoleBinding
-    else if bytes_eq kind (codes "ClusterRoleBinding") then kinds.ClusterRoleBinding
-    else if bytes_eq kind (codes "RoleList") then kinds.List lists.Role
-    else if bytes_eq kind (codes "ClusterRoleList") then kinds.List lists.ClusterRole
-    else if bytes_eq kind (codes "RoleBindingList") then kinds.List lists.RoleBinding
-    else if bytes_eq kind (codes "ClusterRoleBindingList") then kinds.List lists.ClusterRoleBinding
-    else kinds.Other)
-    else if bytes_eq version (codes "v1") then
-    (if bytes_eq kind (codes "List") then kinds.List lists.Nothing
-    else if bytes_eq kind (codes "Namespace") then kinds.Namespace
-    else if bytes_eq kind (codes "ServiceAccount") then kinds.ServiceAccount
-    else if bytes_eq kind (codes "NamespaceList") then kinds.List lists.Namespace
-    else if bytes_eq kind (codes "ServiceAccountList") then kinds.List lists.ServiceAccount
-    else if bytes_eq kind (codes "APIResourceList") then kinds.ApiList
-    else kinds.Other)
-    else if bytes_eq version (codes "rbacaudit/v1") && bytes_eq kind (codes "Universe") then kinds.Universe
-    else kinds.Other
+kind_named version kind = meaning_in kinds_read version kind
 
 -- the kind of a document by its kind and version texts
 unfoldable pub kind_of : Implied → Data → Kind

@@ -6,8 +6,7 @@ use Rattle.serde_json.specs.Data.{Data, Members, no_members, member}
 use Rattle.serde_json.specs.Find.{as_str, as_object}
 use Rattle.serde_json.specs.View.{view}
 use Rattle.serde_json.specs.declared.value.Value.{Value}
-use Rattle.rbac_manifest.specs.Fields.{field, list_field, texts_field, text_at, is_object, is_empty, non_empty}
-use Rattle.rbac_manifest.specs.Binding.{◌>>=◌}
+use Rattle.rbac_manifest.specs.Fields.{◌>>=◌, field, list_field, texts_field, text_at, is_object, is_empty, non_empty}
 use Rattle.rbac_manifest.specs.Lists.{all_at, cons_if}
 use Rattle.rbac_terms.specs.Text.{Text}
 use Rattle.rbac_terms.specs.declared.selecting.SelectOp.{SelectOp}

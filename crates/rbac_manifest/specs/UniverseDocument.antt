@@ -2,8 +2,7 @@
 use Rattle.std.specs.Prelude.{true, List, codes, Option, Some, None, option_map, is_none, if◌then◌else◌}
 use Rattle.serde_json.specs.Data.{Data}
 use Rattle.serde_json.specs.Find.{as_str}
-use Rattle.rbac_manifest.specs.Fields.{field, list_field, texts_field, text_at, flag_at, non_empty}
-use Rattle.rbac_manifest.specs.Binding.{◌>>=◌}
+use Rattle.rbac_manifest.specs.Fields.{◌>>=◌, field, list_field, texts_field, text_at, flag_at, non_empty}
 use Rattle.rbac_manifest.specs.Lists.{all_at}
 use Rattle.rbac_manifest.specs.declared.fault.Trouble.{Trouble}
 use Rattle.rbac_manifest.specs.declared.fault.Trouble.TheVariants.{Shape, Memory}

@@ -11,6 +11,7 @@ use crate::fault::Trouble;
 use crate::fields::{
     flag_field, list_field, name_of, text_field, word_field, word_of, words_field,
 };
+use crate::listed::all_read;
 use rbac_catalogue::{Entries, Entry};
 use rbac_terms::{Word, cut_at_first};
 use serde_json::Value;
@@ -68,10 +69,7 @@ fn entry_of(alloc: Global, group: &[u8], value: &Value) -> Result<Entry, Trouble
 fn entries_in(alloc: Global, group: &[u8], values: &[Value]) -> Result<Entries, Trouble>
     ensures { Reads result (all_at (entry_at group.now) (map view values.now)) }
 {
-    let mut entries = Vec::new(alloc);
-    for value in values {
-        entries.push(entry_of(alloc, group, value)?)?;
-    }
+    let entries = all_read(alloc, values, |value| entry_of(alloc, group, value))?;
     Ok(Entries::from_vec(entries))
 }
 

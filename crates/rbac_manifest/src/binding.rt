@@ -6,12 +6,11 @@ ghost use Rattle.rbac_manifest.specs.Reads.{Reads};
 ghost use Rattle.rbac_manifest.specs.Binding.{is_rbac_group, role_named, role_ref_from, role_ref_at};
 
 use crate::fault::Trouble;
-use crate::fields::{field, name_of, text_field, word_of};
+use crate::fields::{field, name_of, object_in, text_field, word_of};
+use crate::kind::RBAC_GROUP;
 use rbac_terms::RoleRef;
 use serde_json::Value;
 use std::alloc::Global;
-
-const RBAC_GROUP: &str = "rbac.authorization.k8s.io";
 
 // The group of RBAC, which an empty one stands for.
 #[tactic(auto, unfolding(crate::specs::Binding::is_rbac_group))]
@@ -64,8 +63,6 @@ pub(crate) fn role_ref_of(
 ) -> Result<RoleRef, Trouble>
     ensures { Reads result (role_ref_at in_namespace (view document.now)) }
 {
-    match field(document, "roleRef") {
-        Some(reference) if reference.is_object() => role_ref_from(alloc, reference, in_namespace),
-        _ => Err(Trouble::Shape),
-    }
+    let reference = field(document, "roleRef").ok_or(Trouble::Shape)?;
+    role_ref_from(alloc, object_in(reference)?, in_namespace)
 }

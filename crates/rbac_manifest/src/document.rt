@@ -45,7 +45,7 @@ fn role_of(alloc: Global, document: &Value) -> Result<Role, Cause>
         name,
         namespace,
         ..
-    } = metadata_of(alloc, document).map_err(|trouble| trouble.cause(Cause::BadMetadata))?;
+    } = metadata_of(alloc, document)?;
     let rules = rules_of(alloc, document, true)?;
     let namespace = namespace_or_default(alloc, namespace)?;
     Ok(Role {
@@ -60,9 +60,7 @@ fn role_of(alloc: Global, document: &Value) -> Result<Role, Cause>
 fn cluster_role_of(alloc: Global, document: &Value) -> Result<ClusterRole, Cause>
     ensures { Gives result (bad_cluster_role (view document.now)) (cluster_role_in (view document.now)) }
 {
-    let Metadata { name, labels, .. } = metadata_of(alloc, document).map_err(
-        |trouble| trouble.cause(Cause::BadMetadata),
-    )?;
+    let Metadata { name, labels, .. } = metadata_of(alloc, document)?;
     let rules = rules_of(alloc, document, false)?;
     let aggregation = aggregation_of(alloc, document).map_err(|trouble| trouble.cause(
         Cause::BadSelector,
@@ -85,7 +83,7 @@ fn binding_of(alloc: Global, document: &Value, in_namespace: bool) -> Result<Bin
         name,
         namespace,
         ..
-    } = metadata_of(alloc, document).map_err(|trouble| trouble.cause(Cause::BadMetadata))?;
+    } = metadata_of(alloc, document)?;
     let role = role_ref_of(alloc, document, in_namespace).map_err(|trouble| trouble.cause(
         Cause::BadRoleRef,
     ))?;
@@ -108,9 +106,7 @@ fn namespace_of(alloc: Global, document: &Value) -> Result<Word, Cause>
     ensures { Gives result (bad_metadata (view document.now))
         (option_map (λ m. m.name) (metadata_at (view document.now))) }
 {
-    let Metadata { name, .. } = metadata_of(alloc, document).map_err(|trouble| trouble.cause(
-        Cause::BadMetadata,
-    ))?;
+    let Metadata { name, .. } = metadata_of(alloc, document)?;
     Ok(name)
 }
 
@@ -123,7 +119,7 @@ fn account_of(alloc: Global, document: &Value) -> Result<Account, Cause>
         name,
         namespace,
         ..
-    } = metadata_of(alloc, document).map_err(|trouble| trouble.cause(Cause::BadMetadata))?;
+    } = metadata_of(alloc, document)?;
     Ok(Account {
         namespace: namespace_or_default(alloc, namespace)?,
         name,

@@ -2,6 +2,7 @@
 
 ghost use Rattle.std.specs.Prelude.{◌≡◌, ◌+◌};
 ghost use Rattle.rbac_manifest.specs.declared.fault.Trouble.TheVariants.{Memory};
+ghost use Rattle.rbac_manifest.specs.declared.fault.ItemFault.TheVariants.{WithoutMemory};
 ghost use Rattle.rbac_manifest.specs.declared.fault.Cause.TheVariants.{NoMemory};
 ghost use Rattle.rbac_manifest.specs.Reads.{cause_of};
 
@@ -17,11 +18,40 @@ pub(crate) enum Trouble {
     Memory,
 }
 
+// Why the items of a list were not all read.
+#[derive(Clone, Copy, Debug, Drop)]
+pub(crate) enum ItemFault {
+    // The item at this place is the first that has another shape.
+    Bad(usize),
+    WithoutMemory,
+}
+
+impl<T: Drop> From<AllocFailed<T>> for ItemFault {
+    ghost from_gives = { λ _ fault. fault ≡ WithoutMemory };
+
+    fn from(_: AllocFailed<T>) -> Self {
+        ItemFault::WithoutMemory
+    }
+}
+
 impl From<AllocError> for Trouble {
     ghost from_gives = { λ _ trouble. trouble ≡ Memory };
 
     fn from(_: AllocError) -> Self {
         Trouble::Memory
+    }
+}
+
+impl From<ItemFault> for Trouble {
+    ghost use Rattle.rbac_manifest.specs.Lists.{trouble_with};
+
+    ghost from_gives = { λ fault trouble. trouble ≡ trouble_with fault };
+
+    fn from(fault: ItemFault) -> Self {
+        match fault {
+            ItemFault::Bad(_) => Trouble::Shape,
+            ItemFault::WithoutMemory => Trouble::Memory,
+        }
     }
 }
 
@@ -34,6 +64,18 @@ impl<T: Drop> From<AllocFailed<T>> for Trouble {
 }
 
 impl Trouble {
+    ghost use Rattle.rbac_manifest.specs.Lists.{item_fault};
+
+    // This trouble with the item at a place.
+    pub(crate) fn at(self, place: usize) -> ItemFault
+        ensures { result ≡ item_fault self place }
+    {
+        match self {
+            Trouble::Shape => ItemFault::Bad(place),
+            Trouble::Memory => ItemFault::WithoutMemory,
+        }
+    }
+
     // This cause where the shape is wrong.
     pub(crate) fn cause(self, refused: Cause) -> Cause
         ensures { result ≡ cause_of self refused }
@@ -45,7 +87,8 @@ impl Trouble {
     }
 }
 
-/// Why a document is refused (own): M1 to M12. Within a document the least number stands. Places of rules and subjects count from 0; where the field isn't a list the place is 0.
+/// Why a document is refused (own): M1 to M12. Within a document the least number stands. Places of
+/// rules and subjects count from 0; where the field isn't a list the place is 0.
 #[derive(Clone, Copy, Debug, Drop, PartialEq, Eq)]
 pub enum Cause {
     /// M1: the bytes of the input aren't JSON.

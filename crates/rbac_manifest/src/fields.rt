@@ -1,11 +1,14 @@
 //! The fields of a JSON value. A field whose value is null counts as missing.
 
-ghost use Rattle.std.specs.Prelude.{◌≡◌, map, option_map, IfOk};
+ghost use Rattle.std.specs.Prelude.{◌≡◌, map, option_map, option_and_then, true, false, IfOk, IfErr};
+ghost use Rattle.serde_json.specs.Find.{as_str};
 ghost use Rattle.serde_json.specs.View.{view};
-ghost use Rattle.rbac_manifest.specs.Fields.{field, as_list, list_field, texts_field, all_texts, text_at, name_at, flag_at};
+ghost use Rattle.rbac_manifest.specs.Fields.{field, is_object, as_list, list_field, texts_field, all_texts, text_at, name_at, flag_at};
 ghost use Rattle.rbac_manifest.specs.Reads.{Reads};
+ghost use Rattle.rbac_manifest.specs.declared.fault.Trouble.TheVariants.{Shape};
 
 use crate::fault::Trouble;
+use crate::listed::all_read;
 use rbac_terms::{Word, Words};
 use serde_json::Value;
 use std::alloc::{AllocError, Global};
@@ -21,15 +24,24 @@ pub(crate) fn field<'v>(value: &'v Value, name: &str) -> Option<&'v Value>
     }
 }
 
+// A value that is an object.
+pub(crate) fn object_in(value: &Value) -> Result<&Value, Trouble>
+    ensures object { IfOk result (λ v. (v.now ≡ value.now) × (is_object (view value.now) ≡ true)) }
+    ensures other { IfErr result (λ e. (e ≡ Shape) × (is_object (view value.now) ≡ false)) }
+{
+    if value.is_object() {
+        Ok(value)
+    } else {
+        Err(Trouble::Shape)
+    }
+}
+
 // The items of a list.
 #[tactic(auto, using(crate::proofs::Elements::elements_of_items), unfolding(crate::specs::Fields::as_list))]
 pub(crate) fn as_list(value: &Value) -> Option<&[Value]>
     ensures { option_map (λ vs. map view vs.now) result ≡ as_list (view value.now) }
 {
-    match value.as_array() {
-        Some(items) => Some(items.as_slice()),
-        None => None,
-    }
+    value.as_array().map(|items| items.as_slice())
 }
 
 // The items of the list in a field; a missing one is empty.
@@ -43,17 +55,28 @@ pub(crate) fn list_field<'v>(value: &'v Value, name: &str) -> Option<&'v [Value]
     }
 }
 
+// A copy of the text that a value is.
+fn word_in(alloc: Global, value: &Value) -> Result<Word, Trouble>
+    ensures { Reads result (as_str (view value.now)) }
+{
+    let text = value.as_str().ok_or(Trouble::Shape)?;
+    Ok(word_of(alloc, text)?)
+}
+
 // The texts that all of these values are.
-#[tactic(auto, unfolding(crate::specs::Fields::all_texts))]
+#[tactic(auto, using(crate::proofs::Texts::all_texts_at))]
 fn words_of(alloc: Global, values: &[Value]) -> Result<Words, Trouble>
     ensures { Reads result (all_texts (map view values.now)) }
 {
-    let mut words = Vec::new(alloc);
-    for value in values {
-        let text = value.as_str().ok_or(Trouble::Shape)?;
-        words.push(word_of(alloc, text)?)?;
-    }
+    let words = all_read(alloc, values, |value| word_in(alloc, value))?;
     Ok(Words::from_vec(words))
+}
+
+// The texts of a list of texts.
+pub(crate) fn words_in(alloc: Global, list: &Value) -> Result<Words, Trouble>
+    ensures { Reads result (option_and_then all_texts (as_list (view list.now))) }
+{
+    words_of(alloc, as_list(list).ok_or(Trouble::Shape)?)
 }
 
 // The texts of a field that is a list of texts; a missing one is empty.

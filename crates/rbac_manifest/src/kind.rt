@@ -1,8 +1,9 @@
 //! Kinds and versions of documents.
 
-ghost use Rattle.std.specs.Prelude.{◌≡◌, option_map};
+ghost use Rattle.std.specs.Prelude.{◌≡◌, map, option_map};
+ghost use Rattle.std.specs.List.{list_any};
 ghost use Rattle.serde_json.specs.View.{view};
-ghost use Rattle.rbac_manifest.specs.Kinds.{implied_kind, implied_version, kind_at, needs_version, is_unread_version, version_at, kind_named, kind_of};
+ghost use Rattle.rbac_manifest.specs.Kinds.{as_reading, is_row, meaning_in, implied_kind, implied_version, kind_at, asks_version, needs_version, is_unread_version, version_at, kind_named, kind_of};
 ghost use Rattle.rbac_manifest.specs.Walk.{bad_header};
 ghost use Rattle.rbac_manifest.specs.Reads.{Loads};
 
@@ -10,7 +11,105 @@ use crate::fault::Cause;
 use crate::fields::field;
 use serde_json::Value;
 
-const RBAC_V1: &str = "rbac.authorization.k8s.io/v1";
+// The group of RBAC and what follows it.
+macro_rules! rbac_group {
+    ($rest:literal) => {
+        concat!("rbac.authorization.k8s.io", $rest)
+    };
+}
+
+pub(crate) const RBAC_GROUP: &str = rbac_group!("");
+
+const RBAC_V1: &str = rbac_group!("/v1");
+
+const RBAC_FRONT: &str = rbac_group!("/");
+
+// A pair of version and kind that is read, and what a document of it is.
+#[derive(Clone, Copy, Drop)]
+struct Row {
+    version: &'static str,
+    kind: &'static str,
+    means: Kind,
+}
+
+// The pairs that are read.
+const READ: [Row; 15] = [
+    Row {
+        version: RBAC_V1,
+        kind: "Role",
+        means: Kind::Role,
+    },
+    Row {
+        version: RBAC_V1,
+        kind: "ClusterRole",
+        means: Kind::ClusterRole,
+    },
+    Row {
+        version: RBAC_V1,
+        kind: "RoleBinding",
+        means: Kind::RoleBinding,
+    },
+    Row {
+        version: RBAC_V1,
+        kind: "ClusterRoleBinding",
+        means: Kind::ClusterRoleBinding,
+    },
+    Row {
+        version: RBAC_V1,
+        kind: "RoleList",
+        means: Kind::List(Implied::Role),
+    },
+    Row {
+        version: RBAC_V1,
+        kind: "ClusterRoleList",
+        means: Kind::List(Implied::ClusterRole),
+    },
+    Row {
+        version: RBAC_V1,
+        kind: "RoleBindingList",
+        means: Kind::List(Implied::RoleBinding),
+    },
+    Row {
+        version: RBAC_V1,
+        kind: "ClusterRoleBindingList",
+        means: Kind::List(Implied::ClusterRoleBinding),
+    },
+    Row {
+        version: "v1",
+        kind: "List",
+        means: Kind::List(Implied::Nothing),
+    },
+    Row {
+        version: "v1",
+        kind: "Namespace",
+        means: Kind::Namespace,
+    },
+    Row {
+        version: "v1",
+        kind: "ServiceAccount",
+        means: Kind::ServiceAccount,
+    },
+    Row {
+        version: "v1",
+        kind: "NamespaceList",
+        means: Kind::List(Implied::Namespace),
+    },
+    Row {
+        version: "v1",
+        kind: "ServiceAccountList",
+        means: Kind::List(Implied::ServiceAccount),
+    },
+    Row {
+        version: "v1",
+        kind: "APIResourceList",
+        means: Kind::ApiList,
+    },
+    Row {
+        version: "rbacaudit/v1",
+        kind: "Universe",
+        means: Kind::Universe,
+    },
+];
 
 // What the list of a document says of its kind and version.
 #[derive(Clone, Copy, Drop)]
@@ -87,20 +186,27 @@ fn kind_text<'v>(document: &'v Value, implied: Implied) -> Option<&'v str>
 fn needs_version(kind: &str) -> bool
     ensures { result ≡ needs_version kind.now }
 {
-    kind == "Role"
-        || kind == "ClusterRole"
-        || kind == "RoleBinding"
-        || kind == "ClusterRoleBinding"
-        || kind == "List"
-        || kind == "RoleList"
-        || kind == "ClusterRoleList"
-        || kind == "RoleBindingList"
-        || kind == "ClusterRoleBindingList"
-        || kind == "Namespace"
-        || kind == "ServiceAccount"
-        || kind == "NamespaceList"
-        || kind == "ServiceAccountList"
-        || kind == "Universe"
+    let rows = READ;
+    some_asks_version(&rows, kind)
+}
+
+// Whether one of these rows is of this kind and needs a version.
+fn some_asks_version(rows: &[Row], kind: &str) -> bool
+    ensures { result ≡ list_any (asks_version kind.now) (map as_reading rows.now) }
+{
+    for row in rows {
+        if asks_version(row, kind) {
+            return true;
+        }
+    }
+    false
+}
+
+// Whether this row is of this kind and needs a version.
+fn asks_version(row: &Row, kind: &str) -> bool
+    ensures { result ≡ asks_version kind.now (as_reading row.now) }
+{
+    row.kind == kind && !matches!(row.means, Kind::ApiList)
 }
 
 // Whether this is a version of the RBAC group that is not read.
@@ -108,10 +214,7 @@ fn needs_version(kind: &str) -> bool
 fn is_unread_version(version: &str) -> bool
     ensures { result ≡ is_unread_version version.now }
 {
-    version
-        .as_bytes()
-        .starts_with(b"rbac.authorization.k8s.io/")
-        && version != RBAC_V1
+    version.as_bytes().starts_with(RBAC_FRONT.as_bytes()) && version != RBAC_V1
 }
 
 // The text of a document's version, its own or the implied one; `v1` where the kind needs none.
@@ -137,47 +240,27 @@ fn version_text<'v>(document: &'v Value, implied: Implied, kind: &str) -> Option
 fn kind_named(version: &str, kind: &str) -> Kind
     ensures { result ≡ kind_named version.now kind.now }
 {
-    if version == RBAC_V1 {
-        if kind == "Role" {
-            Kind::Role
-        } else if kind == "ClusterRole" {
-            Kind::ClusterRole
-        } else if kind == "RoleBinding" {
-            Kind::RoleBinding
-        } else if kind == "ClusterRoleBinding" {
-            Kind::ClusterRoleBinding
-        } else if kind == "RoleList" {
-            Kind::List(Implied::Role)
-        } else if kind == "ClusterRoleList" {
-            Kind::List(Implied::ClusterRole)
-        } else if kind == "RoleBindingList" {
-            Kind::List(Implied::RoleBinding)
-        } else if kind == "ClusterRoleBindingList" {
-            Kind::List(Implied::ClusterRoleBinding)
-        } else {
-            Kind::Other
+    let rows = READ;
+    meaning_in(&rows, version, kind)
+}
+
+// Whether this is the row of that version and kind.
+fn is_row(row: &Row, version: &str, kind: &str) -> bool
+    ensures { result ≡ is_row version.now kind.now (as_reading row.now) }
+{
+    row.version == version && row.kind == kind
+}
+
+// What a document of this version and kind is by these rows.
+fn meaning_in(rows: &[Row], version: &str, kind: &str) -> Kind
+    ensures { result ≡ meaning_in (map as_reading rows.now) version.now kind.now }
+{
+    for row in rows {
+        if is_row(row, version, kind) {
+            return row.means;
         }
-    } else if version == "v1" {
-        if kind == "List" {
-            Kind::List(Implied::Nothing)
-        } else if kind == "Namespace" {
-            Kind::Namespace
-        } else if kind == "ServiceAccount" {
-            Kind::ServiceAccount
-        } else if kind == "NamespaceList" {
-            Kind::List(Implied::Namespace)
-        } else if kind == "ServiceAccountList" {
-            Kind::List(Implied::ServiceAccount)
-        } else if kind == "APIResourceList" {
-            Kind::ApiList
-        } else {
-            Kind::Other
-        }
-    } else if version == "rbacaudit/v1" && kind == "Universe" {
-        Kind::Universe
-    } else {
-        Kind::Other
     }
+    Kind::Other
 }
 
 // The kind of a document, whose kind and version texts are sound.

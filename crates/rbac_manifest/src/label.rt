@@ -1,6 +1,5 @@
 //! Labels of an object, and the labels that a selector asks for.
 
-ghost use Rattle.std.specs.Prelude.{◌≡◌};
 ghost use Rattle.serde_json.specs.View.{view};
 ghost use Rattle.rbac_manifest.specs.Reads.{Reads};
 ghost use Rattle.rbac_manifest.specs.Label.{label_of, entry_labels, labels_at};

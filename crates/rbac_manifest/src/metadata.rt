@@ -1,12 +1,12 @@
 //! The name, namespace and labels of an object.
 
-ghost use Rattle.std.specs.Prelude.{◌≡◌};
 ghost use Rattle.serde_json.specs.View.{view};
-ghost use Rattle.rbac_manifest.specs.Reads.{Reads};
+ghost use Rattle.rbac_manifest.specs.Reads.{Reads, Gives};
+ghost use Rattle.rbac_manifest.specs.Document.{bad_metadata};
 ghost use Rattle.rbac_manifest.specs.Metadata.{metadata_from, metadata_at};
 
-use crate::fault::Trouble;
-use crate::fields::{field, name_of, text_field, word_of};
+use crate::fault::{Cause, Trouble};
+use crate::fields::{field, name_of, object_in, text_field, word_of};
 use crate::label::labels_field;
 use rbac_terms::{Labels, Word};
 use serde_json::Value;
@@ -25,9 +25,7 @@ pub(crate) struct Metadata {
 fn metadata_from(alloc: Global, metadata: &Value) -> Result<Metadata, Trouble>
     ensures { Reads result (metadata_from (view metadata.now)) }
 {
-    if !metadata.is_object() {
-        return Err(Trouble::Shape);
-    }
+    let metadata = object_in(metadata)?;
     let labels = labels_field(alloc, metadata, "labels")?;
     let name = name_of(metadata).ok_or(Trouble::Shape)?;
     let namespace = text_field(metadata, "namespace").ok_or(Trouble::Shape)?;
@@ -40,11 +38,9 @@ fn metadata_from(alloc: Global, metadata: &Value) -> Result<Metadata, Trouble>
 
 // The metadata of a document.
 #[tactic(auto, unfolding(crate::specs::Metadata::metadata_at))]
-pub(crate) fn metadata_of(alloc: Global, document: &Value) -> Result<Metadata, Trouble>
-    ensures { Reads result (metadata_at (view document.now)) }
+pub(crate) fn metadata_of(alloc: Global, document: &Value) -> Result<Metadata, Cause>
+    ensures { Gives result (bad_metadata (view document.now)) (metadata_at (view document.now)) }
 {
-    match field(document, "metadata") {
-        Some(metadata) => metadata_from(alloc, metadata),
-        None => Err(Trouble::Shape),
-    }
+    let metadata = field(document, "metadata").ok_or(Cause::BadMetadata)?;
+    metadata_from(alloc, metadata).map_err(|trouble| trouble.cause(Cause::BadMetadata))
 }

@@ -8,8 +8,9 @@ ghost use Rattle.rbac_manifest.specs.Role.{bad_rules, rules_in};
 ghost use Rattle.rbac_manifest.specs.declared.fault.Cause.TheVariants.{BadRule};
 ghost use Rattle.rbac_manifest.specs.Rule.{rule_at, is_bad_target};
 
-use crate::fault::{Cause, Trouble};
-use crate::fields::{list_field, words_field};
+use crate::fault::{Cause, ItemFault, Trouble};
+use crate::fields::{list_field, object_in, words_field};
+use crate::listed::all_read;
 use rbac_terms::{Rule, Rules};
 use serde_json::Value;
 use std::alloc::Global;
@@ -19,16 +20,16 @@ use std::alloc::Global;
 fn is_bad_target(rule: &Rule, in_role: bool) -> bool
     ensures { result ≡ is_bad_target in_role rule.now }
 {
-    if rule.verbs.as_slice().is_empty() {
+    if rule.verbs.is_empty() {
         return true;
     }
-    if rule.urls.as_slice().is_empty() {
-        rule.groups.as_slice().is_empty() || rule.resources.as_slice().is_empty()
+    if rule.urls.is_empty() {
+        rule.groups.is_empty() || rule.resources.is_empty()
     } else {
         in_role
-            || !rule.groups.as_slice().is_empty()
-            || !rule.resources.as_slice().is_empty()
-            || !rule.resource_names.as_slice().is_empty()
+            || !rule.groups.is_empty()
+            || !rule.resources.is_empty()
+            || !rule.resource_names.is_empty()
     }
 }
 
@@ -37,9 +38,7 @@ fn is_bad_target(rule: &Rule, in_role: bool) -> bool
 fn rule_of(alloc: Global, value: &Value, in_role: bool) -> Result<Rule, Trouble>
     ensures { Reads result (rule_at in_role (view value.now)) }
 {
-    if !value.is_object() {
-        return Err(Trouble::Shape);
-    }
+    let value = object_in(value)?;
     let rule = Rule {
         verbs: words_field(alloc, value, "verbs")?,
         groups: words_field(alloc, value, "apiGroups")?,
@@ -54,19 +53,15 @@ fn rule_of(alloc: Global, value: &Value, in_role: bool) -> Result<Rule, Trouble>
 }
 
 // The rules that all items give. The first bad one decides.
-#[tactic(auto, unfolding(crate::specs::Lists::bad_place, crate::specs::Lists::given_by))]
 fn rules_from(alloc: Global, values: &[Value], in_role: bool) -> Result<Rules, Cause>
     ensures { Loads result (option_map BadRule (bad_place (rule_at in_role) 0 (map view values.now)))
         (given_by (rule_at in_role) (map view values.now)) }
 {
-    let mut rules = Vec::new(alloc);
-    for (place, value) in values.iter().enumerate() {
-        let rule = rule_of(alloc, value, in_role).map_err(|trouble| trouble.cause(Cause::BadRule(
-            place,
-        )))?;
-        rules.push(rule)?;
+    match all_read(alloc, values, |value| rule_of(alloc, value, in_role)) {
+        Ok(rules) => Ok(Rules::from_vec(rules)),
+        Err(ItemFault::Bad(place)) => Err(Cause::BadRule(place)),
+        Err(ItemFault::WithoutMemory) => Err(Cause::NoMemory),
     }
-    Ok(Rules::from_vec(rules))
 }
 
 // The rules of a role.

@@ -7,8 +7,9 @@ ghost use Rattle.rbac_manifest.specs.Lists.{all_at};
 ghost use Rattle.rbac_manifest.specs.Label.{operator_named, requirement_from, requirement_at, selector_from, selector_at, selectors_from, aggregation_at};
 
 use crate::fault::Trouble;
-use crate::fields::{field, list_field, text_field, word_of, words_field};
+use crate::fields::{field, list_field, object_in, text_field, word_of, words_field};
 use crate::label::labels_field;
+use crate::listed::all_read;
 use rbac_terms::{Requirement, Requirements, SelectOp, Selector, Selectors, Words};
 use serde_json::Value;
 use std::alloc::Global;
@@ -18,13 +19,13 @@ use std::alloc::Global;
 fn operator_named(name: &str, values: &Words) -> Option<SelectOp>
     ensures { result ≡ operator_named name.now values.now }
 {
-    if name == "In" && !values.as_slice().is_empty() {
+    if name == "In" && !values.is_empty() {
         Some(SelectOp::OneOf)
-    } else if name == "NotIn" && !values.as_slice().is_empty() {
+    } else if name == "NotIn" && !values.is_empty() {
         Some(SelectOp::NoneOf)
-    } else if name == "Exists" && values.as_slice().is_empty() {
+    } else if name == "Exists" && values.is_empty() {
         Some(SelectOp::Present)
-    } else if name == "DoesNotExist" && values.as_slice().is_empty() {
+    } else if name == "DoesNotExist" && values.is_empty() {
         Some(SelectOp::Absent)
     } else {
         None
@@ -52,21 +53,14 @@ fn requirement_from(alloc: Global, value: &Value) -> Result<Requirement, Trouble
 fn requirement_of(alloc: Global, value: &Value) -> Result<Requirement, Trouble>
     ensures { Reads result (requirement_at (view value.now)) }
 {
-    if value.is_object() {
-        requirement_from(alloc, value)
-    } else {
-        Err(Trouble::Shape)
-    }
+    requirement_from(alloc, object_in(value)?)
 }
 
 // The requirements that all items give.
 fn requirements_of(alloc: Global, values: &[Value]) -> Result<Requirements, Trouble>
     ensures { Reads result (all_at requirement_at (map view values.now)) }
 {
-    let mut requirements = Vec::new(alloc);
-    for value in values {
-        requirements.push(requirement_of(alloc, value)?)?;
-    }
+    let requirements = all_read(alloc, values, |value| requirement_of(alloc, value))?;
     Ok(Requirements::from_vec(requirements))
 }
 
@@ -89,21 +83,14 @@ fn selector_from(alloc: Global, value: &Value) -> Result<Selector, Trouble>
 fn selector_of(alloc: Global, value: &Value) -> Result<Selector, Trouble>
     ensures { Reads result (selector_at (view value.now)) }
 {
-    if value.is_object() {
-        selector_from(alloc, value)
-    } else {
-        Err(Trouble::Shape)
-    }
+    selector_from(alloc, object_in(value)?)
 }
 
 // The selectors that all items give.
 fn selectors_in(alloc: Global, values: &[Value]) -> Result<Selectors, Trouble>
     ensures { Reads result (all_at selector_at (map view values.now)) }
 {
-    let mut selectors = Vec::new(alloc);
-    for value in values {
-        selectors.push(selector_of(alloc, value)?)?;
-    }
+    let selectors = all_read(alloc, values, |value| selector_of(alloc, value))?;
     Ok(Selectors::from_vec(selectors))
 }
 
@@ -112,10 +99,7 @@ fn selectors_in(alloc: Global, values: &[Value]) -> Result<Selectors, Trouble>
 fn selectors_from(alloc: Global, value: &Value) -> Result<Selectors, Trouble>
     ensures { Reads result (selectors_from (view value.now)) }
 {
-    if !value.is_object() {
-        return Err(Trouble::Shape);
-    }
-    let selectors = list_field(value, "clusterRoleSelectors").ok_or(Trouble::Shape)?;
+    let selectors = list_field(object_in(value)?, "clusterRoleSelectors").ok_or(Trouble::Shape)?;
     selectors_in(alloc, selectors)
 }
 

@@ -9,8 +9,9 @@ ghost use Rattle.rbac_manifest.specs.Binding.{subject_named, subject_from, subje
 ghost use Rattle.rbac_manifest.specs.declared.fault.Cause.TheVariants.{BadSubject};
 
 use crate::binding::is_rbac_group;
-use crate::fault::{Cause, Trouble};
-use crate::fields::{list_field, name_of, text_field, word_of};
+use crate::fault::{Cause, ItemFault, Trouble};
+use crate::fields::{list_field, name_of, object_in, text_field, word_of};
+use crate::listed::all_read;
 use rbac_terms::{Subject, Subjects, Word};
 use serde_json::Value;
 use std::alloc::{AllocError, Global};
@@ -67,27 +68,19 @@ fn subject_from(alloc: Global, value: &Value) -> Result<Subject, Trouble>
 fn subject_of(alloc: Global, value: &Value) -> Result<Subject, Trouble>
     ensures { Reads result (subject_at (view value.now)) }
 {
-    if value.is_object() {
-        subject_from(alloc, value)
-    } else {
-        Err(Trouble::Shape)
-    }
+    subject_from(alloc, object_in(value)?)
 }
 
 // The subjects that all items give. The first bad one decides.
-#[tactic(auto, unfolding(crate::specs::Lists::bad_place, crate::specs::Lists::given_by))]
 fn subjects_from(alloc: Global, values: &[Value]) -> Result<Subjects, Cause>
     ensures { Loads result (option_map BadSubject (bad_place subject_at 0 (map view values.now)))
         (given_by subject_at (map view values.now)) }
 {
-    let mut subjects = Vec::new(alloc);
-    for (place, value) in values.iter().enumerate() {
-        let subject = subject_of(alloc, value).map_err(|trouble| trouble.cause(Cause::BadSubject(
-            place,
-        )))?;
-        subjects.push(subject)?;
+    match all_read(alloc, values, |value| subject_of(alloc, value)) {
+        Ok(subjects) => Ok(Subjects::from_vec(subjects)),
+        Err(ItemFault::Bad(place)) => Err(Cause::BadSubject(place)),
+        Err(ItemFault::WithoutMemory) => Err(Cause::NoMemory),
     }
-    Ok(Subjects::from_vec(subjects))
 }
 
 // The subjects of a binding.

@@ -1,14 +1,15 @@
 //! The lists that a Universe document gives (own).
 
-ghost use Rattle.std.specs.Prelude.{◌≡◌, map, codes};
+ghost use Rattle.std.specs.Prelude.{◌≡◌, codes, option_and_then};
 ghost use Rattle.serde_json.specs.View.{view};
-ghost use Rattle.rbac_manifest.specs.Fields.{texts_field};
+ghost use Rattle.rbac_manifest.specs.Fields.{as_list, texts_field};
 ghost use Rattle.rbac_manifest.specs.Reads.{Reads};
 ghost use Rattle.rbac_manifest.specs.Lists.{all_at};
 ghost use Rattle.rbac_manifest.specs.UniverseDocument.{trouble_of, user_at, member_at, principal_at, resource_at, items_field, where_given, given_lists_at};
 
 use crate::fault::Trouble;
-use crate::fields::{field, flag_field, list_field, word_field, word_of, words_field};
+use crate::fields::{as_list, field, flag_field, word_field, word_of, words_field, words_in};
+use crate::listed::all_read;
 use rbac_lists::GivenLists;
 use rbac_terms::{ModelFault, Principal, Words};
 use rbac_universe::{ListedResource, ListedResources, Principals};
@@ -60,27 +61,24 @@ fn principal_of(alloc: Global, value: &Value) -> Result<Principal, Trouble>
     }
 }
 
-// The principals that all items give.
-fn principals_in(alloc: Global, values: &[Value]) -> Result<Principals, Trouble>
-    ensures { Reads result (all_at principal_at (map view values.now)) }
+// The principals that all items of a list give.
+fn principals_in(alloc: Global, list: &Value) -> Result<Principals, Trouble>
+    ensures { Reads result (option_and_then (all_at principal_at) (as_list (view list.now))) }
 {
-    let mut principals = Vec::new(alloc);
-    for value in values {
-        principals.push(principal_of(alloc, value)?)?;
-    }
+    let items = as_list(list).ok_or(Trouble::Shape)?;
+    let principals = all_read(alloc, items, |item| principal_of(alloc, item))?;
     Ok(Principals::from_vec(principals))
 }
 
 // The principals of a document, where it gives them.
+#[tactic(auto, unfolding(crate::specs::Fields::list_field))]
 fn principals_given(alloc: Global, document: &Value) -> Result<Option<Principals>, Trouble>
     ensures { Reads result
         (where_given (items_field principal_at) (codes "principals") (view document.now)) }
 {
-    if field(document, "principals").is_none() {
-        return Ok(None);
-    }
-    let items = list_field(document, "principals").ok_or(Trouble::Shape)?;
-    Ok(Some(principals_in(alloc, items)?))
+    field(document, "principals")
+        .map(|list| principals_in(alloc, list))
+        .transpose()
 }
 
 // The resource that an item gives.
@@ -97,37 +95,34 @@ fn resource_of(alloc: Global, value: &Value) -> Result<ListedResource, Trouble>
     })
 }
 
-// The resources that all items give.
-fn resources_in(alloc: Global, values: &[Value]) -> Result<ListedResources, Trouble>
-    ensures { Reads result (all_at resource_at (map view values.now)) }
+// The resources that all items of a list give.
+fn resources_in(alloc: Global, list: &Value) -> Result<ListedResources, Trouble>
+    ensures { Reads result (option_and_then (all_at resource_at) (as_list (view list.now))) }
 {
-    let mut resources = Vec::new(alloc);
-    for value in values {
-        resources.push(resource_of(alloc, value)?)?;
-    }
+    let items = as_list(list).ok_or(Trouble::Shape)?;
+    let resources = all_read(alloc, items, |item| resource_of(alloc, item))?;
     Ok(ListedResources::from_vec(resources))
 }
 
 // The resources of a document, where it gives them.
+#[tactic(auto, unfolding(crate::specs::Fields::list_field))]
 fn resources_given(alloc: Global, document: &Value) -> Result<Option<ListedResources>, Trouble>
     ensures { Reads result
         (where_given (items_field resource_at) (codes "resources") (view document.now)) }
 {
-    if field(document, "resources").is_none() {
-        return Ok(None);
-    }
-    let items = list_field(document, "resources").ok_or(Trouble::Shape)?;
-    Ok(Some(resources_in(alloc, items)?))
+    field(document, "resources")
+        .map(|list| resources_in(alloc, list))
+        .transpose()
 }
 
 // The texts in a field of a document, where it gives them.
+#[tactic(auto, unfolding(crate::specs::Fields::texts_field, crate::specs::Fields::list_field))]
 fn words_given(alloc: Global, document: &Value, name: &str) -> Result<Option<Words>, Trouble>
     ensures { Reads result (where_given texts_field name.now (view document.now)) }
 {
-    if field(document, name).is_none() {
-        return Ok(None);
-    }
-    Ok(Some(words_field(alloc, document, name)?))
+    field(document, name)
+        .map(|list| words_in(alloc, list))
+        .transpose()
 }
 
 // The lists that a Universe document gives.

@@ -2,3 +2,4 @@ pub mod OneMatrix
 pub mod PrintedRows
 pub mod Product
 pub mod Rows
+pub mod Within

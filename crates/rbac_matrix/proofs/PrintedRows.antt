@@ -12,17 +12,22 @@ use Rattle.rbac_terms.specs.declared.granting.Binding.{Binding}
 use Rattle.rbac_model.specs.Policies.{Held, Allows, IsFirst}
 use Rattle.rbac_model.specs.Universes.{Listed, Cell, RowView, Fits, cell_key}
 use Rattle.rbac_streams.specs.Streams.{SinkView, PageView}
-use Rattle.rbac_streams.specs.Taken.{Prints, StopsIn}
+use Rattle.rbac_streams.specs.Taken.{Prints}
 use Rattle.rbac_streams.specs.declared.page.PrintFault.{PrintFault}
-use Rattle.rbac_streams.proofs.TakenLemmas.{Prints-nil, Prints-trans, Stops-more, Stops-after}
+use Rattle.rbac_streams.proofs.TakenLemmas.{Prints-nil, Prints-trans}
 use Rattle.rbac_text.specs.Row.{row_text}
 use Rattle.rbac_matrix.specs.Cells.{HasRow, AreRowsOf}
 use Rattle.rbac_matrix.specs.Printed.{rows_text}
 use Rattle.rbac_matrix.specs.Printing.{PrintsRows, StopsInRows, StopsBy}
 use Rattle.rbac_matrix.proofs.Rows.{row_at, rows_one, rows_append, rows_split}
+use Rattle.rbac_matrix.proofs.Within.{within_of, within_after}
 
 text_append : (rs ss : List RowView) → rows_text (rs ++ ss) ≡ rows_text rs ++ rows_text ss
 text_append rs ss = flat_map-append (λ (row : RowView). row_text (cell_key row.cell) row.binding) rs ss
+
+-- the lines of the rows of the requests
+abbrev pub IsTextOf : Held → List Cell → List ℕ → Type 0
+IsTextOf h cells text = (rows : List RowView) × AreRowsOf h cells rows × (text ≡ rows_text rows)
 
 module _ {W : Type 0} (contents : W → Option (List ℕ)) (h : Held) where
   pub printed_none : (s : SinkView W) (p : PageView) → s.has_failed ≡ false → PrintsRows contents s p s p h []
@@ -37,19 +42,22 @@ module _ {W : Type 0} (contents : W → Option (List ℕ)) (h : Held) where
     works = b.works;
   }
 
-  -- it stopped after these rows and within the next ones, whatever more would have been printed
+  -- it stopped after these rows and within the next ones, whatever follows those
   stopped_after : (s t u : SinkView W) (p q r : PageView) (cs ds more : List Cell) (fault : PrintFault) → PrintsRows contents s p t q h cs → StopsInRows contents t q u r h ds fault → StopsInRows contents s p u r h (cs ++ (ds ++ more)) fault
   stopped_after s t u p q r cs ds more fault a b = record {
-    stops = λ rows are.
+    stops = within_after contents s t u p q r (rows_text a.rows) (IsTextOf h ds) (IsTextOf h (cs ++ (ds ++ more))) a.printed b.stops (λ text (rows, are, e).
         let front = rows_split h cs (ds ++ more) rows are in
         let next = rows_split h ds more front.1 front.3 in
-        let printed : front.0 ≡ a.rows = rows_one h cs front.0 a.rows front.2 a.are in
-        let text : rows_text rows ≡ rows_text a.rows ++ (rows_text next.0 ++ rows_text next.1) =
-        ap rows_text front.4 ∙ text_append front.0 front.1
-        ∙ ap₂ (λ (x y : Text). x ++ y) (ap rows_text printed) (ap rows_text next.4 ∙ text_append next.0 next.1) in
-        subst (λ (x : Text). StopsIn contents s p u r x) (sym text)
-        (Stops-after contents s t u p q r (rows_text a.rows) (rows_text next.0 ++ rows_text next.1) a.printed
-        (Stops-more contents t u q r (rows_text next.0) (rows_text next.1) (b.stops next.0 next.2)));
+        let printed : front.0 ≡ a.rows = rows_one h cs front.0 a.rows front.2 a.are in (
+          rows_text next.0,
+          (next.0, next.2, refl),
+          (
+            rows_text next.1,
+            e ∙ ap rows_text front.4 ∙ text_append front.0 front.1
+                ∙ ap₂ (λ (x y : Text). x ++ y) (ap rows_text printed) (ap rows_text next.4 ∙ text_append next.0 next.1)
+                ∙ sym (append_assoc (rows_text a.rows) (rows_text next.0) (rows_text next.1)),
+          ),
+        ));
     cause = b.cause;
   }
 
@@ -104,7 +112,8 @@ module _ {W : Type 0} (contents : W → Option (List ℕ)) (h : Held) (c : Cell)
     pub row_stopped : (r : Result Unit PrintFault) → IfErr r (StopsBy contents s p t q (row_text (cell_key c) b)) → IfErr r (StopsInRows contents s p t q h (c ∷ []))
     row_stopped (Ok x) err = tt
     row_stopped (Err e) err = record {
-      stops = λ rows are. subst (λ (x : Text). StopsIn contents s p t q x) (sym (ap rows_text (rows_one h (c ∷ []) rows (row_at c b ∷ []) are are_row) ∙ one_text)) err.stops;
+      stops = within_of contents s t p q (row_text (cell_key c) b) (IsTextOf h (c ∷ [])) err.stops
+          (λ more (rows, are, e). ([], e ∙ ap rows_text (rows_one h (c ∷ []) rows (row_at c b ∷ []) are are_row)));
       cause = err.cause;
     }
 

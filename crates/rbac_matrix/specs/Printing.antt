@@ -7,7 +7,7 @@ use Rattle.rbac_streams.specs.Taken.{Prints, StopsIn}
 use Rattle.rbac_streams.specs.declared.page.PrintFault.{PrintFault}
 use Rattle.rbac_streams.specs.declared.page.PrintFault.TheVariants.{SinkFailed, NoMemory}
 use Rattle.rbac_matrix.specs.Cells.{AreRowsOf}
-use Rattle.rbac_matrix.specs.Printed.{rows_text}
+use Rattle.rbac_matrix.specs.Printed.{rows_text, StopsWithin}
 
 -- the rows of the requests were printed, and the sink works
 pub record PrintsRows {W : Type 0} (contents : W → Option (List ℕ)) (old : SinkView W) (page : PageView) (new : SinkView W) (after : PageView) (h : Held) (cells : List Cell) : Type 0 where
@@ -28,5 +28,5 @@ pub record StopsBy {W : Type 0} (contents : W → Option (List ℕ)) (old : Sink
 
 -- the same within the rows of the requests
 pub record StopsInRows {W : Type 0} (contents : W → Option (List ℕ)) (old : SinkView W) (page : PageView) (new : SinkView W) (after : PageView) (h : Held) (cells : List Cell) (fault : PrintFault) : Type 0 where
-  pub stops : (rows : List RowView) → AreRowsOf h cells rows → StopsIn contents old page new after (rows_text rows)
+  pub stops : StopsWithin contents old page new after (λ more. (rows : List RowView) × AreRowsOf h cells rows × (more ≡ rows_text rows))
   pub cause : IsStoppedBy fault new

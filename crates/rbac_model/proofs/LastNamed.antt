@@ -1,5 +1,5 @@
 -- the last of each name, as more are given and as the list is sorted
-use Rattle.std.proofs.Common.{◌≡◌, ◌≢◌, List, [], ◌∷◌, ◌++◌, ◌↔◌, ◌⊎◌, inl, inr, sym, ap, refl, arith, subst, Bool, true, false, Equal}
+use Rattle.std.proofs.Common.{◌≡◌, ◌≢◌, List, [], ◌∷◌, ◌++◌, ◌↔◌, ◌⊎◌, inl, inr, sym, ap, refl, subst, Bool, true, false, Equal}
 use Rattle.std.specs.Prelude.{All}
 use Rattle.std.specs.List.{filter}
 use Rattle.std.specs.Ordering.{is_lt}
@@ -42,12 +42,6 @@ module _ {X : Type 0} (name : X → List Text) where
       ]
     ],
   )
-
-  pub none_last : AreLastNamed name [] []
-  none_last = record {
-    ordered = λ i j d lt l. absurd (omega arith);
-    exact = λ x. (λ w. absurd (omega (arith, w.1)), λ w. absurd w);
-  }
 
   pub one_more : (xs old new : List X) (z : X) → AreLastNamed name xs old → IsPut name old new z → IsAscendingBy name new → AreLastNamed name (xs ++ z ∷ []) new
   one_more xs old new z are put up = record {

@@ -1,4 +1,5 @@
 pub mod Graphs
+pub mod Holders
 pub mod Kept
 pub mod Lists
 pub mod Places

@@ -13,11 +13,6 @@ pub record IsFirstAt {X : Type 0} (P : X → Type 0) (xs : List X) (i : ℕ) (x 
   pub holds : P x
   pub none_before : (k : ℕ) (y : X) → k < i → slice_get xs k ≡ Some y → ¬ P y
 
--- ys are those of xs that have the property, in order
-abbrev pub AreKept : {X : Type 0} → (X → Type 0) → List X → List X → Type 0
-AreKept P [] ys = ys ≡ []
-AreKept {X} P (x ∷ xs) ys = (P x × ((rest : List X) × (ys ≡ x ∷ rest) × AreKept P xs rest)) ⊎ ((¬ P x) × AreKept P xs ys)
-
 -- n of xs have the property
 abbrev pub IsCount : {X : Type 0} → (X → Type 0) → List X → ℕ → Type 0
 IsCount P [] n = n ≡ 0

@@ -61,10 +61,11 @@ HasNameOf h (ARole r) = Any (λ y. role_name y ≡ role_name r) h.roles
 HasNameOf h (AClusterRole r) = Any (λ y. cluster_role_name y ≡ cluster_role_name r) h.cluster_roles
 HasNameOf h (ABinding b) = Any (λ y. binding_name y ≡ binding_name b) h.bindings
 
--- a cluster role whose aggregationRule is there is aggregated, by these selectors
+-- a cluster role without an aggregationRule is plain; with one it is aggregated
 abbrev pub IsPlain : ClusterRole → Type 0
 IsPlain r = r.aggregation ≡ None
 
+-- one of the selectors of an aggregationRule selects the role's labels (Using RBAC Authorization, Aggregated ClusterRoles)
 abbrev pub Gathers : Option (List Selector) → ClusterRole → Type 0
 Gathers None s = ⊥
 Gathers (Some selectors) s = Any (λ selector. Selects selector s.labels) selectors
@@ -98,6 +99,7 @@ pub record SourcedRule : Type 0 where
   pub rule : Rule
   pub place : ℕ
 
+-- the rules that are written in a role, each with its place, counted from the one given
 abbrev pub written_from : Source → ℕ → List Rule → List SourcedRule
 written_from source i [] = []
 written_from source i (r ∷ rs) = record { source = source; rule = r; place = i } ∷ written_from source (i + 1) rs
@@ -120,7 +122,7 @@ IsRefTo h (Some namespace) (ToRole name) (InRole r) = Contains h.roles r × (r.n
 IsRefTo h _ (ToClusterRole name) (InClusterRole r) = Contains h.cluster_roles r × (r.name ≡ name)
 IsRefTo h _ _ _ = ⊥
 
--- the rules that a binding brings; a dangling one brings none
+-- the rules that a binding brings: those of its role (Using RBAC Authorization, RoleBinding and ClusterRoleBinding); a dangling one brings none
 abbrev pub AreRulesFor : Held → Binding → List SourcedRule → Type 0
 AreRulesFor h b rules =
     ((role : Source) × IsRefTo h b.namespace b.role role × AreRulesOf h role rules)
@@ -138,17 +140,20 @@ AreGrantsOf h (b ∷ bs) gs =
     (rules : List SourcedRule) × (rest : List GrantView) × AreRulesFor h b rules × AreGrantsOf h bs rest
     × (gs ≡ map (λ rule. record { binding = b; rule = rule }) rules ++ rest)
 
--- places of a binding, of its role and of a rule in it, and the grant that they stand for
+-- the rule at that place among those of a role
 abbrev pub rule_at : Source → List Rule → ℕ → Option SourcedRule
 rule_at source rules i = option_map (λ r. record { source = source; rule = r; place = i }) (slice_get rules i)
 
+-- the rule at that place of the role at that place
 abbrev pub sourced_at : Held → RolePlace → ℕ → Option SourcedRule
 sourced_at h (RoleAt at) i = option_and_then (λ role. rule_at (InRole role) role.rules i) (slice_get h.roles at)
 sourced_at h (ClusterRoleAt at) i = option_and_then (λ role. rule_at (InClusterRole role) role.rules i) (slice_get h.cluster_roles at)
 
+-- the grant of these places, if the parts are there
 abbrev pub grant_at : Held → GrantPlace → Option GrantView
 grant_at h g = option_and_then (λ b. option_map (λ rule. record { binding = b; rule = rule }) (sourced_at h g.role g.rule)) (slice_get h.bindings g.binding)
 
+-- the grants of such places, in order
 abbrev pub grants_at : Held → List GrantPlace → List GrantView
 grants_at h gs = filter_map (grant_at h) gs
 
@@ -179,14 +184,17 @@ Live None asked t = Unit {0}
 Live (Some namespace) asked (Resource _ _ _) = (asked ≢ []) × (namespace ≡ asked)
 Live (Some namespace) asked (Url _) = ⊥
 
+-- some subject of the binding names who asks (Using RBAC Authorization, Referring to subjects)
 abbrev pub BindingNames : Binding → Who → Type 0
 BindingNames b who = Any (λ subject. Names subject b.namespace who) b.subjects
 
--- a binding grants: it is live, names who asks, and brings a rule that allows
+-- the binding brings a rule that allows the verb on the target
+abbrev pub Brings : Held → Binding → Text → What → Type 0
+Brings h b verb t = (rules : List SourcedRule) × AreRulesFor h b rules × Any (λ r. RuleAllows r.rule verb t) rules
+
+-- a binding grants: it is live, names who asks, and brings a rule that allows (Using RBAC Authorization)
 abbrev pub Grants : Held → Binding → Who → Text → Text → What → Type 0
-Grants h b who namespace verb t =
-    Live b.namespace namespace t × BindingNames b who
-    × ((rules : List SourcedRule) × AreRulesFor h b rules × Any (λ r. RuleAllows r.rule verb t) rules)
+Grants h b who namespace verb t = Live b.namespace namespace t × BindingNames b who × Brings h b verb t
 
 -- some binding grants; there are no deny rules (Using RBAC Authorization)
 abbrev pub Allows : Held → Who → Text → Text → What → Type 0

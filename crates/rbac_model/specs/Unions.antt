@@ -1,4 +1,4 @@
-use Rattle.std.specs.Prelude.{◌≡◌, ◌↔◌, ◌⊎◌, List, [], ◌∷◌, Contains, Any}
+use Rattle.std.specs.Prelude.{◌≡◌, ◌↔◌, List, [], ◌∷◌, Contains, Any}
 use Rattle.rbac_terms.specs.Text.{Text}
 use Rattle.rbac_model.specs.Lists.{IsAscendingBy}
 use Rattle.rbac_terms.specs.Principals.{Who, key_of, given_of}
@@ -16,9 +16,3 @@ pub record AreUnited (listed ps : List Who) : Type 0 where
   pub ordered : IsAscendingBy who_name ps
   pub keys : (key : Text) → Any (λ p. key_of p ≡ key) ps ↔ Any (λ p. key_of p ≡ key) listed
   pub given : (key g : Text) → IsGiven ps key g ↔ IsGiven listed key g
-
--- the same after one principal more
-pub record IsUnited (old : List Who) (who : Who) (new : List Who) : Type 0 where
-  pub ordered : IsAscendingBy who_name new
-  pub keys : (key : Text) → Any (λ p. key_of p ≡ key) new ↔ (Any (λ p. key_of p ≡ key) old ⊎ (key_of who ≡ key))
-  pub given : (key g : Text) → IsGiven new key g ↔ (IsGiven old key g ⊎ ((key_of who ≡ key) × Contains (given_of who) g))

@@ -1,20 +1,16 @@
-use Rattle.std.specs.Prelude.{◌≡◌, ◌≢◌, ℕ, ◌+◌, ◌<◌, ◌⊎◌, ◌↔◌, List, [], ◌∷◌, Option, Some, None, Bool, true, IsTrue, Contains, map, take, filter, length, nat_lt, AllPairs}
+use Rattle.std.specs.Prelude.{◌≡◌, ◌≢◌, ℕ, ◌⊎◌, ◌↔◌, List, [], ◌∷◌, Option, Some, None, Bool, true, IsTrue, Contains, map, take, filter, length, nat_lt, AllPairs}
 use Rattle.std.specs.List.{flat_map}
 use Rattle.std.specs.Ordering.{is_lt, is_gt}
 use Rattle.rbac_model.specs.Lists.{IsCount, IsAscendingBy}
 use Rattle.rbac_terms.specs.Text.{Text}
-use Rattle.rbac_terms.specs.Targets.{What, Url, group_of, text_of, name_of}
-use Rattle.rbac_terms.specs.Principals.{Who, AsUser, AsMember, key_of as who_key}
+use Rattle.rbac_terms.specs.Targets.{What, Url, IsProper, group_of, text_of, name_of}
+use Rattle.rbac_terms.specs.Principals.{Who}
 use Rattle.rbac_terms.specs.Keys.{KeyTexts, key_of, key_cmp}
 use Rattle.rbac_terms.specs.Matching.{VerbOk, TargetOk, RuleAllows}
-use Rattle.rbac_terms.specs.Targets.{IsProper}
-use Rattle.rbac_model.specs.Policies.{Held, PolicyView, GrantView, BindingNames, Live, IsFirst, AreRulesFor, SourcedRule}
-use Rattle.std.specs.Prelude.{Any, slice_get}
+use Rattle.rbac_model.specs.Policies.{Held, PolicyView, GrantView, BindingNames, IsFirst}
+use Rattle.rbac_model.specs.Unions.{who_name}
 use Rattle.rbac_terms.specs.declared.matching.Rule.{Rule}
 use Rattle.rbac_terms.specs.declared.granting.Binding.{Binding}
-use Rattle.rbac_terms.specs.declared.granting.Subject.{Subject}
-use Rattle.rbac_terms.specs.declared.granting.Subject.TheVariants.{User, Group, Account}
-use Rattle.rbac_terms.specs.Principals.{account_user}
 
 -- a target with whether it is namespaced; a URL isn't
 abbrev pub Listed : Type 0
@@ -27,12 +23,13 @@ pub record UniverseView : Type 0 where
   pub verbs : List Text
   pub targets : List Listed
 
+-- the texts of a target by which targets are ordered: group, resource text or path, and name
 abbrev pub target_texts : Listed → List Text
 target_texts t = group_of t.0 ∷ text_of t.0 ∷ name_of t.0 ∷ []
 
 -- the lists are in order, and no URL is namespaced (own)
 pub record IsUniverse (u : UniverseView) : Type 0 where
-  pub principals : IsAscendingBy (λ who. who_key who ∷ []) u.principals
+  pub principals : IsAscendingBy who_name u.principals
   pub namespaces : IsAscendingBy (λ n. n ∷ []) u.namespaces
   pub verbs : IsAscendingBy (λ v. v ∷ []) u.verbs
   pub targets : IsAscendingBy target_texts u.targets
@@ -49,9 +46,11 @@ pub record Cell : Type 0 where
 abbrev pub Fits : Cell → Type 0
 Fits c = (IsTrue c.target.1) ⊎ (c.namespace ≡ [])
 
+-- the key of a request, by which rows are ordered
 abbrev pub cell_key : Cell → KeyTexts
 cell_key c = key_of c.who c.namespace c.verb c.target.0
 
+-- it is a request of the universe: each of its parts stands in the list of its kind
 abbrev pub IsCellOf : UniverseView → Cell → Type 0
 IsCellOf u c = Contains u.principals c.who × Contains u.namespaces c.namespace × Contains u.verbs c.verb × Contains u.targets c.target
 
@@ -60,6 +59,7 @@ pub record RowView : Type 0 where
   pub cell : Cell
   pub binding : Binding
 
+-- a row of the matrix: a request of the universe that fits, with the first binding that grants it
 abbrev pub IsRow : Held → UniverseView → RowView → Type 0
 IsRow h u row = IsCellOf u row.cell × Fits row.cell × IsFirst h row.cell.who row.cell.namespace row.cell.verb row.cell.target.0 row.binding
 
@@ -76,41 +76,6 @@ rows_after (Some k) rows = filter (λ row. is_gt (key_cmp (cell_key row.cell) k)
 -- the first n of them, and whether one more exists
 abbrev pub page : Option KeyTexts → ℕ → List RowView → List RowView × Bool
 page k n rows = (take n (rows_after k rows), nat_lt n (length (rows_after k rows)))
-
--- the principal key of a subject, if it has one (own): an account's is its user's, and one without any namespace has none
-abbrev pub IsSubjectKey : Subject → Option Text → Text → Type 0
-IsSubjectKey (User name) _ key = key ≡ who_key (AsUser name [])
-IsSubjectKey (Group name) _ key = key ≡ who_key (AsMember name)
-IsSubjectKey (Account (Some namespace) name) _ key = key ≡ who_key (AsUser (account_user namespace name) [])
-IsSubjectKey (Account None name) (Some namespace) key = key ≡ who_key (AsUser (account_user namespace name) [])
-IsSubjectKey (Account None name) None key = ⊥
-
--- the key holds by that subject of that binding: the binding is live, and brings a rule that allows
-abbrev pub HoldsBy : Held → Text → Text → What → Binding → Subject → Text → Type 0
-HoldsBy h namespace verb t b s key =
-    Live b.namespace namespace t × ((rules : List SourcedRule) × AreRulesFor h b rules × Any (λ r. RuleAllows r.rule verb t) rules)
-    × IsSubjectKey s b.namespace key
-
--- a holder: a key, with the least pair of places, of a binding and of a subject in it, by which it holds
-pub record HolderView : Type 0 where
-  pub key : Text
-  pub binding : Binding
-  pub binding_place : ℕ
-  pub subject_place : ℕ
-
-abbrev pub HoldsAt : Held → Text → Text → What → Text → ℕ → ℕ → Type 0
-HoldsAt h namespace verb t key i j =
-    (b : Binding) × (s : Subject) × (slice_get h.bindings i ≡ Some b) × (slice_get b.subjects j ≡ Some s) × HoldsBy h namespace verb t b s key
-
-abbrev pub IsHolder : Held → Text → Text → What → HolderView → Type 0
-IsHolder h namespace verb t x =
-    (slice_get h.bindings x.binding_place ≡ Some x.binding) × HoldsAt h namespace verb t x.key x.binding_place x.subject_place
-    × ((i j : ℕ) → HoldsAt h namespace verb t x.key i j → (x.binding_place < i) ⊎ ((x.binding_place ≡ i) × (x.subject_place < j + 1)))
-
--- who can: each holder once, in order of these pairs (own)
-pub record AreHolders (h : Held) (namespace verb : Text) (t : What) (xs : List HolderView) : Type 0 where
-  pub ordered : AllPairs (λ x y. (x.binding_place < y.binding_place) ⊎ ((x.binding_place ≡ y.binding_place) × (x.subject_place < y.subject_place))) xs
-  pub exact : (x : HolderView) → Contains xs x ↔ IsHolder h namespace verb t x
 
 -- a allows whatever b allows: every verb, and every target that is proper
 abbrev pub Covers : Rule → Rule → Type 0

@@ -3,15 +3,17 @@
 ghost use Rattle.std.specs.Prelude.{◌≡◌};
 
 use std::alloc::{AllocError, AllocFailed};
-use std::error::Error;
-use std::fmt;
+use thiserror::Error;
 
-/// Why objects don't resolve to a policy.
-#[derive(Debug, Drop, Clone, Copy, PartialEq, Eq)]
+/// Why objects don't resolve to a policy (own). Its text is the number and name of the refusal; want
+/// of memory has no number there.
+#[derive(Debug, Drop, Clone, Copy, PartialEq, Eq, Error)]
 pub enum ResolveFault {
     /// P2: more than a million grants.
+    #[error("P2 too many grants")]
     TooMany,
     /// P5: memory was refused.
+    #[error("out of memory")]
     NoMemory,
 }
 
@@ -34,14 +36,3 @@ impl<T: Drop> From<AllocFailed<T>> for ResolveFault {
         ResolveFault::NoMemory
     }
 }
-
-impl fmt::Display for ResolveFault {
-    fn fmt<W: fmt::Write>(&self, f: &mut fmt::Formatter<W>) -> fmt::Result {
-        match self {
-            ResolveFault::TooMany => write!(f, "P2 too many grants"),
-            ResolveFault::NoMemory => write!(f, "out of memory"),
-        }
-    }
-}
-
-impl Error for ResolveFault {}

@@ -1,6 +1,6 @@
 //! What aggregated roles gather from.
 
-ghost use Rattle.std.specs.Prelude.{◌≡◌, ◌≢◌, ◌<◌, ◌↔◌, ℕ, IsTrue, Some, IfOk, Contains, length, slice_get, AllPairs, Any, []};
+ghost use Rattle.std.specs.Prelude.{◌≡◌, ◌≢◌, ◌<◌, ◌↔◌, ℕ, IsTrue, Some, IfOk, Contains, slice_get, AllPairs, Any, []};
 ghost use Rattle.rbac_model.specs.Policies.{Gathers, AreReachedNames};
 ghost use Rattle.rbac_model.specs.Graphs.{IsMarked};
 ghost use Rattle.rbac_terms.specs.declared.granting.ClusterRole.{ClusterRole};

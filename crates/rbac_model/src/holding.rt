@@ -1,7 +1,7 @@
 //! The objects that are held, in order of their names.
 
-ghost use Rattle.std.specs.Prelude.{◌≡◌, ◌↔◌, IsTrue, IfOk, IfErr, OnOk, OnErr, Any, List, [], ℕ, length};
-ghost use Rattle.rbac_terms.specs.Text.{Text, text_cmp};
+ghost use Rattle.std.specs.Prelude.{◌≡◌, ◌↔◌, IsTrue, IfOk, IfErr, OnOk, OnErr, Any, List, [], length};
+ghost use Rattle.rbac_terms.specs.Text.{Text};
 ghost use Rattle.rbac_model.specs.Lists.{by_name, IsAscendingBy, IsPut, IsAtName, IsGapForName};
 
 use rbac_terms::{Binding, ClusterRole, ModelFault, Role};

@@ -1,6 +1,6 @@
 //! Which of the objects given stand: a later one replaces an earlier one of its kind and name.
 
-ghost use Rattle.std.specs.Prelude.{◌≡◌, ◌++◌, IfOk, IfErr, OnOk};
+ghost use Rattle.std.specs.Prelude.{◌≡◌, IfOk, IfErr};
 ghost use Rattle.std.specs.List.{filter_map};
 ghost use Rattle.rbac_model.specs.Kept.{AreKept, AreLastNamed, as_role, as_cluster_role, as_binding};
 

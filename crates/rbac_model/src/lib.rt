@@ -24,7 +24,7 @@ pub use policy::Policy;
 pub use rbac_terms::{
     Binding, ClusterRole, Key, Labels, ModelFault, Principal, Requirement, Requirements, Role,
     RoleRef, Rule, Rules, SelectOp, Selector, Selectors, Subject, Subjects, Target, Word, Words,
-    group_matches, name_matches, names, resource_matches, rule_allows, selects, target_matches,
-    url_matches, verb_matches,
+    account_user, group_matches, name_matches, names, resource_matches, rule_allows, selects,
+    subject_key, target_matches, url_matches, verb_matches,
 };
-pub use resolving::{Grant, SourceRole, role_of};
+pub use resolving::{Grant, SourceRole};

@@ -1,9 +1,9 @@
 //! What the references of bindings stand for.
 
-ghost use Rattle.std.specs.Prelude.{◌≡◌, ◌<◌, Contains, Any, HoldsAt, MatchOption, IsSome, Some, length};
+ghost use Rattle.std.specs.Prelude.{◌≡◌, ◌<◌, Any, HoldsAt, MatchOption, IsSome, Some, length};
 ghost use Rattle.rbac_model.specs.Lists.{IsAscendingBy};
 ghost use Rattle.rbac_model.specs.Places.{IsRefAt};
-ghost use Rattle.rbac_model.specs.Policies.{Held, Source, IsRefTo, grant_at, sourced_at, role_name, cluster_role_name};
+ghost use Rattle.rbac_model.specs.Policies.{Source, IsRefTo, grant_at, sourced_at, role_name, cluster_role_name};
 ghost use Rattle.rbac_model.specs.Sources.{grant_of, source_of};
 
 use crate::holding::Objects;
@@ -64,51 +64,6 @@ fn sourced<'a>(objects: &'a Objects, role: RolePlace, place: usize) -> (SourceRo
     }
 }
 
-/// The role that a binding refers to, if it is held: a RoleBinding to a Role of its own namespace
-/// or to a ClusterRole, a ClusterRoleBinding to a ClusterRole (Using RBAC Authorization,
-/// RoleBinding and ClusterRoleBinding). A ClusterRoleBinding that names a Role refers to none.
-pub fn role_of<'a>(objects: &'a Objects, binding: &Binding) -> Option<SourceRole<'a>>
-    ensures { MatchOption result
-        ((source : Source) → ¬ IsRefTo objects.now binding.now.namespace binding.now.role source)
-        (λ role. IsRefTo objects.now binding.now.namespace binding.now.role (source_of role)) }
-{
-    match (&binding.namespace, &binding.role) {
-        (Some(namespace), RoleRef::Role(name)) => match find_role(objects, namespace, name) {
-            Some(role) => Some(SourceRole::Role(role)),
-            None => None,
-        },
-        (None, RoleRef::Role(_)) => None,
-        (_, RoleRef::ClusterRole(name)) => match find_cluster_role(objects, name) {
-            Some(role) => Some(SourceRole::ClusterRole(role)),
-            None => None,
-        },
-    }
-}
-
-fn find_role<'a>(objects: &'a Objects, namespace: &Word, name: &Word) -> Option<&'a Role>
-    ensures { MatchOption result
-        (¬ Any (λ r. (r.namespace ≡ namespace.now) × (r.name ≡ name.now)) objects.now.roles)
-        (λ r. Contains objects.now.roles r.now × (r.now.namespace ≡ namespace.now) × (r.now.name ≡ name.now)) }
-{
-    let roles = objects.roles();
-    match role_place(roles, namespace, name) {
-        Some(at) => Some(&roles[at]),
-        None => None,
-    }
-}
-
-fn find_cluster_role<'a>(objects: &'a Objects, name: &Word) -> Option<&'a ClusterRole>
-    ensures { MatchOption result
-        (¬ Any (λ r. r.name ≡ name.now) objects.now.cluster_roles)
-        (λ r. Contains objects.now.cluster_roles r.now × (r.now.name ≡ name.now)) }
-{
-    let roles = objects.cluster_roles();
-    match cluster_role_place(roles, name) {
-        Some(at) => Some(&roles[at]),
-        None => None,
-    }
-}
-
 // Where the role of that namespace and name is.
 pub(crate) fn role_place(roles: &[Role], namespace: &Word, name: &Word) -> Option<usize>
     requires { IsAscendingBy role_name roles.now }
@@ -131,23 +86,23 @@ pub(crate) fn cluster_role_place(roles: &[ClusterRole], name: &Word) -> Option<u
     roles.binary_search_by(|held| held.name.cmp(name)).ok()
 }
 
-// Where the role is that a binding refers to, if it is held.
+// Where the role is that a binding refers to, if it is held: a RoleBinding to a Role of its own
+// namespace or to a ClusterRole, a ClusterRoleBinding to a ClusterRole (Using RBAC Authorization,
+// RoleBinding and ClusterRoleBinding). A ClusterRoleBinding that names a Role refers to none.
 pub(crate) fn ref_place(objects: &Objects, binding: &Binding) -> Option<RolePlace>
     ensures { MatchOption result
         ((source : Source) → ¬ IsRefTo objects.now binding.now.namespace binding.now.role source)
         (IsRefAt objects.now binding.now.namespace binding.now.role) }
 {
     match &binding.role {
-        RoleRef::Role(name) => match &binding.namespace {
-            Some(namespace) => match role_place(objects.roles(), namespace, name) {
-                Some(at) => Some(RolePlace::RoleAt(at)),
-                None => None,
-            },
-            None => None,
-        },
-        RoleRef::ClusterRole(name) => match cluster_role_place(objects.cluster_roles(), name) {
-            Some(at) => Some(RolePlace::ClusterRoleAt(at)),
-            None => None,
-        },
+        RoleRef::Role(name) => {
+            let namespace = binding.namespace.as_ref()?;
+            let place = role_place(objects.roles(), namespace, name)?;
+            Some(RolePlace::RoleAt(place))
+        }
+        RoleRef::ClusterRole(name) => {
+            let place = cluster_role_place(objects.cluster_roles(), name)?;
+            Some(RolePlace::ClusterRoleAt(place))
+        }
     }
 }

@@ -1,8 +1,8 @@
 //! What TARGET and `--subresource` ask for.
 
-ghost use Rattle.std.specs.Prelude.{◌≡◌, ◌≢◌, [], IsTrue, ◌↔◌, ◌⊎◌, MatchBool, Contains, IfOk, OnOk, IfErr, codes};
-ghost use Rattle.rbac_terms.specs.Text.{Text, BeginsWith};
-ghost use Rattle.rbac_question.specs.Asked.{AskedFor, ForUrl, ForType, IsAskable, AsksFor, RefusesTarget, IsTypeAndName, LacksType, HasUrlSubresource, IsForUrl, IsForType, text_of, subresource_of, name_of};
+ghost use Rattle.std.specs.Prelude.{◌≡◌, [], IsTrue, ◌↔◌, MatchBool, IfOk, OnOk, IfErr, codes};
+ghost use Rattle.rbac_terms.specs.Text.{BeginsWith};
+ghost use Rattle.rbac_question.specs.Asked.{AskedFor, ForUrl, IsAskable, AsksFor, RefusesTarget, IsTypeAndName, LacksType, HasUrlSubresource, IsForUrl, IsForType, text_of, subresource_of, name_of};
 
 use crate::fault::QuestionFault;
 use rbac_terms::Word;

@@ -10,7 +10,7 @@ use std::io::Write;
 use std::marker::Model;
 
 // From how many bytes on the text is handed to the sink.
-const FULL: usize = 65536;
+const FULL: usize = 65_536;
 
 /// Text that is printed bit by bit and handed to a sink in pieces of 64 KiB or more, with the
 /// number of bytes that the sink took of it.

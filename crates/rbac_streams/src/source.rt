@@ -8,14 +8,14 @@ ghost use Rattle.rbac_streams.specs.Taken.{counted};
 use crate::input::Input;
 use crate::sink::Failed;
 use std::alloc::Global;
-use std::error::Error;
+use std::fs;
 use std::io::Read;
 use std::marker::Model;
 use std::rt::Files;
-use std::{fmt, fs};
+use thiserror::Error;
 
 /// How many bytes an input may have: 64 MiB (own).
-pub const MOST_BYTES: usize = 67108864;
+pub const MOST_BYTES: usize = 67_108_864;
 
 /// A reader that isn't called again once a read of it failed, with the number of reads.
 ///
@@ -36,13 +36,16 @@ impl<R> Model for Source<R> {
 }
 
 /// Why an input couldn't be read.
-#[derive(Clone, Copy, Debug, PartialEq, Eq)]
+#[derive(Clone, Copy, Debug, PartialEq, Eq, Error)]
 pub enum InputFault {
     /// I1: a read failed, or the file couldn't be opened.
+    #[error("I1 read fault")]
     ReadFault,
     /// I2: more than [`MOST_BYTES`] came.
+    #[error("I2 too long")]
     TooLong,
     /// I3: memory was refused.
+    #[error("out of memory")]
     NoMemory,
 }
 
@@ -136,15 +139,3 @@ pub fn read_file<R: Files>(rt: &R, alloc: Global, path: &str) -> Result<Input, I
         Err(_) => Err(InputFault::ReadFault),
     }
 }
-
-impl fmt::Display for InputFault {
-    fn fmt<W: fmt::Write>(&self, f: &mut fmt::Formatter<W>) -> fmt::Result {
-        match self {
-            InputFault::ReadFault => write!(f, "I1 read fault"),
-            InputFault::TooLong => write!(f, "I2 too long"),
-            InputFault::NoMemory => write!(f, "out of memory"),
-        }
-    }
-}
-
-impl Error for InputFault {}

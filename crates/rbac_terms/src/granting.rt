@@ -1,12 +1,14 @@
 //! Roles, and the bindings that grant them.
 
-ghost use Rattle.std.specs.Prelude.{◌≡◌, IsTrue, ◌↔◌, option_copied};
-ghost use Rattle.rbac_terms.specs.Granting.{Names};
+ghost use Rattle.std.specs.Prelude.{◌≡◌, IsTrue, ◌↔◌, IfOk, MatchOption, option_copied};
+ghost use Rattle.rbac_terms.specs.Text.{Text};
+ghost use Rattle.rbac_terms.specs.Granting.{Names, IsSubjectKey};
 
 use crate::matching::Rules;
-use crate::request::Principal;
+use crate::request::{Principal, account_user, member_key, user_key};
 use crate::selecting::{Labels, Selectors};
 use crate::text::Word;
+use std::alloc::{AllocError, Global};
 use std::marker::Model;
 
 /// A role of one namespace (Using RBAC Authorization, "Role and ClusterRole").
@@ -114,16 +116,35 @@ pub fn names(subject: &Subject, binding_namespace: Option<&Word>, principal: &Pr
     match subject {
         Subject::User(name) => principal.is_user_named(name),
         Subject::Group(name) => principal.in_group(name),
-        Subject::Account {
-            namespace: Some(namespace),
-            name,
-        } => principal.is_account(namespace, name),
-        Subject::Account {
-            namespace: None,
-            name,
-        } => match binding_namespace {
+        Subject::Account { namespace, name } => match namespace.as_ref().or(binding_namespace) {
             Some(namespace) => principal.is_account(namespace, name),
             None => false,
+        },
+    }
+}
+
+/// The key of the principal that a subject stands for, in a binding in that namespace, or in a
+/// ClusterRoleBinding where there is none (own): an account's is its user's. An account without a
+/// namespace is of the binding's; in a ClusterRoleBinding it stands for nobody. Fails only where
+/// memory is refused.
+pub fn subject_key(
+    alloc: Global,
+    subject: &Subject,
+    binding_namespace: Option<&Word>,
+) -> Result<Option<Word>, AllocError>
+    ensures { IfOk result (λ o. MatchOption o
+        ((key : Text) → ¬ IsSubjectKey subject.now (option_copied binding_namespace.entry) key)
+        (λ w. (key : Text) → IsSubjectKey subject.now (option_copied binding_namespace.entry) key ↔ (key ≡ w))) }
+{
+    match subject {
+        Subject::User(name) => Ok(Some(user_key(alloc, name)?)),
+        Subject::Group(name) => Ok(Some(member_key(alloc, name)?)),
+        Subject::Account { namespace, name } => match namespace.as_ref().or(binding_namespace) {
+            Some(namespace) => {
+                let user = account_user(alloc, namespace, name)?;
+                Ok(Some(user_key(alloc, &user)?))
+            }
+            None => Ok(None),
         },
     }
 }

@@ -11,12 +11,12 @@ mod selecting;
 mod text;
 
 pub use fault::ModelFault;
-pub use granting::{Binding, ClusterRole, Role, RoleRef, Subject, Subjects, names};
+pub use granting::{Binding, ClusterRole, Role, RoleRef, Subject, Subjects, names, subject_key};
 pub use keys::Key;
 pub use matching::{
     Rule, Rules, group_matches, name_matches, resource_matches, rule_allows, target_matches,
     url_matches, verb_matches,
 };
-pub use request::{Principal, Target};
+pub use request::{Principal, Target, account_user};
 pub use selecting::{Labels, Requirement, Requirements, SelectOp, Selector, Selectors, selects};
 pub use text::{Word, Words, cut_at_first};

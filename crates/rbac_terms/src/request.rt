@@ -10,6 +10,12 @@ use crate::text::{Word, Words, after_front, cut_at_first, is_joined};
 use std::alloc::{AllocError, Global};
 use std::marker::Model;
 
+// What the key of a user begins with.
+const USER: &[u8] = b"u:";
+
+// What the key of a member of a group begins with.
+const MEMBER: &[u8] = b"g:";
+
 // What stands between the parts of a service account's user name.
 const COLON: &[u8] = b":";
 
@@ -154,7 +160,7 @@ impl Principal {
     {
         Ok(Principal {
             is_user: true,
-            key: named_key(alloc, b"u:", name)?,
+            key: named_key(alloc, USER, name)?,
             given: given.clone()?,
         })
     }
@@ -168,7 +174,7 @@ impl Principal {
     {
         Ok(Principal {
             is_user: false,
-            key: named_key(alloc, b"g:", name)?,
+            key: named_key(alloc, MEMBER, name)?,
             given: Words::new(alloc),
         })
     }
@@ -236,17 +242,49 @@ impl Principal {
 }
 
 // The key of a principal of this name, which may not be empty.
-fn named_key(alloc: Global, prefix: &[u8; 2], name: &Word) -> Result<Word, ModelFault>
-    ensures ok { IfOk result (λ key. key ≡ prefix.now ++ name.now) }
+fn named_key(alloc: Global, front: &[u8], name: &Word) -> Result<Word, ModelFault>
+    ensures ok { IfOk result (λ key. key ≡ front.now ++ name.now) }
     ensures empty { (result ≡ Err ModelFault.EmptyName) ↔ (name.now ≡ []) }
     ensures errors { IfErr result (λ e. (e ≡ ModelFault.EmptyName) ⊎ (e ≡ ModelFault.NoMemory)) }
 {
     if name.is_empty() {
         return Err(ModelFault::EmptyName);
     }
-    let mut key = Word::from_slice(alloc, prefix.as_slice())?;
-    key.push_slice(name.as_bytes())?;
-    Ok(key)
+    Ok(with_front(alloc, front, name)?)
+}
+
+fn with_front(alloc: Global, front: &[u8], name: &Word) -> Result<Word, AllocError>
+    ensures { IfOk result (λ word. word ≡ front.now ++ name.now) }
+{
+    let mut word = Word::from_slice(alloc, front)?;
+    word.push_slice(name.as_bytes())?;
+    Ok(word)
+}
+
+// The key of the user of this name.
+pub(crate) fn user_key(alloc: Global, name: &Word) -> Result<Word, AllocError>
+    ensures { IfOk result (λ key. key ≡ who_key (AsUser name.now [])) }
+{
+    with_front(alloc, USER, name)
+}
+
+// The key of a member of the group of this name.
+pub(crate) fn member_key(alloc: Global, name: &Word) -> Result<Word, AllocError>
+    ensures { IfOk result (λ key. key ≡ who_key (AsMember name.now)) }
+{
+    with_front(alloc, MEMBER, name)
+}
+
+/// The user name of a service account, `system:serviceaccount:NAMESPACE:NAME` (Using RBAC
+/// Authorization, "Referring to subjects"). Fails only where memory is refused.
+pub fn account_user(alloc: Global, namespace: &Word, name: &Word) -> Result<Word, AllocError>
+    ensures { IfOk result (λ user. user ≡ account_user namespace.now name.now) }
+{
+    let mut user = Word::from_slice(alloc, ACCOUNT)?;
+    user.push_slice(namespace.as_bytes())?;
+    user.push_slice(COLON)?;
+    user.push_slice(name.as_bytes())?;
+    Ok(user)
 }
 
 // The namespace of the service account whose user name this is.

@@ -4,7 +4,7 @@ ghost use Rattle.std.specs.Prelude.{◌≡◌, ◌<◌, ◌++◌, ◌∷◌, [],
 ghost use Rattle.std.specs.List.{flat_map};
 ghost use Rattle.rbac_text.specs.Field.{hex_digit, is_control, code_text, byte_text, field_text};
 
-use std::alloc::{AllocError, AllocFailed};
+use std::alloc::AllocError;
 
 /// Adds a field to a line (own): the empty text as `-`, the text `-` as `\x2d`, and else the text
 /// with backslashes doubled and bytes below 32 and byte 127 as `\x` and two lower-case hexadecimal

@@ -5,7 +5,7 @@ ghost use Rattle.rbac_text.specs.Row.{holder_text};
 
 use crate::row::{put_binding, put_field_and_tab};
 use rbac_terms::{Binding, Word};
-use std::alloc::{AllocError, AllocFailed};
+use std::alloc::AllocError;
 
 /// Adds the line of a holder (own): its key and the binding that lets it, joined by a tab, with the
 /// line's end. Where memory is refused a front of it may have been added.

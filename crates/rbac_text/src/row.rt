@@ -10,7 +10,7 @@ ghost use Rattle.rbac_text.specs.Row.{binding_scope, binding_text, field_and_tab
 
 use crate::field::{put_field, put_text};
 use rbac_terms::{Binding, Principal, Target, Word};
-use std::alloc::{AllocError, AllocFailed};
+use std::alloc::AllocError;
 
 /// Adds the name of a binding to a line as one field (own): `ClusterRoleBinding/NAME` or
 /// `RoleBinding/NAMESPACE/NAME`. Where memory is refused a front of it may have been added.

@@ -10,7 +10,7 @@ use crate::row::put_binding;
 use itoa::Buffer;
 use rbac_model::SourceRole;
 use rbac_terms::{Binding, RoleRef, Word};
-use std::alloc::{AllocError, AllocFailed};
+use std::alloc::AllocError;
 
 /// Adds the name of a role of a namespace as one field (own): `Role/NAMESPACE/NAME`. Where memory is
 /// refused a front of it may have been added.

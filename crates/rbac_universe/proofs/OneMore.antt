@@ -131,13 +131,6 @@ module _ {X : Type 0} (name : X → List Text) (has : X → Text → Type 0) whe
     }
 
   -- the list, element by element
-  pub none_united : AreUnitedBy name has [] []
-  none_united = record {
-    ordered = λ i j d lt l. absurd (omega arith);
-    names = λ n. (λ w. w, λ w. w);
-    told = λ n t. (λ w. w, λ w. w);
-  }
-
   pub one_united : (listed united new : List X) (item : X) → AreUnitedBy name has listed united → IsOneMore name has united item new → AreUnitedBy name has (listed ++ item ∷ []) new
   one_united listed united new item are one = record {
     ordered = one.ordered;

@@ -1,7 +1,5 @@
 //! Principals once for each key, with all groups that are given.
 
-ghost use Rattle.std.specs.Prelude.{◌≡◌};
-
 use crate::uniting::Unites;
 use rbac_terms::Principal;
 use std::alloc::AllocError;

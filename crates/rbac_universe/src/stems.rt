@@ -1,9 +1,9 @@
 //! Stems, of which targets are made: a resource, which takes each name, or a URL. A URL begins with
 //! a slash, which a resource doesn't, so a stem needs no mark.
 
-ghost use Rattle.std.specs.Prelude.{◌≡◌, ◌++◌, [], ℕ, length, All, IfOk, OnOk, IsTrue, ◌↔◌};
+ghost use Rattle.std.specs.Prelude.{◌≡◌, ◌++◌, length, All, IfOk, OnOk, IsTrue};
 ghost use Rattle.std.specs.List.{flat_map};
-ghost use Rattle.rbac_terms.specs.Targets.{What, Resource, Url, IsProper};
+ghost use Rattle.rbac_terms.specs.Targets.{Resource, Url, IsProper};
 ghost use Rattle.rbac_universe.specs.Stems.{is_path, url_stem, stems_of, stem_name, targets_of, flags_of, IsStem};
 
 use crate::lists::{ListedResource, UniverseLists};

@@ -1,5 +1,5 @@
-use Rattle.std.proofs.Common.{◌≡◌, ◌++◌, map, take}
+use Rattle.rbac_index.proofs.WrittenLemmas.{HasMore}
 use Rattle.rbac_index.proofs.written.push_row.Given as goal
 
-abbrev pub invariant-loop-rule : goal.invariant-loop-rule
-invariant-loop-rule l = map (λ r. r.now) l.rules.items ≡ map (λ r. r.now) l.fn.rules.items ++ take l.rule-index l.rule-items
+abbrev pub invariant-loop-place : goal.invariant-loop-place
+invariant-loop-place l = HasMore l.fn.rules.items l.rules.items l.row l.of_row l.place

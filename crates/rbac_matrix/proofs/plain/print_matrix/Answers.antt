@@ -1,8 +1,11 @@
-use Rattle.std.proofs.Common.{◌≡◌, ◌≤◌, ◌<◌, length, get_or}
+use Rattle.std.proofs.Common.{◌≡◌, ◌≤◌, ◌<◌, List, [], length, get_or, sym, append-nil}
 use Rattle.std.proofs.lemmas.Result.{err_from_is_err_and}
-use Rattle.rbac_matrix.specs.Cells.{principal_cells}
+use Rattle.rbac_model.specs.Universes.{RowView, IsMatrix}
+use Rattle.rbac_matrix.specs.Cells.{principal_cells, cells_of}
+use Rattle.rbac_matrix.specs.Printed.{rows_text}
 use Rattle.rbac_matrix.proofs.OneMatrix.{is_matrix, matrix_rows}
-use Rattle.rbac_matrix.proofs.PrintedRows.{printed_next, printed_all, stopped_at}
+use Rattle.rbac_matrix.proofs.PrintedRows.{IsTextOf, printed_next, printed_all, stopped_at}
+use Rattle.rbac_matrix.proofs.Within.{within_more}
 use Rattle.rbac_matrix.proofs.plain.print_matrix.Goals as goal
 
 pub returns-in_err-print_principal-clause-err : goal.returns-in_err-print_principal-clause-err
@@ -16,7 +19,10 @@ returns-in_err-print_principal-clause-err g c =
     let stopped = stopped_at g.W.Write.contents h (principal_cells u) u.principals c.loop-principal.principal-index
     c.args.sink.now c.loop-principal.sink c.print_principal.new.sink c.args.page.now c.loop-principal.page c.print_principal.new.page item
     c.in_err-print_principal.field-0.0 in_range read c.loop-principal.invariant c.in_err-print_principal.ensures.err in
-    rw p.1 (λ rows matrix. stopped.stops rows (matrix_rows h u c.principals-principal-items.ensures.ordered rows matrix))
+    rw p.1 (within_more g.W.Write.contents c.args.sink.now c.print_principal.new.sink c.args.page.now c.print_principal.new.page
+    (IsTextOf h (cells_of u))
+    (λ more. (rows : List RowView) × IsMatrix h u rows × (more ≡ rows_text rows)) stopped.stops
+    (λ more (rows, matrix, e). (more, (rows, matrix_rows h u c.principals-principal-items.ensures.ordered rows matrix, e), ([], sym (append-nil more)))))
 
 pub loop-principal-preserved : goal.loop-principal-preserved
 loop-principal-preserved g c =

@@ -1,0 +1,31 @@
+//! The items of a JSON list, all read by one reader.
+
+ghost use Rattle.std.specs.Prelude.{map, Option};
+ghost use Rattle.serde_json.specs.Data.{Data};
+ghost use Rattle.serde_json.specs.View.{view};
+ghost use Rattle.rbac_manifest.specs.Reads.{Reads};
+ghost use Rattle.rbac_manifest.specs.Lists.{ReadsAll};
+
+use crate::fault::{ItemFault, Trouble};
+use serde_json::Value;
+use std::alloc::Global;
+
+// What all items give, each as this reads it. The first bad one decides.
+#[tactic(auto, unfolding(crate::specs::Lists::bad_place, crate::specs::Lists::given_by))]
+pub(crate) fn all_read<T: Drop, F: Fn(&Value) -> Result<T, Trouble>>(
+    alloc: Global,
+    values: &[Value],
+    read: F,
+) -> Result<Vec<T>, ItemFault>
+    ghost at: { Data → Option T }
+    requires callable { F.IsAlwaysCallable read }
+    requires reads { (value : _) (found : _) → F.post read value found → Reads found (at (view value.now)) }
+    ensures { ReadsAll result at (map view values.now) }
+{
+    let mut items = Vec::new(alloc);
+    for (place, value) in values.iter().enumerate() {
+        let item = read(value).map_err(|trouble| trouble.at(place))?;
+        items.push(item)?;
+    }
+    Ok(items)
+}

@@ -1,0 +1,39 @@
+-- Who may use a verb on a target: the holders of a permission.
+use Rattle.std.specs.Prelude.{◌≡◌, ℕ, ◌+◌, ◌<◌, ◌⊎◌, ◌↔◌, List, Some, Contains, AllPairs, slice_get}
+use Rattle.rbac_terms.specs.Text.{Text}
+use Rattle.rbac_terms.specs.Targets.{What}
+use Rattle.rbac_terms.specs.Granting.{IsSubjectKey}
+use Rattle.rbac_terms.specs.declared.granting.Binding.{Binding}
+use Rattle.rbac_terms.specs.declared.granting.Subject.{Subject}
+use Rattle.rbac_model.specs.Policies.{Held, Live, Brings}
+
+-- the key holds by that subject of that binding: the binding is live, and brings a rule that allows
+abbrev pub HoldsBy : Held → Text → Text → What → Binding → Subject → Text → Type 0
+HoldsBy h namespace verb t b s key = Live b.namespace namespace t × Brings h b verb t × IsSubjectKey s b.namespace key
+
+-- a holder: a key, with the least pair of places, of a binding and of a subject in it, by which it holds
+pub record HolderView : Type 0 where
+  pub key : Text
+  pub binding : Binding
+  pub binding_place : ℕ
+  pub subject_place : ℕ
+
+-- the key holds by the subject at the second place of the binding at the first
+abbrev pub HoldsAt : Held → Text → Text → What → Text → ℕ → ℕ → Type 0
+HoldsAt h namespace verb t key i j =
+    (b : Binding) × (s : Subject) × (slice_get h.bindings i ≡ Some b) × (slice_get b.subjects j ≡ Some s) × HoldsBy h namespace verb t b s key
+
+-- the first pair of places stands before the second
+abbrev pub IsBefore : ℕ → ℕ → ℕ → ℕ → Type 0
+IsBefore i j k l = (i < k) ⊎ ((i ≡ k) × (j < l))
+
+-- x is a holder: its key holds by its pair of places, and by no pair before it (own)
+abbrev pub IsHolder : Held → Text → Text → What → HolderView → Type 0
+IsHolder h namespace verb t x =
+    (slice_get h.bindings x.binding_place ≡ Some x.binding) × HoldsAt h namespace verb t x.key x.binding_place x.subject_place
+    × ((i j : ℕ) → HoldsAt h namespace verb t x.key i j → IsBefore x.binding_place x.subject_place i (j + 1))
+
+-- who can: each holder once, in order of these pairs (own)
+pub record AreHolders (h : Held) (namespace verb : Text) (t : What) (xs : List HolderView) : Type 0 where
+  pub ordered : AllPairs (λ x y. IsBefore x.binding_place x.subject_place y.binding_place y.subject_place) xs
+  pub exact : (x : HolderView) → Contains xs x ↔ IsHolder h namespace verb t x
