@@ -32,7 +32,7 @@ use Rattle.rbac_question.specs.declared.command.Action.TheVariants.{CanI, WhoCan
 use Rattle.rbac_question.specs.declared.command.Question.{Question}
 use Rattle.rbac_cli.specs.Out.{Answers, AreHoldersMeant, holders_text, line, line_unless}
 use Rattle.rbac_cli.specs.declared.ending.Status.{Status}
-use Rattle.rbac_cli.proofs.Matrices.{row_name, ascends}
+use Rattle.rbac_matrix.proofs.OneMatrix.{key_name, by_keys}
 use Rattle.rbac_cli.proofs.OneMeant.{one_meant}
 use Rattle.rbac_cli.proofs.OneReason.{one_reason}
 
@@ -159,13 +159,13 @@ module _ (held : Held) (lists : UniverseLists) (u v : UniverseView) (m : AreSets
       let (other, is_row, same) = row_there row ((x.exact row).0 inrows) in
       subst (Contains (map line_of others)) (same ∙ e) (map_contains line_of others other ((y.exact other).1 is_row))
 
-lines_ascend : (rows : List RowView) → IsAscendingBy row_name rows → IsAscendingBy line_name (map line_of rows)
+lines_ascend : (rows : List RowView) → IsAscendingBy key_name rows → IsAscendingBy line_name (map line_of rows)
 lines_ascend rows up = pairs_map (λ a b. by_name line_name a b ≡ Less) line_of rows up
 
 one_lines : (held : Held) (lists : UniverseLists) (u v : UniverseView) (rows others : List RowView) → AreSets lists u → AreSets lists v
     → IsMatrix held u rows → IsMatrix held v others → map line_of rows ≡ map line_of others
 one_lines held lists u v rows others m n x y =
-    one_list line_name (map line_of rows) (map line_of others) (lines_ascend rows (ascends rows x.ordered)) (lines_ascend others (ascends others y.ordered))
+    one_list line_name (map line_of rows) (map line_of others) (lines_ascend rows (by_keys held u rows x)) (lines_ascend others (by_keys held v others y))
     (line_there held lists u v m n rows others x y) (line_there held lists v u n m others rows y x)
 
 abbrev lines_text : List Line → List ℕ

@@ -8,6 +8,7 @@ use Rattle.rbac_streams.proofs.TakenLemmas.{Stops-after}
 use Rattle.rbac_model.specs.Policies.{Held}
 use Rattle.rbac_model.specs.Universes.{UniverseView, RowView, IsMatrix}
 use Rattle.rbac_matrix.specs.Printed.{rows_text, StopsInMatrix}
+use Rattle.rbac_matrix.proofs.OneMatrix.{one_matrix}
 use Rattle.rbac_matrix.proofs.Within.{within_of, within_more}
 use Rattle.rbac_manifest.specs.Load.{LoadedView}
 use Rattle.rbac_question.specs.declared.command.Action.{Action}
@@ -18,7 +19,7 @@ use Rattle.rbac_cli.specs.declared.ending.RunFault.{RunFault}
 use Rattle.rbac_cli.specs.declared.ending.RunFault.TheVariants.{Load, Universe, Memory, Write}
 use Rattle.rbac_cli.specs.Ends.{WritesFront}
 use Rattle.rbac_cli.specs.Printing.{StopsInListing, StopsInAnswer, StopsPrinting, StopsWith, IsUntouched, fault_at}
-use Rattle.rbac_cli.proofs.Matrices.{front_of_text, one_matrix}
+use Rattle.rbac_cli.proofs.Matrices.{front_of_text}
 
 -- the lines of the matrix, without the last line and with it
 abbrev IsRowsText : Held → UniverseView → List ℕ → Type 0

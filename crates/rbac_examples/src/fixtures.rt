@@ -85,7 +85,7 @@ pub(crate) enum Named<'a> {
     Account(&'a str),
 }
 
-fn subject(alloc: Global, named: Named<'_>) -> Result<Subject, AllocError> {
+pub(crate) fn subject(alloc: Global, named: Named<'_>) -> Result<Subject, AllocError> {
     match named {
         Named::User(name) => Ok(Subject::User(word(alloc, name)?)),
         Named::Group(name) => Ok(Subject::Group(word(alloc, name)?)),
@@ -104,7 +104,10 @@ fn subjects(alloc: Global, all_named: &[Named<'_>]) -> Result<Subjects, AllocErr
     Ok(Subjects::from_vec(all))
 }
 
-fn namespace_of(alloc: Global, namespace: Option<&str>) -> Result<Option<Word>, AllocError> {
+pub(crate) fn namespace_of(
+    alloc: Global,
+    namespace: Option<&str>,
+) -> Result<Option<Word>, AllocError> {
     match namespace {
         Some(namespace) => Ok(Some(word(alloc, namespace)?)),
         None => Ok(None),

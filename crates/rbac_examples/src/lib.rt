@@ -24,6 +24,8 @@ mod scopes;
 #[cfg(test)]
 mod streams;
 #[cfg(test)]
+mod subjects;
+#[cfg(test)]
 mod universes;
 #[cfg(test)]
 mod words;

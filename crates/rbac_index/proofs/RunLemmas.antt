@@ -14,20 +14,14 @@ use Rattle.rbac_model.specs.Policies.{Held, PolicyView, IsPolicy, GrantView, Are
 use Rattle.rbac_model.specs.declared.places.GrantPlace.{GrantPlace}
 use Rattle.rbac_model.specs.declared.places.RolePlace.{RolePlace}
 use Rattle.rbac_model.specs.declared.places.RolePlace.TheVariants.{RoleAt, ClusterRoleAt}
+use Rattle.rbac_model.specs.Places.{rules_of, granted_by}
 use Rattle.rbac_index.specs.Written.{written_rules, row_of}
 use Rattle.rbac_index.specs.Indexed.{IsRun}
 use Rattle.rbac_index.proofs.ReadLemmas.{read_left, read_right, read_some}
 
-abbrev pub rules_in : Source → List Rule
-rules_in (InRole r) = r.rules
-rules_in (InClusterRole r) = r.rules
-
-abbrev pub granted_by : Binding → List SourcedRule → List GrantView
-granted_by b rules = map (λ rule. record { binding = b; rule = rule }) rules
-
 -- the grants of a binding by the rules of a role
 abbrev pub run_of : Binding × Source → List GrantView
-run_of x = granted_by x.0 (written_from x.1 0 (rules_in x.1))
+run_of x = granted_by x.0 (written_from x.1 0 (rules_of x.1))
 
 abbrev pub AreInRuns : List GrantView → Type 0
 AreInRuns gs = (xs : List (Binding × Source)) × (gs ≡ flat_map run_of xs)
@@ -35,7 +29,7 @@ AreInRuns gs = (xs : List (Binding × Source)) × (gs ≡ flat_map run_of xs)
 in_both : (gs hs : List GrantView) → AreInRuns gs → AreInRuns hs → AreInRuns (gs ++ hs)
 in_both gs hs (xs, e) (ys, d) = (xs ++ ys, rw (e, d) (sym (flat_map-append run_of xs ys)))
 
-in_one : (b : Binding) (s : Source) → AreInRuns (granted_by b (written_from s 0 (rules_in s)))
+in_one : (b : Binding) (s : Source) → AreInRuns (granted_by b (written_from s 0 (rules_of s)))
 in_one b s = ((b, s) ∷ [], sym (append-nil (run_of (b, s))))
 
 in_gathered : (b : Binding) (ss : List ClusterRole) → AreInRuns (granted_by b (flat_map (λ s. written_from (InClusterRole s) 0 s.rules) ss))
@@ -68,10 +62,10 @@ record IsLed (gs : List GrantView) : Type 0 where
   pub source : Source
   pub rest : List GrantView
   pub is : gs ≡ run_of (binding, source) ++ rest
-  pub some : 0 < length (rules_in source)
+  pub some : 0 < length (rules_of source)
   pub others : AreInRuns rest
 
-led_by : (b : Binding) (s : Source) (rs : List Rule) (rest : List GrantView) → rs ≡ rules_in s → AreInRuns rest → (0 < length rest → IsLed rest) → 0 < length (granted_by b (written_from s 0 rs) ++ rest) → IsLed (granted_by b (written_from s 0 rs) ++ rest)
+led_by : (b : Binding) (s : Source) (rs : List Rule) (rest : List GrantView) → rs ≡ rules_of s → AreInRuns rest → (0 < length rest → IsLed rest) → 0 < length (granted_by b (written_from s 0 rs) ++ rest) → IsLed (granted_by b (written_from s 0 rs) ++ rest)
 led_by b s [] rest e others more some = more some
 led_by b s (r ∷ rs) rest e others more some = record {
   binding = b;
@@ -84,7 +78,7 @@ led_by b s (r ∷ rs) rest e others more some = record {
 
 led : (xs : List (Binding × Source)) → 0 < length (flat_map run_of xs) → IsLed (flat_map run_of xs)
 led [] some = absurd (omega arith)
-led ((b, s) ∷ xs) some = led_by b s (rules_in s) (flat_map run_of xs) refl (xs, refl) (led xs) some
+led ((b, s) ∷ xs) some = led_by b s (rules_of s) (flat_map run_of xs) refl (xs, refl) (led xs) some
 
 written_read : (s : Source) (i : ℕ) (rs : List Rule) (k : ℕ) (r : Rule) → slice_get rs k ≡ Some r → slice_get (written_from s i rs) k ≡ Some (record { source = s; rule = r; place = i + k })
 written_read s i [] zero r e = cc
@@ -100,10 +94,10 @@ length-written : (s : Source) (i : ℕ) (rs : List Rule) → length (written_fro
 length-written s i [] = refl
 length-written s i (r ∷ rs) = ap suc (length-written s (i + 1) rs)
 
-length-run : (b : Binding) (s : Source) → length (run_of (b, s)) ≡ length (rules_in s)
+length-run : (b : Binding) (s : Source) → length (run_of (b, s)) ≡ length (rules_of s)
 length-run b s =
     let grant : SourcedRule → GrantView = λ rule. record { binding = b; rule = rule } in
-    length-map (written_from s 0 (rules_in s)) grant ∙ length-written s 0 (rules_in s)
+    length-map (written_from s 0 (rules_of s)) grant ∙ length-written s 0 (rules_of s)
 
 -- a run begins at that number, or nothing is left
 abbrev pub BeginsRun : List GrantView → ℕ → Type 0
@@ -114,10 +108,10 @@ first_begins p ok = ([], p.grants, refl, refl, in_runs p.held p.held.bindings p.
 
 -- the grants from that number on are by all rules of the role, and another run follows
 record IsRunOf (p : PolicyView) (n : ℕ) (b : Binding) (s : Source) : Type 0 where
-  pub some : 0 < length (rules_in s)
-  pub within : n + length (rules_in s) ≤ length p.grants
-  pub each : (k : ℕ) (r : Rule) → slice_get (rules_in s) k ≡ Some r → slice_get p.grants (n + k) ≡ Some (record { binding = b; rule = record { source = s; rule = r; place = k } })
-  pub next : BeginsRun p.grants (n + length (rules_in s))
+  pub some : 0 < length (rules_of s)
+  pub within : n + length (rules_of s) ≤ length p.grants
+  pub each : (k : ℕ) (r : Rule) → slice_get (rules_of s) k ≡ Some r → slice_get p.grants (n + k) ≡ Some (record { binding = b; rule = record { source = s; rule = r; place = k } })
+  pub next : BeginsRun p.grants (n + length (rules_of s))
 
 run_from : (p : PolicyView) (n : ℕ) → BeginsRun p.grants n → n < length p.grants → (b : Binding) × (s : Source) × IsRunOf p n b s
 run_from p n (before, rest, is, len, (xs, e)) lt =
@@ -127,7 +121,7 @@ run_from p n (before, rest, is, len, (xs, e)) lt =
     let s = first.source in
     let run = run_of (b, s) in
     let whole : p.grants ≡ (before ++ run) ++ first.rest = is ∙ ap (λ (gs : List GrantView). before ++ gs) first.is ∙ sym (append_assoc before run first.rest) in
-    let more : length (before ++ run) ≡ n + length (rules_in s) = omega (arith, length-append before run, len, length-run b s) in (
+    let more : length (before ++ run) ≡ n + length (rules_of s) = omega (arith, length-append before run, len, length-run b s) in (
       b,
       s,
       record {
@@ -135,10 +129,10 @@ run_from p n (before, rest, is, len, (xs, e)) lt =
         within = omega (arith, more, ap length whole, length-append (before ++ run) first.rest);
         each = λ k r at.
             let grant : SourcedRule → GrantView = λ rule. record { binding = b; rule = rule } in
-            let low : k < length run = omega (arith, slice_get_within (rules_in s) k r at, length-run b s) in
+            let low : k < length run = omega (arith, slice_get_within (rules_of s) k r at, length-run b s) in
             let counted : 0 + k ≡ k = omega arith in
             let there : slice_get run k ≡ Some (grant (record { source = s; rule = r; place = k })) =
-            slice_get-map grant (written_from s 0 (rules_in s)) k ∙ ap (option_map grant) (written_read s 0 (rules_in s) k r at) ∙ ap (λ (n : ℕ). Some (grant (record { source = s; rule = r; place = n }))) counted in
+            slice_get-map grant (written_from s 0 (rules_of s)) k ∙ ap (option_map grant) (written_read s 0 (rules_of s) k r at) ∙ ap (λ (n : ℕ). Some (grant (record { source = s; rule = r; place = n }))) counted in
             ap (λ (gs : List GrantView). slice_get gs (n + k)) (is ∙ ap (λ (gs : List GrantView). before ++ gs) first.is) ∙ read_right before (run ++ first.rest) (n + k) k (omega (arith, len)) ∙ read_left run first.rest k low ∙ there;
         next = (before ++ run, first.rest, whole, more, first.others);
       },
@@ -162,17 +156,17 @@ in_cluster_role None i r e = cc
 in_cluster_role (Some role) i r e = (role, refl, source_of_rule (InClusterRole role) i (slice_get role.rules i) r e)
 
 -- the rules of a role stand at its row
-row_at : (h : Held) (at : RolePlace) (i : ℕ) (r : SourcedRule) → sourced_at h at i ≡ Some r → slice_get (written_rules h) (row_of (length h.roles) at) ≡ Some (rules_in r.source)
+row_at : (h : Held) (at : RolePlace) (i : ℕ) (r : SourcedRule) → sourced_at h at i ≡ Some r → slice_get (written_rules h) (row_of (length h.roles) at) ≡ Some (rules_of r.source)
 row_at h (RoleAt at) i r e =
     let found = in_role (slice_get h.roles at) i r e in
     let row = map (λ (x : Role). x.rules) h.roles in
     let read : slice_get row at ≡ Some found.0.rules = slice_get-map (λ (x : Role). x.rules) h.roles at ∙ ap (option_map (λ (x : Role). x.rules)) found.1 in
-    read_left row (map (λ (x : ClusterRole). x.rules) h.cluster_roles) at (slice_get_within row at found.0.rules read) ∙ read ∙ ap (λ (s : Source). Some (rules_in s)) found.2
+    read_left row (map (λ (x : ClusterRole). x.rules) h.cluster_roles) at (slice_get_within row at found.0.rules read) ∙ read ∙ ap (λ (s : Source). Some (rules_of s)) found.2
 row_at h (ClusterRoleAt at) i r e =
     let found = in_cluster_role (slice_get h.cluster_roles at) i r e in
     let row = map (λ (x : ClusterRole). x.rules) h.cluster_roles in
     let read : slice_get row at ≡ Some found.0.rules = slice_get-map (λ (x : ClusterRole). x.rules) h.cluster_roles at ∙ ap (option_map (λ (x : ClusterRole). x.rules)) found.1 in
-    read_right (map (λ (x : Role). x.rules) h.roles) row (length h.roles + at) at (ap (λ n. n + at) (sym (length-map {A = Role} {B = List Rule} h.roles (λ (x : Role). x.rules)))) ∙ read ∙ ap (λ (s : Source). Some (rules_in s)) found.2
+    read_right (map (λ (x : Role). x.rules) h.roles) row (length h.roles + at) at (ap (λ n. n + at) (sym (length-map {A = Role} {B = List Rule} h.roles (λ (x : Role). x.rules)))) ∙ read ∙ ap (λ (s : Source). Some (rules_of s)) found.2
 
 -- the grants from that number on are by all rules of the row, and another run follows
 pub record IsRunOfRow (p : PolicyView) (row n : ℕ) : Type 0 where
@@ -189,13 +183,13 @@ run_at p n row roles place same is begins lt at =
     let found = run_from p n begins lt in
     let s = found.1 in
     let run = found.2 in
-    let first = read_some (rules_in s) 0 run.some in
+    let first = read_some (rules_of s) 0 run.some in
     let g : GrantView = record { binding = found.0; rule = record { source = s; rule = first.0; place = 0 } } in
     let start : n ≡ n + 0 = omega arith in
     let read : slice_get p.grants n ≡ Some g = ap (slice_get p.grants) start ∙ run.each 0 first.0 first.1 in
     let sourced : sourced_at p.held place.role place.rule ≡ Some g.rule = rule_of_parts (slice_get p.held.bindings place.binding) (sourced_at p.held place.role place.rule) g (at ∙ read) in
     record {
-      rules = rules_in s;
+      rules = rules_of s;
       there = rw (is, same) (row_at p.held place.role place.rule g.rule sourced);
       some = run.some;
       within = run.within;

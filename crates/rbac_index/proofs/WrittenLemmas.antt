@@ -5,6 +5,7 @@ use Rattle.std.specs.Option.{option_map}
 use Rattle.std.proofs.lemmas.Bool.{cases_eq, cases_lt}
 use Rattle.std.proofs.lemmas.List.{length-append}
 use Rattle.std.proofs.lemmas.List.Elements.{Contains-append_left, Contains-push, Contains-push_cases}
+use Rattle.std.proofs.lemmas.List.Quantifiers.{Any-push}
 use Rattle.std.proofs.lemmas.Option.{same_Some, slice_get-map, slice_get_within, get_or_from_slice_get}
 use Rattle.rbac_terms.specs.declared.matching.Rule.{Rule}
 use Rattle.rbac_index.specs.declared.written.Written.{Written}
@@ -26,9 +27,6 @@ has_all old new row rs count all more at k r = (
 
 any_left : {X : Type 0} (P : X → Type 0) (xs : List X) (x : X) → Any P xs → Any P (xs ++ x ∷ [])
 any_left P xs x a = let c = Contains-append_left xs (x ∷ []) a.1 (a.0, a.2, a.3) in (c.0, a.1, c.1, c.2, a.4)
-
-any_pushed : {X : Type 0} (P : X → Type 0) (xs : List X) (x : X) → P x → Any P (xs ++ x ∷ [])
-any_pushed P xs x h = let c = Contains-push xs x in (c.0, x, c.1, c.2, h)
 
 any_cases : {X : Type 0} (P : X → Type 0) (xs : List X) (x : X) → Any P (xs ++ x ∷ []) → Any P xs ⊎ P x
 any_cases P xs x a = elim (Contains-push_cases xs x a.1 (a.0, a.2, a.3)) [
@@ -53,7 +51,7 @@ has_more old mid new row rs n w in_row at_place read is before at k r =
         | inr b ↦ elim (cases_eq k n) [
           | inl e ↦
               let rule : w.rule.now ≡ r = same_Some w.rule.now r (sym read ∙ ap (slice_get rs) (sym e) ∙ b.2) in
-              any_pushed P mid w (in_row ∙ sym b.1, at_place ∙ sym e, rule)
+              Any-push P mid w (in_row ∙ sym b.1, at_place ∙ sym e, rule)
           | inr ne ↦ any_left P mid w ((before at k r).1 (inr (omega (arith, b.0), b.1, b.2)))
         ]
       ]),

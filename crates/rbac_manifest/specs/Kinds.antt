@@ -73,15 +73,7 @@ kinds_read =
 -- API resource lists, whose version may be missing (own)
 abbrev pub is_api_list : Kind → Bool
 is_api_list kinds.ApiList = true
-is_api_list kinds.Role = false
-is_api_list kinds.ClusterRole = false
-is_api_list kinds.RoleBinding = false
-is_api_list kinds.ClusterRoleBinding = false
-is_api_list kinds.Namespace = false
-is_api_list kinds.ServiceAccount = false
-is_api_list kinds.Universe = false
-is_api_list (kinds.List items) = false
-is_api_list kinds.Other = false
+is_api_list _ = false
 
 -- a row of this kind that needs a version
 abbrev pub asks_version : List ℕ → Reading → Bool

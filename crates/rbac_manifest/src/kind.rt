@@ -33,7 +33,7 @@ struct Row {
 }
 
 // The pairs that are read.
-const READ: [Row; 15] = [
+const KINDS_READ: [Row; 15] = [
     Row {
         version: RBAC_V1,
         kind: "Role",
@@ -186,7 +186,7 @@ fn kind_text<'v>(document: &'v Value, implied: Implied) -> Option<&'v str>
 fn needs_version(kind: &str) -> bool
     ensures { result ≡ needs_version kind.now }
 {
-    let rows = READ;
+    let rows = KINDS_READ;
     some_asks_version(&rows, kind)
 }
 
@@ -240,7 +240,7 @@ fn version_text<'v>(document: &'v Value, implied: Implied, kind: &str) -> Option
 fn kind_named(version: &str, kind: &str) -> Kind
     ensures { result ≡ kind_named version.now kind.now }
 {
-    let rows = READ;
+    let rows = KINDS_READ;
     meaning_in(&rows, version, kind)
 }
 

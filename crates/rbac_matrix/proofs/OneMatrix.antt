@@ -21,10 +21,12 @@ less_is Greater e = cc
 is_less : (o : Ordering) → o ≡ Less → IsTrue (is_lt o)
 is_less o e = rw e refl
 
-abbrev key_name : RowView → List Text
+-- rows are named by the texts of their keys
+abbrev pub key_name : RowView → List Text
 key_name r = texts (cell_key r.cell)
 
-by_keys : (h : Held) (u : UniverseView) (rows : List RowView) → IsMatrix h u rows → IsAscendingBy key_name rows
+-- the rows of a matrix are in order of their keys
+pub by_keys : (h : Held) (u : UniverseView) (rows : List RowView) → IsMatrix h u rows → IsAscendingBy key_name rows
 by_keys h u rows m i j d lt l = less_is _ (m.ordered i j d lt l)
 
 pub one_matrix : (h : Held) (u : UniverseView) (rows others : List RowView) → IsMatrix h u rows → IsMatrix h u others → rows ≡ others
