@@ -1,6 +1,6 @@
 """Tries the wrong bodies: the prover of a crate has to refuse each edit of its folder wrong-bodies/.
 
-usage: python3 tests/wrong_bodies.py [CRATE..]    (none: every crate)
+usage: python3 tools/wrong_bodies.py [CRATE..]    (none: every crate)
 
 Each edit is judged as `rt must-fail` judges those of must-fail/: by the same code, that of the `rt` on the PATH. It is
 tried over what the crate's own last check kept, so that it costs only its refusal; what isn't refused so is tried
@@ -9,8 +9,6 @@ All happens in copies in a folder of its own; the repository only keeps what `rt
 The last line is `N passed, M failed`.
 """
 
-import importlib.machinery
-import importlib.util
 import os
 import resource
 import shutil
@@ -21,17 +19,10 @@ import tempfile
 import threading
 import time
 
-TOP = os.path.dirname(os.path.dirname(os.path.abspath(__file__)))
+sys.dont_write_bytecode = True
+from kit import TOP, kit  # noqa: E402
+
 FLAGS = ['--jobs', '1']
-
-
-def kit():
-    """The script `rt` of the PATH, as a module."""
-    path = shutil.which('rt') or sys.exit('wrong-bodies: there is no rt on the PATH')
-    loader = importlib.machinery.SourceFileLoader('rt', os.path.realpath(path))
-    module = importlib.util.module_from_spec(importlib.util.spec_from_loader('rt', loader))
-    loader.exec_module(module)
-    return module
 
 
 def edits_of(crate):
