@@ -3,7 +3,7 @@
 PREFIX ?= /usr/local
 PROGRAM = crates/rbacaudit/out/rbacaudit
 
-.PHONY: run test build install
+.PHONY: run test wrong-bodies build install
 
 # One question on the example export: may the CI account of the shop update deployments there, and why?
 run: build
@@ -12,6 +12,10 @@ run: build
 # Everything that must hold; the last line is `N passed, M failed`.
 test:
 	bash tests/all.sh
+
+# Each wrong body that the gate leaves out has to be refused; `make wrong-bodies CRATE=NAME` tries those of a crate, or of several.
+wrong-bodies:
+	python3 tests/wrong_bodies.py $(CRATE)
 
 # The program, proved and compiled; with nothing changed this takes a moment.
 build:
