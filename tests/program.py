@@ -87,6 +87,8 @@ def streams():
         expect('the first fault of the files stands', ALICE_GETS_PODS + [roles, missing, missing], 2,
                err=b'rbacaudit: file 2: I1 read fault\n')
         expect('a folder is no file', ALICE_GETS_PODS + [room], 2, err=b'rbacaudit: file 1: I1 read fault\n')
+        expect('a dash is a file as any other', ALICE_GETS_PODS + ['-'], 2, err=b'rbacaudit: file 1: I1 read fault\n',
+               given=GRANTED)
         expect('the file of a bad document', ALICE_GETS_PODS + [roles, put('bad.json', b'[]')], 2,
                err=b'rbacaudit: file 2: M2 not an object\n')
         least = b'{"apiVersion":"v1","kind":"List"}'
