@@ -27,4 +27,4 @@ pub use rbac_terms::{
     account_user, group_matches, name_matches, names, resource_matches, rule_allows, selects,
     subject_key, target_matches, url_matches, verb_matches,
 };
-pub use resolving::{Grant, SourceRole};
+pub use resolving::{Grant, SourceRole, ref_place};

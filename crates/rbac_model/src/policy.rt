@@ -3,6 +3,7 @@
 ghost use Rattle.std.specs.Prelude.{ℕ, ◌≡◌, ◌<◌, ◌≤◌, ◌↔◌, IsTrue, [], Any, Contains, IfOk, IfErr, IsOkAnd, MatchOption, Some, IsSome, All, length, slice_get};
 ghost use Rattle.std.specs.Option.{option_copied};
 ghost use Rattle.rbac_model.specs.Policies.{PolicyView, IsPolicy, HasTooMany, Allows, IsFirst, AreReachedNames, IsOfBinding, grants_at, grant_at};
+ghost use Rattle.rbac_model.specs.Places.{IsReachedAt};
 ghost use Rattle.rbac_model.specs.Sources.{grant_of};
 ghost use Rattle.rbac_terms.specs.declared.granting.ClusterRole.{ClusterRole};
 
@@ -107,6 +108,16 @@ impl Policy {
         ensures only_memory { IfErr result (λ e. e ≡ ResolveFault.NoMemory) }
     {
         Ok(names_from(alloc, &self.objects, &self.reaches, name)?)
+    }
+
+    /// Whether the cluster role at the first place reaches the one at the second, by one step of
+    /// aggregation or more (Using RBAC Authorization, Aggregated ClusterRoles). Places are counted
+    /// from 0, in order of names. Takes no memory.
+    pub fn reaches(&self, from: usize, to: usize) -> bool
+        requires { from < length self.now.held.cluster_roles }
+        ensures reaches { (r : ClusterRole) → slice_get self.now.held.cluster_roles from ≡ Some r → (IsTrue result ↔ IsReachedAt self.now.held r to) }
+    {
+        self.reaches[from].has(to)
     }
 
     /// The objects that the policy was made of.

@@ -86,10 +86,11 @@ pub(crate) fn cluster_role_place(roles: &[ClusterRole], name: &Word) -> Option<u
     roles.binary_search_by(|held| held.name.cmp(name)).ok()
 }
 
-// Where the role is that a binding refers to, if it is held: a RoleBinding to a Role of its own
-// namespace or to a ClusterRole, a ClusterRoleBinding to a ClusterRole (Using RBAC Authorization,
-// RoleBinding and ClusterRoleBinding). A ClusterRoleBinding that names a Role refers to none.
-pub(crate) fn ref_place(objects: &Objects, binding: &Binding) -> Option<RolePlace>
+/// The place of the role that a binding refers to, if it is held: a RoleBinding to a Role of its own
+/// namespace or to a ClusterRole, a ClusterRoleBinding to a ClusterRole (Using RBAC Authorization,
+/// RoleBinding and ClusterRoleBinding). A ClusterRoleBinding that names a Role refers to none. Takes
+/// no memory.
+pub fn ref_place(objects: &Objects, binding: &Binding) -> Option<RolePlace>
     ensures { MatchOption result
         ((source : Source) → ¬ IsRefTo objects.now binding.now.namespace binding.now.role source)
         (IsRefAt objects.now binding.now.namespace binding.now.role) }

@@ -1,0 +1,3 @@
+pub mod Words
+pub mod Urls
+pub mod Samples

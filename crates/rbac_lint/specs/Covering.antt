@@ -1,0 +1,101 @@
+-- When a rule covers another: it allows whatever the other one does. What is asked for that is finite, the other's samples.
+use Rattle.std.specs.Prelude.{◌≡◌, ◌≢◌, ℕ, ◌+◌, ◌<◌, ◌⊎◌, List, [], ◌∷◌, ◌++◌, All, Any, Contains, length, replicate, codes}
+use Rattle.rbac_terms.specs.declared.matching.Rule.{Rule}
+use Rattle.rbac_terms.specs.Text.{Text, star, BeginsWith}
+use Rattle.rbac_terms.specs.Targets.{What, Resource, Url}
+use Rattle.rbac_terms.specs.Matching.{WordMatches, ResourceWordMatches, UrlWordMatches, NameMatches, EndsInStar, VerbOk, RuleAllows}
+
+-- a resource text isn't empty and doesn't begin with a slash; a path does (own, after the paths of API requests)
+abbrev pub IsResourceText : Text → Type 0
+IsResourceText text = (text ≢ []) × (¬ BeginsWith text (codes "/"))
+
+abbrev pub IsPath : Text → Type 0
+IsPath path = BeginsWith path (codes "/")
+
+-- what stands before the star of a URL sample: the word without its stars, or `/`
+abbrev pub sample_front : Text → Text
+sample_front [] = codes "/"
+sample_front (c ∷ q) = c ∷ q
+
+-- a URL word taken as a text: itself, or with one star where it ends in stars; `/*` where it is but stars (own)
+abbrev pub IsUrlSample : Text → Text → Type 0
+IsUrlSample w x = ((¬ EndsInStar w) × (x ≡ w))
+    ⊎ ((q : Text) × (k : ℕ) × (w ≡ q ++ replicate (k + 1) star) × (¬ EndsInStar q) × (x ≡ sample_front q ++ star ∷ []))
+
+-- longer than each of the names
+abbrev pub IsLongerThanAll : Text → List Text → Type 0
+IsLongerThanAll n names = All (λ m. length m < length n) names
+
+-- a name of b, or where b has none, one longer than all of a's
+abbrev pub IsNameSample : List Text → List Text → Text → Type 0
+IsNameSample mine theirs n = Contains theirs n ⊎ ((theirs ≡ []) × IsLongerThanAll n mine)
+
+-- a sample of two rules: a verb word of b, and a proper target made of b's own words taken as texts (own)
+abbrev pub IsSample : Rule → Rule → Text → What → Type 0
+IsSample a b v (Resource group text name) =
+    Contains b.verbs v × Contains b.groups group × Contains b.resources text × IsNameSample a.resource_names b.resource_names name × IsResourceText text
+IsSample a b v (Url path) = Contains b.verbs v × Any (λ w. IsUrlSample w path) b.urls × IsPath path
+
+-- a allows each sample
+abbrev pub AllowsSamples : Rule → Rule → Type 0
+AllowsSamples a b = (v : Text) (t : What) → IsSample a b v t → RuleAllows a v t
+
+-- ---- the same, list by list
+
+-- a allows this word of b, taken as a text; a resource word only where it is a resource text, a URL word only where its sample is a path
+unfoldable pub AllowsVerb : Rule → Text → Type 0
+AllowsVerb a v = VerbOk a v
+
+unfoldable pub AllowsGroup : Rule → Text → Type 0
+AllowsGroup a g = Any (λ w. WordMatches w g) a.groups
+
+unfoldable pub AllowsResource : Rule → Text → Type 0
+AllowsResource a s = IsResourceText s → Any (λ w. ResourceWordMatches w s) a.resources
+
+unfoldable pub AllowsName : Rule → Text → Type 0
+AllowsName a n = NameMatches a.resource_names n
+
+unfoldable pub AllowsUrl : Rule → Text → Type 0
+AllowsUrl a w = (x : Text) → IsUrlSample w x → IsPath x → Any (λ u. UrlWordMatches u x) a.urls
+
+-- a allows each such word of b; where b has no names, a has none
+unfoldable pub AllowsVerbs : Rule → Rule → Type 0
+AllowsVerbs a b = All (AllowsVerb a) b.verbs
+
+unfoldable pub AllowsGroups : Rule → Rule → Type 0
+AllowsGroups a b = All (AllowsGroup a) b.groups
+
+unfoldable pub AllowsResources : Rule → Rule → Type 0
+AllowsResources a b = All (AllowsResource a) b.resources
+
+unfoldable pub AllowsNames : Rule → Rule → Type 0
+AllowsNames a b = (b.resource_names ≡ [] → a.resource_names ≡ []) × All (AllowsName a) b.resource_names
+
+unfoldable pub AllowsUrls : Rule → Rule → Type 0
+AllowsUrls a b = All (AllowsUrl a) b.urls
+
+-- of a URL word there is a sample that is a path
+unfoldable pub GivesPath : Text → Type 0
+GivesPath w = (x : Text) × IsUrlSample w x × IsPath x
+
+-- a word matches `/*`, and so each path
+unfoldable pub MatchesEachPath : Text → Type 0
+MatchesEachPath w = UrlWordMatches w (codes "/*")
+
+-- but stars, and one at least
+abbrev pub IsStars : Text → Type 0
+IsStars t = (t ≢ []) × All (λ b. b ≡ star) t
+
+-- b has samples that are resources, or URLs
+unfoldable pub HasResource : Rule → Type 0
+HasResource b = (b.verbs ≢ []) × (b.groups ≢ []) × Any IsResourceText b.resources
+
+unfoldable pub HasUrl : Rule → Type 0
+HasUrl b = (b.verbs ≢ []) × Any GivesPath b.urls
+
+-- a allows these, list by list
+abbrev pub CoversResources : Rule → Rule → Type 0
+CoversResources a b = HasResource b → AllowsVerbs a b × AllowsGroups a b × AllowsResources a b × AllowsNames a b
+
+abbrev pub CoversUrls : Rule → Rule → Type 0
+CoversUrls a b = HasUrl b → AllowsVerbs a b × AllowsUrls a b
