@@ -26,7 +26,7 @@ test:
 wrong-bodies:
 	python3 tools/wrong_bodies.py $(CRATE)
 
-# The program, proved and compiled: from nothing some 15 minutes of four cores; with nothing changed a moment.
+# The program, proved and compiled: from nothing some 20 minutes of four cores; with nothing changed a moment.
 build:
 	@python3 tools/build.py
 
