@@ -1,4 +1,5 @@
 pub mod OneMatrix
+pub mod Pages
 pub mod PrintedRows
 pub mod Product
 pub mod Rows
