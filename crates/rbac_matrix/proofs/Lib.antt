@@ -1,5 +1,7 @@
+pub mod Decided
 pub mod OneMatrix
 pub mod PrintedRows
 pub mod Product
 pub mod Rows
+pub mod SomeMatrix
 pub mod Within
