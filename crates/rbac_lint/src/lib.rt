@@ -1,6 +1,16 @@
 //! What the roles of an export deserve a second look for.
 #![tactic(auto)]
 
+mod accounts;
 mod covering;
+mod dangling;
+mod escalation;
+mod fault;
+mod finding;
+mod linting;
+mod redundant;
+mod roles;
 
 pub use covering::covers;
+pub use fault::LintFault;
+pub use finding::{Finding, Findings};

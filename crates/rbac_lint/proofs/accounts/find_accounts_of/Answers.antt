@@ -1,0 +1,48 @@
+use Rattle.std.proofs.Common.{◌≡◌, arith, refl, subst, List}
+use Rattle.std.specs.Prelude.{None, Option, Some, Bool, true, false, is_some}
+use Rattle.std.proofs.lemmas.Option.{slice_get_read}
+use Rattle.rbac_terms.specs.Text.{Text}
+use Rattle.rbac_terms.specs.declared.granting.Subject.{Subject}
+use Rattle.rbac_lint.specs.Lines.{Adds, OfEach}
+use Rattle.rbac_lint.specs.Roles.{binding_object}
+use Rattle.rbac_lint.specs.Findings.{IsAccountAt, IsAccountOf}
+use Rattle.rbac_lint.proofs.Exact.{Adds-start, Adds-each, Adds-where, Adds-nowhere}
+use Rattle.rbac_lint.proofs.Order.{Adds-next_place}
+use Rattle.rbac_lint.proofs.Named.{account_places}
+use Rattle.rbac_lint.proofs.accounts.find_accounts_of.Goals as goal
+
+scoped_none : (o : Option Text) (r : Bool) → r ≡ is_some o → r ≡ false → o ≡ None
+scoped_none None r e f = refl
+scoped_none (Some x) r e f = cc
+
+scoped_some : (o : Option Text) (r : Bool) → r ≡ is_some o → r ≡ true → o ≡ None → ⊥
+scoped_some None r e f g = cc
+scoped_some (Some x) r e f g = cc
+
+pub returns-then-is_some : goal.returns-then-is_some
+unfolding IsAccountOf
+returns-then-is_some c =
+    let b = c.args.binding.now in
+    Adds-nowhere (b.namespace ≡ None) (OfEach (IsAccountAt b) b.subjects) c.args.found.now (scoped_some b.namespace c.is_some.result c.is_some.ensures c.if-is_some.true)
+
+pub loop-place-init : goal.loop-place-init
+loop-place-init c = Adds-start (IsAccountAt c.args.binding.now) c.as_slice-subjects.result.now c.args.found.now
+
+pub loop-place-preserved : goal.loop-place-preserved
+loop-place-preserved c =
+    let b = c.args.binding.now in
+    let subjects = c.as_slice-subjects.result.now in
+    let i = c.loop-place.place in
+    let s = c.index-subjects-place.result in
+    Adds-next_place (IsAccountAt b) 5 (binding_object b) (account_places b) subjects i s c.args.found.now c.loop-place.found c.find_account.new.found
+    (slice_get_read subjects _ i s refl c.loop-place-test.true c.index-subjects-place.is) c.loop-place.invariant c.in_ok-find_account.ensures
+
+pub returns : goal.returns
+unfolding IsAccountOf
+returns c =
+    let b = c.args.binding.now in
+    let old = c.args.found.now in
+    let new = c.loop-place.found in
+    let P : List Subject → Type 0 = λ ss. Adds (OfEach (IsAccountAt b) ss) old new in
+    Adds-where (b.namespace ≡ None) (OfEach (IsAccountAt b) b.subjects) old new (scoped_none b.namespace c.is_some.result c.is_some.ensures c.if-is_some.false)
+    (subst P c.as_slice-subjects.ensures (Adds-each (IsAccountAt b) c.as_slice-subjects.result.now c.loop-place.place old new (omega arith) c.loop-place.invariant))

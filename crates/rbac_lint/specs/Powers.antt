@@ -1,0 +1,12 @@
+-- The verbs that let a subject grant more than it has, and on what (Using RBAC Authorization, Privilege escalation prevention and bootstrapping).
+use Rattle.std.specs.Prelude.{codes}
+use Rattle.rbac_lint.specs.declared.escalation.Powers.{Powers}
+
+abbrev pub the_powers : Powers
+the_powers = record {
+  bind = codes "bind";
+  escalate = codes "escalate";
+  group = codes "rbac.authorization.k8s.io";
+  roles = codes "roles";
+  cluster_roles = codes "clusterroles";
+}

@@ -1,0 +1,46 @@
+-- The roles of an export as one list, and the objects that findings name.
+use Rattle.std.specs.Prelude.{◌≡◌, List, [], ◌++◌, Option, Some, None, codes, map, unwrap_or}
+use Rattle.rbac_terms.specs.Text.{Text}
+use Rattle.rbac_terms.specs.declared.matching.Rule.{Rule}
+use Rattle.rbac_terms.specs.declared.granting.Binding.{Binding}
+use Rattle.rbac_terms.specs.declared.granting.RoleRef.{RoleRef}
+use Rattle.rbac_terms.specs.declared.granting.RoleRef.TheVariants.{Role as ToRole, ClusterRole as ToClusterRole}
+use Rattle.rbac_model.specs.Policies.{Held, Source, InRole, InClusterRole, IsPlain}
+use Rattle.rbac_lint.specs.Lines.{ObjectName}
+
+-- all roles that are held: cluster roles by name, then roles by namespace and name
+abbrev pub roles_in : Held → List Source
+roles_in h = map (λ r. InClusterRole r) h.cluster_roles ++ map (λ r. InRole r) h.roles
+
+-- where rules are written that are used: a role, or a plain cluster role
+abbrev pub IsPlainRole : Source → Type 0
+IsPlainRole (InRole r) = Unit {0}
+IsPlainRole (InClusterRole r) = IsPlain r
+
+-- the rules that are written in a role
+abbrev pub rules_of : Source → List Rule
+rules_of (InRole r) = r.rules
+rules_of (InClusterRole r) = r.rules
+
+-- objects by their names
+abbrev pub role_object : Text → Text → ObjectName
+role_object namespace name = record { kind = codes "Role"; namespace = Some namespace; name = name }
+
+abbrev pub cluster_role_object : Text → ObjectName
+cluster_role_object name = record { kind = codes "ClusterRole"; namespace = None; name = name }
+
+abbrev pub source_object : Source → ObjectName
+source_object (InRole r) = role_object r.namespace r.name
+source_object (InClusterRole r) = cluster_role_object r.name
+
+abbrev pub binding_kind : Option Text → Text
+binding_kind None = codes "ClusterRoleBinding"
+binding_kind (Some namespace) = codes "RoleBinding"
+
+abbrev pub binding_object : Binding → ObjectName
+binding_object b = record { kind = binding_kind b.namespace; namespace = b.namespace; name = b.name }
+
+-- the role that a binding in that namespace names; a Role named with no namespace has the empty one
+abbrev pub named_object : Option Text → RoleRef → ObjectName
+named_object namespace (ToRole name) = role_object (unwrap_or namespace []) name
+named_object namespace (ToClusterRole name) = cluster_role_object name

@@ -1,0 +1,87 @@
+//! ServiceAccount subjects without a namespace.
+
+ghost use Rattle.std.specs.Prelude.{◌≡◌, ◌≢◌, None, OnOk, MatchOption};
+ghost use Rattle.rbac_terms.specs.Text.{Text};
+ghost use Rattle.rbac_lint.specs.Lines.{Adds};
+ghost use Rattle.rbac_lint.specs.Findings.{IsAccountAt, IsAccountOf, IsAccountWithout};
+
+use crate::finding::{Finding, Findings, binding_word};
+use rbac_model::Objects;
+use rbac_terms::{Binding, Subject, Word};
+use std::alloc::{AllocError, Global};
+
+// Those of all bindings.
+pub(crate) fn find_accounts(
+    alloc: Global,
+    found: &mut Findings,
+    objects: &Objects,
+) -> Result<(), AllocError>
+    ensures { OnOk result (Adds (IsAccountWithout objects.now) found.old found.new) }
+{
+    let bindings = objects.bindings();
+    for binding in bindings {
+        find_accounts_of(alloc, found, binding)?;
+    }
+    Ok(())
+}
+
+// Those of one binding, if it is a ClusterRoleBinding.
+fn find_accounts_of(
+    alloc: Global,
+    found: &mut Findings,
+    binding: &Binding,
+) -> Result<(), AllocError>
+    ensures { OnOk result (Adds (IsAccountOf binding.now) found.old found.new) }
+{
+    if binding.namespace.is_some() {
+        return Ok(());
+    }
+    let subjects = binding.subjects.as_slice();
+    for (place, subject) in subjects.iter().enumerate() {
+        find_account(alloc, found, binding, place, subject)?;
+    }
+    Ok(())
+}
+
+// The one that this subject is, if it is one.
+fn find_account(
+    alloc: Global,
+    found: &mut Findings,
+    binding: &Binding,
+    place: usize,
+    subject: &Subject,
+) -> Result<(), AllocError>
+    ensures { OnOk result (Adds (IsAccountAt binding.now place subject.now) found.old found.new) }
+{
+    let Some(name) = name_without_namespace(subject) else {
+        return Ok(());
+    };
+    let object = binding_word(alloc, binding)?;
+    let other = Word::from_slice(alloc, name.as_bytes())?;
+    found.push(Finding {
+        code: 5,
+        object,
+        place: Some(place),
+        other,
+    })
+}
+
+// The name of a ServiceAccount that has no namespace.
+fn name_without_namespace(subject: &Subject) -> Option<&Word>
+    ensures { MatchOption result
+        ((name : Text) → subject.now ≢ Subject.Account None name)
+        (λ name. subject.now ≡ Subject.Account None name.now) }
+{
+    match subject {
+        Subject::Account {
+            namespace: None,
+            name,
+        } => Some(name),
+        Subject::Account {
+            namespace: Some(_),
+            name: _,
+        } => None,
+        Subject::User(_) => None,
+        Subject::Group(_) => None,
+    }
+}

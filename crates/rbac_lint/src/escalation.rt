@@ -1,0 +1,149 @@
+//! Rules that let a subject grant more than it has.
+
+ghost use Rattle.std.specs.Prelude.{◌≡◌, OnOk, IfOk, IsTrue, ◌↔◌, ◌⊎◌, codes};
+ghost use Rattle.rbac_model.specs.Sources.{source_of};
+ghost use Rattle.rbac_lint.specs.Lines.{Adds, OfEach};
+ghost use Rattle.rbac_lint.specs.Findings.{Escalates, IsEscalationBy, IsEscalationAt, IsEscalationOf, IsEscalation, HasResource};
+ghost use Rattle.rbac_lint.specs.Powers.{the_powers};
+
+use crate::finding::{Finding, Findings, role_word};
+use crate::roles::{plain_rules, role_at, role_count};
+use rbac_model::{Objects, SourceRole};
+use rbac_terms::{Rule, Word, group_matches, resource_matches, verb_matches};
+use std::alloc::{AllocError, Global};
+
+const RBAC_GROUP: &[u8] = b"rbac.authorization.k8s.io";
+
+const ROLES: &[u8] = b"roles";
+
+const CLUSTER_ROLES: &[u8] = b"clusterroles";
+
+const BIND: &[u8] = b"bind";
+
+const ESCALATE: &[u8] = b"escalate";
+
+// The verbs that let a subject grant more than it has, and on what.
+#[derive(Drop)]
+struct Powers {
+    bind: Word,
+    escalate: Word,
+    group: Word,
+    roles: Word,
+    cluster_roles: Word,
+}
+
+fn named_powers(alloc: Global) -> Result<Powers, AllocError>
+    ensures { IfOk result (λ p. p ≡ the_powers) }
+{
+    Ok(Powers {
+        bind: Word::from_slice(alloc, BIND)?,
+        escalate: Word::from_slice(alloc, ESCALATE)?,
+        group: Word::from_slice(alloc, RBAC_GROUP)?,
+        roles: Word::from_slice(alloc, ROLES)?,
+        cluster_roles: Word::from_slice(alloc, CLUSTER_ROLES)?,
+    })
+}
+
+// Those of all plain roles.
+pub(crate) fn find_escalations(
+    alloc: Global,
+    found: &mut Findings,
+    objects: &Objects,
+) -> Result<(), AllocError>
+    ensures { OnOk result (Adds (IsEscalation objects.now) found.old found.new) }
+{
+    let powers = named_powers(alloc)?;
+    for place in 0..role_count(objects) {
+        find_in_role(alloc, found, &powers, role_at(objects, place))?;
+    }
+    Ok(())
+}
+
+fn find_in_role(
+    alloc: Global,
+    found: &mut Findings,
+    powers: &Powers,
+    role: SourceRole<'_>,
+) -> Result<(), AllocError>
+    requires { powers.now ≡ the_powers }
+    ensures { OnOk result (Adds (IsEscalationOf (source_of role.entry)) found.old found.new) }
+{
+    match plain_rules(role) {
+        Some(rules) => find_in_rules(alloc, found, powers, role, rules),
+        None => Ok(()),
+    }
+}
+
+// Those of these rules of a role.
+fn find_in_rules(
+    alloc: Global,
+    found: &mut Findings,
+    powers: &Powers,
+    role: SourceRole<'_>,
+    rules: &[Rule],
+) -> Result<(), AllocError>
+    requires { powers.now ≡ the_powers }
+    ensures { OnOk result (Adds (OfEach (IsEscalationAt (source_of role.entry)) rules.now) found.old found.new) }
+{
+    for (place, rule) in rules.iter().enumerate() {
+        find_in_rule(alloc, found, powers, role, place, rule)?;
+    }
+    Ok(())
+}
+
+fn find_in_rule(
+    alloc: Global,
+    found: &mut Findings,
+    powers: &Powers,
+    role: SourceRole<'_>,
+    place: usize,
+    rule: &Rule,
+) -> Result<(), AllocError>
+    requires { powers.now ≡ the_powers }
+    ensures { OnOk result (Adds (IsEscalationAt (source_of role.entry) place rule.now) found.old found.new) }
+{
+    find_by_verb(alloc, found, powers, role, place, rule, &powers.bind)?;
+    find_by_verb(alloc, found, powers, role, place, rule, &powers.escalate)
+}
+
+// The one by this verb, if it is one.
+fn find_by_verb(
+    alloc: Global,
+    found: &mut Findings,
+    powers: &Powers,
+    role: SourceRole<'_>,
+    place: usize,
+    rule: &Rule,
+    verb: &Word,
+) -> Result<(), AllocError>
+    requires { powers.now ≡ the_powers }
+    ensures { OnOk result (Adds (IsEscalationBy verb.now (source_of role.entry) place rule.now) found.old found.new) }
+{
+    if !escalates(powers, rule, verb) {
+        return Ok(());
+    }
+    let object = role_word(alloc, role)?;
+    let other = Word::from_slice(alloc, verb.as_bytes())?;
+    found.push(Finding {
+        code: 4,
+        object,
+        place: Some(place),
+        other,
+    })
+}
+
+// Whether the rule allows the verb on roles or cluster roles, whatever their names.
+#[tactic(auto, unfolding(crate::specs::Findings::Escalates))]
+fn escalates(powers: &Powers, rule: &Rule, verb: &Word) -> bool
+    requires { powers.now ≡ the_powers }
+    ensures { IsTrue result ↔ Escalates rule.now verb.now }
+{
+    verb_matches(rule, verb) && group_matches(rule, &powers.group) && has_roles(powers, rule)
+}
+
+fn has_roles(powers: &Powers, rule: &Rule) -> bool
+    requires { powers.now ≡ the_powers }
+    ensures { IsTrue result ↔ (HasResource rule.now (codes "roles") ⊎ HasResource rule.now (codes "clusterroles")) }
+{
+    resource_matches(rule, &powers.roles) || resource_matches(rule, &powers.cluster_roles)
+}

@@ -1,0 +1,153 @@
+//! What lint finds, line by line.
+
+ghost use Rattle.std.specs.Prelude.{◌≡◌, ◌++◌, ◌∷◌, [], decimal, IfOk, OnOk};
+ghost use Rattle.std.specs.Option.{option_copied};
+ghost use Rattle.rbac_model.specs.Sources.{source_of};
+ghost use Rattle.rbac_lint.specs.Lines.{object_text};
+ghost use Rattle.rbac_lint.specs.Roles.{source_object, binding_object, named_object, role_object, cluster_role_object};
+
+use rbac_model::SourceRole;
+use rbac_terms::{Binding, RoleRef, Word};
+use std::alloc::{AllocError, Global};
+use std::marker::Model;
+
+/// A finding (own). Its texts aren't escaped.
+#[derive(Debug, Drop)]
+pub struct Finding {
+    /// What is found, from 1: a dangling reference, an unused role, a redundant rule, a rule that
+    /// escalates, an account without a namespace, a stale aggregate, a replaced object.
+    pub code: u8,
+    /// The object: its kind, its namespace if it has one, and its name, with a slash between them.
+    pub object: Word,
+    /// The place of a rule or a subject in the object, from 0.
+    pub place: Option<usize>,
+    /// What else: the role named, the number of the covering rule from 1, the verb, the account's
+    /// name, or how many documents were replaced; else empty.
+    pub other: Word,
+}
+
+/// Findings, in order: as many as memory holds.
+#[derive(Debug, Drop)]
+pub struct Findings {
+    findings: Vec<Finding>,
+}
+
+impl Model for Findings {
+    ghost use Rattle.std.specs.Prelude.{List};
+    ghost use Rattle.rbac_lint.specs.declared.finding.Finding.{Finding};
+
+    ghost Value = { List Finding };
+
+    ghost view = { λ fs. fs.findings.items };
+}
+
+impl Findings {
+    // No findings, which takes no memory.
+    pub(crate) fn new(alloc: Global) -> Self
+        ensures { result ≡ [] }
+    {
+        Findings {
+            findings: Vec::new(alloc),
+        }
+    }
+
+    /// The findings, in order.
+    pub fn as_slice(&self) -> &[Finding]
+        ensures { result.now ≡ self.now }
+    {
+        self.findings.as_slice()
+    }
+
+    // Adds one at the end.
+    pub(crate) fn push(&mut self, finding: Finding) -> Result<(), AllocError>
+        ensures { OnOk result (self.new ≡ self.old ++ finding ∷ []) }
+    {
+        self.findings.push(finding)?;
+        Ok(())
+    }
+}
+
+const ROLE: &[u8] = b"Role/";
+
+const CLUSTER_ROLE: &[u8] = b"ClusterRole/";
+
+const ROLE_BINDING: &[u8] = b"RoleBinding/";
+
+const CLUSTER_ROLE_BINDING: &[u8] = b"ClusterRoleBinding/";
+
+// The text of a kind, a namespace and a name.
+fn scoped_word(
+    alloc: Global,
+    kind: &[u8],
+    namespace: &[u8],
+    name: &Word,
+) -> Result<Word, AllocError>
+    ensures { IfOk result (λ w. w ≡ kind.now ++ (namespace.now ++ 47 ∷ []) ++ name.now) }
+{
+    let mut text = Word::from_slice(alloc, kind)?;
+    text.push_slice(namespace)?;
+    text.push(b'/')?;
+    text.push_slice(name.as_bytes())?;
+    Ok(text)
+}
+
+// The text of a kind and a name.
+fn cluster_word(alloc: Global, kind: &[u8], name: &Word) -> Result<Word, AllocError>
+    ensures { IfOk result (λ w. w ≡ kind.now ++ name.now) }
+{
+    let mut text = Word::from_slice(alloc, kind)?;
+    text.push_slice(name.as_bytes())?;
+    Ok(text)
+}
+
+fn role_name_word(alloc: Global, namespace: &[u8], name: &Word) -> Result<Word, AllocError>
+    ensures { IfOk result (λ w. w ≡ object_text (role_object namespace.now name.now)) }
+{
+    scoped_word(alloc, ROLE, namespace, name)
+}
+
+fn cluster_role_name_word(alloc: Global, name: &Word) -> Result<Word, AllocError>
+    ensures { IfOk result (λ w. w ≡ object_text (cluster_role_object name.now)) }
+{
+    cluster_word(alloc, CLUSTER_ROLE, name)
+}
+
+// A role as findings name it.
+pub(crate) fn role_word(alloc: Global, role: SourceRole<'_>) -> Result<Word, AllocError>
+    ensures { IfOk result (λ w. w ≡ object_text (source_object (source_of role.entry))) }
+{
+    match role {
+        SourceRole::Role(role) => role_name_word(alloc, role.namespace.as_bytes(), &role.name),
+        SourceRole::ClusterRole(role) => cluster_role_name_word(alloc, &role.name),
+    }
+}
+
+// A binding as findings name it.
+pub(crate) fn binding_word(alloc: Global, binding: &Binding) -> Result<Word, AllocError>
+    ensures { IfOk result (λ w. w ≡ object_text (binding_object binding.now)) }
+{
+    match &binding.namespace {
+        Some(namespace) => { scoped_word(alloc, ROLE_BINDING, namespace.as_bytes(), &binding.name) }
+        None => cluster_word(alloc, CLUSTER_ROLE_BINDING, &binding.name),
+    }
+}
+
+// The role that a binding names, as findings name it.
+pub(crate) fn named_word(alloc: Global, binding: &Binding) -> Result<Word, AllocError>
+    ensures { IfOk result (λ w. w ≡ object_text (named_object binding.now.namespace binding.now.role)) }
+{
+    match (&binding.namespace, &binding.role) {
+        (Some(namespace), RoleRef::Role(name)) => role_name_word(alloc, namespace.as_bytes(), name),
+        // A ClusterRoleBinding can name a Role, which is never held.
+        (None, RoleRef::Role(name)) => role_name_word(alloc, &[], name),
+        (_, RoleRef::ClusterRole(name)) => cluster_role_name_word(alloc, name),
+    }
+}
+
+// A number as findings write it.
+pub(crate) fn number_word(alloc: Global, number: usize) -> Result<Word, AllocError>
+    ensures { IfOk result (λ w. w ≡ decimal number) }
+{
+    let text = format!(in alloc; "{number}")?;
+    Word::from_slice(alloc, text.as_bytes())
+}

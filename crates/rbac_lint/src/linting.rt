@@ -1,0 +1,1 @@
+//! All that lint finds.
