@@ -1,11 +1,6 @@
 -- A universe has one matrix, so a front of its text is one of the answer.
-use Rattle.std.proofs.Common.{◌≡◌, ◌∙◌, ℕ, List, IsTrue, AllPairs, ap, subst, refl, Less, Equal, Greater, Ordering}
-use Rattle.std.specs.Ordering.{is_lt}
-use Rattle.rbac_terms.specs.Text.{Text, BeginsWith}
-use Rattle.rbac_terms.specs.Keys.{texts, key_cmp}
-use Rattle.rbac_model.specs.Policies.{Held}
-use Rattle.rbac_model.specs.Lists.{IsAscendingBy}
-use Rattle.rbac_model.specs.Universes.{UniverseView, RowView, IsMatrix, cell_key}
+use Rattle.std.proofs.Common.{◌∙◌, ℕ, List, ap, subst}
+use Rattle.rbac_terms.specs.Text.{BeginsWith}
 use Rattle.rbac_matrix.proofs.OneMatrix.{one_matrix}
 use Rattle.rbac_manifest.specs.Load.{LoadedView}
 use Rattle.rbac_question.specs.declared.command.Action.{Action}

@@ -1,6 +1,4 @@
-use Rattle.std.proofs.Common.{◌≡◌, ◌++◌, ℕ, List}
-use Rattle.std.specs.Prelude.{Some}
-use Rattle.rbac_streams.specs.Taken.{Took}
+use Rattle.std.proofs.Common.{◌≡◌, ◌++◌}
 use Rattle.rbac_cli.proofs.TakenBytes.{ends_as}
 use Rattle.rbac_cli.proofs.running.run_into.Goals as goal
 
