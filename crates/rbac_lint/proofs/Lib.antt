@@ -6,3 +6,5 @@ pub mod Order
 pub mod RoleLines
 pub mod Named
 pub mod Least
+pub mod Marked
+pub mod StaleRules

@@ -4,7 +4,7 @@ use Rattle.std.specs.Prelude.{Some, codes}
 use Rattle.rbac_terms.specs.Text.{Text, text_cmp}
 use Rattle.rbac_terms.specs.declared.matching.Rule.{Rule}
 use Rattle.rbac_terms.specs.declared.granting.Binding.{Binding}
-use Rattle.rbac_model.specs.Policies.{Held, Source, binding_name}
+use Rattle.rbac_model.specs.Policies.{Held, Source, binding_name, cluster_role_name}
 use Rattle.rbac_lint.specs.declared.finding.Finding.{Finding}
 use Rattle.rbac_lint.specs.Lines.{Line, object_texts, Adds}
 use Rattle.rbac_lint.specs.Roles.{source_object, binding_object}
@@ -91,7 +91,7 @@ account_names = record {
   object_is = λ b x p. ap (λ t. object_texts t.object) p.1.3.2 ∙ binding_object-name b;
 }
 
-pub stale_names : (h : Held) → Names source_texts (IsStaleOf h) 6
+pub stale_names : (h : Held) → Names cluster_role_name (IsStaleOf h) 6
 unfolding IsStaleOf
 stale_names h = record {
   code_is = λ s x p. ap (λ t. t.code) p.1;

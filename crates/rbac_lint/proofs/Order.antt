@@ -17,7 +17,7 @@ later_place : (a b : Line) → a.code ≡ b.code → a.object ≡ b.object → p
 later_place a b e o l = inr (e, inr (ap object_texts o, inl l))
 
 -- ascending names, place by place
-ascends : {X : Type 0} (name : X → List Text) (xs : List X) (k i : ℕ) (z y : X) → IsAscendingBy name xs → k < i → slice_get xs k ≡ Some z → slice_get xs i ≡ Some y → slice_cmp text_cmp (name z) (name y) ≡ Less
+pub ascends : {X : Type 0} (name : X → List Text) (xs : List X) (k i : ℕ) (z y : X) → IsAscendingBy name xs → k < i → slice_get xs k ≡ Some z → slice_get xs i ≡ Some y → slice_cmp text_cmp (name z) (name y) ≡ Less
 ascends name xs k i z y up l f g =
     let below = up k i z l (slice_get_within xs i y g) in
     let first : get_or xs k z ≡ z = get_or_from_slice_get xs k z z f in

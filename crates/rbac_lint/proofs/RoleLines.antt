@@ -1,10 +1,11 @@
 -- the roles of an export in order, and the lines of their rules
-use Rattle.std.proofs.Common.{◌≡◌, ℕ, ◌<◌, ◌+◌, List, [], ◌∷◌, ◌++◌, get_or, length, map, sym, ap, ◌∙◌, refl, subst, arith, zero, suc}
+use Rattle.std.proofs.Common.{◌≡◌, ℕ, ◌<◌, ◌+◌, ◌-◌, inl, inr, List, [], ◌∷◌, ◌++◌, get_or, length, map, sym, ap, ◌∙◌, refl, subst, arith, zero, suc}
 use Rattle.std.specs.Prelude.{Option, Some, None, Contains, slice_get, Bool, true, false, is_some, option_map}
 use Rattle.std.specs.Cmp.Lexicographic.{slice_cmp}
 use Rattle.std.specs.declared.cmp.Ordering.TheVariants.{Less}
 use Rattle.std.proofs.lemmas.List.{length-append, length-map, get_or-map}
-use Rattle.std.proofs.lemmas.Option.{slice_get-map}
+use Rattle.std.proofs.lemmas.Option.{slice_get-map, slice_get-get_or, slice_get_within, same_Some}
+use Rattle.std.proofs.lemmas.Bool.{cases_lt}
 use Rattle.rbac_terms.specs.Text.{Text, text_cmp}
 use Rattle.rbac_terms.specs.declared.selecting.Selector.{Selector}
 use Rattle.rbac_terms.specs.declared.granting.Role.{Role}
@@ -20,12 +21,12 @@ abbrev pub source_texts : Source → List Text
 source_texts s = object_texts (source_object s)
 
 module _ {X : Type 0} where
-  slice_get-left : (xs ys : List X) (i : ℕ) (x : X) → slice_get xs i ≡ Some x → slice_get (xs ++ ys) i ≡ Some x
+  pub slice_get-left : (xs ys : List X) (i : ℕ) (x : X) → slice_get xs i ≡ Some x → slice_get (xs ++ ys) i ≡ Some x
   slice_get-left [] ys i x e = cc
   slice_get-left (y ∷ xs) ys zero x e = e
   slice_get-left (y ∷ xs) ys (suc i) x e = slice_get-left xs ys i x e
 
-  slice_get-right : (xs ys : List X) (i : ℕ) (x : X) → slice_get ys i ≡ Some x → slice_get (xs ++ ys) (length xs + i) ≡ Some x
+  pub slice_get-right : (xs ys : List X) (i : ℕ) (x : X) → slice_get ys i ≡ Some x → slice_get (xs ++ ys) (length xs + i) ≡ Some x
   slice_get-right [] ys i x e = let n : 0 + i ≡ i = omega arith in ap (slice_get ys) n ∙ e
   slice_get-right (y ∷ xs) ys i x e =
       let n : length (y ∷ xs) + i ≡ suc (length xs + i) = omega arith in
@@ -47,6 +48,28 @@ role_there h i k r n e =
 pub roles_length : (h : Held) → length (roles_in h) ≡ length h.cluster_roles + length h.roles
 roles_length h =
     omega (arith, length-append (map (λ r. InClusterRole r) h.cluster_roles) (map (λ r. InRole r) h.roles), length-map h.cluster_roles (λ r. InClusterRole r), length-map h.roles (λ r. InRole r))
+
+-- the element at a place
+pub there : {X : Type 0} (xs : List X) (j : ℕ) → j < length xs → (x : X) × (slice_get xs j ≡ Some x)
+there [] j l = absurd (omega (arith, l))
+there (x ∷ xs) j l = (get_or (x ∷ xs) j x, slice_get-get_or (x ∷ xs) j x l)
+
+-- a cluster role among all roles stands at the same place among its kind
+pub cluster_role_at : (h : Held) (k : ℕ) (r : ClusterRole) → slice_get (roles_in h) k ≡ Some (InClusterRole r) → slice_get h.cluster_roles k ≡ Some r
+cluster_role_at h k r e = elim (cases_lt k (length h.cluster_roles)) [
+  | inl lt ↦
+      let c = there h.cluster_roles k lt in
+      let both : InClusterRole c.0 ≡ InClusterRole r = same_Some (InClusterRole c.0) (InClusterRole r) (sym (cluster_role_there h k c.0 c.1) ∙ e) in
+      let same : c.0 ≡ r = cc in
+      c.1 ∙ ap (λ (v : ClusterRole). Some v) same
+  | inr le ↦ elim (cases_lt (k - length h.cluster_roles) (length h.roles)) [
+    | inl lt ↦
+        let s = there h.roles (k - length h.cluster_roles) lt in
+        let both : InRole s.0 ≡ InClusterRole r = same_Some (InRole s.0) (InClusterRole r) (sym (role_there h k (k - length h.cluster_roles) s.0 (omega (arith, le)) s.1) ∙ e) in
+        absurd cc
+    | inr past ↦ absurd (omega (arith, le, past, slice_get_within (roles_in h) k (InClusterRole r) e, roles_length h))
+  ]
+]
 
 -- an ascending list, mapped
 mapped_up : {X : Type 0} (f : X → Source) (name : X → List Text) → ((x : X) → source_texts (f x) ≡ name x) → (xs : List X) → IsAscendingBy name xs → IsAscendingBy source_texts (map f xs)

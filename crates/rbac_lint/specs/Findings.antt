@@ -99,15 +99,17 @@ abbrev pub IsAccountWithout : Held → Line → Type 0
 IsAccountWithout h = OfEach (λ k b. IsAccountOf b) h.bindings
 
 -- L6: an aggregated role has written rules, which as a set aren't those that it gathers: the rules of the plain roles that it reaches (own)
-abbrev pub IsGathered : Held → ClusterRole → Rule → Type 0
+unfoldable pub IsGathered : Held → ClusterRole → Rule → Type 0
 IsGathered h r rule = (s : ClusterRole) × IsPlain s × Reaches h r s × Contains s.rules rule
 
-unfoldable pub IsStaleRole : Held → Source → Type 0
-IsStaleRole h (InRole r) = ⊥
-IsStaleRole h (InClusterRole r) = (¬ IsPlain r) × (r.rules ≢ []) × (¬ ((rule : Rule) → Contains r.rules rule ↔ IsGathered h r rule))
+abbrev pub HasSameRules : List Rule → (Rule → Type 0) → Type 0
+HasSameRules rules P = (rule : Rule) → Contains rules rule ↔ P rule
 
-unfoldable pub IsStaleOf : Held → Source → Line → Type 0
-IsStaleOf h s x = IsStaleRole h s × (x ≡ role_line 6 s None [])
+unfoldable pub IsStaleRole : Held → ClusterRole → Type 0
+IsStaleRole h r = (¬ IsPlain r) × (r.rules ≢ []) × (¬ HasSameRules r.rules (IsGathered h r))
+
+unfoldable pub IsStaleOf : Held → ClusterRole → Line → Type 0
+IsStaleOf h r x = IsStaleRole h r × (x ≡ role_line 6 (InClusterRole r) None [])
 
 abbrev pub IsStale : Held → Line → Type 0
-IsStale h = OfEach (λ k s. IsStaleOf h s) (roles_in h)
+IsStale h = OfEach (λ k r. IsStaleOf h r) h.cluster_roles

@@ -1,5 +1,7 @@
 pub mod Covering
 pub mod Findings
+pub mod Gathering
 pub mod Lines
+pub mod Marks
 pub mod Powers
 pub mod Roles

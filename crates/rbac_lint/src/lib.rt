@@ -10,6 +10,8 @@ mod finding;
 mod linting;
 mod redundant;
 mod roles;
+mod stale;
+mod unused;
 
 pub use covering::covers;
 pub use fault::LintFault;

@@ -1,0 +1,113 @@
+//! Roles that no binding leads to.
+
+ghost use Rattle.std.specs.Prelude.{◌≡◌, ◌<◌, ◌↔◌, Some, IsSome, IfOk, OnOk, IsTrue, slice_get, length};
+ghost use Rattle.rbac_model.specs.Places.{source_at};
+ghost use Rattle.rbac_model.specs.Policies.{Source, IsHeld};
+ghost use Rattle.rbac_lint.specs.Lines.{Adds};
+ghost use Rattle.rbac_lint.specs.Roles.{roles_in};
+ghost use Rattle.rbac_lint.specs.Findings.{IsUsed, IsUnusedOf, IsUnused};
+ghost use Rattle.rbac_lint.specs.Marks.{AreNamed, AreMarkedWith, IsReachedByNamedAt, IsAddedAt};
+
+use crate::finding::{Finding, Findings, role_word};
+use crate::roles::{role_at, role_count};
+use rbac_model::{Objects, Policy, RolePlace, ref_place};
+use rbac_terms::{Binding, Word};
+use std::alloc::{AllocError, Global};
+
+// Those of all roles.
+pub(crate) fn find_unused(
+    alloc: Global,
+    found: &mut Findings,
+    policy: &Policy,
+) -> Result<(), AllocError>
+    ensures { OnOk result (Adds (IsUnused policy.now.held) found.old found.new) }
+{
+    let objects = policy.objects();
+    let named = named_roles(alloc, objects)?;
+    for place in 0..role_count(objects) {
+        find_unused_at(alloc, found, policy, named.as_slice(), place)?;
+    }
+    Ok(())
+}
+
+// The one that the role at this place is, if it is one.
+fn find_unused_at(
+    alloc: Global,
+    found: &mut Findings,
+    policy: &Policy,
+    named: &[bool],
+    place: usize,
+) -> Result<(), AllocError>
+    requires named { AreNamed policy.now.held named.now }
+    requires place { place < length (roles_in policy.now.held) }
+    ensures { OnOk result (IsAddedAt (IsUnusedOf policy.now.held) policy.now.held place found.old found.new) }
+{
+    if is_used(policy, named, place) {
+        return Ok(());
+    }
+    let object = role_word(alloc, role_at(policy.objects(), place))?;
+    found.push(Finding {
+        code: 2,
+        object,
+        place: None,
+        other: Word::new(alloc),
+    })
+}
+
+// Whether a binding names the role at this place, or a cluster role that reaches it.
+fn is_used(policy: &Policy, named: &[bool], place: usize) -> bool
+    requires named { AreNamed policy.now.held named.now }
+    requires place { place < length (roles_in policy.now.held) }
+    ensures { (s : Source) → slice_get (roles_in policy.now.held) place ≡ Some s → (IsTrue result ↔ IsUsed policy.now.held s) }
+{
+    named[place] || is_reached(policy, named, place)
+}
+
+// Whether a cluster role that a binding names reaches the one at this place, if there is one.
+fn is_reached(policy: &Policy, named: &[bool], place: usize) -> bool
+    requires { AreNamed policy.now.held named.now }
+    ensures { IsTrue result ↔ IsReachedByNamedAt policy.now.held place }
+{
+    for from in 0..policy.objects().cluster_roles().len() {
+        if named[from] && policy.reaches(from, place) {
+            return true;
+        }
+    }
+    false
+}
+
+// For each role whether some binding names it.
+fn named_roles(alloc: Global, objects: &Objects) -> Result<Vec<bool>, AllocError>
+    ensures { IfOk result (λ v. AreNamed objects.now v.items) }
+{
+    let mut named = vec![in alloc; false; role_count(objects)]?;
+    let bindings = objects.bindings();
+    for binding in bindings {
+        mark_named(objects, binding, &mut named);
+    }
+    Ok(named)
+}
+
+// Marks the role that a binding names, if it is there.
+fn mark_named(objects: &Objects, binding: &Binding, named: &mut Vec<bool>)
+    requires { length named.old.items ≡ length (roles_in objects.now) }
+    ensures { AreMarkedWith objects.now binding.now named.old.items named.new.items }
+{
+    if let Some(place) = ref_place(objects, binding) {
+        named[place_among(objects, place)] = true;
+    }
+}
+
+// The place of a role of one kind among the roles of both.
+fn place_among(objects: &Objects, place: RolePlace) -> usize
+    requires { IsSome (source_at objects.now place) }
+    ensures within { result < length (roles_in objects.now) }
+    ensures held { IsHeld objects.now }
+    ensures same { (s : Source) → source_at objects.now place ≡ Some s → slice_get (roles_in objects.now) result ≡ Some s }
+{
+    let count = role_count(objects);
+    match place {
+        RolePlace::ClusterRoleAt(at) => at,
+        RolePlace::RoleAt(at) => count - objects.roles().len() + at,
+    }
+}
