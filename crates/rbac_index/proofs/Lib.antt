@@ -1,3 +1,4 @@
+pub mod AlikeLemmas
 pub mod DecidingLemmas
 pub mod EntryLemmas
 pub mod HolderLaw

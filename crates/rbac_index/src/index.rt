@@ -9,7 +9,9 @@ ghost use Rattle.rbac_index.specs.Indexed.{AreCandidates, HaveNumbers, IsAllowed
 ghost use Rattle.rbac_index.specs.Bound.{IsNamedBy, IsBoundTo, IsNextRun};
 ghost use Rattle.rbac_index.specs.Deciding.{IsWhyShown};
 ghost use Rattle.rbac_index.specs.Holding.{AllowsByHolders};
+ghost use Rattle.rbac_index.specs.Reaches.{AreAlike};
 
+use crate::alike::earlier_alike;
 use crate::deciding::{Why, why_allowed};
 use crate::fault::IndexFault;
 use crate::holders::Holders;
@@ -83,6 +85,14 @@ impl<'p> Index<'p> {
     {
         let policy: &'p Policy = self.policy;
         policy.grant(no)
+    }
+
+    // An earlier grant by the rule of the grant of this number, where one is known.
+    pub(crate) fn earlier_alike(&self, no: u32) -> Option<u32>
+        requires { no < length self.now.grants }
+        ensures { IfSome result (λ first. (first < no) × AreAlike self.now first no) }
+    {
+        earlier_alike(self.policy, self.runs.as_slice(), no)
     }
 
     /// The numbers of the grants whose rule allows the verb on the target, ascending; where bindings

@@ -2,6 +2,7 @@
 //! and who may. Everything here is told of the policy alone; the index only makes it fast.
 #![tactic(auto)]
 
+mod alike;
 mod deciding;
 mod fault;
 mod holders;
