@@ -42,7 +42,7 @@ group_named (AsMember g) name (inl e) = append_cancel_left (codes "g:") name g e
 group_named (AsMember g) name (inr f) = subst (λ (t : Text). IsInGroup (AsMember g) t) (sym (append_cancel_left (codes "g:") name f.0 f.2)) f.1
 
 -- a subject that names who asks has such a key
-naming_key : (s : Subject) (namespace : Option Text) (who : Who) → Names s namespace who → (key : Text) × IsSubjectKey s namespace key × IsKeyFor who key
+pub naming_key : (s : Subject) (namespace : Option Text) (who : Who) → Names s namespace who → (key : Text) × IsSubjectKey s namespace key × IsKeyFor who key
 naming_key (User name) namespace who n = (key_of (AsUser name []), refl, inl (user_key who name n))
 naming_key (Group name) namespace who n = (key_of (AsMember name), refl, inr (name, n, refl))
 naming_key (Account (Some m) name) namespace who n = (key_of (AsUser (account_user m name) []), refl, inl (user_key who (account_user m name) n))
@@ -50,7 +50,7 @@ naming_key (Account None name) (Some m) who n = (key_of (AsUser (account_user m 
 naming_key (Account None name) None who n = absurd n
 
 -- a subject with such a key names who asks
-key_names : (s : Subject) (namespace : Option Text) (who : Who) (key : Text) → IsSubjectKey s namespace key → IsKeyFor who key → Names s namespace who
+pub key_names : (s : Subject) (namespace : Option Text) (who : Who) (key : Text) → IsSubjectKey s namespace key → IsKeyFor who key → Names s namespace who
 key_names (User name) namespace who key e f = user_named who name (subst (IsKeyFor who) e f)
 key_names (Group name) namespace who key e f = group_named who name (subst (IsKeyFor who) e f)
 key_names (Account (Some m) name) namespace who key e f = user_named who (account_user m name) (subst (IsKeyFor who) e f)

@@ -1,12 +1,16 @@
-pub mod BoundLemmas
+pub mod AlikeLemmas
 pub mod DecidingLemmas
 pub mod EntryLemmas
 pub mod HolderLaw
 pub mod HoldingLemmas
 pub mod IndexLemmas
+pub mod KeyedLemmas
+pub mod KeyingLemmas
+pub mod KeysOf
 pub mod ListingLemmas
 pub mod LivingLemmas
 pub mod MergeLemmas
+pub mod NextRunLemmas
 pub mod OneHolders
 pub mod ReachLemmas
 pub mod ReadLemmas

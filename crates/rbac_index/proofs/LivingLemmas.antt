@@ -49,7 +49,7 @@ namespaces_rise (Some x) (Some y) a b asked l = elim (then_less (text_cmp x y) (
   | inr e ↦ let same : x ≡ y = exact_bytes x y e in rw same (omega arith)
 ]
 
-lt_back : (o p : Ordering) → ordering_index o ≤ ordering_index p → is_lt p ≡ true → is_lt o ≡ true
+pub lt_back : (o p : Ordering) → ordering_index o ≤ ordering_index p → is_lt p ≡ true → is_lt o ≡ true
 lt_back Less p le e = refl
 lt_back Equal Less le e = absurd (omega arith)
 lt_back Equal Equal le e = cc

@@ -3,6 +3,7 @@ pub mod Deciding
 pub mod HolderViews
 pub mod Holding
 pub mod Indexed
+pub mod Keyed
 pub mod Listing
 pub mod Living
 pub mod Reaches

@@ -32,3 +32,7 @@ pub record AreReachesBelow (p : PolicyView) (u : UniverseView) (count : ℕ) (re
 -- as many reaches as grants, each at its grant's number
 abbrev pub AreReaches : PolicyView → UniverseView → List (List ℕ) → Type 0
 AreReaches p u reaches = AreReachesBelow p u (length p.grants) reaches
+
+-- the grants of these numbers are by one rule
+abbrev pub AreAlike : PolicyView → ℕ → ℕ → Type 0
+AreAlike p m n = (g h : GrantView) → slice_get p.grants m ≡ Some g → slice_get p.grants n ≡ Some h → g.rule.rule ≡ h.rule.rule

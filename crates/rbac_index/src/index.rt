@@ -9,12 +9,15 @@ ghost use Rattle.rbac_index.specs.Indexed.{AreCandidates, HaveNumbers, IsAllowed
 ghost use Rattle.rbac_index.specs.Bound.{IsNamedBy, IsBoundTo, IsNextRun};
 ghost use Rattle.rbac_index.specs.Deciding.{IsWhyShown};
 ghost use Rattle.rbac_index.specs.Holding.{AllowsByHolders};
+ghost use Rattle.rbac_index.specs.Reaches.{AreAlike};
 
-use crate::bound::{binding_names, is_bound};
+use crate::alike::earlier_alike;
 use crate::deciding::{Why, why_allowed};
 use crate::fault::IndexFault;
 use crate::holders::Holders;
+use crate::keyed::{Keyed, keyed_by, next_for};
 use crate::listing::{Listing, listing_of, matching};
+use crate::living::{Live, live_for_some};
 use crate::merging::{Numbers, merged};
 use crate::numbers::GrantNos;
 use crate::runs::runs_by_row;
@@ -34,17 +37,19 @@ pub struct Index<'p> {
     listing: Listing,
     // Where the runs of grants begin that each row of rules brings.
     runs: Vec<GrantNos>,
+    named: Vec<Keyed>,
 }
 
 impl<'p> Model for Index<'p> {
     ghost use Rattle.rbac_model.specs.Policies.{PolicyView};
     ghost use Rattle.rbac_index.specs.Indexed.{IsIndexOf};
+    ghost use Rattle.rbac_index.specs.Keyed.{AreKeyed};
 
     ghost Value = { PolicyView };
 
     ghost view = { λ i. i.policy.now };
 
-    ghost invariant = { λ i. IsIndexOf i.policy.now i.rules.items i.listing i.runs.items };
+    ghost invariant = { λ i. IsIndexOf i.policy.now i.rules.items i.listing i.runs.items × AreKeyed i.policy.now i.named.items };
 }
 
 impl<'p> Index<'p> {
@@ -56,11 +61,13 @@ impl<'p> Index<'p> {
         let rules = laid_out(alloc, rows.as_slice())?;
         let listing = listing_of(alloc, rules.as_slice())?;
         let runs = runs_by_row(alloc, policy, rows.as_slice())?;
+        let named = keyed_by(alloc, policy)?;
         Ok(Index {
             policy,
             rules,
             listing,
             runs,
+            named,
         })
     }
 
@@ -78,6 +85,14 @@ impl<'p> Index<'p> {
     {
         let policy: &'p Policy = self.policy;
         policy.grant(no)
+    }
+
+    // An earlier grant by the rule of the grant of this number, where one is known.
+    pub(crate) fn earlier_alike(&self, no: u32) -> Option<u32>
+        requires { no < length self.now.grants }
+        ensures { IfSome result (λ first. (first < no) × AreAlike self.now first no) }
+    {
+        earlier_alike(self.policy, self.runs.as_slice(), no)
     }
 
     /// The numbers of the grants whose rule allows the verb on the target, ascending; where bindings
@@ -123,12 +138,12 @@ impl<'p> Index<'p> {
     pub fn has_grants(&self, principal: &Principal) -> bool
         ensures { IsTrue result ↔ ((number : ℕ) × IsNamedBy self.now principal.now number) }
     {
-        for no in 0..self.len() {
-            if binding_names(self.grant(no).binding, principal) {
-                return true;
-            }
-        }
-        false
+        let everywhere = Live {
+            cluster_wide: self.policy.bindings().len(),
+            from: 0,
+            to: 0,
+        };
+        next_for(self.named.as_slice(), principal, everywhere, 0).is_some()
     }
 
     /// The next grants, from this number on, of bindings that name the principal and are live in
@@ -139,12 +154,16 @@ impl<'p> Index<'p> {
             ((number : ℕ) → from ≤ number → ¬ IsBoundTo self.now principal.now namespace.now number)
             (λ run. IsNextRun self.now principal.now namespace.now from run.0 run.1) }
     {
-        for no in from..self.len() {
-            if is_bound(self.grant(no).binding, principal, namespace) {
-                return Some((no, no + 1));
-            }
+        if self.len() <= from {
+            return None;
         }
-        None
+        let live = live_for_some(self.policy.bindings(), namespace);
+        let here = self.policy.place(from).binding;
+        let Some(place) = next_for(self.named.as_slice(), principal, live, here) else {
+            return None;
+        };
+        let (start, end) = self.policy.grants_of(place);
+        Some((start.max(from), end))
     }
 
     /// Who may use the verb on the target in this namespace: each holder once, in order of the

@@ -2,11 +2,12 @@
 //! and who may. Everything here is told of the policy alone; the index only makes it fast.
 #![tactic(auto)]
 
-mod bound;
+mod alike;
 mod deciding;
 mod fault;
 mod holders;
 mod index;
+mod keyed;
 mod laws;
 mod listing;
 mod living;

@@ -1,9 +1,11 @@
 //! Where the live bindings stand.
 
-ghost use Rattle.std.specs.Prelude.{◌≡◌, ◌<◌, ◌≤◌, ◌↔◌, ℕ, Some, None, length, slice_get};
+ghost use Rattle.std.specs.Prelude.{◌≡◌, ◌<◌, ◌≤◌, ◌↔◌, ℕ, Some, None, IsTrue, length, slice_get};
 ghost use Rattle.rbac_terms.specs.declared.granting.Binding.{Binding};
 ghost use Rattle.rbac_model.specs.Lists.{IsAscendingBy};
 ghost use Rattle.rbac_model.specs.Policies.{binding_name};
+ghost use Rattle.rbac_model.specs.Universes.{LiveForSome};
+ghost use Rattle.rbac_index.specs.Keyed.{IsLiveAt};
 ghost use Rattle.rbac_index.specs.Living.{namespace_cmp, IsLiveRoleBinding};
 
 use rbac_terms::{Binding, Target, Word};
@@ -54,4 +56,46 @@ pub(crate) fn live_role_bindings(
         return (0, 0);
     }
     of_namespace(bindings, namespace)
+}
+
+// Where bindings are live for some target: so many stand first, which are ClusterRoleBindings, and
+// the RoleBindings of a namespace stand from one place up to another.
+#[derive(Clone, Copy)]
+pub(crate) struct Live {
+    pub(crate) cluster_wide: usize,
+    pub(crate) from: usize,
+    pub(crate) to: usize,
+}
+
+impl Live {
+    // Whether the binding at this place is live.
+    pub(crate) fn has(self, place: usize) -> bool
+        ensures { IsTrue result ↔ IsLiveAt self place }
+    {
+        place < self.cluster_wide || self.is_in_namespace(place)
+    }
+
+    fn is_in_namespace(self, place: usize) -> bool
+        ensures { IsTrue result ↔ ((self.from ≤ place) × (place < self.to)) }
+    {
+        self.from <= place && place < self.to
+    }
+}
+
+// Where bindings are live for some target in this namespace.
+pub(crate) fn live_for_some(bindings: &[Binding], namespace: &Word) -> Live
+    requires { IsAscendingBy binding_name bindings.now }
+    ensures { (at : ℕ) (b : Binding) → slice_get bindings.now at ≡ Some b → IsLiveAt result at ↔ LiveForSome b.namespace namespace.now }
+{
+    let cluster_wide = cluster_wide(bindings);
+    let (from, to) = if namespace.is_empty() {
+        (0, 0)
+    } else {
+        of_namespace(bindings, namespace)
+    };
+    Live {
+        cluster_wide,
+        from,
+        to,
+    }
 }

@@ -31,7 +31,8 @@ impl Meter {
     pub fn count(&self) -> u128
         ensures { result ≡ self.now }
     {
-        self.reads
+        let Meter { reads } = self;
+        *reads
     }
 
     // Counts one more read.

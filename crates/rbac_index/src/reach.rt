@@ -2,7 +2,7 @@
 
 ghost use Rattle.std.specs.Prelude.{◌≡◌, ◌<◌, ◌≤◌, IfOk, length, slice_index};
 ghost use Rattle.std.specs.List.Sorted.{IsStrictlyIncreasing};
-ghost use Rattle.rbac_index.specs.Reaches.{raised, IsReach, IsReachAt, AreReaches};
+ghost use Rattle.rbac_index.specs.Reaches.{raised, IsReach, IsReachAt, AreReachesBelow, AreReaches};
 
 use crate::fault::IndexFault;
 use crate::index::Index;
@@ -49,6 +49,15 @@ impl Reach {
         })
     }
 
+    // The same reach, which holds its places together with this one.
+    fn share(&self) -> Result<Self, AllocError>
+        ensures { IfOk result (λ r. r ≡ self.now) }
+    {
+        Ok(Reach {
+            places: self.places.clone()?,
+        })
+    }
+
     /// How many places there are. Takes no memory.
     pub fn len(&self) -> usize
         ensures len { result ≡ length self.now }
@@ -70,7 +79,8 @@ impl Reach {
     }
 }
 
-/// The reach of each grant, in order of the grants' numbers. X1 NoMemory where memory is refused.
+/// The reach of each grant, in order of the grants' numbers. What one rule matches is worked out
+/// once, for all grants by it. X1 NoMemory where memory is refused.
 pub fn reaches_of(
     alloc: Global,
     index: &Index<'_>,
@@ -80,9 +90,28 @@ pub fn reaches_of(
 {
     let mut reaches = Vec::new(alloc);
     for no in 0..index.len() {
-        reaches.push(Reach::of(alloc, index, no, universe)?)?;
+        let reach = next_reach(alloc, index, universe, reaches.as_slice(), no)?;
+        reaches.push(reach)?;
     }
     Ok(reaches)
+}
+
+// The reach of the grant of this number, by those of all grants before it.
+fn next_reach(
+    alloc: Global,
+    index: &Index<'_>,
+    universe: &Universe,
+    reaches: &[Reach],
+    no: u32,
+) -> Result<Reach, IndexFault>
+    requires number { no < length index.now.grants }
+    requires before { AreReachesBelow index.now universe.now no reaches.now }
+    ensures { IfOk result (λ r. IsReachAt index.now universe.now no r) }
+{
+    match index.earlier_alike(no) {
+        Some(first) => Ok(reaches[first as usize].share()?),
+        None => Reach::of(alloc, index, no, universe),
+    }
 }
 
 // The places of the targets that the rule matches.

@@ -8,10 +8,12 @@ use Rattle.rbac_index.proofs.index.Index.build.Goals as goal
 
 pub invariant_of-result : goal.invariant_of-result
 invariant_of-result c =
-    let rows : map (λ (r : Bor Rules). r.now) c.as_slice.result.now ≡ written_rules c.args.policy.now.held = ap (map (λ (r : Bor Rules). r.now)) c.as_slice.ensures.value ∙ c.in_ok-rows.ensures ∙ ap written_rules c.objects.ensures.held in
-    record {
-      written = subst (λ (rs : List (List Rule)). AreWritten rs c.in_ok-rules.rules.items) rows c.in_ok-rules.ensures;
-      listed = subst (λ (ws : List Written). AreListed (rules_of ws) (length ws) c.in_ok-listing.listing) c.as_slice-2.ensures.value c.in_ok-listing.ensures;
-      granted = c.in_ok-runs.ensures.runs;
-      few = c.in_ok-runs.ensures.few;
-    }
+    let rows : map (λ (r : Bor Rules). r.now) c.as_slice.result.now ≡ written_rules c.args.policy.now.held = ap (map (λ (r : Bor Rules). r.now)) c.as_slice.ensures.value ∙ c.in_ok-rows.ensures ∙ ap written_rules c.objects.ensures.held in (
+      record {
+        written = subst (λ (rs : List (List Rule)). AreWritten rs c.in_ok-rules.rules.items) rows c.in_ok-rules.ensures;
+        listed = subst (λ (ws : List Written). AreListed (rules_of ws) (length ws) c.in_ok-listing.listing) c.as_slice-2.ensures.value c.in_ok-listing.ensures;
+        granted = c.in_ok-runs.ensures.runs;
+        few = c.in_ok-runs.ensures.few;
+      },
+      c.in_ok-named.ensures,
+    )

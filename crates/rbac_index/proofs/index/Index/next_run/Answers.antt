@@ -1,30 +1,30 @@
-use Rattle.std.proofs.Common.{◌≡◌, ℕ, arith, inl, inr, subst, sym, refl, ap}
-use Rattle.std.proofs.lemmas.Bool.{cases_lt, both_ways}
-use Rattle.std.proofs.lemmas.Option.{slice_get_within}
-use Rattle.rbac_model.specs.Sources.{grant_of}
-use Rattle.rbac_index.specs.Bound.{IsBoundTo}
-use Rattle.rbac_index.proofs.BoundLemmas.{bound_here}
+use Rattle.std.proofs.Common.{◌≡◌, ◌≤◌, ◌↔◌, ℕ, List, slice_get, subst}
+use Rattle.std.specs.Prelude.{Some}
+use Rattle.rbac_terms.specs.declared.granting.Binding.{Binding}
+use Rattle.rbac_model.specs.Universes.{LiveForSome}
+use Rattle.rbac_index.specs.declared.keyed.Keyed.{Keyed}
+use Rattle.rbac_index.specs.Holding.{IsKeyFor}
+use Rattle.rbac_index.specs.Keyed.{IsLiveAt, IsLiveUnderAny, IsNextOf}
+use Rattle.rbac_index.proofs.NextRunLemmas.{none_left, found_run}
 use Rattle.rbac_index.proofs.index.Index.next_run.Goals as goal
 
-pub returns-then-is_bound : goal.returns-then-is_bound
-returns-then-is_bound c = record {
-  after = c.loop-no.auto.no;
-  some = omega arith;
-  bound = λ number low high.
-      let same : c.loop-no.no ≡ number = omega (arith, low, high) in
-      let is = c.is_bound.ensures.0 c.if-is_bound.true in
-      subst (IsBoundTo c.args.self.now c.args.principal.now c.args.namespace.now) same (grant_of c.grant.result, c.grant.ensures, is.0, is.1);
-  none_before = c.loop-no.invariant;
-}
-
-pub loop-no-preserved : goal.loop-no-preserved
-loop-no-preserved c = λ number low less bound. elim (cases_lt number c.loop-no.no) [
-  | inl old ↦ c.loop-no.invariant number low old bound
-  | inr new ↦
-      let same : number ≡ c.loop-no.no = omega (arith, less) in
-      let here : IsBoundTo c.args.self.now c.args.principal.now c.args.namespace.now c.loop-no.no = subst (IsBoundTo c.args.self.now c.args.principal.now c.args.namespace.now) same bound in
-      both_ways _ c.if-is_bound.false (c.is_bound.ensures.1 (bound_here c.args.self.now c.args.principal.now c.loop-no.no (grant_of c.grant.result) c.grant.ensures c.args.namespace.now here))
-]
+pub returns-in_default : goal.returns-in_default
+returns-in_default c =
+    let p = c.self.inside.policy.now in
+    let who = c.args.principal.now in
+    let live = c.live_for_some-live.result in
+    let here = c.place-here.result.binding in
+    let lives = subst (λ (bs : List Binding). (at : ℕ) (b : Binding) → slice_get bs at ≡ Some b → IsLiveAt live at ↔ LiveForSome b.namespace c.args.namespace.now) c.bindings.ensures.bindings c.live_for_some-live.ensures in
+    let none = subst (λ (l : List Keyed). (at : ℕ) → here ≤ at → IsLiveUnderAny l live (IsKeyFor who) at → ⊥) c.as_slice.ensures.value c.in_default.ensures in
+    rw (← c.self.view_is) (none_left p c.bindings.ensures.policy c.self.inside.named.items c.self.invariant.1 who live c.args.namespace.now lives c.args.from here c.place-here.ensures.binding none)
 
 pub returns : goal.returns
-returns c = λ number low bound. c.loop-no.invariant number low (omega (arith, slice_get_within c.args.self.now.grants number bound.0 bound.1, c.len-no-end.ensures, c.loop-no-test.false)) bound
+returns c =
+    let p = c.self.inside.policy.now in
+    let who = c.args.principal.now in
+    let live = c.live_for_some-live.result in
+    let here = c.place-here.result.binding in
+    let lives = subst (λ (bs : List Binding). (at : ℕ) (b : Binding) → slice_get bs at ≡ Some b → IsLiveAt live at ↔ LiveForSome b.namespace c.args.namespace.now) c.bindings.ensures.bindings c.live_for_some-live.ensures in
+    let next = subst (λ (l : List Keyed). IsNextOf (IsLiveUnderAny l live (IsKeyFor who)) here c.in-Some.place) c.as_slice.ensures.value c.in-Some.ensures in
+    rw (← c.self.view_is) (found_run p c.bindings.ensures.policy c.self.inside.named.items c.self.invariant.1 who live c.args.namespace.now lives c.args.from here c.place-here.ensures.binding
+    c.in-Some.place c.grants_of-start.result.0 c.grants_of-start.result.1 c.max.result next (λ n at. c.grants_of-start.ensures.between n at) c.grants_of-start.ensures.within c.max.ensures)
