@@ -8,6 +8,8 @@ The last line is `N passed, M failed`.
 import json
 import os
 import re
+import resource
+import signal
 import subprocess
 import sys
 import tempfile
@@ -136,6 +138,34 @@ def full_disk():
     told('a full disk', (ended.returncode, ended.stderr) == (2, b'rbacaudit: write failed after 0 bytes\n'), repr(ended))
 
 
+def short_disk():
+    """A disk with room for three bytes: `yes` is written, and its line end isn't."""
+    def three_bytes():
+        signal.signal(signal.SIGXFSZ, signal.SIG_IGN)
+        resource.setrlimit(resource.RLIMIT_FSIZE, (3, 3))
+
+    with tempfile.TemporaryFile() as short:
+        ended = subprocess.run([PROGRAM, *ALICE_GETS_PODS], input=GRANTED, stdout=short, stderr=subprocess.PIPE, timeout=120,
+                               preexec_fn=three_bytes)
+        short.seek(0)
+        got = (ended.returncode, short.read(), ended.stderr)
+    told('a disk with room for three bytes', got == (2, b'yes', b'rbacaudit: write failed after 3 bytes\n'), repr(got))
+
+
+def little_memory():
+    """With 128 MiB neither the longest input nor the values of four million items find room: nothing is written."""
+    def little():
+        resource.setrlimit(resource.RLIMIT_AS, (2 ** 27, 2 ** 27))
+
+    least = b'{"apiVersion":"v1","kind":"List"}'
+    inputs = {'reading': least + b' ' * (MOST_BYTES - len(least)), 'loading': b'[' + b','.join([b'{}'] * 4_000_000) + b']'}
+    for name, given in inputs.items():
+        ended = subprocess.run([PROGRAM, *ALICE_GETS_PODS], input=given, stdout=subprocess.PIPE, stderr=subprocess.PIPE, timeout=120,
+                               preexec_fn=little)
+        got = (ended.returncode, ended.stdout, ended.stderr)
+        told('out of memory in %s' % name, got == (2, b'', b'rbacaudit: out of memory\n'), repr(got))
+
+
 def rows():
     """The worked rows of rows.json, each under the rule that it shows."""
     with open(os.path.join(TOP, 'tests', 'rows.json'), encoding='utf-8') as file:
@@ -195,11 +225,16 @@ def universe(**lists):
 
 
 def universe_limits():
-    """The most verbs and targets, and one more of each."""
+    """The most verbs, namespaces, users and targets, and one more of each."""
     verbs = ['v%d' % i for i in range(65536)]
+    users = [{'user': verb} for verb in verbs]
     large = dict(status=2, err=b'rbacaudit: P4 universe too large\n')
     expect('65,535 verbs, each twice', ['matrix'], 0, b'end\n', given=universe(verbs=verbs[:65535] * 2))
     expect('65,536 verbs', ['matrix'], given=universe(verbs=verbs), **large)
+    expect('65,535 namespaces, each twice', ['matrix'], 0, b'end\n', given=universe(namespaces=verbs[:65535] * 2))
+    expect('65,536 namespaces', ['matrix'], given=universe(namespaces=verbs), **large)
+    expect('65,535 users, each twice', ['matrix'], 0, b'end\n', given=universe(principals=users[:65535] * 2))
+    expect('65,536 users', ['matrix'], given=universe(principals=users), **large)
     expect('a bad target before too many verbs', ['matrix'], 2, err=b'rbacaudit: P3 bad target\n',
            given=universe(verbs=verbs, urls=['x']))
     targets = {'resources': [{'resource': 'r%d' % i} for i in range(1000)], 'names': ['n%d' % i for i in range(1000)]}
@@ -214,6 +249,23 @@ def limits():
     expect('1,000 rules by 1,000 bindings', ALICE_GETS_PODS, 0, b'yes\n', given=export(*many[:-1]))
     expect('1,000 rules by 1,001 bindings', ALICE_GETS_PODS, 2, err=b'rbacaudit: M11 too many grants\n',
            given=export(*many))
+
+
+def ring():
+    """Two hundred aggregated roles, each of which selects the next one: each has the rule of the plain role that one of them selects."""
+    def labelled(name, label, rules, **more):
+        return {'apiVersion': V1, 'kind': 'ClusterRole', 'metadata': {'name': name, 'labels': {'to': label}}, 'rules': rules, **more}
+
+    items = [labelled('plain', '0', [PODS])]
+    for i in range(200):
+        selects = {'clusterRoleSelectors': [{'matchLabels': {'to': str((i + 1) % 200)}}]}
+        deletes = [{'verbs': ['delete'], 'apiGroups': [''], 'resources': ['pods']}]
+        items.append(labelled('r%03d' % i, str(i), deletes, aggregationRule=selects))
+        bound = binding('ClusterRoleBinding', 'b%03d' % i, 'ClusterRole', 'r%03d' % i)
+        items.append({**bound, 'subjects': [{'kind': 'User', 'name': 'u%03d' % i}]})
+    holders = ''.join('u:u%03d\tClusterRoleBinding/b%03d\n' % (i, i) for i in range(200))
+    expect('two hundred roles in a ring', ['who-can', '-A', 'get', 'pods'], 0, holders.encode(), given=export(*items))
+    expect('their written rules', ['who-can', '-A', 'delete', 'pods'], 0, given=export(*items))
 
 
 def transcripts():
@@ -239,10 +291,13 @@ else:
     streams()
     help_and_usage()
     full_disk()
+    short_disk()
+    little_memory()
     rows()
     matrix_streams()
     limits()
     universe_limits()
+    ring()
     transcripts()
 print('%d passed, %d failed' % (results.count(True), results.count(False)))
 sys.exit(0 if all(results) else 1)
