@@ -1,0 +1,109 @@
+-- Texts read from their fields, one by one.
+use Rattle.std.proofs.Common.{◌≡◌, ◌≢◌, ℕ, ◌+◌, ◌/◌, ◌%◌, ◌<◌, [], ◌∷◌, ◌++◌, sym, ap, ◌∙◌, refl, subst, arith, inl, inr, Bool, true, false, nat_lt, Bor, List, length, map, take, get_or, All, codes}
+use Rattle.std.specs.Prelude.{◌==◌, Some, slice_get, if◌then◌else◌}
+use Rattle.std.specs.List.{flat_map, slice_split}
+use Rattle.std.proofs.lemmas.Bool.{cases_eq, ne_eqb}
+use Rattle.std.proofs.lemmas.Grind.{flat_map-append}
+use Rattle.std.proofs.lemmas.Option.{slice_get_within, get_or_from_slice_get}
+use Rattle.std.proofs.lemmas.List.{append-nil, append_assoc, get_or-map, length-map, take_more}
+use Rattle.std.proofs.lemmas.List.Elements.{All-nil, All-cons, All-append}
+use Rattle.std.proofs.lemmas.List.Splits.{slice_split_none, slice_split_at}
+use Rattle.rbac_terms.specs.Text.{Text}
+use Rattle.rbac_terms.specs.Keys.{KeyTexts, texts}
+use Rattle.rbac_text.specs.Field.{byte_text, code_text, field_text, hex_digit, is_control}
+use Rattle.rbac_text.specs.Row.{tab}
+use Rattle.rbac_token.specs.Token.{printed_key}
+
+-- a text more is read
+pub one_more : (fields : List (Bor (List ℕ))) (texts : List Text) (i : ℕ) (d : Bor (List ℕ)) (read : Text) → map (λ f. f.now) fields ≡ map field_text texts
+    → i < length fields → ((t : Text) → (get_or fields i d).now ≡ field_text t → read ≡ t) → take i texts ++ read ∷ [] ≡ take (i + 1) texts
+one_more fields texts i d read same within reads =
+    let long : length fields ≡ length texts = sym (length-map fields (λ f. f.now)) ∙ ap length same ∙ length-map texts field_text in
+    let shown : (get_or fields i d).now ≡ field_text (get_or texts i []) =
+    sym (get_or-map (λ f. f.now) fields i d [] within) ∙ ap (λ l. get_or l i []) same ∙ get_or-map field_text texts i [] [] (omega (arith, long, within)) in
+    ap (λ t. take i texts ++ t ∷ []) (reads (get_or texts i []) shown) ∙ sym (take_more texts i [] (omega (arith, long, within)))
+
+-- a field more is printed, after its tab
+pub one_field_more : (ts : List Text) (i : ℕ) (t : Text) → slice_get ts i ≡ Some t
+    → flat_map (λ u. tab ∷ field_text u) (take (i + 1) ts) ≡ flat_map (λ u. tab ∷ field_text u) (take i ts) ++ tab ∷ field_text t
+one_field_more ts i t e =
+    let last : take (i + 1) ts ≡ take i ts ++ t ∷ [] =
+    take_more ts i t (slice_get_within ts i t e) ∙ ap (λ u. take i ts ++ u ∷ []) (get_or_from_slice_get ts i t t e) in
+    ap (λ l. flat_map (λ u. tab ∷ field_text u) l) last
+    ∙ flat_map-append (λ u. tab ∷ field_text u) (take i ts) (t ∷ [])
+    ∙ ap (λ l. flat_map (λ u. tab ∷ field_text u) (take i ts) ++ tab ∷ l) (append-nil (field_text t))
+
+pub printed_more : (printed pushed put : Text) (ts : List Text) (i : ℕ) (t : Text) → printed ≡ 49 ∷ flat_map (λ u. tab ∷ field_text u) (take i ts)
+    → pushed ≡ printed ++ tab ∷ [] → put ≡ pushed ++ field_text t → slice_get ts i ≡ Some t
+    → put ≡ 49 ∷ flat_map (λ u. tab ∷ field_text u) (take (i + 1) ts)
+printed_more printed pushed put ts i t before pushes puts e =
+    let front = 49 ∷ flat_map (λ u. tab ∷ field_text u) (take i ts) in
+    puts
+    ∙ ap (λ l. l ++ field_text t) (pushes ∙ ap (λ l. l ++ tab ∷ []) before)
+    ∙ append_assoc front (tab ∷ []) (field_text t)
+    ∙ ap (λ l. 49 ∷ l) (sym (one_field_more ts i t e))
+
+-- one of several texts that stand in a list
+pub text_at : {X : Type 0} (items : List (Bor X)) (all : List X) (i : ℕ) (d : Bor X) (e : X) → map (λ t. t.now) items ≡ all → i < length all
+    → (get_or items i d).now ≡ get_or all i e
+text_at items all i d e same within =
+    let long : length items ≡ length all = sym (length-map items (λ t. t.now)) ∙ ap length same in
+    sym (get_or-map (λ t. t.now) items i d e (omega (arith, long, within))) ∙ ap (λ l. get_or l i e) same
+
+-- ---- what stands between the tabs
+
+hex_is_no_tab : (c : Bool) (d : ℕ) → (if c then 48 + d else 87 + d) ≢ tab
+hex_is_no_tab true d e = absurd (omega (arith, e))
+hex_is_no_tab false d e = absurd (omega (arith, e))
+
+abbrev NoTab : ℕ → Type 0
+NoTab b = (b == tab) ≡ false
+
+code_has_no_tab : (b : ℕ) → All NoTab (code_text b)
+code_has_no_tab b =
+    let high = hex_digit (b / 16) in
+    let low = hex_digit (b % 16) in
+    let high_is_none = ne_eqb high tab (hex_is_no_tab (nat_lt (b / 16) 10) (b / 16)) in
+    let low_is_none = ne_eqb low tab (hex_is_no_tab (nat_lt (b % 16) 10) (b % 16)) in
+    All-cons NoTab 92 (120 ∷ high ∷ low ∷ []) refl
+    (All-cons NoTab 120 (high ∷ low ∷ []) refl
+    (All-cons NoTab high (low ∷ []) high_is_none (All-cons NoTab low [] low_is_none (All-nil NoTab))))
+
+control_has_no_tab : (b : ℕ) (c : Bool) → (c ≡ false → b ≢ tab) → All NoTab (if c then code_text b else b ∷ [])
+control_has_no_tab b true other = code_has_no_tab b
+control_has_no_tab b false other = All-cons NoTab b [] (ne_eqb b tab (other refl)) (All-nil NoTab)
+
+stands_no_tab : (b : ℕ) → is_control b ≡ false → b ≢ tab
+stands_no_tab b plain e = let bad : is_control tab ≡ false = subst (λ x. is_control x ≡ false) e plain in cc
+
+byte_has_no_tab : (b : ℕ) → All NoTab (byte_text b)
+byte_has_no_tab b = elim (cases_eq b 92) [
+  | inl e ↦ rw e (All-cons NoTab 92 (92 ∷ []) refl (All-cons NoTab 92 [] refl (All-nil NoTab)))
+  | inr ne ↦ rw (ne_eqb b 92 ne) (control_has_no_tab b (is_control b) (stands_no_tab b))
+]
+
+bytes_have_no_tab : (t : Text) → All NoTab (flat_map byte_text t)
+bytes_have_no_tab [] = All-nil NoTab
+bytes_have_no_tab (b ∷ bs) = All-append NoTab (byte_text b) (flat_map byte_text bs) (byte_has_no_tab b) (bytes_have_no_tab bs)
+
+one_has_no_tab : (b : ℕ) (dash : Bool) → All NoTab (if dash then code_text b else byte_text b)
+one_has_no_tab b true = code_has_no_tab b
+one_has_no_tab b false = byte_has_no_tab b
+
+field_has_no_tab : (t : Text) → All NoTab (field_text t)
+field_has_no_tab [] = All-cons NoTab 45 [] refl (All-nil NoTab)
+field_has_no_tab (b ∷ []) = one_has_no_tab b (b == 45)
+field_has_no_tab (b ∷ c ∷ bs) = bytes_have_no_tab (b ∷ c ∷ bs)
+
+-- fields joined by tabs are found between the tabs
+fields_between : (t : Text) (ts : List Text)
+    → slice_split (λ b. b == tab) (field_text t ++ flat_map (λ u. tab ∷ field_text u) ts) ≡ map field_text (t ∷ ts)
+fields_between t [] =
+    ap (λ l. slice_split (λ b. b == tab) l) (append-nil (field_text t)) ∙ slice_split_none (λ b. b == tab) (field_text t) (field_has_no_tab t)
+fields_between t (u ∷ us) =
+    slice_split_at (λ b. b == tab) (field_text t) tab (field_text u ++ flat_map (λ v. tab ∷ field_text v) us) (field_has_no_tab t) refl
+    ∙ ap (λ l. field_text t ∷ l) (fields_between u us)
+
+-- a printed key has the version and the key's texts between its tabs
+pub key_between : (k : KeyTexts) → slice_split (λ b. b == tab) (printed_key k) ≡ map field_text (codes "1" ∷ texts k)
+key_between k = fields_between (codes "1") (texts k)

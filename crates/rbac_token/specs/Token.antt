@@ -1,0 +1,53 @@
+-- The tokens that stand for keys (own).
+use Rattle.std.specs.Prelude.{◌≡◌, ◌≢◌, ◌⊎◌, [], ◌∷◌, ◌++◌, codes}
+use Rattle.std.specs.List.{flat_map}
+use Rattle.base64.specs.Engines.{url_safe_no_pad}
+use Rattle.base64.specs.GeneralPurpose.{IsBytes, encode_of}
+use Rattle.rbac_terms.specs.Text.{Text, BeginsWith}
+use Rattle.rbac_terms.specs.Keys.{KeyTexts, texts, key_of}
+use Rattle.rbac_terms.specs.Principals.{Who, key_of as who_key, name_of}
+use Rattle.rbac_terms.specs.Targets.{What, IsProper}
+use Rattle.rbac_text.specs.Field.{field_text}
+use Rattle.rbac_text.specs.Row.{tab}
+
+-- the version and the six printed fields of a key, joined by tabs
+abbrev pub printed_key : KeyTexts → Text
+printed_key k = codes "1" ++ flat_map (λ t. tab ∷ field_text t) (texts k)
+
+-- the token of a key: unpadded URL-safe base64 of its printed fields after the version
+abbrev pub token_text : KeyTexts → Text
+token_text k = encode_of url_safe_no_pad (printed_key k)
+
+-- a principal has a name
+abbrev pub HasName : Who → Type 0
+HasName who = name_of who ≢ []
+
+-- `u:` or `g:` and a name
+abbrev pub IsWhoKey : Text → Type 0
+IsWhoKey key = (who : Who) × HasName who × (key ≡ who_key who)
+
+-- the key of some request: of a principal with a name, in a namespace, for a verb on a proper target
+pub record IsKey (k : KeyTexts) : Type 0 where
+  pub who : Who
+  pub namespace : Text
+  pub verb : Text
+  pub what : What
+  pub named : HasName who
+  pub proper : IsProper what
+  pub is : k ≡ key_of who namespace verb what
+
+-- the token is the unpadded URL-safe base64 of these bytes, each from 0 to 255
+abbrev pub Encodes : Text → Text → Type 0
+Encodes token bytes = IsBytes bytes × (token ≡ encode_of url_safe_no_pad bytes)
+
+-- the bytes are the printed key of a request
+abbrev pub IsPrintedAs : Text → KeyTexts → Type 0
+IsPrintedAs bytes k = IsKey k × (bytes ≡ printed_key k)
+
+-- the token is that of this key
+abbrev pub IsTokenOf : Text → KeyTexts → Type 0
+IsTokenOf token k = IsKey k × Encodes token (printed_key k)
+
+-- what stands before the first tab, or all where there is none, is the version `1`
+abbrev pub HasVersion : Text → Type 0
+HasVersion bytes = (bytes ≡ codes "1") ⊎ BeginsWith bytes (codes "1" ++ tab ∷ [])

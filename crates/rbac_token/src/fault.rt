@@ -1,0 +1,58 @@
+//! Why a token stands for no key.
+
+ghost use Rattle.std.specs.Prelude.{◌≡◌};
+
+use rbac_terms::ModelFault;
+use std::alloc::{AllocError, AllocFailed};
+use thiserror::Error;
+
+/// Why a token stands for no key (own). Its text is the number and name of the refusal; want of
+/// memory has no number there.
+#[derive(Debug, Drop, Clone, Copy, PartialEq, Eq, Error)]
+pub enum TokenFault {
+    /// K1: it isn't unpadded URL-safe base64.
+    #[error("K1 not base64")]
+    NotBase64,
+    /// K2: what stands before the first tab of its bytes, or all of them, isn't the version `1`.
+    #[error("K2 bad version")]
+    BadVersion,
+    /// K3: no key is printed so.
+    #[error("K3 not canonical")]
+    NotCanonical,
+    /// K4: memory was refused.
+    #[error("out of memory")]
+    NoMemory,
+}
+
+impl From<AllocError> for TokenFault {
+    ghost use Rattle.rbac_token.specs.declared.fault.TokenFault.TheVariants.{NoMemory};
+
+    ghost from_gives = { λ _ fault. fault ≡ NoMemory };
+
+    fn from(_: AllocError) -> Self {
+        TokenFault::NoMemory
+    }
+}
+
+impl<T: Drop> From<AllocFailed<T>> for TokenFault {
+    ghost use Rattle.rbac_token.specs.declared.fault.TokenFault.TheVariants.{NoMemory};
+
+    ghost from_gives = { λ _ fault. fault ≡ NoMemory };
+
+    fn from(_: AllocFailed<T>) -> Self {
+        TokenFault::NoMemory
+    }
+}
+
+impl From<ModelFault> for TokenFault {
+    ghost use Rattle.rbac_token.specs.Faults.{token_fault};
+
+    ghost from_gives = { λ cause fault. fault ≡ token_fault cause };
+
+    fn from(cause: ModelFault) -> Self {
+        match cause {
+            ModelFault::EmptyName | ModelFault::BadTarget => TokenFault::NotCanonical,
+            ModelFault::NoMemory => TokenFault::NoMemory,
+        }
+    }
+}

@@ -1,0 +1,54 @@
+//! Fields read back.
+
+ghost use Rattle.std.specs.Prelude.{◌≡◌, ◌<◌, ◌++◌, ℕ, [], length, IfOk, IfSome, IfNone, IsSomeAnd};
+ghost use Rattle.rbac_terms.specs.Text.{Text};
+ghost use Rattle.rbac_text.specs.Field.{hex_digit, code_text, byte_text, field_text};
+
+use rbac_terms::Word;
+use std::alloc::{AllocError, Global};
+
+// The text whose field this is. What no text is printed as gives any text: to print it again shows it.
+pub(crate) fn read_field(alloc: Global, field: &[u8]) -> Result<Word, AllocError>
+    ensures { (text : Text) → field.now ≡ field_text text → IfOk result (λ read. read ≡ text) }
+{
+    let mut text = Word::new(alloc);
+    if field == b"-".as_slice() {
+        return Ok(text);
+    }
+    let mut rest = field;
+    while let Some((byte, after)) = next_byte(rest) {
+        text.push(byte)?;
+        rest = after;
+    }
+    Ok(text)
+}
+
+// The byte that is printed at the front, and what follows it.
+fn next_byte(field: &[u8]) -> Option<(u8, &[u8])>
+    ensures stands { (byte : ℕ) (rest : Text) → field.now ≡ byte_text byte ++ rest
+        → IsSomeAnd result (λ found. (found.0 ≡ byte) × (found.1.now ≡ rest)) }
+    ensures coded { (byte : ℕ) (rest : Text) → byte < 256 → field.now ≡ code_text byte ++ rest
+        → IsSomeAnd result (λ found. (found.0 ≡ byte) × (found.1.now ≡ rest)) }
+    ensures onward { IfSome result (λ found. length found.1.now < length field.now) }
+    ensures ended { IfNone result (field.now ≡ []) }
+{
+    match field {
+        [] => None,
+        [b'\\', b'x', high, low, rest @ ..] => {
+            Some((hex_value(*high) * 16 + hex_value(*low), rest))
+        }
+        [b'\\', byte, rest @ ..] | [byte, rest @ ..] => Some((*byte, rest)),
+    }
+}
+
+// The number of a hexadecimal digit.
+fn hex_value(digit: u8) -> u8
+    ensures value { (number : ℕ) → number < 16 → digit ≡ hex_digit number → result ≡ number }
+    ensures small { result < 16 }
+{
+    match digit {
+        b'0'..=b'9' => digit - b'0',
+        b'a'..=b'f' => digit - b'a' + 10,
+        _ => 0,
+    }
+}
