@@ -1,12 +1,13 @@
 #!/usr/bin/env bash
 # Measures the built program on generated exports, beside reading and dropping the same JSON alone.
-# `make build` and `cd crates/json_alone && rt run < stdin` build the two programs.
+# `make build` builds the program; the yardstick is built here.
 set -eu
 cd "$(dirname "$0")"
 audit=../crates/rbacaudit/out/rbacaudit
-alone=../crates/json_alone/out/json_alone
 room=$(mktemp -d)
 trap 'rm -rf "$room"' EXIT
+alone=$room/json_alone
+json_alone/build.sh "$alone"
 
 # The least processor time of seven runs of a command, in milliseconds.
 least() {

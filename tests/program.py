@@ -87,6 +87,8 @@ def streams():
         expect('the first fault of the files stands', ALICE_GETS_PODS + [roles, missing, missing], 2,
                err=b'rbacaudit: file 2: I1 read fault\n')
         expect('a folder is no file', ALICE_GETS_PODS + [room], 2, err=b'rbacaudit: file 1: I1 read fault\n')
+        expect('a dash is a file as any other', ALICE_GETS_PODS + ['-'], 2, err=b'rbacaudit: file 1: I1 read fault\n',
+               given=GRANTED)
         expect('the file of a bad document', ALICE_GETS_PODS + [roles, put('bad.json', b'[]')], 2,
                err=b'rbacaudit: file 2: M2 not an object\n')
         least = b'{"apiVersion":"v1","kind":"List"}'
@@ -108,8 +110,18 @@ def help_and_usage():
         told('help names %s' % command.decode(), command in commands, repr(commands))
     told('help of matrix names FILE', b'FILE' in run(['matrix', '--help']).stdout)
     options = run(['can-i', '--help']).stdout
-    for option in (b'--as', b'--groups', b'-n', b'-A', b'--subresource', b'-q', b'--why', b'VERB', b'TARGET', b'FILE'):
+    for option in (b'--as', b'--groups', b'-n, --namespace', b'-A, --all-namespaces', b'--subresource', b'-q, --quiet',
+                   b'--why', b'VERB', b'TARGET', b'FILE'):
         told('help names %s' % option.decode(), option in options, repr(options))
+    for line in (b'Namespace to check (default: default)', b'five fields, joined by tabs', b'rbacaudit can-i --as alice -n dev get pods'):
+        told('help of can-i says "%s"' % line.decode(), line in options, repr(options))
+    for command in ('who-can', 'matrix'):
+        text = run([command, '--help']).stdout
+        told('help of %s has an example' % command, b'rbacaudit %s ' % command.encode() in text, repr(text))
+    expect('--version prints name and version', ['--version'], 0, b'rbacaudit 0.1.0\n')
+    expect('-V is --version', ['-V'], 0, b'rbacaudit 0.1.0\n')
+    expect('a word that is not UTF-8', ['can-i', '--as', b'al\xffce', 'get', 'pods'], 2,
+           err=b'rbacaudit: argument 3: not UTF-8\n')
     for words in ([], ['can-i'], ['can-i', 'get', 'pods'], ['who-knows'], ['can-i', '--as', 'alice', '--why', 'get'],
                   ['can-i', '--as', 'a', '--as', 'b', 'get', 'pods'], ['who-can', 'get'],
                   ['who-can', '--as', 'alice', 'get', 'pods'], ['matrix', '--limit', '1'], ['matrix', '-n', 'dev']):

@@ -4,5 +4,7 @@ pub mod Named
 pub mod OneAnswer
 pub mod OneMeant
 pub mod OneReason
+pub mod OneRun
 pub mod Stops
+pub mod TakenBytes
 pub mod Verdicts

@@ -12,7 +12,7 @@ use Rattle.rbac_terms.specs.declared.granting.Binding.{Binding}
 use Rattle.rbac_terms.specs.declared.granting.Subject.{Subject}
 use Rattle.rbac_terms.specs.declared.granting.Subject.TheVariants.{User, Group, Account}
 use Rattle.rbac_model.specs.Lists.{by_name, IsAscendingBy}
-use Rattle.rbac_model.specs.Policies.{Held, Grants, IsFirst}
+use Rattle.rbac_model.specs.Policies.{Held, Grants, Allows, IsFirst}
 use Rattle.rbac_model.specs.Unions.{AreUnited, who_name}
 use Rattle.rbac_model.specs.Universes.{UniverseView, RowView, Cell, IsRow, IsMatrix, cell_key}
 use Rattle.rbac_model.specs.Holders.{HolderView, AreHolders}
@@ -30,7 +30,7 @@ use Rattle.rbac_manifest.specs.Load.{LoadedView}
 use Rattle.rbac_question.specs.declared.command.Action.{Action}
 use Rattle.rbac_question.specs.declared.command.Action.TheVariants.{CanI, WhoCan, Matrix}
 use Rattle.rbac_question.specs.declared.command.Question.{Question}
-use Rattle.rbac_cli.specs.Out.{Answers, AreHoldersMeant, holders_text, line, line_unless}
+use Rattle.rbac_cli.specs.Out.{Answers, IsAllowed, IsDenied, AreHoldersMeant, holders_text, line, line_unless}
 use Rattle.rbac_cli.specs.declared.ending.Status.{Status}
 use Rattle.rbac_matrix.proofs.OneMatrix.{key_name, by_keys}
 use Rattle.rbac_cli.proofs.OneMeant.{one_meant}
@@ -188,14 +188,20 @@ one_holders_meant held entries q xs ys (t, n, meant, a) (u, m, means, b) =
     let here = subst (λ x. AreHolders held m q.verb x xs) same.0 (subst (λ x. AreHolders held x q.verb t xs) same.1 a) in
     one_holders held m q.verb u xs ys here b
 
+-- the one target and namespace that are meant aren't both allowed and denied
+not_both : (held : Held) (entries : List Entry) (who : Who) (q : Question) → IsAllowed held entries who q → IsDenied held entries who q → ⊥
+not_both held entries who q (t, n, meant, allows) (u, m, means, none) =
+    let same = one_meant entries q t u n m meant means in
+    none (subst (λ x. Allows held who m q.verb x) same.0 (subst (λ x. Allows held who x q.verb t) same.1 allows))
+
 pub one_answer : (l : LoadedView) (action : Action) (text other : List ℕ) (status ending : Status) → Answers l action text status → Answers l action other ending
     → (text ≡ other) × (status ≡ ending)
 one_answer l (CanI who quiet why q) text other status ending (inl (a, (r, is, e), s)) (inl (b, (o, are, f), t)) = (
   e ∙ ap (λ (reason : List ℕ). line_unless quiet (codes "yes") ++ reason) (one_reason l.policy l.catalogue.entries who q r o quiet why is are) ∙ sym f,
   s ∙ sym t,
 )
-one_answer l (CanI who quiet why q) text other status ending (inl a) (inr b) = absurd (b.0 a.0)
-one_answer l (CanI who quiet why q) text other status ending (inr a) (inl b) = absurd (a.0 b.0)
+one_answer l (CanI who quiet why q) text other status ending (inl a) (inr b) = absurd (not_both l.policy.held l.catalogue.entries who q a.0 b.0)
+one_answer l (CanI who quiet why q) text other status ending (inr a) (inl b) = absurd (not_both l.policy.held l.catalogue.entries who q b.0 a.0)
 one_answer l (CanI who quiet why q) text other status ending (inr a) (inr b) = (a.1 ∙ sym b.1, a.2 ∙ sym b.2)
 one_answer l (WhoCan q) text other status ending (xs, are, e, s) (ys, others, f, t) =
     (e ∙ ap holders_text (one_holders_meant l.policy.held l.catalogue.entries q xs ys are others) ∙ sym f, s ∙ sym t)

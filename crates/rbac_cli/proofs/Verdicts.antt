@@ -1,5 +1,5 @@
 -- A verdict, its text and its status.
-use Rattle.std.proofs.Common.{◌≡◌, ◌∙◌, Bool, true, false, List, [], codes, refl, sym, subst, inl, inr, append-nil}
+use Rattle.std.proofs.Common.{◌≡◌, ◌∙◌, Bool, true, false, List, [], codes, refl, sym, inl, inr, append-nil}
 use Rattle.std.specs.Prelude.{Option, Some, None, MatchOption, IfSome}
 use Rattle.std.proofs.lemmas.Option.{slice_get_within, get_or_from_slice_get}
 use Rattle.rbac_terms.specs.Text.{Text}
@@ -13,8 +13,8 @@ use Rattle.rbac_index.specs.Deciding.{IsWhyShown}
 use Rattle.rbac_manifest.specs.Load.{LoadedView}
 use Rattle.rbac_question.specs.declared.command.Action.TheVariants.{CanI}
 use Rattle.rbac_question.specs.declared.command.Question.{Question}
-use Rattle.rbac_cli.specs.Meant.{IsOnlyTargetMeant, IsNamespaceMeant, IsMeant}
-use Rattle.rbac_cli.specs.Out.{Answers, IsAllowed, IsWhyText, line}
+use Rattle.rbac_cli.specs.Meant.{IsNamespaceMeant, IsMeant}
+use Rattle.rbac_cli.specs.Out.{Answers, IsWhyText, line}
 use Rattle.rbac_cli.specs.Telling.{verdict_text, verdict_status, found_text}
 
 pub one_namespace : (entries : List Entry) (target : What) (given n m : Text) → IsNamespaceMeant entries target given n → IsNamespaceMeant entries target given m → n ≡ m
@@ -27,16 +27,7 @@ one_namespace entries target given n m (inr a) (inr b) = a.1 ∙ sym b.1
 allows_first : (h : Held) (who : Who) (namespace verb : Text) (t : What) (b : Binding) → IsFirst h who namespace verb t b → Allows h who namespace verb t
 allows_first h who namespace verb t b f = (f.0, b, slice_get_within h.bindings f.0 b f.1.here, get_or_from_slice_get h.bindings f.0 b b f.1.here, f.1.holds)
 
-module _ (l : LoadedView) (who : Who) (q : Question) (target : What) (namespace : Text)
-    (meant : IsMeant l.catalogue.entries q target namespace) (only : IsOnlyTargetMeant l.catalogue.entries q.asked target) where
-  -- what is not allowed on the one target and namespace that are meant is not allowed
-  denied : (¬ Allows l.policy.held who namespace q.verb target) → ¬ IsAllowed l.policy.held l.catalogue.entries who q
-  denied none (other, elsewhere, means, allows) =
-      let same : other ≡ target = only other means.0 in
-      let place : elsewhere ≡ namespace =
-      one_namespace l.catalogue.entries target q.namespace elsewhere namespace (subst (λ t. IsNamespaceMeant l.catalogue.entries t q.namespace elsewhere) same means.1) meant.1 in
-      none (subst (λ n. Allows l.policy.held who n q.verb target) place (subst (λ t. Allows l.policy.held who elsewhere q.verb t) same allows))
-
+module _ (l : LoadedView) (who : Who) (q : Question) (target : What) (namespace : Text) (meant : IsMeant l.catalogue.entries q target namespace) where
   why_line : (found : Why) → IsWhyShown l.policy who namespace q.verb target found → IsWhyText l.policy l.catalogue.entries who q (found_text found)
   why_line found (g, is_why, shows) = (target, namespace, meant, (g, found.subject_place, is_why, rw (shows.0, shows.1, shows.2) refl))
 
@@ -44,8 +35,8 @@ module _ (l : LoadedView) (who : Who) (q : Question) (target : What) (namespace 
       → MatchOption found (¬ Allows l.policy.held who namespace q.verb target) (IsWhyShown l.policy who namespace q.verb target)
       → IfSome found (λ f. IsFirst l.policy.held who namespace q.verb target f.binding.now)
       → Answers l (CanI who quiet why q) (verdict_text quiet why found) (verdict_status found)
-  told true why None none first = inr (denied none, refl, refl)
-  told false why None none first = inr (denied none, refl, refl)
+  told true why None none first = inr ((target, namespace, meant, none), refl, refl)
+  told false why None none first = inr ((target, namespace, meant, none), refl, refl)
   told true why (Some found) shown first = inl ((target, namespace, meant, allows_first l.policy.held who namespace q.verb target found.binding.now first), ([], refl, refl), refl)
   told false true (Some found) shown first =
       inl ((target, namespace, meant, allows_first l.policy.held who namespace q.verb target found.binding.now first), (found_text found, why_line found shown, refl), refl)

@@ -58,3 +58,11 @@ is_write_fault (Err (Load fault)) = false
 is_write_fault (Err (Universe fault)) = false
 is_write_fault (Err (Memory n)) = false
 is_write_fault (Err (Write n)) = true
+
+-- neither want of memory nor a failed write stopped the run
+abbrev pub IsUnstopped : Result Status RunFault → Type 0
+IsUnstopped (Ok status) = Unit {0}
+IsUnstopped (Err (Load fault)) = Unit {0}
+IsUnstopped (Err (Universe fault)) = Unit {0}
+IsUnstopped (Err (Memory n)) = ⊥
+IsUnstopped (Err (Write n)) = ⊥

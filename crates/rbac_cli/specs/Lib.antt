@@ -2,4 +2,5 @@ pub mod Ends
 pub mod Meant
 pub mod Out
 pub mod Printing
+pub mod RunTexts
 pub mod Telling

@@ -34,6 +34,11 @@ abbrev pub IsAllowed : Held → List Entry → Who → Question → Type 0
 IsAllowed held entries who q =
     (target : What) × (namespace : Text) × IsMeant entries q target namespace × Allows held who namespace q.verb target
 
+-- whoever asks isn't allowed it: some target and namespace are meant, and what is asked of them isn't allowed
+abbrev pub IsDenied : Held → List Entry → Who → Question → Type 0
+IsDenied held entries who q =
+    (target : What) × (namespace : Text) × IsMeant entries q target namespace × (¬ Allows held who namespace q.verb target)
+
 -- the line that tells why: the least grant that allows it, and the least subject there that names who asks
 abbrev pub IsWhyText : PolicyView → List Entry → Who → Question → Text → Type 0
 IsWhyText p entries who q text =
@@ -67,7 +72,7 @@ Answers l (CanI who quiet why q) text status =
     (IsAllowed l.policy.held l.catalogue.entries who q
     × ((reason : Text) × IsReason l.policy l.catalogue.entries who quiet why q reason × (text ≡ line_unless quiet (codes "yes") ++ reason))
     × (status ≡ Zero))
-    ⊎ ((¬ IsAllowed l.policy.held l.catalogue.entries who q) × (text ≡ line_unless quiet (codes "no")) × (status ≡ One))
+    ⊎ (IsDenied l.policy.held l.catalogue.entries who q × (text ≡ line_unless quiet (codes "no")) × (status ≡ One))
 Answers l (WhoCan q) text status =
     (xs : List HolderView) × AreHoldersMeant l.policy.held l.catalogue.entries q xs × (text ≡ holders_text xs) × (status ≡ Zero)
 Answers l Matrix text status =

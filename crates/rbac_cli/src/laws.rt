@@ -1,10 +1,20 @@
-//! A law of answers, told by the contract of a function that does nothing.
+//! Laws of answers and of runs: what follows from the definitions alone. The functions do little or
+//! nothing; their contracts are the laws.
 
-ghost use Rattle.std.specs.Prelude.{◌≡◌, List, ℕ};
+ghost use Rattle.std.specs.Prelude.{◌≡◌, List, ℕ, Result};
 ghost use Rattle.rbac_manifest.specs.Load.{LoadedView};
+ghost use Rattle.rbac_streams.specs.Streams.{SinkView};
+ghost use Rattle.rbac_streams.specs.Taken.{Took};
 ghost use Rattle.rbac_question.specs.declared.command.Action.{Action};
 ghost use Rattle.rbac_cli.specs.Out.{Answers};
+ghost use Rattle.rbac_question.specs.declared.command.Command.{Command};
+ghost use Rattle.rbac_cli.specs.Ends.{Ends, IsUnstopped};
 ghost use Rattle.rbac_cli.specs.declared.ending.Status.{Status};
+ghost use Rattle.rbac_cli.specs.declared.ending.RunFault.{RunFault};
+
+use rbac_manifest::{load_faults_are_one, loaded_inputs_are_one, loaded_inputs_have_no_fault};
+use rbac_universe::universes_have_no_fault;
+use std::io::Write;
 
 /// What an action means over what was loaded is one text and one status, so that whoever runs a
 /// command over the same inputs reads the same (own).
@@ -12,3 +22,18 @@ pub fn answers_are_one()
     ensures { (l : LoadedView) (action : Action) (text other : List ℕ) (status ending : Status) → Answers l action text status
         → Answers l action other ending → (text ≡ other) × (status ≡ ending) }
 {}
+
+/// Two runs of one command over the same inputs end alike, and their writers took one text, where
+/// neither want of memory nor a failed write stopped them: it is the same answer with the same
+/// status, or the same refusal and no text. So an answer and a refusal exclude each other (own).
+pub fn runs_are_one<V: Write, W: Write>()
+    ensures { (start end : SinkView V) (old new : SinkView W) (command : Command) (inputs : List (List ℕ)) (ended other : Result Status RunFault)
+        → IsUnstopped ended → IsUnstopped other → Ends (Took V.contents start end) command inputs ended
+        → Ends (Took W.contents old new) command inputs other
+        → (ended ≡ other) × ((text : List ℕ) × Took V.contents start end text × Took W.contents old new text) }
+{
+    loaded_inputs_are_one();
+    loaded_inputs_have_no_fault();
+    load_faults_are_one();
+    universes_have_no_fault();
+}

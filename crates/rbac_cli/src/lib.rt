@@ -14,11 +14,13 @@ mod who_can;
 
 pub use asking::target_of;
 pub use ending::{RunFault, Status};
-pub use laws::answers_are_one;
+pub use laws::{answers_are_one, runs_are_one};
 pub use rbac_catalogue::Catalogue;
 pub use rbac_command::{UsageFault, command_of};
 pub use rbac_manifest::{At, Cause, LoadFault};
 pub use rbac_question::{Action, Asked, Command, Question};
-pub use rbac_streams::{Failed, Input, InputFault, Sink, Source, read_file, read_input};
+pub use rbac_streams::{
+    Failed, Input, InputFault, Sink, Source, read_file, read_input, read_slice,
+};
 pub use rbac_universe::UniverseFault;
-pub use running::run;
+pub use running::{run, run_into};

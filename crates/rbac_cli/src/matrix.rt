@@ -1,10 +1,10 @@
 //! The matrix, as an answer.
 
-ghost use Rattle.std.specs.Prelude.{◌≡◌, false, IfOk, IfErr, OnOk, OnErr, MatchResult};
+ghost use Rattle.std.specs.Prelude.{◌≡◌, ◌≢◌, false, IfOk, IfErr, OnOk, OnErr, MatchResult};
 ghost use Rattle.rbac_universe.specs.Sets.{IsUniverseOf, HasFault};
 ghost use Rattle.rbac_question.specs.declared.command.Action.TheVariants.{Matrix};
 ghost use Rattle.rbac_cli.specs.Ends.{is_write_fault};
-ghost use Rattle.rbac_cli.specs.Printing.{PrintsAnswer, StopsPrinting, PrintsListing, StopsInListing, is_sink_fault};
+ghost use Rattle.rbac_cli.specs.Printing.{PrintsAnswer, StopsPrinting, PrintsListing, StopsInListing, fault_at, is_sink_fault};
 
 use crate::ending::{RunFault, Status, fault_of};
 use rbac_manifest::Loaded;
@@ -32,12 +32,22 @@ pub(crate) fn print_listing<W: Write + Drop>(
 {
     let universe = match universe_of(alloc, loaded) {
         Ok(universe) => universe,
-        Err(UniverseFault::NoMemory) => return Err(fault_of(page, PrintFault::NoMemory)),
-        Err(fault) => return Err(RunFault::Universe(fault)),
+        Err(fault) => return Err(unmade(page, fault)),
     };
     match print_rows(alloc, loaded.policy(), &universe, sink, page) {
         Ok(()) => Ok(Status::Zero),
         Err(fault) => Err(fault_of(page, fault)),
+    }
+}
+
+// Why printing stops whose lists make no universe. Want of memory is told as such.
+fn unmade(page: &Page, fault: UniverseFault) -> RunFault
+    ensures refused { fault ≢ UniverseFault.NoMemory → result ≡ RunFault.Universe fault }
+    ensures memory { fault ≡ UniverseFault.NoMemory → result ≡ fault_at page.now PrintFault.NoMemory }
+{
+    match fault {
+        UniverseFault::NoMemory => fault_of(page, PrintFault::NoMemory),
+        fault => RunFault::Universe(fault),
     }
 }
 

@@ -1,13 +1,13 @@
 //! A run: load the inputs, answer the command, write the answer.
 
-ghost use Rattle.std.specs.Prelude.{◌≡◌, [], false, MatchResult};
+ghost use Rattle.std.specs.Prelude.{◌≡◌, ◌≢◌, ◌++◌, [], false, MatchResult};
 ghost use Rattle.rbac_streams.specs.Taken.{Took, Printed};
 ghost use Rattle.rbac_cli.specs.Ends.{Ends, Writes, is_write_fault};
 ghost use Rattle.rbac_cli.specs.Printing.{StopsWith};
 
 use crate::answering::print_answer;
 use crate::ending::{RunFault, Status, fault_of};
-use rbac_manifest::{Cause, Loaded, load};
+use rbac_manifest::{Cause, LoadFault, Loaded, load};
 use rbac_question::{Action, Command};
 use rbac_streams::{Input, Page, Sink};
 use std::alloc::Global;
@@ -31,12 +31,37 @@ pub fn run<W: Write + Drop>(
     let mut page = Page::start(alloc, sink);
     let loaded = match load(alloc, inputs) {
         Ok(loaded) => loaded,
-        Err(fault) => match fault.cause {
-            Cause::NoMemory => return Err(RunFault::Memory { written: 0 }),
-            _ => return Err(RunFault::Load(fault)),
-        },
+        Err(fault) => return Err(unloaded(fault)),
     };
     write_answer(alloc, &loaded, &command.action, sink, &mut page)
+}
+
+/// As [`run`], with a writer that tells its bytes, a vector: by the contract of `run` alone.
+///
+/// Here it is plain which bytes a run writes. Standard output doesn't tell, and for it the same holds
+/// as far as its calls take the bytes that they say they took.
+pub fn run_into(
+    alloc: Global,
+    command: &Command,
+    inputs: &[Input],
+    sink: &mut Sink<Vec<u8>>,
+) -> Result<Status, RunFault>
+    requires { sink.old.has_failed ≡ false }
+    ensures ends { Ends (λ bytes. sink.new.writer.items ≡ sink.old.writer.items ++ bytes) command.now inputs.now result }
+    ensures failed { sink.new.has_failed ≡ is_write_fault result }
+{
+    run(alloc, command, inputs, sink)
+}
+
+// Why a run stops whose inputs aren't loaded. Want of memory is told as such.
+fn unloaded(fault: LoadFault) -> RunFault
+    ensures refused { fault.cause ≢ Cause.NoMemory → result ≡ RunFault.Load fault }
+    ensures memory { fault.cause ≡ Cause.NoMemory → result ≡ RunFault.Memory 0 }
+{
+    match fault.cause {
+        Cause::NoMemory => RunFault::Memory { written: 0 },
+        _ => RunFault::Load(fault),
+    }
 }
 
 // Writes the answer of an action over what was loaded, from an empty page on.

@@ -15,13 +15,21 @@ user_rule = record (new_rule (codes "as")) {
 abbrev pub groups_rule : Rule
 groups_rule = record (new_rule (codes "groups")) { long = Some (codes "groups"); value_names = 1 }
 
--- `-n NS`
+-- `-n NS`, `--namespace NS`
 abbrev pub namespace_rule : Rule
-namespace_rule = record (new_rule (codes "namespace")) { short = Some 110; value_names = 1 }
+namespace_rule = record (new_rule (codes "namespace")) {
+  short = Some 110;
+  long = Some (codes "namespace");
+  value_names = 1;
+}
 
--- `-A`
+-- `-A`, `--all-namespaces`
 abbrev pub all_rule : Rule
-all_rule = record (new_rule (codes "all")) { short = Some 65; action = Some SetTrue }
+all_rule = record (new_rule (codes "all")) {
+  short = Some 65;
+  long = Some (codes "all-namespaces");
+  action = Some SetTrue;
+}
 
 -- `--subresource S`
 abbrev pub subresource_rule : Rule
@@ -30,9 +38,13 @@ subresource_rule = record (new_rule (codes "subresource")) {
   value_names = 1;
 }
 
--- `-q`
+-- `-q`, `--quiet`
 abbrev pub quiet_rule : Rule
-quiet_rule = record (new_rule (codes "quiet")) { short = Some 113; action = Some SetTrue }
+quiet_rule = record (new_rule (codes "quiet")) {
+  short = Some 113;
+  long = Some (codes "quiet");
+  action = Some SetTrue;
+}
 
 -- `--why`
 abbrev pub why_rule : Rule
@@ -75,15 +87,19 @@ who_can_app = with_question (with_scope (new_app (codes "who-can")))
 abbrev pub matrix_app : App
 matrix_app = with_rule (new_app (codes "matrix")) files_rule
 
--- the program: a subcommand is required, and there is no subcommand `help`
-abbrev pub without_help : App → App
-without_help a = record a {
-  top = record a.top { disable_help_subcommand = true; subcommand_required = true };
+-- the program: it has a version, a subcommand is required, and there is no subcommand `help`
+abbrev pub as_program : App → App
+as_program a = record a {
+  top = record a.top {
+    has_version = true;
+    disable_help_subcommand = true;
+    subcommand_required = true;
+  };
 }
 
 -- without its subcommands
 abbrev pub bare_app : App
-bare_app = without_help (new_app (codes "rbacaudit"))
+bare_app = as_program (new_app (codes "rbacaudit"))
 
 -- the whole command line
 unfoldable pub rbac_app : App

@@ -9,6 +9,45 @@ ghost use Rattle.rbac_command.specs.App.{with_asker, with_scope, with_question, 
 use clap::{Arg, ArgAction, Command};
 use std::alloc::{AllocError, Global};
 
+// What `--version` prints after the program's name.
+const VERSION: &str = "0.1.0";
+
+// How each help text ends.
+const MORE: &str = "Get the files:
+  kubectl get clusterroles,clusterrolebindings -o json > cluster.json
+  kubectl get roles,rolebindings --all-namespaces -o json > namespaced.json
+
+Then ask:
+  rbacaudit can-i --as alice -n dev get pods cluster.json namespaced.json
+
+rbacaudit COMMAND --help tells the options of a command.";
+
+const CAN_I_MORE: &str = "The line of --why has five fields, joined by tabs:
+  BINDING  the first binding that allows it
+  ROLE     the role that the binding names
+  SOURCE   the role where the rule is written: an aggregated ROLE gathers it from there
+  RULE     the number of the rule in SOURCE, from 1
+  SUBJECT  the number of the subject in BINDING, from 1
+
+Examples:
+  rbacaudit can-i --as alice -n dev get pods cluster.json namespaced.json
+  rbacaudit can-i --as alice --groups dev,ops -n dev --why get pods --subresource log *.json";
+
+const WHO_CAN_MORE: &str =
+    "Holders that are limited to object names are listed where TARGET names the object.
+
+Examples:
+  rbacaudit who-can -n dev delete secrets cluster.json namespaced.json
+  rbacaudit who-can get /metrics cluster.json";
+
+const MATRIX_MORE: &str =
+    "A line has seven fields, joined by tabs: who (u:USER or g:GROUP), namespace, verb,
+API group, resource or URL, object name, and the first binding that grants it; - is an empty field.
+A Universe document says whom and what to ask.
+
+Example:
+  rbacaudit matrix cluster.json namespaced.json universe.json";
+
 fn user_arg<'a>(alloc: Global) -> Arg<'a>
     ensures rule { rule_of result ≡ user_rule }
     ensures local { result.global ≡ false }
@@ -17,7 +56,7 @@ fn user_arg<'a>(alloc: Global) -> Arg<'a>
         .long("as")
         .value_name("USER")
         .required(true)
-        .help("The user who asks, e.g. alice or system:serviceaccount:dev:ci")
+        .help("User to check, e.g. alice or system:serviceaccount:dev:ci")
 }
 
 fn groups_arg<'a>(alloc: Global) -> Arg<'a>
@@ -27,7 +66,7 @@ fn groups_arg<'a>(alloc: Global) -> Arg<'a>
     Arg::new(alloc, "groups")
         .long("groups")
         .value_name("A,B")
-        .help("Groups of the user beside the implied ones, e.g. dev,ops")
+        .help("Groups of the user beside the implied ones, e.g. dev,ops (default: none)")
 }
 
 fn namespace_arg<'a>(alloc: Global) -> Arg<'a>
@@ -36,8 +75,9 @@ fn namespace_arg<'a>(alloc: Global) -> Arg<'a>
 {
     Arg::new(alloc, "namespace")
         .short('n')
+        .long("namespace")
         .value_name("NS")
-        .help("The namespace asked about; without -n and -A it is default")
+        .help("Namespace to check (default: default)")
 }
 
 fn all_arg<'a>(alloc: Global) -> Arg<'a>
@@ -46,8 +86,9 @@ fn all_arg<'a>(alloc: Global) -> Arg<'a>
 {
     Arg::new(alloc, "all")
         .short('A')
+        .long("all-namespaces")
         .action(ArgAction::SetTrue)
-        .help("Asks for all namespaces, where only ClusterRoleBindings count; wins over -n")
+        .help("Check all namespaces at once: only ClusterRoleBindings grant this; overrides -n")
 }
 
 fn subresource_arg<'a>(alloc: Global) -> Arg<'a>
@@ -57,7 +98,7 @@ fn subresource_arg<'a>(alloc: Global) -> Arg<'a>
     Arg::new(alloc, "subresource")
         .long("subresource")
         .value_name("S")
-        .help("The subresource asked for, e.g. log of pods; a URL has none")
+        .help("Subresource to check, e.g. log for the logs of pods (default: none); a URL has none")
 }
 
 fn quiet_arg<'a>(alloc: Global) -> Arg<'a>
@@ -66,8 +107,9 @@ fn quiet_arg<'a>(alloc: Global) -> Arg<'a>
 {
     Arg::new(alloc, "quiet")
         .short('q')
+        .long("quiet")
         .action(ArgAction::SetTrue)
-        .help("Writes nothing: the exit status is the answer")
+        .help("Print nothing: the exit status is the answer")
 }
 
 fn why_arg<'a>(alloc: Global) -> Arg<'a>
@@ -77,7 +119,7 @@ fn why_arg<'a>(alloc: Global) -> Arg<'a>
     Arg::new(alloc, "why")
         .long("why")
         .action(ArgAction::SetTrue)
-        .help("After yes, tells the binding, its role and rule that allow it, and the subject")
+        .help("After yes, print why: BINDING, its ROLE, the SOURCE role, its RULE, the SUBJECT")
 }
 
 fn verb_arg<'a>(alloc: Global) -> Arg<'a>
@@ -87,7 +129,7 @@ fn verb_arg<'a>(alloc: Global) -> Arg<'a>
     Arg::new(alloc, "verb")
         .value_name("VERB")
         .required(true)
-        .help("What is to be done, e.g. get, list or delete")
+        .help("Verb to check, e.g. get, list or delete")
 }
 
 fn target_arg<'a>(alloc: Global) -> Arg<'a>
@@ -107,7 +149,7 @@ fn files_arg<'a>(alloc: Global) -> Arg<'a>
     Arg::new(alloc, "files")
         .value_name("FILE")
         .action(ArgAction::Append)
-        .help("JSON of kubectl get -o json or --raw, or a Universe document; else standard input")
+        .help("JSON of kubectl get -o json or --raw, or a Universe (default: standard input)")
 }
 
 // Adds an argument that is not global.
@@ -149,12 +191,12 @@ fn with_question<'a>(alloc: Global, command: Command<'a>) -> Result<Command<'a>,
     with(command, files_arg(alloc))
 }
 
-// A command with this name and no arguments.
-fn named<'a>(alloc: Global, name: &'a str, about: &'a str) -> Command<'a>
+// A command with this name and no arguments; its help ends in more lines.
+fn named<'a>(alloc: Global, name: &'a str, about: &'a str, more: &'a str) -> Command<'a>
     ensures app { app_of result ≡ new_app name.entry.now }
     ensures local { (fields_of result).has_globals ≡ false }
 {
-    Command::new(alloc, name).about(about)
+    Command::new(alloc, name).about(about).after_help(more)
 }
 
 fn can_i<'a>(alloc: Global) -> Result<Command<'a>, AllocError>
@@ -164,7 +206,8 @@ fn can_i<'a>(alloc: Global) -> Result<Command<'a>, AllocError>
     let command = named(
         alloc,
         "can-i",
-        "Tells whether USER may VERB TARGET: yes (exit status 0) or no (1); 2 is a fault",
+        "Check whether USER may VERB TARGET: yes (exit status 0) or no (1); 2 is a fault",
+        CAN_I_MORE,
     );
     let command = with_asker(alloc, command)?;
     let command = with_scope(alloc, command)?;
@@ -180,7 +223,8 @@ fn who_can<'a>(alloc: Global) -> Result<Command<'a>, AllocError>
     let command = named(
         alloc,
         "who-can",
-        "Lists who may VERB TARGET, u:USER or g:GROUP, each with the first binding that lets them",
+        "List who may VERB TARGET: each u:USER or g:GROUP, and the first binding that lets them",
+        WHO_CAN_MORE,
     );
     let command = with_scope(alloc, command)?;
     with_question(alloc, command)
@@ -193,7 +237,8 @@ fn matrix<'a>(alloc: Global) -> Result<Command<'a>, AllocError>
     let command = named(
         alloc,
         "matrix",
-        "Lists everything that anyone may do, then end; a Universe document says whom and what to ask",
+        "List everything that anyone may do: a line for each request that is allowed, then end",
+        MATRIX_MORE,
     );
     with(command, files_arg(alloc))
 }
@@ -221,8 +266,10 @@ fn bare<'a>(alloc: Global) -> Command<'a>
     named(
         alloc,
         "rbacaudit",
-        "Answers questions about Kubernetes roles from files that kubectl get -o json wrote",
+        "Answer questions about Kubernetes RBAC from files that kubectl wrote, without a cluster",
+        MORE,
     )
+    .version(VERSION)
     .subcommand_required(true)
     .disable_help_subcommand(true)
 }

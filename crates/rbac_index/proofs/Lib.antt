@@ -1,3 +1,4 @@
+pub mod BoundLemmas
 pub mod DecidingLemmas
 pub mod EntryLemmas
 pub mod HolderLaw
@@ -7,6 +8,7 @@ pub mod ListingLemmas
 pub mod LivingLemmas
 pub mod MergeLemmas
 pub mod OneHolders
+pub mod ReachLemmas
 pub mod ReadLemmas
 pub mod RowLemmas
 pub mod RunLemmas

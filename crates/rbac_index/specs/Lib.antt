@@ -1,7 +1,9 @@
+pub mod Bound
 pub mod Deciding
 pub mod HolderViews
 pub mod Holding
 pub mod Indexed
 pub mod Listing
 pub mod Living
+pub mod Reaches
 pub mod Written

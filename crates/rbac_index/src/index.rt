@@ -1,14 +1,16 @@
 //! The index of a policy.
 
-ghost use Rattle.std.specs.Prelude.{◌≡◌, ◌<◌, ◌↔◌, ℕ, length, slice_get, Some, All, Any, Contains, IfOk, IfSome, MatchOption};
+ghost use Rattle.std.specs.Prelude.{◌≡◌, ◌<◌, ◌≤◌, ◌↔◌, ℕ, length, IsTrue, slice_get, Some, All, Any, Contains, IfOk, IfSome, MatchOption};
 ghost use Rattle.std.specs.List.Sorted.{IsStrictlyIncreasing};
 ghost use Rattle.rbac_model.specs.Sources.{grant_of};
 ghost use Rattle.rbac_model.specs.Policies.{Allows, IsFirst};
 ghost use Rattle.rbac_model.specs.Holders.{AreHolders};
 ghost use Rattle.rbac_index.specs.Indexed.{AreCandidates, HaveNumbers, IsAllowedBy};
+ghost use Rattle.rbac_index.specs.Bound.{IsNamedBy, IsBoundTo, IsNextRun};
 ghost use Rattle.rbac_index.specs.Deciding.{IsWhyShown};
 ghost use Rattle.rbac_index.specs.Holding.{AllowsByHolders};
 
+use crate::bound::{binding_names, is_bound};
 use crate::deciding::{Why, why_allowed};
 use crate::fault::IndexFault;
 use crate::holders::Holders;
@@ -115,6 +117,34 @@ impl<'p> Index<'p> {
     {
         let policy: &'p Policy = self.policy;
         why_allowed(policy, principal, namespace, verb, target)
+    }
+
+    /// Whether some grant is of a binding that names the principal. Takes no memory.
+    pub fn has_grants(&self, principal: &Principal) -> bool
+        ensures { IsTrue result ↔ ((number : ℕ) × IsNamedBy self.now principal.now number) }
+    {
+        for no in 0..self.len() {
+            if binding_names(self.grant(no).binding, principal) {
+                return true;
+            }
+        }
+        false
+    }
+
+    /// The next grants, from this number on, of bindings that name the principal and are live in
+    /// this namespace for some target: a run of numbers, from the first up to the second. None
+    /// where no such grants are left. Takes no memory.
+    pub fn next_run(&self, principal: &Principal, namespace: &Word, from: u32) -> Option<(u32, u32)>
+        ensures { MatchOption result
+            ((number : ℕ) → from ≤ number → ¬ IsBoundTo self.now principal.now namespace.now number)
+            (λ run. IsNextRun self.now principal.now namespace.now from run.0 run.1) }
+    {
+        for no in from..self.len() {
+            if is_bound(self.grant(no).binding, principal, namespace) {
+                return Some((no, no + 1));
+            }
+        }
+        None
     }
 
     /// Who may use the verb on the target in this namespace: each holder once, in order of the

@@ -2,6 +2,7 @@
 //! and who may. Everything here is told of the policy alone; the index only makes it fast.
 #![tactic(auto)]
 
+mod bound;
 mod deciding;
 mod fault;
 mod holders;
@@ -10,7 +11,9 @@ mod laws;
 mod listing;
 mod living;
 mod merging;
+mod meter;
 mod numbers;
+mod reach;
 mod runs;
 mod written;
 
@@ -19,4 +22,6 @@ pub use fault::IndexFault;
 pub use holders::{Holder, Holders};
 pub use index::Index;
 pub use laws::holders_are_one;
+pub use meter::Meter;
 pub use numbers::GrantNos;
+pub use reach::{Reach, reaches_of};

@@ -1,11 +1,14 @@
--- loaded inputs have no fault
-use Rattle.std.proofs.Common.{◌≡◌, ℕ, List, Option, Some, None, inl, inr, length, subst, ap, arith}
+-- what is loaded is one, and its fault is one; loaded inputs have none
+use Rattle.std.proofs.Common.{◌≡◌, ℕ, List, Option, Some, None, inl, inr, length, subst, ap, arith, sym, ◌∙◌}
 use Rattle.rbac_model.specs.declared.holding.Object.{Object}
 use Rattle.rbac_model.specs.Kept.{AreKept}
-use Rattle.rbac_model.specs.Policies.{Held, IsHeld, AreGrantsOf, OneListOfGrants}
+use Rattle.rbac_model.specs.Policies.{Held, IsHeld, GrantView, PolicyView, AreGrantsOf, OneListOfGrants}
+use Rattle.rbac_catalogue.specs.Catalogue.{CatalogueView}
+use Rattle.rbac_universe.specs.declared.lists.UniverseLists.{UniverseLists}
+use Rattle.rbac_lists.specs.Meant.{lists_meant}
 use Rattle.rbac_manifest.specs.declared.fault.LoadFault.{LoadFault}
-use Rattle.rbac_manifest.specs.Load.{LoadedView, IsLoaded, HasFault, document_fault, given}
-use Rattle.rbac_manifest.specs.Gathered.{objects_in}
+use Rattle.rbac_manifest.specs.Load.{LoadedView, IsLoaded, HasFault, document_fault, given, too_many}
+use Rattle.rbac_manifest.specs.Gathered.{objects_in, namespaces_in, accounts_in, catalogue_in, documents_in}
 
 abbrev pub KeptIsOne : Type 0
 KeptIsOne = (os : List Object) (held : Held) (others : Held) → AreKept os held → AreKept os others → held ≡ others
@@ -25,3 +28,35 @@ no_fault kept grants inputs l f loaded fault = elim fault [
       let same = grants l.policy.held loaded.policy.0 w.2.2.0 l.policy.grants (subst P held w.2.2.1) loaded.policy.1 in
       omega (arith, ap length same, w.2.2.2, loaded.few)
 ]
+
+-- what is held, and its grants, tell a policy, and these with the catalogue and the lists what is loaded
+loaded_of : Held → List GrantView → CatalogueView → UniverseLists → LoadedView
+loaded_of held grants catalogue lists = record { policy = record { held = held; grants = grants }; catalogue = catalogue; lists = lists }
+
+same_loaded : (l m : LoadedView) → l.policy.held ≡ m.policy.held → l.policy.grants ≡ m.policy.grants → l.catalogue ≡ m.catalogue → l.lists ≡ m.lists → l ≡ m
+unfolding loaded_of
+same_loaded l m a b c d =
+    ap (λ (x : Held). loaded_of x l.policy.grants l.catalogue l.lists) a
+    ∙ ap (λ (x : List GrantView). loaded_of m.policy.held x l.catalogue l.lists) b
+    ∙ ap (λ (x : CatalogueView). loaded_of m.policy.held m.policy.grants x l.lists) c
+    ∙ ap (λ (x : UniverseLists). loaded_of m.policy.held m.policy.grants m.catalogue x) d
+
+pub one_load : KeptIsOne → GrantsAreOne → (inputs : List (List ℕ)) (l m : LoadedView) → IsLoaded inputs l → IsLoaded inputs m → l ≡ m
+one_load kept grants inputs l m a b =
+    let held : l.policy.held ≡ m.policy.held = kept (objects_in (given inputs)) l.policy.held m.policy.held a.kept b.kept in
+    let P : Held → Type 0 = λ h. AreGrantsOf h h.bindings l.policy.grants in
+    let listed : l.policy.grants ≡ m.policy.grants = grants m.policy.held b.policy.0 l.policy.grants m.policy.grants (subst P held a.policy.1) b.policy.1 in
+    let found : l.catalogue ≡ m.catalogue = a.catalogue ∙ sym b.catalogue in
+    let meant : (h : Held) (c : CatalogueView) → UniverseLists =
+    λ h c. lists_meant h c (namespaces_in (given inputs)) (accounts_in (given inputs)) (documents_in (given inputs)) in
+    same_loaded l m held listed found
+    (a.lists ∙ ap (λ (h : Held). meant h l.catalogue) held ∙ ap (λ (c : CatalogueView). meant m.policy.held c) found ∙ sym b.lists)
+
+same_fault : (o : Option LoadFault) (f g : LoadFault) → o ≡ Some f → o ≡ Some g → f ≡ g
+same_fault o f g a b = cc
+
+pub one_fault : (inputs : List (List ℕ)) (f g : LoadFault) → HasFault inputs f → HasFault inputs g → f ≡ g
+one_fault inputs f g (inl a) (inl b) = same_fault (document_fault inputs) f g a b
+one_fault inputs f g (inl a) (inr b) = absurd (not_both (document_fault inputs) f b.0 a)
+one_fault inputs f g (inr a) (inl b) = absurd (not_both (document_fault inputs) g a.0 b)
+one_fault inputs f g (inr a) (inr b) = a.1 ∙ sym b.1

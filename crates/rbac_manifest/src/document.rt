@@ -1,11 +1,12 @@
 //! What one document gives, or why the document is refused.
 
-ghost use Rattle.std.specs.Prelude.{◌≡◌, IfOk, option_map};
+ghost use Rattle.std.specs.Prelude.{◌≡◌, Some, IfOk, option_map};
 ghost use Rattle.serde_json.specs.View.{view};
 ghost use Rattle.rbac_manifest.specs.Document.{namespace_or_default, role_in, cluster_role_in, binding_in, account_from, given_in, fault, stands, bad_metadata};
-ghost use Rattle.rbac_manifest.specs.Walk.{bad_role, bad_cluster_role, bad_binding, bad_body};
+ghost use Rattle.rbac_manifest.specs.Walk.{bad_role, bad_cluster_role, bad_binding, bad_header, bad_body};
 ghost use Rattle.rbac_manifest.specs.Metadata.{metadata_at};
 ghost use Rattle.rbac_manifest.specs.Reads.{Loads, Gives};
+ghost use Rattle.rbac_manifest.specs.declared.fault.Cause.{Cause};
 
 use crate::api_list::entries_of;
 use crate::binding::role_ref_of;
@@ -149,14 +150,15 @@ pub(crate) fn given_of(alloc: Global, kind: Kind, document: &Value) -> Result<Op
     }))
 }
 
-// What a document gives.
+// What a document gives. A bad kind or version is told before any memory is asked for.
 #[tactic(auto, using(crate::proofs::Faults::fault_by_kind), unfolding(crate::specs::Document::stands))]
 pub(crate) fn document_of(
     alloc: Global,
     document: &Value,
     implied: Implied,
 ) -> Result<Option<Given>, Cause>
-    ensures { Loads result (fault implied (view document.now)) (stands implied (view document.now)) }
+    ensures loads { Loads result (fault implied (view document.now)) (stands implied (view document.now)) }
+    ensures header { (cause : Cause) → bad_header implied (view document.now) ≡ Some cause → result ≡ Err cause }
 {
     let kind = kind_of(document, implied)?;
     given_of(alloc, kind, document)

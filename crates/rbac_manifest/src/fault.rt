@@ -134,6 +134,11 @@ impl<T: Drop> From<AllocFailed<T>> for Cause {
 }
 
 impl fmt::Display for Cause {
+    ghost use Rattle.std.specs.Prelude.{Some};
+    ghost use Rattle.rbac_manifest.specs.FaultTexts.{cause_text};
+
+    ghost output = { λ cause. Some (cause_text cause) };
+
     fn fmt<W: fmt::Write>(&self, f: &mut fmt::Formatter<W>) -> fmt::Result {
         match self {
             Cause::NotJson => write!(f, "M1 not JSON"),
@@ -206,6 +211,11 @@ pub struct At {
 }
 
 impl fmt::Display for At {
+    ghost use Rattle.std.specs.Prelude.{Some};
+    ghost use Rattle.rbac_manifest.specs.FaultTexts.{at_text};
+
+    ghost output = { λ at. Some (at_text at) };
+
     fn fmt<W: fmt::Write>(&self, f: &mut fmt::Formatter<W>) -> fmt::Result {
         write!(f, "file {}", from_one(self.file))?;
         match self.item {
@@ -269,6 +279,11 @@ impl LoadFault {
 }
 
 impl fmt::Display for LoadFault {
+    ghost use Rattle.std.specs.Prelude.{Some};
+    ghost use Rattle.rbac_manifest.specs.FaultTexts.{fault_text};
+
+    ghost output = { λ fault. Some (fault_text fault) };
+
     fn fmt<W: fmt::Write>(&self, f: &mut fmt::Formatter<W>) -> fmt::Result {
         if let Some(at) = self.at {
             write!(f, "{at}: ")?;

@@ -1,7 +1,7 @@
 //! Laws of loading: what follows from the definitions alone. The functions do little or nothing;
 //! their contracts are the laws.
 
-ghost use Rattle.std.specs.Prelude.{List, ℕ};
+ghost use Rattle.std.specs.Prelude.{◌≡◌, List, ℕ};
 ghost use Rattle.rbac_manifest.specs.declared.fault.LoadFault.{LoadFault};
 ghost use Rattle.rbac_manifest.specs.Load.{LoadedView, IsLoaded, HasFault};
 
@@ -15,3 +15,17 @@ pub fn loaded_inputs_have_no_fault()
     kept_objects_are_one();
     grants_are_one_list();
 }
+
+/// What inputs are loaded as is told by them, so that whoever loads the same inputs answers over the
+/// same policy, catalogue and lists (own).
+pub fn loaded_inputs_are_one()
+    ensures { (inputs : List (List ℕ)) (l others : LoadedView) → IsLoaded inputs l → IsLoaded inputs others → l ≡ others }
+{
+    kept_objects_are_one();
+    grants_are_one_list();
+}
+
+/// The fault of inputs is one, so that whoever refuses the same inputs tells the same (own).
+pub fn load_faults_are_one()
+    ensures { (inputs : List (List ℕ)) (f g : LoadFault) → HasFault inputs f → HasFault inputs g → f ≡ g }
+{}

@@ -23,7 +23,7 @@ mod subject;
 mod universe_document;
 
 pub use fault::{At, Cause, LoadFault};
-pub use laws::loaded_inputs_have_no_fault;
+pub use laws::{load_faults_are_one, loaded_inputs_are_one, loaded_inputs_have_no_fault};
 pub use loading::{Loaded, load};
 pub use rbac_catalogue::{Catalogue, Entries, Entry, Found};
 pub use rbac_streams::Input;

@@ -138,10 +138,17 @@ fn policy_of(alloc: Global, objects: Vec<Object>) -> Result<Policy, LoadFault>
     ensures memory { IfErr result (λ e. e.cause ≡ NoMemory → e.at ≡ None) }
 {
     let held = Objects::from_given(alloc, objects).map_err(|_| LoadFault::no_memory())?;
-    match Policy::resolve(alloc, held) {
-        Ok(policy) => Ok(policy),
-        Err(ResolveFault::TooMany) => Err(LoadFault::too_many()),
-        Err(ResolveFault::NoMemory) => Err(LoadFault::no_memory()),
+    Policy::resolve(alloc, held).map_err(|fault| unresolved(fault))
+}
+
+// Why the inputs are refused whose objects can't be resolved.
+fn unresolved(fault: ResolveFault) -> LoadFault
+    ensures many { fault ≡ ResolveFault.TooMany → result ≡ too_many }
+    ensures memory { fault ≡ ResolveFault.NoMemory → result ≡ record { at = None; cause = NoMemory } }
+{
+    match fault {
+        ResolveFault::TooMany => LoadFault::too_many(),
+        ResolveFault::NoMemory => LoadFault::no_memory(),
     }
 }
 

@@ -1,3 +1,4 @@
 pub mod Cells
+pub mod Paging
 pub mod Printed
 pub mod Printing

@@ -1,10 +1,24 @@
 //! Laws of matrices, each told by the contract of a function that does nothing.
 
 ghost use Rattle.std.specs.Prelude.{◌≡◌, List};
-ghost use Rattle.rbac_model.specs.Policies.{Held};
-ghost use Rattle.rbac_model.specs.Universes.{UniverseView, RowView, IsMatrix};
+ghost use Rattle.rbac_model.specs.Policies.{Held, PolicyView, IsPolicy};
+ghost use Rattle.rbac_model.specs.Universes.{UniverseView, RowView, IsUniverse, IsMatrix};
+ghost use Rattle.rbac_matrix.specs.Paging.{PagesJoin};
 
 /// The matrix of held objects over a universe is one list of rows (own).
 pub fn the_matrix_is_one()
     ensures { (held : Held) (u : UniverseView) (rows others : List RowView) → IsMatrix held u rows → IsMatrix held u others → rows ≡ others }
+{}
+
+/// There is a matrix of a policy over a universe. So what is written of a matrix that stopped is a
+/// prefix of one (own).
+pub fn a_matrix_is_there()
+    ensures { (p : PolicyView) (u : UniverseView) → IsPolicy p → IsUniverse u → (rows : List RowView) × IsMatrix p.held u rows }
+{}
+
+/// Each page of a matrix that isn't empty, at any limit, is followed by what comes after the key of
+/// its last row, and says that more follows exactly where something does: so pages taken by their own
+/// tokens join to all that comes after the first token (own).
+pub fn pages_join()
+    ensures { PagesJoin }
 {}

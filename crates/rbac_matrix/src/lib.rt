@@ -4,5 +4,5 @@
 mod laws;
 mod plain;
 
-pub use laws::the_matrix_is_one;
+pub use laws::{a_matrix_is_there, pages_join, the_matrix_is_one};
 pub use plain::print_matrix;

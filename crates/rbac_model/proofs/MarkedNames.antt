@@ -14,6 +14,7 @@ use Rattle.rbac_model.specs.Places.{AreReaches, IsReachedAt, IsMarkedName, AreMa
 use Rattle.rbac_terms.specs.declared.granting.ClusterRole.{ClusterRole}
 use Rattle.rbac_model.proofs.Stairs.{read_contains, reached_held, marked_reached}
 use Rattle.rbac_model.proofs.OneList.{one_of_name}
+use Rattle.std.specs.Prelude.{IsOkAnd}
 
 -- one element more, which is above each
 pairs_push : {X : Type 0} (R : X → X → Type 0) (xs : List X) (x : X) → AllPairs R xs → All (λ y. R y x) xs → AllPairs R (xs ++ x ∷ [])
@@ -95,8 +96,7 @@ names_reached h rows at name marks (Ok ws) held are place read named = λ r has 
     reached_names h r marks ws (marked_reached h rows at r marks are there read) named
 names_reached h rows at name marks (Err e) held are place read named = tt
 
-pub no_names : {E : Type 0} (h : Held) (at : ℕ) (name : Text) (o : Result (List Text) E) → (at < length h.cluster_roles) × ((d : ClusterRole) → (get_or h.cluster_roles at d).name ≡ name) → IfOk o (λ ws. (Any (λ r. r.name ≡ name) h.cluster_roles → ⊥) → ws ≡ [])
-no_names h at name (Ok ws) place = λ none.
+pub no_names : {E : Type 0} (h : Held) (at : ℕ) (name : Text) (o : Result (List Text) E) → (at < length h.cluster_roles) × ((d : ClusterRole) → (get_or h.cluster_roles at d).name ≡ name) → (Any (λ r. r.name ≡ name) h.cluster_roles → ⊥) → IsOkAnd o (λ ws. ws ≡ [])
+no_names h at name o place = λ none.
     let d : ClusterRole = record { name = name; labels = []; rules = []; aggregation = None } in
     absurd (none (at, get_or h.cluster_roles at d, place.0, get_or_default h.cluster_roles at (get_or h.cluster_roles at d) d place.0, place.1 d))
-no_names h at name (Err e) place = tt

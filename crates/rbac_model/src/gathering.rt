@@ -1,6 +1,6 @@
 //! What aggregated roles gather from.
 
-ghost use Rattle.std.specs.Prelude.{◌≡◌, ◌≢◌, ◌<◌, ◌↔◌, ℕ, IsTrue, Some, IfOk, Contains, slice_get, AllPairs, Any, []};
+ghost use Rattle.std.specs.Prelude.{◌≡◌, ◌≢◌, ◌<◌, ◌↔◌, ℕ, IsTrue, Some, IfOk, IsOkAnd, Contains, slice_get, AllPairs, Any, []};
 ghost use Rattle.rbac_model.specs.Policies.{Gathers, AreReachedNames};
 ghost use Rattle.rbac_model.specs.Graphs.{IsMarked};
 ghost use Rattle.rbac_terms.specs.declared.granting.ClusterRole.{ClusterRole};
@@ -121,7 +121,8 @@ fn plain_marked(
     Ok(row)
 }
 
-// The names of those that the cluster role of this name reaches.
+// The names of those that the cluster role of this name reaches; where no role has the name, none,
+// and no memory is asked for.
 pub(crate) fn names_from(
     alloc: Global,
     objects: &Objects,
@@ -130,7 +131,7 @@ pub(crate) fn names_from(
 ) -> Result<Words, AllocError>
     requires { AreReaches objects.now reaches.now }
     ensures reached { IfOk result (λ ws. (r : ClusterRole) → Contains objects.now.cluster_roles r → r.name ≡ name.now → AreReachedNames objects.now r ws) }
-    ensures none { IfOk result (λ ws. ¬ Any (λ r. r.name ≡ name.now) objects.now.cluster_roles → ws ≡ []) }
+    ensures none { ¬ Any (λ r. r.name ≡ name.now) objects.now.cluster_roles → IsOkAnd result (λ ws. ws ≡ []) }
 {
     match cluster_role_place(objects.cluster_roles(), name) {
         Some(at) => marked_names(alloc, objects, &reaches[at]),

@@ -66,6 +66,7 @@ fn put_role(
     ensures ok { OnOk result (grants.new.items ≡ grants.old.items ++ role_places objects.now binding role) }
     ensures few { OnOk result (vec_len grants.new ≤ 1000000) }
     ensures many { IfErr result (λ e. e ≡ ResolveFault.TooMany → 1000000 < vec_len grants.old + length (role_places objects.now binding role)) }
+    ensures always { 1000000 < vec_len grants.old + length (role_places objects.now binding role) → result ≡ Err ResolveFault.TooMany }
 {
     let count = objects.roles()[role].rules.as_slice().len();
     put_rules(binding, RolePlace::RoleAt(role), count, grants)
@@ -92,7 +93,8 @@ fn put_sources(
     Ok(())
 }
 
-// Adds the grants of a binding by so many rules of a role.
+// Adds the grants of a binding by so many rules of a role. Too many are told before any memory is
+// asked for.
 fn put_rules(
     binding: usize,
     role: RolePlace,
@@ -103,6 +105,7 @@ fn put_rules(
     ensures ok { OnOk result (grants.new.items ≡ grants.old.items ++ places_of binding role count) }
     ensures few { OnOk result (vec_len grants.new ≤ 1000000) }
     ensures many { IfErr result (λ e. e ≡ ResolveFault.TooMany → 1000000 < vec_len grants.old + count) }
+    ensures always { 1000000 < vec_len grants.old + count → result ≡ Err ResolveFault.TooMany }
 {
     if count > 1_000_000 - grants.len() {
         return Err(ResolveFault::TooMany);

@@ -1,6 +1,6 @@
 //! Policies: objects, and the grants that follow from them.
 
-ghost use Rattle.std.specs.Prelude.{ℕ, ◌≡◌, ◌<◌, ◌≤◌, ◌↔◌, IsTrue, [], Any, Contains, IfOk, IfErr, MatchOption, Some, IsSome, All, length, slice_get};
+ghost use Rattle.std.specs.Prelude.{ℕ, ◌≡◌, ◌<◌, ◌≤◌, ◌↔◌, IsTrue, [], Any, Contains, IfOk, IfErr, IsOkAnd, MatchOption, Some, IsSome, All, length, slice_get};
 ghost use Rattle.std.specs.Option.{option_copied};
 ghost use Rattle.rbac_model.specs.Policies.{PolicyView, IsPolicy, HasTooMany, Allows, IsFirst, AreReachedNames, IsOfBinding, grants_at, grant_at};
 ghost use Rattle.rbac_model.specs.Places.{IsReachedAt};
@@ -101,10 +101,10 @@ impl Policy {
 
     /// The names of the cluster roles that the one of this name reaches, by one step of
     /// aggregation or more, ascending (Using RBAC Authorization, Aggregated ClusterRoles). A plain
-    /// role reaches none; nor does a name that no cluster role has.
+    /// role reaches none; nor does a name that no cluster role has, which takes no memory.
     pub fn reached(&self, alloc: Global, name: &Word) -> Result<Words, ResolveFault>
         ensures reached { IfOk result (λ ws. (r : ClusterRole) → Contains self.now.held.cluster_roles r → r.name ≡ name.now → AreReachedNames self.now.held r ws) }
-        ensures none { IfOk result (λ ws. ¬ Any (λ r. r.name ≡ name.now) self.now.held.cluster_roles → ws ≡ []) }
+        ensures none { ¬ Any (λ r. r.name ≡ name.now) self.now.held.cluster_roles → IsOkAnd result (λ ws. ws ≡ []) }
         ensures only_memory { IfErr result (λ e. e ≡ ResolveFault.NoMemory) }
     {
         Ok(names_from(alloc, &self.objects, &self.reaches, name)?)

@@ -34,7 +34,8 @@ impl Asked {
     /// What TARGET and `--subresource` ask for (own): a URL where TARGET begins with `/`, else a
     /// type, split at its first `/` into type word and object name. A missing name is the empty text.
     ///
-    /// U2 where TARGET is empty or begins with `.`, U3 where a URL has a subresource.
+    /// U2 where TARGET is empty or begins with `.`, U3 where a URL has a subresource. Both are told
+    /// before any memory is asked for.
     pub fn from_target(
         alloc: Global,
         target: &str,
@@ -45,6 +46,9 @@ impl Asked {
         ensures accepted { OnOk result
             ((¬ LacksType target.now) × (¬ HasUrlSubresource target.now subresource.now)) }
         ensures refused { IfErr result (RefusesTarget target.now subresource.now) }
+        ensures lacking { LacksType target.now → result ≡ Err QuestionFault.EmptyWord }
+        ensures located { ¬ LacksType target.now → HasUrlSubresource target.now subresource.now
+            → result ≡ Err QuestionFault.UrlSubresource }
     {
         if lacks_type(target) {
             return Err(QuestionFault::EmptyWord);

@@ -2,7 +2,7 @@
 
 ghost use Rattle.std.specs.Prelude.{◌≡◌, ◌≢◌, [], map, IfOk, MatchResult};
 ghost use Rattle.rbac_terms.specs.Principals.{AsUser};
-ghost use Rattle.rbac_question.specs.Lines.{comma, parts_between, groups_in, namespace_meant, IsQuestion, MeansCanI, MeansWhoCan, AcceptsQuestion, RefusesQuestion, AcceptsCanI, RefusesCanI, RefusesUser};
+ghost use Rattle.rbac_question.specs.Lines.{comma, parts_between, groups_in, namespace_meant, IsQuestion, MeansCanI, MeansWhoCan, LacksWord, AcceptsQuestion, RefusesQuestion, AcceptsCanI, RefusesCanI, RefusesUser};
 
 use crate::asked::Asked;
 use crate::command::{Action, Question};
@@ -122,8 +122,10 @@ fn principal_of(alloc: Global, user: &str, groups: &str) -> Result<Principal, Qu
 
 // The question that a line asks, whoever asks it.
 fn question_of(alloc: Global, line: &QuestionLine<'_>) -> Result<Question, QuestionFault>
-    ensures { MatchResult result (λ question. AcceptsQuestion line.now × IsQuestion line.now question)
+    ensures answer { MatchResult result (λ question. AcceptsQuestion line.now × IsQuestion line.now question)
         (RefusesQuestion line.now) }
+    ensures lacking { LacksWord line.now → result ≡ Err QuestionFault.EmptyWord }
+    ensures located { RefusesQuestion line.now QuestionFault.UrlSubresource → result ≡ Err QuestionFault.UrlSubresource }
 {
     if line.verb.is_empty() {
         return Err(QuestionFault::EmptyWord);
@@ -140,13 +142,18 @@ impl Action {
     /// What a `can-i` line means.
     ///
     /// U2 where USER, VERB or TARGET is empty, or TARGET begins with `.`; else U3 where a URL has a
-    /// subresource.
+    /// subresource. Both are told before any memory is asked for.
     pub fn can_i(alloc: Global, line: &CanILine<'_>) -> Result<Self, QuestionFault>
-        ensures { MatchResult result (λ action. AcceptsCanI line.now × MeansCanI line.now action)
+        ensures answer { MatchResult result (λ action. AcceptsCanI line.now × MeansCanI line.now action)
             (RefusesCanI line.now) }
+        ensures lacking { RefusesCanI line.now QuestionFault.EmptyWord → result ≡ Err QuestionFault.EmptyWord }
+        ensures located { RefusesCanI line.now QuestionFault.UrlSubresource → result ≡ Err QuestionFault.UrlSubresource }
     {
-        let principal = principal_of(alloc, line.user, line.groups)?;
+        if line.user.is_empty() {
+            return Err(QuestionFault::EmptyWord);
+        }
         let question = question_of(alloc, &line.question)?;
+        let principal = principal_of(alloc, line.user, line.groups)?;
         Ok(Action::CanI {
             principal,
             quiet: line.quiet,
@@ -158,11 +165,13 @@ impl Action {
     /// What a `who-can` line means.
     ///
     /// U2 where VERB or TARGET is empty, or TARGET begins with `.`; else U3 where a URL has a
-    /// subresource.
+    /// subresource. Both are told before any memory is asked for.
     pub fn who_can(alloc: Global, line: &QuestionLine<'_>) -> Result<Self, QuestionFault>
-        ensures { MatchResult result
+        ensures answer { MatchResult result
             (λ action. AcceptsQuestion line.now × MeansWhoCan line.now action)
             (RefusesQuestion line.now) }
+        ensures lacking { LacksWord line.now → result ≡ Err QuestionFault.EmptyWord }
+        ensures located { RefusesQuestion line.now QuestionFault.UrlSubresource → result ≡ Err QuestionFault.UrlSubresource }
     {
         Ok(Action::WhoCan {
             question: question_of(alloc, line)?,

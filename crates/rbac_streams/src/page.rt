@@ -1,6 +1,6 @@
 //! Text on its way to a sink, handed on in large pieces.
 
-ghost use Rattle.std.specs.Prelude.{◌≡◌, List, ℕ, [], true, false, OnOk, OnErr, IsErrOf};
+ghost use Rattle.std.specs.Prelude.{◌≡◌, ◌++◌, List, ℕ, [], true, false, OnOk, OnErr, IsErrOf};
 ghost use Rattle.rbac_streams.specs.Streams.{SinkView};
 ghost use Rattle.rbac_streams.specs.Taken.{Took, Printed, Prints, Stopped, StopsIn};
 
@@ -58,7 +58,8 @@ impl Page {
         self.written
     }
 
-    /// Hands all that is pending to the sink.
+    /// Hands all that is pending to the sink. Where the sink fails, all of it stays pending, also the
+    /// front that was taken.
     pub fn flush<W: Write + Drop>(&mut self, sink: &mut Sink<W>) -> Result<(), PrintFault>
         requires { sink.old.has_failed ≡ false }
         ensures ok { OnOk result ((start : SinkView W) (text : List ℕ)
@@ -69,6 +70,7 @@ impl Page {
             → Printed W.contents start sink.old self.old text
             → Stopped W.contents start sink.new self.new text) }
         ensures failed { OnErr result ((result ≡ Err PrintFault.SinkFailed) × (sink.new.has_failed ≡ true)) }
+        ensures pending { OnErr result (self.new.pending ≡ self.old.pending) }
     {
         let written = self.written;
         match sink.put(self.pending.as_slice()) {
@@ -84,7 +86,8 @@ impl Page {
         }
     }
 
-    /// Adds to the text, and hands it on where it has become long.
+    /// Adds to the text, and hands it on where it has become long. Where memory is refused, nothing
+    /// changes; where the sink fails, the text is pending with what was added.
     pub fn print<W: Write + Drop>(
         &mut self,
         sink: &mut Sink<W>,
@@ -95,7 +98,8 @@ impl Page {
         ensures works { OnOk result (sink.new.has_failed ≡ false) }
         ensures err { OnErr result (StopsIn W.contents sink.old self.old sink.new self.new more.now) }
         ensures failed { IsErrOf result PrintFault.SinkFailed → sink.new.has_failed ≡ true }
-        ensures unwritten { IsErrOf result PrintFault.NoMemory → sink.new ≡ sink.old }
+        ensures pending { IsErrOf result PrintFault.SinkFailed → self.new.pending ≡ self.old.pending ++ more.now }
+        ensures unwritten { IsErrOf result PrintFault.NoMemory → (sink.new ≡ sink.old) × (self.new ≡ self.old) }
     {
         if self.pending.extend_from_slice(more).is_err() {
             return Err(PrintFault::NoMemory);

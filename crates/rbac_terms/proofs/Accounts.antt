@@ -52,6 +52,9 @@ IsAccountOf-one user m n a b =
     let e = a.1 ∙ user_is m a.0 in
     IsCutAtFirst-front (rest_of m a.0) m n a.0 b.0 colon (IsAccountOf-cut user (rest_of m a.0) m e a) (IsAccountOf-cut user (rest_of m a.0) n e b)
 
+pub IsAccountOf-iff : (user namespace : Text) → IsAccountOf user namespace → (other : Text) → IsAccountOf user other ↔ (other ≡ namespace)
+IsAccountOf-iff user namespace a other = (λ b. IsAccountOf-one user other namespace b a, λ e. subst (IsAccountOf user) (sym e) a)
+
 pub IsAccountGroup-iff : (user namespace g : Text) (r : Bool) → IsAccountOf user namespace → (IsTrue r ↔ IsGroupOfAccounts namespace g) → IsTrue r ↔ IsAccountGroup user g
 IsAccountGroup-iff user namespace g r a i = (
   λ h. (namespace, a, i.0 h),

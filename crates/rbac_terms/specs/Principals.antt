@@ -61,6 +61,16 @@ abbrev pub IsUserNamed : Who → Text → Type 0
 IsUserNamed (AsUser name given) wanted = name ≡ wanted
 IsUserNamed (AsMember group) wanted = ⊥
 
+-- who asks is a service account of that namespace (Using RBAC Authorization, Referring to subjects)
+abbrev pub IsAccountIn : Who → Text → Type 0
+IsAccountIn (AsUser name given) namespace = IsAccountOf name namespace
+IsAccountIn (AsMember group) namespace = ⊥
+
+-- the group tells whether who asks has signed in, which is told of users alone (own)
+abbrev pub SignsInAs : Who → Text → Type 0
+SignsInAs (AsUser name given) g = IsSignInGroup name given g
+SignsInAs (AsMember group) g = ⊥
+
 -- who asks, where the program holds a mark, true of a user, the key, and the groups given
 abbrev pub who_of : Bool → Text → List Text → Who
 who_of true key given = AsUser (drop 2 key) given

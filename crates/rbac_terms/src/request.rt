@@ -3,7 +3,7 @@
 ghost use Rattle.std.specs.Prelude.{◌≡◌, ◌≢◌, ◌++◌, ◌⊎◌, [], IsTrue, ◌↔◌, MatchBool, MatchResult, MatchOption, IfOk, IfErr, OnOk, OnErr, Contains};
 ghost use Rattle.rbac_terms.specs.Text.{Text};
 ghost use Rattle.rbac_terms.specs.Targets.{Resource, Url, IsProper, IsUrl, IsResource, group_of, text_of, name_of};
-ghost use Rattle.rbac_terms.specs.Principals.{AsUser, AsMember, key_of as who_key, name_of as who_name, given_of, IsUserNamed, IsInGroup, account_user, IsAccountOf, IsAccountGroup, IsGroupOfAccounts, IsImpliedGroup, IsPart, IsSignInGroup};
+ghost use Rattle.rbac_terms.specs.Principals.{AsUser, AsMember, key_of as who_key, name_of as who_name, given_of, IsUserNamed, IsInGroup, account_user, IsAccountOf, IsAccountGroup, IsGroupOfAccounts, IsImpliedGroup, IsPart, IsSignInGroup, IsAccountIn, SignsInAs};
 
 use crate::fault::ModelFault;
 use crate::text::{Word, Words, after_front, cut_at_first, is_joined};
@@ -226,6 +226,47 @@ impl Principal {
         self.is_user && is_account_user(self.name(), namespace.as_bytes(), name.as_bytes())
     }
 
+    /// The groups that a user is given beside the implied ones, in order, with repeats; a group's
+    /// member is given none (own). Takes no memory.
+    pub fn given(&self) -> &[Word]
+        ensures { result.now ≡ given_of self.now }
+    {
+        if self.is_user {
+            self.given.as_slice()
+        } else {
+            &[]
+        }
+    }
+
+    /// The namespace of the service account as which a user asks; none where it asks as none (Using
+    /// RBAC Authorization, "Referring to subjects"). Takes no memory.
+    pub fn account_namespace(&self) -> Option<&[u8]>
+        ensures { MatchOption result
+            ((namespace : Text) → ¬ IsAccountIn self.now namespace)
+            (λ own. (namespace : Text) → IsAccountIn self.now namespace ↔ (namespace ≡ own.now)) }
+    {
+        if self.is_user {
+            account_namespace(self.name())
+        } else {
+            None
+        }
+    }
+
+    /// The group that tells whether a user has signed in: `system:authenticated` or
+    /// `system:unauthenticated` (Using RBAC Authorization); none where the second is given, and for
+    /// a group's member (own). Takes no memory.
+    pub fn sign_in_group(&self) -> Option<&'static [u8]>
+        ensures { MatchOption result
+            ((group : Text) → ¬ SignsInAs self.now group)
+            (λ own. (group : Text) → SignsInAs self.now group ↔ (group ≡ own.now)) }
+    {
+        if self.is_user {
+            sign_in_group(self.name(), &self.given)
+        } else {
+            None
+        }
+    }
+
     /// Whether the principal is in this group: a user is in the groups given and in the implied
     /// ones, which are those of service accounts, `system:authenticated` and
     /// `system:unauthenticated` (Using RBAC Authorization); a group's member is in that group alone
@@ -289,8 +330,9 @@ pub fn account_user(alloc: Global, namespace: &Word, name: &Word) -> Result<Word
 
 // The namespace of the service account whose user name this is.
 fn account_namespace(user: &[u8]) -> Option<&[u8]>
-    ensures { MatchOption result ((namespace : Text) → ¬ IsAccountOf user.now namespace)
-        (λ namespace. IsAccountOf user.now namespace.now) }
+    ensures { MatchOption result
+        ((namespace : Text) → ¬ IsAccountOf user.now namespace)
+        (λ own. (namespace : Text) → IsAccountOf user.now namespace ↔ (namespace ≡ own.now)) }
 {
     let parts = after_front(user, ACCOUNT)?;
     let (namespace, name) = cut_at_first(parts, b':')?;
@@ -353,5 +395,20 @@ fn is_sign_in_group(user: &[u8], given: &Words, group: &[u8]) -> bool
         group == UNAUTHENTICATED
     } else {
         group == AUTHENTICATED && !given.contains_bytes(UNAUTHENTICATED)
+    }
+}
+
+// The group that tells whether this user has signed in.
+fn sign_in_group(user: &[u8], given: &Words) -> Option<&'static [u8]>
+    ensures { MatchOption result
+        ((group : Text) → ¬ IsSignInGroup user.now given.now group)
+        (λ own. (group : Text) → IsSignInGroup user.now given.now group ↔ (group ≡ own.now)) }
+{
+    if user == ANONYMOUS {
+        Some(UNAUTHENTICATED)
+    } else if given.contains_bytes(UNAUTHENTICATED) {
+        None
+    } else {
+        Some(AUTHENTICATED)
     }
 }

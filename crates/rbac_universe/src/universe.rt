@@ -3,7 +3,7 @@
 ghost use Rattle.std.specs.Prelude.{◌≡◌, ◌<◌, All, IfOk, IfErr, Some, length, map, slice_get};
 ghost use Rattle.rbac_model.specs.Universes.{IsUniverse};
 ghost use Rattle.rbac_universe.specs.Gathering.{universe_of};
-ghost use Rattle.rbac_universe.specs.Sets.{IsUniverseOf, HasFault, IsWithinLimits};
+ghost use Rattle.rbac_universe.specs.Sets.{IsUniverseOf, AreProper, HasFault, IsWithinLimits};
 ghost use Rattle.rbac_universe.specs.Stems.{IsStem};
 
 use crate::fault::UniverseFault;
@@ -46,10 +46,11 @@ impl Universe {
     ///
     /// A bad resource or URL is told first, whatever the names, and then sets beyond the limits:
     /// 65,535 principals, namespaces and verbs, 1,000,000 targets (own). Targets are counted before
-    /// any of them is made.
+    /// any of them is made. Telling a bad resource or URL takes no memory.
     pub fn build(alloc: Global, lists: &UniverseLists) -> Result<Self, UniverseFault>
         ensures ok { IfOk result (IsUniverseOf lists.now) }
         ensures fault { IfErr result (HasFault lists.now) }
+        ensures bad { ¬ AreProper lists.now → result ≡ Err UniverseFault.BadTarget }
     {
         if !are_proper(lists) {
             return Err(UniverseFault::BadTarget);

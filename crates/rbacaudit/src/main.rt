@@ -8,14 +8,20 @@ use rbac_cli::{
     Input, InputFault, RunFault, Sink, Source, Status, UsageFault, command_of, read_file,
     read_input, run,
 };
+use std::env::{Env, FillError};
 use std::process::ExitCode;
-use std::{env, fmt, io};
+use std::{env, fmt, io, str};
+
+// The most bytes of a word of the command line (Linux, MAX_ARG_STRLEN).
+const MOST_WORD: usize = 131_072;
 
 // Why no answer is told.
 #[derive(Drop)]
 enum Fault {
     // The words of the command line couldn't be had.
     Words(io::Error),
+    // The word at this place isn't UTF-8; that at place 0 is the program's name.
+    NotUtf8(usize),
     Usage(UsageFault),
     // Of the input at this place, from 0.
     Input { place: usize, fault: InputFault },
@@ -26,6 +32,7 @@ impl fmt::Display for Fault {
     fn fmt<W: fmt::Write>(&self, f: &mut fmt::Formatter<W>) -> fmt::Result {
         match self {
             Fault::Words(error) => write!(f, "{error}"),
+            Fault::NotUtf8(place) => write!(f, "argument {place}: not UTF-8"),
             Fault::Usage(fault) => write!(f, "{fault}"),
             Fault::Input {
                 fault: InputFault::NoMemory,
@@ -59,16 +66,41 @@ fn main(rt: HostRuntime) -> ExitCode {
 
 fn audit(rt: &HostRuntime) -> Result<Status, Fault> {
     let alloc = rt.alloc();
-    let words = words_of(rt).map_err(Fault::Words)?;
+    let words = words_of(rt)?;
     let command = command_of(alloc, words.as_slice()).map_err(Fault::Usage)?;
     let inputs = inputs_of(rt, command.files.as_slice())?;
     let mut sink = Sink::new(rt.stdout());
     run(alloc, &command, inputs.as_slice(), &mut sink).map_err(Fault::Run)
 }
 
-fn words_of(rt: &HostRuntime) -> io::Result<Vec<String>> {
+fn words_of(rt: &HostRuntime) -> Result<Vec<String>, Fault> {
+    match utf8_words(rt) {
+        Ok(words) => Ok(words),
+        Err(error) => match bad_word(rt) {
+            Some(place) => Err(Fault::NotUtf8(place)),
+            None => Err(Fault::Words(error)),
+        },
+    }
+}
+
+fn utf8_words(rt: &HostRuntime) -> io::Result<Vec<String>> {
     let words: Vec<String> = env::args(rt)?.collect(rt.alloc())?;
     Ok(words)
+}
+
+// The place of the first word that isn't UTF-8, where memory suffices to find it.
+fn bad_word(rt: &HostRuntime) -> Option<usize> {
+    let Ok(mut bytes) = vec![in rt.alloc(); 0u8; MOST_WORD] else {
+        return None;
+    };
+    for place in 0..usize::MAX {
+        match rt.arg(place, &mut bytes) {
+            Ok(length) if str::from_utf8(&bytes[..length]).is_err() => return Some(place),
+            Ok(_) | Err(FillError::TooLong) => {}
+            Err(FillError::NotPresent) => return None,
+        }
+    }
+    None
 }
 
 // The inputs of a command: its files, or standard input where it names none.

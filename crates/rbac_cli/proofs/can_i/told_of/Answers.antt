@@ -3,7 +3,7 @@ use Rattle.std.specs.Prelude.{MatchOption, IfSome}
 use Rattle.rbac_model.specs.Policies.{PolicyView, Allows, IsFirst}
 use Rattle.rbac_catalogue.specs.Catalogue.{CatalogueView}
 use Rattle.rbac_index.specs.Deciding.{IsWhyShown}
-use Rattle.rbac_cli.specs.Meant.{IsMeant, IsOnlyTargetMeant}
+use Rattle.rbac_cli.specs.Meant.{IsMeant}
 use Rattle.rbac_cli.proofs.Verdicts.{told}
 use Rattle.rbac_cli.proofs.can_i.told_of.Goals as goal
 
@@ -17,7 +17,6 @@ returns c =
     let found = c.why_allowed-found.result in
     rw (c.in_ok-text.ensures, c.status_of.ensures) (told l who q target namespace
     (subst (λ (v : CatalogueView). IsMeant v.entries q target namespace) c.catalogue.ensures c.in_ok-meant.ensures.meant)
-    (subst (λ (v : CatalogueView). IsOnlyTargetMeant v.entries q.asked target) c.catalogue.ensures c.in_ok-meant.ensures.only)
     c.args.quiet c.args.why found
     (subst (λ (p : PolicyView). MatchOption found (¬ Allows p.held who namespace q.verb target) (IsWhyShown p who namespace q.verb target)) c.policy.ensures c.why_allowed-found.ensures.why)
     (subst (λ (p : PolicyView). IfSome found (λ f. IsFirst p.held who namespace q.verb target f.binding.now)) c.policy.ensures c.why_allowed-found.ensures.first))

@@ -16,5 +16,5 @@ pub returns-clause-err : goal.returns-clause-err
 returns-clause-err g c =
     let stops = subst (λ (p : PolicyView). StopsInListing g.W.Write.contents c.args.sink.now c.args.page.now c.print_rows.new.sink c.print_rows.new.page p.held c.in-Ok.universe)
     c.policy.ensures c.in-Err-print_rows.ensures.err in
-    rw c.fault_of-in-Err-print_rows.ensures (stops_within g.W.Write.contents c.args.sink.now c.print_rows.new.sink c.args.page.now c.print_rows.new.page
+    rw c.fault_of.ensures (stops_within g.W.Write.contents c.args.sink.now c.print_rows.new.sink c.args.page.now c.print_rows.new.page
     c.args.loaded.now Matrix c.in-Err-print_rows.fault (c.in-Ok.universe, c.in-Ok.ensures, stops))

@@ -8,10 +8,10 @@ use Rattle.rbac_command.proofs.read.action_of.Goals as goal
 pub returns-then-eq-2 : goal.returns-then-eq-2
 returns-then-eq-2 c =
     who_can_line c.args.name.now (rows_of (found_of c.args.matches.now)) _ c.who_can.result
-    ((bytes_eq-Decides c.args.name.now (codes "who-can")).0 (sym c.eq-2.ensures ∙ c.if-eq-2.true)) c.question_of.ensures c.who_can.ensures
+    ((bytes_eq-Decides c.args.name.now (codes "who-can")).0 (sym c.eq-2.ensures ∙ c.if-eq-2.true)) c.question_of.ensures c.who_can.ensures.answer
 
 pub returns : goal.returns
 returns c =
     can_i_line c.args.name.now (rows_of (found_of c.args.matches.now)) _ c.can_i.result
     (the_other c.args.name.now c.eq.result c.eq-2.result c.requires c.eq.ensures c.if-eq.false c.eq-2.ensures c.if-eq-2.false)
-    c.line_of.ensures c.can_i.ensures
+    c.line_of.ensures c.can_i.ensures.answer

@@ -11,3 +11,10 @@ returns-clause-many c =
     let same : length (role_places c.args.objects.now c.args.binding c.args.role) ≡ length c.as_slice-count.result.now =
     length-role_places c.args.objects.now c.args.binding c.args.role c.index-roles-role.result read ∙ ap (λ (r : Role). length r.rules) c.index-roles-role.is ∙ ap length (sym c.as_slice-count.ensures) in
     rw same c.put_rules.ensures.many
+
+pub returns-clause-always : goal.returns-clause-always
+returns-clause-always c =
+    let read = rw c.roles.ensures.roles at (slice_get_read _ _ _ _ (ap length (sym c.roles.ensures.roles)) c.requires.role c.index-roles-role.is) in
+    let same : length (role_places c.args.objects.now c.args.binding c.args.role) ≡ length c.as_slice-count.result.now =
+    length-role_places c.args.objects.now c.args.binding c.args.role c.index-roles-role.result read ∙ ap (λ (r : Role). length r.rules) c.index-roles-role.is ∙ ap length (sym c.as_slice-count.ensures) in
+    rw same c.put_rules.ensures.always

@@ -1,6 +1,6 @@
 use Rattle.std.proofs.Common.{refl}
 use Rattle.std.proofs.lemmas.Bool.{both_ways}
-use Rattle.rbac_terms.proofs.Accounts.{IsAccountOf-begins, IsAccountOf-colon, IsAccountOf-from, IsAccountOf-parts}
+use Rattle.rbac_terms.proofs.Accounts.{IsAccountOf-begins, IsAccountOf-colon, IsAccountOf-from, IsAccountOf-iff, IsAccountOf-parts}
 use Rattle.rbac_terms.proofs.request.account_namespace.Goals.{else-is_part-via-then-is_part+else-is_part-2, else-is_part-via-else-is_part}
 use Rattle.rbac_terms.proofs.request.account_namespace.Goals as goal
 
@@ -12,8 +12,9 @@ returns-in_err-namespace c = rw c.from_residual-in_err-namespace.ensures (λ nam
 
 pub returns-then-is_part-2 : goal.returns-then-is_part-2
 returns-then-is_part-2 c =
-    IsAccountOf-from c.args.user.now c.in_ok-parts.parts.now c.in_ok-namespace.namespace.now c.in_ok-namespace.name.now
-    c.in_ok-parts.ensures c.in_ok-namespace.ensures (c.if-is_part.ensures.0 refl) (c.if-is_part-2.ensures.0 refl)
+    IsAccountOf-iff c.args.user.now c.in_ok-namespace.namespace.now
+    (IsAccountOf-from c.args.user.now c.in_ok-parts.parts.now c.in_ok-namespace.namespace.now c.in_ok-namespace.name.now
+    c.in_ok-parts.ensures c.in_ok-namespace.ensures (c.if-is_part.ensures.0 refl) (c.if-is_part-2.ensures.0 refl))
 
 pub returns-else-is_part : goal.returns-else-is_part
 returns-else-is_part c = λ namespace a.

@@ -1,0 +1,95 @@
+-- Two runs that nothing stopped end alike.
+use Rattle.std.proofs.Common.{◌≡◌, ◌≢◌, ℕ, List, [], Result, Ok, Err, ap, subst, sym, refl}
+use Rattle.rbac_universe.specs.declared.lists.UniverseLists.{UniverseLists}
+use Rattle.rbac_universe.specs.declared.fault.UniverseFault.{UniverseFault}
+use Rattle.rbac_universe.specs.declared.fault.UniverseFault.TheVariants as universe
+use Rattle.rbac_universe.specs.Sets.{IsUniverseOf, HasFault as HasUniverseFault}
+use Rattle.rbac_model.specs.Universes.{UniverseView}
+use Rattle.rbac_manifest.specs.declared.fault.LoadFault.{LoadFault}
+use Rattle.rbac_manifest.specs.Load.{LoadedView, IsLoaded, HasFault}
+use Rattle.rbac_question.specs.declared.command.Action.{Action}
+use Rattle.rbac_question.specs.declared.command.Action.TheVariants.{CanI, WhoCan, Matrix}
+use Rattle.rbac_question.specs.declared.command.Command.{Command}
+use Rattle.rbac_cli.specs.Out.{Answers}
+use Rattle.rbac_cli.specs.Ends.{Ends, LacksUniverse, IsUnstopped}
+use Rattle.rbac_cli.specs.declared.ending.Status.{Status}
+use Rattle.rbac_cli.specs.declared.ending.RunFault.{RunFault}
+use Rattle.rbac_cli.specs.declared.ending.RunFault.TheVariants.{Load, Universe, Memory, Write}
+use Rattle.rbac_cli.proofs.OneAnswer.{one_answer}
+
+-- what is known of loading and of universes
+abbrev pub LoadsOne : Type 0
+LoadsOne = (inputs : List (List ℕ)) (l m : LoadedView) → IsLoaded inputs l → IsLoaded inputs m → l ≡ m
+
+abbrev pub HasNoFault : Type 0
+HasNoFault = (inputs : List (List ℕ)) (l : LoadedView) (f : LoadFault) → IsLoaded inputs l → HasFault inputs f → ⊥
+
+abbrev pub HasOneFault : Type 0
+HasOneFault = (inputs : List (List ℕ)) (f g : LoadFault) → HasFault inputs f → HasFault inputs g → f ≡ g
+
+abbrev pub HasNoUniverseFault : Type 0
+HasNoUniverseFault =
+    (lists : UniverseLists) (u : UniverseView) (fault : UniverseFault) → IsUniverseOf lists u → fault ≢ universe.NoMemory → ¬ HasUniverseFault lists fault
+
+-- two runs that end so ended alike, with one text
+abbrev EndAlike : (List ℕ → Type 0) → (List ℕ → Type 0) → Result Status RunFault → Result Status RunFault → Type 0
+EndAlike took others ended other = (ended ≡ other) × ((text : List ℕ) × took text × others text)
+
+alike_back : (took others : List ℕ → Type 0) (ended other : Result Status RunFault) → EndAlike took others ended other → EndAlike others took other ended
+alike_back took others ended other a = (sym a.0, (a.1.0, a.1.2, a.1.1))
+
+-- lists that make no universe do so for one fault
+same_universe_fault : (lists : UniverseLists) (f g : UniverseFault) → HasUniverseFault lists f → f ≢ universe.NoMemory
+    → HasUniverseFault lists g → g ≢ universe.NoMemory → f ≡ g
+same_universe_fault lists universe.BadTarget universe.BadTarget a n b m = refl
+same_universe_fault lists universe.BadTarget universe.TooLarge a n b m = absurd (a b.0)
+same_universe_fault lists universe.TooLarge universe.BadTarget a n b m = absurd (b a.0)
+same_universe_fault lists universe.TooLarge universe.TooLarge a n b m = refl
+same_universe_fault lists universe.NoMemory g a n b m = absurd (n refl)
+same_universe_fault lists f universe.NoMemory a n b m = absurd (m refl)
+
+lacks_for_one : (l : LoadedView) (action : Action) (f g : UniverseFault) → LacksUniverse l action f → LacksUniverse l action g → f ≡ g
+lacks_for_one l (CanI who quiet why q) f g a b = absurd a
+lacks_for_one l (WhoCan q) f g a b = absurd a
+lacks_for_one l Matrix f g a b = same_universe_fault l.lists f g a.0 a.1 b.0 b.1
+
+module _ (loads_one : LoadsOne) (no_fault : HasNoFault) (one_fault : HasOneFault) (no_universe_fault : HasNoUniverseFault) where
+  -- what has an answer lacks no universe
+  not_lacking : (l : LoadedView) (action : Action) (text : List ℕ) (status : Status) (f : UniverseFault) → Answers l action text status → LacksUniverse l action f → ⊥
+  not_lacking l (CanI who quiet why q) text status f a b = b
+  not_lacking l (WhoCan q) text status f a b = b
+  not_lacking l Matrix text status f (u, rows, is, matrix, e, zero) b = no_universe_fault l.lists u f is b.1 b.0
+
+  module _ (command : Command) (inputs : List (List ℕ)) where
+    answered : (took others : List ℕ → Type 0) (status : Status) (other : Result Status RunFault) → IsUnstopped other
+        → Ends took command inputs (Ok status) → Ends others command inputs other → EndAlike took others (Ok status) other
+    answered took others status (Ok ending) s (l, is, (text, a, t)) (m, are, (more, b, u)) =
+        let here = subst (λ (x : LoadedView). Answers x command.action text status) (loads_one inputs l m is are) a in
+        let same = one_answer m command.action text more status ending here b in
+        (ap Ok same.1, (text, t, subst others (sym same.0) u))
+    answered took others status (Err (Load f)) s (l, is, told) (has, t) = absurd (no_fault inputs l f is has)
+    answered took others status (Err (Universe f)) s (l, is, (text, a, t)) ((m, are, lacks), u) =
+        let here = subst (λ (x : LoadedView). Answers x command.action text status) (loads_one inputs l m is are) a in
+        absurd (not_lacking m command.action text status f here lacks)
+    answered took others status (Err (Memory n)) s a b = absurd s
+    answered took others status (Err (Write n)) s a b = absurd s
+
+    -- both are refused
+    refused : (took others : List ℕ → Type 0) (f g : RunFault) → IsUnstopped (Err f) → IsUnstopped (Err g)
+        → Ends took command inputs (Err f) → Ends others command inputs (Err g) → EndAlike took others (Err f) (Err g)
+    refused took others (Load f) (Load g) r s a b = (ap (λ x. Err (Load x)) (one_fault inputs f g a.0 b.0), ([], a.1, b.1))
+    refused took others (Load f) (Universe g) r s a b = absurd (no_fault inputs b.0.0 f b.0.1 a.0)
+    refused took others (Universe f) (Load g) r s a b = absurd (no_fault inputs a.0.0 g a.0.1 b.0)
+    refused took others (Universe f) (Universe g) r s ((l, is, lacks), t) ((m, are, other), u) =
+        let here = subst (λ (x : LoadedView). LacksUniverse x command.action f) (loads_one inputs l m is are) lacks in
+        (ap (λ x. Err (Universe x)) (lacks_for_one m command.action f g here other), ([], t, u))
+    refused took others (Memory n) g r s a b = absurd r
+    refused took others (Write n) g r s a b = absurd r
+    refused took others f (Memory n) r s a b = absurd s
+    refused took others f (Write n) r s a b = absurd s
+
+    pub one_run : (took others : List ℕ → Type 0) (ended other : Result Status RunFault) → IsUnstopped ended → IsUnstopped other
+        → Ends took command inputs ended → Ends others command inputs other → EndAlike took others ended other
+    one_run took others (Ok status) other r s a b = answered took others status other s a b
+    one_run took others (Err f) (Ok ending) r s a b = alike_back others took (Ok ending) (Err f) (answered others took ending (Err f) r b a)
+    one_run took others (Err f) (Err g) r s a b = refused took others f g r s a b

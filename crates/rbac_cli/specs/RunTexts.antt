@@ -1,0 +1,13 @@
+-- The texts of why a run stopped, as they are printed (own).
+use Rattle.std.specs.Prelude.{ℕ, List, ◌++◌, codes, Option, Some, None}
+use Rattle.std.specs.Fmt.{decimal}
+use Rattle.rbac_manifest.specs.FaultTexts.{fault_text}
+use Rattle.rbac_cli.specs.declared.ending.RunFault.{RunFault}
+use Rattle.rbac_cli.specs.declared.ending.RunFault.TheVariants.{Load, Universe, Memory, Write}
+
+-- the text of a refusal, or what was refused; that of a universe fault is its own
+abbrev pub run_fault_text : RunFault → Option (List ℕ)
+run_fault_text (Load fault) = Some (fault_text fault)
+run_fault_text (Universe fault) = None
+run_fault_text (Memory n) = Some (codes "out of memory")
+run_fault_text (Write n) = Some (codes "write failed after " ++ decimal n ++ codes " bytes")

@@ -1,0 +1,5 @@
+use Rattle.rbac_matrix.proofs.Pages.{pages_join}
+use Rattle.rbac_matrix.proofs.laws.pages_join.Goals as goal
+
+pub returns : goal.returns
+returns c = pages_join

@@ -1,0 +1,91 @@
+"""Every wrong body still fits the text that it edits, in must-fail/ and in wrong-bodies/ of each crate.
+
+An edit is a file of lines `file: PATH`, `old: TEXT` and `new: TEXT`. Each old text stands in its file exactly once,
+after the pairs before it. Proves nothing: `rt ci` tries the edits of must-fail/, and `make wrong-bodies` the others.
+The last line is `N passed, M failed`.
+"""
+
+import os
+import re
+import sys
+
+TOP = os.path.dirname(os.path.dirname(os.path.abspath(__file__)))
+TIERS = ('must-fail', 'wrong-bodies')
+PARTS = ('src/', 'specs/', 'proofs/')
+
+
+def fault_of(path):
+    """Why the edit can't be applied, or None."""
+    tier, name = os.path.split(path)
+    crate, tier = os.path.split(tier)
+    if tier not in TIERS or os.path.dirname(crate) != os.path.join(TOP, 'crates'):
+        return 'an edit stands in crates/NAME/must-fail or crates/NAME/wrong-bodies'
+    if not re.fullmatch(r'[A-Za-z0-9_-][A-Za-z0-9_.-]*\.edit', name):
+        return 'its name is of letters, digits, _, - and . and ends in .edit'
+    if any(os.path.isfile(os.path.join(crate, other, name)) for other in TIERS if other != tier):
+        return 'both folders have an edit of this name'
+    with open(path, encoding='utf-8') as file:
+        return fault_in(file.read(), crate)
+
+
+def fault_in(text, crate):
+    """Why the edit of this text can't be applied to the crate, or None. Later pairs apply to what earlier ones made."""
+    path, old, texts = '', None, {}
+    for line in text.split('\n'):
+        word, _, rest = line.partition(':')
+        if word == 'file' and rest.startswith(' '):
+            path = rest.strip()
+            if os.path.normpath(path) != path or not path.startswith(PARTS):
+                return "a 'file:' line names no file below src/, specs/ or proofs/"
+        elif word == 'old' and rest.startswith(' '):
+            old = rest[1:]
+        elif word == 'new':
+            new = rest[1:] if rest.startswith(' ') else rest
+            if not path or not old:
+                return "a 'new:' line stands before any 'file:' or 'old:' line"
+            fault = put(texts, crate, path, old, new)
+            if fault:
+                return fault
+            old = None
+    return None if texts else "it has no 'old:' and 'new:' pair"
+
+
+def put(texts, crate, path, old, new):
+    """Replaces the old text, or says why it can't be."""
+    if path not in texts:
+        try:
+            with open(os.path.join(crate, path), encoding='utf-8') as file:
+                texts[path] = file.read()
+        except OSError:
+            return 'there is no file %s' % path
+    found = texts[path].count(old)
+    if found != 1:
+        return "an 'old:' text is in %s %d times, and not once" % (path, found)
+    if old == new:
+        return 'it changes nothing'
+    texts[path] = texts[path].replace(old, new)
+    return None
+
+
+def edits():
+    """Each file of the two folders, but texts that are only to be read, and each edit that lies elsewhere."""
+    for folder, folders, names in sorted(os.walk(os.path.join(TOP, 'crates'))):
+        folders[:] = [name for name in folders if name != 'out']
+        for name in sorted(names):
+            in_tier = os.path.basename(folder) in TIERS and not name.endswith('.md')
+            if in_tier or name.endswith('.edit'):
+                yield os.path.join(folder, name)
+
+
+def main():
+    passed = failed = 0
+    for path in edits():
+        fault = fault_of(path)
+        if fault:
+            print('FAIL %s: %s' % (os.path.relpath(path, TOP), fault))
+        passed, failed = passed + (not fault), failed + bool(fault)
+    print('%d passed, %d failed' % (passed, failed))
+    return 1 if failed else 0
+
+
+sys.exit(main())
