@@ -112,10 +112,10 @@ pub on_ok : {T E : Type 0} (r : Result T E) (A B : Type 0) → (A → B) → OnO
 on_ok (Ok x) A B f a = f a
 on_ok (Err e) A B f a = a
 
--- one code after another
-pub Adds-codes : (P Q : Line → Type 0) (m n : ℕ) (old mid new : List Finding) → m < n → ((x : Line) → P x → x.code ≡ m) → ((x : Line) → Q x → x.code ≡ n) → Adds P old mid → Adds Q mid new → Adds (λ x. P x ⊎ Q x) old new
-Adds-codes P Q m n old mid new l f g p q =
-    Adds-append P Q (λ x. P x ⊎ Q x) old mid new p q (λ a b h k. inl (omega (arith, l, f a h, g b k))) (λ x. (λ h. h, λ h. h))
+-- one code before all later ones
+pub Adds-code : (P Q : Line → Type 0) (n : ℕ) (old mid new : List Finding) → ((x : Line) → P x → x.code ≡ n) → ((x : Line) → Q x → n < x.code) → Adds P old mid → Adds Q mid new → Adds (λ x. P x ⊎ Q x) old new
+Adds-code P Q n old mid new f g p q =
+    Adds-append P Q (λ x. P x ⊎ Q x) old mid new p q (λ a b h k. inl (omega (arith, f a h, g b k))) (λ x. (λ h. h, λ h. h))
 
 pub AreShown-all : (P : Line → Type 0) (new : List Finding) → Adds P [] new → AreShown P new
 unfolding Adds AreShown

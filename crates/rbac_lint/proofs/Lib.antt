@@ -8,3 +8,5 @@ pub mod Named
 pub mod Least
 pub mod Marked
 pub mod StaleRules
+pub mod AllFound
+pub mod OneLines

@@ -25,19 +25,19 @@ TellsReaches h j k told = (r : ClusterRole) → slice_get h.cluster_roles j ≡ 
 pub gathered_more : (h : Held) (place i : ℕ) (s : ClusterRole) (told : Bool) (old new : List Rule) → slice_get h.cluster_roles i ≡ Some s → IsPlain s → TellsReaches h place i told → IsTrue told → AreGatheredBy h place i old → new ≡ old ++ s.rules → AreGatheredBy h place (i + 1) new
 gathered_more h place i s told old new at plain tells so was e = λ r here rule. (
   λ w. (let P : List Rule → Type 0 = λ rs. Contains rs rule in
-    elim (Contains-append_cases old s.rules rule (subst P e w)) [
-      | inl o ↦ let g = (was r here rule).0 o in (g.0, g.1, omega (arith, g.2), g.3, g.4, g.5, g.6)
-      | inr c ↦ (i, s, omega arith, at, plain, (tells r here).0 so, c)
-    ]),
+      elim (Contains-append_cases old s.rules rule (subst P e w)) [
+        | inl o ↦ let g = (was r here rule).0 o in (g.0, g.1, omega (arith, g.2), g.3, g.4, g.5, g.6)
+        | inr c ↦ (i, s, omega arith, at, plain, (tells r here).0 so, c)
+      ]),
   λ g. (let P : List Rule → Type 0 = λ rs. Contains rs rule in
-    subst P (sym e) (elim (cases_lt g.0 i) [
-      | inl lt ↦ Contains-append_left old s.rules rule ((was r here rule).1 (g.0, g.1, lt, g.3, g.4, g.5, g.6))
-      | inr le ↦
-          let same : g.0 ≡ i = omega (arith, le, g.2) in
-          let one : g.1 ≡ s = same_Some g.1 s (sym g.3 ∙ ap (slice_get h.cluster_roles) same ∙ at) in
-          let Q : ClusterRole → Type 0 = λ v. Contains v.rules rule in
-          Contains-append_right old s.rules rule (subst Q one g.6)
-    ])),
+      subst P (sym e) (elim (cases_lt g.0 i) [
+        | inl lt ↦ Contains-append_left old s.rules rule ((was r here rule).1 (g.0, g.1, lt, g.3, g.4, g.5, g.6))
+        | inr le ↦
+            let same : g.0 ≡ i = omega (arith, le, g.2) in
+            let one : g.1 ≡ s = same_Some g.1 s (sym g.3 ∙ ap (slice_get h.cluster_roles) same ∙ at) in
+            let Q : ClusterRole → Type 0 = λ v. Contains v.rules rule in
+            Contains-append_right old s.rules rule (subst Q one g.6)
+      ])),
 )
 
 pub gathered_same : (h : Held) (place i : ℕ) (s : ClusterRole) (rules : List Rule) → slice_get h.cluster_roles i ≡ Some s → ((r : ClusterRole) → slice_get h.cluster_roles place ≡ Some r → IsPlain s → IsReachedAt h r i → ⊥) → AreGatheredBy h place i rules → AreGatheredBy h place (i + 1) rules
@@ -65,11 +65,11 @@ pub gathered_all : (h : Held) (place n : ℕ) (rules : List Rule) → n ≡ leng
 unfolding IsGathered
 gathered_all h place n rules all was r here rule = (
   λ w. (let g = (was r here rule).0 w in
-    let one : g.5.0 ≡ g.1 = same_Some g.5.0 g.1 (sym g.5.1 ∙ g.3) in
-    let P : ClusterRole → Type 0 = λ v. Reaches h r v in
-    (g.1, g.4, subst P one g.5.2, g.6)),
+      let one : g.5.0 ≡ g.1 = same_Some g.5.0 g.1 (sym g.5.1 ∙ g.3) in
+      let P : ClusterRole → Type 0 = λ v. Reaches h r v in
+      (g.1, g.4, subst P one g.5.2, g.6)),
   λ g. (let k = path_there h r g.2.0 g.0 g.2.1 in
-    (was r here rule).1 (k.0, g.0, omega (arith, all, slice_get_within h.cluster_roles k.0 g.0 k.1), k.1, g.1, (g.0, k.1, g.2), g.3)),
+      (was r here rule).1 (k.0, g.0, omega (arith, all, slice_get_within h.cluster_roles k.0 g.0 k.1), k.1, g.1, (g.0, k.1, g.2), g.3)),
 )
 
 -- ---- the same rules

@@ -9,6 +9,7 @@ use Rattle.rbac_terms.specs.declared.granting.Subject.{Subject}
 use Rattle.rbac_terms.specs.declared.granting.Subject.TheVariants.{Account}
 use Rattle.rbac_model.specs.Policies.{Held, Source, InRole, InClusterRole, IsPlain, IsRefTo, Reaches}
 use Rattle.rbac_model.specs.Universes.{Covers}
+use Rattle.rbac_lint.specs.declared.finding.Finding.{Finding}
 use Rattle.rbac_lint.specs.Lines.{Line, OfEach, object_text, AreShown}
 use Rattle.rbac_lint.specs.Roles.{roles_in, IsPlainRole, rules_of, source_object, binding_object, named_object}
 
@@ -113,3 +114,11 @@ IsStaleOf h r x = IsStaleRole h r × (x ≡ role_line 6 (InClusterRole r) None [
 
 abbrev pub IsStale : Held → Line → Type 0
 IsStale h = OfEach (λ k r. IsStaleOf h r) h.cluster_roles
+
+-- all that lint finds
+abbrev pub IsFinding : Held → Line → Type 0
+IsFinding h x = IsDangling h x ⊎ (IsUnused h x ⊎ (IsRedundant h x ⊎ (IsEscalation h x ⊎ (IsAccountWithout h x ⊎ IsStale h x))))
+
+-- these are the findings: exactly those lines, in order (own)
+abbrev pub AreFindings : Held → List Finding → Type 0
+AreFindings h found = AreShown (IsFinding h) found

@@ -1,1 +1,39 @@
 //! All that lint finds.
+
+ghost use Rattle.std.specs.Prelude.{◌≡◌, IfOk, IfErr};
+ghost use Rattle.rbac_lint.specs.Findings.{AreFindings};
+
+use crate::accounts::find_accounts;
+use crate::dangling::find_dangling;
+use crate::escalation::find_escalations;
+use crate::fault::LintFault;
+use crate::finding::Findings;
+use crate::redundant::find_redundant;
+use crate::stale::find_stale;
+use crate::unused::find_unused;
+use rbac_model::Policy;
+use std::alloc::Global;
+
+/// What the roles and bindings of a policy deserve a second look for (own): bindings whose role
+/// isn't there, roles that no binding leads to, rules that another rule of their role covers, rules
+/// that let a subject grant more than it has, accounts without a namespace, and aggregated roles
+/// whose written rules aren't those that they gather. In order of these codes, then of objects by
+/// kind, namespace and name, then of places, then of what else is told.
+///
+/// # Errors
+///
+/// N1 where memory was refused.
+pub fn lint(alloc: Global, policy: &Policy) -> Result<Findings, LintFault>
+    ensures ok { IfOk result (AreFindings policy.now.held) }
+    ensures only_memory { IfErr result (λ e. e ≡ LintFault.NoMemory) }
+{
+    let objects = policy.objects();
+    let mut found = Findings::new(alloc);
+    find_dangling(alloc, &mut found, objects)?;
+    find_unused(alloc, &mut found, policy)?;
+    find_redundant(alloc, &mut found, objects)?;
+    find_escalations(alloc, &mut found, objects)?;
+    find_accounts(alloc, &mut found, objects)?;
+    find_stale(alloc, &mut found, policy)?;
+    Ok(found)
+}

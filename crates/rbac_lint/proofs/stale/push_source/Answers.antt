@@ -19,6 +19,6 @@ pub returns : goal.returns
 returns c =
     on_ok c.push_rules.result _ _
     (λ e was. gathered_more c.args.policy.now.held c.args.place c.args.at c.args.source.now c.reaches.result (rules_at c.args.gathered.now.items) (rules_at c.push_rules.new.gathered.items)
-      c.requires.source (plain_source c.args.source.now c.is_some.result c.is_some.ensures c.if-is_some.false) c.reaches.ensures.reaches c.if-not-reaches.false was
-      (e ∙ ap (λ rules. rules_at c.args.gathered.now.items ++ rules) c.as_slice.ensures))
+    c.requires.source (plain_source c.args.source.now c.is_some.result c.is_some.ensures c.if-is_some.false) c.reaches.ensures.reaches c.if-not-reaches.false was
+    (e ∙ ap (λ rules. rules_at c.args.gathered.now.items ++ rules) c.as_slice.ensures))
     c.push_rules.ensures

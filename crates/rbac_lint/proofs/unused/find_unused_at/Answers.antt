@@ -24,13 +24,13 @@ returns c =
     let at : slice_get (roles_in h) c.args.place ≡ Some (source_of c.role_at.result) = ap (λ (v : Held). slice_get (roles_in v) c.args.place) (sym c.objects.ensures.held) ∙ c.role_at.ensures in
     on_ok c.push.result _ _
     (λ e s here. (
-      let one : source_of c.role_at.result ≡ s = same_Some (source_of c.role_at.result) s (sym at ∙ here) in
-      let made : Finding = record { code = 2; object = c.in_ok-object.object; place = None; other = c.new.result } in
-      let line : Line = role_line 2 s None [] in
-      let object = c.in_ok-object.ensures ∙ ap (λ (v : Source). object_text (source_object v)) one in
-      let other = c.new.ensures in
-      let same : made ≡ shown line = cc (object, other) in
-      Adds-if (IsUsed h s → ⊥) line c.args.found.now c.push.new.self made
-      (λ used. both_ways _ c.if-is_used.false ((c.is_used.ensures s here).1 used)) same e
+    let one : source_of c.role_at.result ≡ s = same_Some (source_of c.role_at.result) s (sym at ∙ here) in
+    let made : Finding = record { code = 2; object = c.in_ok-object.object; place = None; other = c.new.result } in
+    let line : Line = role_line 2 s None [] in
+    let object = c.in_ok-object.ensures ∙ ap (λ (v : Source). object_text (source_object v)) one in
+    let other = c.new.ensures in
+    let same : made ≡ shown line = cc (object, other) in
+    Adds-if (IsUsed h s → ⊥) line c.args.found.now c.push.new.self made
+    (λ used. both_ways _ c.if-is_used.false ((c.is_used.ensures s here).1 used)) same e
     ))
     c.push.ensures
