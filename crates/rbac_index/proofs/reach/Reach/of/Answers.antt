@@ -5,5 +5,5 @@ use Rattle.rbac_index.specs.Matched.{what_texts}
 use Rattle.rbac_index.proofs.StemLemmas.{targets_ordered}
 use Rattle.rbac_index.proofs.reach.Reach.of.Goals as goal
 
-pub matched-places-requires-clause-ordered : goal.matched-places-requires-clause-ordered
-matched-places-requires-clause-ordered c = subst (λ (ts : List What). IsAscendingBy what_texts ts) (sym c.targets.ensures.targets) (targets_ordered c.args.universe.now.targets c.targets.ensures.ordered.targets)
+pub matched-requires-clause-ordered : goal.matched-requires-clause-ordered
+matched-requires-clause-ordered c = subst (λ (ts : List What). IsAscendingBy what_texts ts) (sym c.targets.ensures.targets) (targets_ordered c.args.universe.now.targets c.targets.ensures.ordered.targets)
