@@ -22,7 +22,7 @@ use Rattle.rbac_index.specs.Keyed.{keyed, keyed_cmp, IsLiveAt, IsNextOf, Answers
 use Rattle.rbac_index.proofs.KeysOf.{keys_sorted}
 use Rattle.rbac_index.proofs.LivingLemmas.{lt_back}
 
-then_assoc : (a b c : Ordering) → ordering_then (ordering_then a b) c ≡ ordering_then a (ordering_then b c)
+pub then_assoc : (a b c : Ordering) → ordering_then (ordering_then a b) c ≡ ordering_then a (ordering_then b c)
 then_assoc Less b c = refl
 then_assoc Equal b c = refl
 then_assoc Greater b c = refl
