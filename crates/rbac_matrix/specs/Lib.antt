@@ -4,6 +4,7 @@ pub mod Enumeration
 pub mod Lent
 pub mod Lines
 pub mod Metering
+pub mod Pages
 pub mod Paging
 pub mod Passing
 pub mod Printed
