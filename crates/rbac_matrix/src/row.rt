@@ -38,13 +38,7 @@ impl Row<'_> {
         ensures ok { IfOk result (λ k. k ≡ key_shown self.now) }
         ensures only_memory { IfErr result (λ e. e ≡ MatrixFault.NoMemory) }
     {
-        Ok(Key::of(
-            alloc,
-            self.who,
-            self.namespace,
-            self.verb,
-            self.target,
-        )?)
+        Ok(Key::of(alloc, self.who, self.namespace, self.verb, self.target)?)
     }
 }
 

@@ -29,7 +29,7 @@ pub(crate) fn next_cursor(index: &Index<'_>, line: Line<'_>, walk: &mut Walk) ->
     ensures found { MatchOption result
         ((k : ℕ) → ¬ IsAhead index.now (line_of line.entry) walk.old k)
         (λ k. IsCursorAt index.now (line_of line.entry) k
-            × ((other : ℕ) → IsAhead index.now (line_of line.entry) walk.old other → (other ≡ k) ⊎ IsAhead index.now (line_of line.entry) walk.new other)) }
+        × ((other : ℕ) → IsAhead index.now (line_of line.entry) walk.old other → (other ≡ k) ⊎ IsAhead index.now (line_of line.entry) walk.new other)) }
     ensures ends { IfSome result (λ _. steps_left index.now walk.new < steps_left index.now walk.old) }
 {
     while walk.next < index.len() {

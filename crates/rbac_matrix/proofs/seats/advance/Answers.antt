@@ -1,7 +1,7 @@
 use Rattle.std.proofs.Common.{◌≡◌, ◌<◌, ◌∙◌, sym, length, arith, []}
 use Rattle.std.proofs.lemmas.List.{get_or_default}
 use Rattle.rbac_matrix.specs.Shown.{line_of}
-use Rattle.rbac_matrix.specs.Seats.{reach_at, seat_at}
+use Rattle.rbac_matrix.specs.Seats.{reach_at}
 use Rattle.rbac_matrix.proofs.LoopLemmas.{advanced_move, advanced_stay, cursor_within}
 use Rattle.rbac_matrix.proofs.seats.advance.Goals as goal
 

@@ -1,6 +1,5 @@
-use Rattle.std.proofs.Common.{◌≡◌, ℕ, ◌+◌, ◌<◌, ◌≤◌, ◌⊎◌, length}
 use Rattle.rbac_matrix.specs.Shown.{line_of}
-use Rattle.rbac_matrix.specs.Cursors.{IsAhead, IsCursorAt, steps_left}
+use Rattle.rbac_matrix.specs.Cursors.{steps_left}
 use Rattle.rbac_matrix.proofs.LoopLemmas.{AreAdvanced}
 use Rattle.rbac_matrix.proofs.seats.advance.Given as goal
 

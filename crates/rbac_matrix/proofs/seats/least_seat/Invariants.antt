@@ -1,4 +1,3 @@
-use Rattle.std.proofs.Common.{◌≡◌, ℕ}
 use Rattle.rbac_matrix.specs.Shown.{line_of}
 use Rattle.rbac_matrix.specs.Cursors.{steps_left}
 use Rattle.rbac_matrix.proofs.LoopLemmas.{IsLeastSoFar}

@@ -2,8 +2,8 @@ use Rattle.std.proofs.Common.{◌≡◌, ◌<◌, ◌∙◌, sym, length, arith,
 use Rattle.std.proofs.lemmas.Bool.{both_ways}
 use Rattle.std.proofs.lemmas.List.{get_or_default}
 use Rattle.rbac_matrix.specs.Shown.{line_of}
-use Rattle.rbac_matrix.specs.Seats.{past_all, reach_at, seat_at}
-use Rattle.rbac_matrix.proofs.LoopLemmas.{cursor_within, taken_keep, taken_more, taken_start, taken_within}
+use Rattle.rbac_matrix.specs.Seats.{past_all, reach_at}
+use Rattle.rbac_matrix.proofs.LoopLemmas.{cursor_within, taken_keep, taken_more, taken_start}
 use Rattle.rbac_matrix.proofs.seats.seat_line.Goals as goal
 
 pub loop-no-init : goal.loop-no-init
