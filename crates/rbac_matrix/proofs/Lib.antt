@@ -17,4 +17,5 @@ pub mod SeekLemmas
 pub mod SomeMatrix
 pub mod StartLemmas
 pub mod TouchLemmas
+pub mod WalkLemmas
 pub mod Within
