@@ -1,6 +1,5 @@
 -- from line to line
-use Rattle.std.proofs.Common.{◌≡◌, ℕ, zero, suc, ◌+◌, ◌<◌, ◌≤◌, List, [], ◌∷◌, ◌++◌, length, get_or, map, min, sum_by, refl, ap, ap₂, ◌∙◌, sym, arith, subst, inl, inr, append_assoc}
-use Rattle.std.specs.Prelude.{Some, slice_get}
+use Rattle.std.proofs.Common.{◌≡◌, ℕ, zero, suc, ◌+◌, ◌<◌, ◌≤◌, List, [], ◌∷◌, ◌++◌, length, get_or, min, sum_by, refl, ap, ap₂, ◌∙◌, sym, arith, subst, inl, inr, append_assoc}
 use Rattle.std.specs.List.{flat_map}
 use Rattle.std.proofs.lemmas.Bool.{cases_lt}
 use Rattle.std.proofs.lemmas.List.{get_or_default, get_or_past}
@@ -9,10 +8,10 @@ use Rattle.std.proofs.lemmas.Grind.{flat_map-append}
 use Rattle.rbac_model.specs.Policies.{Held, PolicyView, IsPolicy}
 use Rattle.rbac_model.specs.Universes.{UniverseView, IsUniverse, Cell, RowView}
 use Rattle.rbac_matrix.specs.Cells.{AreRowsOf}
-use Rattle.rbac_matrix.specs.Lines.{IsSettled, LineView, cells_of_lines, line_cells_from, lines_from}
+use Rattle.rbac_matrix.specs.Lines.{LineView, cells_of_lines, line_cells_from, lines_from}
 use Rattle.rbac_index.specs.Reaches.{AreReaches}
 use Rattle.rbac_matrix.specs.Metering.{IsMetered, IsReady, Skips}
-use Rattle.rbac_matrix.specs.Passing.{EndsLine, FindsCell, FindsRow, Passes, cell_of, cells_left}
+use Rattle.rbac_matrix.specs.Passing.{EndsLine, FindsCell, FindsRow, Passes, cells_left}
 use Rattle.rbac_matrix.specs.declared.line.Place.{Place}
 use Rattle.rbac_matrix.specs.declared.seat.Seat.{Seat}
 use Rattle.rbac_matrix.specs.Seats.{AreEmpty, AreReal, AreSeated, Costs, empty_seat, filled, past_all, reach_at, seat_at, stand_of}

@@ -1,5 +1,5 @@
 -- an enumeration from one call to the next
-use Rattle.std.proofs.Common.{◌≡◌, ℕ, zero, suc, ◌+◌, ◌*◌, ◌<◌, ◌≤◌, List, [], ◌∷◌, ◌++◌, Bool, true, false, Contains, get_or, map, length, refl, ap, ap₂, ◌∙◌, sym, arith, subst, inl, inr, append_assoc, length-append}
+use Rattle.std.proofs.Common.{◌≡◌, ℕ, ◌+◌, ◌*◌, ◌<◌, ◌≤◌, List, [], ◌∷◌, ◌++◌, Bool, true, false, Contains, get_or, map, length, refl, ap, ap₂, ◌∙◌, sym, arith, subst, inl, inr, length-append}
 use Rattle.std.specs.Prelude.{Some, slice_get, ◌↔◌}
 use Rattle.std.proofs.lemmas.List.{append_cancel_right}
 use Rattle.std.proofs.lemmas.Option.{get_or_from_slice_get, slice_get_within}
@@ -11,11 +11,10 @@ use Rattle.rbac_matrix.specs.Cells.{AreRowsOf}
 use Rattle.rbac_matrix.specs.Lines.{LineView, cells_of_lines, lines_from}
 use Rattle.rbac_index.specs.Reaches.{AreReaches}
 use Rattle.rbac_matrix.specs.Metering.{AreTouched, IsMetered, IsReady}
-use Rattle.rbac_matrix.specs.Passing.{FindsCell, Passes, cell_of, cells_left}
+use Rattle.rbac_matrix.specs.Passing.{Passes, cell_of, cells_left}
 use Rattle.rbac_matrix.specs.Enumeration.{EntersLast}
 use Rattle.rbac_matrix.specs.declared.line.Place.{Place}
 use Rattle.rbac_matrix.specs.declared.seat.Seat.{Seat}
-use Rattle.rbac_matrix.specs.Seats.{AreSeated, passed, standing}
 use Rattle.rbac_matrix.proofs.SeatLemmas.{empty_passed, empty_standing}
 use Rattle.rbac_matrix.proofs.PassLemmas.{passes_left, passes_rows}
 use Rattle.rbac_matrix.proofs.TouchLemmas.{reads_few, touched_split}

@@ -18,4 +18,5 @@ pub mod SeekLemmas
 pub mod SomeMatrix
 pub mod StartLemmas
 pub mod TouchLemmas
+pub mod WalkLemmas
 pub mod Within

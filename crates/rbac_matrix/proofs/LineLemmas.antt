@@ -1,6 +1,6 @@
 -- what seats say of the rows of a line
-use Rattle.std.proofs.Common.{◌≡◌, ◌≢◌, ℕ, zero, suc, ◌+◌, ◌-◌, ◌<◌, ◌≤◌, ◌⊎◌, List, [], ◌∷◌, length, get_or, map, refl, ap, ◌∙◌, sym, arith, subst, inl, inr, Contains, Bool, true, false, IsTrue}
-use Rattle.std.specs.Prelude.{Option, Some, None, slice_get, ◌↔◌}
+use Rattle.std.proofs.Common.{◌≡◌, ℕ, zero, suc, ◌+◌, ◌-◌, ◌<◌, ◌≤◌, ◌⊎◌, List, [], ◌∷◌, length, get_or, map, ap, ◌∙◌, sym, arith, subst, inl, inr, Contains, Bool, true, false, IsTrue}
+use Rattle.std.specs.Prelude.{Option, Some, None, slice_get}
 use Rattle.std.specs.List.Sorted.{IsStrictlyIncreasing}
 use Rattle.std.proofs.lemmas.Bool.{cases_lt}
 use Rattle.std.proofs.lemmas.List.{get_or_default, get_or_past, length-map}
@@ -16,10 +16,10 @@ use Rattle.rbac_model.proofs.GrantNumbers.{some_grant, first_grant}
 use Rattle.rbac_matrix.specs.Cells.{HasRow}
 use Rattle.rbac_matrix.specs.Lines.{LineView, line_cells_from}
 use Rattle.rbac_matrix.specs.Cursors.{IsCursorAt}
-use Rattle.rbac_index.specs.Reaches.{AreReaches, IsReachAt, MatchesAt}
+use Rattle.rbac_index.specs.Reaches.{AreReaches, IsReachAt}
 use Rattle.rbac_matrix.specs.Passing.{EndsLine, FindsRow, Passes, cell_of}
 use Rattle.rbac_matrix.specs.declared.seat.Seat.{Seat}
-use Rattle.rbac_matrix.specs.Seats.{ArePast, AreReal, AreSeated, IsLeastSeat, IsSeated, past_all, reach_at, seat_at}
+use Rattle.rbac_matrix.specs.Seats.{AreReal, AreSeated, IsLeastSeat, IsSeated, past_all, reach_at, seat_at}
 use Rattle.rbac_matrix.proofs.SeekLemmas.{ascends}
 use Rattle.rbac_matrix.proofs.SeatLemmas.{stands_within}
 use Rattle.rbac_matrix.proofs.LoopLemmas.{cursor_within}
@@ -136,14 +136,16 @@ module _ (p : PolicyView) (u : UniverseView) (rs : List (List ℕ)) (l : LineVie
   -- the first cursor that has the place brings the row
   pub has_row : (place : ℕ) (t : Listed) → slice_get u.targets place ≡ Some t → Fits (cell_of l t) → (k : ℕ) (c : IsCursorAt p l k) → Contains (reach_at rs k) place → ((j : ℕ) → j < k → IsCursorAt p l j → Contains (reach_at rs j) place → ⊥) → HasRow p.held (cell_of l t) c.grant.binding
   has_row place t at fits k c w none =
-      let in_universe : Contains u.targets t = (place, slice_get_within u.targets place t at, get_or_from_slice_get u.targets place t t at) in
-      (fits, first_grant p.held p.grants l.who l.namespace l.verb t.0 policy.0 policy.1 k c.grant (record {
-        here = c.at;
-        holds = (live_where_fits u is l c.grant.binding.namespace t.0 t.1 in_universe fits c.is.2, c.is.1, (c.is.0, in_matches k place t c at w));
-        none_before = λ j g lt read allows.
-          let d : IsCursorAt p l j = record { grant = g; at = read; is = (allows.2.0, allows.1, live_for_some g.binding.namespace l.namespace t.0 allows.0) } in
-          none j lt d (matches_in j place t d at allows.2.1);
-      }))
+      let in_universe : Contains u.targets t = (place, slice_get_within u.targets place t at, get_or_from_slice_get u.targets place t t at) in (
+        fits,
+        first_grant p.held p.grants l.who l.namespace l.verb t.0 policy.0 policy.1 k c.grant (record {
+          here = c.at;
+          holds = (live_where_fits u is l c.grant.binding.namespace t.0 t.1 in_universe fits c.is.2, c.is.1, (c.is.0, in_matches k place t c at w));
+          none_before = λ j g lt read allows.
+              let d : IsCursorAt p l j = record { grant = g; at = read; is = (allows.2.0, allows.1, live_for_some g.binding.namespace l.namespace t.0 allows.0) } in
+              none j lt d (matches_in j place t d at allows.2.1);
+        }),
+      )
 
   module _ (from : ℕ) (seats : List Seat) (seated : AreSeated p l rs from seats) where
     pub seat_of : (k : ℕ) → IsCursorAt p l k → IsSeated (reach_at rs k) from (seat_at seats k)
@@ -170,10 +172,12 @@ module _ (p : PolicyView) (u : UniverseView) (rs : List (List ℕ)) (l : LineVie
       ];
       reached = from;
       seated = seated;
-      past = record { each = λ k lt. elim (seated.each k lt) [
-        | inl s ↦ past k s.0
-        | inr e ↦ rw e.1 (omega arith)
-      ] };
+      past = record {
+        each = λ k lt. elim (seated.each k lt) [
+          | inl s ↦ past k s.0
+          | inr e ↦ rw e.1 (omega arith)
+        ];
+      };
     }
 
     module _ (place number : ℕ) (least : IsLeastSeat p l seats place number) where
@@ -199,12 +203,15 @@ module _ (p : PolicyView) (u : UniverseView) (rs : List (List ℕ)) (l : LineVie
       seated_at = record {
         count = seated.count;
         each = λ k lt. elim (seated.each k lt) [
-          | inl s ↦ inl (s.0, record {
-            within = s.1.within;
-            place = s.1.place;
-            passed = λ j before. omega (arith, s.1.passed j before, least_onward);
-            ahead = (least.least k s.0).least;
-          })
+          | inl s ↦ inl (
+            s.0,
+            record {
+              within = s.1.within;
+              place = s.1.place;
+              passed = λ j before. omega (arith, s.1.passed j before, least_onward);
+              ahead = (least.least k s.0).least;
+            },
+          )
           | inr e ↦ inr e
         ];
       }

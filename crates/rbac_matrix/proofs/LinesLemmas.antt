@@ -1,5 +1,5 @@
 -- the lines of a universe from a place on
-use Rattle.std.proofs.Common.{◌≡◌, ℕ, zero, suc, ◌+◌, ◌<◌, ◌≤◌, ◌⊎◌, List, [], ◌∷◌, ◌++◌, length, get_or, drop, map, refl, ap, ◌∙◌, sym, arith, append_assoc, append-nil, inl, inr, add-one}
+use Rattle.std.proofs.Common.{◌≡◌, ℕ, ◌+◌, ◌<◌, ◌≤◌, List, [], ◌∷◌, ◌++◌, length, get_or, drop, refl, ap, ◌∙◌, sym, arith, inl, inr, add-one}
 use Rattle.std.specs.Prelude.{Some, slice_get}
 use Rattle.std.specs.List.{flat_map}
 use Rattle.std.proofs.Math.Seq.{drop-cons}
@@ -10,7 +10,7 @@ use Rattle.rbac_terms.specs.Text.{Text}
 use Rattle.rbac_terms.specs.Principals.{Who}
 use Rattle.rbac_model.specs.Universes.{UniverseView}
 use Rattle.rbac_matrix.specs.declared.line.Place.{Place}
-use Rattle.rbac_matrix.specs.Lines.{IsSettled, LineView, line, lines_from, namespace_lines, next_verb, onward, verb_lines}
+use Rattle.rbac_matrix.specs.Lines.{IsSettled, LineView, line, lines_from, namespace_lines, onward, verb_lines}
 use Rattle.rbac_matrix.proofs.PassLemmas.{read_at}
 
 pub drop_at : {A : Type 0} (xs : List A) (i : ℕ) (x : A) → slice_get xs i ≡ Some x → drop i xs ≡ x ∷ drop (i + 1) xs
@@ -70,7 +70,7 @@ module _ (u : UniverseView) where
   pub line_first : (p n v : ℕ) (who : Who) (ns verb : Text) → slice_get u.principals p ≡ Some who → slice_get u.namespaces n ≡ Some ns → slice_get u.verbs v ≡ Some verb → lines_from u (place p n v) ≡ line who ns verb ∷ lines_from u (place p n (v + 1))
   line_first p n v who ns verb a b c =
       let now : namespace_lines u n v who ≡ line who ns verb ∷ namespace_lines u n (v + 1) who =
-        namespaces_at who n v ns b ∙ ap (λ (l : List LineView). l ++ namespace_lines u (n + 1) 0 who) (verbs_at who ns v verb c) ∙ ap (λ (l : List LineView). line who ns verb ∷ l) (sym (namespaces_at who n (v + 1) ns b)) in
+      namespaces_at who n v ns b ∙ ap (λ (l : List LineView). l ++ namespace_lines u (n + 1) 0 who) (verbs_at who ns v verb c) ∙ ap (λ (l : List LineView). line who ns verb ∷ l) (sym (namespaces_at who n (v + 1) ns b)) in
       lines_of_principal p n v who a ∙ ap (λ (l : List LineView). l ++ lines_from u (place (p + 1) 0 0)) now ∙ ap (λ (l : List LineView). line who ns verb ∷ l) (sym (lines_of_principal p n (v + 1) who a))
 
   -- where the verbs are over the next namespace follows, and where the namespaces are over the next principal
@@ -80,7 +80,7 @@ module _ (u : UniverseView) where
         let who = read_at u.principals p within in
         let ns = read_at u.namespaces n lt in
         let now : namespace_lines u n v who.0 ≡ namespace_lines u (n + 1) 0 who.0 =
-          namespaces_at who.0 n v ns.0 ns.1 ∙ ap (λ (l : List LineView). l ++ namespace_lines u (n + 1) 0 who.0) (verbs_over who.0 ns.0 v over) in
+        namespaces_at who.0 n v ns.0 ns.1 ∙ ap (λ (l : List LineView). l ++ namespace_lines u (n + 1) 0 who.0) (verbs_over who.0 ns.0 v over) in
         lines_of_principal p (n + 1) 0 who.0 who.1 ∙ ap (λ (l : List LineView). l ++ lines_from u (place (p + 1) 0 0)) (sym now) ∙ sym (lines_of_principal p n v who.0 who.1)
     | inr past ↦ lines_over p (n + 1) 0 past ∙ sym (lines_over p n v past)
   ]

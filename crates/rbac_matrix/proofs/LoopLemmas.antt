@@ -1,15 +1,14 @@
 -- walks along the cursors of a line that change their seats
-use Rattle.std.proofs.Common.{◌≡◌, ◌≢◌, ℕ, ◌+◌, ◌*◌, ◌<◌, ◌≤◌, ◌⊎◌, List, [], ◌∷◌, length, get_or, set, min, refl, ap, ◌∙◌, sym, arith, inl, inr, subst, length-set}
+use Rattle.std.proofs.Common.{◌≡◌, ◌≢◌, ℕ, ◌+◌, ◌*◌, ◌<◌, ◌≤◌, ◌⊎◌, List, [], ◌∷◌, length, get_or, set, refl, ◌∙◌, sym, arith, inl, inr, subst, length-set}
 use Rattle.std.proofs.lemmas.Bool.{cases_lt, cases_eq}
 use Rattle.std.proofs.lemmas.List.{get_or_default}
-use Rattle.std.specs.Prelude.{Some, slice_get}
 use Rattle.std.proofs.lemmas.Option.{slice_get_within}
 use Rattle.rbac_model.specs.Policies.{PolicyView}
 use Rattle.rbac_matrix.specs.Lines.{LineView}
 use Rattle.rbac_matrix.specs.Cursors.{IsAhead, IsCursorAt}
 use Rattle.rbac_matrix.specs.declared.walk.Walk.{Walk}
 use Rattle.rbac_matrix.specs.declared.seat.Seat.{Seat}
-use Rattle.rbac_matrix.specs.Seats.{IsSeated, AreEmpty, AreReal, AreSeated, ComesFirst, Costs, SeatCosts, empty_seat, filled, past_all, reach_at, seat_at, stand_of}
+use Rattle.rbac_matrix.specs.Seats.{IsSeated, AreEmpty, AreSeated, ComesFirst, Costs, SeatCosts, empty_seat, filled, past_all, reach_at, seat_at, stand_of}
 use Rattle.rbac_matrix.proofs.SeatLemmas.{Costs-none, Costs-set, filled_set, seated_stays, set_each, empty_filled, filled_few}
 
 pub cursor_within : (p : PolicyView) (l : LineView) (k : ℕ) → IsCursorAt p l k → k < length p.grants
@@ -62,10 +61,13 @@ module _ (p : PolicyView) (l : LineView) (rs : List (List ℕ)) (from : ℕ) whe
 
     taken_other : (j : ℕ) → j ≢ k → (x : Seat) → (IsCursorAt p l j × IsSeated (reach_at rs j) from x) ⊎ ((x ≡ empty_seat) × (IsCursorAt p l j → IsAhead p l w j)) → (IsCursorAt p l j × IsSeated (reach_at rs j) from x) ⊎ ((x ≡ empty_seat) × (IsCursorAt p l j → IsAhead p l v j))
     taken_other j ne x (inl s) = inl s
-    taken_other j ne x (inr (e, ahead)) = inr (e, λ c. elim (on j (ahead c)) [
-      | inl same ↦ absurd (ne same)
-      | inr later ↦ later
-    ])
+    taken_other j ne x (inr (e, ahead)) = inr (
+      e,
+      λ c. elim (on j (ahead c)) [
+        | inl same ↦ absurd (ne same)
+        | inr later ↦ later
+      ],
+    )
 
     -- the seat was taken before, or its reach has no places
     pub taken_keep : (r : List ℕ) → r ≡ reach_at rs k → from ≤ past_all → ((seat_at seats k ≡ empty_seat) × (0 < length r) → ⊥) → AreTaken p l rs from v n old seats before m
@@ -73,13 +75,16 @@ module _ (p : PolicyView) (l : LineView) (rs : List (List ℕ)) (from : ℕ) whe
       count = h.count;
       each = λ j lt. elim (cases_eq j k) [
         | inl e ↦ subst (λ (i : ℕ). (IsCursorAt p l i × IsSeated (reach_at rs i) from (seat_at seats i)) ⊎ ((seat_at seats i ≡ empty_seat) × (IsCursorAt p l i → IsAhead p l v i))) (sym e)
-            (inl (cursor, elim (h.each k taken_within) [
-              | inl s ↦ s.1
-              | inr empty ↦ rw (empty.0, ← is) (no_places r from (elim (cases_lt 0 (length r)) [
-                | inl some ↦ absurd (kept (empty.0, some))
-                | inr none ↦ none
-              ]) top)
-            ]))
+            (inl (
+              cursor,
+              elim (h.each k taken_within) [
+                | inl s ↦ s.1
+                | inr empty ↦ rw (empty.0, ← is) (no_places r from (elim (cases_lt 0 (length r)) [
+                  | inl some ↦ absurd (kept (empty.0, some))
+                  | inr none ↦ none
+                ]) top)
+              ],
+            ))
         | inr ne ↦ taken_other j ne (seat_at seats j) (h.each j lt)
       ];
       is_filled = h.is_filled;
@@ -193,10 +198,13 @@ module _ (p : PolicyView) (l : LineView) (rs : List (List ℕ)) (place : ℕ) wh
       count = h.count;
       each = λ j lt. elim (cases_eq j k) [
         | inl e ↦ subst (λ (i : ℕ). (IsCursorAt p l i × ((IsSeated (reach_at rs i) place (seat_at seats i) × IsAhead p l v i) ⊎ IsSeated (reach_at rs i) (place + 1) (seat_at seats i))) ⊎ ((IsCursorAt p l i → ⊥) × (seat_at seats i ≡ empty_seat))) (sym e)
-            (inl (cursor, inr (elim advanced_here [
-              | inl s ↦ seated_stays (reach_at rs k) place (seat_at seats k) s ne
-              | inr s ↦ s
-            ])))
+            (inl (
+              cursor,
+              inr (elim advanced_here [
+                | inl s ↦ seated_stays (reach_at rs k) place (seat_at seats k) s ne
+                | inr s ↦ s
+              ]),
+            ))
         | inr other_one ↦ other j other_one (h.each j lt)
       ];
       gain = h.gain;
@@ -227,7 +235,7 @@ pub record IsLeastSoFar (p : PolicyView) (l : LineView) (seats : List Seat) (w :
 module _ (p : PolicyView) (l : LineView) (seats : List Seat) (w v : Walk) (place number : ℕ) (h : IsLeastSoFar p l seats w place number) (k here : ℕ) (cursor : IsCursorAt p l k) (on : (j : ℕ) → IsAhead p l w j → (j ≡ k) ⊎ IsAhead p l v j) (is : here ≡ (seat_at seats k).place) where
   pub least_more : (here < place) ⊎ ((here ≡ place) × (k < number)) → IsLeastSoFar p l seats v here k
   least_more before = record {
-    bound = elim before [ | inl lt ↦ omega (arith, h.bound) | inr same ↦ omega (arith, h.bound, same.0) ];
+    bound = elim before [ inl lt ↦ omega (arith, h.bound) | inr same ↦ omega (arith, h.bound, same.0) ];
     cursor = λ _. cursor;
     at = λ _. sym is;
     least = λ j c. elim (h.least j c) [

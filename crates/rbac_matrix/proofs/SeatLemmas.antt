@@ -1,5 +1,5 @@
 -- seats, one by one and all together
-use Rattle.std.proofs.Common.{◌≡◌, ◌≢◌, ℕ, zero, suc, ◌+◌, ◌-◌, ◌<◌, ◌≤◌, ◌⊎◌, List, [], ◌∷◌, length, get_or, set, sum_by, min, refl, ap, ◌∙◌, sym, arith, below_more, get_or-set_other, get_or-set_same, add-one, inl, inr, subst, length-set}
+use Rattle.std.proofs.Common.{◌≡◌, ◌≢◌, ℕ, suc, ◌+◌, ◌<◌, ◌≤◌, List, [], ◌∷◌, length, get_or, set, sum_by, min, refl, ◌∙◌, sym, arith, below_more, get_or-set_other, get_or-set_same, inl, inr, subst, length-set}
 use Rattle.std.proofs.lemmas.List.{get_or_default, get_or_past}
 use Rattle.std.proofs.lemmas.List.Sums.{sum_by-cons, sum_by-set}
 use Rattle.std.proofs.lemmas.Bool.{cases_lt, cases_eq}

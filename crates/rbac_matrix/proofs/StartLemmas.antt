@@ -1,5 +1,5 @@
 -- where the requests after a key begin, and the rows of those
-use Rattle.std.proofs.Common.{◌≡◌, ℕ, zero, suc, ◌+◌, ◌<◌, ◌≤◌, ◌⊎◌, Bool, true, false, List, [], ◌∷◌, ◌++◌, length, get_or, map, take, drop, Contains, filter, Less, Equal, Greater, Ordering, refl, ap, ◌∙◌, sym, arith, subst, inl, inr, append_assoc}
+use Rattle.std.proofs.Common.{◌≡◌, ℕ, ◌+◌, Bool, true, false, List, [], ◌∷◌, ◌++◌, map, take, drop, Contains, filter, Less, Equal, Greater, Ordering, refl, ap, ◌∙◌, sym, arith, subst, inl, inr, append_assoc}
 use Rattle.std.specs.Prelude.{Option, Some, None, slice_get}
 use Rattle.std.specs.List.{flat_map}
 use Rattle.std.specs.Ordering.{is_gt, ordering_then}
@@ -7,12 +7,11 @@ use Rattle.std.specs.Cmp.Lexicographic.{slice_cmp}
 use Rattle.std.proofs.lemmas.Grind.{flat_map-append}
 use Rattle.std.proofs.lemmas.List.{map-append, take-append-drop}
 use Rattle.std.proofs.lemmas.List.Elements.{Contains-append_cases, Contains-append_left, Contains-append_right, filter-append}
-use Rattle.std.proofs.lemmas.Option.{get_or_from_slice_get, slice_get_within}
 use Rattle.rbac_terms.specs.Text.{Text, text_cmp}
 use Rattle.rbac_terms.specs.Principals.{Who, key_of as who_key}
 use Rattle.rbac_terms.specs.Keys.{KeyTexts, key_cmp, texts}
 use Rattle.rbac_model.specs.Policies.{Held}
-use Rattle.rbac_model.specs.Universes.{UniverseView, IsUniverse, Listed, Cell, RowView, IsMatrix, IsCellOf, Fits, cell_key, rows_after, target_texts}
+use Rattle.rbac_model.specs.Universes.{UniverseView, IsUniverse, Cell, RowView, cell_key, rows_after, target_texts}
 use Rattle.rbac_universe.proofs.Flattened.{contains_flat, contains_map, here, there}
 use Rattle.rbac_matrix.specs.Cells.{AreRowsOf, cell_at, cells_of, line_cells, namespace_cells, principal_cells}
 use Rattle.rbac_matrix.specs.Lines.{LineView, cells_of_lines, line, line_cells_from, lines_from, namespace_lines, verb_lines}
@@ -49,8 +48,8 @@ pub start_rows : (h : Held) (u : UniverseView) (k : Option KeyTexts) (at : Place
 start_rows h u k at from rows s are =
     let split = rows_split h s.before (cells_left u at from) rows (subst (λ (cs : List Cell). AreRowsOf h cs rows) s.whole are) in
     let same : rows_after k rows ≡ split.1 = ap (rows_after k) split.4 ∙ all_rows h u at from split.0 split.1 k
-      (λ r w. let has = rows_sound h s.before split.0 split.2 r w in s.early r.cell has.0 has.1.0)
-      (λ r w. let has = rows_sound h (cells_left u at from) split.1 split.3 r w in s.late r.cell has.0 has.1.0) in
+    (λ r w. let has = rows_sound h s.before split.0 split.2 r w in s.early r.cell has.0 has.1.0)
+    (λ r w. let has = rows_sound h (cells_left u at from) split.1 split.3 r w in s.late r.cell has.0 has.1.0) in
     subst (λ (rs : List RowView). AreRowsOf h (cells_left u at from) rs) (sym same) split.3
 
 -- ---- requests that stand on one side or the other
@@ -172,7 +171,7 @@ module _ (u : UniverseView) where
   later_names p n v who ns b =
       flat_map-append (line_cells_from u 0) (namespace_lines u n v who) (lines_from u (place (p + 1) 0 0))
       ∙ ap (λ (cs : List Cell). cs ++ flat_map (line_cells_from u 0) (lines_from u (place (p + 1) 0 0)))
-        (ap (flat_map (line_cells_from u 0)) (namespaces_at u who n v ns b) ∙ flat_map-append (line_cells_from u 0) (verb_lines u who v ns) (namespace_lines u (n + 1) 0 who))
+      (ap (flat_map (line_cells_from u 0)) (namespaces_at u who n v ns b) ∙ flat_map-append (line_cells_from u 0) (verb_lines u who v ns) (namespace_lines u (n + 1) 0 who))
       ∙ rw (verbs_flat who ns v, names_flat who (n + 1), all_flat (p + 1)) refl
 
   pub left_of_verb : (p n v : ℕ) (who : Who) (ns : Text) (at : Place) → slice_get u.principals p ≡ Some who → slice_get u.namespaces n ≡ Some ns → lines_from u at ≡ lines_from u (place p n v) → cells_left u at 0 ≡ (flat_map (line_cells u who ns) (drop v u.verbs) ++ flat_map (namespace_cells u who) (drop (n + 1) u.namespaces)) ++ flat_map (principal_cells u) (drop (p + 1) u.principals)
@@ -188,8 +187,8 @@ module _ (u : UniverseView) where
       ap (cells_of_lines u from) (line_first u p n v who ns verb a b c)
       ∙ ap (λ (cs : List Cell). line_cells_from u from (line who ns verb) ++ cs) (ap (flat_map (line_cells_from u 0)) (lines_of_principal u p n (v + 1) who a) ∙ later_names p n (v + 1) who ns b)
       ∙ rw (line_cells_are from (line who ns verb)) (
-        sym (append_assoc (map (cell_at who ns verb) (drop from u.targets)) (flat_map (line_cells u who ns) (drop (v + 1) u.verbs) ++ flat_map (namespace_cells u who) (drop (n + 1) u.namespaces)) (flat_map (principal_cells u) (drop (p + 1) u.principals)))
-        ∙ ap (λ (cs : List Cell). cs ++ flat_map (principal_cells u) (drop (p + 1) u.principals)) (sym (append_assoc (map (cell_at who ns verb) (drop from u.targets)) (flat_map (line_cells u who ns) (drop (v + 1) u.verbs)) (flat_map (namespace_cells u who) (drop (n + 1) u.namespaces))))
+      sym (append_assoc (map (cell_at who ns verb) (drop from u.targets)) (flat_map (line_cells u who ns) (drop (v + 1) u.verbs) ++ flat_map (namespace_cells u who) (drop (n + 1) u.namespaces)) (flat_map (principal_cells u) (drop (p + 1) u.principals)))
+      ∙ ap (λ (cs : List Cell). cs ++ flat_map (principal_cells u) (drop (p + 1) u.principals)) (sym (append_assoc (map (cell_at who ns verb) (drop from u.targets)) (flat_map (line_cells u who ns) (drop (v + 1) u.verbs)) (flat_map (namespace_cells u who) (drop (n + 1) u.namespaces))))
       )
 
   -- ---- the cuts

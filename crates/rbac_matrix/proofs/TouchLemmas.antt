@@ -1,13 +1,12 @@
 -- how many entries the reaches of a line's cursors have
-use Rattle.std.proofs.Common.{◌≡◌, ℕ, zero, suc, ◌+◌, ◌-◌, ◌*◌, ◌<◌, ◌≤◌, ◌⊎◌, List, [], ◌∷◌, ◌++◌, length, get_or, map, sum_by, refl, ap, ◌∙◌, sym, arith, subst, inl, inr, append_assoc}
+use Rattle.std.proofs.Common.{◌≡◌, ℕ, suc, ◌+◌, ◌-◌, ◌*◌, ◌<◌, ◌≤◌, ◌⊎◌, List, [], ◌∷◌, ◌++◌, length, get_or, map, sum_by, refl, ap, ◌∙◌, sym, arith, subst, inl, inr, append_assoc}
 use Rattle.std.specs.Prelude.{Some, slice_get}
 use Rattle.std.specs.List.{flat_map}
 use Rattle.std.specs.List.Sorted.{IsStrictlyIncreasing}
 use Rattle.std.proofs.lemmas.Bool.{cases_lt, cases_eq}
-use Rattle.std.proofs.lemmas.List.{get_or_default, get_or_past}
 use Rattle.std.proofs.lemmas.List.Sums.{sum_by-cons}
 use Rattle.std.proofs.lemmas.List.Elements.{Contains-get_or}
-use Rattle.std.proofs.lemmas.Option.{same_Some, slice_get-get_or}
+use Rattle.std.proofs.lemmas.Option.{same_Some}
 use Rattle.rbac_terms.specs.Matching.{TargetOk}
 use Rattle.rbac_model.specs.Lists.{IsCount}
 use Rattle.rbac_model.specs.Policies.{PolicyView, IsPolicy, GrantView}
@@ -18,10 +17,9 @@ use Rattle.rbac_index.specs.Reaches.{AreReaches, raised}
 use Rattle.rbac_matrix.specs.Metering.{AreTouched, IsMetered}
 use Rattle.rbac_matrix.specs.declared.line.Place.{Place}
 use Rattle.rbac_matrix.specs.declared.seat.Seat.{Seat}
-use Rattle.rbac_matrix.specs.Seats.{ArePast, AreEmpty, AreSeated, Costs, IsSeated, empty_seat, passed, past_all, reach_at, seat_at, stand_of, standing}
+use Rattle.rbac_matrix.specs.Seats.{ArePast, AreEmpty, AreSeated, Costs, IsSeated, passed, past_all, reach_at, seat_at, stand_of, standing}
 use Rattle.rbac_matrix.proofs.SeekLemmas.{ascends, raised-raised}
 use Rattle.rbac_matrix.proofs.SeatLemmas.{empty_passed, empty_standing, past_standing, stands_within}
-use Rattle.rbac_matrix.proofs.LoopLemmas.{cursor_within}
 use Rattle.rbac_matrix.proofs.LineLemmas.{in_matches, place_within, reach_up}
 use Rattle.rbac_matrix.proofs.PassLemmas.{read_at}
 
@@ -57,25 +55,25 @@ places_few P (x ∷ xs) from (u ∷ r) n up at h = elim (cases_eq u from) [
       elim h [
         | inl has ↦
             let rest = places_few P xs (from + 1) r has.1.0 (tail_up u r up)
-              (λ i lt.
-              let later : u < get_or r i 0 = ascends (u ∷ r) up 0 (suc i) (omega arith) (omega arith) in
-              let known = at (suc i) (omega arith) in
-              let step : get_or r i 0 - from ≡ suc (get_or r i 0 - (from + 1)) = omega arith in
-              (omega arith, (known.1.0, rw step at known.1.1, known.1.2)))
-              has.1.2 in
+            (λ i lt.
+            let later : u < get_or r i 0 = ascends (u ∷ r) up 0 (suc i) (omega arith) (omega arith) in
+            let known = at (suc i) (omega arith) in
+            let step : get_or r i 0 - from ≡ suc (get_or r i 0 - (from + 1)) = omega arith in
+            (omega arith, (known.1.0, rw step at known.1.1, known.1.2)))
+            has.1.2 in
             omega (arith, has.1.1)
         | inr lacks ↦ absurd (lacks.0 (subst P (sym here) first.1.2))
       ]
   | inr ne ↦
       let low : from ≤ u = (at 0 (omega arith)).0 in
       let moved : (i : ℕ) → i < length (u ∷ r) → (from + 1 ≤ get_or (u ∷ r) i 0) × ((y : _) × (slice_get xs (get_or (u ∷ r) i 0 - (from + 1)) ≡ Some y) × P y) = λ i lt.
-        let known = at i lt in
-        let above : from < get_or (u ∷ r) i 0 = elim (cases_lt 0 i) [
-          | inl some ↦ omega (arith, ascends (u ∷ r) up 0 i some lt)
-          | inr none ↦ let e : i ≡ 0 = omega arith in rw e (omega arith)
-        ] in
-        let step : get_or (u ∷ r) i 0 - from ≡ suc (get_or (u ∷ r) i 0 - (from + 1)) = omega arith in
-        (omega arith, (known.1.0, rw step at known.1.1, known.1.2)) in
+      let known = at i lt in
+      let above : from < get_or (u ∷ r) i 0 = elim (cases_lt 0 i) [
+        | inl some ↦ omega (arith, ascends (u ∷ r) up 0 i some lt)
+        | inr none ↦ let e : i ≡ 0 = omega arith in rw e (omega arith)
+      ] in
+      let step : get_or (u ∷ r) i 0 - from ≡ suc (get_or (u ∷ r) i 0 - (from + 1)) = omega arith in
+      (omega arith, (known.1.0, rw step at known.1.1, known.1.2)) in
       elim h [
         | inl has ↦ let rest = places_few P xs (from + 1) (u ∷ r) has.1.0 up moved has.1.2 in omega (arith, has.1.1)
         | inr lacks ↦ places_few P xs (from + 1) (u ∷ r) n up moved lacks.1

@@ -1,11 +1,11 @@
 -- An enumeration: the rows that it has left, and what holds of it between two calls.
-use Rattle.std.specs.Prelude.{◌≡◌, ℕ, ◌+◌, ◌*◌, ◌≤◌, ◌↔◌, List, [], ◌∷◌, ◌++◌, Option, Some, None, MatchOption, length}
+use Rattle.std.specs.Prelude.{◌≡◌, ℕ, ◌↔◌, List, [], ◌∷◌, ◌++◌, Option, MatchOption, length}
 use Rattle.std.specs.Iterator.{Count, at_most}
 use Rattle.rbac_model.specs.Policies.{IsPolicy}
 use Rattle.rbac_model.specs.Universes.{IsUniverse, RowView}
 use Rattle.rbac_matrix.specs.Cells.{AreRowsOf}
 use Rattle.rbac_matrix.specs.Lines.{LineView, lines_from}
-use Rattle.rbac_matrix.specs.Metering.{AreTouched, IsMetered, IsReady}
+use Rattle.rbac_matrix.specs.Metering.{IsMetered, IsReady}
 use Rattle.rbac_matrix.specs.Passing.{cells_left}
 use Rattle.rbac_index.specs.Reaches.{AreReaches, raised}
 use Rattle.rbac_matrix.specs.RowTexts.{Shows}

@@ -1,5 +1,5 @@
 -- How many entries an enumeration has read, between the rows given and the entries that its lines have.
-use Rattle.std.specs.Prelude.{◌≡◌, ℕ, ◌+◌, ◌*◌, ◌<◌, ◌≤◌, List, [], ◌∷◌, ◌++◌, length}
+use Rattle.std.specs.Prelude.{◌≡◌, ℕ, ◌+◌, ◌*◌, ◌≤◌, List, [], ◌∷◌, ◌++◌, length}
 use Rattle.std.specs.List.{flat_map}
 use Rattle.rbac_model.specs.Policies.{Held, PolicyView}
 use Rattle.rbac_model.specs.Universes.{UniverseView, IsCursor, AreTouches}

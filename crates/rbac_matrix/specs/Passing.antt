@@ -1,5 +1,5 @@
 -- How the requests of a universe are passed, and which rows they give.
-use Rattle.std.specs.Prelude.{◌≡◌, ℕ, ◌+◌, ◌<◌, Some, List, [], ◌∷◌, ◌++◌, slice_get, length}
+use Rattle.std.specs.Prelude.{◌≡◌, ℕ, ◌+◌, Some, List, [], ◌∷◌, ◌++◌, slice_get}
 use Rattle.rbac_model.specs.Policies.{Held, PolicyView, GrantView}
 use Rattle.rbac_model.specs.Universes.{UniverseView, Listed, Cell, RowView, Fits}
 use Rattle.rbac_matrix.specs.Cells.{AreRowsOf, cell_at}

@@ -1,4 +1,4 @@
-use Rattle.std.proofs.Common.{◌+◌, ◌<◌, ◌≤◌, length, arith, ap}
+use Rattle.std.proofs.Common.{◌+◌, ◌<◌, length, arith, ap}
 use Rattle.rbac_matrix.proofs.LinesLemmas.{after_namespaces_same, settled_place}
 use Rattle.rbac_matrix.proofs.line.after_namespaces.Goals as goal
 use Rattle.rbac_matrix.proofs.line.after_namespaces.Goals.{else-at-principals-via-then-at-principals+else-namespaces-at, else-at-principals-via-else-at-principals}

@@ -1,4 +1,4 @@
-use Rattle.std.proofs.Common.{◌<◌, ◌≤◌, length, arith, ap}
+use Rattle.std.proofs.Common.{length, arith, ap}
 use Rattle.rbac_matrix.proofs.LinesLemmas.{after_verbs_same}
 use Rattle.rbac_matrix.proofs.line.after_verbs.Goals as goal
 

@@ -1,4 +1,4 @@
-use Rattle.std.proofs.Common.{◌<◌, ◌≤◌, ap, length, arith}
+use Rattle.std.proofs.Common.{ap, length, arith}
 use Rattle.rbac_matrix.proofs.LinesLemmas.{line_first, read}
 use Rattle.rbac_matrix.proofs.line.line_at.Goals as goal
 

@@ -1,4 +1,4 @@
-use Rattle.std.proofs.Common.{◌≡◌, ◌+◌, ◌-◌, ◌*◌, ◌/◌, ◌<◌, ◌≤◌, ℕ, length, get_or, arith, sym}
+use Rattle.std.proofs.Common.{◌+◌, ◌-◌, ◌/◌, ◌<◌, ℕ, length, arith}
 use Rattle.rbac_matrix.proofs.SeekLemmas.{Halved-more, after_middle, before_middle}
 use Rattle.rbac_matrix.proofs.seat.seek.Goals as goal
 

@@ -1,4 +1,4 @@
-use Rattle.std.proofs.Common.{◌≡◌, ℕ, ◌<◌, length}
+use Rattle.std.proofs.Common.{◌≡◌, ℕ, ◌<◌}
 use Rattle.rbac_matrix.specs.Seats.{empty_seat, seat_at}
 use Rattle.rbac_matrix.proofs.seats.empty_all.Given as goal
 

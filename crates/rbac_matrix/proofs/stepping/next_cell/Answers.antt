@@ -19,7 +19,7 @@ returns-in-Some-next_in_line-clause-metered c = λ start sought given h.
 pub loop-line-preserved : goal.loop-line-preserved
 loop-line-preserved c =
     let line : lines_from c.args.universe.now c.loop-line.at ≡ line_of c.in-Some.line ∷ lines_from c.args.universe.now c.after.result =
-      c.in-Some.ensures.line ∙ ap (λ (ls : List LineView). line_of c.in-Some.line ∷ ls) (sym (ap (lines_from c.args.universe.now) c.after.ensures)) in
+    c.in-Some.ensures.line ∙ ap (λ (ls : List LineView). line_of c.in-Some.line ∷ ls) (sym (ap (lines_from c.args.universe.now) c.after.ensures)) in
     let ended = line_ends c.args.index.now.held c.args.universe.now c.loop-line.at c.after.result c.loop-line.from (line_of c.in-Some.line) line c.in_default-next_in_line.ensures.row.passes in
     let skipped = skips_pass c.args.index.now.held c.args.universe.now c.after.result c.next_line-at.result c.next_line-at.ensures.skips in
     record {

@@ -1,4 +1,4 @@
-use Rattle.std.proofs.Common.{◌≡◌, ℕ, ◌-◌, ◌≤◌, [], length}
+use Rattle.std.proofs.Common.{◌-◌, [], length}
 use Rattle.rbac_matrix.specs.Shown.{line_of}
 use Rattle.rbac_matrix.specs.Lines.{line_cells_from}
 use Rattle.rbac_matrix.specs.Passing.{Passes}

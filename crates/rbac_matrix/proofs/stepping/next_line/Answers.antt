@@ -20,7 +20,7 @@ loop-line-preserved c =
     let real = are_real c.args.index.now c.args.universe.now c.args.reaches.now (line_of c.in-Some.line) c.requires.policy c.targets-targets.ensures.ordered c.requires.reaches c.targets-targets.ensures.few.targets in
     let none = sym c.seat_line.ensures.filled ∙ nought c.seat_line.result c.if-seat_line-gt0.false in
     let line : lines_from c.args.universe.now c.loop-line.at ≡ line_of c.in-Some.line ∷ lines_from c.args.universe.now c.settled-at-in-Some.result =
-      c.in-Some.ensures.line ∙ ap (λ (ls : List LineView). line_of c.in-Some.line ∷ ls) (sym (c.settled-at-in-Some.ensures.same ∙ ap (lines_from c.args.universe.now) c.after.ensures)) in
+    c.in-Some.ensures.line ∙ ap (λ (ls : List LineView). line_of c.in-Some.line ∷ ls) (sym (c.settled-at-in-Some.ensures.same ∙ ap (lines_from c.args.universe.now) c.after.ensures)) in
     record {
       settled = c.settled-at-in-Some.ensures.settled;
       skips = skips_then c.args.index.now.held c.args.universe.now c.args.at c.loop-line.at c.settled-at-in-Some.result c.loop-line.invariant.skips
