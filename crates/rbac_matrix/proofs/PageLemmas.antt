@@ -17,10 +17,9 @@ use Rattle.rbac_streams.specs.Taken.{Prints, StopsIn}
 use Rattle.rbac_streams.proofs.TakenLemmas.{Prints-nil, Prints-trans}
 use Rattle.rbac_text.specs.Row.{newline, row_text}
 use Rattle.rbac_matrix.specs.Enumeration.{AreLeft, GivesRow}
-use Rattle.rbac_matrix.specs.Pages.{IsPageOf, StopsInPage, cut_at, last_words, next_words, page_text}
+use Rattle.rbac_matrix.specs.Pages.{IsPageOf, StopsInPage, cut_at, last_words, next_line, next_words, page_text}
 use Rattle.rbac_matrix.specs.Passing.{cells_left}
 use Rattle.rbac_matrix.specs.Printed.{rows_text}
-use Rattle.rbac_matrix.specs.Printing.{next_line}
 use Rattle.rbac_matrix.specs.RowTexts.{Shows, key_shown}
 use Rattle.rbac_matrix.specs.declared.enumeration.Rows.{Rows}
 use Rattle.rbac_matrix.specs.declared.row.Row.{Row}

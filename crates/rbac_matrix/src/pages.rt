@@ -6,8 +6,8 @@ ghost use Rattle.rbac_model.specs.Universes.{RowView};
 ghost use Rattle.rbac_streams.specs.Taken.{Prints};
 ghost use Rattle.rbac_text.specs.Row.{newline, row_text};
 ghost use Rattle.rbac_matrix.specs.Enumeration.{AreLeft, IsGoing};
-ghost use Rattle.rbac_matrix.specs.Pages.{StopsInPage, cut_at, next_words, page_text};
-ghost use Rattle.rbac_matrix.specs.Printing.{StopsBy, next_line};
+ghost use Rattle.rbac_matrix.specs.Pages.{StopsInPage, cut_at, next_line, next_words, page_text};
+ghost use Rattle.rbac_matrix.specs.Printed.{StopsBy};
 ghost use Rattle.rbac_matrix.specs.RowTexts.{key_shown};
 
 use crate::enumeration::Rows;
