@@ -199,13 +199,16 @@ def lines(table):
 
 
 def matrices(table):
-    """Matrices of an export, each with its rows or the fault that refuses it."""
+    """Matrices of an export, each with its rows, and pages of them, or the fault that refuses it."""
     for row in table:
         if 'fault' in row:
             wanted = 2, b'', b'rbacaudit: %s\n' % row['fault'].encode()
         else:
             wanted = 0, '\n'.join([*row['rows'], 'end', '']).encode(), b''
         expect('%s matrix' % row['rule'], ['matrix'], *wanted, given=export(*row['items']))
+        for options, page in row.get('pages', []):
+            expect('%s matrix %s' % (row['rule'], options), ['matrix', *options.split(' ')], 0,
+                   ''.join(l + '\n' for l in page).encode(), given=export(*row['items']))
 
 
 def documents(table):
