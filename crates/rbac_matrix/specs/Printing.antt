@@ -1,5 +1,10 @@
 -- What printing the rows of some requests did.
-use Rattle.std.specs.Prelude.{◌≡◌, ℕ, List, Option, true, false}
+use Rattle.std.specs.Prelude.{◌≡◌, ℕ, List, [], ◌∷◌, ◌++◌, codes, Option, Some, None, true, false}
+use Rattle.rbac_terms.specs.Text.{Text}
+use Rattle.rbac_text.specs.Row.{newline}
+use Rattle.rbac_matrix.specs.Pages.{next_words}
+use Rattle.rbac_matrix.specs.RowTexts.{key_shown}
+use Rattle.rbac_matrix.specs.declared.row.Row.{Row}
 use Rattle.rbac_model.specs.Policies.{Held}
 use Rattle.rbac_model.specs.Universes.{Cell, RowView}
 use Rattle.rbac_streams.specs.Streams.{SinkView, PageView}
@@ -30,3 +35,8 @@ pub record StopsBy {W : Type 0} (contents : W → Option (List ℕ)) (old : Sink
 pub record StopsInRows {W : Type 0} (contents : W → Option (List ℕ)) (old : SinkView W) (page : PageView) (new : SinkView W) (after : PageView) (h : Held) (cells : List Cell) (fault : PrintFault) : Type 0 where
   pub stops : StopsWithin contents old page new after (λ more. (rows : List RowView) × AreRowsOf h cells rows × (more ≡ rows_text rows))
   pub cause : IsStoppedBy fault new
+
+-- the last line of a page that more rows follow, by its last row
+abbrev pub next_line : Option Row → Text
+next_line (Some row) = next_words (key_shown row) ++ newline ∷ []
+next_line None = codes "end" ++ newline ∷ []
