@@ -47,6 +47,8 @@ def fault_in(text, crate):
             if fault:
                 return fault
             old = None
+    if old is not None:
+        return "an 'old:' line has no 'new:' line"
     return None if texts else "it has no 'old:' and 'new:' pair"
 
 
@@ -68,7 +70,7 @@ def put(texts, crate, path, old, new):
 
 
 def edits():
-    """Each file of the two folders, but texts that are only to be read, and each edit that lies elsewhere."""
+    """Each file of the two folders, but .md files, and each edit that lies elsewhere."""
     for folder, folders, names in sorted(os.walk(os.path.join(TOP, 'crates'))):
         folders[:] = [name for name in folders if name != 'out']
         for name in sorted(names):

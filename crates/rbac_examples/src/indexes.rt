@@ -1,343 +1,150 @@
-//! What an index tells of a policy: candidates, holders, and why a request is allowed; and how the
-//! fields of such lines are printed.
+//! The index beside the policy that it is made of, at every request of a universe.
 
-use crate::fixtures::{self, Named, RuleRow, binding, cluster_role, rules};
-use crate::principals::user;
-use crate::requests::resource;
-use crate::words::word;
-use rbac_index::{Holders, Index, IndexFault, why_allowed};
-use rbac_model::{Object, Policy};
-use rbac_terms::{ModelFault, Principal, RoleRef, Target, Word};
-use rbac_text::{put_field, put_place};
+use crate::exports::{loaded, universe};
+use crate::words::is;
+use rbac_index::Index;
+use rbac_model::Policy;
+use rbac_terms::{Principal, Target, Word};
+use rbac_text::put_place;
+use rbac_universe::Universe;
 use std::alloc::{AllocError, Global};
 use std::process::Abort;
 use std::test::Fail;
 
-// Namespace, name, the cluster role that it binds, and whom it names.
-type BindingRow<'a> = (Option<&'a str>, &'a str, &'a str, &'a [Named<'a>]);
+const FOUR_RULES: &str = r#"{"apiVersion":"v1","kind":"List","items":[
+  {"apiVersion":"rbac.authorization.k8s.io/v1","kind":"ClusterRole","metadata":{"name":"r"},"rules":[
+    {"verbs":["get"],"apiGroups":[""],"resources":["*"]},
+    {"verbs":["*"],"apiGroups":["*"],"resources":["pods"]},
+    {"verbs":["list"],"apiGroups":[""],"resources":["pods"]},
+    {"verbs":["get","*","get"],"apiGroups":[""],"resources":["pods/log","*/log"]}]},
+  {"apiVersion":"rbac.authorization.k8s.io/v1","kind":"ClusterRoleBinding","metadata":{"name":"b"},
+   "roleRef":{"kind":"ClusterRole","name":"r"},"subjects":[{"kind":"User","name":"alice"}]},
+  {"apiVersion":"rbacaudit/v1","kind":"Universe","verbs":["get","list"],"names":[""],"urls":["/x"],
+   "resources":[{"resource":"nodes"},{"resource":"pods"},{"resource":"pods/log"}]}
+]}"#;
 
-fn bound(alloc: Global, row: &BindingRow<'_>) -> Result<Object, AllocError> {
-    let (namespace, name, role, named) = *row;
-    let role = RoleRef::ClusterRole(word(alloc, role)?);
-    binding(alloc, namespace, name, role, named)
-}
+// Stands after the candidates of each request.
+const END: u32 = 100;
 
-fn objects(
-    alloc: Global,
-    rows: &[RuleRow<'_>],
-    bindings: &[BindingRow<'_>],
-) -> Result<Vec<Object>, AllocError> {
-    let mut given = Vec::new(alloc);
-    given.push(cluster_role(alloc, "r", rules(alloc, rows)?)?)?;
-    for row in bindings {
-        given.push(bound(alloc, row)?)?;
-    }
-    Ok(given)
-}
-
-// The cluster role `r` with these rules, and these bindings.
-fn policy(
-    alloc: Global,
-    rows: &[RuleRow<'_>],
-    bindings: &[BindingRow<'_>],
-) -> Result<Policy, Fail> {
-    fixtures::policy(alloc, objects(alloc, rows, bindings)?)
-}
-
-#[derive(Drop)]
-struct Request {
-    asker: Principal,
-    namespace: Word,
-    verb: Word,
-    target: Target,
-}
-
-// A resource of the core group without a name, or a URL.
-fn target(alloc: Global, text: &str) -> Result<Target, ModelFault> {
-    if text.as_bytes().first() == Some(&b'/') {
-        return Target::url(alloc, word(alloc, text)?);
-    }
-    resource(alloc, "", text, "")
-}
-
-fn request_of(
-    alloc: Global,
-    name: &str,
-    namespace: &str,
-    verb: &str,
-    text: &str,
-) -> Result<Request, ModelFault> {
-    Ok(Request {
-        asker: user(alloc, name, &[])?,
-        namespace: word(alloc, namespace)?,
-        verb: word(alloc, verb)?,
-        target: target(alloc, text)?,
-    })
-}
-
-// Whether these are the numbers of the grants that allow the verb on the target.
-fn are_candidates(
-    rt: &impl Abort,
-    alloc: Global,
-    index: &Index<'_>,
-    asked: &Request,
-    wanted: &[u32],
-) -> Result<(), IndexFault> {
-    let told = index.candidates(alloc, &asked.verb, &asked.target)?;
-    assert_eq!(rt; told.as_slice(), wanted);
-    Ok(())
-}
-
-// A verb, what it is used on, and the numbers of the grants that allow it.
-type CandidatesRow<'a> = (&'a str, &'a str, &'a [u32]);
-
-fn have_candidates(
-    rt: &impl Abort,
-    alloc: Global,
-    index: &Index<'_>,
-    rows: &[CandidatesRow<'_>],
-) -> Result<(), Fail> {
-    for (verb, text, wanted) in rows {
-        let asked = request_of(alloc, "alice", "", verb, text)?;
-        are_candidates(rt, alloc, index, &asked, wanted)?;
-    }
-    Ok(())
-}
-
-const FOUR_RULES: &[RuleRow<'static>] = &[
-    [&["get"], &[""], &["*"]],
-    [&["*"], &["*"], &["pods"]],
-    [&["list"], &[""], &["pods"]],
-    [&["get"], &[""], &["pods/log", "*/log"]],
+// For get and then for list, the numbers of the grants that allow it on `/x`, nodes, pods and pods/log.
+const CANDIDATES: &[u32] = &[
+    END, 0, END, 0, 1, END, 0, 3, END, END, END, 1, 2, END, 3, END,
 ];
 
-const TO_ALICE: &[BindingRow<'static>] = &[(None, "b", "r", &[Named::User("alice")])];
+// The candidates of all requests of the universe, verb by verb and target by target.
+fn all_candidates(alloc: Global, index: &Index<'_>, universe: &Universe) -> Result<Vec<u32>, Fail> {
+    let mut all = Vec::new(alloc);
+    for verb in universe.verbs() {
+        for target in universe.targets() {
+            all.extend_from_slice(index.candidates(alloc, verb, target)?.as_slice())?;
+            all.push(END)?;
+        }
+    }
+    Ok(all)
+}
+
+// Whether each grant is by the one binding and by the rule of its number.
+fn are_by_their_rules(index: &Index<'_>) -> bool {
+    for no in 0..index.len() {
+        let grant = index.grant(no);
+        if grant.place != no as usize || !is(&grant.binding.name, "b") {
+            return false;
+        }
+    }
+    true
+}
 
 #[test]
 fn candidates_are_the_grants_whose_rule_allows(rt: HostRuntime) -> Result<(), Fail> {
-    let policy = policy(rt.alloc(), FOUR_RULES, TO_ALICE)?;
-    let index = Index::build(rt.alloc(), &policy)?;
-    assert_eq!(rt; index.len(), 4);
-    let rows: &[CandidatesRow<'_>] = &[
-        ("get", "pods", &[0, 1]),
-        ("get", "pods/log", &[0, 3]),
-        ("list", "pods", &[1, 2]),
-        ("list", "nodes", &[]),
-        ("get", "/x", &[]),
-    ];
-    have_candidates(&rt, rt.alloc(), &index, rows)
-}
-
-const REPEATS: &[RuleRow<'static>] = &[[&["get", "*", "get"], &[""], &["pods", "*"]]];
-
-// Whether the only grant is by the first rule and the binding `b`.
-fn has_one_grant(rt: &impl Abort, index: &Index<'_>) {
-    assert_eq!(rt; index.len(), 1);
-    let grant = index.grant(0);
-    assert_eq!(rt; grant.binding.name.as_bytes(), b"b".as_slice());
-    assert_eq!(rt; grant.place, 0);
-}
-
-#[test]
-fn a_rule_of_many_words_is_one_grant(rt: HostRuntime) -> Result<(), Fail> {
-    let policy = policy(rt.alloc(), REPEATS, TO_ALICE)?;
-    let index = Index::build(rt.alloc(), &policy)?;
-    has_one_grant(&rt, &index);
-    have_candidates(&rt, rt.alloc(), &index, &[("get", "pods", &[0])])
-}
-
-const GETS_PODS: &[RuleRow<'static>] = &[[&["get"], &[""], &["pods"]]];
-
-const WIDE_AND_NARROW: &[BindingRow<'static>] = &[
-    (None, "a", "r", &[Named::Group("dev"), Named::User("alice")]),
-    (
-        Some("dev"),
-        "b",
-        "r",
-        &[Named::User("alice"), Named::Account("ci")],
-    ),
-];
-
-fn holders<'p>(
-    alloc: Global,
-    index: &Index<'p>,
-    asked: &Request,
-) -> Result<Holders<'p>, IndexFault> {
-    index.who_can(alloc, &asked.namespace, &asked.verb, &asked.target)
-}
-
-// Whether these are the holders of the wanted keys, by bindings of the wanted names.
-fn are_holders(rt: &impl Abort, told: &Holders<'_>, wanted: &[(&str, &str)]) {
-    assert_eq!(rt; told.len(), wanted.len());
-    for place in 0..told.len() {
-        let holder = told.get(place);
-        let (key, binding) = wanted[place];
-        assert_eq!(rt; holder.principal.as_bytes(), key.as_bytes());
-        assert_eq!(rt; holder.binding.name.as_bytes(), binding.as_bytes());
-    }
-}
-
-// Whether these get pods in this namespace.
-fn get_pods(
-    rt: &impl Abort,
-    alloc: Global,
-    index: &Index<'_>,
-    namespace: &str,
-    wanted: &[(&str, &str)],
-) -> Result<(), Fail> {
-    let asked = request_of(alloc, "alice", namespace, "get", "pods")?;
-    are_holders(rt, &holders(alloc, index, &asked)?, wanted);
+    let loaded = loaded(rt.alloc(), FOUR_RULES)?;
+    let index = Index::build(rt.alloc(), loaded.policy())?;
+    assert!(rt; index.len() == 4 && are_by_their_rules(&index));
+    let universe = universe(rt.alloc(), &loaded)?;
+    let told = all_candidates(rt.alloc(), &index, &universe)?;
+    assert!(rt; told.as_slice() == CANDIDATES);
     Ok(())
 }
 
-const HOLDERS: &[(&str, &str)] = &[
-    ("g:dev", "a"),
-    ("u:alice", "a"),
-    ("u:system:serviceaccount:dev:ci", "b"),
-];
-
-#[test]
-fn holders_stand_once_by_their_first_binding(rt: HostRuntime) -> Result<(), Fail> {
-    let policy = policy(rt.alloc(), GETS_PODS, WIDE_AND_NARROW)?;
-    let index = Index::build(rt.alloc(), &policy)?;
-    get_pods(&rt, rt.alloc(), &index, "dev", HOLDERS)?;
-    get_pods(&rt, rt.alloc(), &index, "", &HOLDERS[..2])
-}
-
-// The first binding has no role that is held.
-const AMONG_OTHERS: &[BindingRow<'static>] = &[
-    (None, "a", "missing", &[Named::User("bob")]),
-    (None, "z", "r", &[Named::User("alice")]),
-    (Some("dev"), "a", "r", &[Named::User("alice")]),
-    (
-        Some("qa"),
-        "b",
-        "r",
-        &[Named::User("alice"), Named::User("bob")],
-    ),
-];
+// The first binding has no role that is held; tests/rows.json has the matrix of this export.
+const AMONG_OTHERS: &str = r#"{"apiVersion":"v1","kind":"List","items":[
+  {"apiVersion":"rbac.authorization.k8s.io/v1","kind":"ClusterRole","metadata":{"name":"r"},"rules":[
+    {"verbs":["get"],"apiGroups":[""],"resources":["pods"]}]},
+  {"apiVersion":"rbac.authorization.k8s.io/v1","kind":"ClusterRoleBinding","metadata":{"name":"a"},
+   "roleRef":{"kind":"ClusterRole","name":"missing"},"subjects":[{"kind":"User","name":"bob"}]},
+  {"apiVersion":"rbac.authorization.k8s.io/v1","kind":"ClusterRoleBinding","metadata":{"name":"z"},
+   "roleRef":{"kind":"ClusterRole","name":"r"},"subjects":[{"kind":"User","name":"alice"}]},
+  {"apiVersion":"rbac.authorization.k8s.io/v1","kind":"RoleBinding",
+   "metadata":{"namespace":"dev","name":"a"},
+   "roleRef":{"kind":"ClusterRole","name":"r"},"subjects":[{"kind":"User","name":"alice"}]},
+  {"apiVersion":"rbac.authorization.k8s.io/v1","kind":"RoleBinding",
+   "metadata":{"namespace":"qa","name":"b"},"roleRef":{"kind":"ClusterRole","name":"r"},
+   "subjects":[{"kind":"User","name":"alice"},{"kind":"User","name":"bob"}]},
+  {"apiVersion":"rbacaudit/v1","kind":"Universe","namespaces":["","dev","qa"],
+   "verbs":["get","list"],"names":[""],"urls":["/healthz"],
+   "resources":[{"resource":"pods"},{"resource":"secrets"}]}
+]}"#;
 
 // The name of the binding that lets this, as the index tells it.
-fn index_tells<'p>(index: &Index<'p>, asked: &Request) -> Option<&'p Word> {
-    let why = index.can_i(&asked.asker, &asked.namespace, &asked.verb, &asked.target)?;
-    Some(&why.binding.name)
+fn index_tells<'p>(
+    index: &Index<'p>,
+    asker: &Principal,
+    namespace: &Word,
+    verb: &Word,
+    target: &Target,
+) -> Option<&'p Word> {
+    Some(&index.can_i(asker, namespace, verb, target)?.binding.name)
 }
 
-fn policy_tells<'p>(policy: &'p Policy, asked: &Request) -> Option<&'p Word> {
-    let first = policy.first(&asked.asker, &asked.namespace, &asked.verb, &asked.target)?;
-    Some(&first.name)
+fn policy_tells<'p>(
+    policy: &'p Policy,
+    asker: &Principal,
+    namespace: &Word,
+    verb: &Word,
+    target: &Target,
+) -> Option<&'p Word> {
+    Some(&policy.first(asker, namespace, verb, target)?.name)
 }
 
-fn policy_allows(policy: &Policy, asked: &Request) -> bool {
-    policy.allows(&asked.asker, &asked.namespace, &asked.verb, &asked.target)
-}
-
-// Whether the binding of the wanted name lets this, as the index and the plain test tell it; none
-// where nothing does.
+// Whether the index, the first binding that grants, and the plain test say the same of this user
+// and namespace; and in how many requests it is yes.
 fn agree(
     rt: &impl Abort,
     policy: &Policy,
     index: &Index<'_>,
-    asked: &Request,
-    wanted: Option<&str>,
-) {
-    let told = index_tells(index, asked);
-    assert_eq!(rt;
-        told.map(|name| name.as_bytes()),
-        wanted.map(|name| name.as_bytes())
-    );
-    assert!(rt; told == policy_tells(policy, asked));
-    assert_eq!(rt; told.is_some(), policy_allows(policy, asked));
-}
-
-// A verb, what it is used on, and whether the role allows it.
-const USES: &[(&str, &str, bool)] = &[
-    ("get", "pods", true),
-    ("list", "pods", false),
-    ("get", "secrets", false),
-    ("list", "secrets", false),
-    ("get", "/healthz", false),
-];
-
-// A user, a namespace, and the binding by which the user has the role there.
-type AskerRow<'a> = (&'a str, &'a str, Option<&'a str>);
-
-fn agree_for(
-    rt: &impl Abort,
-    alloc: Global,
-    policy: &Policy,
-    index: &Index<'_>,
-    row: &AskerRow<'_>,
-) -> Result<(), Fail> {
-    let (name, namespace, binding) = *row;
-    for (verb, text, allowed) in USES {
-        let asked = request_of(alloc, name, namespace, verb, text)?;
-        let wanted = if *allowed { binding } else { None };
-        agree(rt, policy, index, &asked, wanted);
+    universe: &Universe,
+    asker: &Principal,
+    namespace: &Word,
+) -> u32 {
+    let mut granted = 0u32;
+    for verb in universe.verbs() {
+        for target in universe.targets() {
+            let told = index_tells(index, asker, namespace, verb, target);
+            assert!(rt; told == policy_tells(policy, asker, namespace, verb, target));
+            assert!(rt; told.is_some() == policy.allows(asker, namespace, verb, target));
+            granted = granted.saturating_add(u32::from(told.is_some()));
+        }
     }
-    Ok(())
+    granted
 }
 
-const ASKERS: &[AskerRow<'static>] = &[
-    ("alice", "", Some("z")),
-    ("alice", "dev", Some("z")),
-    ("alice", "qa", Some("z")),
-    ("bob", "", None),
-    ("bob", "dev", None),
-    ("bob", "qa", Some("b")),
-];
+fn agree_in_all(rt: &impl Abort, policy: &Policy, index: &Index<'_>, universe: &Universe) -> u32 {
+    let mut granted = 0u32;
+    for asker in universe.principals() {
+        for namespace in universe.namespaces() {
+            let more = agree(rt, policy, index, universe, asker, namespace);
+            granted = granted.saturating_add(more);
+        }
+    }
+    granted
+}
 
 #[test]
 fn the_index_and_the_plain_test_agree(rt: HostRuntime) -> Result<(), Fail> {
-    let policy = policy(rt.alloc(), GETS_PODS, AMONG_OTHERS)?;
-    let index = Index::build(rt.alloc(), &policy)?;
-    for row in ASKERS {
-        agree_for(&rt, rt.alloc(), &policy, &index, row)?;
-    }
-    Ok(())
-}
-
-const LAST_ALLOWS: &[RuleRow<'static>] = &[
-    [&["list"], &[""], &["pods"]],
-    [&["get"], &[""], &["secrets"]],
-    [&["get"], &[""], &["*"]],
-];
-
-const TO_ALL: &[BindingRow<'static>] = &[(
-    Some("dev"),
-    "b",
-    "r",
-    &[
-        Named::User("bob"),
-        Named::Group("ops"),
-        Named::User("alice"),
-        Named::Group("system:authenticated"),
-    ],
-)];
-
-// The places of the rule and of the subject by which this user gets pods.
-fn places(
-    alloc: Global,
-    policy: &Policy,
-    name: &str,
-) -> Result<Option<(usize, usize)>, ModelFault> {
-    let asked = request_of(alloc, name, "dev", "get", "pods")?;
-    let why = why_allowed(
-        policy,
-        &asked.asker,
-        &asked.namespace,
-        &asked.verb,
-        &asked.target,
-    );
-    Ok(why.map(|why| (why.rule_place, why.subject_place)))
-}
-
-#[test]
-fn a_reason_is_the_first_rule_and_the_first_subject(rt: HostRuntime) -> Result<(), Fail> {
-    let policy = policy(rt.alloc(), LAST_ALLOWS, TO_ALL)?;
-    for (name, wanted) in [("bob", (2, 0)), ("alice", (2, 2)), ("carol", (2, 3))] {
-        assert_eq!(rt; places(rt.alloc(), &policy, name), Ok(Some(wanted)));
-    }
+    let loaded = loaded(rt.alloc(), AMONG_OTHERS)?;
+    let index = Index::build(rt.alloc(), loaded.policy())?;
+    let universe = universe(rt.alloc(), &loaded)?;
+    // Alice gets pods in each namespace, and bob in the last one.
+    assert!(rt; agree_in_all(&rt, loaded.policy(), &index, &universe) == 4);
     Ok(())
 }
 
@@ -347,31 +154,9 @@ fn printed_place(alloc: Global, place: usize) -> Result<Vec<u8>, AllocError> {
     Ok(line)
 }
 
-fn printed_field(alloc: Global, field: &str) -> Result<Vec<u8>, AllocError> {
-    let mut line = Vec::new(alloc);
-    put_field(&mut line, field.as_bytes())?;
-    Ok(line)
-}
-
 #[test]
-fn places_are_printed_from_one(rt: HostRuntime) -> Result<(), Fail> {
-    for (place, wanted) in [(0, "1"), (usize::MAX, "18446744073709551616")] {
-        let told = printed_place(rt.alloc(), place)?;
-        assert_eq!(rt; told.as_slice(), wanted.as_bytes());
-    }
-    Ok(())
-}
-
-#[test]
-fn fields_are_printed_in_one_spelling(rt: HostRuntime) -> Result<(), Fail> {
-    for (field, wanted) in [
-        ("", "-"),
-        ("-", "\\x2d"),
-        ("a\tb", "a\\x09b"),
-        ("c\\d", "c\\\\d"),
-    ] {
-        let told = printed_field(rt.alloc(), field)?;
-        assert_eq!(rt; told.as_slice(), wanted.as_bytes());
-    }
+fn the_last_place_is_printed_in_full(rt: HostRuntime) -> Result<(), Fail> {
+    let told = printed_place(rt.alloc(), usize::MAX)?;
+    assert!(rt; told.as_slice() == "18446744073709551616".as_bytes());
     Ok(())
 }

@@ -1,8 +1,10 @@
-//! Worked examples as tests over the crates' public calls; tests/rows.json has those of whole commands.
+//! Worked examples as tests over single public calls; tests/rows.json has all that a command shows.
 #![tactic(auto)]
 
 #[cfg(test)]
-mod fixtures;
+mod catalogues;
+#[cfg(test)]
+mod exports;
 #[cfg(test)]
 mod indexes;
 #[cfg(test)]
@@ -10,22 +12,10 @@ mod matching;
 #[cfg(test)]
 mod objects;
 #[cfg(test)]
-mod principals;
-#[cfg(test)]
-mod questions;
-#[cfg(test)]
 mod reaching;
 #[cfg(test)]
 mod requests;
 #[cfg(test)]
-mod running;
-#[cfg(test)]
-mod scopes;
-#[cfg(test)]
 mod streams;
-#[cfg(test)]
-mod subjects;
-#[cfg(test)]
-mod universes;
 #[cfg(test)]
 mod words;

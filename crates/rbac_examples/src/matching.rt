@@ -5,7 +5,6 @@ use rbac_terms::{
     Rule, Words, group_matches, name_matches, resource_matches, url_matches, verb_matches,
 };
 use std::alloc::{AllocError, Global};
-use std::process::Abort;
 use std::test::Fail;
 
 // The list of a rule that is asked.
@@ -49,84 +48,58 @@ fn told(alloc: Global, part: Part, listed: &[&str], text: &str) -> Result<bool, 
     })
 }
 
-// The words of a rule, a text, and whether they match it.
-type Row<'a> = (&'a [&'a str], &'a str, bool);
+// The list of a rule, its words, a text, and whether they match it.
+type Row<'a> = (Part, &'a [&'a str], &'a str, bool);
 
-fn hold(rt: &impl Abort, alloc: Global, part: Part, rows: &[Row<'_>]) -> Result<(), Fail> {
-    for (listed, text, wanted) in rows {
-        assert_eq!(rt; told(alloc, part, listed, text)?, *wanted, "{text}");
+const ROWS: &[Row<'static>] = &[
+    // A verb is matched by itself or a star.
+    (Part::Verbs, &["get"], "get", true),
+    (Part::Verbs, &["list", "get"], "get", true),
+    (Part::Verbs, &["*"], "get", true),
+    (Part::Verbs, &["list"], "get", false),
+    (Part::Verbs, &["g*"], "get", false),
+    (Part::Verbs, &[], "get", false),
+    // The core group is matched by the empty text or a star.
+    (Part::Groups, &[""], "", true),
+    (Part::Groups, &["*"], "", true),
+    (Part::Groups, &["apps"], "", false),
+    (Part::Groups, &["", "apps"], "apps", true),
+    (Part::Groups, &["*"], "apps", true),
+    (Part::Groups, &[""], "apps", false),
+    (Part::Groups, &[], "", false),
+    // A subresource is matched by its own words alone.
+    (Part::Resources, &["pods"], "pods", true),
+    (Part::Resources, &["pods"], "pods/log", false),
+    (Part::Resources, &["pods/log"], "pods/log", true),
+    (Part::Resources, &["pods/log"], "pods", false),
+    (Part::Resources, &["*"], "pods/log", true),
+    (Part::Resources, &["*/scale"], "deployments/scale", true),
+    (Part::Resources, &["*/scale"], "x/autoscale", false),
+    (Part::Resources, &["*/scale"], "scale", false),
+    (Part::Resources, &["pods/*"], "pods/log", false),
+    // No names match every name.
+    (Part::Names, &["b", "a"], "a", true),
+    (Part::Names, &["b"], "a", false),
+    (Part::Names, &["b"], "", false),
+    (Part::Names, &["*"], "a", false),
+    (Part::Names, &[], "a", true),
+    (Part::Names, &[], "", true),
+    // Stars at the end of a URL word stand for any end.
+    (Part::Urls, &["/healthz/**"], "/healthz/", true),
+    (Part::Urls, &["/healthz/**"], "/healthz/x", true),
+    (Part::Urls, &["/healthz/**"], "/healthz", false),
+    (Part::Urls, &["/healthz*"], "/healthz", true),
+    (Part::Urls, &["*"], "/healthz", true),
+    (Part::Urls, &["/healthz"], "/healthz", true),
+    (Part::Urls, &["/healthz"], "/healthz/x", false),
+    (Part::Urls, &["/*z"], "/healthz", false),
+    (Part::Urls, &[], "/healthz", false),
+];
+
+#[test]
+fn words_of_a_rule_match_what_they_stand_for(rt: HostRuntime) -> Result<(), Fail> {
+    for (part, listed, text, wanted) in ROWS {
+        assert!(rt; told(rt.alloc(), *part, listed, text)? == *wanted, "{text}");
     }
     Ok(())
-}
-
-#[test]
-fn a_verb_is_matched_by_itself_or_a_star(rt: HostRuntime) -> Result<(), Fail> {
-    let rows: &[Row<'_>] = &[
-        (&["get"], "get", true),
-        (&["list", "get"], "get", true),
-        (&["*"], "get", true),
-        (&["list"], "get", false),
-        (&["g*"], "get", false),
-        (&[], "get", false),
-    ];
-    hold(&rt, rt.alloc(), Part::Verbs, rows)
-}
-
-#[test]
-fn the_core_group_is_matched_by_the_empty_text_or_a_star(rt: HostRuntime) -> Result<(), Fail> {
-    let rows: &[Row<'_>] = &[
-        (&[""], "", true),
-        (&["*"], "", true),
-        (&["apps"], "", false),
-        (&["", "apps"], "apps", true),
-        (&["*"], "apps", true),
-        (&[""], "apps", false),
-        (&[], "", false),
-    ];
-    hold(&rt, rt.alloc(), Part::Groups, rows)
-}
-
-#[test]
-fn a_subresource_is_matched_by_its_own_words_alone(rt: HostRuntime) -> Result<(), Fail> {
-    let rows: &[Row<'_>] = &[
-        (&["pods"], "pods", true),
-        (&["pods"], "pods/log", false),
-        (&["pods/log"], "pods/log", true),
-        (&["pods/log"], "pods", false),
-        (&["*"], "pods/log", true),
-        (&["*/scale"], "deployments/scale", true),
-        (&["*/scale"], "x/autoscale", false),
-        (&["*/scale"], "scale", false),
-        (&["pods/*"], "pods/log", false),
-    ];
-    hold(&rt, rt.alloc(), Part::Resources, rows)
-}
-
-#[test]
-fn no_names_match_every_name(rt: HostRuntime) -> Result<(), Fail> {
-    let rows: &[Row<'_>] = &[
-        (&["b", "a"], "a", true),
-        (&["b"], "a", false),
-        (&["b"], "", false),
-        (&["*"], "a", false),
-        (&[], "a", true),
-        (&[], "", true),
-    ];
-    hold(&rt, rt.alloc(), Part::Names, rows)
-}
-
-#[test]
-fn stars_at_the_end_of_a_url_stand_for_any_end(rt: HostRuntime) -> Result<(), Fail> {
-    let rows: &[Row<'_>] = &[
-        (&["/healthz/**"], "/healthz/", true),
-        (&["/healthz/**"], "/healthz/x", true),
-        (&["/healthz/**"], "/healthz", false),
-        (&["/healthz*"], "/healthz", true),
-        (&["*"], "/healthz", true),
-        (&["/healthz"], "/healthz", true),
-        (&["/healthz"], "/healthz/x", false),
-        (&["/*z"], "/healthz", false),
-        (&[], "/healthz", false),
-    ];
-    hold(&rt, rt.alloc(), Part::Urls, rows)
 }

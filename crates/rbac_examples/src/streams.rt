@@ -1,6 +1,6 @@
-//! Readers and writers that fail, and inputs at the limit.
+//! Readers and writers that fail.
 
-use rbac_cli::{Failed, InputFault, Sink, Source, read_file, read_input};
+use rbac_streams::{Failed, InputFault, Sink, Source, read_input};
 use std::io;
 use std::io::{ErrorKind, Read, Write};
 use std::test::Fail;
@@ -26,24 +26,10 @@ impl Read for Drip<'_> {
     }
 }
 
-// Gives this many spaces.
-#[derive(Drop)]
-struct Spaces {
-    left: usize,
-}
-
-impl Read for Spaces {
-    fn read(&mut self, buf: &mut [u8]) -> io::Result<usize> {
-        let most = buf.len().min(self.left);
-        buf[..most].fill(b' ');
-        self.left -= most;
-        Ok(most)
-    }
-}
-
-// Takes one byte at a time and is interrupted at call `fails_at`, from 1.
+// Takes `most` bytes at a time and is interrupted at call `fails_at`, from 1.
 #[derive(Drop)]
 struct Sip {
+    most: usize,
     calls: usize,
     fails_at: usize,
 }
@@ -54,7 +40,7 @@ impl Write for Sip {
         if self.calls == self.fails_at {
             return Err(io::Error::from(ErrorKind::Interrupted));
         }
-        Ok(buf.len().min(1))
+        Ok(buf.len().min(self.most))
     }
 
     fn flush(&mut self) -> io::Result<()> {
@@ -73,61 +59,35 @@ fn reads_until_the_end(rt: HostRuntime) -> Result<(), Fail> {
         });
         match read_input(rt.alloc(), &mut source) {
             Ok(input) => {
-                assert_eq!(rt; fails_at, 17);
-                assert_eq!(rt; input.as_bytes(), text.as_slice());
-                assert!(rt; !source.failed());
+                assert!(rt; fails_at == 17 && !source.failed());
+                assert!(rt; input.as_bytes() == text.as_slice());
             }
             Err(fault) => {
                 assert!(rt; fails_at < 17 && source.failed());
-                assert_eq!(rt; fault, InputFault::ReadFault);
+                assert!(rt; fault == InputFault::ReadFault);
                 // The reader would give a byte now, but it isn't called again.
-                assert_eq!(rt; source.read(&mut [0u8; 4]), Err(Failed));
+                assert!(rt; source.read(&mut [0u8; 4]) == Err(Failed));
             }
         }
     }
     Ok(())
 }
 
-#[test]
-fn takes_64_mebibytes_and_no_more(rt: HostRuntime) -> Result<(), Fail> {
-    let mut full = Source::new(Spaces { left: 67108864 });
-    assert_eq!(rt;
-        read_input(rt.alloc(), &mut full)?.as_bytes().len(),
-        67108864
-    );
-    assert!(rt; !full.failed());
-    let mut over = Source::new(Spaces { left: 67108865 });
-    assert_eq!(rt;
-        read_input(rt.alloc(), &mut over).err(),
-        Some(InputFault::TooLong)
-    );
-    assert!(rt; !over.failed());
-    Ok(())
-}
+// How many bytes a writer takes at a time, at which call it fails, and how many of four it has taken.
+const SIPS: &[(usize, usize, usize)] = &[(1, 4, 3), (0, 9, 0), (64, 1, 0)];
 
 #[test]
 fn a_failed_writer_stays_failed(rt: HostRuntime) {
-    let mut sink = Sink::new(Sip {
-        calls: 0,
-        fails_at: 4,
-    });
-    assert_eq!(rt; sink.put(b"yes\n"), Err(3));
-    assert!(rt; sink.failed());
-    // The writer would take a byte now, but it isn't called again.
-    assert_eq!(rt; sink.write(b"x"), Err(Failed));
-    assert_eq!(rt; sink.taken(), 3);
-}
-
-#[test]
-fn a_missing_file_is_a_read_fault(rt: HostRuntime) -> Result<(), Fail> {
-    let fault = read_file(&rt, rt.alloc(), "there is no such file").err();
-    assert_eq!(rt; fault, Some(InputFault::ReadFault));
-    for (fault, text) in [
-        (InputFault::ReadFault, "I1 read fault"),
-        (InputFault::TooLong, "I2 too long"),
-        (InputFault::NoMemory, "out of memory"),
-    ] {
-        assert_eq!(rt; format!(in rt.alloc(); "{fault}")?.as_str(), text);
+    for (most, fails_at, taken) in SIPS {
+        let mut sink = Sink::new(Sip {
+            most: *most,
+            calls: 0,
+            fails_at: *fails_at,
+        });
+        assert!(rt; sink.put(b"yes\n") == Err(*taken));
+        assert!(rt; sink.failed());
+        // The writer may take a byte now, but it isn't called again.
+        assert!(rt; sink.write(b"x") == Err(Failed));
+        assert!(rt; sink.taken() == *taken as u128);
     }
-    Ok(())
 }

@@ -2,7 +2,6 @@
 
 use rbac_terms::{Word, Words};
 use std::alloc::{AllocError, Global};
-use std::process::Abort;
 
 pub(crate) fn word(alloc: Global, text: &str) -> Result<Word, AllocError> {
     Word::from_slice(alloc, text.as_bytes())
@@ -16,10 +15,7 @@ pub(crate) fn words(alloc: Global, texts: &[&str]) -> Result<Words, AllocError> 
     Ok(Words::from_vec(all))
 }
 
-// Whether these are the wanted texts, in this order.
-pub(crate) fn are(rt: &impl Abort, told: &[Word], wanted: &[&str]) {
-    assert_eq!(rt; told.len(), wanted.len());
-    for (word, text) in told.iter().zip(wanted) {
-        assert_eq!(rt; word.as_bytes(), text.as_bytes());
-    }
+// Whether this is the wanted text. Tests ask for a bool, since what an assertion prints is proved too.
+pub(crate) fn is(word: &Word, wanted: &str) -> bool {
+    word.as_bytes() == wanted.as_bytes()
 }

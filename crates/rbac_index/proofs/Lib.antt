@@ -17,4 +17,5 @@ pub mod ReadLemmas
 pub mod RowLemmas
 pub mod RunLemmas
 pub mod SeenLemmas
+pub mod SpanLemmas
 pub mod WrittenLemmas

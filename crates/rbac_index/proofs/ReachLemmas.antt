@@ -1,18 +1,19 @@
 -- a reach that is told target by target
-use Rattle.std.proofs.Common.{◌≡◌, ℕ, suc, zero, ◌+◌, ◌<◌, ◌≤◌, List, [], ◌∷◌, ◌++◌, length, get_or, slice_get, arith, inl, inr, ◌⊎◌, ◌↔◌, subst, sym, ◌∙◌, ap, Contains}
+use Rattle.std.proofs.Common.{◌≡◌, ℕ, suc, zero, ◌+◌, ◌<◌, ◌≤◌, List, [], ◌∷◌, ◌++◌, length, get_or, slice_get, arith, inl, inr, ◌⊎◌, ◌↔◌, subst, sym, ◌∙◌, ap, Contains, append_assoc, append-nil}
 use Rattle.std.specs.Prelude.{Some, map}
 use Rattle.std.specs.List.Sorted.{IsStrictlyIncreasing}
 use Rattle.std.proofs.lemmas.Bool.{cases_lt, cases_eq}
 use Rattle.std.proofs.lemmas.Grind.{common_steps}
 use Rattle.std.proofs.lemmas.List.{length-append}
 use Rattle.std.proofs.lemmas.List.Elements.{Contains-append_left, Contains-get_or, Contains-push, Contains-push_cases}
-use Rattle.std.proofs.lemmas.Option.{same_Some, slice_get_within}
+use Rattle.std.proofs.lemmas.Option.{same_Some, slice_get_within, slice_get-get_or}
 use Rattle.rbac_terms.specs.Targets.{What}
 use Rattle.rbac_terms.specs.Matching.{TargetOk}
 use Rattle.rbac_terms.specs.declared.matching.Rule.{Rule}
 use Rattle.rbac_model.specs.Policies.{PolicyView}
 use Rattle.rbac_model.specs.Universes.{UniverseView}
 use Rattle.rbac_index.specs.Reaches.{MatchesAt, IsReach, IsReachAt, AreReachesBelow}
+use Rattle.rbac_index.specs.Spans.{places_from}
 use Rattle.rbac_index.proofs.ReadLemmas.{read_left, read_right}
 
 -- the reach among so many first targets
@@ -67,6 +68,30 @@ module _ (r : Rule) (ts : List What) (count : ℕ) (places : List ℕ) (t : What
     short = omega (arith, h.short);
   }
 
+-- places where nothing matches are passed over
+pub reach_skip : (r : Rule) (ts : List What) (from to : ℕ) (places : List ℕ) → from ≤ to → ((n : ℕ) → from ≤ n → n < to → ¬ MatchesAt r ts n) → IsReachBelow r ts from places → IsReachBelow r ts to places
+reach_skip r ts from to places le none h = record {
+  ascending = h.ascending;
+  exact = λ n. (
+    λ has. let w = (h.exact n).0 has in (omega (arith, le, w.0), w.1),
+    λ w. elim (cases_lt n from) [
+      | inl old ↦ (h.exact n).1 (old, w.1)
+      | inr new ↦ absurd (none n new w.0 w.1)
+    ],
+  );
+  short = omega (arith, le, h.short);
+}
+
+-- places where all match are taken
+pub reach_take : (r : Rule) (ts : List What) (count start : ℕ) (places : List ℕ) → ((n : ℕ) → start ≤ n → n < start + count → MatchesAt r ts n) → IsReachBelow r ts start places → IsReachBelow r ts (start + count) (places ++ places_from start count)
+reach_take r ts zero start places all h = let same : start + 0 ≡ start = omega arith in rw (append-nil places, same) h
+reach_take r ts (suc count) start places all h =
+    let m = all start (omega arith) (omega arith) in
+    let one = reach_taken r ts start places m.0 m.1 h m.2 in
+    let rest = reach_take r ts count (start + 1) (places ++ start ∷ []) (λ n low high. all n (omega (arith, low)) (omega (arith, high))) one in
+    let same : start + 1 + count ≡ start + suc count = omega arith in
+    rw (← append_assoc places (start ∷ []) (places_from (start + 1) count), ← same) rest
+
 pub reach_all : (r : Rule) (ts : List What) (count : ℕ) (places : List ℕ) → length ts ≤ count → IsReachBelow r ts count places → IsReach r ts places
 reach_all r ts count places all h = record {
   ascending = h.ascending;
@@ -88,3 +113,13 @@ reaches_more p u count rs places at below = record {
         subst (λ (m : ℕ). IsReachAt p u m other) number (subst (IsReachAt p u count) (sym same) at)
   ];
 }
+
+module _ (r : Rule) (ts : List What) (at : ℕ) (t : What) (within : at < length ts) (is : t ≡ get_or ts at t) where
+  there : slice_get ts at ≡ Some t
+  there = slice_get-get_or ts at t within ∙ ap (λ (x : What). Some x) (sym is)
+
+  pub matches_here : TargetOk r t → MatchesAt r ts at
+  matches_here ok = (t, there, ok)
+
+  pub fails_here : ¬ TargetOk r t → MatchesAt r ts at → ⊥
+  fails_here bad m = bad (subst (TargetOk r) (same_Some m.0 t (sym m.1 ∙ there)) m.2)

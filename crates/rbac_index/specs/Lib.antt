@@ -7,4 +7,5 @@ pub mod Keyed
 pub mod Listing
 pub mod Living
 pub mod Reaches
+pub mod Spans
 pub mod Written

@@ -11,11 +11,13 @@ mod keyed;
 mod laws;
 mod listing;
 mod living;
+mod matched;
 mod merging;
 mod meter;
 mod numbers;
 mod reach;
 mod runs;
+mod spans;
 mod written;
 
 pub use deciding::{Why, why_allowed};

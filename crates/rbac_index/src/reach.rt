@@ -2,33 +2,32 @@
 
 ghost use Rattle.std.specs.Prelude.{◌≡◌, ◌<◌, ◌≤◌, IfOk, length, slice_index};
 ghost use Rattle.std.specs.List.Sorted.{IsStrictlyIncreasing};
-ghost use Rattle.rbac_index.specs.Reaches.{raised, IsReach, IsReachAt, AreReachesBelow, AreReaches};
+ghost use Rattle.rbac_index.specs.Reaches.{raised, IsReachAt, AreReachesBelow, AreReaches};
 
 use crate::fault::IndexFault;
 use crate::index::Index;
+use crate::matched::matched;
 use crate::meter::Meter;
-use rbac_terms::{Rule, Target, target_matches};
+use crate::spans::Spans;
 use rbac_universe::Universe;
 use std::alloc::{AllocError, Global};
 use std::marker::Model;
 use std::rc::Rc;
 
 /// The places, ascending, of the targets of a universe that a grant's rule matches, verbs aside: at
-/// most a million. Reaches of grants by one rule share what they hold.
+/// most a million. Neighbours are kept as one run, and reaches of grants by one rule share what they
+/// hold.
 #[derive(Drop)]
 pub struct Reach {
-    places: Rc<Vec<u32>>,
+    places: Rc<Spans>,
 }
 
 impl Model for Reach {
-    ghost use Rattle.std.specs.Prelude.{ℕ, List, length, ◌≤◌};
-    ghost use Rattle.std.specs.List.Sorted.{IsStrictlyIncreasing};
+    ghost use Rattle.std.specs.Prelude.{ℕ, List};
 
     ghost Value = { List ℕ };
 
-    ghost view = { λ r. r.places.value.items };
-
-    ghost invariant = { λ r. IsStrictlyIncreasing r.places.value.items × (length r.places.value.items ≤ 1000000) };
+    ghost view = { λ r. r.places.value };
 }
 
 impl Reach {
@@ -43,7 +42,7 @@ impl Reach {
         ensures { IfOk result (λ r. IsReachAt index.now universe.now no r) }
     {
         let rule = index.grant(no).rule;
-        let places = matching_places(alloc, rule, universe.targets())?;
+        let places = matched(alloc, rule, universe.targets())?;
         Ok(Reach {
             places: Rc::new(alloc, places)?,
         })
@@ -75,7 +74,7 @@ impl Reach {
         ensures read { meter.new ≡ raised meter.old 1 }
     {
         meter.raise();
-        self.places[i]
+        self.places.get(i)
     }
 }
 
@@ -112,19 +111,4 @@ fn next_reach(
         Some(first) => Ok(reaches[first as usize].share()?),
         None => Reach::of(alloc, index, no, universe),
     }
-}
-
-// The places of the targets that the rule matches.
-fn matching_places(alloc: Global, rule: &Rule, targets: &[Target]) -> Result<Vec<u32>, AllocError>
-    requires { length targets.now ≤ 1000000 }
-    ensures reach { IfOk result (λ v. IsReach rule.now targets.now v.items) }
-    ensures few { IfOk result (λ v. length v.items ≤ 1000000) }
-{
-    let mut places = Vec::new(alloc);
-    for (place, target) in targets.iter().enumerate() {
-        if target_matches(rule, target) {
-            places.push(place as u32)?;
-        }
-    }
-    Ok(places)
 }

@@ -1,0 +1,22 @@
+use Rattle.std.proofs.Common.{◌≡◌, ℕ, arith, inl, inr, subst, sym}
+use Rattle.std.proofs.lemmas.Bool.{cases_lt, both_ways}
+use Rattle.std.proofs.lemmas.Option.{slice_get_within}
+use Rattle.rbac_index.specs.Reaches.{MatchesAt}
+use Rattle.rbac_index.proofs.ReachLemmas.{matches_here}
+use Rattle.rbac_index.proofs.matched.matches_end.Goals as goal
+
+pub loop-at-preserved : goal.loop-at-preserved
+loop-at-preserved c = record {
+  low = omega (arith, c.loop-at.invariant.low);
+  high = omega (arith, c.loop-at-test.true);
+  all = λ n low less. elim (cases_lt n c.loop-at.at) [
+    | inl l ↦ c.loop-at.invariant.all n low l
+    | inr l ↦
+        let same : n ≡ c.loop-at.at = omega (arith, l, less) in
+        subst (MatchesAt c.args.rule.now c.args.targets.now) (sym same)
+        (matches_here c.args.rule.now c.args.targets.now c.loop-at.at c.index-targets-at.result c.loop-at-test.true c.index-targets-at.is (c.target_matches.ensures.0 c.if-target_matches.true))
+  ];
+}
+
+pub returns-clause-some : goal.returns-clause-some
+returns-clause-some c = λ m. omega (arith, slice_get_within c.args.targets.now c.args.start m.0 m.1, c.loop-at-test.false)

@@ -1,0 +1,13 @@
+use Rattle.std.proofs.Common.{ℕ, ◌-◌, ◌<◌, ◌≤◌, length}
+use Rattle.rbac_index.specs.Reaches.{MatchesAt}
+use Rattle.rbac_index.proofs.matched.next_match.Given as goal
+
+abbrev pub invariant-loop-at : goal.invariant-loop-at
+invariant-loop-at l = record {
+  low : l.from ≤ l.at;
+  high : l.at ≤ length l.targets;
+  none : (n : ℕ) → l.from ≤ n → n < l.at → MatchesAt l.rule l.targets n → ⊥;
+}
+
+abbrev pub decreases-loop-at : goal.decreases-loop-at
+decreases-loop-at l = length l.targets - l.at

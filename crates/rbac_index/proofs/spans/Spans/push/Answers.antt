@@ -1,0 +1,10 @@
+use Rattle.rbac_index.proofs.SpanLemmas.{spans_pushed, spans_shown}
+use Rattle.rbac_index.proofs.spans.Spans.push.Goals as goal
+
+pub invariant_of-self-2 : goal.invariant_of-self-2
+invariant_of-self-2 c =
+    spans_pushed c.self.inside.spans.items c.push.new.self.items c.self.inside.len c.args.start c.args.end c.args.self.now c.self.invariant c.self.view_is c.in_ok-push.ensures.items
+    c.requires.some c.requires.small c.requires.ascending c.requires.few
+
+pub returns : goal.returns
+returns c = spans_shown c.self.inside.spans.items c.push.new.self.items c.self.inside.len c.args.start c.args.end c.args.self.now c.self.invariant c.self.view_is c.in_ok-push.ensures.items

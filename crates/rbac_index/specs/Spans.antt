@@ -1,0 +1,25 @@
+-- Ascending places, kept as runs of neighbours.
+use Rattle.std.specs.Prelude.{◌≡◌, ℕ, ◌+◌, ◌-◌, ◌<◌, ◌≤◌, List, [], ◌∷◌, ◌++◌, zero, suc, length}
+use Rattle.std.specs.List.Sorted.{IsStrictlyIncreasing}
+use Rattle.rbac_index.specs.declared.spans.Span.{Span}
+
+-- so many places from that one on
+abbrev pub places_from : ℕ → ℕ → List ℕ
+places_from start zero = []
+places_from start (suc count) = start ∷ places_from (start + 1) count
+
+-- the places of runs, one run after the other
+abbrev pub places_of : List Span → List ℕ
+places_of [] = []
+places_of (s ∷ ss) = places_from s.start (s.end - s.start) ++ places_of ss
+
+-- each run tells how many places stand before it, where so many stand before them all; in the end there are so many, none above a million
+abbrev pub IsCounted : ℕ → List Span → ℕ → Type 0
+IsCounted before [] len = before ≡ len
+IsCounted before (s ∷ ss) len = (s.before ≡ before) × (s.start < s.end) × (s.end ≤ 1000000) × IsCounted (before + (s.end - s.start)) ss len
+
+-- runs of so many places, at most a million, each once and ascending
+pub record AreSpans (spans : List Span) (len : ℕ) : Type 0 where
+  pub counted : IsCounted 0 spans len
+  pub ascending : IsStrictlyIncreasing (places_of spans)
+  pub few : len ≤ 1000000

@@ -1,0 +1,88 @@
+//! Ascending places, kept as runs of neighbours: a run costs what one place does.
+
+ghost use Rattle.std.specs.Prelude.{◌≡◌, ◌+◌, ◌-◌, ◌<◌, ◌≤◌, ◌++◌, [], OnOk, length, slice_index};
+ghost use Rattle.std.specs.List.Sorted.{IsStrictlyIncreasing};
+ghost use Rattle.rbac_index.specs.Spans.{places_from, places_of, IsCounted};
+
+use std::alloc::{AllocError, Global};
+use std::marker::Model;
+
+// The places from the first up to the second, and how many stand in the runs before.
+#[derive(Clone, Copy)]
+pub(crate) struct Span {
+    pub(crate) start: u32,
+    pub(crate) end: u32,
+    pub(crate) before: u32,
+}
+
+// Ascending places, each once: at most a million.
+#[derive(Drop)]
+pub(crate) struct Spans {
+    spans: Vec<Span>,
+    len: u32,
+}
+
+impl Model for Spans {
+    ghost use Rattle.std.specs.Prelude.{ℕ, List};
+    ghost use Rattle.rbac_index.specs.Spans.{places_of, AreSpans};
+
+    ghost Value = { List ℕ };
+
+    ghost view = { λ s. places_of s.spans.items };
+
+    ghost invariant = { λ s. AreSpans s.spans.items s.len };
+}
+
+impl Spans {
+    // No places, which takes no memory.
+    pub(crate) fn new(alloc: Global) -> Self
+        ensures { result ≡ [] }
+    {
+        Spans {
+            spans: Vec::new(alloc),
+            len: 0,
+        }
+    }
+
+    // Puts the places from the first up to the second behind the others.
+    pub(crate) fn push(&mut self, start: u32, end: u32) -> Result<(), AllocError>
+        requires some { start < end }
+        requires small { end ≤ 1000000 }
+        requires ascending { IsStrictlyIncreasing (self.old ++ places_from start (end - start)) }
+        requires few { length self.old + (end - start) ≤ 1000000 }
+        ensures { OnOk result (self.new ≡ self.old ++ places_from start (end - start)) }
+    {
+        let before = self.len;
+        self.spans.push(Span { start, end, before })?;
+        self.len = before + (end - start);
+        Ok(())
+    }
+
+    // How many places there are.
+    pub(crate) fn len(&self) -> usize
+        ensures len { result ≡ length self.now }
+        ensures few { length self.now ≤ 1000000 }
+        ensures ascending { IsStrictlyIncreasing self.now }
+    {
+        self.len as usize
+    }
+
+    // The place that stands at this one, from 0.
+    pub(crate) fn get(&self, i: usize) -> u32
+        requires { i < length self.now }
+        ensures { result ≡ slice_index self.now i }
+    {
+        place_in(self.spans.as_slice(), self.len, i as u32)
+    }
+}
+
+// The place that stands at this one of runs of so many places.
+fn place_in(spans: &[Span], len: u32, i: u32) -> u32
+    requires counted { IsCounted 0 spans.now len }
+    requires within { i < len }
+    ensures { result ≡ slice_index (places_of spans.now) i }
+{
+    let at = spans.partition_point(|span| span.before <= i);
+    let span = spans[at - 1];
+    span.start + (i - span.before)
+}
