@@ -15,10 +15,11 @@ use crate::unused::find_unused;
 use rbac_manifest::Loaded;
 use std::alloc::Global;
 
-/// What loaded inputs deserve a second look for (own): bindings whose role isn't there, roles that no binding leads to, rules that another rule of their role covers, rules
-/// that let a subject grant more than it has, accounts without a namespace, aggregated roles whose
-/// written rules aren't those that they gather, and objects that were given more than once. In order of these codes, then of objects by
-/// kind, namespace and name, then of places, then of what else is told.
+/// What loaded inputs deserve a second look for (own): bindings whose role isn't there, roles that
+/// no binding leads to, rules that another rule of their role covers, rules that let a subject
+/// grant more than it has, accounts without a namespace, aggregated roles whose written rules
+/// aren't those that they gather, and objects that were given more than once. In order of these
+/// codes, then of objects by kind, namespace and name, then of places, then of what else is told.
 ///
 /// # Errors
 ///

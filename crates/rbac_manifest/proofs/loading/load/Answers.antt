@@ -26,8 +26,8 @@ returns-clause-ok c =
     let e : g ≡ gathered (given c.args.inputs.now) = c.objects.view_is ∙ c.in_ok-objects.ensures.given in
     let rs = c.in_ok-replaced.replaced.items in
     let names = ap (λ (os : List Object). names_given os c.as_slice-2.result.now c.as_slice-3.result.now) c.as_slice.ensures.value
-        ∙ ap (λ (ns : List Text). names_given i.objects.items ns c.as_slice-3.result.now) c.as_slice-2.ensures.value
-        ∙ ap (λ (accounts : List Account). names_given i.objects.items i.namespaces.items accounts) c.as_slice-3.ensures.value in
+    ∙ ap (λ (ns : List Text). names_given i.objects.items ns c.as_slice-3.result.now) c.as_slice-2.ensures.value
+    ∙ ap (λ (accounts : List Account). names_given i.objects.items i.namespaces.items accounts) c.as_slice-3.ensures.value in
     let P : List (List Text) → Type 0 = λ ns. AreReplaced ns rs in
     let several : AreReplaced (names_given i.objects.items i.namespaces.items i.accounts.items) rs = subst P names c.in_ok-replaced.ensures.replaced in
     loaded c.args.inputs.now g c.in_ok-policy.policy c.in_ok-replaced.replaced.items e c.in_ok-objects.ensures.sound c.in_ok-policy.ensures.kept c.in_ok-policy.ensures.policy c.in_ok-policy.ensures.few several
