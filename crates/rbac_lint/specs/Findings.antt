@@ -11,6 +11,8 @@ use Rattle.rbac_model.specs.Policies.{Held, Source, InRole, InClusterRole, IsPla
 use Rattle.rbac_model.specs.Universes.{Covers}
 use Rattle.rbac_lint.specs.declared.finding.Finding.{Finding}
 use Rattle.rbac_lint.specs.Lines.{Line, OfEach, object_text, AreShown}
+use Rattle.rbac_manifest.specs.declared.replaced.Replaced.{Replaced}
+use Rattle.rbac_lint.specs.Replaced.{IsReplaced}
 use Rattle.rbac_lint.specs.Roles.{roles_in, IsPlainRole, rules_of, source_object, binding_object, named_object}
 
 -- a line of a role, and of a binding
@@ -115,10 +117,11 @@ IsStaleOf h r x = IsStaleRole h r × (x ≡ role_line 6 (InClusterRole r) None [
 abbrev pub IsStale : Held → Line → Type 0
 IsStale h = OfEach (λ k r. IsStaleOf h r) h.cluster_roles
 
--- all that lint finds
-abbrev pub IsFinding : Held → Line → Type 0
-IsFinding h x = IsDangling h x ⊎ (IsUnused h x ⊎ (IsRedundant h x ⊎ (IsEscalation h x ⊎ (IsAccountWithout h x ⊎ IsStale h x))))
+-- all that lint finds, L7 among it: an object was given by several documents
+abbrev pub IsFinding : Held → List Replaced → Line → Type 0
+IsFinding h rs x =
+    IsDangling h x ⊎ (IsUnused h x ⊎ (IsRedundant h x ⊎ (IsEscalation h x ⊎ (IsAccountWithout h x ⊎ (IsStale h x ⊎ IsReplaced rs x)))))
 
 -- these are the findings: exactly those lines, in order (own)
-abbrev pub AreFindings : Held → List Finding → Type 0
-AreFindings h found = AreShown (IsFinding h) found
+abbrev pub AreFindings : Held → List Replaced → List Finding → Type 0
+AreFindings h rs found = AreShown (IsFinding h rs) found

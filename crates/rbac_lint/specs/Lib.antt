@@ -4,4 +4,5 @@ pub mod Gathering
 pub mod Lines
 pub mod Marks
 pub mod Powers
+pub mod Replaced
 pub mod Roles

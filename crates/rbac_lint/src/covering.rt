@@ -19,11 +19,12 @@ pub fn covers(a: &Rule, b: &Rule) -> bool
     covers_resources(a, b) && covers_urls(a, b)
 }
 
+// The resources come first: of many rules few are about the same ones.
 fn covers_resources(a: &Rule, b: &Rule) -> bool
     ensures { IsTrue result ↔ CoversResources a.now b.now }
 {
     !has_resource(b)
-        || allows_verbs(a, b) && allows_groups(a, b) && allows_resources(a, b) && allows_names(a, b)
+        || allows_resources(a, b) && allows_verbs(a, b) && allows_groups(a, b) && allows_names(a, b)
 }
 
 fn covers_urls(a: &Rule, b: &Rule) -> bool

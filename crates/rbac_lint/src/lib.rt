@@ -10,6 +10,7 @@ mod finding;
 mod laws;
 mod linting;
 mod redundant;
+mod replaced;
 mod roles;
 mod stale;
 mod unused;
