@@ -4,7 +4,7 @@ use crate::asked::Asked;
 use rbac_terms::{Key, Principal, Word};
 
 /// Whether a verb may be used on what is asked for, in a namespace (own, after `kubectl auth can-i`).
-#[derive(Clone, Drop)]
+#[derive(Drop)]
 pub struct Question {
     /// What `-n` names, or `default`; empty with `-A`.
     pub namespace: Word,
@@ -15,7 +15,7 @@ pub struct Question {
 }
 
 /// What to do.
-#[derive(Clone, Drop)]
+#[derive(Drop)]
 pub enum Action {
     /// Answers yes or no, whether the principal is allowed what is asked.
     CanI {
