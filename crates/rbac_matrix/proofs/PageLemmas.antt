@@ -1,7 +1,7 @@
 -- rows printed since a page began, and how the page ends
-use Rattle.std.proofs.Common.{◌≡◌, ◌≢◌, ℕ, ◌+◌, ◌-◌, ◌<◌, ◌≤◌, zero, suc, Bool, true, false, eqb, List, [], ◌∷◌, ◌++◌, length, take, refl, ap, ap₂, ◌∙◌, sym, subst, arith, append_assoc, append-nil, length-append, zero-add}
+use Rattle.std.proofs.Common.{◌≡◌, ◌≢◌, ℕ, ◌+◌, ◌-◌, zero, suc, Bool, true, false, eqb, List, [], ◌∷◌, ◌++◌, length, take, refl, ap, ap₂, ◌∙◌, sym, subst, arith, append_assoc, append-nil, length-append, zero-add}
 use Rattle.std.specs.Prelude.{Option, Some, None, Result, Ok, Err, OnErr, IfErr, codes, nat_lt}
-use Rattle.std.specs.List.{last_or, flat_map}
+use Rattle.std.specs.List.{last_or}
 use Rattle.std.specs.Option.{option_eq, option_map}
 use Rattle.std.proofs.Math.Seq.{take-append-add}
 use Rattle.std.proofs.lemmas.List.{take_all}
@@ -20,7 +20,7 @@ use Rattle.rbac_matrix.specs.Enumeration.{AreLeft, GivesRow}
 use Rattle.rbac_matrix.specs.Pages.{IsPageOf, StopsInPage, cut_at, last_words, last_line, next_words, page_text}
 use Rattle.rbac_matrix.specs.Passing.{cells_left}
 use Rattle.rbac_matrix.specs.Printed.{rows_text}
-use Rattle.rbac_matrix.specs.RowTexts.{Shows, key_shown}
+use Rattle.rbac_matrix.specs.RowTexts.{key_shown}
 use Rattle.rbac_matrix.specs.declared.enumeration.Rows.{Rows}
 use Rattle.rbac_matrix.specs.declared.row.Row.{Row}
 use Rattle.rbac_matrix.proofs.RowLemmas.{rows_one}

@@ -58,5 +58,5 @@ pub returns-clause-err : goal.returns-clause-err
 returns-clause-err g c =
     if_err_weaker c.print_last-2.result
     (λ fault stopped. stops_end g.W.Write.contents c.args.sink.now c.args.page.now c.args.rows.now c.args.limit c.loop-row.sink c.loop-row.page c.loop-row.rows c.loop-row.left c.loop-row.last
-        c.loop-row.invariant.goes c.print_last-2.new.sink c.print_last-2.new.page c.in_default.ensures.steps.0 stopped.stops)
+    c.loop-row.invariant.goes c.print_last-2.new.sink c.print_last-2.new.page c.in_default.ensures.steps.0 stopped.stops)
     c.print_last-2.ensures.err
