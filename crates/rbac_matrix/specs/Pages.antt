@@ -32,10 +32,10 @@ last_words None more = codes "end"
 abbrev pub page_text : List RowView × Bool → Text
 page_text p = rows_text p.0 ++ last_words (last_or None p.0) p.1 ++ newline ∷ []
 
--- the last line of a page that more rows follow, by its last row
-abbrev pub next_line : Option Row → Text
-next_line (Some row) = next_words (key_shown row) ++ newline ∷ []
-next_line None = codes "end" ++ newline ∷ []
+-- the last line of a page: for the row after which more follow, and without one
+abbrev pub last_line : Option Row → Text
+last_line (Some row) = next_words (key_shown row) ++ newline ∷ []
+last_line None = codes "end" ++ newline ∷ []
 
 -- the lines of the page of the rows that are left
 abbrev pub IsPageOf : Option ℕ → Rows → Text → Type 0
