@@ -1,9 +1,8 @@
 -- look-ups in the sorted list of keys
-use Rattle.std.proofs.Common.{◌≡◌, ℕ, ◌+◌, ◌<◌, ◌≤◌, List, [], ◌∷◌, ◌++◌, length, get_or, slice_get, Contains, ap, sym, ◌∙◌, refl, subst, arith, inl, inr, ◌⊎◌, ◌↔◌, Bool, true, false, max, min}
-use Rattle.std.specs.Prelude.{Option, Some, None, MatchOption, codes}
-use Rattle.std.specs.Ordering.{nat_cmp, ordering_then, ordering_index, is_lt, is_eq, ordering_reverse}
+use Rattle.std.proofs.Common.{◌≡◌, ℕ, ◌<◌, ◌≤◌, List, [], ◌∷◌, ◌++◌, length, get_or, Contains, ap, sym, ◌∙◌, refl, subst, arith, inl, inr, ◌⊎◌, ◌↔◌, Bool, true, false, max, min}
+use Rattle.std.specs.Prelude.{Option, Some, None, codes}
+use Rattle.std.specs.Ordering.{nat_cmp, ordering_then, is_lt, is_eq, ordering_reverse}
 use Rattle.std.specs.Cmp.{IsTotalOrder}
-use Rattle.std.specs.Cmp.Lexicographic.{slice_cmp}
 use Rattle.std.specs.List.Sorted.{IsSorted, IsPartitionedBy, IsPartitionPoint}
 use Rattle.std.specs.declared.cmp.Ordering.{Ordering}
 use Rattle.std.specs.declared.cmp.Ordering.TheVariants.{Less, Equal, Greater}
@@ -22,7 +21,7 @@ use Rattle.rbac_index.specs.Keyed.{keyed, keyed_cmp, IsLiveAt, IsNextOf, Answers
 use Rattle.rbac_index.proofs.KeysOf.{keys_sorted}
 use Rattle.rbac_index.proofs.LivingLemmas.{lt_back}
 
-pub then_assoc : (a b c : Ordering) → ordering_then (ordering_then a b) c ≡ ordering_then a (ordering_then b c)
+then_assoc : (a b c : Ordering) → ordering_then (ordering_then a b) c ≡ ordering_then a (ordering_then b c)
 then_assoc Less b c = refl
 then_assoc Equal b c = refl
 then_assoc Greater b c = refl

@@ -36,7 +36,7 @@ index_rises x y z l =
     (λ e. let p : ordering_index (text_cmp x z) ≡ 0 = ap ordering_index (sym (alike_right nat_list_cmp_total y z x e) ∙ l) in omega arith)
     (λ e. let p : ordering_index (text_cmp y z) ≡ 2 = ap ordering_index e in omega (arith, index_at_most (text_cmp x z)))
 
-pub then_less : (o p : Ordering) → ordering_then o p ≡ Less → (o ≡ Less) ⊎ (o ≡ Equal)
+then_less : (o p : Ordering) → ordering_then o p ≡ Less → (o ≡ Less) ⊎ (o ≡ Equal)
 then_less Less p e = inl refl
 then_less Equal p e = inr refl
 then_less Greater p e = cc
@@ -58,7 +58,7 @@ lt_back Greater Less le e = absurd (omega arith)
 lt_back Greater Equal le e = cc
 lt_back Greater Greater le e = cc
 
-pub le_back : (o p : Ordering) → ordering_index o ≤ ordering_index p → is_le p ≡ true → is_le o ≡ true
+le_back : (o p : Ordering) → ordering_index o ≤ ordering_index p → is_le p ≡ true → is_le o ≡ true
 le_back Less p le e = refl
 le_back Equal p le e = refl
 le_back Greater Less le e = absurd (omega arith)

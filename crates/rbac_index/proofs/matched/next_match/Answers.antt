@@ -1,4 +1,4 @@
-use Rattle.std.proofs.Common.{◌≡◌, ℕ, arith, inl, inr, subst}
+use Rattle.std.proofs.Common.{arith, inl, inr}
 use Rattle.std.proofs.lemmas.Bool.{cases_lt, both_ways}
 use Rattle.rbac_index.proofs.ReachLemmas.{fails_here}
 use Rattle.rbac_index.proofs.matched.next_match.Goals as goal

@@ -1,4 +1,4 @@
-use Rattle.std.proofs.Common.{◌≡◌, sym, subst, List}
+use Rattle.std.proofs.Common.{sym, subst, List}
 use Rattle.rbac_terms.specs.Targets.{What}
 use Rattle.rbac_model.specs.Lists.{IsAscendingBy}
 use Rattle.rbac_index.specs.Matched.{what_texts}
