@@ -21,7 +21,7 @@ use Rattle.rbac_cli.specs.Printing.{StopsInAnswer, StopsPrinting, StopsWith, IsU
 use Rattle.rbac_cli.proofs.Matrices.{front_of_text}
 
 -- the page of the matrix
-abbrev IsListing : Option KeyTexts → Option ℕ → Held → UniverseView → List ℕ → Type 0
+abbrev pub IsListing : Option KeyTexts → Option ℕ → Held → UniverseView → List ℕ → Type 0
 IsListing k limit held u text = (rows : List RowView) × IsMatrix held u rows × (text ≡ listing_text k limit rows)
 
 module _ {W : Type 0} (contents : W → Option (List ℕ)) where

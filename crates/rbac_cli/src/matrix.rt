@@ -9,9 +9,10 @@ ghost use Rattle.rbac_cli.specs.Ends.{is_write_fault};
 ghost use Rattle.rbac_cli.specs.Printing.{PrintsAnswer, StopsPrinting, PrintsListing, StopsInListing, fault_at, is_sink_fault};
 
 use crate::ending::{RunFault, Status, fault_of};
-use rbac_index::{Index, Reach, reaches_of};
+use rbac_index::{Index, IndexFault, Reach, reaches_of};
 use rbac_manifest::Loaded;
 use rbac_matrix::{Matrix, Seat, a_matrix_is_there, print_page};
+use rbac_model::Policy;
 use rbac_streams::{Page, PrintFault, Sink};
 use rbac_terms::Key;
 use rbac_universe::{Universe, UniverseFault};
@@ -82,8 +83,24 @@ fn lent_by(alloc: Global, loaded: &Loaded) -> Result<Lent<'_>, UniverseFault>
 {
     let lists = loaded.lists(alloc)?;
     let universe = Universe::build(alloc, &lists)?;
-    let index = Index::build(alloc, loaded.policy()).map_err(|_| UniverseFault::NoMemory)?;
-    let reaches = reaches_of(alloc, &index, &universe).map_err(|_| UniverseFault::NoMemory)?;
+    match lent_for(alloc, loaded.policy(), universe) {
+        Ok(lent) => Ok(lent),
+        Err(_) => Err(UniverseFault::NoMemory),
+    }
+}
+
+// What the matrix of a policy over a universe borrows.
+fn lent_for(
+    alloc: Global,
+    policy: &Policy,
+    universe: Universe,
+) -> Result<Lent<'_>, IndexFault>
+    ensures universe { IfOk result (λ lent. lent.universe ≡ universe) }
+    ensures index { IfOk result (λ lent. lent.index ≡ policy.now) }
+    ensures reaches { IfOk result (λ lent. AreReaches lent.index lent.universe lent.reaches.items) }
+{
+    let index = Index::build(alloc, policy)?;
+    let reaches = reaches_of(alloc, &index, &universe)?;
     Ok(Lent {
         universe,
         index,
