@@ -9,7 +9,6 @@ pub mod LoopLemmas
 pub mod OneMatrix
 pub mod PageLemmas
 pub mod PassLemmas
-pub mod PrintedRows
 pub mod Product
 pub mod RowLemmas
 pub mod SearchLemmas

@@ -1,7 +1,7 @@
 -- rows printed since a page began, and how the page ends
-use Rattle.std.proofs.Common.{◌≡◌, ◌≢◌, ℕ, ◌+◌, ◌-◌, ◌<◌, ◌≤◌, zero, suc, Bool, true, false, eqb, List, [], ◌∷◌, ◌++◌, length, take, refl, ap, ap₂, ◌∙◌, sym, subst, arith, append_assoc, append-nil, length-append, zero-add}
+use Rattle.std.proofs.Common.{◌≡◌, ◌≢◌, ℕ, ◌+◌, ◌-◌, zero, suc, Bool, true, false, eqb, List, [], ◌∷◌, ◌++◌, length, take, refl, ap, ap₂, ◌∙◌, sym, subst, arith, append_assoc, append-nil, length-append, zero-add}
 use Rattle.std.specs.Prelude.{Option, Some, None, Result, Ok, Err, OnErr, IfErr, codes, nat_lt}
-use Rattle.std.specs.List.{last_or, flat_map}
+use Rattle.std.specs.List.{last_or}
 use Rattle.std.specs.Option.{option_eq, option_map}
 use Rattle.std.proofs.Math.Seq.{take-append-add}
 use Rattle.std.proofs.lemmas.List.{take_all}
@@ -17,11 +17,10 @@ use Rattle.rbac_streams.specs.Taken.{Prints, StopsIn}
 use Rattle.rbac_streams.proofs.TakenLemmas.{Prints-nil, Prints-trans}
 use Rattle.rbac_text.specs.Row.{newline, row_text}
 use Rattle.rbac_matrix.specs.Enumeration.{AreLeft, GivesRow}
-use Rattle.rbac_matrix.specs.Pages.{IsPageOf, StopsInPage, cut_at, last_words, next_words, page_text}
+use Rattle.rbac_matrix.specs.Pages.{IsPageOf, StopsInPage, cut_at, last_words, last_line, next_words, page_text}
 use Rattle.rbac_matrix.specs.Passing.{cells_left}
 use Rattle.rbac_matrix.specs.Printed.{rows_text}
-use Rattle.rbac_matrix.specs.Printing.{next_line}
-use Rattle.rbac_matrix.specs.RowTexts.{Shows, key_shown}
+use Rattle.rbac_matrix.specs.RowTexts.{key_shown}
 use Rattle.rbac_matrix.specs.declared.enumeration.Rows.{Rows}
 use Rattle.rbac_matrix.specs.declared.row.Row.{Row}
 use Rattle.rbac_matrix.proofs.RowLemmas.{rows_one}
@@ -38,8 +37,8 @@ pub if_err_weaker : {T E Q : Type 0} {P : E → Type 0} (r : Result T E) → ((e
 if_err_weaker (Ok x) f err = tt
 if_err_weaker (Err e) f err = f e err
 
-abbrev pub end_line : Text
-end_line = codes "end" ++ newline ∷ []
+abbrev end_line : Text
+end_line = last_line None
 
 -- so many rows are left to be printed, after those that were
 abbrev IsLimit : Option ℕ → ℕ → Option ℕ → Type 0
@@ -106,7 +105,7 @@ last_none : (o : Option RowView) → last_words o false ≡ codes "end"
 last_none None = refl
 last_none (Some row) = refl
 
-last_next : (o : Option RowView) (last : Option Row) → option_map key_shown last ≡ option_map row_key o → last_words o true ++ newline ∷ [] ≡ next_line last
+last_next : (o : Option RowView) (last : Option Row) → option_map key_shown last ≡ option_map row_key o → last_words o true ++ newline ∷ [] ≡ last_line last
 last_next None None e = refl
 last_next None (Some r) e = cc
 last_next (Some row) None e = cc
@@ -164,7 +163,7 @@ module _ {W : Type 0} (contents : W → Option (List ℕ)) (old : SinkView W) (p
 
       -- the limit is reached
       module _ (full : left ≡ Some 0) where
-        followed : (all : List RowView) → AreLeft s all → page_text (cut_at limit all) ≡ rows_text g.rows ++ next_line last
+        followed : (all : List RowView) → AreLeft s all → page_text (cut_at limit all) ≡ rows_text g.rows ++ last_line last
         followed all is =
             let there = split all is in
             ap (λ (l : List RowView). page_text (cut_at limit l)) there.2
@@ -172,11 +171,11 @@ module _ {W : Type 0} (contents : W → Option (List ℕ)) (old : SinkView W) (p
             ∙ append_assoc (rows_text g.rows) (last_words (last_or None g.rows) true) (newline ∷ [])
             ∙ ap (λ (line : Text). rows_text g.rows ++ line) (last_next (last_or None g.rows) last g.ends)
 
-        pub prints_next : Prints contents now at new after (next_line last) → (all : List RowView) → AreLeft s all → Prints contents old page new after (page_text (cut_at limit all))
-        prints_next prints all is = whole (next_line last) prints all (followed all is)
+        pub prints_next : Prints contents now at new after (last_line last) → (all : List RowView) → AreLeft s all → Prints contents old page new after (page_text (cut_at limit all))
+        prints_next prints all is = whole (last_line last) prints all (followed all is)
 
-        pub stops_next : StopsIn contents now at new after (next_line last) → StopsInPage contents old page new after limit s
-        stops_next stops = within (next_line last) stops (λ all is. ([], followed all is ∙ sym (append-nil (rows_text g.rows ++ next_line last))))
+        pub stops_next : StopsIn contents now at new after (last_line last) → StopsInPage contents old page new after limit s
+        stops_next stops = within (last_line last) stops (λ all is. ([], followed all is ∙ sym (append-nil (rows_text g.rows ++ last_line last))))
 
       -- it isn't
       module _ (some : left ≢ Some 0) where

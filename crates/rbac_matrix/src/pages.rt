@@ -6,8 +6,8 @@ ghost use Rattle.rbac_model.specs.Universes.{RowView};
 ghost use Rattle.rbac_streams.specs.Taken.{Prints};
 ghost use Rattle.rbac_text.specs.Row.{newline, row_text};
 ghost use Rattle.rbac_matrix.specs.Enumeration.{AreLeft, IsGoing};
-ghost use Rattle.rbac_matrix.specs.Pages.{StopsInPage, cut_at, next_words, page_text};
-ghost use Rattle.rbac_matrix.specs.Printing.{StopsBy, next_line};
+ghost use Rattle.rbac_matrix.specs.Pages.{StopsInPage, cut_at, last_line, next_words, page_text};
+ghost use Rattle.rbac_matrix.specs.Printed.{StopsBy};
 ghost use Rattle.rbac_matrix.specs.RowTexts.{key_shown};
 
 use crate::enumeration::Rows;
@@ -48,13 +48,13 @@ pub fn print_page<W: Write + Drop>(
     let mut last = None;
     while let Some(row) = rows.next() {
         if left == Some(0) {
-            return print_next(alloc, last, &mut text, sink, page);
+            return print_last(alloc, last, &mut text, sink, page);
         }
         print_row(row, &mut text, sink, page)?;
         left = one_less(left);
         last = Some(row);
     }
-    page.print(sink, END)
+    print_last(alloc, None, &mut text, sink, page)
 }
 
 // How many rows are left to be printed after one more.
@@ -65,7 +65,7 @@ fn one_less(left: Option<u32>) -> Option<u32>
     Some(left? - 1)
 }
 
-// Prints a row. It is put together in `text`, as the last line is below.
+// Prints a row, whose line is put together in `text`.
 fn print_row<W: Write + Drop>(
     row: Row<'_>,
     text: &mut Vec<u8>,
@@ -77,43 +77,41 @@ fn print_row<W: Write + Drop>(
     ensures works { OnOk result (sink.new.has_failed ≡ false) }
     ensures err { IfErr result (StopsBy W.contents sink.old page.old sink.new page.new (row_text (key_shown row.entry) row.entry.binding.now)) }
 {
-    text.clear();
     if row.put(text).is_err() {
         return Err(PrintFault::NoMemory);
     }
     page.print(sink, text.as_slice())
 }
 
-// Prints the last line of a page that more rows follow: after a page without rows, `end`.
-fn print_next<W: Write + Drop>(
+// Prints the last line of a page, for the row after which more follow; without one for the end.
+fn print_last<W: Write + Drop>(
     alloc: Global,
-    last: Option<Row<'_>>,
+    row: Option<Row<'_>>,
     text: &mut Vec<u8>,
     sink: &mut Sink<W>,
     page: &mut Page,
 ) -> Result<(), PrintFault>
     requires { sink.old.has_failed ≡ false }
-    ensures ok { OnOk result (Prints W.contents sink.old page.old sink.new page.new (next_line last.entry)) }
+    ensures ok { OnOk result (Prints W.contents sink.old page.old sink.new page.new (last_line row.entry)) }
     ensures works { OnOk result (sink.new.has_failed ≡ false) }
-    ensures err { IfErr result (StopsBy W.contents sink.old page.old sink.new page.new (next_line last.entry)) }
+    ensures err { IfErr result (StopsBy W.contents sink.old page.old sink.new page.new (last_line row.entry)) }
 {
-    let Some(row) = last else {
+    let Some(row) = row else {
         return page.print(sink, END);
     };
-    text.clear();
     if put_next(alloc, row, text).is_err() {
         return Err(PrintFault::NoMemory);
     }
     page.print(sink, text.as_slice())
 }
 
-// Adds `next`, the token of a row and the line's end. Where memory is refused a front of it may
-// have been added.
+// Puts `next`, the token of the row and the line's end in place of what was there.
 fn put_next(alloc: Global, row: Row<'_>, line: &mut Vec<u8>) -> Result<(), MatrixFault>
-    ensures { OnOk result (line.new.items ≡ line.old.items ++ next_words (key_shown row.entry) ++ newline ∷ []) }
+    ensures { OnOk result (line.new.items ≡ next_words (key_shown row.entry) ++ newline ∷ []) }
 {
     let key = row.key(alloc)?;
     let token = token_of(alloc, &key).map_err(|_| MatrixFault::NoMemory)?;
+    line.clear();
     line.extend_from_slice(NEXT)?;
     line.extend_from_slice(token.as_bytes())?;
     line.push(b'\n')?;

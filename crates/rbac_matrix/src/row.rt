@@ -1,6 +1,6 @@
 //! Rows of a matrix.
 
-ghost use Rattle.std.specs.Prelude.{◌≡◌, ◌++◌, IfOk, IfErr, OnOk};
+ghost use Rattle.std.specs.Prelude.{◌≡◌, IfOk, IfErr, OnOk};
 ghost use Rattle.rbac_terms.specs.Keys.{key_of, namespace_at};
 ghost use Rattle.rbac_text.specs.Row.{row_text};
 ghost use Rattle.rbac_matrix.specs.RowTexts.{key_shown, texts_shown};
@@ -43,10 +43,11 @@ impl Row<'_> {
         Ok(Key::of(alloc, self.who, self.namespace, self.verb, self.target)?)
     }
 
-    // Adds the row's line to others. Where memory is refused a front of it may have been added.
+    // Puts the row's line in place of what was there.
     pub(crate) fn put(&self, line: &mut Vec<u8>) -> Result<(), AllocError>
-        ensures { OnOk result (line.new.items ≡ line.old.items ++ row_text (key_shown self.now) self.now.binding.now) }
+        ensures { OnOk result (line.new.items ≡ row_text (key_shown self.now) self.now.binding.now) }
     {
+        line.clear();
         put_row(
             line,
             self.who,

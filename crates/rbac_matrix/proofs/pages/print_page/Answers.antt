@@ -1,5 +1,5 @@
 use Rattle.std.proofs.Common.{◌∙◌, sym}
-use Rattle.std.proofs.lemmas.Result.{err_from_is_err_and, on_err_weaker, on_ok_weaker}
+use Rattle.std.proofs.lemmas.Result.{err_from_is_err_and, on_ok_weaker}
 use Rattle.rbac_matrix.proofs.PageLemmas.{begins, goes_on, if_err_weaker, is_full, not_full, prints_end, prints_next, stops_end, stops_next, stops_row}
 use Rattle.rbac_matrix.proofs.pages.print_page.Goals as goal
 
@@ -13,18 +13,18 @@ loop-row-init g c = record {
 pub returns-then-eq-clause-ok : goal.returns-then-eq-clause-ok
 returns-then-eq-clause-ok g c =
     let full = is_full c.loop-row.left (sym c.eq.ensures ∙ c.if-eq.true) in
-    on_ok_weaker c.print_next.result
+    on_ok_weaker c.print_last.result
     (prints_next g.W.Write.contents c.args.sink.now c.args.page.now c.args.rows.now c.args.limit c.loop-row.sink c.loop-row.page c.loop-row.rows c.loop-row.left c.loop-row.last
-    c.loop-row.invariant.goes c.print_next.new.sink c.print_next.new.page c.next.new.self c.in-Some.row c.in-Some.ensures.steps full)
-    c.print_next.ensures.ok
+    c.loop-row.invariant.goes c.print_last.new.sink c.print_last.new.page c.next.new.self c.in-Some.row c.in-Some.ensures.steps full)
+    c.print_last.ensures.ok
 
 pub returns-then-eq-clause-err : goal.returns-then-eq-clause-err
 returns-then-eq-clause-err g c =
     let full = is_full c.loop-row.left (sym c.eq.ensures ∙ c.if-eq.true) in
-    if_err_weaker c.print_next.result
+    if_err_weaker c.print_last.result
     (λ fault stopped. stops_next g.W.Write.contents c.args.sink.now c.args.page.now c.args.rows.now c.args.limit c.loop-row.sink c.loop-row.page c.loop-row.rows c.loop-row.left c.loop-row.last
-    c.loop-row.invariant.goes c.print_next.new.sink c.print_next.new.page c.next.new.self c.in-Some.row c.in-Some.ensures.steps full stopped.stops)
-    c.print_next.ensures.err
+    c.loop-row.invariant.goes c.print_last.new.sink c.print_last.new.page c.next.new.self c.in-Some.row c.in-Some.ensures.steps full stopped.stops)
+    c.print_last.ensures.err
 
 pub returns-in_err-print_row-clause-err : goal.returns-in_err-print_row-clause-err
 returns-in_err-print_row-clause-err g c =
@@ -49,14 +49,14 @@ loop-row-preserved g c =
 
 pub returns-clause-ok : goal.returns-clause-ok
 returns-clause-ok g c =
-    on_ok_weaker c.print.result
+    on_ok_weaker c.print_last-2.result
     (prints_end g.W.Write.contents c.args.sink.now c.args.page.now c.args.rows.now c.args.limit c.loop-row.sink c.loop-row.page c.loop-row.rows c.loop-row.left c.loop-row.last
-    c.loop-row.invariant.goes c.print.new.sink c.print.new.self c.in_default.ensures.steps.0)
-    c.print.ensures.ok
+    c.loop-row.invariant.goes c.print_last-2.new.sink c.print_last-2.new.page c.in_default.ensures.steps.0)
+    c.print_last-2.ensures.ok
 
 pub returns-clause-err : goal.returns-clause-err
 returns-clause-err g c =
-    on_err_weaker c.print.result
-    (stops_end g.W.Write.contents c.args.sink.now c.args.page.now c.args.rows.now c.args.limit c.loop-row.sink c.loop-row.page c.loop-row.rows c.loop-row.left c.loop-row.last
-    c.loop-row.invariant.goes c.print.new.sink c.print.new.self c.in_default.ensures.steps.0)
-    c.print.ensures.err
+    if_err_weaker c.print_last-2.result
+    (λ fault stopped. stops_end g.W.Write.contents c.args.sink.now c.args.page.now c.args.rows.now c.args.limit c.loop-row.sink c.loop-row.page c.loop-row.rows c.loop-row.left c.loop-row.last
+    c.loop-row.invariant.goes c.print_last-2.new.sink c.print_last-2.new.page c.in_default.ensures.steps.0 stopped.stops)
+    c.print_last-2.ensures.err
