@@ -1,5 +1,5 @@
 -- The page of a matrix, printed from the rows that are left.
-use Rattle.std.proofs.Common.{◌≡◌, ℕ, List, [], Option, refl, sym, subst, append-nil}
+use Rattle.std.proofs.Common.{◌≡◌, ℕ, List, [], Option, sym, subst, append-nil}
 use Rattle.rbac_terms.specs.Keys.{KeyTexts}
 use Rattle.rbac_model.specs.Policies.{PolicyView}
 use Rattle.rbac_model.specs.Universes.{UniverseView, RowView, IsMatrix, rows_after}

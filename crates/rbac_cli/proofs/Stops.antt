@@ -1,7 +1,7 @@
 -- From printed text to written text.
 use Rattle.std.proofs.Common.{◌≡◌, ◌∙◌, ℕ, List, [], Option, inl, inr, refl, sym, subst, ap, append-nil}
 use Rattle.rbac_streams.specs.Streams.{SinkView, PageView}
-use Rattle.rbac_streams.specs.Taken.{Took, Printed, Prints, Stopped, StopsIn}
+use Rattle.rbac_streams.specs.Taken.{Took, Printed, Stopped, StopsIn}
 use Rattle.rbac_streams.specs.declared.page.PrintFault.{PrintFault}
 use Rattle.rbac_streams.specs.declared.page.PrintFault.TheVariants.{SinkFailed, NoMemory}
 use Rattle.rbac_terms.specs.Keys.{KeyTexts}

@@ -42,15 +42,7 @@ pub(crate) fn print_listing<W: Write + Drop>(
         Ok(seats) => seats,
         Err(_) => return Err(fault_of(page, PrintFault::NoMemory)),
     };
-    match print_rows(
-        alloc,
-        &lent,
-        seats.as_mut_slice(),
-        after,
-        limit,
-        sink,
-        page,
-    ) {
+    match print_rows(alloc, &lent, seats.as_mut_slice(), after, limit, sink, page) {
         Ok(()) => Ok(Status::Zero),
         Err(fault) => Err(fault_of(page, fault)),
     }
@@ -90,11 +82,7 @@ fn lent_by(alloc: Global, loaded: &Loaded) -> Result<Lent<'_>, UniverseFault>
 }
 
 // What the matrix of a policy over a universe borrows.
-fn lent_for(
-    alloc: Global,
-    policy: &Policy,
-    universe: Universe,
-) -> Result<Lent<'_>, IndexFault>
+fn lent_for(alloc: Global, policy: &Policy, universe: Universe) -> Result<Lent<'_>, IndexFault>
     ensures universe { IfOk result (λ lent. lent.universe ≡ universe) }
     ensures index { IfOk result (λ lent. lent.index ≡ policy.now) }
     ensures reaches { IfOk result (λ lent. AreReaches lent.index lent.universe lent.reaches.items) }
@@ -133,12 +121,7 @@ fn print_rows<W: Write + Drop>(
     ensures failed { sink.new.has_failed ≡ is_sink_fault result }
 {
     a_matrix_is_there();
-    let mut matrix = Matrix::build(
-        &lent.index,
-        &lent.universe,
-        lent.reaches.as_slice(),
-        seats,
-    );
+    let mut matrix = Matrix::build(&lent.index, &lent.universe, lent.reaches.as_slice(), seats);
     let mut rows = matrix.rows_after(after);
     print_page(alloc, &mut rows, limit, sink, page)
 }

@@ -1,8 +1,8 @@
 use Rattle.std.proofs.Common.{◌∙◌, subst}
 use Rattle.std.specs.Option.{option_copied}
 use Rattle.std.proofs.lemmas.Result.{on_ok_weaker, on_err_weaker}
-use Rattle.rbac_model.specs.Policies.{PolicyView, IsPolicy}
-use Rattle.rbac_model.specs.Universes.{UniverseView, IsUniverse}
+use Rattle.rbac_model.specs.Policies.{IsPolicy}
+use Rattle.rbac_model.specs.Universes.{IsUniverse}
 use Rattle.rbac_cli.proofs.Listings.{listing_printed, listing_stopped}
 use Rattle.rbac_cli.proofs.matrix.print_rows.Goals as goal
 
