@@ -79,6 +79,10 @@ fn after_failure(rule: &Rule, targets: &[Target], at: usize) -> usize
     if target.is_url() {
         return at + 1;
     }
+    // A rule without names matches all of a stem, or nothing of it.
+    if rule.resource_names.is_empty() {
+        return run_end(targets, at, None);
+    }
     if stem_matches(rule, target) {
         let before = next_name(rule.resource_names.as_slice(), target.name());
         return run_end(targets, at, before);
