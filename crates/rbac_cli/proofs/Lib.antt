@@ -2,6 +2,7 @@ pub mod Lines
 pub mod Matrices
 pub mod Named
 pub mod OneAnswer
+pub mod OneListing
 pub mod OneMeant
 pub mod OneReason
 pub mod OneRun

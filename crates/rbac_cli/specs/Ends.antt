@@ -29,7 +29,7 @@ WritesNothing took n = took [] × (n ≡ 0)
 abbrev pub LacksUniverse : LoadedView → Action → UniverseFault → Type 0
 LacksUniverse l (CanI who quiet why q) fault = ⊥
 LacksUniverse l (WhoCan q) fault = ⊥
-LacksUniverse l Matrix fault = HasUniverseFault l.lists fault × (fault ≢ universe.NoMemory)
+LacksUniverse l (Matrix after limit) fault = HasUniverseFault l.lists fault × (fault ≢ universe.NoMemory)
 
 -- the inputs are loaded, and what the command means over them is written
 abbrev pub Succeeds : (List ℕ → Type 0) → Command → List (List ℕ) → Status → Type 0

@@ -38,6 +38,8 @@ pub(crate) fn print_answer<W: Write + Drop>(
             print_told(told, sink, page)
         }
         Action::WhoCan { question } => print_holders(alloc, loaded, question, sink, page),
-        Action::Matrix => print_listing(alloc, loaded, sink, page),
+        Action::Matrix { after, limit } => {
+            print_listing(alloc, loaded, after.as_ref(), *limit, sink, page)
+        }
     }
 }

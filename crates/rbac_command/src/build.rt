@@ -3,10 +3,10 @@
 ghost use Rattle.std.specs.Prelude.{◌≡◌, IfOk, false};
 ghost use Rattle.clap.specs.Words.{app_of, new_app, rule_of, with_rule, with_subcommand};
 ghost use Rattle.clap.specs.declared.builder.command.Command.TheViews.{out-Command as fields_of};
-ghost use Rattle.rbac_command.specs.App.{user_rule, groups_rule, namespace_rule, all_rule, subresource_rule, quiet_rule, why_rule, verb_rule, target_rule, files_rule};
+ghost use Rattle.rbac_command.specs.App.{after_rule, limit_rule, user_rule, groups_rule, namespace_rule, all_rule, subresource_rule, quiet_rule, why_rule, verb_rule, target_rule, files_rule};
 ghost use Rattle.rbac_command.specs.App.{with_asker, with_scope, with_question, can_i_app, who_can_app, matrix_app, bare_app, rbac_app};
 
-use clap::{Arg, ArgAction, Command};
+use clap::{Arg, ArgAction, Command, value_parser};
 use std::alloc::{AllocError, Global};
 
 // What `--version` prints after the program's name.
@@ -45,8 +45,12 @@ const MATRIX_MORE: &str =
 API group, resource or URL, object name, and the first binding that grants it; - is an empty field.
 A Universe document says whom and what to ask.
 
-Example:
-  rbacaudit matrix cluster.json namespaced.json universe.json";
+The last line is end, or next and a TOKEN, joined by a tab, where --limit left rows out:
+--after TOKEN goes on from there.
+
+Examples:
+  rbacaudit matrix cluster.json namespaced.json universe.json
+  rbacaudit matrix --limit 1000 --after TOKEN cluster.json namespaced.json";
 
 fn user_arg<'a>(alloc: Global) -> Arg<'a>
     ensures rule { rule_of result ≡ user_rule }
@@ -140,6 +144,27 @@ fn target_arg<'a>(alloc: Global) -> Arg<'a>
         .value_name("TARGET")
         .required(true)
         .help("TYPE, TYPE/NAME or a URL path, e.g. pods, deployments.apps/web or /healthz")
+}
+
+fn after_arg<'a>(alloc: Global) -> Arg<'a>
+    ensures rule { rule_of result ≡ after_rule }
+    ensures local { result.global ≡ false }
+{
+    Arg::new(alloc, "after")
+        .long("after")
+        .value_name("TOKEN")
+        .help("List only the rows after this TOKEN of a next line (default: from the first)")
+}
+
+fn limit_arg<'a>(alloc: Global) -> Arg<'a>
+    ensures rule { rule_of result ≡ limit_rule }
+    ensures local { result.global ≡ false }
+{
+    Arg::new(alloc, "limit")
+        .long("limit")
+        .value_name("N")
+        .value_parser(value_parser!(u32).range(1..=1_000_000))
+        .help("List at most N rows, 1 to 1000000 (default: all)")
 }
 
 fn files_arg<'a>(alloc: Global) -> Arg<'a>
@@ -240,6 +265,8 @@ fn matrix<'a>(alloc: Global) -> Result<Command<'a>, AllocError>
         "List everything that anyone may do: a line for each request that is allowed, then end",
         MATRIX_MORE,
     );
+    let command = with(command, after_arg(alloc))?;
+    let command = with(command, limit_arg(alloc))?;
     with(command, files_arg(alloc))
 }
 

@@ -71,6 +71,13 @@ impl<'p> Index<'p> {
         })
     }
 
+    /// The policy that is indexed.
+    pub fn policy(&self) -> &'p Policy
+        ensures { result.now ≡ self.now }
+    {
+        self.policy
+    }
+
     /// How many grants there are.
     pub fn len(&self) -> u32
         ensures { result ≡ length self.now.grants }

@@ -10,7 +10,7 @@ use Rattle.rbac_model.specs.Policies.{Held}
 use Rattle.rbac_model.specs.Universes.{UniverseView, IsUniverse, RowView, IsCellOf, Fits, IsMatrix, cell_key}
 use Rattle.rbac_model.proofs.OneList.{one_list}
 use Rattle.rbac_matrix.specs.Cells.{AreRowsOf, cells_of}
-use Rattle.rbac_matrix.proofs.Rows.{rows_sound, rows_complete, rows_ascend, rows_from}
+use Rattle.rbac_matrix.proofs.RowLemmas.{rows_sound, rows_complete, rows_ascend, rows_from}
 use Rattle.rbac_matrix.proofs.Product.{cell_name, key_texts, in_cells, cells_in, cells_ascend}
 
 less_is : (o : Ordering) → IsTrue (is_lt o) → o ≡ Less

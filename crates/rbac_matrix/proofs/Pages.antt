@@ -1,6 +1,6 @@
 -- pages of rows in order of their keys join
-use Rattle.std.proofs.Common.{◌≡◌, ◌≢◌, ℕ, zero, suc, ◌<◌, ◌≤◌, ◌+◌, Bool, true, false, List, [], ◌∷◌, ◌++◌, length, drop, take, refl, ap, ◌∙◌, sym, arith, Contains, ◌⊎◌, inl, inr, Less, Equal, Greater, Ordering, subst, length-append}
-use Rattle.std.specs.Prelude.{Option, Some, None, filter, nat_lt, ◌↔◌, AllPairs}
+use Rattle.std.proofs.Common.{◌≡◌, ◌≢◌, ℕ, zero, suc, ◌<◌, Bool, true, false, List, [], ◌∷◌, ◌++◌, length, drop, take, refl, ap, ◌∙◌, sym, arith, Contains, ◌⊎◌, inl, inr, Less, Equal, Greater, Ordering, subst}
+use Rattle.std.specs.Prelude.{Some, None, filter, nat_lt, ◌↔◌, AllPairs}
 use Rattle.std.specs.Ordering.{is_gt, ordering_reverse}
 use Rattle.std.proofs.lemmas.Bool.{false≢true}
 use Rattle.std.proofs.lemmas.Bool.Decides.{nat_tests}
@@ -10,9 +10,8 @@ use Rattle.std.proofs.lemmas.List.Kept.{AllPairs-filter}
 use Rattle.std.proofs.lemmas.List.Elements.{filter_passes}
 use Rattle.rbac_terms.specs.Keys.{KeyTexts, key_cmp}
 use Rattle.rbac_terms.specs.KeyOrder.{key_cmp_total}
-use Rattle.rbac_model.specs.Policies.{Held}
-use Rattle.rbac_model.specs.Universes.{UniverseView, RowView, IsMatrix, cell_key, rows_after, page}
-use Rattle.rbac_matrix.specs.Paging.{PageJoins, PagesJoin}
+use Rattle.rbac_model.specs.Universes.{RowView, cell_key, rows_after}
+use Rattle.rbac_matrix.specs.Paging.{PagesJoin}
 use Rattle.rbac_matrix.proofs.OneMatrix.{by_keys}
 
 abbrev key : RowView → KeyTexts

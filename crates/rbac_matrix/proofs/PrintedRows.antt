@@ -19,7 +19,7 @@ use Rattle.rbac_text.specs.Row.{row_text}
 use Rattle.rbac_matrix.specs.Cells.{HasRow, AreRowsOf}
 use Rattle.rbac_matrix.specs.Printed.{rows_text}
 use Rattle.rbac_matrix.specs.Printing.{PrintsRows, StopsInRows, StopsBy}
-use Rattle.rbac_matrix.proofs.Rows.{row_at, rows_one, rows_append, rows_split}
+use Rattle.rbac_matrix.proofs.RowLemmas.{row_at, rows_one, rows_append, rows_split}
 use Rattle.rbac_matrix.proofs.Within.{within_of, within_after}
 
 text_append : (rs ss : List RowView) → rows_text (rs ++ ss) ≡ rows_text rs ++ rows_text ss

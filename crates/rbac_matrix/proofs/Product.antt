@@ -68,7 +68,7 @@ by_target who namespace verb t v less =
 
 module _ (u : UniverseView) where
   -- which requests these are
-  in_line : (who : Who) (n v : Text) (c : Cell) → Contains (line_cells u who n v) c → (c.who ≡ who) × (c.namespace ≡ n) × (c.verb ≡ v) × Contains u.targets c.target
+  pub in_line : (who : Who) (n v : Text) (c : Cell) → Contains (line_cells u who n v) c → (c.who ≡ who) × (c.namespace ≡ n) × (c.verb ≡ v) × Contains u.targets c.target
   in_line who n v c w =
       let r = contains_map (cell_at who n v) u.targets c w in (
         ap (λ (x : Cell). x.who) (sym r.2),
@@ -77,13 +77,13 @@ module _ (u : UniverseView) where
         subst (λ (x : Cell). Contains u.targets x.target) r.2 r.1,
       )
 
-  in_namespace : (who : Who) (n : Text) (c : Cell) → Contains (namespace_cells u who n) c → (c.who ≡ who) × (c.namespace ≡ n) × Contains u.verbs c.verb × Contains u.targets c.target
+  pub in_namespace : (who : Who) (n : Text) (c : Cell) → Contains (namespace_cells u who n) c → (c.who ≡ who) × (c.namespace ≡ n) × Contains u.verbs c.verb × Contains u.targets c.target
   in_namespace who n c w =
       let r = contains_flat (line_cells u who n) u.verbs c w in
       let of = in_line who n r.0 c r.2 in
       (of.0, of.1, subst (λ (v : Text). Contains u.verbs v) (sym of.2) r.1, of.3)
 
-  in_principal : (who : Who) (c : Cell) → Contains (principal_cells u who) c → (c.who ≡ who) × Contains u.namespaces c.namespace × Contains u.verbs c.verb × Contains u.targets c.target
+  pub in_principal : (who : Who) (c : Cell) → Contains (principal_cells u who) c → (c.who ≡ who) × Contains u.namespaces c.namespace × Contains u.verbs c.verb × Contains u.targets c.target
   in_principal who c w =
       let r = contains_flat (namespace_cells u who) u.namespaces c w in
       let of = in_namespace who r.0 c r.2 in

@@ -4,7 +4,7 @@ use Rattle.rbac_terms.specs.declared.granting.Binding.{Binding}
 use Rattle.rbac_model.specs.Policies.{PolicyView, IsPolicy}
 use Rattle.rbac_model.specs.Universes.{UniverseView, IsUniverse, Cell, RowView, IsMatrix}
 use Rattle.rbac_matrix.specs.Cells.{HasRow, AreRowsOf, cells_of}
-use Rattle.rbac_matrix.proofs.Rows.{row_at}
+use Rattle.rbac_matrix.proofs.RowLemmas.{row_at}
 use Rattle.rbac_matrix.proofs.Decided.{either, is_true, is_nil, first}
 use Rattle.rbac_matrix.proofs.OneMatrix.{is_matrix}
 

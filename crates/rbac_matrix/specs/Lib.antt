@@ -1,4 +1,15 @@
 pub mod Cells
+pub mod Cursors
+pub mod Enumeration
+pub mod Lent
+pub mod Lines
+pub mod Metering
+pub mod Pages
 pub mod Paging
+pub mod Passing
 pub mod Printed
 pub mod Printing
+pub mod RowTexts
+pub mod Seats
+pub mod Shown
+pub mod Starting

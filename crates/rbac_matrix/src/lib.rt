@@ -1,8 +1,23 @@
 //! The matrix: all that anyone may do, in order of keys, each with its first granting binding.
 #![tactic(auto)]
 
+mod enumeration;
+mod fault;
 mod laws;
+mod line;
+mod matrix;
 mod plain;
+mod row;
+mod seat;
+mod seats;
+mod start;
+mod stepping;
+mod walk;
 
+pub use enumeration::Rows;
+pub use fault::MatrixFault;
 pub use laws::{a_matrix_is_there, pages_join, the_matrix_is_one};
+pub use matrix::Matrix;
 pub use plain::print_matrix;
+pub use row::Row;
+pub use seat::Seat;

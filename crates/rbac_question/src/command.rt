@@ -1,7 +1,7 @@
 //! What a command line says.
 
 use crate::asked::Asked;
-use rbac_terms::{Principal, Word};
+use rbac_terms::{Key, Principal, Word};
 
 /// Whether a verb may be used on what is asked for, in a namespace (own, after `kubectl auth can-i`).
 #[derive(Clone, Drop)]
@@ -34,7 +34,12 @@ pub enum Action {
         question: Question,
     },
     /// Lists all that anyone may do.
-    Matrix,
+    Matrix {
+        /// The key of `--after`: only what comes after it is listed.
+        after: Option<Key>,
+        /// The most rows, as `--limit` gives it.
+        limit: Option<u32>,
+    },
 }
 
 /// A command line that was accepted.

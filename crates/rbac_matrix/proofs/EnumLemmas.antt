@@ -1,0 +1,140 @@
+-- from line to line
+use Rattle.std.proofs.Common.{◌≡◌, ℕ, zero, suc, ◌+◌, ◌<◌, ◌≤◌, List, [], ◌∷◌, ◌++◌, length, get_or, min, sum_by, refl, ap, ap₂, ◌∙◌, sym, arith, subst, inl, inr, append_assoc}
+use Rattle.std.specs.List.{flat_map}
+use Rattle.std.proofs.lemmas.Bool.{cases_lt}
+use Rattle.std.proofs.lemmas.List.{get_or_default, get_or_past}
+use Rattle.std.proofs.lemmas.List.Sums.{sum_by-cons}
+use Rattle.std.proofs.lemmas.Grind.{flat_map-append}
+use Rattle.rbac_model.specs.Policies.{Held, PolicyView, IsPolicy}
+use Rattle.rbac_model.specs.Universes.{UniverseView, IsUniverse, Cell, RowView}
+use Rattle.rbac_matrix.specs.Cells.{AreRowsOf}
+use Rattle.rbac_matrix.specs.Lines.{LineView, cells_of_lines, line_cells_from, lines_from}
+use Rattle.rbac_index.specs.Reaches.{AreReaches}
+use Rattle.rbac_matrix.specs.Metering.{IsMetered, IsReady, Skips}
+use Rattle.rbac_matrix.specs.Passing.{EndsLine, FindsCell, FindsRow, Passes, cells_left}
+use Rattle.rbac_matrix.specs.declared.line.Place.{Place}
+use Rattle.rbac_matrix.specs.declared.seat.Seat.{Seat}
+use Rattle.rbac_matrix.specs.Seats.{AreEmpty, AreReal, AreSeated, Costs, empty_seat, filled, past_all, reach_at, seat_at, stand_of}
+use Rattle.rbac_matrix.proofs.RowLemmas.{rows_append}
+use Rattle.rbac_matrix.proofs.PassLemmas.{passes_more, passes_rows, passes_then}
+use Rattle.rbac_matrix.proofs.LineLemmas.{ends_line}
+use Rattle.rbac_matrix.proofs.LoopLemmas.{cursor_within}
+use Rattle.rbac_matrix.proofs.LinesLemmas.{onward_whole}
+use Rattle.rbac_matrix.proofs.TouchLemmas.{metered_end, metered_on, metered_skip}
+
+-- ---- seats of which none is filled
+
+none_of : (f : Seat → ℕ) (seats : List Seat) (k : ℕ) → sum_by f seats ≡ 0 → k < length seats → f (seat_at seats k) ≡ 0
+none_of f [] k e lt = absurd (omega arith)
+none_of f (s ∷ seats) zero e lt = let sum = sum_by-cons f s seats in omega arith
+none_of f (s ∷ seats) (suc k) e lt = let sum = sum_by-cons f s seats in none_of f seats k (omega arith) (omega arith)
+
+seat_is : (s : Seat) → s.position ≡ 0 → s.place ≡ past_all → s ≡ empty_seat
+seat_is s e f = ap₂ (λ (a b : ℕ). record { position = a; place = b }) e f
+
+pub unfilled : (p : PolicyView) (l : LineView) (rs : List (List ℕ)) (from : ℕ) (seats : List Seat) → AreReal rs → AreSeated p l rs from seats → filled seats ≡ 0 → AreEmpty p seats
+unfolding filled
+unfilled p l rs from seats real seated none = record {
+  count = seated.count;
+  each = λ k lt. elim (seated.each k lt) [
+    | inl s ↦
+        let nought = none_of (λ (x : Seat). min 1 (x.position + stand_of x)) seats k none lt in
+        let at : (seat_at seats k).position ≡ 0 = omega arith in
+        let place : (seat_at seats k).place ≡ get_or (reach_at rs k) 0 past_all = rw at at s.1.place in
+        let over : past_all ≤ (seat_at seats k).place = omega arith in
+        seat_is (seat_at seats k) at (elim (cases_lt 0 (length (reach_at rs k))) [
+          | inl some ↦ absurd (let first = get_or_default (reach_at rs k) 0 past_all 0 some in omega (arith, real k 0 some))
+          | inr none_left ↦ place ∙ get_or_past (reach_at rs k) 0 past_all none_left
+        ])
+    | inr e ↦ e.1
+  ];
+}
+
+-- ---- lines without rows
+
+module _ (h : Held) (u : UniverseView) where
+  pub skips_same : (at to : Place) → lines_from u to ≡ lines_from u at → Skips h u at to
+  skips_same at to e = record { between = []; whole = sym e; none = refl }
+
+  pub skips_line : (at to : Place) (l : LineView) → lines_from u at ≡ l ∷ lines_from u to → AreRowsOf h (line_cells_from u 0 l) [] → Skips h u at to
+  skips_line at to l e none = record {
+    between = l ∷ [];
+    whole = e;
+    none = rows_append h (line_cells_from u 0 l) [] [] [] none refl;
+  }
+
+  pub skips_then : (a b c : Place) → Skips h u a b → Skips h u b c → Skips h u a c
+  skips_then a b c p q = record {
+    between = p.between ++ q.between;
+    whole = p.whole ∙ ap (λ (ls : List LineView). p.between ++ ls) q.whole ∙ sym (append_assoc p.between q.between (lines_from u c));
+    none = subst (λ (cs : List Cell). AreRowsOf h cs []) (sym (flat_map-append (line_cells_from u 0) p.between q.between))
+        (rows_append h (flat_map (line_cells_from u 0) p.between) (flat_map (line_cells_from u 0) q.between) [] [] p.none q.none);
+  }
+
+  pub whole_cells : (ls : List LineView) → cells_of_lines u 0 ls ≡ flat_map (line_cells_from u 0) ls
+  whole_cells ls = onward_whole (line_cells_from u 0) ls
+
+  pub skips_pass : (at to : Place) → Skips h u at to → Passes h (cells_left u at 0) (cells_left u to 0) []
+  skips_pass at to s = record {
+    between = flat_map (line_cells_from u 0) s.between;
+    whole = whole_cells (lines_from u at) ∙ ap (flat_map (line_cells_from u 0)) s.whole ∙ flat_map-append (line_cells_from u 0) s.between (lines_from u to) ∙ ap (λ (cs : List Cell). flat_map (line_cells_from u 0) s.between ++ cs) (sym (whole_cells (lines_from u to)));
+    are = s.none;
+  }
+
+  pub cells_at : (at : Place) (from : ℕ) (l : LineView) (ls : List LineView) → lines_from u at ≡ l ∷ ls → cells_left u at from ≡ line_cells_from u from l ++ flat_map (line_cells_from u 0) ls
+  cells_at at from l ls e = ap (cells_of_lines u from) e
+
+  -- rows of a line are rows of what is left
+  pub line_passes : (at : Place) (from to : ℕ) (l : LineView) (ls : List LineView) (rows : List RowView) → lines_from u at ≡ l ∷ ls → Passes h (line_cells_from u from l) (line_cells_from u to l) rows → Passes h (cells_left u at from) (cells_left u at to) rows
+  line_passes at from to l ls rows e p =
+      let all = passes_more h (line_cells_from u from l) (line_cells_from u to l) (flat_map (line_cells_from u 0) ls) rows p in
+      subst (λ (cs : List Cell). Passes h cs (cells_left u at to) rows) (sym (cells_at at from l ls e))
+      (subst (λ (cs : List Cell). Passes h (line_cells_from u from l ++ flat_map (line_cells_from u 0) ls) cs rows) (sym (cells_at at to l ls e)) all)
+
+  pub line_ends : (at next : Place) (from : ℕ) (l : LineView) → lines_from u at ≡ l ∷ lines_from u next → Passes h (line_cells_from u from l) [] [] → Passes h (cells_left u at from) (cells_left u next 0) []
+  line_ends at next from l e p =
+      let all = passes_more h (line_cells_from u from l) [] (flat_map (line_cells_from u 0) (lines_from u next)) [] p in
+      subst (λ (cs : List Cell). Passes h cs (cells_left u next 0) []) (sym (cells_at at from l (lines_from u next) e))
+      (subst (λ (cs : List Cell). Passes h (line_cells_from u from l ++ flat_map (line_cells_from u 0) (lines_from u next)) cs []) (sym (whole_cells (lines_from u next))) all)
+
+pub same_head : {X : Type 0} (x y : X) (xs ys : List X) → x ∷ xs ≡ y ∷ ys → x ≡ y
+same_head x y xs ys e = cc
+
+pub no_head : {X : Type 0} (x : X) (xs : List X) → x ∷ xs ≡ [] → ⊥
+no_head x xs e = cc
+
+module _ (p : PolicyView) (u : UniverseView) (rs : List (List ℕ)) where
+  -- a line whose cursors have no entries has no row
+  pub idle_line : (l : LineView) (seats : List Seat) → IsPolicy p → IsUniverse u → AreReaches p u rs → length u.targets ≤ 1000000 → AreReal rs → AreSeated p l rs 0 seats → filled seats ≡ 0 → AreRowsOf p.held (line_cells_from u 0 l) []
+  idle_line l seats policy is reaches few real seated none =
+      let empty = unfilled p l rs 0 seats real seated none in
+      let ends : EndsLine p u rs l 0 seats = ends_line p u rs l policy is reaches 0 seats seated few (λ k c. rw (empty.each k (omega (arith, seated.count, cursor_within p l k c))) (omega arith)) in
+      passes_rows p.held (line_cells_from u 0 l) [] [] [] ends.passes refl
+
+  -- the row of a line is that of what is left
+  pub finds_cell : (start at : Place) (first from : ℕ) (l : LineView) (ls : List LineView) (old seats : List Seat) (place number : ℕ) → lines_from u at ≡ l ∷ ls → IsReady p u rs at from old → Passes p.held (cells_left u start first) (cells_left u at from) [] → FindsRow p u rs l from seats place number → FindsCell p u rs start first at seats place number
+  finds_cell start at first from l ls old seats place number e ready before f = record {
+    line = l;
+    others = ls;
+    line_at = e;
+    target = f.target;
+    grant = f.grant;
+    target_at = f.target_at;
+    grant_at = f.grant_at;
+    fits = f.fits;
+    passes = passes_then p.held (cells_left u start first) (cells_left u at from) (cells_left u at (place + 1)) [] _ before (line_passes p.held u at from (place + 1) l ls _ e f.passes);
+    ready = record {
+      settled = ready.settled;
+      count = f.seated.count;
+      seated = λ m ms other. subst (λ (x : LineView). AreSeated p x rs (place + 1) seats) (same_head l m ls ms (sym e ∙ other)) f.seated;
+      ended = λ other. absurd (no_head l ls (sym e ∙ other));
+    };
+  }
+
+  -- the account over the end of a line, and the lines that are skipped
+  pub metered_over : (start : Place) (sought given : ℕ) (at next to : Place) (l : LineView) (from : ℕ) (old ended empty seats : List Seat) (m m' m'' : ℕ) → IsPolicy p → IsUniverse u → AreReaches p u rs → lines_from u at ≡ l ∷ lines_from u next → EndsLine p u rs l from ended → AreEmpty p empty → Costs 0 0 old ended m m' → Costs 0 0 empty seats m' m'' → Skips p.held u next to → IsMetered p u start sought at old given m → IsMetered p u start sought to seats given m''
+  metered_over start sought given at next to l from old ended empty seats m m' m'' policy is reaches e ends none costs more skips h =
+      let read : IsMetered p u start sought at ended given m' = metered_on p u start sought at old ended given m m' h costs in
+      let over : IsMetered p u start sought next empty given m' = metered_end p u start sought rs at next l ends.reached ended empty given m' policy is reaches e ends.seated ends.past none read in
+      let seated : IsMetered p u start sought next seats given m'' = metered_on p u start sought next empty seats given m' m'' over more in
+      metered_skip p u start sought next to seats given m'' skips.between skips.whole seated

@@ -1,0 +1,62 @@
+-- An enumeration: the rows that it has left, and what holds of it between two calls.
+use Rattle.std.specs.Prelude.{◌≡◌, ℕ, ◌↔◌, List, [], ◌∷◌, ◌++◌, Option, MatchOption, length}
+use Rattle.std.specs.Iterator.{Count, at_most}
+use Rattle.rbac_model.specs.Policies.{IsPolicy}
+use Rattle.rbac_model.specs.Universes.{IsUniverse, RowView}
+use Rattle.rbac_matrix.specs.Cells.{AreRowsOf}
+use Rattle.rbac_matrix.specs.Lines.{LineView, lines_from}
+use Rattle.rbac_matrix.specs.Metering.{IsMetered, IsReady}
+use Rattle.rbac_matrix.specs.Passing.{cells_left}
+use Rattle.rbac_index.specs.Reaches.{AreReaches, raised}
+use Rattle.rbac_matrix.specs.RowTexts.{Shows}
+use Rattle.rbac_matrix.specs.declared.row.Row.{Row}
+use Rattle.rbac_matrix.specs.declared.enumeration.Rows.{Rows}
+
+-- these rows are left: those of the requests from its place on
+unfoldable pub AreLeft : Rows → List RowView → Type 0
+AreLeft s rows = AreRowsOf s.index.now.held (cells_left s.universe.now s.at s.from) rows
+
+-- how many requests are left; no more rows are
+unfoldable pub requests_left : Rows → ℕ
+requests_left s = length (cells_left s.universe.now s.at s.from)
+
+abbrev pub left_at_most : Rows → Count
+left_at_most s = at_most (requests_left s)
+
+-- a row was given, which is the first of those that are left, and the others are left
+pub record GivesRow (s : Rows) (r : Row) (t : Rows) : Type 0 where
+  pub row : RowView
+  pub shows : Shows r row
+  pub left : (all : List RowView) → AreLeft s all ↔ ((others : List RowView) × (all ≡ row ∷ others) × AreLeft t others)
+
+-- a call gave the first row of those that are left, or nothing where none is left
+abbrev pub Gives : Rows → Option Row → Rows → Type 0
+Gives s r t = MatchOption r (AreLeft s [] × AreLeft t []) (λ row. GivesRow s row t)
+
+-- behind the line of the seats, and that line, if there is one
+abbrev pub EntersLast : List LineView → List LineView → List LineView → Type 0
+EntersLast [] behind entered = entered ≡ behind
+EntersLast (l ∷ ls) behind entered = entered ≡ behind ++ l ∷ []
+
+-- what holds between two calls
+pub record IsGoing (s : Rows) : Type 0 where
+  pub policy : IsPolicy s.index.now
+  pub universe : IsUniverse s.universe.now
+  pub reaches : AreReaches s.index.now s.universe.now s.reaches.now
+  pub ready : IsReady s.index.now s.universe.now s.reaches.now s.at s.from s.seats.now
+  pub rows : ℕ
+  pub is_given : s.given ≡ raised 0 rows
+  pub metered : IsMetered s.index.now s.universe.now s.start s.sought s.at s.seats.now rows s.meter
+
+-- the lines that were entered: those from the first one up to that of the seats
+pub record AreEntered (s : Rows) (entered : List LineView) : Type 0 where
+  pub behind : List LineView
+  pub whole : lines_from s.universe.now s.start ≡ behind ++ lines_from s.universe.now s.at
+  pub last : EntersLast (lines_from s.universe.now s.at) behind entered
+
+-- new is the enumeration old, further on
+pub record GoesOn (old new : Rows) : Type 0 where
+  pub index : new.index.now ≡ old.index.now
+  pub universe : new.universe.now ≡ old.universe.now
+  pub start : new.start ≡ old.start
+  pub sought : new.sought ≡ old.sought

@@ -1,0 +1,50 @@
+-- The lines of a universe, in order, and the requests of each.
+use Rattle.std.specs.Prelude.{◌≡◌, ℕ, ◌+◌, ◌<◌, ◌⊎◌, List, [], ◌∷◌, ◌++◌, map, drop, length}
+use Rattle.std.specs.List.{flat_map}
+use Rattle.rbac_terms.specs.Text.{Text}
+use Rattle.rbac_terms.specs.Principals.{Who}
+use Rattle.rbac_model.specs.Universes.{UniverseView, Cell}
+use Rattle.rbac_matrix.specs.declared.line.Place.{Place}
+use Rattle.rbac_matrix.specs.Cells.{cell_at}
+
+-- a line of the matrix (own): who, namespace and verb
+pub record LineView : Type 0 where
+  pub who : Who
+  pub namespace : Text
+  pub verb : Text
+
+abbrev pub line : Who → Text → Text → LineView
+line who namespace verb = record { who = who; namespace = namespace; verb = verb }
+
+-- what the first brings from somewhere on, then all that the others bring
+abbrev pub onward : {A B : Type 0} → (A → List B) → (A → List B) → List A → List B
+onward first whole [] = []
+onward first whole (x ∷ xs) = first x ++ flat_map whole xs
+
+-- the lines of someone in a namespace from a verb on, of someone from a namespace and a verb on, and all from a place on
+abbrev pub verb_lines : UniverseView → Who → ℕ → Text → List LineView
+verb_lines u who v namespace = map (line who namespace) (drop v u.verbs)
+
+abbrev pub namespace_lines : UniverseView → ℕ → ℕ → Who → List LineView
+namespace_lines u n v who = onward (verb_lines u who v) (verb_lines u who 0) (drop n u.namespaces)
+
+unfoldable pub lines_from : UniverseView → Place → List LineView
+lines_from u at = onward (namespace_lines u at.namespace at.verb) (namespace_lines u 0 0) (drop at.principal u.principals)
+
+-- the place after a line
+abbrev pub next_verb : Place → Place
+next_verb at = record { principal = at.principal; namespace = at.namespace; verb = at.verb + 1 }
+
+-- a place of a line, or past all lines
+abbrev pub IsSettled : UniverseView → Place → Type 0
+IsSettled u at =
+    ((at.principal < length u.principals) × (at.namespace < length u.namespaces) × (at.verb < length u.verbs))
+    ⊎ (lines_from u at ≡ [])
+
+-- the requests of a line from a target's place on
+unfoldable pub line_cells_from : UniverseView → ℕ → LineView → List Cell
+line_cells_from u from l = map (cell_at l.who l.namespace l.verb) (drop from u.targets)
+
+-- the requests of these lines, of the first from a target's place on
+abbrev pub cells_of_lines : UniverseView → ℕ → List LineView → List Cell
+cells_of_lines u from ls = onward (line_cells_from u from) (line_cells_from u 0) ls

@@ -1,0 +1,23 @@
+-- A page of rows as it is printed, and its last line.
+use Rattle.std.specs.Prelude.{ℕ, Bool, true, false, List, [], ◌∷◌, ◌++◌, codes, Option, Some, None}
+use Rattle.std.specs.List.{last_or}
+use Rattle.rbac_terms.specs.Text.{Text}
+use Rattle.rbac_model.specs.Universes.{RowView, cell_key, page}
+use Rattle.rbac_text.specs.Row.{tab, newline}
+use Rattle.rbac_token.specs.Token.{token_text}
+use Rattle.rbac_matrix.specs.Printed.{rows_text}
+
+-- of these rows those that the limit leaves, and whether more follow; without a limit all of them
+abbrev pub cut_at : Option ℕ → List RowView → List RowView × Bool
+cut_at None rows = (rows, false)
+cut_at (Some n) rows = page None n rows
+
+-- what stands on the last line: where more rows follow, `next` and the token of the last row; else `end` (own)
+abbrev pub last_words : Option RowView → Bool → Text
+last_words (Some row) true = codes "next" ++ tab ∷ token_text (cell_key row.cell)
+last_words (Some row) false = codes "end"
+last_words None more = codes "end"
+
+-- the lines of a page: its rows, and the last line
+abbrev pub page_text : List RowView × Bool → Text
+page_text p = rows_text p.0 ++ last_words (last_or None p.0) p.1 ++ newline ∷ []

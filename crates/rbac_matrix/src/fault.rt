@@ -1,0 +1,24 @@
+//! Why a row's key can't be told.
+
+ghost use Rattle.std.specs.Prelude.{◌≡◌};
+
+use rbac_terms::ModelFault;
+use thiserror::Error;
+
+/// Why the key of a row isn't made: Y1 NoMemory, where memory is refused.
+#[derive(Debug, Drop, Clone, Copy, PartialEq, Eq, Error)]
+pub enum MatrixFault {
+    /// Y1: memory was refused.
+    #[error("out of memory")]
+    NoMemory,
+}
+
+impl From<ModelFault> for MatrixFault {
+    ghost use Rattle.rbac_matrix.specs.declared.fault.MatrixFault.TheVariants.{NoMemory};
+
+    ghost from_gives = { λ _ fault. fault ≡ NoMemory };
+
+    fn from(_: ModelFault) -> Self {
+        MatrixFault::NoMemory
+    }
+}

@@ -1,0 +1,102 @@
+//! The lines of a universe: who, namespace and verb.
+
+ghost use Rattle.std.specs.Prelude.{◌≡◌, ◌∷◌, [], ◌<◌, ◌≤◌, ◌+◌, length, IfSome, MatchOption};
+ghost use Rattle.rbac_model.specs.Universes.{IsUniverse};
+ghost use Rattle.rbac_matrix.specs.Lines.{LineView, IsSettled, lines_from, next_verb};
+ghost use Rattle.rbac_matrix.specs.Shown.{line_of};
+
+use rbac_terms::{Principal, Word};
+use rbac_universe::Universe;
+
+/// The places of a line's principal, namespace and verb in the lists of a universe.
+#[derive(Clone, Copy)]
+pub(crate) struct Place {
+    pub(crate) principal: usize,
+    pub(crate) namespace: usize,
+    pub(crate) verb: usize,
+}
+
+/// Who, where, and to do what.
+#[derive(Clone, Copy)]
+pub(crate) struct Line<'a> {
+    pub(crate) principal: &'a Principal,
+    pub(crate) namespace: &'a Word,
+    pub(crate) verb: &'a Word,
+}
+
+// The line at this place; none past the last.
+pub(crate) fn line_at<'a>(universe: &'a Universe, at: Place) -> Option<Line<'a>>
+    requires { IsSettled universe.now at }
+    ensures universe { IsUniverse universe.now }
+    ensures few { IfSome result (λ _. at.verb < 65535) }
+    ensures line { MatchOption result (lines_from universe.now at ≡ [])
+        (λ line. lines_from universe.now at ≡ line_of line ∷ lines_from universe.now (next_verb at)) }
+{
+    let universe: &'a Universe = universe;
+    Some(Line {
+        principal: universe.principals().get(at.principal)?,
+        namespace: universe.namespaces().get(at.namespace)?,
+        verb: universe.verbs().get(at.verb)?,
+    })
+}
+
+// The place after a line's.
+pub(crate) fn after(at: Place) -> Place
+    requires { at.verb < 65535 }
+    ensures { result ≡ next_verb at }
+{
+    Place {
+        principal: at.principal,
+        namespace: at.namespace,
+        verb: at.verb + 1,
+    }
+}
+
+// The place, in the next namespace where its verbs are over.
+fn after_verbs(universe: &Universe, at: Place) -> Place
+    ensures same { lines_from universe.now result ≡ lines_from universe.now at }
+    ensures verb { 0 < length universe.now.verbs → result.namespace < length universe.now.namespaces → result.verb < length universe.now.verbs }
+{
+    let namespaces = universe.namespaces().len();
+    let verbs = universe.verbs().len();
+    if at.namespace < namespaces && verbs <= at.verb {
+        return Place {
+            principal: at.principal,
+            namespace: at.namespace + 1,
+            verb: 0,
+        };
+    }
+    at
+}
+
+// The place, with the next principal where its namespaces are over.
+fn after_namespaces(universe: &Universe, at: Place) -> Place
+    requires { at.namespace < length universe.now.namespaces → at.verb < length universe.now.verbs }
+    ensures same { lines_from universe.now result ≡ lines_from universe.now at }
+    ensures settled { 0 < length universe.now.namespaces → 0 < length universe.now.verbs → IsSettled universe.now result }
+{
+    let principals = universe.principals().len();
+    let namespaces = universe.namespaces().len();
+    if at.principal < principals && namespaces <= at.namespace {
+        return Place {
+            principal: at.principal + 1,
+            namespace: 0,
+            verb: 0,
+        };
+    }
+    at
+}
+
+// The same place where it is a line's, else that of the next line.
+pub(crate) fn settled(universe: &Universe, at: Place) -> Place
+    ensures settled { IsSettled universe.now result }
+    ensures same { lines_from universe.now result ≡ lines_from universe.now at }
+{
+    if universe.namespaces().is_empty() {
+        return at;
+    }
+    if universe.verbs().is_empty() {
+        return at;
+    }
+    after_namespaces(universe, after_verbs(universe, at))
+}

@@ -1,0 +1,63 @@
+//! Rows of a matrix.
+
+ghost use Rattle.std.specs.Prelude.{◌≡◌, IfOk, IfErr};
+ghost use Rattle.rbac_terms.specs.Keys.{key_of, namespace_at};
+ghost use Rattle.rbac_matrix.specs.RowTexts.{key_shown, texts_shown};
+
+use crate::fault::MatrixFault;
+use crate::line::Line;
+use rbac_terms::{Binding, Key, Principal, Target, Word};
+use std::alloc::Global;
+
+/// A row of the matrix: a request that fits and is allowed, by the six texts of its key, with the
+/// first binding that grants it. It borrows from the index and the universe, and may be kept while
+/// they are.
+#[derive(Clone, Copy)]
+pub struct Row<'m> {
+    /// The principal's key.
+    pub principal: &'m Word,
+    /// The namespace; empty for a URL.
+    pub namespace: &'m Word,
+    /// The verb.
+    pub verb: &'m Word,
+    /// The API group; empty for the core group and for a URL.
+    pub group: &'m Word,
+    /// The resource text, or the URL.
+    pub resource: &'m Word,
+    /// The object name; empty for none and for a URL.
+    pub name: &'m Word,
+    /// The first binding, in order, that grants the request.
+    pub binding: &'m Binding,
+    who: &'m Principal,
+    target: &'m Target,
+}
+
+impl Row<'_> {
+    /// The key of the row's request. Y1 NoMemory where memory is refused.
+    pub fn key(&self, alloc: Global) -> Result<Key, MatrixFault>
+        ensures ok { IfOk result (λ k. k ≡ key_shown self.now) }
+        ensures only_memory { IfErr result (λ e. e ≡ MatrixFault.NoMemory) }
+    {
+        Ok(Key::of(alloc, self.who, self.namespace, self.verb, self.target)?)
+    }
+}
+
+// The row of a request of a line.
+pub(crate) fn row_of<'m>(line: Line<'m>, target: &'m Target, binding: &'m Binding) -> Row<'m>
+    requires { namespace_at line.namespace.now target.now ≡ line.namespace.now }
+    ensures key { key_shown result ≡ key_of line.entry.principal.now line.entry.namespace.now line.entry.verb.now target.now }
+    ensures texts { texts_shown result ≡ key_of line.entry.principal.now line.entry.namespace.now line.entry.verb.now target.now }
+    ensures binding { result.binding.now ≡ binding.now }
+{
+    Row {
+        principal: line.principal.key(),
+        namespace: line.namespace,
+        verb: line.verb,
+        group: target.group(),
+        resource: target.text(),
+        name: target.name(),
+        binding,
+        who: line.principal,
+        target,
+    }
+}

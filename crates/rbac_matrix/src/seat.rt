@@ -1,0 +1,111 @@
+//! Seats: where a grant stands in its reach.
+
+ghost use Rattle.std.specs.Prelude.{◌≡◌, ◌+◌, ◌<◌, ◌≤◌, ◌↔◌, ℕ, IsTrue, length};
+ghost use Rattle.std.specs.List.{slice_index_or};
+ghost use Rattle.rbac_index.specs.Reaches.{raised};
+ghost use Rattle.rbac_matrix.specs.Seats.{IsSeated, IsFirstFrom, ReadsAtMost, SeatCosts, empty_seat, past_all};
+
+use rbac_index::{Meter, Reach};
+
+/// The seat of a grant: its position in its reach, and the place that was read there. It belongs to
+/// an enumeration, which says what stands in it.
+#[derive(Clone, Copy)]
+pub struct Seat {
+    position: u32,
+    place: u32,
+}
+
+impl Seat {
+    /// An empty seat. Takes no memory.
+    pub fn new() -> Self
+        ensures { result ≡ empty_seat }
+    {
+        Seat {
+            position: 0,
+            place: u32::MAX,
+        }
+    }
+
+    // Whether nothing was seated here, or a grant without a reach.
+    pub(crate) fn is_empty(self) -> bool
+        ensures { IsTrue result ↔ (self ≡ empty_seat) }
+    {
+        self.position == 0 && self.place == u32::MAX
+    }
+
+    // The place of the entry at which the seat stands; the greatest number where there is none.
+    pub(crate) fn place(self) -> u32
+        ensures { result ≡ self.place }
+    {
+        self.place
+    }
+}
+
+// The seat at this position, whose entry is read, if there is one.
+fn seat_in(reach: &Reach, position: usize, meter: &mut Meter) -> Seat
+    requires { position ≤ length reach.now }
+    ensures position { result.position ≡ position }
+    ensures place { result.place ≡ slice_index_or reach.now position past_all }
+    ensures read { position < length reach.now → meter.new ≡ raised meter.old 1 }
+    ensures unread { length reach.now ≤ position → meter.new ≡ meter.old }
+{
+    if position < reach.len() {
+        Seat {
+            position: position as u32,
+            place: reach.place(position, meter),
+        }
+    } else {
+        Seat {
+            position: position as u32,
+            place: u32::MAX,
+        }
+    }
+}
+
+// The position of the first entry that is at least `from`, by at most 20 reads.
+fn seek(reach: &Reach, from: u32, meter: &mut Meter) -> usize
+    ensures first { IsFirstFrom reach.now from result }
+    ensures reads { ReadsAtMost 20 meter.old meter.new }
+    ensures few { length reach.now ≤ 1000000 }
+{
+    let mut low = 0;
+    let mut high = reach.len();
+    while low < high {
+        let middle = low + (high - low) / 2;
+        if reach.place(middle, meter) < from {
+            low = middle + 1;
+        } else {
+            high = middle;
+        }
+    }
+    low
+}
+
+// The seat at the first entry that is at least `from`.
+pub(crate) fn seat_from(reach: &Reach, from: u32, meter: &mut Meter) -> Seat
+    requires real { (i : ℕ) → i < length reach.now → slice_index_or reach.now i 0 < past_all }
+    requires from { from ≤ past_all }
+    ensures seated { IsSeated reach.now from result }
+    ensures started { from ≡ 0 → SeatCosts 0 0 empty_seat result meter.old meter.new }
+    ensures sought { SeatCosts 20 0 empty_seat result meter.old meter.new }
+{
+    if from == 0 {
+        return seat_in(reach, 0, meter);
+    }
+    let position = seek(reach, from, meter);
+    seat_in(reach, position, meter)
+}
+
+// The seat at the entry after the one at which it stands.
+pub(crate) fn seat_after(reach: &Reach, seat: Seat, meter: &mut Meter) -> Seat
+    requires seated { IsSeated reach.now seat.place seat }
+    requires stands { seat.place < past_all }
+    requires real { (i : ℕ) → i < length reach.now → slice_index_or reach.now i 0 < past_all }
+    ensures seated { IsSeated reach.now (seat.place + 1) result }
+    ensures costs { SeatCosts 0 1 seat result meter.old meter.new }
+{
+    if seat.position as usize >= reach.len() {
+        return seat;
+    }
+    seat_in(reach, seat.position as usize + 1, meter)
+}

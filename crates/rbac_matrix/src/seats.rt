@@ -1,0 +1,128 @@
+//! The seats of the cursors of a line.
+
+ghost use Rattle.std.specs.Prelude.{◌≡◌, ◌+◌, ◌*◌, ◌<◌, ◌≤◌, ◌⊎◌, ℕ, length, IfSome, IfNone, IsTrue, ◌↔◌};
+ghost use Rattle.rbac_model.specs.Policies.{IsPolicy};
+ghost use Rattle.rbac_matrix.specs.Shown.{line_of};
+ghost use Rattle.rbac_matrix.specs.Cursors.{IsCursorAt};
+ghost use Rattle.rbac_matrix.specs.Seats.{AreSeated, AreEmpty, Costs, IsLeastSeat, AreReal, filled, empty_seat, past_all, seat_at};
+
+use crate::line::Line;
+use crate::seat::{Seat, seat_after, seat_from};
+use crate::walk::{cursors_of, next_cursor};
+use rbac_index::{Index, Meter, Reach};
+
+// Whether nothing was seated here, of a reach that has places.
+fn is_untaken(seat: Seat, reach: &Reach) -> bool
+    ensures { IsTrue result ↔ ((seat ≡ empty_seat) × (0 < length reach.now)) }
+{
+    seat.is_empty() && 0 < reach.len()
+}
+
+// Whether a place and a number come before others.
+fn comes_before(place: u32, number: u32, other_place: u32, other: u32) -> bool
+    ensures { IsTrue result ↔ ((place < other_place) ⊎ ((place ≡ other_place) × (number < other))) }
+{
+    place < other_place || (place == other_place && number < other)
+}
+
+// Seats each cursor of the line at its first entry that is at least `from`. Tells how many have an
+// entry, or had one.
+pub(crate) fn seat_line(
+    index: &Index<'_>,
+    reaches: &[Reach],
+    line: Line<'_>,
+    from: u32,
+    seats: &mut [Seat],
+    meter: &mut Meter,
+) -> usize
+    requires reaches { length reaches.now ≡ length index.now.grants }
+    requires real { AreReal reaches.now }
+    requires from { from ≤ past_all }
+    requires empty { AreEmpty index.now seats.old }
+    ensures seated { AreSeated index.now (line_of line.entry) reaches.now from seats.new }
+    ensures filled { result ≡ filled seats.new }
+    ensures started { from ≡ 0 → Costs 0 0 seats.old seats.new meter.old meter.new }
+    ensures sought { Costs (20 * result) 0 seats.old seats.new meter.old meter.new }
+{
+    let mut filled = 0;
+    let mut walk = cursors_of(index, line);
+    while let Some(no) = next_cursor(index, line, &mut walk) {
+        let no = no as usize;
+        if is_untaken(seats[no], &reaches[no]) {
+            seats[no] = seat_from(&reaches[no], from, meter);
+            filled += 1;
+        }
+    }
+    filled
+}
+
+// The least place at which a seat of the line stands, with the first grant that stands there.
+pub(crate) fn least_seat(index: &Index<'_>, line: Line<'_>, seats: &[Seat]) -> Option<(u32, u32)>
+    requires { length seats.now ≡ length index.now.grants }
+    ensures found { IfSome result (λ found. IsLeastSeat index.now (line_of line.entry) seats.now found.0 found.1) }
+    ensures none { IfNone result ((k : ℕ) → IsCursorAt index.now (line_of line.entry) k → past_all ≤ (seat_at seats.now k).place) }
+{
+    let mut place = u32::MAX;
+    let mut number = 0;
+    let mut walk = cursors_of(index, line);
+    while let Some(no) = next_cursor(index, line, &mut walk) {
+        let here = seats[no as usize].place();
+        if comes_before(here, no, place, number) {
+            place = here;
+            number = no;
+        }
+    }
+    if place == u32::MAX {
+        None
+    } else {
+        Some((place, number))
+    }
+}
+
+// Moves each seat that stands at the place on by one entry.
+pub(crate) fn advance(
+    index: &Index<'_>,
+    reaches: &[Reach],
+    line: Line<'_>,
+    place: u32,
+    seats: &mut [Seat],
+    meter: &mut Meter,
+)
+    requires reaches { length reaches.now ≡ length index.now.grants }
+    requires seated { AreSeated index.now (line_of line) reaches.now place seats.old }
+    requires real { AreReal reaches.now }
+    requires stands { place < past_all }
+    ensures seated { AreSeated index.now (line_of line.entry) reaches.now (place + 1) seats.new }
+    ensures costs { (k : ℕ) → IsCursorAt index.now (line_of line.entry) k → (seat_at seats.old k).place ≡ place → Costs 0 1 seats.old seats.new meter.old meter.new }
+{
+    let mut walk = cursors_of(index, line);
+    while let Some(no) = next_cursor(index, line, &mut walk) {
+        let no = no as usize;
+        if seats[no].place() == place {
+            seats[no] = seat_after(&reaches[no], seats[no], meter);
+        }
+    }
+}
+
+// Empties the seats of the line.
+pub(crate) fn empty_line(index: &Index<'_>, line: Line<'_>, seats: &mut [Seat])
+    requires count { length seats.old ≡ length index.now.grants }
+    requires others { (k : ℕ) → k < length seats.old → IsCursorAt index.now (line_of line) k ⊎ (seat_at seats.old k ≡ empty_seat) }
+    ensures { AreEmpty index.now seats.new }
+{
+    let mut walk = cursors_of(index, line);
+    while let Some(no) = next_cursor(index, line, &mut walk) {
+        seats[no as usize] = Seat::new();
+    }
+}
+
+// Empties all seats.
+pub(crate) fn empty_all(index: &Index<'_>, seats: &mut [Seat])
+    requires { length seats.old ≡ length index.now.grants }
+    ensures empty { AreEmpty index.now seats.new }
+    ensures policy { IsPolicy index.now }
+{
+    for no in 0..index.policy().len() {
+        seats[no as usize] = Seat::new();
+    }
+}

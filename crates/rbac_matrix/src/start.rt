@@ -1,0 +1,189 @@
+//! Where the rows after a key begin.
+
+ghost use Rattle.std.specs.Prelude.{Some, ◌≡◌, [], ◌∷◌, ◌≤◌, IfOk, IfErr};
+ghost use Rattle.std.specs.Option.{option_copied};
+ghost use Rattle.std.specs.Cmp.Lexicographic.{slice_cmp};
+ghost use Rattle.rbac_terms.specs.Text.{text_cmp};
+ghost use Rattle.rbac_terms.specs.Principals.{key_of as who_key};
+ghost use Rattle.rbac_model.specs.Lists.{IsAscendingBy};
+ghost use Rattle.rbac_matrix.specs.Lines.{IsSettled, lines_from};
+ghost use Rattle.rbac_model.specs.Policies.{IsPolicy};
+ghost use Rattle.rbac_model.specs.Universes.{IsUniverse};
+ghost use Rattle.rbac_matrix.specs.Metering.{AreSought, IsMetered, IsReady};
+ghost use Rattle.rbac_index.specs.Reaches.{AreReaches};
+ghost use Rattle.rbac_matrix.specs.Seats.{AreEmpty};
+ghost use Rattle.rbac_matrix.specs.Starting.{IsFoundAt, IsGapAt, IsStart, IsTargetPlace, target_part, what_texts};
+
+use crate::line::{Place, line_at, settled};
+use crate::seat::Seat;
+use crate::seats::seat_line;
+use rbac_index::{Index, Meter, Reach};
+use rbac_terms::{Key, Target, Word};
+use rbac_universe::Universe;
+use std::cmp::Ordering;
+
+/// The place of a line, and that of the target from which its rows are meant.
+#[derive(Clone, Copy)]
+pub(crate) struct Start {
+    pub(crate) at: Place,
+    pub(crate) from: u32,
+}
+
+// Where the principal of the key stands, or would go.
+fn principal_place(universe: &Universe, key: &Key) -> Result<usize, usize>
+    ensures found { IfOk result (IsFoundAt text_cmp who_key universe.now.principals key.now.principal) }
+    ensures gap { IfErr result (IsGapAt text_cmp who_key universe.now.principals key.now.principal) }
+    ensures universe { IsUniverse universe.now }
+{
+    let wanted = key.field(0);
+    let principals = universe.principals();
+    principals.binary_search_by(|principal| principal.key().cmp(wanted))
+}
+
+// Where the word stands, or would go.
+fn word_place(words: &[Word], word: &Word) -> Result<usize, usize>
+    requires { IsAscendingBy (λ w. w ∷ []) words.now }
+    ensures found { IfOk result (IsFoundAt text_cmp (λ w. w) words.now word.now) }
+    ensures gap { IfErr result (IsGapAt text_cmp (λ w. w) words.now word.now) }
+{
+    words.binary_search_by(|held| held.cmp(word))
+}
+
+// How the target stands to that of the key.
+fn cmp_target(target: &Target, key: &Key) -> Ordering
+    ensures { result ≡ slice_cmp text_cmp (what_texts target.now) (target_part key.now) }
+{
+    let by_name = target.name().cmp(key.field(5));
+    let by_text = target.text().cmp(key.field(4));
+    target.group().cmp(key.field(3)).then(by_text.then(by_name))
+}
+
+// The place after the targets that aren't past that of the key.
+fn target_place(universe: &Universe, key: &Key) -> usize
+    ensures { IsTargetPlace universe.now key.now result }
+{
+    let targets = universe.targets();
+    match targets.binary_search_by(|target| cmp_target(target, key)) {
+        Ok(place) => place + 1,
+        Err(place) => place,
+    }
+}
+
+// The start of a line, of the next one where there is none at the place.
+fn line_start(universe: &Universe, at: Place) -> Start
+    ensures settled { IsSettled universe.now result.at }
+    ensures same { lines_from universe.now result.at ≡ lines_from universe.now at }
+    ensures whole { result.from ≡ 0 }
+{
+    Start {
+        at: settled(universe, at),
+        from: 0,
+    }
+}
+
+// Where the rows after this key begin.
+fn start_at(universe: &Universe, key: &Key) -> Start
+    ensures settled { IsSettled universe.now result.at }
+    ensures start { IsStart universe.now (Some key.now) result.at result.from }
+    ensures few { result.from ≤ 1000000 }
+{
+    let principal = match principal_place(universe, key) {
+        Ok(place) => place,
+        Err(place) => {
+            return line_start(
+                universe,
+                Place {
+                    principal: place,
+                    namespace: 0,
+                    verb: 0,
+                },
+            );
+        }
+    };
+    let namespace = match word_place(universe.namespaces(), key.field(1)) {
+        Ok(place) => place,
+        Err(place) => {
+            return line_start(
+                universe,
+                Place {
+                    principal,
+                    namespace: place,
+                    verb: 0,
+                },
+            );
+        }
+    };
+    let verb = match word_place(universe.verbs(), key.field(2)) {
+        Ok(place) => place,
+        Err(place) => {
+            return line_start(
+                universe,
+                Place {
+                    principal,
+                    namespace,
+                    verb: place,
+                },
+            );
+        }
+    };
+    Start {
+        at: Place {
+            principal,
+            namespace,
+            verb,
+        },
+        from: target_place(universe, key) as u32,
+    }
+}
+
+// Where the rows after this key begin; without one, where all begin.
+pub(crate) fn start_after(universe: &Universe, key: Option<&Key>) -> Start
+    ensures settled { IsSettled universe.now result.at }
+    ensures start { IsStart universe.now (option_copied key.entry) result.at result.from }
+    ensures few { result.from ≤ 1000000 }
+{
+    match key {
+        Some(key) => start_at(universe, key),
+        None => line_start(
+            universe,
+            Place {
+                principal: 0,
+                namespace: 0,
+                verb: 0,
+            },
+        ),
+    }
+}
+
+// Seats the cursors of the line at which the rows begin, if there is one. Tells how many were
+// sought. All seats are empty before.
+pub(crate) fn seat_start(
+    index: &Index<'_>,
+    universe: &Universe,
+    reaches: &[Reach],
+    start: Start,
+    seats: &mut [Seat],
+    meter: &mut Meter,
+) -> usize
+    requires policy { IsPolicy index.now }
+    requires reaches { AreReaches index.now universe.now reaches.now }
+    requires settled { IsSettled universe.now start.at }
+    requires few { start.from ≤ 1000000 }
+    requires empty { AreEmpty index.now seats.old }
+    requires fresh { meter.old ≡ 0 }
+    ensures ready { IsReady index.now universe.now reaches.now start.at start.from seats.new }
+    ensures metered { IsMetered index.now universe.now start.at result start.at seats.new 0 meter.new }
+    ensures whole { start.from ≡ 0 → result ≡ 0 }
+    ensures sought { AreSought index.now universe.now start.at result }
+    ensures universe { IsUniverse universe.now }
+{
+    let targets = universe.targets().len();
+    let Some(line) = line_at(universe, start.at) else {
+        return 0;
+    };
+    let filled = seat_line(index, reaches, line, start.from, seats, meter);
+    if start.from == 0 {
+        return 0;
+    }
+    filled
+}

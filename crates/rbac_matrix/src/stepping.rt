@@ -1,0 +1,118 @@
+//! The rows of a line, by the seats of its cursors.
+
+ghost use Rattle.std.specs.Prelude.{ℕ, ◌≡◌, ◌+◌, if◌then◌else◌, is_some, ◌⊎◌, ◌↔◌, ◌≤◌, [], IsTrue, MatchOption, length};
+ghost use Rattle.rbac_model.specs.Policies.{IsPolicy};
+ghost use Rattle.rbac_matrix.specs.Shown.{line_of};
+ghost use Rattle.rbac_index.specs.Reaches.{AreReaches};
+ghost use Rattle.rbac_matrix.specs.Passing.{EndsAll, EndsLine, FindsCell, FindsRow};
+ghost use Rattle.rbac_matrix.specs.Metering.{IsMetered, IsReady, Skips};
+ghost use Rattle.rbac_matrix.specs.declared.line.Place.{Place};
+ghost use Rattle.rbac_matrix.specs.Seats.{AreEmpty, AreSeated, Costs};
+
+use crate::line::{Line, Place, after, line_at, settled};
+use crate::seat::Seat;
+use crate::seats::{advance, empty_line, least_seat, seat_line};
+use rbac_index::{Index, Meter, Reach};
+use rbac_terms::Word;
+use rbac_universe::Universe;
+
+// Whether a target that is namespaced, or isn't, is asked for in this namespace (own).
+fn fits(namespace: &Word, namespaced: bool) -> bool
+    ensures { IsTrue result ↔ (IsTrue namespaced ⊎ (namespace.now ≡ [])) }
+{
+    namespaced || namespace.is_empty()
+}
+
+// The next row of a line: the place of its target, and the first grant that allows it. Entries of
+// requests that don't fit are read and passed over.
+pub(crate) fn next_in_line(
+    index: &Index<'_>,
+    universe: &Universe,
+    reaches: &[Reach],
+    line: Line<'_>,
+    from: u32,
+    seats: &mut [Seat],
+    meter: &mut Meter,
+) -> Option<(u32, u32)>
+    requires policy { IsPolicy index.now }
+    requires reaches { AreReaches index.now universe.now reaches.now }
+    requires seated { AreSeated index.now (line_of line) reaches.now from seats.old }
+    ensures row { MatchOption result
+        (EndsLine index.now universe.now reaches.now (line_of line.entry) from seats.new)
+        (λ found. FindsRow index.now universe.now reaches.now (line_of line.entry) from seats.new found.0 found.1) }
+    ensures costs { MatchOption result
+        (Costs 0 0 seats.old seats.new meter.old meter.new)
+        (λ _. Costs 0 1 seats.old seats.new meter.old meter.new) }
+{
+    let targets = universe.targets().len();
+    let mut from = from;
+    while let Some((place, no)) = least_seat(index, line, seats) {
+        advance(index, reaches, line, place, seats, meter);
+        from = place + 1;
+        if fits(line.namespace, universe.namespaced(place as usize)) {
+            return Some((place, no));
+        }
+    }
+    None
+}
+
+// The next line that has cursors with an entry, from this place on, with its cursors seated; the
+// place past all lines where there is none. All seats are empty before.
+fn next_line(
+    index: &Index<'_>,
+    universe: &Universe,
+    reaches: &[Reach],
+    at: Place,
+    seats: &mut [Seat],
+    meter: &mut Meter,
+) -> Place
+    requires policy { IsPolicy index.now }
+    requires reaches { AreReaches index.now universe.now reaches.now }
+    requires empty { AreEmpty index.now seats.old }
+    ensures skips { Skips index.now.held universe.now at result }
+    ensures ready { IsReady index.now universe.now reaches.now result 0 seats.new }
+    ensures costs { Costs 0 0 seats.old seats.new meter.old meter.new }
+{
+    let targets = universe.targets().len();
+    let mut at = settled(universe, at);
+    while let Some(line) = line_at(universe, at) {
+        if seat_line(index, reaches, line, 0, seats, meter) > 0 {
+            return at;
+        }
+        at = settled(universe, after(at));
+    }
+    at
+}
+
+// The next row from a place and a target's place on: the place of its line, and the place of its
+// target with the first grant that allows it.
+pub(crate) fn next_cell(
+    index: &Index<'_>,
+    universe: &Universe,
+    reaches: &[Reach],
+    at: Place,
+    from: u32,
+    seats: &mut [Seat],
+    meter: &mut Meter,
+) -> (Place, Option<(u32, u32)>)
+    requires policy { IsPolicy index.now }
+    requires reaches { AreReaches index.now universe.now reaches.now }
+    requires ready { IsReady index.now universe.now reaches.now at from seats.old }
+    ensures row { MatchOption result.1
+        (EndsAll index.now universe.now reaches.now at from result.0 seats.new)
+        (λ found. FindsCell index.now universe.now reaches.now at from result.0 seats.new found.0 found.1) }
+    ensures metered { (start : Place) (sought given : ℕ) → IsMetered index.now universe.now start sought at seats.old given meter.old
+        → IsMetered index.now universe.now start sought result.0 seats.new (given + (if is_some result.1 then 1 else 0)) meter.new }
+{
+    let mut at = at;
+    let mut from = from;
+    while let Some(line) = line_at(universe, at) {
+        if let Some(found) = next_in_line(index, universe, reaches, line, from, seats, meter) {
+            return (at, Some(found));
+        }
+        empty_line(index, line, seats);
+        at = next_line(index, universe, reaches, after(at), seats, meter);
+        from = 0;
+    }
+    (at, None)
+}
