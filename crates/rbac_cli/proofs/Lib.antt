@@ -1,4 +1,5 @@
 pub mod Lines
+pub mod Listings
 pub mod Matrices
 pub mod Named
 pub mod OneAnswer

@@ -1,7 +1,7 @@
 -- From printed text to written text.
 use Rattle.std.proofs.Common.{◌≡◌, ◌∙◌, ℕ, List, [], Option, inl, inr, refl, sym, subst, ap, append-nil}
 use Rattle.rbac_streams.specs.Streams.{SinkView, PageView}
-use Rattle.rbac_streams.specs.Taken.{Took, Printed, Prints, Stopped, StopsIn}
+use Rattle.rbac_streams.specs.Taken.{Took, Printed, Stopped, StopsIn}
 use Rattle.rbac_streams.specs.declared.page.PrintFault.{PrintFault}
 use Rattle.rbac_streams.specs.declared.page.PrintFault.TheVariants.{SinkFailed, NoMemory}
 use Rattle.rbac_terms.specs.Keys.{KeyTexts}
@@ -21,7 +21,7 @@ use Rattle.rbac_cli.specs.Printing.{StopsInAnswer, StopsPrinting, StopsWith, IsU
 use Rattle.rbac_cli.proofs.Matrices.{front_of_text}
 
 -- the page of the matrix
-abbrev IsListing : Option KeyTexts → Option ℕ → Held → UniverseView → List ℕ → Type 0
+abbrev pub IsListing : Option KeyTexts → Option ℕ → Held → UniverseView → List ℕ → Type 0
 IsListing k limit held u text = (rows : List RowView) × IsMatrix held u rows × (text ≡ listing_text k limit rows)
 
 module _ {W : Type 0} (contents : W → Option (List ℕ)) where

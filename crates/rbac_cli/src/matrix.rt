@@ -11,7 +11,7 @@ ghost use Rattle.rbac_cli.specs.Printing.{PrintsAnswer, StopsPrinting, PrintsLis
 use crate::ending::{RunFault, Status, fault_of};
 use rbac_index::{Index, IndexFault, Reach, reaches_of};
 use rbac_manifest::Loaded;
-use rbac_matrix::print_matrix;
+use rbac_matrix::{Matrix, Seat, a_matrix_is_there, print_page};
 use rbac_model::Policy;
 use rbac_streams::{Page, PrintFault, Sink};
 use rbac_terms::Key;
@@ -34,15 +34,15 @@ pub(crate) fn print_listing<W: Write + Drop>(
     ensures err { IfErr result (StopsPrinting W.contents sink.old page.old sink.new page.new loaded.now (ListsMatrix (option_copied after.entry) limit)) }
     ensures failed { sink.new.has_failed ≡ is_write_fault result }
 {
-    let universe = match universe_of(alloc, loaded) {
-        Ok(universe) => universe,
+    let lent = match lent_by(alloc, loaded) {
+        Ok(lent) => lent,
         Err(fault) => return Err(unmade(page, fault)),
     };
-    let lent = match lent_for(alloc, loaded.policy(), &universe) {
-        Ok(lent) => lent,
+    let mut seats = match seats_for(alloc, &lent.index) {
+        Ok(seats) => seats,
         Err(_) => return Err(fault_of(page, PrintFault::NoMemory)),
     };
-    match print_rows(alloc, lent, &universe, after, limit, sink, page) {
+    match print_rows(alloc, &lent, seats.as_mut_slice(), after, limit, sink, page) {
         Ok(()) => Ok(Status::Zero),
         Err(fault) => Err(fault_of(page, fault)),
     }
@@ -59,39 +59,40 @@ fn unmade(page: &Page, fault: UniverseFault) -> RunFault
     }
 }
 
-// The universe of the lists that were loaded.
-fn universe_of(alloc: Global, loaded: &Loaded) -> Result<Universe, UniverseFault>
-    ensures { MatchResult result (IsUniverseOf loaded.now.lists) (HasFault loaded.now.lists) }
-{
-    let lists = loaded.lists(alloc)?;
-    Universe::build(alloc, &lists)
-}
-
-// What a matrix borrows beside its universe: the index of a policy, and a reach and a seat for each
-// grant.
+// What a matrix borrows: a universe, an index, and the reach of each grant.
 #[derive(Drop)]
 struct Lent<'p> {
+    universe: Universe,
     index: Index<'p>,
     reaches: Vec<Reach>,
-    seats: Vec<Seat>,
 }
 
-fn lent_for<'p>(
-    alloc: Global,
-    policy: &'p Policy,
-    universe: &Universe,
-) -> Result<Lent<'p>, IndexFault>
-    ensures policy { IfOk result (λ lent. lent.index ≡ policy.now) }
-    ensures reaches { IfOk result (λ lent. AreReaches lent.index universe.now lent.reaches.items) }
-    ensures seats { IfOk result (λ lent. length lent.seats.items ≡ length lent.index.grants) }
+// What the matrix of what was loaded borrows.
+fn lent_by(alloc: Global, loaded: &Loaded) -> Result<Lent<'_>, UniverseFault>
+    ensures universe { MatchResult result (λ lent. IsUniverseOf loaded.now.lists lent.universe) (HasFault loaded.now.lists) }
+    ensures index { IfOk result (λ lent. lent.index ≡ loaded.now.policy) }
+    ensures reaches { IfOk result (λ lent. AreReaches lent.index lent.universe lent.reaches.items) }
+{
+    let lists = loaded.lists(alloc)?;
+    let universe = Universe::build(alloc, &lists)?;
+    match lent_for(alloc, loaded.policy(), universe) {
+        Ok(lent) => Ok(lent),
+        Err(_) => Err(UniverseFault::NoMemory),
+    }
+}
+
+// What the matrix of a policy over a universe borrows.
+fn lent_for(alloc: Global, policy: &Policy, universe: Universe) -> Result<Lent<'_>, IndexFault>
+    ensures universe { IfOk result (λ lent. lent.universe ≡ universe) }
+    ensures index { IfOk result (λ lent. lent.index ≡ policy.now) }
+    ensures reaches { IfOk result (λ lent. AreReaches lent.index lent.universe lent.reaches.items) }
 {
     let index = Index::build(alloc, policy)?;
-    let reaches = reaches_of(alloc, &index, universe)?;
-    let seats = seats_for(alloc, &index)?;
+    let reaches = reaches_of(alloc, &index, &universe)?;
     Ok(Lent {
+        universe,
         index,
         reaches,
-        seats,
     })
 }
 
@@ -105,28 +106,22 @@ fn seats_for(alloc: Global, index: &Index<'_>) -> Result<Vec<Seat>, AllocError>
 // Prints the rows of a page and its last line.
 fn print_rows<W: Write + Drop>(
     alloc: Global,
-    lent: Lent<'_>,
-    universe: &Universe,
+    lent: &Lent<'_>,
+    seats: &mut [Seat],
     after: Option<&Key>,
     limit: Option<u32>,
     sink: &mut Sink<W>,
     page: &mut Page,
 ) -> Result<(), PrintFault>
     requires works { sink.old.has_failed ≡ false }
-    requires reaches { AreReaches lent.index universe.now lent.reaches.items }
-    requires seats { length lent.seats.items ≡ length lent.index.grants }
-    ensures ok { OnOk result (PrintsListing W.contents sink.old page.old sink.new page.new (option_copied after.entry) limit lent.index.held universe.now) }
-    ensures err { OnErr result (StopsInListing W.contents sink.old page.old sink.new page.new (option_copied after.entry) limit lent.index.held universe.now) }
+    requires reaches { AreReaches lent.now.index lent.now.universe lent.now.reaches.items }
+    requires seats { length seats.old ≡ length lent.now.index.grants }
+    ensures ok { OnOk result (PrintsListing W.contents sink.old page.old sink.new page.new (option_copied after.entry) limit lent.now.index.held lent.now.universe) }
+    ensures err { OnErr result (StopsInListing W.contents sink.old page.old sink.new page.new (option_copied after.entry) limit lent.now.index.held lent.now.universe) }
     ensures failed { sink.new.has_failed ≡ is_sink_fault result }
 {
-    let _ = (lent, universe, after, limit, alloc, sink, page);
-    Ok(())
-}
-
-// For the time being.
-#[derive(Clone, Copy)]
-struct Seat { at: u32 }
-
-impl Seat {
-    fn new() -> Self { Seat { at: 0 } }
+    a_matrix_is_there();
+    let mut matrix = Matrix::build(&lent.index, &lent.universe, lent.reaches.as_slice(), seats);
+    let mut rows = matrix.rows_after(after);
+    print_page(alloc, &mut rows, limit, sink, page)
 }

@@ -1,67 +1,63 @@
 //! Walks along the cursors of a line.
 
-ghost use Rattle.std.specs.Prelude.{◌≡◌, ◌<◌, ◌≤◌, ◌⊎◌, ◌↔◌, ℕ, IsTrue, IfSome, MatchOption, length};
-ghost use Rattle.rbac_model.specs.Sources.{grant_of};
-ghost use Rattle.rbac_model.specs.Universes.{IsCursor, LiveForSome};
+ghost use Rattle.std.specs.Prelude.{◌≡◌, ◌<◌, ◌≤◌, ◌⊎◌, ℕ, IfSome, MatchOption};
 ghost use Rattle.rbac_matrix.specs.Shown.{line_of};
-ghost use Rattle.rbac_matrix.specs.Cursors.{IsCursorAt, IsAhead, steps_left};
+ghost use Rattle.rbac_matrix.specs.Cursors.{IsAhead, IsBoundOn, IsCursorAt, IsNextBound, IsWithin, steps_left};
 
 use crate::line::Line;
 use rbac_index::Index;
-use rbac_model::Grant;
-use rbac_terms::{Binding, Word, names, verb_matches};
+use rbac_terms::verb_matches;
 
-/// A walk along the cursors of a line: the grants that may allow something on it.
+/// A walk along the cursors of a line: the grants that may allow something on it. It goes by runs of
+/// grants of bindings that name who asks, and stands in one of them.
 #[derive(Drop)]
 pub(crate) struct Walk {
     next: u32,
+    // Where the run ends in which the walk stands.
+    end: u32,
 }
 
 // A walk along all cursors of the line.
 pub(crate) fn cursors_of(index: &Index<'_>, line: Line<'_>) -> Walk
-    ensures { (k : ℕ) → IsCursorAt index.now (line_of line.entry) k → IsAhead index.now (line_of line.entry) result k }
+    ensures ahead { (k : ℕ) → IsCursorAt index.now (line_of line.entry) k → IsAhead index.now (line_of line.entry) result k }
+    ensures within { IsWithin index.now (line_of line.entry) result }
 {
-    Walk { next: 0 }
+    Walk { next: 0, end: 0 }
 }
 
 // The number of a cursor, and on to the others; none where all were told. One may be told twice.
 pub(crate) fn next_cursor(index: &Index<'_>, line: Line<'_>, walk: &mut Walk) -> Option<u32>
+    requires { IsWithin index.now (line_of line) walk.old }
     ensures found { MatchOption result
         ((k : ℕ) → ¬ IsAhead index.now (line_of line.entry) walk.old k)
         (λ k. IsCursorAt index.now (line_of line.entry) k
         × ((other : ℕ) → IsAhead index.now (line_of line.entry) walk.old other → (other ≡ k) ⊎ IsAhead index.now (line_of line.entry) walk.new other)) }
+    ensures within { IsWithin index.now (line_of line.entry) walk.new }
     ensures ends { IfSome result (λ _. steps_left index.now walk.new < steps_left index.now walk.old) }
 {
-    while walk.next < index.len() {
-        let no = walk.next;
-        walk.next = no + 1;
-        if is_cursor(index.grant(no), line) {
+    while let Some(no) = next_bound(index, line, walk) {
+        if verb_matches(index.grant(no).rule, line.verb) {
             return Some(no);
         }
     }
     None
 }
 
-// Whether the grant may allow something on the line.
-fn is_cursor(grant: Grant<'_>, line: Line<'_>) -> bool
-    ensures { IsTrue result ↔ IsCursor line.entry.principal.now line.entry.namespace.now line.entry.verb.now (grant_of grant.entry) }
+// The next grant of a binding that names who asks and may be live, whatever its verbs.
+fn next_bound(index: &Index<'_>, line: Line<'_>, walk: &mut Walk) -> Option<u32>
+    requires { IsWithin index.now (line_of line) walk.old }
+    ensures found { MatchOption result
+        ((k : ℕ) → walk.old.next ≤ k → ¬ IsBoundOn index.now (line_of line.entry) k)
+        (IsNextBound index.now (line_of line.entry) walk.old walk.new) }
+    ensures within { IsWithin index.now (line_of line.entry) walk.new }
 {
-    let binding = grant.binding;
-    verb_matches(grant.rule, line.verb)
-        && (is_live_for_some(binding, line.namespace)
-            && binding.subjects.as_slice().iter().any(|subject| names(
-                subject,
-                binding.namespace.as_ref(),
-                line.principal,
-            )))
-}
-
-// Whether the binding is live for some target in this namespace.
-fn is_live_for_some(binding: &Binding, namespace: &Word) -> bool
-    ensures { IsTrue result ↔ LiveForSome binding.now.namespace namespace.now }
-{
-    match &binding.namespace {
-        None => true,
-        Some(own) => !namespace.is_empty() && own == namespace,
+    if walk.end <= walk.next {
+        let Some((start, end)) = index.next_run(line.principal, line.namespace, walk.next) else {
+            return None;
+        };
+        *walk = Walk { next: start, end };
     }
+    let no = walk.next;
+    walk.next = no + 1;
+    Some(no)
 }

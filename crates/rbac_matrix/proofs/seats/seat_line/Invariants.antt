@@ -1,10 +1,13 @@
 use Rattle.rbac_matrix.specs.Shown.{line_of}
-use Rattle.rbac_matrix.specs.Cursors.{steps_left}
+use Rattle.rbac_matrix.specs.Cursors.{IsWithin, steps_left}
 use Rattle.rbac_matrix.proofs.LoopLemmas.{AreTaken}
 use Rattle.rbac_matrix.proofs.seats.seat_line.Given as goal
 
 abbrev pub invariant-loop-no : goal.invariant-loop-no
-invariant-loop-no l = AreTaken l.index (line_of l.line) l.reaches l.from l.walk l.filled l.initial.seats l.seats l.initial.meter l.meter
+invariant-loop-no l = record {
+  taken : AreTaken l.index (line_of l.line) l.reaches l.from l.walk l.filled l.initial.seats l.seats l.initial.meter l.meter;
+  within : IsWithin l.index (line_of l.line) l.walk;
+}
 
 abbrev pub decreases-loop-no : goal.decreases-loop-no
 decreases-loop-no l = steps_left l.index l.walk

@@ -1,27 +1,30 @@
-use Rattle.std.proofs.Common.{◌≡◌, arith, sym, ◌∙◌, subst, inl, inr, slice_get}
-use Rattle.std.specs.Prelude.{Some}
-use Rattle.std.proofs.lemmas.Bool.{cases_eq, both_ways}
-use Rattle.std.proofs.lemmas.Option.{same_Some, slice_get_within}
-use Rattle.rbac_model.specs.Policies.{GrantView}
+use Rattle.std.proofs.Common.{◌≡◌, ◌<◌, ◌≤◌, ◌-◌, length, arith}
+use Rattle.std.proofs.lemmas.Bool.{both_ways}
 use Rattle.rbac_model.specs.Sources.{grant_of}
-use Rattle.rbac_model.specs.Universes.{IsCursor}
+use Rattle.rbac_matrix.specs.Shown.{line_of}
+use Rattle.rbac_matrix.proofs.WalkLemmas.{bound_cursor, bound_ends, bound_others, bound_passes, cursor_bound}
 use Rattle.rbac_matrix.proofs.walk.next_cursor.Goals as goal
 
-pub loop-walk-preserved : goal.loop-walk-preserved
-loop-walk-preserved c = record {
-  onward = omega arith;
-  ahead = λ k a. elim (cases_eq k c.loop-walk.walk.next) [
-    | inl e ↦
-        let here : slice_get c.args.index.now.grants k ≡ Some (grant_of c.grant.result) = rw e c.grant.ensures in
-        let same : a.0.grant ≡ grant_of c.grant.result = same_Some a.0.grant (grant_of c.grant.result) (sym a.0.at ∙ here) in
-        let P : GrantView → Type 0 = λ g. IsCursor c.args.line.principal.now c.args.line.namespace.now c.args.line.verb.now g in
-        absurd (both_ways _ c.if-is_cursor.false (c.is_cursor.ensures.1 (subst P same a.0.is)))
-    | inr ne ↦ let low = c.loop-walk.invariant.ahead k a in omega arith
-  ];
+pub returns-then-verb_matches-clause-found : goal.returns-then-verb_matches-clause-found
+returns-then-verb_matches-clause-found c = (
+  bound_cursor c.args.index.now (line_of c.args.line) c.args.walk.now c.loop-no.walk c.next_bound.new.walk c.in-Some.no c.loop-no.invariant.ahead c.in-Some.ensures.found (grant_of c.grant.result) c.grant.ensures (c.verb_matches.ensures.0 c.if-verb_matches.true),
+  bound_others c.args.index.now (line_of c.args.line) c.args.walk.now c.loop-no.walk c.next_bound.new.walk c.in-Some.no c.loop-no.invariant.ahead c.in-Some.ensures.found (grant_of c.grant.result) c.grant.ensures,
+)
+
+pub returns-then-verb_matches-clause-ends : goal.returns-then-verb_matches-clause-ends
+returns-then-verb_matches-clause-ends c =
+    let ends = bound_ends c.args.index.now (line_of c.args.line) c.args.walk.now c.loop-no.walk c.next_bound.new.walk c.in-Some.no c.loop-no.invariant.ahead c.in-Some.ensures.found (grant_of c.grant.result) c.grant.ensures in
+    omega (arith, c.loop-no.invariant.onward)
+
+pub loop-no-smaller : goal.loop-no-smaller
+loop-no-smaller c = bound_ends c.args.index.now (line_of c.args.line) c.args.walk.now c.loop-no.walk c.next_bound.new.walk c.in-Some.no c.loop-no.invariant.ahead c.in-Some.ensures.found (grant_of c.grant.result) c.grant.ensures
+
+pub loop-no-preserved : goal.loop-no-preserved
+loop-no-preserved c = record {
+  onward = let step = c.in-Some.ensures.found in omega (arith, c.loop-no.invariant.onward, step.on, step.passed);
+  ahead = bound_passes c.args.index.now (line_of c.args.line) c.args.walk.now c.loop-no.walk c.next_bound.new.walk c.in-Some.no c.loop-no.invariant.ahead c.in-Some.ensures.found (grant_of c.grant.result) c.grant.ensures (λ x. both_ways _ c.if-verb_matches.false (c.verb_matches.ensures.1 x));
+  within = c.in-Some.ensures.within;
 }
 
 pub returns-clause-found : goal.returns-clause-found
-returns-clause-found c = λ k a.
-    let low = c.loop-walk.invariant.ahead k a in
-    let high = slice_get_within c.args.index.now.grants k a.0.grant a.0.at in
-    omega (arith, c.len.ensures)
+returns-clause-found c = λ k a. c.in_default.ensures.found k (c.loop-no.invariant.ahead k a) (cursor_bound c.args.index.now (line_of c.args.line) k a.0)
