@@ -74,7 +74,7 @@ IsPath-less : (c : ℕ) (q rest : Text) → IsPath ((c ∷ q) ++ rest) → IsPat
 IsPath-less c q rest p = let same : c ≡ slash = cc (p.1) in (q, ap (λ d. d ∷ q) same)
 
 -- a text and its stars
-ends : (w q : Text) (k : ℕ) → w ≡ q ++ replicate (k + 1) star → EndsInStar w
+pub ends : (w q : Text) (k : ℕ) → w ≡ q ++ replicate (k + 1) star → EndsInStar w
 ends w q k e = (q ++ replicate k star, e ∙ ap (λ n. q ++ replicate n star) (add-one k) ∙ one_more_star q k)
 
 no_stars : (w q : Text) → w ≡ q ++ replicate 0 star → w ≡ q

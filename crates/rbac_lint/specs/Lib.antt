@@ -2,6 +2,7 @@ pub mod Covering
 pub mod Findings
 pub mod Gathering
 pub mod Lines
+pub mod Listing
 pub mod Marks
 pub mod Powers
 pub mod Replaced

@@ -9,6 +9,7 @@ mod fault;
 mod finding;
 mod laws;
 mod linting;
+mod listing;
 mod redundant;
 mod replaced;
 mod roles;
