@@ -2,13 +2,13 @@ pub mod BeginLemmas
 pub mod Decided
 pub mod EnumLemmas
 pub mod GoingLemmas
+pub mod JoinLemmas
 pub mod LineLemmas
 pub mod LinesLemmas
 pub mod LoopLemmas
 pub mod OneMatrix
-pub mod Pages
+pub mod PageLemmas
 pub mod PassLemmas
-pub mod PrintedRows
 pub mod Product
 pub mod RowLemmas
 pub mod SearchLemmas

@@ -8,7 +8,6 @@ pub mod Pages
 pub mod Paging
 pub mod Passing
 pub mod Printed
-pub mod Printing
 pub mod RowTexts
 pub mod Seats
 pub mod Shown

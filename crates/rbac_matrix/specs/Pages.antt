@@ -1,23 +1,46 @@
 -- A page of rows as it is printed, and its last line.
-use Rattle.std.specs.Prelude.{ℕ, Bool, true, false, List, [], ◌∷◌, ◌++◌, codes, Option, Some, None}
+use Rattle.std.specs.Prelude.{◌≡◌, ℕ, Bool, true, false, List, [], ◌∷◌, ◌++◌, codes, Option, Some, None}
 use Rattle.std.specs.List.{last_or}
 use Rattle.rbac_terms.specs.Text.{Text}
+use Rattle.rbac_terms.specs.Keys.{KeyTexts}
 use Rattle.rbac_model.specs.Universes.{RowView, cell_key, page}
+use Rattle.rbac_streams.specs.Streams.{SinkView, PageView}
 use Rattle.rbac_text.specs.Row.{tab, newline}
 use Rattle.rbac_token.specs.Token.{token_text}
-use Rattle.rbac_matrix.specs.Printed.{rows_text}
+use Rattle.rbac_matrix.specs.Enumeration.{AreLeft}
+use Rattle.rbac_matrix.specs.Printed.{StopsWithin, rows_text}
+use Rattle.rbac_matrix.specs.RowTexts.{key_shown}
+use Rattle.rbac_matrix.specs.declared.enumeration.Rows.{Rows}
+use Rattle.rbac_matrix.specs.declared.row.Row.{Row}
 
 -- of these rows those that the limit leaves, and whether more follow; without a limit all of them
 abbrev pub cut_at : Option ℕ → List RowView → List RowView × Bool
 cut_at None rows = (rows, false)
 cut_at (Some n) rows = page None n rows
 
+-- `next` and the token of a key
+abbrev pub next_words : KeyTexts → Text
+next_words k = codes "next" ++ tab ∷ token_text k
+
 -- what stands on the last line: where more rows follow, `next` and the token of the last row; else `end` (own)
 abbrev pub last_words : Option RowView → Bool → Text
-last_words (Some row) true = codes "next" ++ tab ∷ token_text (cell_key row.cell)
+last_words (Some row) true = next_words (cell_key row.cell)
 last_words (Some row) false = codes "end"
 last_words None more = codes "end"
 
 -- the lines of a page: its rows, and the last line
 abbrev pub page_text : List RowView × Bool → Text
 page_text p = rows_text p.0 ++ last_words (last_or None p.0) p.1 ++ newline ∷ []
+
+-- the last line of a page: for the row after which more follow, and without one
+abbrev pub last_line : Option Row → Text
+last_line (Some row) = next_words (key_shown row) ++ newline ∷ []
+last_line None = codes "end" ++ newline ∷ []
+
+-- the lines of the page of the rows that are left
+abbrev pub IsPageOf : Option ℕ → Rows → Text → Type 0
+IsPageOf limit rows text = (all : List RowView) × AreLeft rows all × (text ≡ page_text (cut_at limit all))
+
+-- printing stopped within the page of the rows that are left
+abbrev pub StopsInPage : {W : Type 0} → (W → Option (List ℕ)) → SinkView W → PageView → SinkView W → PageView → Option ℕ → Rows → Type 0
+StopsInPage contents old page new after limit rows = StopsWithin contents old page new after (IsPageOf limit rows)

@@ -3,6 +3,7 @@
 ghost use Rattle.std.specs.Prelude.{◌≡◌};
 
 use rbac_terms::ModelFault;
+use std::alloc::{AllocError, AllocFailed};
 use thiserror::Error;
 
 /// Why the key of a row isn't made: Y1 NoMemory, where memory is refused.
@@ -19,6 +20,26 @@ impl From<ModelFault> for MatrixFault {
     ghost from_gives = { λ _ fault. fault ≡ NoMemory };
 
     fn from(_: ModelFault) -> Self {
+        MatrixFault::NoMemory
+    }
+}
+
+impl From<AllocError> for MatrixFault {
+    ghost use Rattle.rbac_matrix.specs.declared.fault.MatrixFault.TheVariants.{NoMemory};
+
+    ghost from_gives = { λ _ fault. fault ≡ NoMemory };
+
+    fn from(_: AllocError) -> Self {
+        MatrixFault::NoMemory
+    }
+}
+
+impl<T: Drop> From<AllocFailed<T>> for MatrixFault {
+    ghost use Rattle.rbac_matrix.specs.declared.fault.MatrixFault.TheVariants.{NoMemory};
+
+    ghost from_gives = { λ _ fault. fault ≡ NoMemory };
+
+    fn from(_: AllocFailed<T>) -> Self {
         MatrixFault::NoMemory
     }
 }

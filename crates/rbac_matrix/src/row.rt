@@ -1,13 +1,15 @@
 //! Rows of a matrix.
 
-ghost use Rattle.std.specs.Prelude.{◌≡◌, IfOk, IfErr};
+ghost use Rattle.std.specs.Prelude.{◌≡◌, IfOk, IfErr, OnOk};
 ghost use Rattle.rbac_terms.specs.Keys.{key_of, namespace_at};
+ghost use Rattle.rbac_text.specs.Row.{row_text};
 ghost use Rattle.rbac_matrix.specs.RowTexts.{key_shown, texts_shown};
 
 use crate::fault::MatrixFault;
 use crate::line::Line;
 use rbac_terms::{Binding, Key, Principal, Target, Word};
-use std::alloc::Global;
+use rbac_text::put_row;
+use std::alloc::{AllocError, Global};
 
 /// A row of the matrix: a request that fits and is allowed, by the six texts of its key, with the
 /// first binding that grants it. It borrows from the index and the universe, and may be kept while
@@ -39,6 +41,21 @@ impl Row<'_> {
         ensures only_memory { IfErr result (λ e. e ≡ MatrixFault.NoMemory) }
     {
         Ok(Key::of(alloc, self.who, self.namespace, self.verb, self.target)?)
+    }
+
+    // Puts the row's line in place of what was there.
+    pub(crate) fn put(&self, line: &mut Vec<u8>) -> Result<(), AllocError>
+        ensures { OnOk result (line.new.items ≡ row_text (key_shown self.now) self.now.binding.now) }
+    {
+        line.clear();
+        put_row(
+            line,
+            self.who,
+            self.namespace,
+            self.verb,
+            self.target,
+            self.binding,
+        )
     }
 }
 
