@@ -10,13 +10,6 @@ use Rattle.rbac_model.specs.Policies.{Held, IsPlain}
 abbrev pub rules_at : List (Bor Rule) → List Rule
 rules_at rules = map (λ x. x.now) rules
 
--- a rule is among those that references show, or among written ones
-unfoldable pub IsAmong : List (Bor Rule) → Rule → Type 0
-IsAmong rules rule = Any (λ x. x.now ≡ rule) rules
-
-unfoldable pub IsWritten : List Rule → Rule → Type 0
-IsWritten rules rule = Any (λ x. x ≡ rule) rules
-
 -- r gathers the rule from one of the first n cluster roles: a plain one that it reaches
 abbrev pub IsGatheredBy : Held → ClusterRole → ℕ → Rule → Type 0
 IsGatheredBy h r n rule = (k : ℕ) × (s : ClusterRole) × (k < n) × (slice_get h.cluster_roles k ≡ Some s) × IsPlain s × IsReachedAt h r k × Contains s.rules rule

@@ -17,11 +17,6 @@ abbrev pub IsPlainRole : Source → Type 0
 IsPlainRole (InRole r) = Unit {0}
 IsPlainRole (InClusterRole r) = IsPlain r
 
--- the rules that are written in a role
-abbrev pub rules_of : Source → List Rule
-rules_of (InRole r) = r.rules
-rules_of (InClusterRole r) = r.rules
-
 -- objects by their names
 abbrev pub role_object : Text → Text → ObjectName
 role_object namespace name = record { kind = codes "Role"; namespace = Some namespace; name = name }
