@@ -1,6 +1,6 @@
 -- the rules that aggregated roles gather, compared with their written ones
-use Rattle.std.proofs.Common.{Bor, ◌≡◌, ℕ, ◌<◌, ◌+◌, ◌≢◌, ◌⊎◌, ◌↔◌, inl, inr, List, [], ◌∷◌, ◌++◌, length, map, take, sym, ap, ◌∙◌, refl, subst, arith, cond}
-use Rattle.std.specs.Prelude.{Option, Some, None, slice_get, Bool, true, false, IsTrue, Contains, All, Any, not, get_or, is_some}
+use Rattle.std.proofs.Common.{Bor, ◌≡◌, ℕ, ◌<◌, ◌+◌, ◌≢◌, ◌⊎◌, ◌↔◌, inl, inr, List, [], ◌∷◌, ◌++◌, length, take, sym, ap, ◌∙◌, refl, subst, arith, cond}
+use Rattle.std.specs.Prelude.{Option, Some, None, slice_get, Bool, true, false, IsTrue, Contains, All, not, get_or, is_some}
 use Rattle.std.proofs.lemmas.Bool.{cases_lt}
 use Rattle.std.proofs.lemmas.Option.{slice_get_within, slice_get-get_or, same_Some}
 use Rattle.std.proofs.lemmas.List.Elements.{Contains-append_cases, Contains-append_left, Contains-append_right, Contains-push, Contains-push_cases, All-contains, Contains-get_or}
@@ -22,7 +22,7 @@ use Rattle.rbac_terms.specs.declared.granting.ClusterRole.{ClusterRole}
 use Rattle.rbac_model.specs.Places.{IsReachedAt}
 use Rattle.rbac_model.specs.Policies.{Held, IsPlain, Reaches, IsPath, Step}
 use Rattle.rbac_lint.specs.Findings.{IsGathered, IsStaleRole, HasSameRules}
-use Rattle.rbac_lint.specs.Gathering.{IsGatheredBy, AreGatheredBy, rules_at}
+use Rattle.rbac_lint.specs.Gathering.{AreGatheredBy, rules_at}
 
 pub gathered_start : (h : Held) (place : ℕ) (rules : List Rule) → rules ≡ [] → AreGatheredBy h place 0 rules
 gathered_start h place rules e = λ r here rule. (

@@ -1,5 +1,5 @@
 -- While stale aggregates are looked for: the rules that an aggregated role gathers.
-use Rattle.std.specs.Prelude.{◌≡◌, ℕ, ◌<◌, ◌↔◌, List, Some, Any, Contains, map, slice_get}
+use Rattle.std.specs.Prelude.{◌≡◌, ℕ, ◌<◌, ◌↔◌, List, Some, Contains, map, slice_get}
 use Rattle.std.proofs.Common.{Bor}
 use Rattle.rbac_terms.specs.declared.matching.Rule.{Rule}
 use Rattle.rbac_terms.specs.declared.granting.ClusterRole.{ClusterRole}

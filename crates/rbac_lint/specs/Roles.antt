@@ -1,7 +1,6 @@
 -- The roles of an export as one list, and the objects that findings name.
-use Rattle.std.specs.Prelude.{◌≡◌, List, [], ◌++◌, Option, Some, None, codes, map, unwrap_or}
+use Rattle.std.specs.Prelude.{List, [], ◌++◌, Option, Some, None, codes, map, unwrap_or}
 use Rattle.rbac_terms.specs.Text.{Text}
-use Rattle.rbac_terms.specs.declared.matching.Rule.{Rule}
 use Rattle.rbac_terms.specs.declared.granting.Binding.{Binding}
 use Rattle.rbac_terms.specs.declared.granting.RoleRef.{RoleRef}
 use Rattle.rbac_terms.specs.declared.granting.RoleRef.TheVariants.{Role as ToRole, ClusterRole as ToClusterRole}

@@ -1,5 +1,5 @@
 -- While stale aggregates are looked for: sets of rules, ordered by their words.
-use Rattle.std.specs.Prelude.{◌≡◌, ◌↔◌, ℕ, Bool, true, List, [], ◌∷◌, Contains, refl}
+use Rattle.std.specs.Prelude.{◌≡◌, ◌↔◌, true, List, [], ◌∷◌, Contains, refl}
 use Rattle.std.specs.BTreeSet.{BTreeSet, contains}
 use Rattle.std.specs.Cmp.{IsTotalOrder, IsEquivalence, IsPartialOrder, partial_order_from_agreeing_total}
 use Rattle.std.specs.Cmp.Lexicographic.{slice_cmp}
