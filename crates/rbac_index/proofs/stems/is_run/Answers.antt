@@ -3,7 +3,7 @@ use Rattle.std.specs.Prelude.{Some, option_copied}
 use Rattle.std.proofs.lemmas.Option.{slice_get-get_or}
 use Rattle.rbac_terms.specs.Targets.{What}
 use Rattle.rbac_index.proofs.StemLemmas.{of_stem}
-use Rattle.rbac_index.proofs.matched.is_run.Goals as goal
+use Rattle.rbac_index.proofs.stems.is_run.Goals as goal
 
 pub returns-then-end-targets : goal.returns-then-end-targets
 returns-then-end-targets c is =

@@ -1,5 +1,5 @@
 use Rattle.std.proofs.Common.{arith}
-use Rattle.rbac_index.proofs.matched.run_end.Goals as goal
+use Rattle.rbac_index.proofs.stems.run_end.Goals as goal
 
 pub loop-end-preserved : goal.loop-end-preserved
 loop-end-preserved c =

@@ -1,5 +1,5 @@
 use Rattle.std.proofs.Common.{arith}
-use Rattle.rbac_index.proofs.matched.run_end_within.Goals as goal
+use Rattle.rbac_index.proofs.stems.run_end_within.Goals as goal
 
 pub loop-step-preserved-then-is_run : goal.loop-step-preserved-then-is_run
 loop-step-preserved-then-is_run c =

@@ -1,7 +1,7 @@
 use Rattle.std.proofs.Common.{◌-◌, ◌<◌, ◌≤◌, length}
 use Rattle.std.specs.Prelude.{option_copied}
 use Rattle.rbac_index.specs.Matched.{AreOfStem}
-use Rattle.rbac_index.proofs.matched.run_end_within.Given as goal
+use Rattle.rbac_index.proofs.stems.run_end_within.Given as goal
 
 abbrev pub invariant-loop-step : goal.invariant-loop-step
 invariant-loop-step l = record {
