@@ -91,6 +91,7 @@ def streams():
         expect('a folder is no file', ALICE_GETS_PODS + [room], 2, err=b'rbacaudit: file 1: I1 read fault\n')
         expect('a dash is a file as any other', ALICE_GETS_PODS + ['-'], 2, err=b'rbacaudit: file 1: I1 read fault\n',
                given=GRANTED)
+        expect('a bad token before a missing file', ['matrix', '--after', 'MQ', missing], 2, err=b'rbacaudit: U4 bad token\n')
         expect('the file of a bad document', ALICE_GETS_PODS + [roles, put('bad.json', b'[]')], 2,
                err=b'rbacaudit: file 2: M2 not an object\n')
         least = b'{"apiVersion":"v1","kind":"List"}'
@@ -130,11 +131,14 @@ def help_and_usage():
            err=b'rbacaudit: argument 3: not UTF-8\n')
     for words in ([], ['can-i'], ['can-i', 'get', 'pods'], ['who-knows'], ['can-i', '--as', 'alice', '--why', 'get'],
                   ['can-i', '--as', 'a', '--as', 'b', 'get', 'pods'], ['who-can', 'get'],
-                  ['who-can', '--as', 'alice', 'get', 'pods'], ['matrix', '--limit', '0'], ['matrix', '--limit', '1000001'],
-                  ['matrix', '--limit', 'x'], ['who-can', '--limit', '1', 'get', 'pods'], ['matrix', '-n', 'dev']):
+                  ['who-can', '--as', 'alice', 'get', 'pods'], ['who-can', '--limit', '1', 'get', 'pods'],
+                  ['matrix', '--limit', '1', '--limit', '1'], ['matrix', '--after', 'MQ', '--after', 'MQ'], ['matrix', '-n', 'dev']):
         ended = run(words)
         told('refused: %s' % (' '.join(words) or 'no words'),
              ended.returncode == 2 and not ended.stdout and b'Usage' in ended.stderr, repr(ended))
+    for limit in ('0', '1000001', '4294967297', '-1', '1.5', 'x', ''):
+        ended = run(['matrix', '--limit=' + limit])
+        told('refused: matrix --limit=%s' % limit, ended.returncode == 2 and not ended.stdout and b'--limit <N>' in ended.stderr, repr(ended))
 
 
 def full_disk():
