@@ -1,8 +1,7 @@
 -- places of rules, as they are listed under words
 use Rattle.std.proofs.Common.{◌≡◌, ◌≢◌, ℕ, ◌+◌, ◌<◌, ◌≤◌, ◌⊎◌, inl, inr, List, [], ◌∷◌, ◌++◌, get_or, length, take, sym, ap, ◌∙◌, refl, subst, arith, zero, suc, cond, Bool, true, false}
-use Rattle.std.specs.Prelude.{Option, Some, None, Contains, AllPairs, slice_get, unwrap_or, codes}
+use Rattle.std.specs.Prelude.{Option, Some, Contains, slice_get, unwrap_or, codes}
 use Rattle.std.specs.BTreeMap.{get}
-use Rattle.std.specs.Str.{bytes_eq}
 use Rattle.std.specs.Ordering.{is_eq}
 use Rattle.std.specs.declared.cmp.Ordering.{Ordering}
 use Rattle.std.specs.declared.cmp.Ordering.TheVariants.{Less, Equal, Greater}

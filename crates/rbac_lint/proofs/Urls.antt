@@ -1,8 +1,8 @@
 -- URL words taken as texts
-use Rattle.std.proofs.Common.{◌≡◌, ◌≢◌, ℕ, ◌+◌, ◌<◌, ◌≤◌, ◌⊎◌, List, [], ◌∷◌, ◌++◌, take, drop, length, replicate, inl, inr, sym, ap, ◌∙◌, refl, subst, arith, zero, suc, append_assoc, add-one, ◌↔◌, Any, All, MatchOption, Bor}
+use Rattle.std.proofs.Common.{◌≡◌, ◌≢◌, ℕ, ◌+◌, ◌≤◌, ◌⊎◌, List, [], ◌∷◌, ◌++◌, take, drop, length, replicate, inl, inr, sym, ap, ◌∙◌, refl, subst, arith, zero, suc, append_assoc, add-one, ◌↔◌, Any, All, MatchOption, Bor}
 use Rattle.std.specs.Prelude.{codes, Option, Some, None}
 use Rattle.std.proofs.lemmas.Bool.{cases_eq}
-use Rattle.std.proofs.lemmas.List.{same_from_push, append-nil, take-append-le, take-append-drop, length-append, length-replicate}
+use Rattle.std.proofs.lemmas.List.{same_from_push, append-nil, take-append-le, take-append-drop, length-append}
 use Rattle.std.proofs.lemmas.List.Elements.{All-cons, All-nil}
 use Rattle.std.proofs.Math.Seq.{take-append_seam}
 use Rattle.rbac_terms.specs.Text.{Text, star, slash, BeginsWith}

@@ -7,3 +7,4 @@ pub mod Marks
 pub mod Powers
 pub mod Replaced
 pub mod Roles
+pub mod RuleSets

@@ -1,5 +1,5 @@
 -- Where to look for the rules that cover a rule: the places of a role's rules, listed under the words that they hold.
-use Rattle.std.specs.Prelude.{◌≡◌, ◌≢◌, ℕ, ◌<◌, ◌≤◌, ◌⊎◌, List, [], ◌∷◌, ◌++◌, Option, Some, None, min, MatchOption, AllPairs, Contains, codes, length, unwrap_or, slice_get}
+use Rattle.std.specs.Prelude.{◌≡◌, ◌≢◌, ℕ, ◌<◌, ◌≤◌, ◌⊎◌, List, [], ◌∷◌, Option, Some, None, min, MatchOption, AllPairs, Contains, codes, length, unwrap_or, slice_get}
 use Rattle.std.specs.BTreeMap.{BTreeMap, get}
 use Rattle.rbac_terms.specs.Text.{Text, text_cmp, BeginsWith}
 use Rattle.rbac_terms.specs.Matching.{EndsInStar}

@@ -13,6 +13,7 @@ mod listing;
 mod redundant;
 mod replaced;
 mod roles;
+mod rule_set;
 mod stale;
 mod unused;
 

@@ -1,4 +1,4 @@
-use Rattle.std.proofs.Common.{◌≡◌, ◌∙◌, ap, sym, subst, List}
+use Rattle.std.proofs.Common.{◌∙◌, ap, sym, subst, List}
 use Rattle.std.specs.Prelude.{Option, IfSome, Contains}
 use Rattle.rbac_terms.specs.Text.{Text}
 use Rattle.rbac_lint.specs.declared.listing.Candidates.{Candidates}
