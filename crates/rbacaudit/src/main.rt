@@ -8,6 +8,7 @@ use rbac_cli::{
     Input, InputFault, RunFault, Sink, Source, Status, UsageFault, command_of, read_file,
     read_input, run,
 };
+use std::alloc::AllocError;
 use std::env::{Env, FillError};
 use std::process::ExitCode;
 use std::{env, fmt, io, str};
@@ -77,8 +78,9 @@ fn words_of(rt: &HostRuntime) -> Result<Vec<String>, Fault> {
     match utf8_words(rt) {
         Ok(words) => Ok(words),
         Err(error) => match bad_word(rt) {
-            Some(place) => Err(Fault::NotUtf8(place)),
-            None => Err(Fault::Words(error)),
+            Ok(Some(place)) => Err(Fault::NotUtf8(place)),
+            Ok(None) => Err(Fault::Words(error)),
+            Err(_) => Err(Fault::Usage(UsageFault::NoMemory)),
         },
     }
 }
@@ -88,19 +90,17 @@ fn utf8_words(rt: &HostRuntime) -> io::Result<Vec<String>> {
     Ok(words)
 }
 
-// The place of the first word that isn't UTF-8, where memory suffices to find it.
-fn bad_word(rt: &HostRuntime) -> Option<usize> {
-    let Ok(mut bytes) = vec![in rt.alloc(); 0u8; MOST_WORD] else {
-        return None;
-    };
+// The place of the first word that isn't UTF-8.
+fn bad_word(rt: &HostRuntime) -> Result<Option<usize>, AllocError> {
+    let mut bytes = vec![in rt.alloc(); 0u8; MOST_WORD]?;
     for place in 0..usize::MAX {
         match rt.arg(place, &mut bytes) {
-            Ok(length) if str::from_utf8(&bytes[..length]).is_err() => return Some(place),
+            Ok(length) if str::from_utf8(&bytes[..length]).is_err() => return Ok(Some(place)),
             Ok(_) | Err(FillError::TooLong) => {}
-            Err(FillError::NotPresent) => return None,
+            Err(FillError::NotPresent) => return Ok(None),
         }
     }
-    None
+    Ok(None)
 }
 
 // The inputs of a command: its files, or standard input where it names none.
