@@ -1,10 +1,12 @@
 //! The rows of a line, by the seats of its cursors.
 
-ghost use Rattle.std.specs.Prelude.{ℕ, ◌≡◌, ◌+◌, if◌then◌else◌, is_some, ◌⊎◌, ◌↔◌, ◌≤◌, [], IsTrue, MatchOption, length};
+ghost use Rattle.std.specs.Prelude.{ℕ, ◌≡◌, ◌<◌, ◌+◌, if◌then◌else◌, is_some, ◌⊎◌, ◌↔◌, ◌≤◌, [], IsTrue, MatchOption, length};
 ghost use Rattle.rbac_model.specs.Policies.{IsPolicy};
+ghost use Rattle.rbac_model.specs.Universes.{UniverseView};
 ghost use Rattle.rbac_matrix.specs.Shown.{line_of};
 ghost use Rattle.rbac_index.specs.Reaches.{AreReaches};
-ghost use Rattle.rbac_matrix.specs.Cursors.{AreRuns, AreRunsAt};
+ghost use Rattle.rbac_matrix.specs.Cursors.{AreRuns, AreRunsAt, IsBoundOn};
+ghost use Rattle.rbac_matrix.specs.Lines.{IsLineAt, lines_from};
 ghost use Rattle.rbac_matrix.specs.Passing.{EndsAll, EndsLine, FindsCell, FindsRow};
 ghost use Rattle.rbac_matrix.specs.Metering.{IsMetered, IsReady, Skips};
 ghost use Rattle.rbac_matrix.specs.declared.line.Place.{Place};
@@ -83,12 +85,38 @@ fn next_line(
     let mut at = settled(universe, at);
     while let Some(line) = line_at(universe, at) {
         *runs = Runs::of(index, line);
-        if seat_line(index, reaches, line, runs, 0, seats, meter) > 0 {
+        if runs.is_empty() {
+            at = settled(universe, past_idle(index, line, at));
+        } else if seat_line(index, reaches, line, runs, 0, seats, meter) > 0 {
             return at;
+        } else {
+            at = settled(universe, after(at));
         }
-        at = settled(universe, after(at));
     }
     at
+}
+
+// The place after the lines of a namespace in which none of somebody's grants may be live; after all
+// lines of somebody who has none.
+fn past_idle(index: &Index<'_>, line: Line<'_>, at: Place) -> Place
+    requires policy { IsPolicy index.now }
+    requires idle { (k : ℕ) → ¬ IsBoundOn index.now (line_of line) k }
+    requires few { (at.principal < 65535) × (at.namespace < 65535) }
+    ensures skips { (u : UniverseView) → IsLineAt u at (line_of line.entry) → Skips index.now.held u at result }
+    ensures on { (u : UniverseView) → IsLineAt u at (line_of line.entry) → length (lines_from u result) < length (lines_from u at) }
+{
+    if at.namespace == 0 && !index.has_grants(line.principal) {
+        return Place {
+            principal: at.principal + 1,
+            namespace: 0,
+            verb: 0,
+        };
+    }
+    Place {
+        principal: at.principal,
+        namespace: at.namespace + 1,
+        verb: 0,
+    }
 }
 
 // The next row from a place and a target's place on: the place of its line, and the place of its

@@ -1,8 +1,8 @@
-use Rattle.std.proofs.Common.{◌≡◌, ◌<◌, ◌≤◌, ◌∙◌, sym, length, arith, []}
+use Rattle.std.proofs.Common.{◌≡◌, ◌<◌, ◌∙◌, sym, length, arith, []}
 use Rattle.std.proofs.lemmas.List.{get_or_default}
 use Rattle.rbac_matrix.specs.Shown.{line_of}
 use Rattle.rbac_matrix.specs.Seats.{reach_at}
-use Rattle.rbac_matrix.proofs.LoopLemmas.{advanced_cursor, advanced_end, advanced_gain, advanced_move, advanced_stay}
+use Rattle.rbac_matrix.proofs.LoopLemmas.{advanced_cursor, advanced_move, advanced_stay}
 use Rattle.rbac_matrix.proofs.seats.advance.Goals as goal
 
 pub loop-no-preserved-then-place : goal.loop-no-preserved-then-place

@@ -1,4 +1,4 @@
-use Rattle.std.proofs.Common.{◌<◌, ◌≤◌, arith}
+use Rattle.std.proofs.Common.{arith}
 use Rattle.rbac_matrix.specs.Shown.{line_of}
 use Rattle.rbac_matrix.proofs.WalkLemmas.{bound_ends, bound_on, bound_within, cursor_bound, next_in_new, next_in_run, within_new, within_run}
 use Rattle.rbac_matrix.proofs.walk.next_bound.Goals as goal

@@ -1,4 +1,4 @@
-use Rattle.std.proofs.Common.{List, [], ◌++◌, false, true, append-nil, subst}
+use Rattle.std.proofs.Common.{List, [], false, true, append-nil, subst}
 use Rattle.rbac_matrix.specs.Shown.{line_of}
 use Rattle.rbac_matrix.specs.Cursors.{AreRunsFrom, IsBoundOn}
 use Rattle.rbac_matrix.specs.declared.bound.Run.{Run}
