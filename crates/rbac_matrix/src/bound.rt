@@ -9,7 +9,7 @@ use arrayvec::ArrayVec;
 use rbac_index::Index;
 
 // How many runs of a line are kept. The others are looked up again by each walk.
-const MOST_KEPT: usize = 16;
+const MOST_KEPT: usize = 64;
 
 /// Grants of a binding, which stand together: those from one number up to another.
 #[derive(Clone, Copy, Default)]
