@@ -232,6 +232,19 @@ def matrix_streams():
     told('a matrix on a full disk', (ended.returncode, ended.stderr) == (2, b'rbacaudit: write failed after 0 bytes\n'), repr(ended))
 
 
+def lint_streams():
+    """Lint of an input that is a list of its own kind, of a bad document, on a full disk, and its help."""
+    expect('lint of a RoleList', ['lint'], 1, b'L2\tunused-role\tRole/dev/r\t-\t-\n', given=json.dumps(
+        {'apiVersion': V1, 'kind': 'RoleList', 'items': [{'metadata': {'name': 'r', 'namespace': 'dev'}, 'rules': None}]}).encode())
+    expect('lint of a bad document', ['lint'], 2, err=b'rbacaudit: file 1: M2 not an object\n', given=b'[]')
+    with open('/dev/full', 'wb') as full:
+        ended = run(['lint'], export(role('dev', 'r', [PODS])), stdout=full)
+    told('lint on a full disk', (ended.returncode, ended.stderr) == (2, b'rbacaudit: write failed after 0 bytes\n'), repr(ended))
+    text = run(['lint', '--help']).stdout
+    for code in range(1, 8):
+        told('help of lint names L%d' % code, b'L%d  ' % code in text, repr(text))
+
+
 def universe(**lists):
     return export({'apiVersion': 'rbacaudit/v1', 'kind': 'Universe', **lists})
 
@@ -307,6 +320,7 @@ else:
     little_memory()
     rows()
     matrix_streams()
+    lint_streams()
     limits()
     universe_limits()
     ring()
