@@ -3,7 +3,7 @@
 PREFIX ?= /usr/local
 PROGRAM = crates/rbacaudit/out/rbacaudit
 
-.PHONY: run test wrong-bodies build install
+.PHONY: run test fuzz wrong-bodies build install
 
 # One question on the example export: may the CI account of the shop update deployments there, and why? The proved program
 # answers where it is built and nothing has changed since, else the same sources do, run without their proofs.
@@ -21,6 +21,10 @@ run:
 # Everything that must hold; the last line is `N passed, M failed`.
 test:
 	bash tests/all.sh
+
+# Bad documents through the built program, against the table of refusals, in about a minute; `make fuzz SEED=N COUNT=N` tries others.
+fuzz:
+	python3 tests/fuzz.py "$(SEED)" "$(COUNT)"
 
 # Each wrong body that the gate leaves out has to be refused; `make wrong-bodies CRATE=NAME` tries those of a crate, or of several.
 wrong-bodies:

@@ -88,6 +88,20 @@ ROWS = ['%s\t%s\tget\t-\tpods\t-\tClusterRoleBinding/a\n' % row for row in itert
 DERIVED = ['%s\t%s\tget\t-\tpods\t%s\tClusterRoleBinding/a\n' % row for row in itertools.product(HOLDERS, ['-', 'dev'], ['-', 'a'])]
 DERIVED += ['u:%s\tdev\tdelete\t-\tpods\ta\tRoleBinding/dev/b\n' % user
             for user in ('bob-who-has-a-rather-long-name', 'system:serviceaccount:dev:ci')]
+# What lint finds something about, beside the worked export.
+SLIPS = [
+    item('ClusterRole', {'name': 'twice'}, rules=[PODS, PODS]),
+    item('ClusterRole', {'name': 'admin'}, aggregationRule=AGGREGATED, rules=[PODS]),
+    item('ClusterRoleBinding', {'name': 'left-behind-when-its-role-was-deleted'}, roleRef=role_ref('ClusterRole', 'gone'),
+         subjects=[{'kind': 'ServiceAccount', 'name': 'ci'}]),
+]
+FINDINGS = """L1\tdangling-role\tClusterRoleBinding/left-behind-when-its-role-was-deleted\t-\tClusterRole/gone
+L2\tunused-role\tClusterRole/twice\t-\t-
+L3\tredundant-rule\tClusterRole/twice\t2\t1
+L5\taccount-without-namespace\tClusterRoleBinding/left-behind-when-its-role-was-deleted\t1\tci
+L6\tstale-aggregate\tClusterRole/admin\t-\t-
+L7\treplaced-object\tClusterRole/admin\t-\t1
+"""
 ALICE = ['can-i', '--as', 'alice', '-n', 'dev']
 ALICE_GETS_PODS = [*ALICE, 'get', 'po']
 
@@ -234,6 +248,8 @@ def answers():
                'yes\nClusterRoleBinding/a\tClusterRole/admin\tClusterRole/%s\t1\t1\n' % LONG)
     yield Case('can-i -q', [*ALICE, '-q', 'get', 'po'], export(*WORKED), 0)
     yield few_holders()
+    yield Case('lint', ['lint'], export(*WORKED, *SLIPS), 1, FINDINGS)
+    yield Case('lint, no findings', ['lint'], export(*WORKED), 0)
 
 
 def matrices():

@@ -24,10 +24,11 @@ use Rattle.rbac_universe.proofs.OneMore.{as_any}
 use Rattle.rbac_universe.proofs.OneUniverse.{one_sets}
 use Rattle.rbac_index.proofs.OneHolders.{one_holders}
 use Rattle.rbac_manifest.specs.Load.{LoadedView}
+use Rattle.rbac_lint.proofs.OneLines.{one_findings}
 use Rattle.rbac_question.specs.declared.command.Action.{Action}
-use Rattle.rbac_question.specs.declared.command.Action.TheVariants.{CanI, WhoCan, Matrix}
+use Rattle.rbac_question.specs.declared.command.Action.TheVariants.{CanI, WhoCan, Matrix, Lint}
 use Rattle.rbac_question.specs.declared.command.Question.{Question}
-use Rattle.rbac_cli.specs.Out.{Answers, IsAllowed, IsDenied, AreHoldersMeant, holders_text, line_unless}
+use Rattle.rbac_cli.specs.Out.{Answers, IsAllowed, IsDenied, AreHoldersMeant, holders_text, findings_text, findings_status, line_unless}
 use Rattle.rbac_cli.specs.declared.ending.Status.{Status}
 use Rattle.rbac_matrix.proofs.OneMatrix.{key_name, by_keys}
 use Rattle.rbac_cli.proofs.OneListing.{Line, line_of, one_listing}
@@ -190,3 +191,6 @@ one_answer l (Matrix after limit) text other status ending (u, rows, m, x, e, s)
   e ∙ one_listing after limit rows others (one_lines l.policy.held l.lists u v rows others m.sets n.sets x y) ∙ sym f,
   s ∙ sym t,
 )
+one_answer l Lint text other status ending (found, are, e, s) (others, these, f, t) =
+    let one = one_findings l.policy.held l.replaced found others are these in
+    (e ∙ ap findings_text one ∙ sym f, s ∙ ap findings_status one ∙ sym t)

@@ -11,7 +11,7 @@ use Rattle.rbac_matrix.proofs.OneMatrix.{one_matrix}
 use Rattle.rbac_matrix.proofs.Within.{within_of}
 use Rattle.rbac_manifest.specs.Load.{LoadedView}
 use Rattle.rbac_question.specs.declared.command.Action.{Action}
-use Rattle.rbac_question.specs.declared.command.Action.TheVariants.{CanI, WhoCan, Matrix}
+use Rattle.rbac_question.specs.declared.command.Action.TheVariants.{CanI, WhoCan, Matrix, Lint}
 use Rattle.rbac_cli.specs.Out.{Answers, listing_text}
 use Rattle.rbac_cli.specs.declared.ending.Status.{Status}
 use Rattle.rbac_cli.specs.declared.ending.RunFault.{RunFault}
@@ -40,6 +40,7 @@ module _ {W : Type 0} (contents : W → Option (List ℕ)) where
       → Answers l action text status → StopsIn contents s p t q text → StopsInAnswer contents s p t q l action
   stops_in_text s t p q l (CanI who quiet why question) text status a f = (text, status, a, f)
   stops_in_text s t p q l (WhoCan question) text status a f = (text, status, a, f)
+  stops_in_text s t p q l Lint text status a f = (text, status, a, f)
   stops_in_text s t p q l (Matrix k limit) text status (u, rows, is_universe, matrix, same, zero) f = (
     u,
     is_universe,
@@ -59,6 +60,7 @@ module _ {W : Type 0} (contents : W → Option (List ℕ)) where
   within s t p q l (CanI who quiet why question) n printed e (text, status, a, f) =
       as_front s t q l (CanI who quiet why question) text status n e a (f s [] printed)
   within s t p q l (WhoCan question) n printed e (text, status, a, f) = as_front s t q l (WhoCan question) text status n e a (f s [] printed)
+  within s t p q l Lint n printed e (text, status, a, f) = as_front s t q l Lint text status n e a (f s [] printed)
   within s t p q l (Matrix k limit) n printed e (u, is_universe, f) = let stop = f s [] printed in (
     stop.front,
     (u, is_universe, λ rows matrix. stop.begins (listing_text k limit rows) (rows, matrix, refl)),

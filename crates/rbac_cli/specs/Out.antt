@@ -12,10 +12,13 @@ use Rattle.rbac_catalogue.specs.declared.entry.Entry.{Entry}
 use Rattle.rbac_universe.specs.Sets.{IsUniverseOf}
 use Rattle.rbac_text.specs.Row.{holder_text}
 use Rattle.rbac_text.specs.Why.{why_text}
+use Rattle.rbac_text.specs.Finding.{finding_text}
 use Rattle.rbac_matrix.specs.Pages.{cut_at, page_text}
 use Rattle.rbac_manifest.specs.Load.{LoadedView}
+use Rattle.rbac_lint.specs.declared.finding.Finding.{Finding}
+use Rattle.rbac_lint.specs.Findings.{AreFindings}
 use Rattle.rbac_question.specs.declared.command.Action.{Action}
-use Rattle.rbac_question.specs.declared.command.Action.TheVariants.{CanI, WhoCan, Matrix}
+use Rattle.rbac_question.specs.declared.command.Action.TheVariants.{CanI, WhoCan, Matrix, Lint}
 use Rattle.rbac_question.specs.declared.command.Question.{Question}
 use Rattle.rbac_cli.specs.Meant.{IsMeant}
 use Rattle.rbac_cli.specs.declared.ending.Status.{Status}
@@ -67,8 +70,18 @@ holders_text xs = flat_map (λ x. holder_text x.key x.binding) xs
 abbrev pub listing_text : Option KeyTexts → Option ℕ → List RowView → List ℕ
 listing_text k limit rows = page_text (cut_at limit (rows_after k rows))
 
+-- a line for each finding, in order
+abbrev pub findings_text : List Finding → List ℕ
+findings_text found = flat_map (λ f. finding_text f.code f.object f.place f.other) found
+
+-- 1 where something is found (own)
+abbrev pub findings_status : List Finding → Status
+findings_status [] = Zero
+findings_status (f ∷ found) = One
+
 -- the text and the status that an action means over what was loaded: `can-i` answers `yes` and 0 or `no` and 1 (kubectl auth can-i);
--- `who-can` answers a line for each holder, and 0; `matrix` a page of the matrix of a universe of the lists, and 0 (own)
+-- `who-can` answers a line for each holder, and 0; `matrix` a page of the matrix of a universe of the lists, and 0 (own);
+-- `lint` a line for each finding, and 1 where there is one (own)
 abbrev pub Answers : LoadedView → Action → List ℕ → Status → Type 0
 Answers l (CanI who quiet why q) text status =
     (IsAllowed l.policy.held l.catalogue.entries who q
@@ -80,8 +93,10 @@ Answers l (WhoCan q) text status =
 Answers l (Matrix after limit) text status =
     (u : UniverseView) × (rows : List RowView) × IsUniverseOf l.lists u × IsMatrix l.policy.held u rows
     × (text ≡ listing_text after limit rows) × (status ≡ Zero)
+Answers l Lint text status =
+    (found : List Finding) × AreFindings l.policy.held l.replaced found × (text ≡ findings_text found) × (status ≡ findings_status found)
 
--- a front of the text that the action means: of a verdict's, of the holders', or, for a universe of the lists, of whichever rows are its matrix
+-- a front of the text that the action means: of a verdict's, of the holders', of the findings', or, for a universe of the lists, of whichever rows are its matrix
 abbrev pub IsFrontOfAnswer : LoadedView → Action → List ℕ → Type 0
 IsFrontOfAnswer l (CanI who quiet why q) front =
     (text : List ℕ) × (status : Status) × Answers l (CanI who quiet why q) text status × BeginsWith text front
@@ -89,3 +104,4 @@ IsFrontOfAnswer l (WhoCan q) front = (text : List ℕ) × (status : Status) × A
 IsFrontOfAnswer l (Matrix after limit) front =
     (u : UniverseView) × IsUniverseOf l.lists u
     × ((rows : List RowView) → IsMatrix l.policy.held u rows → BeginsWith (listing_text after limit rows) front)
+IsFrontOfAnswer l Lint front = (text : List ℕ) × (status : Status) × Answers l Lint text status × BeginsWith text front

@@ -11,7 +11,7 @@ use Rattle.rbac_universe.specs.Sets.{IsUniverseOf}
 use Rattle.rbac_matrix.specs.Printed.{StopsWithin}
 use Rattle.rbac_manifest.specs.Load.{LoadedView}
 use Rattle.rbac_question.specs.declared.command.Action.{Action}
-use Rattle.rbac_question.specs.declared.command.Action.TheVariants.{CanI, WhoCan, Matrix}
+use Rattle.rbac_question.specs.declared.command.Action.TheVariants.{CanI, WhoCan, Matrix, Lint}
 use Rattle.rbac_cli.specs.Out.{Answers, listing_text}
 use Rattle.rbac_cli.specs.Ends.{WritesFront, WritesNothing, LacksUniverse}
 use Rattle.rbac_cli.specs.declared.ending.Status.{Status}
@@ -33,12 +33,14 @@ abbrev pub PrintsAnswer : {W : Type 0} → (W → Option (List ℕ)) → SinkVie
 PrintsAnswer contents old page new after l action status =
     (text : List ℕ) × Answers l action text status × Prints contents old page new after text
 
--- printing stopped within such a text: a verdict's, the holders', or, for a universe of the lists, the page of its matrix
+-- printing stopped within such a text: a verdict's, the holders', the findings', or, for a universe of the lists, the page of its matrix
 abbrev pub StopsInAnswer : {W : Type 0} → (W → Option (List ℕ)) → SinkView W → PageView → SinkView W → PageView → LoadedView → Action → Type 0
 StopsInAnswer contents old page new after l (CanI who quiet why q) =
     (text : List ℕ) × (status : Status) × Answers l (CanI who quiet why q) text status × StopsIn contents old page new after text
 StopsInAnswer contents old page new after l (WhoCan q) =
     (text : List ℕ) × (status : Status) × Answers l (WhoCan q) text status × StopsIn contents old page new after text
+StopsInAnswer contents old page new after l Lint =
+    (text : List ℕ) × (status : Status) × Answers l Lint text status × StopsIn contents old page new after text
 StopsInAnswer contents old page new after l (Matrix k limit) =
     (u : UniverseView) × IsUniverseOf l.lists u × StopsInListing contents old page new after k limit l.policy.held u
 

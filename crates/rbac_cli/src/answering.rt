@@ -6,6 +6,7 @@ ghost use Rattle.rbac_cli.specs.Printing.{PrintsAnswer, StopsPrinting};
 
 use crate::can_i::{print_told, told_of};
 use crate::ending::{RunFault, Status};
+use crate::lint::print_findings;
 use crate::matrix::print_listing;
 use crate::who_can::print_holders;
 use rbac_manifest::Loaded;
@@ -41,5 +42,6 @@ pub(crate) fn print_answer<W: Write + Drop>(
         Action::Matrix { after, limit } => {
             print_listing(alloc, loaded, after.as_ref(), *limit, sink, page)
         }
+        Action::Lint => print_findings(alloc, loaded, sink, page),
     }
 }

@@ -100,6 +100,10 @@ who_can_app = with_question (with_scope (new_app (codes "who-can")))
 abbrev pub matrix_app : App
 matrix_app = with_rule (with_rule (with_rule (new_app (codes "matrix")) after_rule) limit_rule) files_rule
 
+-- lint [FILE]..
+abbrev pub lint_app : App
+lint_app = with_rule (new_app (codes "lint")) files_rule
+
 -- the program: it has a version, a subcommand is required, and there is no subcommand `help`
 abbrev pub as_program : App → App
 as_program a = record a {
@@ -117,4 +121,5 @@ bare_app = as_program (new_app (codes "rbacaudit"))
 -- the whole command line
 unfoldable pub rbac_app : App
 rbac_app =
-    with_subcommand (with_subcommand (with_subcommand bare_app can_i_app.top) who_can_app.top) matrix_app.top
+    with_subcommand (with_subcommand (with_subcommand (with_subcommand bare_app can_i_app.top) who_can_app.top) matrix_app.top)
+    lint_app.top

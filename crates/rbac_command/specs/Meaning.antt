@@ -6,7 +6,7 @@ use Rattle.clap.specs.Words.{Row, Text, all_of, fault_of, first_of, kind_of, one
 use Rattle.clap.specs.Kinds.{IsAmong}
 use Rattle.rbac_question.specs.Lines.{QuestionParts, CanIParts, MeansCanI, MeansWhoCan, AcceptsCanI, AcceptsQuestion, RefusesCanI, RefusesQuestion, HasBadToken, IsAfter}
 use Rattle.rbac_question.specs.declared.command.Action.{Action}
-use Rattle.rbac_question.specs.declared.command.Action.TheVariants.{CanI, WhoCan, Matrix}
+use Rattle.rbac_question.specs.declared.command.Action.TheVariants.{CanI, WhoCan, Matrix, Lint}
 use Rattle.rbac_question.specs.declared.command.Command.{Command}
 use Rattle.rbac_question.specs.declared.fault.QuestionFault.{QuestionFault}
 use Rattle.rbac_question.specs.declared.fault.QuestionFault.TheVariants as question
@@ -66,7 +66,7 @@ IsNumberAt id rows number = IsNumber (one_of id rows) number
 
 -- one of the subcommands
 abbrev pub is_known : Text → Bool
-is_known name = bytes_eq name (codes "can-i") || (bytes_eq name (codes "who-can") || bytes_eq name (codes "matrix"))
+is_known name = bytes_eq name (codes "can-i") || (bytes_eq name (codes "who-can") || (bytes_eq name (codes "matrix") || bytes_eq name (codes "lint")))
 
 -- what the subcommand of that name does, by its matches
 abbrev pub DoesAction : Text → List Row → Action → Type 0
@@ -76,6 +76,7 @@ DoesAction name rows (WhoCan question) =
     (name ≡ codes "who-can") × AcceptsQuestion (question_in rows) × MeansWhoCan (question_in rows) (WhoCan question)
 DoesAction name rows (Matrix after limit) =
     (name ≡ codes "matrix") × IsAfter (first_of (codes "after") rows) after × IsNumberAt (codes "limit") rows limit
+DoesAction name rows Lint = name ≡ codes "lint"
 
 -- the command is what the matches of the subcommand of that name mean
 pub record MeansRows (name : Text) (rows : List Row) (c : Command) : Type 0 where
@@ -89,7 +90,7 @@ Means (Some p) c = MeansRows p.0 p.1 c
 
 -- ---- refusals
 
--- the refusal of a subcommand's matches: U4 is of `matrix` alone, which has no other but want of memory; that may come at any time
+-- the refusal of a subcommand's matches: U4 is of `matrix` alone, which has no other but want of memory, as `lint` has; that may come at any time
 abbrev pub RefusesAction : Text → List Row → QuestionFault → Type 0
 RefusesAction name rows question.NoMemory = Unit {0}
 RefusesAction name rows question.BadToken = (name ≡ codes "matrix") × HasBadToken (first_of (codes "after") rows)

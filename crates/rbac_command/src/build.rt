@@ -4,7 +4,7 @@ ghost use Rattle.std.specs.Prelude.{◌≡◌, IfOk, false};
 ghost use Rattle.clap.specs.Words.{app_of, new_app, rule_of, with_rule, with_subcommand};
 ghost use Rattle.clap.specs.declared.builder.command.Command.TheViews.{out-Command as fields_of};
 ghost use Rattle.rbac_command.specs.App.{after_rule, limit_rule, user_rule, groups_rule, namespace_rule, all_rule, subresource_rule, quiet_rule, why_rule, verb_rule, target_rule, files_rule};
-ghost use Rattle.rbac_command.specs.App.{with_asker, with_scope, with_question, can_i_app, who_can_app, matrix_app, bare_app, rbac_app};
+ghost use Rattle.rbac_command.specs.App.{with_asker, with_scope, with_question, can_i_app, who_can_app, matrix_app, lint_app, bare_app, rbac_app};
 
 use clap::{Arg, ArgAction, Command, value_parser};
 use std::alloc::{AllocError, Global};
@@ -51,6 +51,19 @@ The last line is end, or next and a TOKEN, joined by a tab, where --limit left r
 Examples:
   rbacaudit matrix cluster.json namespaced.json universe.json
   rbacaudit matrix --limit 1000 --after TOKEN cluster.json namespaced.json";
+
+const LINT_MORE: &str =
+    "A line has five fields, joined by tabs: code, word, object, place, and the other; - is an empty field.
+  L1  dangling-role              a binding names a role that is not there
+  L2  unused-role                no binding names the role, nor an aggregated role that gathers it
+  L3  redundant-rule             another rule of the role allows all that this rule does
+  L4  escalation                 a rule lets its holders escalate or bind roles
+  L5  account-without-namespace  a ClusterRoleBinding has a service account without a namespace
+  L6  stale-aggregate            the rules written in an aggregated role are not the gathered ones
+  L7  replaced-object            a later document replaced earlier ones of this object
+
+Example:
+  rbacaudit lint cluster.json namespaced.json";
 
 fn user_arg<'a>(alloc: Global) -> Arg<'a>
     ensures rule { rule_of result ≡ user_rule }
@@ -270,6 +283,19 @@ fn matrix<'a>(alloc: Global) -> Result<Command<'a>, AllocError>
     with(command, files_arg(alloc))
 }
 
+fn lint<'a>(alloc: Global) -> Result<Command<'a>, AllocError>
+    ensures app { IfOk result (λ r. app_of r ≡ lint_app) }
+    ensures local { IfOk result (λ r. (fields_of r).has_globals ≡ false) }
+{
+    let command = named(
+        alloc,
+        "lint",
+        "List what is wrong with the roles: exit status 1 where something is, else 0; 2 is a fault",
+        LINT_MORE,
+    );
+    with(command, files_arg(alloc))
+}
+
 // Adds a subcommand with no global argument.
 fn with_sub<'a>(command: Command<'a>, sub: Command<'a>) -> Result<Command<'a>, AllocError>
     requires sub { (fields_of sub).has_globals ≡ false }
@@ -309,5 +335,6 @@ pub(crate) fn program<'a>(alloc: Global) -> Result<Command<'a>, AllocError>
     let command = with_bin_name(bare(alloc), "rbacaudit")?;
     let command = with_sub(command, can_i(alloc)?)?;
     let command = with_sub(command, who_can(alloc)?)?;
-    with_sub(command, matrix(alloc)?)
+    let command = with_sub(command, matrix(alloc)?)?;
+    with_sub(command, lint(alloc)?)
 }

@@ -125,6 +125,9 @@ fn action_of(alloc: Global, name: &str, matches: &ArgMatches<'_>) -> Result<Acti
     if name == "who-can" {
         return Action::who_can(alloc, &question_of(matches));
     }
+    if name == "lint" {
+        return Ok(Action::Lint);
+    }
     Action::can_i(alloc, &line_of(matches))
 }
 

@@ -10,6 +10,8 @@ mod indexes;
 #[cfg(test)]
 mod matching;
 #[cfg(test)]
+mod matrices;
+#[cfg(test)]
 mod objects;
 #[cfg(test)]
 mod reaching;
@@ -17,5 +19,7 @@ mod reaching;
 mod requests;
 #[cfg(test)]
 mod streams;
+#[cfg(test)]
+mod tokens;
 #[cfg(test)]
 mod words;

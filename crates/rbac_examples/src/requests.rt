@@ -84,7 +84,7 @@ fn keys(alloc: Global, universe: &Universe) -> Result<Vec<Key>, ModelFault> {
 }
 
 // The keys of all requests of the universe of this document.
-fn keys_of(alloc: Global, document: &str) -> Result<Vec<Key>, Fail> {
+pub(crate) fn keys_of(alloc: Global, document: &str) -> Result<Vec<Key>, Fail> {
     let universe = universe(alloc, &loaded(alloc, document)?)?;
     Ok(keys(alloc, &universe)?)
 }

@@ -1,5 +1,5 @@
 -- a reach that is told target by target
-use Rattle.std.proofs.Common.{◌≡◌, ℕ, suc, zero, ◌+◌, ◌<◌, ◌≤◌, List, [], ◌∷◌, ◌++◌, length, get_or, slice_get, arith, inl, inr, ◌↔◌, subst, sym, ◌∙◌, ap, Contains, append_assoc, append-nil}
+use Rattle.std.proofs.Common.{◌≡◌, ℕ, suc, zero, ◌+◌, ◌-◌, ◌<◌, ◌≤◌, List, [], ◌∷◌, ◌++◌, length, get_or, slice_get, arith, inl, inr, subst, sym, ◌∙◌, ap, Contains, append_assoc, append-nil, Result, Ok, Err, OnOk}
 use Rattle.std.specs.Prelude.{Some}
 use Rattle.std.specs.List.Sorted.{IsStrictlyIncreasing}
 use Rattle.std.proofs.lemmas.Bool.{cases_lt}
@@ -12,15 +12,9 @@ use Rattle.rbac_terms.specs.Matching.{TargetOk}
 use Rattle.rbac_terms.specs.declared.matching.Rule.{Rule}
 use Rattle.rbac_model.specs.Policies.{PolicyView}
 use Rattle.rbac_model.specs.Universes.{UniverseView}
-use Rattle.rbac_index.specs.Reaches.{MatchesAt, IsReach, IsReachAt, AreReachesBelow}
+use Rattle.rbac_index.specs.Reaches.{MatchesAt, IsReach, IsReachBelow, IsReachAt, AreReachesBelow}
 use Rattle.rbac_index.specs.Spans.{places_from}
 use Rattle.rbac_index.proofs.ReadLemmas.{read_left, read_right}
-
--- the reach among so many first targets
-pub record IsReachBelow (r : Rule) (ts : List What) (count : ℕ) (places : List ℕ) : Type 0 where
-  pub ascending : IsStrictlyIncreasing places
-  pub exact : (n : ℕ) → Contains places n ↔ ((n < count) × MatchesAt r ts n)
-  pub short : length places ≤ count
 
 pub reach_none : (r : Rule) (ts : List What) → IsReachBelow r ts 0 []
 reach_none r ts = record {
@@ -92,6 +86,15 @@ reach_take r ts (suc count) start places all h =
     let same : start + 1 + count ≡ start + suc count = omega arith in
     rw (← append_assoc places (start ∷ []) (places_from (start + 1) count), ← same) rest
 
+-- and up to an end
+pub reach_up_to : (r : Rule) (ts : List What) (start end : ℕ) (places : List ℕ) → start ≤ end → ((n : ℕ) → start ≤ n → n < end → MatchesAt r ts n) → IsReachBelow r ts start places → IsReachBelow r ts end (places ++ places_from start (end - start))
+reach_up_to r ts start end places le all h =
+    let last : start + (end - start) ≡ end = omega (arith, le) in
+    subst (λ (n : ℕ). IsReachBelow r ts n (places ++ places_from start (end - start))) last (reach_take r ts (end - start) start places (λ n low high. all n low (omega (arith, high, le))) h)
+
+pub reach_one : (r : Rule) (ts : List What) (at : ℕ) (places : List ℕ) → MatchesAt r ts at → IsReachBelow r ts at places → IsReachBelow r ts (at + 1) (places ++ places_from at (at + 1 - at))
+reach_one r ts at places m h = reach_up_to r ts at (at + 1) places (omega arith) (λ n low high. let same : at ≡ n = omega (arith, low, high) in subst (MatchesAt r ts) same m) h
+
 pub reach_all : (r : Rule) (ts : List What) (count : ℕ) (places : List ℕ) → length ts ≤ count → IsReachBelow r ts count places → IsReach r ts places
 reach_all r ts count places all h = record {
   ascending = h.ascending;
@@ -123,3 +126,7 @@ module _ (r : Rule) (ts : List What) (at : ℕ) (t : What) (within : at < length
 
   pub fails_here : ¬ TargetOk r t → MatchesAt r ts at → ⊥
   fails_here bad m = bad (subst (TargetOk r) (same_Some m.0 t (sym m.1 ∙ there)) m.2)
+
+pub on_ok : {T E : Type 0} {P Q : Type 0} (o : Result T E) → (P → Q) → OnOk o P → OnOk o Q
+on_ok (Ok x) f p = f p
+on_ok (Err e) f p = tt

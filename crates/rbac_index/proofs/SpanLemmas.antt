@@ -1,9 +1,9 @@
 -- places kept as runs of neighbours
-use Rattle.std.proofs.Common.{◌≡◌, ℕ, zero, suc, ◌+◌, ◌-◌, ◌<◌, ◌≤◌, List, [], ◌∷◌, ◌++◌, length, get_or, ap, sym, ◌∙◌, refl, arith, append_assoc, append-nil, true, false, leb, subst}
+use Rattle.std.proofs.Common.{◌≡◌, ℕ, zero, suc, ◌+◌, ◌-◌, ◌<◌, ◌≤◌, List, [], ◌∷◌, ◌++◌, length, get_or, set, ap, sym, ◌∙◌, refl, arith, append_assoc, append-nil, true, false, leb, subst}
 use Rattle.std.specs.List.Sorted.{IsNonDecreasingBy, IsPartitionPoint, IsStrictlyIncreasing}
 use Rattle.std.proofs.lemmas.List.{length-append, get_or_append_left, get_or-append-add}
 use Rattle.rbac_index.specs.declared.spans.Span.{Span}
-use Rattle.rbac_index.specs.Spans.{places_from, places_of, IsCounted, AreSpans}
+use Rattle.rbac_index.specs.Spans.{places_from, places_of, IsCounted, IsPut, AreSpans}
 
 pub from_length : (a n : ℕ) → length (places_from a n) ≡ n
 from_length a zero = refl
@@ -100,13 +100,64 @@ module _ (xs : List Span) (len i at : ℕ) (c : IsCounted 0 xs len) (within : i 
     pub place_found : run.start + (i - run.before) ≡ get_or (places_of xs) i 0
     place_found = let same : i - 0 ≡ i = omega arith in sym found.1 ∙ ap (λ (m : ℕ). get_or (places_of xs) m 0) same
 
-module _ (xs new : List Span) (len start end : ℕ) (shown : List ℕ) (are : AreSpans xs len) (is : places_of xs ≡ shown) (made : new ≡ xs ++ record { start = start; end = end; before = len } ∷ []) where
-  pub spans_shown : places_of new ≡ shown ++ places_from start (end - start)
-  spans_shown = ap places_of made ∙ places_push xs (record { start = start; end = end; before = len }) ∙ ap (λ (l : List ℕ). l ++ places_from start (end - start)) is
+from_append : (a n m : ℕ) → places_from a (n + m) ≡ places_from a n ++ places_from (a + n) m
+from_append a zero m =
+    let none : zero + m ≡ m = omega arith in
+    let same : a + zero ≡ a = omega arith in
+    ap (places_from a) none ∙ ap (λ (b : ℕ). places_from b m) (sym same)
+from_append a (suc n) m =
+    let more : suc n + m ≡ suc (n + m) = omega arith in
+    let same : a + 1 + n ≡ a + suc n = omega arith in
+    ap (places_from a) more ∙ ap (λ (l : List ℕ). a ∷ l) (from_append (a + 1) n m ∙ ap (λ (b : ℕ). places_from (a + 1) n ++ places_from b m) same)
 
-  pub spans_pushed : start < end → end ≤ 1000000 → IsStrictlyIncreasing (shown ++ places_from start (end - start)) → length shown + (end - start) ≤ 1000000 → AreSpans new (len + (end - start))
-  spans_pushed some top up few = record {
-    counted = rw made (counted_push 0 xs len (len + (end - start)) (record { start = start; end = end; before = len }) are.counted refl some top refl);
+-- the last run is made longer
+module _ (start end : ℕ) (some : start < end) (top : end ≤ 1000000) where
+  counted_join : (n : ℕ) (xs : List Span) (len k : ℕ) (d : Span) → IsCounted n xs len → k + 1 ≡ length xs → d ≡ get_or xs k d → d.end ≡ start → IsCounted n (set xs k (record { start = d.start; end = end; before = d.before })) (len + (end - start))
+  counted_join n [] len k d c last is e = absurd (omega (arith, last))
+  counted_join n (x ∷ []) len (suc k) d c last is e = absurd (omega (arith, last))
+  counted_join n (x ∷ y ∷ ys) len zero d c last is e = absurd (omega (arith, last))
+  counted_join n (x ∷ []) len zero d c last is e =
+      let at_start : d.start ≡ x.start = ap (λ (s : Span). s.start) is in
+      let at_end : d.end ≡ x.end = ap (λ (s : Span). s.end) is in
+      let at_before : d.before ≡ x.before = ap (λ (s : Span). s.before) is in
+      (at_before ∙ c.0, omega (arith, at_start, at_end, e, c.1, some), top, omega (arith, at_start, at_end, e, c.1, c.3, some))
+  counted_join n (x ∷ y ∷ ys) len (suc k) d c last is e = (c.0, c.1, c.2, counted_join (n + (x.end - x.start)) (y ∷ ys) len k d c.3 (omega (arith, last)) is e)
+
+  places_join : (n : ℕ) (xs : List Span) (len k : ℕ) (d : Span) → IsCounted n xs len → k + 1 ≡ length xs → d ≡ get_or xs k d → d.end ≡ start → places_of (set xs k (record { start = d.start; end = end; before = d.before })) ≡ places_of xs ++ places_from start (end - start)
+  places_join n [] len k d c last is e = absurd (omega (arith, last))
+  places_join n (x ∷ []) len (suc k) d c last is e = absurd (omega (arith, last))
+  places_join n (x ∷ y ∷ ys) len zero d c last is e = absurd (omega (arith, last))
+  places_join n (x ∷ []) len zero d c last is e =
+      let at_start : d.start ≡ x.start = ap (λ (s : Span). s.start) is in
+      let at_end : d.end ≡ x.end = ap (λ (s : Span). s.end) is in
+      let size : end - d.start ≡ (x.end - x.start) + (end - start) = omega (arith, at_start, at_end, e, c.1, some) in
+      let behind : x.start + (x.end - x.start) ≡ start = omega (arith, at_end, e, c.1) in
+      let own = places_from x.start (x.end - x.start) in
+      append-nil (places_from d.start (end - d.start)) ∙ ap (λ (m : ℕ). places_from d.start m) size ∙ ap (λ (m : ℕ). places_from m ((x.end - x.start) + (end - start))) at_start ∙ from_append x.start (x.end - x.start) (end - start) ∙ ap (λ (m : ℕ). own ++ places_from m (end - start)) behind ∙ ap (λ (l : List ℕ). l ++ places_from start (end - start)) (sym (append-nil own))
+  places_join n (x ∷ y ∷ ys) len (suc k) d c last is e =
+      let own = places_from x.start (x.end - x.start) in
+      ap (λ (l : List ℕ). own ++ l) (places_join (n + (x.end - x.start)) (y ∷ ys) len k d c.3 (omega (arith, last)) is e) ∙ sym (append_assoc own (places_of (y ∷ ys)) (places_from start (end - start)))
+
+module _ (xs new : List Span) (span : Span) (counted : IsCounted 0 xs span.before) (some : span.start < span.end) (top : span.end ≤ 1000000) where
+  pub put_behind : new ≡ xs ++ span ∷ [] → IsPut xs span new
+  put_behind made = record {
+    counted = rw made (counted_push 0 xs span.before (span.before + (span.end - span.start)) span counted refl some top refl);
+    places = ap places_of made ∙ places_push xs span;
+  }
+
+  pub put_joined : (k : ℕ) (d : Span) → k + 1 ≡ length xs → d ≡ get_or xs k d → d.end ≡ span.start → new ≡ set xs k (record { start = d.start; end = span.end; before = d.before }) → IsPut xs span new
+  put_joined k d last is e made = record {
+    counted = rw made (counted_join span.start span.end some top 0 xs span.before k d counted last is e);
+    places = ap places_of made ∙ places_join span.start span.end some top 0 xs span.before k d counted last is e;
+  }
+
+module _ (xs new : List Span) (span : Span) (shown : List ℕ) (are : AreSpans xs span.before) (is : places_of xs ≡ shown) (put : IsPut xs span new) where
+  pub spans_shown : places_of new ≡ shown ++ places_from span.start (span.end - span.start)
+  spans_shown = put.places ∙ ap (λ (l : List ℕ). l ++ places_from span.start (span.end - span.start)) is
+
+  pub spans_pushed : IsStrictlyIncreasing (shown ++ places_from span.start (span.end - span.start)) → length shown + (span.end - span.start) ≤ 1000000 → AreSpans new (span.before + (span.end - span.start))
+  spans_pushed up few = record {
+    counted = put.counted;
     ascending = rw spans_shown up;
-    few = omega (arith, few, counted_length 0 xs len are.counted, ap length is);
+    few = omega (arith, few, counted_length 0 xs span.before are.counted, ap length is);
   }

@@ -1,5 +1,5 @@
 -- targets of one group and resource text stand together
-use Rattle.std.proofs.Common.{◌≡◌, ◌⊎◌, ℕ, ◌+◌, ◌-◌, ◌<◌, ◌≤◌, List, [], ◌∷◌, length, get_or, slice_get, map, ap, sym, ◌∙◌, refl, subst, arith, inl, inr, false, Any, Contains, take, ◌++◌}
+use Rattle.std.proofs.Common.{◌≡◌, ◌⊎◌, ℕ, ◌+◌, ◌-◌, ◌<◌, ◌≤◌, List, [], ◌∷◌, length, get_or, slice_get, map, ap, sym, ◌∙◌, refl, subst, arith, inl, inr, false, Any, Contains, take, drop, ◌++◌}
 use Rattle.std.specs.Prelude.{Option, Some, None, IfSome}
 use Rattle.std.specs.Ordering.{ordering_then, ordering_reverse}
 use Rattle.std.specs.Cmp.Lexicographic.{slice_cmp}
@@ -7,17 +7,17 @@ use Rattle.std.specs.declared.cmp.Ordering.{Ordering}
 use Rattle.std.specs.declared.cmp.Ordering.TheVariants.{Less, Equal, Greater}
 use Rattle.std.proofs.lemmas.Bool.{cases_eq}
 use Rattle.std.proofs.lemmas.Cmp.{nat_list_cmp_total, tied_itself}
-use Rattle.std.proofs.lemmas.List.{get_or-map, length-map, take_more}
+use Rattle.std.proofs.lemmas.List.{get_or-map, length-map, take_more, drop_more, drop_all}
 use Rattle.std.proofs.lemmas.List.Elements.{Contains-push_cases}
 use Rattle.std.proofs.lemmas.Map.Lookups.{exact_bytes}
 use Rattle.std.proofs.lemmas.Option.{slice_get_within, get_or_from_slice_get, same_Some}
 use Rattle.rbac_terms.specs.Text.{Text, text_cmp}
-use Rattle.rbac_terms.specs.Targets.{What, Resource, Url, group_of, text_of, name_of, IsResource}
+use Rattle.rbac_terms.specs.Targets.{What, Resource, Url, group_of, text_of, name_of, IsResource, IsUrl}
 use Rattle.rbac_terms.specs.Matching.{TargetOk, WordMatches, ResourceWordMatches}
 use Rattle.rbac_terms.specs.declared.matching.Rule.{Rule}
 use Rattle.rbac_model.specs.Lists.{IsAscendingBy}
 use Rattle.rbac_model.specs.Universes.{Listed, target_texts}
-use Rattle.rbac_index.specs.Matched.{what_texts, IsBetween, IsLaterOfStem, AreOfStem, StemOk}
+use Rattle.rbac_index.specs.Matched.{what_texts, IsBetween, IsLaterOfStem, AreOfStem, AreStems, IsStem, IsWhole, StemOk}
 use Rattle.rbac_index.specs.Reaches.{MatchesAt}
 use Rattle.rbac_index.proofs.ReadLemmas.{read_some}
 
@@ -86,6 +86,10 @@ fails_of_stem : (b : Option Text) (r : Rule) (t u : What) → IsLaterOfStem b t 
 fails_of_stem b r t (Url path) of bad ok = none_below (name_of t) of.name.0
 fails_of_stem b r t (Resource g x n) of bad ok = bad (subst (λ (w : Text). Any (λ v. WordMatches v w) r.groups) of.group ok.0, subst (λ (w : Text). Any (λ v. ResourceWordMatches v w) r.resources) of.text ok.1)
 
+fails_itself : (r : Rule) (t : What) → IsResource t → ¬ StemOk r t → TargetOk r t → ⊥
+fails_itself r (Url path) is bad ok = cc
+fails_itself r (Resource g x n) is bad ok = bad (ok.0, ok.1)
+
 -- where it matches one without naming it, it matches all
 matches_of_stem : (b : Option Text) (r : Rule) (t u : What) → IsLaterOfStem b t u → IsResource t → TargetOk r t → r.resource_names ≡ [] → TargetOk r u
 matches_of_stem b r t (Url path) of is ok none = absurd (none_below (name_of t) of.name.0)
@@ -96,38 +100,71 @@ matches_of_stem b r (Resource h y m) (Resource g x n) of is ok none = (
   inl none,
 )
 
--- where it doesn't match one, it doesn't match a later one that it doesn't name
-unnamed_of_stem : (b : Option Text) (r : Rule) (t u : What) → IsLaterOfStem b t u → IsResource t → ¬ TargetOk r t → ¬ Contains r.resource_names (name_of u) → TargetOk r u → ⊥
-unnamed_of_stem b r t (Url path) of is bad unnamed ok = none_below (name_of t) of.name.0
-unnamed_of_stem b r (Url path) (Resource g x n) of is bad unnamed ok = cc
-unnamed_of_stem b r (Resource h y m) (Resource g x n) of is bad unnamed ok = elim (ok.2) [
-  | inl none ↦ bad (subst (λ (w : Text). Any (λ v. WordMatches v w) r.groups) of.group ok.0, subst (λ (w : Text). Any (λ v. ResourceWordMatches v w) r.resources) of.text ok.1, inl none)
+-- and where it matches a later one so, it matches the first
+matches_first_of_stem : (b : Option Text) (r : Rule) (t u : What) → IsLaterOfStem b t u → IsResource t → TargetOk r u → r.resource_names ≡ [] → TargetOk r t
+matches_first_of_stem b r t (Url path) of is ok none = absurd (none_below (name_of t) of.name.0)
+matches_first_of_stem b r (Url path) (Resource g x n) of is ok none = cc
+matches_first_of_stem b r (Resource h y m) (Resource g x n) of is ok none = (
+  subst (λ (w : Text). Any (λ v. WordMatches v w) r.groups) of.group ok.0,
+  subst (λ (w : Text). Any (λ v. ResourceWordMatches v w) r.resources) of.text ok.1,
+  inl none,
+)
+
+-- a rule with names matches no later one that it doesn't name
+unnamed_of_stem : (b : Option Text) (r : Rule) (t u : What) → IsLaterOfStem b t u → ¬ (r.resource_names ≡ []) → ¬ Contains r.resource_names (name_of u) → TargetOk r u → ⊥
+unnamed_of_stem b r t (Url path) of named unnamed ok = none_below (name_of t) of.name.0
+unnamed_of_stem b r t (Resource g x n) of named unnamed ok = elim (ok.2) [
+  | inl none ↦ named none
   | inr has ↦ unnamed has
 ]
 
 module _ (b : Option Text) (r : Rule) (ts : List What) (at end : ℕ) (t : What) (there : slice_get ts at ≡ Some t) (stem : AreOfStem b ts at end) where
-  pub none_of_stem : ¬ StemOk r t → (MatchesAt r ts at → ⊥) → (n : ℕ) → at ≤ n → n < end → MatchesAt r ts n → ⊥
-  none_of_stem bad fails n low high m = elim (cases_eq at n) [
-    | inl e ↦ fails (subst (MatchesAt r ts) (sym e) m)
-    | inr ne ↦ fails_of_stem b r t m.0 (stem n t m.0 (omega (arith, low, ne)) high there m.1) bad m.2
-  ]
-
-  pub none_unnamed : IsResource t → ((x : Text) → Contains r.resource_names x → IsBetween (name_of t) b x → ⊥) → (MatchesAt r ts at → ⊥) → (n : ℕ) → at ≤ n → n < end → MatchesAt r ts n → ⊥
-  none_unnamed resource none fails n low high m = elim (cases_eq at n) [
+  pub none_unnamed : ¬ (r.resource_names ≡ []) → ((x : Text) → Contains r.resource_names x → IsBetween (name_of t) b x → ⊥) → (MatchesAt r ts at → ⊥) → (n : ℕ) → at ≤ n → n < end → MatchesAt r ts n → ⊥
+  none_unnamed named none fails n low high m = elim (cases_eq at n) [
     | inl e ↦ fails (subst (MatchesAt r ts) (sym e) m)
     | inr ne ↦
         let of = stem n t m.0 (omega (arith, low, ne)) high there m.1 in
-        unnamed_of_stem b r t m.0 of resource (λ ok. fails (t, there, ok)) (λ has. none (name_of m.0) has of.name) m.2
+        unnamed_of_stem b r t m.0 of named (λ has. none (name_of m.0) has of.name) m.2
   ]
 
-  pub all_of_stem : IsResource t → r.resource_names ≡ [] → MatchesAt r ts at → end ≤ length ts → (n : ℕ) → at ≤ n → n < end → MatchesAt r ts n
-  all_of_stem resource none m within n low high = elim (cases_eq at n) [
-    | inl e ↦ subst (MatchesAt r ts) e m
-    | inr ne ↦
-        let u = read_some ts n (omega (arith, within, high)) in
-        let same : m.0 ≡ t = same_Some m.0 t (sym m.1 ∙ there) in
-        (u.0, u.1, matches_of_stem b r t u.0 (stem n t u.0 (omega (arith, low, ne)) high there u.1) resource (subst (TargetOk r) same m.2) none)
+module _ (r : Rule) (ts : List What) (start end : ℕ) (t : What) (there : slice_get ts start ≡ Some t) (is : IsStem ts start end) where
+  matched_first : MatchesAt r ts start → TargetOk r t
+  matched_first m = subst (TargetOk r) (same_Some m.0 t (sym m.1 ∙ there)) m.2
+
+  pub none_of_stem : IsResource t → ¬ StemOk r t → (n : ℕ) → start ≤ n → n < end → MatchesAt r ts n → ⊥
+  none_of_stem resource bad n low high m = elim (cases_eq start n) [
+    | inl e ↦ fails_itself r t resource bad (matched_first (subst (MatchesAt r ts) (sym e) m))
+    | inr ne ↦ fails_of_stem None r t m.0 (is.alike n t m.0 (omega (arith, low, ne)) high there m.1) bad m.2
   ]
+
+  pub whole_url : IsUrl t → IsWhole r ts start end
+  whole_url url n low high =
+      let one = is.alone t there url in
+      let same : n ≡ start = omega (arith, one, low, high) in
+      (subst (MatchesAt r ts) same, subst (MatchesAt r ts) (sym same))
+
+  pub whole_unnamed : IsResource t → r.resource_names ≡ [] → IsWhole r ts start end
+  whole_unnamed resource none n low high = elim (cases_eq start n) [
+    | inl e ↦ (subst (MatchesAt r ts) (sym e), subst (MatchesAt r ts) e)
+    | inr ne ↦
+        let u = read_some ts n (omega (arith, is.within, high)) in
+        let of = λ (v : What) (read : slice_get ts n ≡ Some v). is.alike n t v (omega (arith, low, ne)) high there read in (
+          λ m. (t, there, matches_first_of_stem None r t m.0 (of m.0 m.1) resource m.2 none),
+          λ m. (u.0, u.1, matches_of_stem None r t u.0 (of u.0 u.1) resource (matched_first m) none),
+        )
+  ]
+
+-- stems put one behind the other
+pub stems_push : (ts : List What) (from at end : ℕ) (ends : List ℕ) → AreStems ts from at ends → IsStem ts at end → AreStems ts from end (ends ++ end ∷ [])
+stems_push ts from at end [] are is = (subst (λ (n : ℕ). IsStem ts n end) (sym are) is, refl)
+stems_push ts from at end (e ∷ ends) are is = (are.0, stems_push ts e at end ends are.1 is)
+
+-- and asked one after the other
+pub stems_next : (ts : List What) (from to i : ℕ) (ends : List ℕ) (x : ℕ) → i < length ends → x ≡ get_or ends i x → AreStems ts from to (drop i ends) → IsStem ts from x × AreStems ts x to (drop (i + 1) ends)
+stems_next ts from to i ends x lt is are = subst (AreStems ts from to) (drop_more ends i x lt ∙ ap (λ (y : ℕ). y ∷ drop (i + 1) ends) (sym is)) are
+
+pub stems_end : (ts : List What) (from to i : ℕ) (ends : List ℕ) → length ends ≤ i → AreStems ts from to (drop i ends) → from ≡ to
+stems_end ts from to i ends le are = subst (AreStems ts from to) (drop_all i ends le) are
 
 -- the least text after one: none of those seen stands between the two
 module _ (xs : List Text) (i : ℕ) (x after : Text) (before : Option Text) (within : i < length xs) (is : x ≡ get_or xs i x) (none : (y : Text) → Contains (take i xs) y → IsBetween after before y → ⊥) where

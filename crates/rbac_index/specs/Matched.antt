@@ -1,10 +1,12 @@
 -- The order of targets, and those of one stem.
-use Rattle.std.specs.Prelude.{◌≡◌, ℕ, ◌<◌, List, [], ◌∷◌, Any, Option, Some, IfSome, slice_get}
+use Rattle.std.specs.Prelude.{◌≡◌, ℕ, ◌+◌, ◌<◌, ◌≤◌, ◌↔◌, List, [], ◌∷◌, Any, Option, Some, None, IfSome, length, map, slice_get}
 use Rattle.std.specs.declared.cmp.Ordering.TheVariants.{Less}
 use Rattle.rbac_terms.specs.Text.{Text, text_cmp}
-use Rattle.rbac_terms.specs.Targets.{What, group_of, text_of, name_of}
+use Rattle.rbac_terms.specs.Targets.{What, IsUrl, group_of, text_of, name_of}
 use Rattle.rbac_terms.specs.Matching.{WordMatches, ResourceWordMatches}
 use Rattle.rbac_terms.specs.declared.matching.Rule.{Rule}
+use Rattle.rbac_model.specs.Universes.{UniverseView}
+use Rattle.rbac_index.specs.Reaches.{MatchesAt}
 
 -- the texts of a target by which targets are ordered: group, resource text or path, and name
 abbrev pub what_texts : What → List Text
@@ -27,3 +29,23 @@ AreOfStem before ts at end = (n : ℕ) (t u : What) → at < n → n < end → s
 -- words of the rule match the group and the resource text
 abbrev pub StemOk : Rule → What → Type 0
 StemOk r t = Any (λ w. WordMatches w (group_of t)) r.groups × Any (λ w. ResourceWordMatches w (text_of t)) r.resources
+
+-- a stem: the targets between these places have the group and the resource text of the first, and a URL stands alone
+pub record IsStem (ts : List What) (start end : ℕ) : Type 0 where
+  pub some : start < end
+  pub within : end ≤ length ts
+  pub alike : AreOfStem None ts start end
+  pub alone : (t : What) → slice_get ts start ≡ Some t → IsUrl t → end ≡ start + 1
+
+-- the targets from the first place up to the second are stems, one after the other, each told by where it ends
+abbrev pub AreStems : List What → ℕ → ℕ → List ℕ → Type 0
+AreStems ts from to [] = from ≡ to
+AreStems ts from to (end ∷ ends) = IsStem ts from end × AreStems ts end to ends
+
+-- the rule matches all of the targets between these places, or none
+abbrev pub IsWhole : Rule → List What → ℕ → ℕ → Type 0
+IsWhole r ts start end = (n : ℕ) → start ≤ n → n < end → MatchesAt r ts n ↔ MatchesAt r ts start
+
+-- all targets of a universe are these stems
+abbrev pub AreStemsOf : UniverseView → List ℕ → Type 0
+AreStemsOf u ends = AreStems (map (λ t. t.0) u.targets) 0 (length (map (λ t. t.0) u.targets)) ends

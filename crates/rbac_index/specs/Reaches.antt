@@ -1,5 +1,5 @@
 -- Where the targets of a universe stand that the rules of grants match.
-use Rattle.std.specs.Prelude.{◌≡◌, ℕ, ◌+◌, ◌-◌, ◌^◌, ◌↔◌, min, max, List, Contains, Some, map, slice_get, length}
+use Rattle.std.specs.Prelude.{◌≡◌, ℕ, ◌+◌, ◌-◌, ◌^◌, ◌<◌, ◌≤◌, ◌↔◌, min, max, List, Contains, Some, map, slice_get, length}
 use Rattle.std.specs.List.Sorted.{IsStrictlyIncreasing}
 use Rattle.rbac_terms.specs.Targets.{What}
 use Rattle.rbac_terms.specs.Matching.{TargetOk}
@@ -19,6 +19,12 @@ MatchesAt r ts place = (t : What) × (slice_get ts place ≡ Some t) × TargetOk
 pub record IsReach (r : Rule) (ts : List What) (places : List ℕ) : Type 0 where
   pub ascending : IsStrictlyIncreasing places
   pub exact : (place : ℕ) → Contains places place ↔ MatchesAt r ts place
+
+-- the same among so many first targets
+pub record IsReachBelow (r : Rule) (ts : List What) (count : ℕ) (places : List ℕ) : Type 0 where
+  pub ascending : IsStrictlyIncreasing places
+  pub exact : (place : ℕ) → Contains places place ↔ ((place < count) × MatchesAt r ts place)
+  pub short : length places ≤ count
 
 -- the reach of the rule of the grant of that number, among the targets of a universe
 abbrev pub IsReachAt : PolicyView → UniverseView → ℕ → List ℕ → Type 0

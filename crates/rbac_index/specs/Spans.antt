@@ -23,3 +23,8 @@ pub record AreSpans (spans : List Span) (len : ℕ) : Type 0 where
   pub counted : IsCounted 0 spans len
   pub ascending : IsStrictlyIncreasing (places_of spans)
   pub few : len ≤ 1000000
+
+-- after these runs stands one more, joined or not: the places are those and its own, and all are counted
+pub record IsPut (old : List Span) (span : Span) (new : List Span) : Type 0 where
+  pub counted : IsCounted 0 new (span.before + (span.end - span.start))
+  pub places : places_of new ≡ places_of old ++ places_from span.start (span.end - span.start)

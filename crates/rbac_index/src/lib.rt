@@ -18,6 +18,7 @@ mod numbers;
 mod reach;
 mod runs;
 mod spans;
+mod stems;
 mod written;
 
 pub use deciding::{Why, why_allowed};

@@ -1,104 +1,123 @@
-//! The targets that a rule matches, verbs aside, run by run. Targets stand in order, those of one
-//! group and resource text together: a rule is asked about each such stem, and not about each name.
+//! The targets that a rule matches, verbs aside, stem by stem: a rule is asked about each stem, and
+//! not about each name.
 
-ghost use Rattle.std.specs.Prelude.{◌≡◌, ◌+◌, ◌<◌, ◌≤◌, ◌↔◌, ℕ, Contains, IfOk, IsTrue, length, option_copied};
+ghost use Rattle.std.specs.Prelude.{◌≡◌, ◌+◌, ◌<◌, ◌≤◌, ◌↔◌, ℕ, [], Contains, IfOk, IsTrue, OnOk, length, option_copied};
 ghost use Rattle.rbac_model.specs.Lists.{IsAscendingBy};
 ghost use Rattle.rbac_terms.specs.Text.{Text};
-ghost use Rattle.rbac_index.specs.Matched.{what_texts, AreOfStem, IsBetween, IsLaterOfStem, StemOk};
-ghost use Rattle.rbac_index.specs.Reaches.{IsReach, MatchesAt};
+ghost use Rattle.rbac_index.specs.Matched.{what_texts, AreStems, IsBetween, IsStem, IsWhole, StemOk};
+ghost use Rattle.rbac_index.specs.Reaches.{IsReach, IsReachBelow, MatchesAt};
 
 use crate::spans::Spans;
+use crate::stems::{is_between, run_end};
 use rbac_terms::{Rule, Target, Word, group_matches, resource_matches, target_matches};
 use std::alloc::{AllocError, Global};
 
-// The places of the targets that the rule matches.
-pub(crate) fn matched(alloc: Global, rule: &Rule, targets: &[Target]) -> Result<Spans, AllocError>
+// The places of the targets that the rule matches, by where the targets' stems end.
+pub(crate) fn matched(
+    alloc: Global,
+    rule: &Rule,
+    targets: &[Target],
+    stems: &[u32],
+) -> Result<Spans, AllocError>
     requires few { length targets.now ≤ 1000000 }
     requires ordered { IsAscendingBy what_texts targets.now }
+    requires stems { AreStems targets.now 0 (length targets.now) stems.now }
     ensures { IfOk result (λ s. IsReach rule.now targets.now s) }
 {
     let mut spans = Spans::new(alloc);
-    let mut from = 0;
-    while from < targets.len() {
-        let start = next_match(rule, targets, from);
-        let end = matches_end(rule, targets, start);
-        if start < end {
-            spans.push(start as u32, end as u32)?;
-        }
-        from = end;
+    let mut start = 0;
+    for stem in stems {
+        let end = *stem as usize;
+        push_stem(&mut spans, rule, targets, start, end)?;
+        start = end;
     }
     Ok(spans)
 }
 
-// The first place from this one on that the rule matches; the count of targets where there is none.
-fn next_match(rule: &Rule, targets: &[Target], from: usize) -> usize
-    requires within { from ≤ length targets.now }
+// Puts the places of one stem that the rule matches behind those of the stems before.
+fn push_stem(
+    spans: &mut Spans,
+    rule: &Rule,
+    targets: &[Target],
+    start: usize,
+    end: usize,
+) -> Result<(), AllocError>
+    requires few { length targets.now ≤ 1000000 }
     requires ordered { IsAscendingBy what_texts targets.now }
-    ensures within { (from ≤ result) × (result ≤ length targets.now) }
-    ensures none_before { (n : ℕ) → from ≤ n → n < result → ¬ MatchesAt rule.now targets.now n }
-    ensures here { result < length targets.now → MatchesAt rule.now targets.now result }
+    requires stem { IsStem targets.now start end }
+    requires below { IsReachBelow rule.now targets.now start spans.old }
+    ensures { OnOk result (IsReachBelow rule.now targets.now end spans.new) }
 {
-    let mut at = from;
-    while at < targets.len() {
-        if target_matches(rule, &targets[at]) {
-            return at;
-        }
-        at = after_failure(rule, targets, at);
+    let first = &targets[start];
+    if first.is_url() || rule.resource_names.is_empty() {
+        return push_whole(spans, rule, targets, start, end);
     }
-    at
+    if stem_matches(rule, first) {
+        return push_named(spans, rule, targets, start, end);
+    }
+    Ok(())
 }
 
-// Where the run of matching targets from this place on ends.
-fn matches_end(rule: &Rule, targets: &[Target], start: usize) -> usize
-    requires within { start ≤ length targets.now }
+// Puts all of these places, or none of them: the rule is asked about the first.
+fn push_whole(
+    spans: &mut Spans,
+    rule: &Rule,
+    targets: &[Target],
+    start: usize,
+    end: usize,
+) -> Result<(), AllocError>
+    requires few { length targets.now ≤ 1000000 }
+    requires within { (start < end) × (end ≤ length targets.now) }
+    requires whole { IsWhole rule.now targets.now start end }
+    requires below { IsReachBelow rule.now targets.now start spans.old }
+    ensures { OnOk result (IsReachBelow rule.now targets.now end spans.new) }
+{
+    if target_matches(rule, &targets[start]) {
+        return spans.push(start as u32, end as u32);
+    }
+    Ok(())
+}
+
+// Puts those of these places whose targets the rule, which has names, matches: it looks its names up.
+fn push_named(
+    spans: &mut Spans,
+    rule: &Rule,
+    targets: &[Target],
+    start: usize,
+    end: usize,
+) -> Result<(), AllocError>
+    requires few { length targets.now ≤ 1000000 }
     requires ordered { IsAscendingBy what_texts targets.now }
-    ensures within { (start ≤ result) × (result ≤ length targets.now) }
-    ensures all { (n : ℕ) → start ≤ n → n < result → MatchesAt rule.now targets.now n }
-    ensures some { MatchesAt rule.now targets.now start → start < result }
+    requires within { (start ≤ end) × (end ≤ length targets.now) }
+    requires named { ¬ (rule.now.resource_names ≡ []) }
+    requires below { IsReachBelow rule.now targets.now start spans.old }
+    ensures { OnOk result (IsReachBelow rule.now targets.now end spans.new) }
 {
     let mut at = start;
-    while at < targets.len() {
+    while at < end {
         if target_matches(rule, &targets[at]) {
-            at = after_match(rule, targets, at);
+            spans.push(at as u32, at as u32 + 1)?;
+            at += 1;
         } else {
-            return at;
+            at = after_failure(rule, targets, at, end);
         }
     }
-    at
+    Ok(())
 }
 
-// A place after this one, which the rule doesn't match, up to which it matches nothing.
-fn after_failure(rule: &Rule, targets: &[Target], at: usize) -> usize
-    requires within { at < length targets.now }
+// A place after this one, which the rule, which has names, doesn't match, up to which it matches
+// nothing: at most that end.
+fn after_failure(rule: &Rule, targets: &[Target], at: usize, end: usize) -> usize
+    requires within { (at < end) × (end ≤ length targets.now) }
     requires ordered { IsAscendingBy what_texts targets.now }
+    requires named { ¬ (rule.now.resource_names ≡ []) }
     requires fails { ¬ MatchesAt rule.now targets.now at }
-    ensures within { (at < result) × (result ≤ length targets.now) }
+    ensures within { (at < result) × (result ≤ end) }
     ensures none { (n : ℕ) → at ≤ n → n < result → ¬ MatchesAt rule.now targets.now n }
 {
-    let target = &targets[at];
-    if target.is_url() {
-        return at + 1;
-    }
-    if stem_matches(rule, target) {
-        let before = next_name(rule.resource_names.as_slice(), target.name());
-        return run_end(targets, at, before);
-    }
-    run_end(targets, at, None)
-}
-
-// A place after this one, which the rule matches, up to which it matches all.
-fn after_match(rule: &Rule, targets: &[Target], at: usize) -> usize
-    requires within { at < length targets.now }
-    requires ordered { IsAscendingBy what_texts targets.now }
-    requires here { MatchesAt rule.now targets.now at }
-    ensures within { (at < result) × (result ≤ length targets.now) }
-    ensures all { (n : ℕ) → at ≤ n → n < result → MatchesAt rule.now targets.now n }
-{
-    if rule.resource_names.is_empty() && !targets[at].is_url() {
-        run_end(targets, at, None)
-    } else {
-        at + 1
-    }
+    let before = next_name(rule.resource_names.as_slice(), targets[at].name());
+    let past = run_end(targets, at, before);
+    if past < end { past } else { end }
 }
 
 // Whether words of the rule match the target's group and resource text.
@@ -119,75 +138,4 @@ fn next_name<'a>(names: &'a [Word], name: &Word) -> Option<&'a Word>
         }
     }
     next
-}
-
-// Whether a text stands after one, and before another where it is given.
-fn is_between(text: &Word, after: &Word, before: Option<&Word>) -> bool
-    ensures { IsTrue result ↔ IsBetween after.now (option_copied before.entry) text.now }
-{
-    match before {
-        Some(before) => after < text && text < before,
-        None => after < text,
-    }
-}
-
-// Where those behind the target at this place end that have its group and resource text, and a name
-// before that one where it is given: sought by steps that double, and then halve.
-fn run_end(targets: &[Target], at: usize, before: Option<&Word>) -> usize
-    requires within { at < length targets.now }
-    requires ordered { IsAscendingBy what_texts targets.now }
-    ensures within { (at < result) × (result ≤ length targets.now) }
-    ensures run { AreOfStem (option_copied before.entry) targets.now at result }
-{
-    let mut end = at + 1;
-    let mut step = 1;
-    while is_run(targets, at, end + step, before) {
-        end += step;
-        step *= 2;
-    }
-    run_end_within(targets, at, end, step, before)
-}
-
-// As above, where the run is known to reach the one place, and to end within that many behind it.
-fn run_end_within(
-    targets: &[Target],
-    at: usize,
-    reached: usize,
-    within: usize,
-    before: Option<&Word>,
-) -> usize
-    requires past { (at < reached) × (reached ≤ length targets.now) }
-    requires step { within ≤ reached }
-    requires ordered { IsAscendingBy what_texts targets.now }
-    requires run { AreOfStem (option_copied before) targets.now at reached }
-    ensures within { (at < result) × (result ≤ length targets.now) }
-    ensures run { AreOfStem (option_copied before.entry) targets.now at result }
-{
-    let mut end = reached;
-    let mut step = within;
-    while 1 < step {
-        step /= 2;
-        if is_run(targets, at, end + step, before) {
-            end += step;
-        }
-    }
-    end
-}
-
-// Whether the run reaches so far: it does where its last target is of it, since targets are in order.
-fn is_run(targets: &[Target], at: usize, end: usize, before: Option<&Word>) -> bool
-    requires past { at + 1 < end }
-    requires ordered { IsAscendingBy what_texts targets.now }
-    ensures { IsTrue result → (end ≤ length targets.now) × AreOfStem (option_copied before.entry) targets.now at end }
-{
-    end <= targets.len() && is_later_of_stem(&targets[at], &targets[end - 1], before)
-}
-
-// Whether the second target has the group and resource text of the first, and a later name, which
-// stands before that one where it is given.
-fn is_later_of_stem(first: &Target, second: &Target, before: Option<&Word>) -> bool
-    ensures { IsTrue result ↔ IsLaterOfStem (option_copied before.entry) first.now second.now }
-{
-    let is_of_stem = second.group() == first.group() && second.text() == first.text();
-    is_of_stem && is_between(second.name(), first.name(), before)
 }

@@ -2,6 +2,7 @@
 
 ghost use Rattle.std.specs.Prelude.{◌≡◌, ◌<◌, ◌≤◌, IfOk, length, slice_index};
 ghost use Rattle.std.specs.List.Sorted.{IsStrictlyIncreasing};
+ghost use Rattle.rbac_index.specs.Matched.{AreStemsOf};
 ghost use Rattle.rbac_index.specs.Reaches.{raised, IsReachAt, AreReachesBelow, AreReaches};
 
 use crate::fault::IndexFault;
@@ -9,6 +10,7 @@ use crate::index::Index;
 use crate::matched::matched;
 use crate::meter::Meter;
 use crate::spans::Spans;
+use crate::stems::stems_of;
 use rbac_universe::Universe;
 use std::alloc::{AllocError, Global};
 use std::marker::Model;
@@ -41,8 +43,24 @@ impl Reach {
         requires { no < length index.now.grants }
         ensures { IfOk result (λ r. IsReachAt index.now universe.now no r) }
     {
+        let stems = stems_in(alloc, universe)?;
+        Self::by_stems(alloc, index, no, universe, stems.as_slice())
+    }
+
+    // The same, by where the stems of the universe's targets end.
+    fn by_stems(
+        alloc: Global,
+        index: &Index<'_>,
+        no: u32,
+        universe: &Universe,
+        stems: &[u32],
+    ) -> Result<Self, IndexFault>
+        requires number { no < length index.now.grants }
+        requires stems { AreStemsOf universe.now stems.now }
+        ensures { IfOk result (λ r. IsReachAt index.now universe.now no r) }
+    {
         let rule = index.grant(no).rule;
-        let places = matched(alloc, rule, universe.targets())?;
+        let places = matched(alloc, rule, universe.targets(), stems)?;
         Ok(Reach {
             places: Rc::new(alloc, places)?,
         })
@@ -87,9 +105,17 @@ pub fn reaches_of(
 ) -> Result<Vec<Reach>, IndexFault>
     ensures { IfOk result (λ v. AreReaches index.now universe.now v.items) }
 {
+    let stems = stems_in(alloc, universe)?;
     let mut reaches = Vec::new(alloc);
     for no in 0..index.len() {
-        let reach = next_reach(alloc, index, universe, reaches.as_slice(), no)?;
+        let reach = next_reach(
+            alloc,
+            index,
+            universe,
+            stems.as_slice(),
+            reaches.as_slice(),
+            no,
+        )?;
         reaches.push(reach)?;
     }
     Ok(reaches)
@@ -100,15 +126,24 @@ fn next_reach(
     alloc: Global,
     index: &Index<'_>,
     universe: &Universe,
+    stems: &[u32],
     reaches: &[Reach],
     no: u32,
 ) -> Result<Reach, IndexFault>
     requires number { no < length index.now.grants }
+    requires stems { AreStemsOf universe.now stems.now }
     requires before { AreReachesBelow index.now universe.now no reaches.now }
     ensures { IfOk result (λ r. IsReachAt index.now universe.now no r) }
 {
     match index.earlier_alike(no) {
         Some(first) => Ok(reaches[first as usize].share()?),
-        None => Reach::of(alloc, index, no, universe),
+        None => Reach::by_stems(alloc, index, no, universe, stems),
     }
+}
+
+// Where the stems of a universe's targets end.
+fn stems_in(alloc: Global, universe: &Universe) -> Result<Vec<u32>, AllocError>
+    ensures { IfOk result (λ v. AreStemsOf universe.now v.items) }
+{
+    stems_of(alloc, universe.targets())
 }

@@ -1,8 +1,8 @@
 //! Ascending places, kept as runs of neighbours: a run costs what one place does.
 
-ghost use Rattle.std.specs.Prelude.{◌≡◌, ◌+◌, ◌-◌, ◌<◌, ◌≤◌, ◌++◌, [], OnOk, length, slice_index};
+ghost use Rattle.std.specs.Prelude.{◌≡◌, ◌+◌, ◌-◌, ◌<◌, ◌≤◌, ◌++◌, [], OnErr, OnOk, length, slice_index};
 ghost use Rattle.std.specs.List.Sorted.{IsStrictlyIncreasing};
-ghost use Rattle.rbac_index.specs.Spans.{places_from, places_of, IsCounted};
+ghost use Rattle.rbac_index.specs.Spans.{places_from, places_of, IsCounted, IsPut};
 
 use std::alloc::{AllocError, Global};
 use std::marker::Model;
@@ -44,7 +44,8 @@ impl Spans {
         }
     }
 
-    // Puts the places from the first up to the second behind the others.
+    // Puts the places from the first up to the second behind the others: they lengthen the last run
+    // where it ends at the first.
     pub(crate) fn push(&mut self, start: u32, end: u32) -> Result<(), AllocError>
         requires some { start < end }
         requires small { end ≤ 1000000 }
@@ -53,7 +54,7 @@ impl Spans {
         ensures { OnOk result (self.new ≡ self.old ++ places_from start (end - start)) }
     {
         let before = self.len;
-        self.spans.push(Span { start, end, before })?;
+        put(&mut self.spans, Span { start, end, before })?;
         self.len = before + (end - start);
         Ok(())
     }
@@ -74,6 +75,24 @@ impl Spans {
     {
         place_in(self.spans.as_slice(), self.len, i as u32)
     }
+}
+
+// Puts one more run behind these, or lengthens the last one that ends where it begins.
+fn put(spans: &mut Vec<Span>, span: Span) -> Result<(), AllocError>
+    requires counted { IsCounted 0 spans.old.items span.before }
+    requires some { span.start < span.end }
+    requires small { span.end ≤ 1000000 }
+    ensures put { OnOk result (IsPut spans.old.items span spans.new.items) }
+    ensures kept { OnErr result (spans.new.items ≡ spans.old.items) }
+{
+    if let Some(last) = spans.last_mut() {
+        if last.end == span.start {
+            last.end = span.end;
+            return Ok(());
+        }
+    }
+    spans.push(span)?;
+    Ok(())
 }
 
 // The place that stands at this one of runs of so many places.

@@ -1,13 +1,12 @@
 -- the findings of all codes, one code after the other
-use Rattle.std.proofs.Common.{◌≡◌, ℕ, ◌<◌, ◌⊎◌, inl, inr, List, [], subst, arith}
+use Rattle.std.proofs.Common.{◌≡◌, ◌<◌, ◌⊎◌, inl, inr, List, [], subst, arith}
 use Rattle.rbac_model.specs.Policies.{Held}
 use Rattle.rbac_manifest.specs.declared.replaced.Replaced.{Replaced}
 use Rattle.rbac_lint.specs.Replaced.{IsReplaced}
 use Rattle.rbac_lint.specs.declared.finding.Finding.{Finding}
-use Rattle.rbac_lint.specs.Lines.{Line, Adds, OfEach}
+use Rattle.rbac_lint.specs.Lines.{Line, Adds}
 use Rattle.rbac_lint.specs.Findings.{IsDangling, IsUnused, IsRedundant, IsEscalation, IsAccountWithout, IsStale, IsFinding, AreFindings}
 use Rattle.rbac_lint.proofs.Exact.{Adds-code, AreShown-all}
-use Rattle.rbac_lint.proofs.Order.{Names}
 use Rattle.rbac_lint.proofs.Named.{dangling_names, unused_names, redundant_names, escalation_names, account_names, stale_names, replaced_names}
 
 abbrev pub After6 : Held → List Replaced → Line → Type 0

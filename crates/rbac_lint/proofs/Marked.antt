@@ -1,14 +1,15 @@
 -- which roles bindings name, by marks
-use Rattle.std.proofs.Common.{◌≡◌, ℕ, ◌<◌, ◌+◌, ◌⊎◌, ◌↔◌, inl, inr, List, [], ◌∷◌, ◌++◌, get_or, length, set, map, sym, ap, ◌∙◌, refl, subst, arith, zero, suc}
+use Rattle.std.proofs.Common.{◌≡◌, ℕ, ◌<◌, ◌+◌, ◌⊎◌, ◌↔◌, inl, inr, List, [], ◌∷◌, ◌++◌, get_or, length, set, map, sym, ap, ◌∙◌, refl, subst, arith}
 use Rattle.std.specs.Prelude.{Option, Some, None, slice_get, Bool, true, false, Any, IsTrue, IsSome, Contains}
 use Rattle.std.specs.declared.cmp.Ordering.TheVariants.{Less}
 use Rattle.std.proofs.lemmas.Bool.{cases_eq, cases_lt}
 use Rattle.std.proofs.lemmas.Cmp.{tied_itself}
 use Rattle.std.proofs.lemmas.List.{get_or-set_same, get_or-set_other, length-set, length-map}
+use Rattle.std.proofs.lemmas.List.Elements.{Contains-append_left, Contains-push, Contains-push_cases}
 use Rattle.std.proofs.lemmas.Option.{slice_get_within, slice_get-get_or, get_or_from_slice_get, same_Some, slice_get-map}
 use Rattle.rbac_terms.specs.Text.{Text, text_cmp}
 use Rattle.std.specs.Cmp.Lexicographic.{slice_cmp}
-use Rattle.rbac_terms.specs.declared.granting.Role.{Role}
+use Rattle.rbac_terms.specs.declared.selecting.Selector.{Selector}
 use Rattle.rbac_terms.specs.declared.granting.ClusterRole.{ClusterRole}
 use Rattle.rbac_terms.specs.declared.granting.Binding.{Binding}
 use Rattle.rbac_terms.specs.declared.granting.RoleRef.{RoleRef}
@@ -17,10 +18,10 @@ use Rattle.rbac_model.specs.Lists.{by_name, IsAscendingBy}
 use Rattle.rbac_model.specs.Places.{IsReachedAt, source_at}
 use Rattle.rbac_model.specs.declared.places.RolePlace.{RolePlace}
 use Rattle.rbac_model.specs.declared.places.RolePlace.TheVariants.{RoleAt, ClusterRoleAt}
-use Rattle.rbac_model.specs.Policies.{Held, IsHeld, Source, InRole, InClusterRole, IsRefTo, Reaches}
+use Rattle.rbac_model.specs.Policies.{Held, IsHeld, Source, InRole, InClusterRole, IsPlain, IsRefTo, Reaches, Step, IsPath, Gathers}
 use Rattle.rbac_model.proofs.NamePlaces.{total}
 use Rattle.rbac_lint.specs.Roles.{roles_in}
-use Rattle.rbac_lint.specs.Marks.{AreMarked, AreNamed, AreMarkedWith, IsReachedByNamedAt}
+use Rattle.rbac_lint.specs.Marks.{AreMarked, AreNamed, AreGatherers, AreMarkedWith, IsReachedByNamedAt}
 use Rattle.rbac_lint.specs.Findings.{IsNamed, IsUsed}
 use Rattle.rbac_lint.proofs.Order.{ascends}
 use Rattle.rbac_lint.proofs.RoleLines.{source_texts, roles_ascend, cluster_role_there, cluster_role_at, there, slice_get-left, slice_get-right}
@@ -162,34 +163,83 @@ named_there h c n =
     let w = to_held h n.1.namespace n.1.role c n.4 in
     (w.0, slice_get-get_or h.cluster_roles w.0 c w.1 ∙ ap (λ (v : ClusterRole). Some v) w.2)
 
--- none of the first n that is named reaches it
-abbrev pub NoneReaches : Held → ℕ → ℕ → Type 0
-NoneReaches h k n = (j : ℕ) (c : ClusterRole) → j < n → slice_get h.cluster_roles j ≡ Some c → IsNamed h (InClusterRole c) → IsReachedAt h c k → ⊥
+-- what reaches another is aggregated
+step_gathers : (h : Held) (c s : ClusterRole) → Step h c s → IsPlain c → ⊥
+step_gathers h c s p plain = let P : Option (List Selector) → Type 0 = λ o. Gathers o s in subst P plain p.2
+
+reaching_gathers : (h : Held) (c : ClusterRole) (between : List ClusterRole) (s : ClusterRole) → IsPath h c between s → IsPlain c → ⊥
+reaching_gathers h c [] s p plain = step_gathers h c s p plain
+reaching_gathers h c (m ∷ ms) s p plain = step_gathers h c m p.0 plain
+
+-- the places of those that are named, and aggregated
+abbrev pub AreGatherersBelow : Held → ℕ → List ℕ → Type 0
+AreGatherersBelow h n places =
+    ((k : ℕ) → Contains places k → (c : ClusterRole) × (slice_get h.cluster_roles k ≡ Some c) × IsNamed h (InClusterRole c))
+    × ((k : ℕ) (c : ClusterRole) → k < n → slice_get h.cluster_roles k ≡ Some c → IsNamed h (InClusterRole c) → (IsPlain c → ⊥) → Contains places k)
+
+pub gatherers_start : (h : Held) (places : List ℕ) → places ≡ [] → AreGatherersBelow h 0 places
+gatherers_start h places e = (
+  λ k w. absurd (omega (arith, w.1, ap length e)),
+  λ k c lt at named gathers. absurd (omega (arith, lt)),
+)
+
+pub gatherers_more : (h : Held) (i : ℕ) (r : ClusterRole) (old new : List ℕ) → slice_get h.cluster_roles i ≡ Some r → IsNamed h (InClusterRole r) → new ≡ old ++ i ∷ [] → AreGatherersBelow h i old → AreGatherersBelow h (i + 1) new
+gatherers_more h i r old new here named e was = (
+  λ k w. elim (Contains-push_cases old i k (subst (λ (ks : List ℕ). Contains ks k) e w)) [
+    | inl o ↦ was.0 k o
+    | inr same ↦ (r, subst (λ (j : ℕ). slice_get h.cluster_roles j ≡ Some r) same here, named)
+  ],
+  λ k c lt at is gathers. subst (λ (ks : List ℕ). Contains ks k) (sym e) (elim (cases_lt k i) [
+    | inl below ↦ Contains-append_left old (i ∷ []) k (was.1 k c below at is gathers)
+    | inr le ↦ let same : i ≡ k = omega (arith, le, lt) in subst (λ (j : ℕ). Contains (old ++ i ∷ []) j) same (Contains-push old i)
+  ]),
+)
+
+pub gatherers_same : (h : Held) (i : ℕ) (r : ClusterRole) (places : List ℕ) → slice_get h.cluster_roles i ≡ Some r → (IsNamed h (InClusterRole r) → (IsPlain r → ⊥) → ⊥) → AreGatherersBelow h i places → AreGatherersBelow h (i + 1) places
+gatherers_same h i r places here never was = (
+  was.0,
+  λ k c lt at is gathers. elim (cases_lt k i) [
+    | inl below ↦ was.1 k c below at is gathers
+    | inr le ↦
+        let same : k ≡ i = omega (arith, le, lt) in
+        let one : c ≡ r = same_Some c r (sym at ∙ ap (slice_get h.cluster_roles) same ∙ here) in
+        absurd (never (subst (λ (v : ClusterRole). IsNamed h (InClusterRole v)) one is) (λ plain. gathers (subst IsPlain (sym one) plain)))
+  ],
+)
+
+pub gatherers_all : (h : Held) (n : ℕ) (places : List ℕ) → n ≡ length h.cluster_roles → AreGatherersBelow h n places → AreGatherers h places
+gatherers_all h n places all was = record {
+  sound = was.0;
+  complete = λ k c at is gathers. was.1 k c (omega (arith, all, slice_get_within h.cluster_roles k c at)) at is gathers;
+}
 
 -- what the test says of the cluster role at a place
 abbrev pub TellsReaches : Held → ℕ → ℕ → Bool → Type 0
 TellsReaches h j k told = (r : ClusterRole) → slice_get h.cluster_roles j ≡ Some r → (IsTrue told ↔ IsReachedAt h r k)
 
-pub reached_here : (h : Held) (marks : List Bool) (j k : ℕ) (told : Bool) → AreNamed h marks → j < length h.cluster_roles → get_or marks j false ≡ true → TellsReaches h j k told → IsTrue told → IsReachedByNamedAt h k
+pub reached_here : (h : Held) (places : List ℕ) (j k : ℕ) (told : Bool) → AreGatherers h places → Contains places j → TellsReaches h j k told → IsTrue told → IsReachedByNamedAt h k
 unfolding IsReachedByNamedAt
-reached_here h marks j k told named l v tells so =
-    let c = there h.cluster_roles j l in
-    (c.0, (named.exact j (InClusterRole c.0) (cluster_role_there h j c.0 c.1)).0 v, (tells c.0 c.1).0 so)
+reached_here h places j k told are c tells so = let g = are.sound j c in (g.0, g.2, (tells g.0 g.1).0 so)
 
-pub none_reaches_more : (h : Held) (marks : List Bool) (j k : ℕ) → AreNamed h marks → NoneReaches h k j → ((c : ClusterRole) → slice_get h.cluster_roles j ≡ Some c → get_or marks j false ≡ true → IsReachedAt h c k → ⊥) → NoneReaches h k (j + 1)
-none_reaches_more h marks j k named below never i c l at n r = elim (cases_lt i j) [
-  | inl lt ↦ below i c lt at n r
+-- none of the first places reaches it
+abbrev pub NoneReaches : Held → ℕ → List ℕ → ℕ → Type 0
+NoneReaches h k places n = (i j : ℕ) (c : ClusterRole) → i < n → slice_get places i ≡ Some j → slice_get h.cluster_roles j ≡ Some c → IsReachedAt h c k → ⊥
+
+pub none_reaches_more : (h : Held) (places : List ℕ) (i j k : ℕ) → slice_get places i ≡ Some j → NoneReaches h k places i → ((c : ClusterRole) → slice_get h.cluster_roles j ≡ Some c → IsReachedAt h c k → ⊥) → NoneReaches h k places (i + 1)
+none_reaches_more h places i j k here below never a b c lt there at r = elim (cases_lt a i) [
+  | inl less ↦ below a b c less there at r
   | inr le ↦
-      let same : i ≡ j = omega (arith, le, l) in
-      let here : slice_get h.cluster_roles j ≡ Some c = ap (slice_get h.cluster_roles) (sym same) ∙ at in
-      never c here ((named.exact j (InClusterRole c) (cluster_role_there h j c here)).1 n) r
+      let same : a ≡ i = omega (arith, le, lt) in
+      let one : b ≡ j = same_Some b j (sym there ∙ ap (slice_get places) same ∙ here) in
+      never c (subst (λ (n : ℕ). slice_get h.cluster_roles n ≡ Some c) one at) r
 ]
 
-pub none_reaches : (h : Held) (k n : ℕ) → n ≡ length h.cluster_roles → NoneReaches h k n → IsReachedByNamedAt h k → ⊥
+pub none_reaches : (h : Held) (places : List ℕ) (k n : ℕ) → n ≡ length places → AreGatherers h places → NoneReaches h k places n → IsReachedByNamedAt h k → ⊥
 unfolding IsReachedByNamedAt
-none_reaches h k n all below w =
+none_reaches h places k n all are below w =
     let c = named_there h w.0 w.1 in
-    below c.0 w.0 (omega (arith, all, slice_get_within h.cluster_roles c.0 w.0 c.1)) c.1 w.1 w.2
+    let there = are.complete c.0 w.0 c.1 w.1 (λ plain. reaching_gathers h w.0 w.2.2.0 w.2.0 w.2.2.1 plain) in
+    below there.0 c.0 w.0 (omega (arith, all, there.1)) (slice_get-get_or places there.0 c.0 there.1 ∙ ap (λ (j : ℕ). Some j) there.2) c.1 w.2
 
 -- ---- the place of a role among all
 

@@ -1,17 +1,17 @@
 -- lines in order are one list, by what is among them
-use Rattle.std.proofs.Common.{◌≡◌, ℕ, ◌<◌, ◌⊎◌, inl, inr, List, [], ◌∷◌, get_or, length, sym, ap, ap₂, ◌∙◌, refl, subst, arith, zero, suc, map}
+use Rattle.std.proofs.Common.{◌≡◌, ◌<◌, ◌⊎◌, inl, inr, List, [], ◌∷◌, sym, ap, ap₂, ◌∙◌, refl, subst, arith, zero, suc, map}
 use Rattle.std.specs.Prelude.{Contains, AllPairs}
 use Rattle.std.specs.declared.cmp.Ordering.{Ordering}
-use Rattle.std.specs.declared.cmp.Ordering.TheVariants.{Less, Equal, Greater}
+use Rattle.std.specs.declared.cmp.Ordering.TheVariants.{Less}
 use Rattle.std.specs.Cmp.{IsTotalOrder}
 use Rattle.std.specs.Cmp.Lexicographic.{slice_cmp}
 use Rattle.std.proofs.lemmas.Cmp.{nat_list_cmp_total, lists_total, tied_itself}
-use Rattle.rbac_terms.specs.Text.{Text, text_cmp}
+use Rattle.rbac_terms.specs.Text.{text_cmp}
 use Rattle.rbac_model.specs.Policies.{Held}
 use Rattle.rbac_manifest.specs.declared.replaced.Replaced.{Replaced}
 use Rattle.rbac_lint.specs.declared.finding.Finding.{Finding}
-use Rattle.rbac_lint.specs.Lines.{Line, object_texts, place_key, IsBefore, AreExactly, AreShown, shown}
-use Rattle.rbac_lint.specs.Findings.{IsFinding, AreFindings}
+use Rattle.rbac_lint.specs.Lines.{Line, object_texts, place_key, IsBefore, AreShown, shown}
+use Rattle.rbac_lint.specs.Findings.{AreFindings}
 
 never_less : {X : Type 0} (R : X → X → Ordering) → IsTotalOrder R → (x y : X) → x ≡ y → R x y ≡ Less → ⊥
 never_less R total x y e l =

@@ -1,8 +1,8 @@
 -- While unused roles are looked for: which roles bindings name.
-use Rattle.std.specs.Prelude.{◌≡◌, ℕ, ◌<◌, ◌⊎◌, ◌↔◌, List, Some, Bool, true, false, length, get_or, slice_get}
+use Rattle.std.specs.Prelude.{◌≡◌, ℕ, ◌⊎◌, ◌↔◌, List, Some, Bool, true, false, Contains, length, get_or, slice_get}
 use Rattle.rbac_terms.specs.declared.granting.Binding.{Binding}
 use Rattle.rbac_terms.specs.declared.granting.ClusterRole.{ClusterRole}
-use Rattle.rbac_model.specs.Policies.{Held, Source, InClusterRole, IsRefTo}
+use Rattle.rbac_model.specs.Policies.{Held, Source, InClusterRole, IsPlain, IsRefTo}
 use Rattle.rbac_model.specs.Places.{IsReachedAt}
 use Rattle.rbac_lint.specs.declared.finding.Finding.{Finding}
 use Rattle.rbac_lint.specs.Lines.{Line, Adds}
@@ -17,6 +17,11 @@ pub record AreMarked (h : Held) (P : Source → Type 0) (marks : List Bool) : Ty
 -- a mark for each role that some binding names
 abbrev pub AreNamed : Held → List Bool → Type 0
 AreNamed h marks = AreMarked h (IsNamed h) marks
+
+-- places of cluster roles that bindings name, and all those of aggregated ones
+pub record AreGatherers (h : Held) (places : List ℕ) : Type 0 where
+  pub sound : (k : ℕ) → Contains places k → (c : ClusterRole) × (slice_get h.cluster_roles k ≡ Some c) × IsNamed h (InClusterRole c)
+  pub complete : (k : ℕ) (c : ClusterRole) → slice_get h.cluster_roles k ≡ Some c → IsNamed h (InClusterRole c) → (¬ IsPlain c) → Contains places k
 
 -- the marks, with that of the role that the binding names, if it is there
 pub record AreMarkedWith (h : Held) (b : Binding) (old new : List Bool) : Type 0 where

@@ -1,5 +1,5 @@
 -- L7: what lint finds of replaced documents.
-use Rattle.std.specs.Prelude.{◌≡◌, ℕ, List, [], ◌∷◌, Option, Some, None, decimal}
+use Rattle.std.specs.Prelude.{◌≡◌, List, [], ◌∷◌, Option, Some, None, decimal}
 use Rattle.rbac_terms.specs.Text.{Text}
 use Rattle.rbac_manifest.specs.declared.replaced.Replaced.{Replaced}
 use Rattle.rbac_lint.specs.Lines.{Line, ObjectName, OfEach}

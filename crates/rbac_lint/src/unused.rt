@@ -1,17 +1,17 @@
 //! Roles that no binding leads to.
 
-ghost use Rattle.std.specs.Prelude.{◌≡◌, ◌<◌, ◌↔◌, Some, IsSome, IfOk, OnOk, IsTrue, slice_get, length};
+ghost use Rattle.std.specs.Prelude.{◌≡◌, ◌<◌, ◌↔◌, Some, IsSome, IfOk, OnOk, IsTrue, slice_get, get_or, false, true, length};
 ghost use Rattle.rbac_model.specs.Places.{source_at};
-ghost use Rattle.rbac_model.specs.Policies.{Source, IsHeld};
+ghost use Rattle.rbac_model.specs.Policies.{Source, IsHeld, IsPlain};
 ghost use Rattle.rbac_lint.specs.Lines.{Adds};
 ghost use Rattle.rbac_lint.specs.Roles.{roles_in};
 ghost use Rattle.rbac_lint.specs.Findings.{IsUsed, IsUnusedOf, IsUnused};
-ghost use Rattle.rbac_lint.specs.Marks.{AreNamed, AreMarkedWith, IsReachedByNamedAt, IsAddedAt};
+ghost use Rattle.rbac_lint.specs.Marks.{AreNamed, AreGatherers, AreMarkedWith, IsReachedByNamedAt, IsAddedAt};
 
 use crate::finding::{Finding, Findings, role_word};
 use crate::roles::{role_at, role_count};
 use rbac_model::{Objects, Policy, RolePlace, ref_place};
-use rbac_terms::{Binding, Word};
+use rbac_terms::{Binding, ClusterRole, Word};
 use std::alloc::{AllocError, Global};
 
 // Those of all roles.
@@ -24,8 +24,16 @@ pub(crate) fn find_unused(
 {
     let objects = policy.objects();
     let named = named_roles(alloc, objects)?;
+    let gatherers = named_gatherers(alloc, objects, named.as_slice())?;
     for place in 0..role_count(objects) {
-        find_unused_at(alloc, found, policy, named.as_slice(), place)?;
+        find_unused_at(
+            alloc,
+            found,
+            policy,
+            named.as_slice(),
+            gatherers.as_slice(),
+            place,
+        )?;
     }
     Ok(())
 }
@@ -36,13 +44,15 @@ fn find_unused_at(
     found: &mut Findings,
     policy: &Policy,
     named: &[bool],
+    gatherers: &[usize],
     place: usize,
 ) -> Result<(), AllocError>
     requires named { AreNamed policy.now.held named.now }
+    requires gatherers { AreGatherers policy.now.held gatherers.now }
     requires place { place < length (roles_in policy.now.held) }
     ensures { OnOk result (IsAddedAt (IsUnusedOf policy.now.held) policy.now.held place found.old found.new) }
 {
-    if is_used(policy, named, place) {
+    if is_used(policy, named, gatherers, place) {
         return Ok(());
     }
     let object = role_word(alloc, role_at(policy.objects(), place))?;
@@ -55,25 +65,58 @@ fn find_unused_at(
 }
 
 // Whether a binding names the role at this place, or a cluster role that reaches it.
-fn is_used(policy: &Policy, named: &[bool], place: usize) -> bool
+fn is_used(policy: &Policy, named: &[bool], gatherers: &[usize], place: usize) -> bool
     requires named { AreNamed policy.now.held named.now }
+    requires gatherers { AreGatherers policy.now.held gatherers.now }
     requires place { place < length (roles_in policy.now.held) }
     ensures { (s : Source) → slice_get (roles_in policy.now.held) place ≡ Some s → (IsTrue result ↔ IsUsed policy.now.held s) }
 {
-    named[place] || is_reached(policy, named, place)
+    named[place] || is_reached(policy, gatherers, place)
 }
 
 // Whether a cluster role that a binding names reaches the one at this place, if there is one.
-fn is_reached(policy: &Policy, named: &[bool], place: usize) -> bool
-    requires { AreNamed policy.now.held named.now }
+fn is_reached(policy: &Policy, gatherers: &[usize], place: usize) -> bool
+    requires { AreGatherers policy.now.held gatherers.now }
     ensures { IsTrue result ↔ IsReachedByNamedAt policy.now.held place }
 {
-    for from in 0..policy.objects().cluster_roles().len() {
-        if named[from] && policy.reaches(from, place) {
+    for from in gatherers {
+        if policy.reaches(*from, place) {
             return true;
         }
     }
     false
+}
+
+// The places of the aggregated roles that bindings name.
+fn named_gatherers(
+    alloc: Global,
+    objects: &Objects,
+    named: &[bool],
+) -> Result<Vec<usize>, AllocError>
+    requires { AreNamed objects.now named.now }
+    ensures { IfOk result (λ v. AreGatherers objects.now v.items) }
+{
+    let mut gatherers = Vec::new(alloc);
+    let roles = objects.cluster_roles();
+    for (place, role) in roles.iter().enumerate() {
+        if is_gatherer(role, named, place) {
+            gatherers.push(place)?;
+        }
+    }
+    Ok(gatherers)
+}
+
+fn is_gatherer(role: &ClusterRole, named: &[bool], place: usize) -> bool
+    requires { place < length named.now }
+    ensures { IsTrue result ↔ ((get_or named.now place false ≡ true) × ¬ IsPlain role.now) }
+{
+    named[place] && !is_plain(role)
+}
+
+fn is_plain(role: &ClusterRole) -> bool
+    ensures { IsTrue result ↔ IsPlain role.now }
+{
+    role.aggregation.is_none()
 }
 
 // For each role whether some binding names it.

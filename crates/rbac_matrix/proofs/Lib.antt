@@ -2,6 +2,7 @@ pub mod BeginLemmas
 pub mod Decided
 pub mod EnumLemmas
 pub mod GoingLemmas
+pub mod IdleLemmas
 pub mod JoinLemmas
 pub mod LineLemmas
 pub mod LinesLemmas

@@ -1,5 +1,5 @@
 -- what seats say of the rows of a line
-use Rattle.std.proofs.Common.{◌≡◌, ℕ, zero, suc, ◌+◌, ◌-◌, ◌<◌, ◌≤◌, ◌⊎◌, List, [], ◌∷◌, length, get_or, map, ap, ◌∙◌, sym, arith, subst, inl, inr, Contains, Bool, true, false, IsTrue}
+use Rattle.std.proofs.Common.{refl, ◌≡◌, ℕ, zero, suc, ◌+◌, ◌-◌, ◌<◌, ◌≤◌, ◌⊎◌, List, [], ◌∷◌, length, get_or, map, ap, ◌∙◌, sym, arith, subst, inl, inr, Contains, Bool, true, false, IsTrue}
 use Rattle.std.specs.Prelude.{Option, Some, None, slice_get}
 use Rattle.std.specs.List.Sorted.{IsStrictlyIncreasing}
 use Rattle.std.proofs.lemmas.Bool.{cases_lt}
@@ -13,7 +13,7 @@ use Rattle.rbac_terms.specs.declared.granting.Binding.{Binding}
 use Rattle.rbac_model.specs.Policies.{PolicyView, IsPolicy, GrantView, Allows, Live}
 use Rattle.rbac_model.specs.Universes.{UniverseView, IsUniverse, Listed, Cell, Fits, LiveForSome}
 use Rattle.rbac_model.proofs.GrantNumbers.{some_grant, first_grant}
-use Rattle.rbac_matrix.specs.Cells.{HasRow}
+use Rattle.rbac_matrix.specs.Cells.{AreRowsOf, HasRow}
 use Rattle.rbac_matrix.specs.Lines.{LineView, line_cells_from}
 use Rattle.rbac_matrix.specs.Cursors.{IsCursorAt}
 use Rattle.rbac_index.specs.Reaches.{AreReaches, IsReachAt}
@@ -23,7 +23,7 @@ use Rattle.rbac_matrix.specs.Seats.{AreReal, AreSeated, IsLeastSeat, IsSeated, p
 use Rattle.rbac_matrix.proofs.SeekLemmas.{ascends}
 use Rattle.rbac_matrix.proofs.SeatLemmas.{stands_within}
 use Rattle.rbac_matrix.proofs.LoopLemmas.{cursor_within}
-use Rattle.rbac_matrix.proofs.PassLemmas.{passes_none, passes_then, passes_over, row_passes, no_row_passes, line_over, read_at}
+use Rattle.rbac_matrix.proofs.PassLemmas.{passes_none, passes_rows, passes_then, passes_over, row_passes, no_row_passes, line_over, read_at}
 
 -- ---- where a binding lives, for requests that fit
 
@@ -72,6 +72,28 @@ flag_at (x ∷ ts) (suc place) t b e f = flag_at ts place t b e f
 
 length_map_targets : (ts : List Listed) → length (map (λ (x : Listed). x.0) ts) ≡ length ts
 length_map_targets ts = length-map ts (λ (x : Listed). x.0)
+
+-- a row is brought by a cursor that matches its target
+pub row_cursor : (p : PolicyView) (l : LineView) → IsPolicy p → (t : Listed) (b : Binding) → HasRow p.held (cell_of l t) b → (k : ℕ) × (c : IsCursorAt p l k) × TargetOk c.grant.rule.rule t.0
+row_cursor p l policy t b has =
+    let first = has.1 in
+    let allows : Allows p.held l.who l.namespace l.verb t.0 = (first.0, b, slice_get_within p.held.bindings first.0 b first.1.here, get_or_from_slice_get p.held.bindings first.0 b b first.1.here, first.1.holds) in
+    let g = some_grant p.held p.grants l.who l.namespace l.verb t.0 policy.0 policy.1 allows in (
+      g.0,
+      record {
+        grant = g.1;
+        at = slice_get-get_or p.grants g.0 g.1 g.2 ∙ ap (λ (v : GrantView). Some v) g.3;
+        is = (g.4.2.0, g.4.1, live_for_some g.1.binding.namespace l.namespace t.0 g.4.0);
+      },
+      g.4.2.1,
+    )
+
+-- a line without cursors has no row
+pub no_cursors : (p : PolicyView) (u : UniverseView) (l : LineView) → IsPolicy p → ((k : ℕ) → IsCursorAt p l k → ⊥) → AreRowsOf p.held (line_cells_from u 0 l) []
+no_cursors p u l policy none =
+    passes_rows p.held (line_cells_from u 0 l) (line_cells_from u (0 + length u.targets) l) [] []
+    (passes_over u l p.held 0 (length u.targets) (omega arith) (λ at t low high read b has. let r = row_cursor p l policy t b has in none r.0 r.1))
+    (subst (λ (cs : List Cell). AreRowsOf p.held cs []) (sym (line_over u l (0 + length u.targets) (omega arith))) refl)
 
 module _ (p : PolicyView) (u : UniverseView) (rs : List (List ℕ)) (l : LineView) (policy : IsPolicy p) (is : IsUniverse u) (reaches : AreReaches p u rs) where
   reach_of : (k : ℕ) → IsCursorAt p l k → IsReachAt p u k (reach_at rs k)
@@ -122,16 +144,7 @@ module _ (p : PolicyView) (u : UniverseView) (rs : List (List ℕ)) (l : LineVie
 
   -- no cursor has the place
   pub no_row : (place : ℕ) (t : Listed) → slice_get u.targets place ≡ Some t → ((k : ℕ) → IsCursorAt p l k → Contains (reach_at rs k) place → ⊥) → (b : Binding) → HasRow p.held (cell_of l t) b → ⊥
-  no_row place t at none b has =
-      let first = has.1 in
-      let allows : Allows p.held l.who l.namespace l.verb t.0 = (first.0, b, slice_get_within p.held.bindings first.0 b first.1.here, get_or_from_slice_get p.held.bindings first.0 b b first.1.here, first.1.holds) in
-      let g = some_grant p.held p.grants l.who l.namespace l.verb t.0 policy.0 policy.1 allows in
-      let c : IsCursorAt p l g.0 = record {
-        grant = g.1;
-        at = slice_get-get_or p.grants g.0 g.1 g.2 ∙ ap (λ (v : GrantView). Some v) g.3;
-        is = (g.4.2.0, g.4.1, live_for_some g.1.binding.namespace l.namespace t.0 g.4.0);
-      } in
-      none g.0 c (matches_in g.0 place t c at g.4.2.1)
+  no_row place t at none b has = let r = row_cursor p l policy t b has in none r.0 r.1 (matches_in r.0 place t r.1 at r.2)
 
   -- the first cursor that has the place brings the row
   pub has_row : (place : ℕ) (t : Listed) → slice_get u.targets place ≡ Some t → Fits (cell_of l t) → (k : ℕ) (c : IsCursorAt p l k) → Contains (reach_at rs k) place → ((j : ℕ) → j < k → IsCursorAt p l j → Contains (reach_at rs j) place → ⊥) → HasRow p.held (cell_of l t) c.grant.binding

@@ -168,13 +168,17 @@ module _ (p : PolicyView) (l : LineView) (rs : List (List ℕ)) (place : ℕ) wh
         }
       ]
 
-  module _ (w v : Walk) (old seats : List Seat) (before m : ℕ) (h : AreAdvanced p l rs place w old seats before m) (k : ℕ) (cursor : IsCursorAt p l k) (on : (j : ℕ) → IsAhead p l w j → (j ≡ k) ⊎ IsAhead p l v j) where
-    within : k < length seats
-    within = omega (arith, cursor_within p l k cursor, h.count)
+  module _ (w v : Walk) (old seats : List Seat) (before m : ℕ) (h : AreAdvanced p l rs place w old seats before m) (k : ℕ) (within : k < length seats) (on : (j : ℕ) → IsAhead p l w j → (j ≡ k) ⊎ IsAhead p l v j) where
+    -- a seat that stands at a place is a cursor's
+    pub advanced_cursor : place < past_all → (seat_at seats k).place ≡ place → IsCursorAt p l k
+    advanced_cursor real at = elim (h.each k within) [
+      | inl s ↦ s.0
+      | inr e ↦ let empty : (seat_at seats k).place ≡ past_all = rw e.1 refl in absurd (omega arith)
+    ]
 
-    -- the seat before the visit, at the place or past it
-    pub advanced_here : (IsSeated (reach_at rs k) place (seat_at seats k)) ⊎ IsSeated (reach_at rs k) (place + 1) (seat_at seats k)
-    advanced_here = elim (h.each k within) [
+    -- and it stands there or past it
+    pub advanced_here : IsCursorAt p l k → (IsSeated (reach_at rs k) place (seat_at seats k)) ⊎ IsSeated (reach_at rs k) (place + 1) (seat_at seats k)
+    advanced_here cursor = elim (h.each k within) [
       | inl s ↦ elim s.1 [
         | inl a ↦ inl a.0
         | inr b ↦ inr b
@@ -192,19 +196,19 @@ module _ (p : PolicyView) (l : LineView) (rs : List (List ℕ)) (place : ℕ) wh
     other j ne (inl (c, inr s)) = inl (c, inr s)
     other j ne (inr e) = inr e
 
+    here : (seat_at seats k).place ≢ place
+        → (IsCursorAt p l k × ((IsSeated (reach_at rs k) place (seat_at seats k) × IsAhead p l w k) ⊎ IsSeated (reach_at rs k) (place + 1) (seat_at seats k))) ⊎ ((IsCursorAt p l k → ⊥) × (seat_at seats k ≡ empty_seat))
+        → (IsCursorAt p l k × ((IsSeated (reach_at rs k) place (seat_at seats k) × IsAhead p l v k) ⊎ IsSeated (reach_at rs k) (place + 1) (seat_at seats k))) ⊎ ((IsCursorAt p l k → ⊥) × (seat_at seats k ≡ empty_seat))
+    here ne (inl (c, inl (s, a))) = inl (c, inr (seated_stays (reach_at rs k) place (seat_at seats k) s ne))
+    here ne (inl (c, inr s)) = inl (c, inr s)
+    here ne (inr e) = inr e
+
     -- the seat stood elsewhere
     pub advanced_stay : (seat_at seats k).place ≢ place → AreAdvanced p l rs place v old seats before m
     advanced_stay ne = record {
       count = h.count;
       each = λ j lt. elim (cases_eq j k) [
-        | inl e ↦ subst (λ (i : ℕ). (IsCursorAt p l i × ((IsSeated (reach_at rs i) place (seat_at seats i) × IsAhead p l v i) ⊎ IsSeated (reach_at rs i) (place + 1) (seat_at seats i))) ⊎ ((IsCursorAt p l i → ⊥) × (seat_at seats i ≡ empty_seat))) (sym e)
-            (inl (
-              cursor,
-              inr (elim advanced_here [
-                | inl s ↦ seated_stays (reach_at rs k) place (seat_at seats k) s ne
-                | inr s ↦ s
-              ]),
-            ))
+        | inl e ↦ subst (λ (i : ℕ). (IsCursorAt p l i × ((IsSeated (reach_at rs i) place (seat_at seats i) × IsAhead p l v i) ⊎ IsSeated (reach_at rs i) (place + 1) (seat_at seats i))) ⊎ ((IsCursorAt p l i → ⊥) × (seat_at seats i ≡ empty_seat))) (sym e) (here ne (h.each k within))
         | inr other_one ↦ other j other_one (h.each j lt)
       ];
       gain = h.gain;
@@ -213,8 +217,8 @@ module _ (p : PolicyView) (l : LineView) (rs : List (List ℕ)) (place : ℕ) wh
     }
 
     -- the seat stood there, and moved on
-    pub advanced_move : (r : List ℕ) (s : Seat) (m' : ℕ) → r ≡ reach_at rs k → (seat_at seats k).place ≡ place → IsSeated r ((seat_at seats k).place + 1) s → SeatCosts 0 1 (seat_at seats k) s m m' → AreAdvanced p l rs place v old (set seats k s) before m'
-    advanced_move r s m' is at seated costs = record {
+    pub advanced_move : (r : List ℕ) (s : Seat) (m' : ℕ) → IsCursorAt p l k → r ≡ reach_at rs k → (seat_at seats k).place ≡ place → IsSeated r ((seat_at seats k).place + 1) s → SeatCosts 0 1 (seat_at seats k) s m m' → AreAdvanced p l rs place v old (set seats k s) before m'
+    advanced_move r s m' cursor is at seated costs = record {
       count = length-set seats k s ∙ h.count;
       each = set_each seats k s within
           (λ j x. (IsCursorAt p l j × ((IsSeated (reach_at rs j) place x × IsAhead p l v j) ⊎ IsSeated (reach_at rs j) (place + 1) x)) ⊎ ((IsCursorAt p l j → ⊥) × (x ≡ empty_seat)))
@@ -225,6 +229,11 @@ module _ (p : PolicyView) (l : LineView) (rs : List (List ℕ)) (place : ℕ) wh
       moved = λ j c there. inr (omega arith);
     }
 
+-- a seat that has a place is a cursor's
+pub cursor_of_seat : (p : PolicyView) (l : LineView) (seats : List Seat) (k place : ℕ) → IsCursorAt p l k ⊎ (seat_at seats k ≡ empty_seat) → place ≡ (seat_at seats k).place → place < past_all → IsCursorAt p l k
+cursor_of_seat p l seats k place (inl c) at real = c
+cursor_of_seat p l seats k place (inr e) at real = let empty : (seat_at seats k).place ≡ past_all = rw e refl in absurd (omega arith)
+
 -- the least seat of the cursors that were visited
 pub record IsLeastSoFar (p : PolicyView) (l : LineView) (seats : List Seat) (w : Walk) (place number : ℕ) : Type 0 where
   pub bound : place ≤ past_all
@@ -232,11 +241,11 @@ pub record IsLeastSoFar (p : PolicyView) (l : LineView) (seats : List Seat) (w :
   pub at : place < past_all → (seat_at seats number).place ≡ place
   pub least : (k : ℕ) → IsCursorAt p l k → IsAhead p l w k ⊎ ComesFirst place number (seat_at seats k).place k
 
-module _ (p : PolicyView) (l : LineView) (seats : List Seat) (w v : Walk) (place number : ℕ) (h : IsLeastSoFar p l seats w place number) (k here : ℕ) (cursor : IsCursorAt p l k) (on : (j : ℕ) → IsAhead p l w j → (j ≡ k) ⊎ IsAhead p l v j) (is : here ≡ (seat_at seats k).place) where
+module _ (p : PolicyView) (l : LineView) (seats : List Seat) (w v : Walk) (place number : ℕ) (h : IsLeastSoFar p l seats w place number) (k here : ℕ) (cursor : here < past_all → IsCursorAt p l k) (on : (j : ℕ) → IsAhead p l w j → (j ≡ k) ⊎ IsAhead p l v j) (is : here ≡ (seat_at seats k).place) where
   pub least_more : (here < place) ⊎ ((here ≡ place) × (k < number)) → IsLeastSoFar p l seats v here k
   least_more before = record {
     bound = elim before [ inl lt ↦ omega (arith, h.bound) | inr same ↦ omega (arith, h.bound, same.0) ];
-    cursor = λ _. cursor;
+    cursor = cursor;
     at = λ _. sym is;
     least = λ j c. elim (h.least j c) [
       | inl a ↦ elim (on j a) [

@@ -1,5 +1,5 @@
 -- walks by runs
-use Rattle.std.proofs.Common.{◌≡◌, ℕ, ◌+◌, ◌<◌, ◌≤◌, ◌⊎◌, refl, ◌∙◌, sym, arith, inl, inr, subst}
+use Rattle.std.proofs.Common.{◌≡◌, ℕ, Bool, List, drop, length, ◌+◌, ◌<◌, ◌≤◌, ◌⊎◌, refl, ◌∙◌, sym, arith, inl, inr, subst}
 use Rattle.std.specs.Prelude.{Some, slice_get}
 use Rattle.std.proofs.lemmas.Bool.{cases_eq, cases_lt}
 use Rattle.std.proofs.lemmas.Option.{same_Some, slice_get_within}
@@ -8,56 +8,100 @@ use Rattle.rbac_model.specs.Policies.{PolicyView, GrantView, BindingNames}
 use Rattle.rbac_model.specs.Universes.{LiveForSome}
 use Rattle.rbac_index.specs.Bound.{IsNextRun}
 use Rattle.rbac_matrix.specs.Lines.{LineView}
-use Rattle.rbac_matrix.specs.Cursors.{IsAhead, IsBoundOn, IsCursorAt, IsNextBound, IsWithin, steps_left}
+use Rattle.rbac_matrix.specs.Cursors.{AreRunsFrom, IsAhead, IsBoundOn, IsCursorAt, IsNextBound, IsNextRunOn, IsWithin, steps_left}
+use Rattle.rbac_matrix.specs.declared.bound.Run.{Run}
+use Rattle.rbac_matrix.specs.declared.bound.Runs.{Runs}
 use Rattle.rbac_matrix.specs.declared.walk.Walk.{Walk}
+use Rattle.rbac_matrix.proofs.LinesLemmas.{drop_at}
 
-module _ (p : PolicyView) (l : LineView) (old : Walk) where
-  -- a walk comes to a new run
-  pub next_in_new : (w : Walk) (start end : ℕ) → w ≡ record { next = start; end = end } → IsNextRun p l.who l.namespace old.next start end → IsNextBound p l old (record { next = w.next + 1; end = w.end }) w.next
-  next_in_new w start end e run = subst (λ (v : Walk). IsNextBound p l old (record { next = v.next + 1; end = v.end }) v.next) (sym e) (record {
-    bound = run.bound start (omega arith) run.some;
-    on = run.after;
-    passed = refl;
-    first = run.none_before;
-  })
+pub bound_grant : (p : PolicyView) (l : LineView) (k : ℕ) → IsBoundOn p l k → (g : GrantView) × (slice_get p.grants k ≡ Some g) × BindingNames g.binding l.who × LiveForSome g.binding.namespace l.namespace
+unfolding IsBoundOn
+bound_grant p l k b = b
 
+pub bound_within : (p : PolicyView) (l : LineView) (k : ℕ) → IsBoundOn p l k → k < length p.grants
+bound_within p l k b = let g = bound_grant p l k b in slice_get_within p.grants k g.0 g.1
+
+run_bound : (p : PolicyView) (l : LineView) (from start end : ℕ) → IsNextRun p l.who l.namespace from start end → (number : ℕ) → start ≤ number → number < end → IsBoundOn p l number
+unfolding IsBoundOn
+run_bound p l from start end run = run.bound
+
+run_first : (p : PolicyView) (l : LineView) (from start end : ℕ) → IsNextRun p l.who l.namespace from start end → (number : ℕ) → from ≤ number → number < start → IsBoundOn p l number → ⊥
+unfolding IsBoundOn
+run_first p l from start end run = run.none_before
+
+module _ (p : PolicyView) (l : LineView) (runs : Runs) (old : Walk) (within : IsWithin p l runs old) where
   -- a walk goes on in its run
-  pub next_in_run : (w : Walk) → w ≡ old → IsWithin p l old → old.next < old.end → IsNextBound p l old (record { next = w.next + 1; end = w.end }) w.next
-  next_in_run w e within lt = subst (λ (v : Walk). IsNextBound p l old (record { next = v.next + 1; end = v.end }) v.next) (sym e) (record {
-    bound = within old.next (omega arith) lt;
+  pub next_in_run : (w : Walk) → w ≡ old → old.next < old.end → IsNextBound p l old (record { next = w.next + 1; end = w.end; later = w.later }) w.next
+  next_in_run w e lt = subst (λ (v : Walk). IsNextBound p l old (record { next = v.next + 1; end = v.end; later = v.later }) v.next) (sym e) (record {
+    bound = within.bound old.next (omega arith) lt;
     on = omega arith;
     passed = refl;
     first = λ other low high. absurd (omega arith);
   })
 
+  pub within_run : (w : Walk) → w ≡ old → old.next < old.end → IsWithin p l runs (record { next = w.next + 1; end = w.end; later = w.later })
+  within_run w e lt = subst (λ (v : Walk). IsWithin p l runs (record { next = v.next + 1; end = v.end; later = v.later })) (sym e) (record {
+    order = omega arith;
+    bound = λ number low high. within.bound number (omega arith) high;
+    later = within.later;
+  })
+
+  module _ (w mid : Walk) (run : Run) (e : w ≡ record { next = run.start; end = run.end; later = mid.later }) (over : old.end ≤ old.next) (is : IsNextRunOn p l runs old mid run) where
+    -- a walk comes to a new run
+    pub next_in_new : IsNextBound p l old (record { next = w.next + 1; end = w.end; later = w.later }) w.next
+    next_in_new = subst (λ (v : Walk). IsNextBound p l old (record { next = v.next + 1; end = v.end; later = v.later }) v.next) (sym e) (record {
+      bound = run_bound p l old.end run.start run.end is.next run.start (omega arith) is.next.some;
+      on = omega (arith, within.order, is.next.after);
+      passed = refl;
+      first = λ other low high. run_first p l old.end run.start run.end is.next other (omega (arith, within.order)) high;
+    })
+
+    pub within_new : IsWithin p l runs (record { next = w.next + 1; end = w.end; later = w.later })
+    within_new = subst (λ (v : Walk). IsWithin p l runs (record { next = v.next + 1; end = v.end; later = v.later })) (sym e) (record {
+      order = omega (arith, is.next.some);
+      bound = λ number low high. run_bound p l old.end run.start run.end is.next number (omega arith) high;
+      later = is.later;
+    })
+
+-- the run at a place among those from it on
+pub run_here : (p : PolicyView) (l : LineView) (are_all : Bool) (from later : ℕ) (kept : List Run) (run : Run) → slice_get kept later ≡ Some run → AreRunsFrom p l are_all from (drop later kept) → IsNextRun p l.who l.namespace from run.start run.end × AreRunsFrom p l are_all run.end (drop (later + 1) kept)
+run_here p l are_all from later kept run at are = subst (λ (rs : List Run). AreRunsFrom p l are_all from rs) (drop_at kept later run at) are
+
 -- a cursor is bound
 pub cursor_bound : (p : PolicyView) (l : LineView) (k : ℕ) → IsCursorAt p l k → IsBoundOn p l k
+unfolding IsBoundOn
 cursor_bound p l k c = (c.grant, c.at, c.is.1, c.is.2)
 
-module _ (p : PolicyView) (l : LineView) (old w v : Walk) (no : ℕ) (ahead : (k : ℕ) → IsAhead p l old k → w.next ≤ k) (step : IsNextBound p l w v no) (g : GrantView) (at : slice_get p.grants no ≡ Some g) where
-  -- of a bound grant the verb decides
-  pub bound_cursor : VerbOk g.rule.rule l.verb → IsCursorAt p l no
-  bound_cursor ok =
-      let b = step.bound in
-      let same : b.0 ≡ g = same_Some b.0 g (sym b.1 ∙ at) in
-      record { grant = g; at = at; is = (ok, subst (λ (h : GrantView). BindingNames h.binding l.who) same b.2, subst (λ (h : GrantView). LiveForSome h.binding.namespace l.namespace) same b.3) }
-
-  pub bound_others : (other : ℕ) → IsAhead p l old other → (other ≡ no) ⊎ IsAhead p l v other
-  bound_others other a = elim (cases_lt other no) [
-    | inl lt ↦ absurd (step.first other (ahead other a) lt (cursor_bound p l other a.0))
+module _ (p : PolicyView) (l : LineView) (w v : Walk) (no : ℕ) (step : IsNextBound p l w v no) where
+  -- cursors that aren't passed are this one, or still ahead
+  pub bound_on : (other : ℕ) → IsAhead p l w other → (other ≡ no) ⊎ IsAhead p l v other
+  bound_on other a = elim (cases_lt other no) [
+    | inl lt ↦ absurd (step.first other a.1 lt (cursor_bound p l other a.0))
     | inr ge ↦ elim (cases_eq other no) [
       | inl e ↦ inl e
       | inr ne ↦ inr (a.0, omega (arith, step.passed))
     ]
   ]
 
-  pub bound_passes : (VerbOk g.rule.rule l.verb → ⊥) → (k : ℕ) → IsAhead p l old k → v.next ≤ k
-  bound_passes other_verb k a = elim (bound_others k a) [
-    | inl e ↦
-        let same : a.0.grant ≡ g = same_Some a.0.grant g (sym a.0.at ∙ (rw e at)) in
-        absurd (other_verb (subst (λ (h : GrantView). VerbOk h.rule.rule l.verb) same a.0.is.0))
-    | inr later ↦ later.1
-  ]
-
   pub bound_ends : steps_left p v < steps_left p w
-  bound_ends = let lt = slice_get_within p.grants no g at in omega (arith, step.on, step.passed)
+  bound_ends = let lt = bound_within p l no step.bound in omega (arith, step.on, step.passed)
+
+  module _ (g : GrantView) (at : slice_get p.grants no ≡ Some g) where
+    -- of a bound grant the verb decides
+    pub bound_cursor : VerbOk g.rule.rule l.verb → IsCursorAt p l no
+    bound_cursor ok =
+        let b = bound_grant p l no step.bound in
+        let same : b.0 ≡ g = same_Some b.0 g (sym b.1 ∙ at) in
+        record { grant = g; at = at; is = (ok, subst (λ (h : GrantView). BindingNames h.binding l.who) same b.2, subst (λ (h : GrantView). LiveForSome h.binding.namespace l.namespace) same b.3) }
+
+    module _ (old : Walk) (ahead : (k : ℕ) → IsAhead p l old k → w.next ≤ k) where
+      pub bound_others : (other : ℕ) → IsAhead p l old other → (other ≡ no) ⊎ IsAhead p l v other
+      bound_others other a = bound_on other (a.0, ahead other a)
+
+      pub bound_passes : (VerbOk g.rule.rule l.verb → ⊥) → (k : ℕ) → IsAhead p l old k → v.next ≤ k
+      bound_passes other_verb k a = elim (bound_others k a) [
+        | inl e ↦
+            let same : a.0.grant ≡ g = same_Some a.0.grant g (sym a.0.at ∙ (rw e at)) in
+            absurd (other_verb (subst (λ (h : GrantView). VerbOk h.rule.rule l.verb) same a.0.is.0))
+        | inr later ↦ later.1
+      ]

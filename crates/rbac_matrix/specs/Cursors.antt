@@ -1,9 +1,12 @@
 -- The cursors of a line: the grants that may allow something on it.
-use Rattle.std.specs.Prelude.{◌≡◌, ℕ, ◌+◌, ◌<◌, ◌≤◌, ◌-◌, Some, slice_get, length}
+use Rattle.std.specs.Prelude.{◌≡◌, ℕ, ◌+◌, ◌<◌, ◌≤◌, ◌-◌, Bool, IsTrue, List, [], ◌∷◌, Some, slice_get, drop, length}
 use Rattle.rbac_model.specs.Policies.{PolicyView, GrantView}
-use Rattle.rbac_model.specs.Universes.{IsCursor}
-use Rattle.rbac_index.specs.Bound.{IsBoundTo}
-use Rattle.rbac_matrix.specs.Lines.{LineView}
+use Rattle.rbac_model.specs.Universes.{UniverseView, IsCursor}
+use Rattle.rbac_index.specs.Bound.{IsBoundTo, IsNextRun}
+use Rattle.rbac_matrix.specs.Lines.{LineView, lines_from}
+use Rattle.rbac_matrix.specs.declared.bound.Run.{Run}
+use Rattle.rbac_matrix.specs.declared.bound.Runs.{Runs}
+use Rattle.rbac_matrix.specs.declared.line.Place.{Place}
 use Rattle.rbac_matrix.specs.declared.walk.Walk.{Walk}
 
 -- the grant of that number is a cursor of the line
@@ -13,16 +16,37 @@ pub record IsCursorAt (p : PolicyView) (l : LineView) (number : ℕ) : Type 0 wh
   pub is : IsCursor l.who l.namespace l.verb grant
 
 -- the grant of that number is of a binding that names who asks, and may be live on the line
-abbrev pub IsBoundOn : PolicyView → LineView → ℕ → Type 0
+unfoldable pub IsBoundOn : PolicyView → LineView → ℕ → Type 0
 IsBoundOn p l number = IsBoundTo p l.who l.namespace number
 
--- a walk along the cursors of a line will come to the grant of that number
+-- these are the first runs of such grants from a number on, and where they are all there are no others
+abbrev pub AreRunsFrom : PolicyView → LineView → Bool → ℕ → List Run → Type 0
+AreRunsFrom p l are_all from [] = IsTrue are_all → (number : ℕ) → from ≤ number → ¬ IsBoundOn p l number
+AreRunsFrom p l are_all from (run ∷ runs) = IsNextRun p l.who l.namespace from run.start run.end × AreRunsFrom p l are_all run.end runs
+
+-- the first runs of a line
+abbrev pub AreRuns : PolicyView → LineView → Runs → Type 0
+AreRuns p l runs = AreRunsFrom p l runs.are_all 0 runs.kept.items
+
+-- the runs are those of the line at the place, if there is one
+abbrev pub AreRunsAt : PolicyView → UniverseView → Place → Runs → Type 0
+AreRunsAt p u at runs = (l : LineView) (ls : List LineView) → lines_from u at ≡ l ∷ ls → AreRuns p l runs
+
+-- a walk will come to the cursor of that number
 abbrev pub IsAhead : PolicyView → LineView → Walk → ℕ → Type 0
 IsAhead p l w number = IsCursorAt p l number × (w.next ≤ number)
 
--- up to the end of its run a walk comes to such grants alone
-abbrev pub IsWithin : PolicyView → LineView → Walk → Type 0
-IsWithin p l w = (number : ℕ) → w.next ≤ number → number < w.end → IsBoundOn p l number
+-- a walk stands in a run of such grants, and has the runs after it
+pub record IsWithin (p : PolicyView) (l : LineView) (runs : Runs) (w : Walk) : Type 0 where
+  pub order : w.next ≤ w.end
+  pub bound : (number : ℕ) → w.next ≤ number → number < w.end → IsBoundOn p l number
+  pub later : AreRunsFrom p l runs.are_all w.end (drop w.later runs.kept.items)
+
+-- from one step of a walk to another the run was the next one, and the runs after it are left
+pub record IsNextRunOn (p : PolicyView) (l : LineView) (runs : Runs) (old new : Walk) (run : Run) : Type 0 where
+  pub next : IsNextRun p l.who l.namespace old.end run.start run.end
+  pub later : AreRunsFrom p l runs.are_all run.end (drop new.later runs.kept.items)
+  pub same : new.next ≡ old.next
 
 -- from one step of a walk to the next that number was the first of such grants
 pub record IsNextBound (p : PolicyView) (l : LineView) (old new : Walk) (number : ℕ) : Type 0 where

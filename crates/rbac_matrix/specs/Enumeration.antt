@@ -4,6 +4,7 @@ use Rattle.std.specs.Iterator.{Count, at_most}
 use Rattle.rbac_model.specs.Policies.{IsPolicy}
 use Rattle.rbac_model.specs.Universes.{IsUniverse, RowView}
 use Rattle.rbac_matrix.specs.Cells.{AreRowsOf}
+use Rattle.rbac_matrix.specs.Cursors.{AreRunsAt}
 use Rattle.rbac_matrix.specs.Lines.{LineView, lines_from}
 use Rattle.rbac_matrix.specs.Metering.{IsMetered, IsReady}
 use Rattle.rbac_matrix.specs.Passing.{cells_left}
@@ -44,6 +45,7 @@ pub record IsGoing (s : Rows) : Type 0 where
   pub universe : IsUniverse s.universe.now
   pub reaches : AreReaches s.index.now s.universe.now s.reaches.now
   pub ready : IsReady s.index.now s.universe.now s.reaches.now s.at s.from s.seats.now
+  pub runs : AreRunsAt s.index.now s.universe.now s.at s.runs
   pub rows : ℕ
   pub is_given : s.given ≡ raised 0 rows
   pub metered : IsMetered s.index.now s.universe.now s.start s.sought s.at s.seats.now rows s.meter

@@ -1,5 +1,5 @@
 -- The lines of a universe, in order, and the requests of each.
-use Rattle.std.specs.Prelude.{◌≡◌, ℕ, ◌+◌, ◌<◌, ◌⊎◌, List, [], ◌∷◌, ◌++◌, map, drop, length}
+use Rattle.std.specs.Prelude.{◌≡◌, ℕ, ◌+◌, ◌<◌, ◌⊎◌, List, [], ◌∷◌, ◌++◌, Some, map, drop, slice_get, length}
 use Rattle.std.specs.List.{flat_map}
 use Rattle.rbac_terms.specs.Text.{Text}
 use Rattle.rbac_terms.specs.Principals.{Who}
@@ -34,6 +34,12 @@ lines_from u at = onward (namespace_lines u at.namespace at.verb) (namespace_lin
 -- the place after a line
 abbrev pub next_verb : Place → Place
 next_verb at = record { principal = at.principal; namespace = at.namespace; verb = at.verb + 1 }
+
+-- the place is that of the line
+pub record IsLineAt (u : UniverseView) (at : Place) (l : LineView) : Type 0 where
+  pub principal : slice_get u.principals at.principal ≡ Some l.who
+  pub namespace : slice_get u.namespaces at.namespace ≡ Some l.namespace
+  pub verb : slice_get u.verbs at.verb ≡ Some l.verb
 
 -- a place of a line, or past all lines
 abbrev pub IsSettled : UniverseView → Place → Type 0

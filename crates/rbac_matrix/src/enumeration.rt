@@ -7,6 +7,7 @@ ghost use Rattle.rbac_index.specs.Reaches.{raised};
 ghost use Rattle.rbac_matrix.specs.Metering.{AreTouched};
 ghost use Rattle.rbac_matrix.specs.Enumeration.{AreEntered, Gives, GoesOn, IsGoing, left_at_most};
 
+use crate::bound::Runs;
 use crate::line::{Place, line_at};
 use crate::row::{Row, row_of};
 use crate::seat::Seat;
@@ -25,6 +26,8 @@ pub struct Rows<'r, 'm> {
     // The line of the seats, and the place of the target from which its rows are left.
     pub(crate) at: Place,
     pub(crate) from: u32,
+    // The first runs of grants of that line.
+    pub(crate) runs: Runs,
     // The first line, how many of its cursors were sought, and how many rows were given.
     pub(crate) start: Place,
     pub(crate) sought: usize,
@@ -71,6 +74,7 @@ impl<'m> Iterator for Rows<'_, 'm> {
             self.reaches,
             self.at,
             self.from,
+            &mut self.runs,
             self.seats,
             &mut self.meter,
         );

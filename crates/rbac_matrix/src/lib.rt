@@ -1,6 +1,7 @@
 //! The matrix: all that anyone may do, in order of keys, each with its first granting binding.
 #![tactic(auto)]
 
+mod bound;
 mod enumeration;
 mod fault;
 mod laws;

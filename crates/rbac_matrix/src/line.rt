@@ -2,7 +2,7 @@
 
 ghost use Rattle.std.specs.Prelude.{◌≡◌, ◌∷◌, [], ◌<◌, ◌≤◌, ◌+◌, length, IfSome, MatchOption};
 ghost use Rattle.rbac_model.specs.Universes.{IsUniverse};
-ghost use Rattle.rbac_matrix.specs.Lines.{LineView, IsSettled, lines_from, next_verb};
+ghost use Rattle.rbac_matrix.specs.Lines.{LineView, IsLineAt, IsSettled, lines_from, next_verb};
 ghost use Rattle.rbac_matrix.specs.Shown.{line_of};
 
 use rbac_terms::{Principal, Word};
@@ -28,7 +28,8 @@ pub(crate) struct Line<'a> {
 pub(crate) fn line_at<'a>(universe: &'a Universe, at: Place) -> Option<Line<'a>>
     requires { IsSettled universe.now at }
     ensures universe { IsUniverse universe.now }
-    ensures few { IfSome result (λ _. at.verb < 65535) }
+    ensures few { IfSome result (λ _. (at.principal < 65535) × (at.namespace < 65535) × (at.verb < 65535)) }
+    ensures place { IfSome result (λ line. IsLineAt universe.now at (line_of line)) }
     ensures line { MatchOption result (lines_from universe.now at ≡ [])
         (λ line. lines_from universe.now at ≡ line_of line ∷ lines_from universe.now (next_verb at)) }
 {

@@ -7,6 +7,7 @@ ghost use Rattle.rbac_matrix.specs.Enumeration.{AreLeft, IsGoing};
 ghost use Rattle.rbac_matrix.specs.Lent.{AreLent, Starts};
 ghost use Rattle.rbac_index.specs.Reaches.{AreReaches};
 
+use crate::bound::Runs;
 use crate::enumeration::Rows;
 use crate::seat::Seat;
 use crate::seats::empty_all;
@@ -64,8 +65,11 @@ impl<'m, 's> Matrix<'m, 's> {
         let seats = &mut *self.seats;
         empty_all(index, seats);
         let start = start_after(universe, key);
+        let mut runs = Runs::new();
         let mut meter = Meter::new();
-        let sought = seat_start(index, universe, reaches, start, seats, &mut meter);
+        let sought = seat_start(
+            index, universe, reaches, start, &mut runs, seats, &mut meter,
+        );
         Rows {
             index,
             universe,
@@ -73,6 +77,7 @@ impl<'m, 's> Matrix<'m, 's> {
             seats,
             at: start.at,
             from: start.from,
+            runs,
             start: start.at,
             sought,
             given: 0,

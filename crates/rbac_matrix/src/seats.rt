@@ -3,12 +3,13 @@
 ghost use Rattle.std.specs.Prelude.{◌≡◌, ◌+◌, ◌*◌, ◌<◌, ◌≤◌, ◌⊎◌, ℕ, length, IfSome, IfNone, IsTrue, ◌↔◌};
 ghost use Rattle.rbac_model.specs.Policies.{IsPolicy};
 ghost use Rattle.rbac_matrix.specs.Shown.{line_of};
-ghost use Rattle.rbac_matrix.specs.Cursors.{IsCursorAt};
+ghost use Rattle.rbac_matrix.specs.Cursors.{AreRuns, IsCursorAt};
 ghost use Rattle.rbac_matrix.specs.Seats.{AreSeated, AreEmpty, Costs, IsLeastSeat, AreReal, filled, empty_seat, past_all, seat_at};
 
+use crate::bound::Runs;
 use crate::line::Line;
 use crate::seat::{Seat, seat_after, seat_from};
-use crate::walk::{cursors_of, next_cursor};
+use crate::walk::{next_bound, next_cursor, whole_walk};
 use rbac_index::{Index, Meter, Reach};
 
 // Whether nothing was seated here, of a reach that has places.
@@ -31,10 +32,12 @@ pub(crate) fn seat_line(
     index: &Index<'_>,
     reaches: &[Reach],
     line: Line<'_>,
+    runs: &Runs,
     from: u32,
     seats: &mut [Seat],
     meter: &mut Meter,
 ) -> usize
+    requires runs { AreRuns index.now (line_of line) runs.now }
     requires reaches { length reaches.now ≡ length index.now.grants }
     requires real { AreReal reaches.now }
     requires from { from ≤ past_all }
@@ -45,8 +48,8 @@ pub(crate) fn seat_line(
     ensures sought { Costs (20 * result) 0 seats.old seats.new meter.old meter.new }
 {
     let mut filled = 0;
-    let mut walk = cursors_of(index, line);
-    while let Some(no) = next_cursor(index, line, &mut walk) {
+    let mut walk = whole_walk();
+    while let Some(no) = next_cursor(index, line, runs, &mut walk) {
         let no = no as usize;
         if is_untaken(seats[no], &reaches[no]) {
             seats[no] = seat_from(&reaches[no], from, meter);
@@ -57,15 +60,22 @@ pub(crate) fn seat_line(
 }
 
 // The least place at which a seat of the line stands, with the first grant that stands there.
-pub(crate) fn least_seat(index: &Index<'_>, line: Line<'_>, seats: &[Seat]) -> Option<(u32, u32)>
-    requires { length seats.now ≡ length index.now.grants }
+pub(crate) fn least_seat(
+    index: &Index<'_>,
+    line: Line<'_>,
+    runs: &Runs,
+    seats: &[Seat],
+) -> Option<(u32, u32)>
+    requires runs { AreRuns index.now (line_of line) runs.now }
+    requires count { length seats.now ≡ length index.now.grants }
+    requires others { (k : ℕ) → k < length seats.now → IsCursorAt index.now (line_of line) k ⊎ (seat_at seats.now k ≡ empty_seat) }
     ensures found { IfSome result (λ found. IsLeastSeat index.now (line_of line.entry) seats.now found.0 found.1) }
     ensures none { IfNone result ((k : ℕ) → IsCursorAt index.now (line_of line.entry) k → past_all ≤ (seat_at seats.now k).place) }
 {
     let mut place = u32::MAX;
     let mut number = 0;
-    let mut walk = cursors_of(index, line);
-    while let Some(no) = next_cursor(index, line, &mut walk) {
+    let mut walk = whole_walk();
+    while let Some(no) = next_bound(index, line, runs, &mut walk) {
         let here = seats[no as usize].place();
         if comes_before(here, no, place, number) {
             place = here;
@@ -84,10 +94,12 @@ pub(crate) fn advance(
     index: &Index<'_>,
     reaches: &[Reach],
     line: Line<'_>,
+    runs: &Runs,
     place: u32,
     seats: &mut [Seat],
     meter: &mut Meter,
 )
+    requires runs { AreRuns index.now (line_of line) runs.now }
     requires reaches { length reaches.now ≡ length index.now.grants }
     requires seated { AreSeated index.now (line_of line) reaches.now place seats.old }
     requires real { AreReal reaches.now }
@@ -95,8 +107,8 @@ pub(crate) fn advance(
     ensures seated { AreSeated index.now (line_of line.entry) reaches.now (place + 1) seats.new }
     ensures costs { (k : ℕ) → IsCursorAt index.now (line_of line.entry) k → (seat_at seats.old k).place ≡ place → Costs 0 1 seats.old seats.new meter.old meter.new }
 {
-    let mut walk = cursors_of(index, line);
-    while let Some(no) = next_cursor(index, line, &mut walk) {
+    let mut walk = whole_walk();
+    while let Some(no) = next_bound(index, line, runs, &mut walk) {
         let no = no as usize;
         if seats[no].place() == place {
             seats[no] = seat_after(&reaches[no], seats[no], meter);
@@ -105,13 +117,14 @@ pub(crate) fn advance(
 }
 
 // Empties the seats of the line.
-pub(crate) fn empty_line(index: &Index<'_>, line: Line<'_>, seats: &mut [Seat])
+pub(crate) fn empty_line(index: &Index<'_>, line: Line<'_>, runs: &Runs, seats: &mut [Seat])
+    requires runs { AreRuns index.now (line_of line) runs.now }
     requires count { length seats.old ≡ length index.now.grants }
     requires others { (k : ℕ) → k < length seats.old → IsCursorAt index.now (line_of line) k ⊎ (seat_at seats.old k ≡ empty_seat) }
     ensures { AreEmpty index.now seats.new }
 {
-    let mut walk = cursors_of(index, line);
-    while let Some(no) = next_cursor(index, line, &mut walk) {
+    let mut walk = whole_walk();
+    while let Some(no) = next_bound(index, line, runs, &mut walk) {
         seats[no as usize] = Seat::new();
     }
 }

@@ -6,6 +6,7 @@ ghost use Rattle.std.specs.Cmp.Lexicographic.{slice_cmp};
 ghost use Rattle.rbac_terms.specs.Text.{text_cmp};
 ghost use Rattle.rbac_terms.specs.Principals.{key_of as who_key};
 ghost use Rattle.rbac_model.specs.Lists.{IsAscendingBy};
+ghost use Rattle.rbac_matrix.specs.Cursors.{AreRunsAt};
 ghost use Rattle.rbac_matrix.specs.Lines.{IsSettled, lines_from};
 ghost use Rattle.rbac_model.specs.Policies.{IsPolicy};
 ghost use Rattle.rbac_model.specs.Universes.{IsUniverse};
@@ -14,6 +15,7 @@ ghost use Rattle.rbac_index.specs.Reaches.{AreReaches};
 ghost use Rattle.rbac_matrix.specs.Seats.{AreEmpty};
 ghost use Rattle.rbac_matrix.specs.Starting.{IsFoundAt, IsGapAt, IsStart, IsTargetPlace, target_part, what_texts};
 
+use crate::bound::Runs;
 use crate::line::{Place, line_at, settled};
 use crate::seat::Seat;
 use crate::seats::seat_line;
@@ -162,6 +164,7 @@ pub(crate) fn seat_start(
     universe: &Universe,
     reaches: &[Reach],
     start: Start,
+    runs: &mut Runs,
     seats: &mut [Seat],
     meter: &mut Meter,
 ) -> usize
@@ -172,6 +175,7 @@ pub(crate) fn seat_start(
     requires empty { AreEmpty index.now seats.old }
     requires fresh { meter.old ≡ 0 }
     ensures ready { IsReady index.now universe.now reaches.now start.at start.from seats.new }
+    ensures runs { AreRunsAt index.now universe.now start.at runs.new }
     ensures metered { IsMetered index.now universe.now start.at result start.at seats.new 0 meter.new }
     ensures whole { start.from ≡ 0 → result ≡ 0 }
     ensures sought { AreSought index.now universe.now start.at result }
@@ -181,7 +185,8 @@ pub(crate) fn seat_start(
     let Some(line) = line_at(universe, start.at) else {
         return 0;
     };
-    let filled = seat_line(index, reaches, line, start.from, seats, meter);
+    *runs = Runs::of(index, line);
+    let filled = seat_line(index, reaches, line, runs, start.from, seats, meter);
     if start.from == 0 {
         return 0;
     }

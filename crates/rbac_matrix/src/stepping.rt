@@ -1,14 +1,18 @@
 //! The rows of a line, by the seats of its cursors.
 
-ghost use Rattle.std.specs.Prelude.{ℕ, ◌≡◌, ◌+◌, if◌then◌else◌, is_some, ◌⊎◌, ◌↔◌, ◌≤◌, [], IsTrue, MatchOption, length};
+ghost use Rattle.std.specs.Prelude.{ℕ, ◌≡◌, ◌<◌, ◌+◌, if◌then◌else◌, is_some, ◌⊎◌, ◌↔◌, ◌≤◌, [], IsTrue, MatchOption, length};
 ghost use Rattle.rbac_model.specs.Policies.{IsPolicy};
+ghost use Rattle.rbac_model.specs.Universes.{UniverseView};
 ghost use Rattle.rbac_matrix.specs.Shown.{line_of};
 ghost use Rattle.rbac_index.specs.Reaches.{AreReaches};
+ghost use Rattle.rbac_matrix.specs.Cursors.{AreRuns, AreRunsAt, IsBoundOn};
+ghost use Rattle.rbac_matrix.specs.Lines.{IsLineAt, lines_from};
 ghost use Rattle.rbac_matrix.specs.Passing.{EndsAll, EndsLine, FindsCell, FindsRow};
 ghost use Rattle.rbac_matrix.specs.Metering.{IsMetered, IsReady, Skips};
 ghost use Rattle.rbac_matrix.specs.declared.line.Place.{Place};
 ghost use Rattle.rbac_matrix.specs.Seats.{AreEmpty, AreSeated, Costs};
 
+use crate::bound::Runs;
 use crate::line::{Line, Place, after, line_at, settled};
 use crate::seat::Seat;
 use crate::seats::{advance, empty_line, least_seat, seat_line};
@@ -30,11 +34,13 @@ pub(crate) fn next_in_line(
     universe: &Universe,
     reaches: &[Reach],
     line: Line<'_>,
+    runs: &Runs,
     from: u32,
     seats: &mut [Seat],
     meter: &mut Meter,
 ) -> Option<(u32, u32)>
     requires policy { IsPolicy index.now }
+    requires runs { AreRuns index.now (line_of line) runs.now }
     requires reaches { AreReaches index.now universe.now reaches.now }
     requires seated { AreSeated index.now (line_of line) reaches.now from seats.old }
     ensures row { MatchOption result
@@ -46,8 +52,8 @@ pub(crate) fn next_in_line(
 {
     let targets = universe.targets().len();
     let mut from = from;
-    while let Some((place, no)) = least_seat(index, line, seats) {
-        advance(index, reaches, line, place, seats, meter);
+    while let Some((place, no)) = least_seat(index, line, runs, seats) {
+        advance(index, reaches, line, runs, place, seats, meter);
         from = place + 1;
         if fits(line.namespace, universe.namespaced(place as usize)) {
             return Some((place, no));
@@ -63,6 +69,7 @@ fn next_line(
     universe: &Universe,
     reaches: &[Reach],
     at: Place,
+    runs: &mut Runs,
     seats: &mut [Seat],
     meter: &mut Meter,
 ) -> Place
@@ -71,17 +78,45 @@ fn next_line(
     requires empty { AreEmpty index.now seats.old }
     ensures skips { Skips index.now.held universe.now at result }
     ensures ready { IsReady index.now universe.now reaches.now result 0 seats.new }
+    ensures runs { AreRunsAt index.now universe.now result runs.new }
     ensures costs { Costs 0 0 seats.old seats.new meter.old meter.new }
 {
     let targets = universe.targets().len();
     let mut at = settled(universe, at);
     while let Some(line) = line_at(universe, at) {
-        if seat_line(index, reaches, line, 0, seats, meter) > 0 {
+        *runs = Runs::of(index, line);
+        if runs.is_empty() {
+            at = settled(universe, past_idle(index, line, at));
+        } else if seat_line(index, reaches, line, runs, 0, seats, meter) > 0 {
             return at;
+        } else {
+            at = settled(universe, after(at));
         }
-        at = settled(universe, after(at));
     }
     at
+}
+
+// The place after the lines of a namespace in which none of somebody's grants may be live; after all
+// lines of somebody who has none.
+fn past_idle(index: &Index<'_>, line: Line<'_>, at: Place) -> Place
+    requires policy { IsPolicy index.now }
+    requires idle { (k : ℕ) → ¬ IsBoundOn index.now (line_of line) k }
+    requires few { (at.principal < 65535) × (at.namespace < 65535) }
+    ensures skips { (u : UniverseView) → IsLineAt u at (line_of line.entry) → Skips index.now.held u at result }
+    ensures on { (u : UniverseView) → IsLineAt u at (line_of line.entry) → length (lines_from u result) < length (lines_from u at) }
+{
+    if at.namespace == 0 && !index.has_grants(line.principal) {
+        return Place {
+            principal: at.principal + 1,
+            namespace: 0,
+            verb: 0,
+        };
+    }
+    Place {
+        principal: at.principal,
+        namespace: at.namespace + 1,
+        verb: 0,
+    }
 }
 
 // The next row from a place and a target's place on: the place of its line, and the place of its
@@ -92,12 +127,15 @@ pub(crate) fn next_cell(
     reaches: &[Reach],
     at: Place,
     from: u32,
+    runs: &mut Runs,
     seats: &mut [Seat],
     meter: &mut Meter,
 ) -> (Place, Option<(u32, u32)>)
     requires policy { IsPolicy index.now }
     requires reaches { AreReaches index.now universe.now reaches.now }
     requires ready { IsReady index.now universe.now reaches.now at from seats.old }
+    requires runs { AreRunsAt index.now universe.now at runs.old }
+    ensures runs { AreRunsAt index.now universe.now result.0 runs.new }
     ensures row { MatchOption result.1
         (EndsAll index.now universe.now reaches.now at from result.0 seats.new)
         (λ found. FindsCell index.now universe.now reaches.now at from result.0 seats.new found.0 found.1) }
@@ -107,11 +145,13 @@ pub(crate) fn next_cell(
     let mut at = at;
     let mut from = from;
     while let Some(line) = line_at(universe, at) {
-        if let Some(found) = next_in_line(index, universe, reaches, line, from, seats, meter) {
+        if let Some(found) = next_in_line(
+            index, universe, reaches, line, runs, from, seats, meter,
+        ) {
             return (at, Some(found));
         }
-        empty_line(index, line, seats);
-        at = next_line(index, universe, reaches, after(at), seats, meter);
+        empty_line(index, line, runs, seats);
+        at = next_line(index, universe, reaches, after(at), runs, seats, meter);
         from = 0;
     }
     (at, None)

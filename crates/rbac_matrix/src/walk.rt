@@ -1,41 +1,54 @@
-//! Walks along the cursors of a line.
+//! Walks along the grants of a line that may be live and name who asks.
 
-ghost use Rattle.std.specs.Prelude.{◌≡◌, ◌<◌, ◌≤◌, ◌⊎◌, ℕ, IfSome, MatchOption};
+ghost use Rattle.std.specs.Prelude.{◌≡◌, ◌<◌, ◌≤◌, ◌⊎◌, ℕ, IfSome, MatchOption, drop, length};
+ghost use Rattle.rbac_model.specs.Policies.{PolicyView};
 ghost use Rattle.rbac_matrix.specs.Shown.{line_of};
-ghost use Rattle.rbac_matrix.specs.Cursors.{IsAhead, IsBoundOn, IsCursorAt, IsNextBound, IsWithin, steps_left};
+ghost use Rattle.rbac_matrix.specs.Lines.{LineView};
+ghost use Rattle.rbac_matrix.specs.Cursors.{AreRuns, AreRunsFrom, IsAhead, IsBoundOn, IsCursorAt, IsNextBound, IsNextRunOn, IsWithin, steps_left};
 
+use crate::bound::{Run, Runs};
 use crate::line::Line;
 use rbac_index::Index;
 use rbac_terms::verb_matches;
 
-/// A walk along the cursors of a line: the grants that may allow something on it. It goes by runs of
-/// grants of bindings that name who asks, and stands in one of them.
+/// A walk along the grants of a line, run by run.
 #[derive(Drop)]
 pub(crate) struct Walk {
+    // What is left of the run in which the walk stands: from a number up to another.
     next: u32,
-    // Where the run ends in which the walk stands.
     end: u32,
+    // The place of the run after it, among those that are kept.
+    later: usize,
 }
 
-// A walk along all cursors of the line.
-pub(crate) fn cursors_of(index: &Index<'_>, line: Line<'_>) -> Walk
-    ensures ahead { (k : ℕ) → IsCursorAt index.now (line_of line.entry) k → IsAhead index.now (line_of line.entry) result k }
-    ensures within { IsWithin index.now (line_of line.entry) result }
+// A walk along all grants of a line.
+pub(crate) fn whole_walk() -> Walk
+    ensures ahead { (p : PolicyView) (l : LineView) (k : ℕ) → IsCursorAt p l k → IsAhead p l result k }
+    ensures within { (p : PolicyView) (l : LineView) (runs : Runs) → AreRuns p l runs → IsWithin p l runs result }
 {
-    Walk { next: 0, end: 0 }
+    Walk {
+        next: 0,
+        end: 0,
+        later: 0,
+    }
 }
 
-// The number of a cursor, and on to the others; none where all were told. One may be told twice.
-pub(crate) fn next_cursor(index: &Index<'_>, line: Line<'_>, walk: &mut Walk) -> Option<u32>
-    requires { IsWithin index.now (line_of line) walk.old }
+// The number of a cursor, and on to the others; none where all were told.
+pub(crate) fn next_cursor(
+    index: &Index<'_>,
+    line: Line<'_>,
+    runs: &Runs,
+    walk: &mut Walk,
+) -> Option<u32>
+    requires { IsWithin index.now (line_of line) runs.now walk.old }
     ensures found { MatchOption result
         ((k : ℕ) → ¬ IsAhead index.now (line_of line.entry) walk.old k)
         (λ k. IsCursorAt index.now (line_of line.entry) k
         × ((other : ℕ) → IsAhead index.now (line_of line.entry) walk.old other → (other ≡ k) ⊎ IsAhead index.now (line_of line.entry) walk.new other)) }
-    ensures within { IsWithin index.now (line_of line.entry) walk.new }
+    ensures within { IfSome result (λ _. IsWithin index.now (line_of line.entry) runs.now walk.new) }
     ensures ends { IfSome result (λ _. steps_left index.now walk.new < steps_left index.now walk.old) }
 {
-    while let Some(no) = next_bound(index, line, walk) {
+    while let Some(no) = next_bound(index, line, runs, walk) {
         if verb_matches(index.grant(no).rule, line.verb) {
             return Some(no);
         }
@@ -44,20 +57,53 @@ pub(crate) fn next_cursor(index: &Index<'_>, line: Line<'_>, walk: &mut Walk) ->
 }
 
 // The next grant of a binding that names who asks and may be live, whatever its verbs.
-fn next_bound(index: &Index<'_>, line: Line<'_>, walk: &mut Walk) -> Option<u32>
-    requires { IsWithin index.now (line_of line) walk.old }
+pub(crate) fn next_bound(
+    index: &Index<'_>,
+    line: Line<'_>,
+    runs: &Runs,
+    walk: &mut Walk,
+) -> Option<u32>
+    requires { IsWithin index.now (line_of line) runs.now walk.old }
     ensures found { MatchOption result
         ((k : ℕ) → walk.old.next ≤ k → ¬ IsBoundOn index.now (line_of line.entry) k)
         (IsNextBound index.now (line_of line.entry) walk.old walk.new) }
-    ensures within { IsWithin index.now (line_of line.entry) walk.new }
+    ensures ahead { MatchOption result
+        ((k : ℕ) → ¬ IsAhead index.now (line_of line.entry) walk.old k)
+        (λ k. (other : ℕ) → IsAhead index.now (line_of line.entry) walk.old other → (other ≡ k) ⊎ IsAhead index.now (line_of line.entry) walk.new other) }
+    ensures number { IfSome result (λ k. k < length index.now.grants) }
+    ensures within { IfSome result (λ _. IsWithin index.now (line_of line.entry) runs.now walk.new) }
+    ensures ends { IfSome result (λ _. steps_left index.now walk.new < steps_left index.now walk.old) }
 {
     if walk.end <= walk.next {
-        let Some((start, end)) = index.next_run(line.principal, line.namespace, walk.next) else {
+        let Some(found) = next_run(index, line, runs, walk) else {
             return None;
         };
-        *walk = Walk { next: start, end };
+        walk.next = found.start;
+        walk.end = found.end;
     }
     let no = walk.next;
     walk.next = no + 1;
     Some(no)
+}
+
+// The run after the one in which the walk stands.
+fn next_run(index: &Index<'_>, line: Line<'_>, runs: &Runs, walk: &mut Walk) -> Option<Run>
+    requires { AreRunsFrom index.now (line_of line) runs.now.are_all walk.old.end (drop walk.old.later runs.now.kept.items) }
+    ensures found { MatchOption result
+        ((k : ℕ) → walk.old.end ≤ k → ¬ IsBoundOn index.now (line_of line.entry) k)
+        (IsNextRunOn index.now (line_of line.entry) runs.now walk.old walk.new) }
+{
+    let kept = runs.kept();
+    if walk.later < kept.len() {
+        let run = kept[walk.later];
+        walk.later += 1;
+        return Some(run);
+    }
+    if runs.are_all() {
+        return None;
+    }
+    let Some((start, end)) = index.next_run(line.principal, line.namespace, walk.end) else {
+        return None;
+    };
+    Some(Run { start, end })
 }

@@ -6,7 +6,7 @@ use Rattle.rbac_terms.specs.Principals.{AsUser}
 use Rattle.rbac_token.specs.Token.{IsTokenOf}
 use Rattle.rbac_question.specs.Asked.{AsksFor, LacksType, HasUrlSubresource}
 use Rattle.rbac_question.specs.declared.command.Action.{Action}
-use Rattle.rbac_question.specs.declared.command.Action.TheVariants.{CanI, WhoCan, Matrix}
+use Rattle.rbac_question.specs.declared.command.Action.TheVariants.{CanI, WhoCan, Matrix, Lint}
 use Rattle.rbac_question.specs.declared.command.Question.{Question}
 use Rattle.rbac_question.specs.declared.fault.QuestionFault.{QuestionFault}
 use Rattle.rbac_question.specs.declared.fault.QuestionFault.TheVariants.{EmptyWord, UrlSubresource, BadToken, NoMemory}
@@ -64,12 +64,14 @@ MeansCanI l (CanI principal quiet why question) =
     (principal ≡ AsUser l.user (groups_in l.groups)) × (quiet ≡ l.quiet) × (why ≡ l.why) × IsQuestion l.question question
 MeansCanI l (WhoCan question) = ⊥
 MeansCanI l (Matrix after limit) = ⊥
+MeansCanI l Lint = ⊥
 
 -- what a `who-can` line means: it asks who is allowed this
 abbrev pub MeansWhoCan : QuestionParts → Action → Type 0
 MeansWhoCan l (CanI principal quiet why question) = ⊥
 MeansWhoCan l (WhoCan question) = IsQuestion l question
 MeansWhoCan l (Matrix after limit) = ⊥
+MeansWhoCan l Lint = ⊥
 
 -- the key is the one whose token is given; none where none is given
 abbrev pub IsAfter : Option Text → Option KeyTexts → Type 0
@@ -81,6 +83,7 @@ IsAfter (Some token) (Some k) = IsTokenOf token k
 abbrev pub MeansMatrix : MatrixParts → Action → Type 0
 MeansMatrix l (CanI principal quiet why question) = ⊥
 MeansMatrix l (WhoCan question) = ⊥
+MeansMatrix l Lint = ⊥
 MeansMatrix l (Matrix after limit) = IsAfter l.after after × (limit ≡ l.limit)
 
 -- which refusal USER comes to

@@ -40,6 +40,8 @@ pub enum Action {
         /// The most rows, as `--limit` gives it.
         limit: Option<u32>,
     },
+    /// Lists what is wrong with the roles.
+    Lint,
 }
 
 /// A command line that was accepted.

@@ -1,21 +1,20 @@
-use Rattle.std.proofs.Common.{◌∙◌, ap, sym}
-use Rattle.std.specs.Prelude.{Some, None, option_copied}
-use Rattle.std.proofs.lemmas.Bool.{both_ways}
+use Rattle.std.proofs.Common.{◌∙◌, ap, arith, sym}
+use Rattle.std.specs.Prelude.{Some, option_copied}
 use Rattle.std.proofs.lemmas.Option.{slice_get-get_or}
 use Rattle.rbac_terms.specs.Targets.{What}
-use Rattle.rbac_index.proofs.StemLemmas.{none_of_stem, none_unnamed}
+use Rattle.rbac_index.proofs.StemLemmas.{none_unnamed}
 use Rattle.rbac_index.proofs.matched.after_failure.Goals as goal
 
-pub returns-then-stem_matches-clause-none : goal.returns-then-stem_matches-clause-none
-returns-then-stem_matches-clause-none c =
+pub returns-then-past-end-clause-none : goal.returns-then-past-end-clause-none
+returns-then-past-end-clause-none c =
     let ts = c.args.targets.now in
     let t = c.index-targets-at.result in
-    let there = slice_get-get_or ts c.args.at t c.requires.within ∙ ap (λ (x : What). Some x) (sym c.index-targets-at.is) in
-    none_unnamed (option_copied c.next_name-before.result) c.args.rule.now ts c.args.at c.run_end.result t there c.run_end.ensures.run c.if-is_url.ensures (rw (c.as_slice.ensures, c.name.ensures.name) at c.next_name-before.ensures) c.requires.fails
+    let there = slice_get-get_or ts c.args.at t (omega (arith, c.requires.within.0, c.requires.within.1)) ∙ ap (λ (x : What). Some x) (sym c.index-targets-at.is) in
+    none_unnamed (option_copied c.next_name-before.result) c.args.rule.now ts c.args.at c.run_end-past.result t there c.run_end-past.ensures.run c.requires.named (rw (c.as_slice.ensures, c.name.ensures.name) at c.next_name-before.ensures) c.requires.fails
 
-pub returns-clause-none : goal.returns-clause-none
-returns-clause-none c =
+pub returns-else-past-end-clause-none : goal.returns-else-past-end-clause-none
+returns-else-past-end-clause-none c n low high =
     let ts = c.args.targets.now in
     let t = c.index-targets-at.result in
-    let there = slice_get-get_or ts c.args.at t c.requires.within ∙ ap (λ (x : What). Some x) (sym c.index-targets-at.is) in
-    none_of_stem None c.args.rule.now ts c.args.at c.run_end-2.result t there c.run_end-2.ensures.run (λ ok. both_ways _ c.if-stem_matches.false (c.stem_matches.ensures.1 ok)) c.requires.fails
+    let there = slice_get-get_or ts c.args.at t (omega (arith, c.requires.within.0, c.requires.within.1)) ∙ ap (λ (x : What). Some x) (sym c.index-targets-at.is) in
+    none_unnamed (option_copied c.next_name-before.result) c.args.rule.now ts c.args.at c.run_end-past.result t there c.run_end-past.ensures.run c.requires.named (rw (c.as_slice.ensures, c.name.ensures.name) at c.next_name-before.ensures) c.requires.fails n low (omega (arith, high, c.if-past-end.false))

@@ -1,9 +1,7 @@
-use Rattle.std.proofs.Common.{◌-◌, length, ◌≤◌}
-use Rattle.rbac_index.proofs.ReachLemmas.{IsReachBelow}
+use Rattle.std.proofs.Common.{drop, length}
+use Rattle.rbac_index.specs.Matched.{AreStems}
+use Rattle.rbac_index.specs.Reaches.{IsReachBelow}
 use Rattle.rbac_index.proofs.matched.matched.Given as goal
 
-abbrev pub invariant-loop-from : goal.invariant-loop-from
-invariant-loop-from l = IsReachBelow l.rule l.targets l.from l.spans × (l.from ≤ length l.targets)
-
-abbrev pub decreases-loop-from : goal.decreases-loop-from
-decreases-loop-from l = length l.targets - l.from
+abbrev pub invariant-loop-stem : goal.invariant-loop-stem
+invariant-loop-stem l = IsReachBelow l.rule l.targets l.start l.spans × AreStems l.targets l.start (length l.targets) (drop l.stem-index l.stems)

@@ -1,28 +1,34 @@
-use Rattle.std.proofs.Common.{◌≡◌, ◌∙◌, ap, refl, arith, length}
+use Rattle.std.proofs.Common.{arith, refl}
+use Rattle.std.specs.Prelude.{slice_index_or}
 use Rattle.std.proofs.lemmas.Bool.{both_ways}
-use Rattle.rbac_model.specs.Policies.{Held}
+use Rattle.std.proofs.lemmas.Option.{slice_get-get_or, slice_get_within}
+use Rattle.rbac_lint.proofs.Listed.{contains_at}
 use Rattle.rbac_lint.proofs.Marked.{reached_here, none_reaches_more, none_reaches}
 use Rattle.rbac_lint.proofs.unused.is_reached.Goals as goal
-use Rattle.rbac_lint.proofs.unused.is_reached.Goals.{else-named-from-via-then-named-from+else-reaches, else-named-from-via-else-named-from}
+
+pub reaches-requires : goal.reaches-requires
+reaches-requires c =
+    let places = c.args.gatherers.now in
+    let i = c.loop-from.from-index in
+    let g = c.requires.sound (slice_index_or places i 0) (contains_at places i (slice_index_or places i 0) (slice_get-get_or places i 0 c.loop-from-test.true)) in
+    slice_get_within c.args.policy.now.held.cluster_roles (slice_index_or places i 0) g.0 g.1
 
 pub returns-then-reaches : goal.returns-then-reaches
 returns-then-reaches c =
-    let h = c.args.policy.now.held in
-    let count : length c.cluster_roles-from-end.result.now ≡ length h.cluster_roles = ap length c.cluster_roles-from-end.ensures.cluster_roles ∙ ap (λ (v : Held). length v.cluster_roles) c.objects.ensures.held in (
-      λ t. reached_here h c.args.named.now c.loop-from.from c.args.place c.reaches.result c.requires (omega (arith, count)) c.if-named-from.true c.reaches.ensures.reaches c.if-reaches.true,
+    let places = c.args.gatherers.now in
+    let i = c.loop-from.from-index in
+    let j = slice_index_or places i 0 in (
+      λ t. reached_here c.args.policy.now.held places j c.args.place c.reaches.result c.requires (contains_at places i j (slice_get-get_or places i 0 c.loop-from-test.true)) c.reaches.ensures.reaches c.if-reaches.true,
       λ w. refl,
     )
 
 pub loop-from-preserved : goal.loop-from-preserved
 loop-from-preserved c =
-    none_reaches_more c.args.policy.now.held c.args.named.now c.loop-from.from c.args.place c.requires c.loop-from.invariant
-    (λ r at v m. elim c.else-named-from.branch [
-      | else-named-from-via-then-named-from+else-reaches w ↦ both_ways _ w.if-reaches.false ((w.reaches.ensures.reaches r at).1 m)
-      | else-named-from-via-else-named-from w ↦ both_ways _ w.if-named-from.false v
-    ])
+    let places = c.args.gatherers.now in
+    let i = c.loop-from.from-index in
+    none_reaches_more c.args.policy.now.held places i (slice_index_or places i 0) c.args.place (slice_get-get_or places i 0 c.loop-from-test.true) c.loop-from.invariant
+    (λ r at m. both_ways _ c.if-reaches.false ((c.reaches.ensures.reaches r at).1 m))
 
 pub returns : goal.returns
 returns c =
-    let h = c.args.policy.now.held in
-    let count : length c.cluster_roles-from-end.result.now ≡ length h.cluster_roles = ap length c.cluster_roles-from-end.ensures.cluster_roles ∙ ap (λ (v : Held). length v.cluster_roles) c.objects.ensures.held in
-    (λ t. cc, λ w. absurd (none_reaches h c.args.place c.loop-from.from (omega (arith, count)) c.loop-from.invariant w))
+    (λ t. cc, λ w. absurd (none_reaches c.args.policy.now.held c.args.gatherers.now c.args.place c.loop-from.from-index (omega arith) c.requires c.loop-from.invariant w))

@@ -7,7 +7,7 @@ use Rattle.rbac_matrix.proofs.seats.empty_line.Given as goal
 abbrev pub invariant-loop-no : goal.invariant-loop-no
 invariant-loop-no l = record {
   emptied : (k : ℕ) → k < length l.seats → IsAhead l.index (line_of l.line) l.walk k ⊎ (seat_at l.seats k ≡ empty_seat);
-  within : IsWithin l.index (line_of l.line) l.walk;
+  within : IsWithin l.index (line_of l.line) l.runs l.walk;
 }
 
 abbrev pub decreases-loop-no : goal.decreases-loop-no

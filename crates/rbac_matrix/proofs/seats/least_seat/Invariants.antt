@@ -6,7 +6,7 @@ use Rattle.rbac_matrix.proofs.seats.least_seat.Given as goal
 abbrev pub invariant-loop-no : goal.invariant-loop-no
 invariant-loop-no l = record {
   least : IsLeastSoFar l.index (line_of l.line) l.seats l.walk l.place l.number;
-  within : IsWithin l.index (line_of l.line) l.walk;
+  within : IsWithin l.index (line_of l.line) l.runs l.walk;
 }
 
 abbrev pub decreases-loop-no : goal.decreases-loop-no

@@ -7,7 +7,7 @@ use Rattle.rbac_matrix.proofs.LoopLemmas.{cursor_within, taken_keep, taken_more,
 use Rattle.rbac_matrix.proofs.seats.seat_line.Goals as goal
 
 pub loop-no-init : goal.loop-no-init
-loop-no-init c = record { taken = taken_start c.args.index.now (line_of c.args.line) c.args.reaches.now c.args.from c.cursors_of-walk.result c.args.seats.now c.args.meter.now c.requires.empty c.cursors_of-walk.ensures.ahead; within = c.cursors_of-walk.ensures.within }
+loop-no-init c = record { taken = taken_start c.args.index.now (line_of c.args.line) c.args.reaches.now c.args.from c.whole_walk-walk.result c.args.seats.now c.args.meter.now c.requires.empty (c.whole_walk-walk.ensures.ahead c.args.index.now (line_of c.args.line)); within = c.whole_walk-walk.ensures.within c.args.index.now (line_of c.args.line) c.args.runs.now c.requires.runs }
 
 pub slice_copy_out-is_untaken : goal.slice_copy_out-is_untaken
 slice_copy_out-is_untaken c = omega (arith, c.loop-no.invariant.taken.count, cursor_within c.args.index.now (line_of c.args.line) c.in-Some.no c.in-Some.ensures.found.0)

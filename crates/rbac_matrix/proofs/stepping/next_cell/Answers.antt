@@ -24,6 +24,7 @@ loop-line-preserved c =
     let skipped = skips_pass c.args.index.now.held c.args.universe.now c.after.result c.next_line-at.result c.next_line-at.ensures.skips in
     record {
       ready = c.next_line-at.ensures.ready;
+      runs = c.next_line-at.ensures.runs;
       passes = passes_then c.args.index.now.held (cells_left c.args.universe.now c.args.at c.args.from) (cells_left c.args.universe.now c.loop-line.at c.loop-line.from) (cells_left c.args.universe.now c.next_line-at.result 0) [] [] c.loop-line.invariant.passes
           (passes_then c.args.index.now.held (cells_left c.args.universe.now c.loop-line.at c.loop-line.from) (cells_left c.args.universe.now c.after.result 0) (cells_left c.args.universe.now c.next_line-at.result 0) [] [] ended skipped);
       metered = λ start sought given h.

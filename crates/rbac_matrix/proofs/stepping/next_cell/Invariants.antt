@@ -1,4 +1,5 @@
 use Rattle.std.proofs.Common.{ℕ, [], length}
+use Rattle.rbac_matrix.specs.Cursors.{AreRunsAt}
 use Rattle.rbac_matrix.specs.Lines.{lines_from}
 use Rattle.rbac_matrix.specs.Passing.{Passes, cells_left}
 use Rattle.rbac_matrix.specs.Metering.{IsMetered, IsReady}
@@ -8,6 +9,7 @@ use Rattle.rbac_matrix.proofs.stepping.next_cell.Given as goal
 abbrev pub invariant-loop-line : goal.invariant-loop-line
 invariant-loop-line l = record {
   ready : IsReady l.index l.universe l.reaches l.at l.from l.seats;
+  runs : AreRunsAt l.index l.universe l.at l.runs;
   passes : Passes l.index.held (cells_left l.universe l.fn.at l.fn.from) (cells_left l.universe l.at l.from) [];
   metered : (start : Place) (sought given : ℕ) → IsMetered l.index l.universe start sought l.fn.at l.fn.seats given l.fn.meter → IsMetered l.index l.universe start sought l.at l.seats given l.meter;
 }

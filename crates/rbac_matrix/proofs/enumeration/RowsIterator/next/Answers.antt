@@ -73,6 +73,7 @@ returns-clause-going c =
       universe = c.requires.universe;
       reaches = c.requires.reaches;
       ready = f.ready;
+      runs = c.next_cell-found.ensures.runs;
       rows = c.requires.rows + 1;
       is_given = omega (arith, c.saturating_add-self.ensures, c.requires.is_given);
       metered = metered;
