@@ -1,6 +1,6 @@
-"""The least processor time of some runs of a command, in milliseconds.
+"""The least processor time of some runs of a command, in milliseconds; or the most memory of one run, in KiB.
 
-    python3 least.py RUNS COMMAND [WORD]..
+    python3 least.py RUNS|--memory COMMAND [WORD]..
 """
 
 import resource
@@ -8,15 +8,20 @@ import subprocess
 import sys
 
 
-def spent():
-    used = resource.getrusage(resource.RUSAGE_CHILDREN)
-    return used.ru_utime + used.ru_stime
+def used():
+    return resource.getrusage(resource.RUSAGE_CHILDREN)
 
 
 def time_of(command):
-    before = spent()
+    before = used()
     subprocess.run(command, stdout=subprocess.DEVNULL, check=False)
-    return spent() - before
+    after = used()
+    return after.ru_utime + after.ru_stime - before.ru_utime - before.ru_stime
 
 
-print(round(1000 * min(time_of(sys.argv[2:]) for _ in range(int(sys.argv[1])))))
+def main(runs, command):
+    times = [time_of(command) for _ in range(1 if runs == '--memory' else int(runs))]
+    print(used().ru_maxrss if runs == '--memory' else round(1000 * min(times)))
+
+
+main(sys.argv[1], sys.argv[2:])

@@ -26,14 +26,41 @@ measure() {
         "$(python3 -c "print('%.2f' % ($answer / max(1, $json)))")"
 }
 
-# One line for a matrix over an export: its requests, and how many are tested in a second beside loading.
+# The time of `can-i` on an export, in milliseconds.
+ask() {
+    least "$audit" can-i --as nobody@example.com -A get pods "$1"
+}
+
+# One line for a matrix over an export and a universe: its requests and its time.
 measure_matrix() {
     local name=$1 file=$2 universe=$3 requests=$4
-    local load whole
-    load=$(least "$audit" can-i --as nobody@example.com -A get pods "$file" "$universe")
-    whole=$(python3 least.py 3 "$audit" matrix "$file" "$universe")
-    printf '%-44s %9d requests  matrix %7d ms  %s requests a second\n' \
-        "$name" "$requests" "$whole" "$((requests * 1000 / (whole - load + 1)))"
+    printf '%-44s %9d requests  matrix %7d ms\n' "$name" "$requests" "$(least "$audit" matrix "$file" "$universe")"
+}
+
+# One line for the whole matrix that follows from an export: its rows, time and memory, and rows a second beside loading.
+measure_whole() {
+    local name=$1 file=$2
+    local rows whole memory
+    rows=$(($("$audit" matrix "$file" | wc -l) - 1))
+    whole=$(python3 least.py 3 "$audit" matrix "$file")
+    memory=$(python3 least.py --memory "$audit" matrix "$file")
+    printf '%-44s %9d rows  matrix %7d ms  %d rows a second  %d MB\n' \
+        "$name" "$rows" "$whole" "$((rows * 1000 / (whole - $(ask "$file") + 1)))" "$((memory / 1024))"
+}
+
+# One line for pages of 1,000 rows of the whole matrix: the first, and one after a late key.
+measure_pages() {
+    local name=$1 file=$2
+    local late
+    late=$(printf '1\tu:z\t-\tget\t-\tpods\t-' | base64 | tr '/+' '_-' | tr -d '=\n')
+    printf '%-44s can-i %5d ms  first page %5d ms  late page %5d ms\n' "$name" "$(ask "$file")" \
+        "$(least "$audit" matrix --limit 1000 "$file")" "$(least "$audit" matrix --limit 1000 --after "$late" "$file")"
+}
+
+# One line for lint on an export, beside can-i.
+measure_lint() {
+    local name=$1 file=$2
+    printf '%-44s can-i %5d ms  lint %5d ms\n' "$name" "$(ask "$file")" "$(least "$audit" lint "$file")"
 }
 
 for size in "1000 4000 100" "5000 20000 300" "10000 40000 500"; do
@@ -50,4 +77,20 @@ for size in "200 800 20" "1000 4000 100"; do
     python3 generate_export.py $size 1 "$room/export.json" > /dev/null
     requests=$(python3 generate_universe.py "$room/export.json" 50 5 "$room/universe.json")
     measure_matrix "matrix, $size roles, bindings, namespaces" "$room/export.json" "$room/universe.json" "$requests"
+done
+python3 generate_export.py 200 800 20 1 "$room/export.json" > /dev/null
+measure_whole "whole matrix, 200 roles, 800 bindings" "$room/export.json"
+python3 generate_export.py 1000 4000 100 1 "$room/export.json" > /dev/null
+measure_pages "pages, 1000 roles, 4000 bindings" "$room/export.json"
+for size in "4 20 60" "40 20 60" "4 200 60" "4 20 600"; do
+    python3 generate_idle.py $size "$room/idle.json"
+    printf '%-44s matrix %5d ms\n' "verbs, namespaces, resources $size" "$(least "$audit" matrix "$room/idle.json")"
+done
+for size in "1000 4000 100" "5000 20000 300" "10000 40000 500"; do
+    python3 generate_export.py $size 1 "$room/export.json" > /dev/null
+    measure_lint "lint, $size roles, bindings, namespaces" "$room/export.json"
+done
+for words in different equal; do
+    python3 generate_rules.py "$words" 20000 "$room/rules.json"
+    measure_lint "lint, one role of 20000 $words rules" "$room/rules.json"
 done

@@ -1,6 +1,6 @@
 #!/usr/bin/env bash
-# The whole gate: each edit still fits, every proof, must-fail edit and test by `rt ci`, then what only a process can show.
-# The last line counts all three, as `N passed, M failed`.
+# The whole gate: each edit still fits, every proof, must-fail edit and test by `rt ci`, then what only a process can show,
+# and random matrices. The last line counts all four, as `N passed, M failed`.
 set -u
 cd "$(dirname "$0")/.."
 log=$(mktemp)
@@ -22,5 +22,6 @@ counted() {
 counted python3 tests/edits.py
 counted rt ci
 counted python3 tests/program.py
+counted python3 tests/pages.py
 echo "$passed passed, $failed failed"
 [ "$failed" -eq 0 ]

@@ -91,6 +91,7 @@ def streams():
         expect('a folder is no file', ALICE_GETS_PODS + [room], 2, err=b'rbacaudit: file 1: I1 read fault\n')
         expect('a dash is a file as any other', ALICE_GETS_PODS + ['-'], 2, err=b'rbacaudit: file 1: I1 read fault\n',
                given=GRANTED)
+        expect('a bad token before a missing file', ['matrix', '--after', 'MQ', missing], 2, err=b'rbacaudit: U4 bad token\n')
         expect('the file of a bad document', ALICE_GETS_PODS + [roles, put('bad.json', b'[]')], 2,
                err=b'rbacaudit: file 2: M2 not an object\n')
         least = b'{"apiVersion":"v1","kind":"List"}'
@@ -120,16 +121,24 @@ def help_and_usage():
     for command in ('who-can', 'matrix'):
         text = run([command, '--help']).stdout
         told('help of %s has an example' % command, b'rbacaudit %s ' % command.encode() in text, repr(text))
+    for option in (b'--after <TOKEN>', b'--limit <N>'):
+        told('help names %s' % option.decode(), option in run(['matrix', '--help']).stdout)
+    for token in ('', 'MQ==', 'M', 'OQ', 'MQ', 'MQlnOmEJLQktCS0JeAkt='):
+        expect('"%s" is no token' % token, ['matrix', '--after', token], 2, err=b'rbacaudit: U4 bad token\n')
     expect('--version prints name and version', ['--version'], 0, b'rbacaudit 0.1.0\n')
     expect('-V is --version', ['-V'], 0, b'rbacaudit 0.1.0\n')
     expect('a word that is not UTF-8', ['can-i', '--as', b'al\xffce', 'get', 'pods'], 2,
            err=b'rbacaudit: argument 3: not UTF-8\n')
     for words in ([], ['can-i'], ['can-i', 'get', 'pods'], ['who-knows'], ['can-i', '--as', 'alice', '--why', 'get'],
                   ['can-i', '--as', 'a', '--as', 'b', 'get', 'pods'], ['who-can', 'get'],
-                  ['who-can', '--as', 'alice', 'get', 'pods'], ['matrix', '--limit', '1'], ['matrix', '-n', 'dev']):
+                  ['who-can', '--as', 'alice', 'get', 'pods'], ['who-can', '--limit', '1', 'get', 'pods'],
+                  ['matrix', '--limit', '1', '--limit', '1'], ['matrix', '--after', 'MQ', '--after', 'MQ'], ['matrix', '-n', 'dev']):
         ended = run(words)
         told('refused: %s' % (' '.join(words) or 'no words'),
              ended.returncode == 2 and not ended.stdout and b'Usage' in ended.stderr, repr(ended))
+    for limit in ('0', '1000001', '4294967297', '-1', '1.5', 'x', ''):
+        ended = run(['matrix', '--limit=' + limit])
+        told('refused: matrix --limit=%s' % limit, ended.returncode == 2 and not ended.stdout and b'--limit <N>' in ended.stderr, repr(ended))
 
 
 def full_disk():
@@ -194,13 +203,16 @@ def lines(table):
 
 
 def matrices(table):
-    """Matrices of an export, each with its rows or the fault that refuses it."""
+    """Matrices of an export, each with its rows, and pages of them, or the fault that refuses it."""
     for row in table:
         if 'fault' in row:
             wanted = 2, b'', b'rbacaudit: %s\n' % row['fault'].encode()
         else:
             wanted = 0, '\n'.join([*row['rows'], 'end', '']).encode(), b''
         expect('%s matrix' % row['rule'], ['matrix'], *wanted, given=export(*row['items']))
+        for options, page in row.get('pages', []):
+            expect('%s matrix %s' % (row['rule'], options), ['matrix', *options.split(' ')], 0,
+                   ''.join(l + '\n' for l in page).encode(), given=export(*row['items']))
 
 
 def documents(table):

@@ -7,7 +7,7 @@ use std::marker::Model;
 
 /// An entry of an API resource list (Kubernetes API, APIResource). Several entries of one group
 /// and name, of several versions of the group, are about one resource.
-#[derive(Clone, Drop)]
+#[derive(Drop)]
 pub struct Entry {
     /// The API group, empty for the core group.
     pub group: Word,
@@ -24,7 +24,7 @@ pub struct Entry {
 }
 
 /// The entries of an API resource list, in the order given.
-#[derive(Clone, Drop)]
+#[derive(Drop)]
 pub struct Entries {
     entries: Vec<Entry>,
 }

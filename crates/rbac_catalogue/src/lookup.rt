@@ -11,7 +11,7 @@ use std::alloc::{AllocError, Global};
 use std::cmp::Ordering;
 
 /// The resource that a type word means.
-#[derive(Clone, Drop)]
+#[derive(Drop)]
 pub struct Found {
     /// The API group, empty for the core group.
     pub group: Word,

@@ -1,7 +1,9 @@
 pub mod Lines
+pub mod Listings
 pub mod Matrices
 pub mod Named
 pub mod OneAnswer
+pub mod OneListing
 pub mod OneMeant
 pub mod OneReason
 pub mod OneRun

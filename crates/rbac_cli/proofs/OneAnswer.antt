@@ -1,7 +1,6 @@
 -- What an action means is one text and one status.
 use Rattle.std.proofs.Common.{◌≡◌, ◌∙◌, ◌↔◌, ℕ, List, [], ◌∷◌, ◌++◌, map, inl, inr, Contains, get_or, Less, arith, ap, sym, subst, refl, codes}
 use Rattle.std.specs.Prelude.{Option, Some, None}
-use Rattle.std.specs.List.{flat_map}
 use Rattle.std.proofs.lemmas.List.{append_cancel_left}
 use Rattle.rbac_terms.specs.Text.{Text}
 use Rattle.rbac_terms.specs.Keys.{KeyTexts, texts}
@@ -23,16 +22,16 @@ use Rattle.rbac_universe.specs.Sets.{AreSets}
 use Rattle.rbac_universe.proofs.Flattened.{contains_map, map_contains, pairs_map}
 use Rattle.rbac_universe.proofs.OneMore.{as_any}
 use Rattle.rbac_universe.proofs.OneUniverse.{one_sets}
-use Rattle.rbac_text.specs.Row.{row_text}
-use Rattle.rbac_matrix.specs.Printed.{rows_text}
 use Rattle.rbac_index.proofs.OneHolders.{one_holders}
 use Rattle.rbac_manifest.specs.Load.{LoadedView}
+use Rattle.rbac_lint.proofs.OneLines.{one_findings}
 use Rattle.rbac_question.specs.declared.command.Action.{Action}
-use Rattle.rbac_question.specs.declared.command.Action.TheVariants.{CanI, WhoCan, Matrix}
+use Rattle.rbac_question.specs.declared.command.Action.TheVariants.{CanI, WhoCan, Matrix, Lint}
 use Rattle.rbac_question.specs.declared.command.Question.{Question}
-use Rattle.rbac_cli.specs.Out.{Answers, IsAllowed, IsDenied, AreHoldersMeant, holders_text, line, line_unless}
+use Rattle.rbac_cli.specs.Out.{Answers, IsAllowed, IsDenied, AreHoldersMeant, holders_text, findings_text, findings_status, line_unless}
 use Rattle.rbac_cli.specs.declared.ending.Status.{Status}
 use Rattle.rbac_matrix.proofs.OneMatrix.{key_name, by_keys}
+use Rattle.rbac_cli.proofs.OneListing.{Line, line_of, one_listing}
 use Rattle.rbac_cli.proofs.OneMeant.{one_meant}
 use Rattle.rbac_cli.proofs.OneReason.{one_reason}
 
@@ -122,12 +121,6 @@ alike_there listed ps qs m n p inp = let (q, inq, e) = there listed ps qs m n p 
 
 -- ---- the matrices of such universes print alike
 
-abbrev Line : Type 0
-Line = KeyTexts × Binding
-
-abbrev line_of : RowView → Line
-line_of row = (cell_key row.cell, row.binding)
-
 abbrev line_name : Line → List Text
 line_name l = texts l.0
 
@@ -168,17 +161,6 @@ one_lines held lists u v rows others m n x y =
     one_list line_name (map line_of rows) (map line_of others) (lines_ascend rows (by_keys held u rows x)) (lines_ascend others (by_keys held v others y))
     (line_there held lists u v m n rows others x y) (line_there held lists v u n m others rows y x)
 
-abbrev lines_text : List Line → List ℕ
-lines_text ls = flat_map (λ l. row_text l.0 l.1) ls
-
-as_lines : (rows : List RowView) → rows_text rows ≡ lines_text (map line_of rows)
-as_lines [] = refl
-as_lines (row ∷ rows) = ap (λ (t : List ℕ). row_text (cell_key row.cell) row.binding ++ t) (as_lines rows)
-
-one_text : (held : Held) (lists : UniverseLists) (u v : UniverseView) (rows others : List RowView) → AreSets lists u → AreSets lists v
-    → IsMatrix held u rows → IsMatrix held v others → rows_text rows ≡ rows_text others
-one_text held lists u v rows others m n x y = as_lines rows ∙ ap lines_text (one_lines held lists u v rows others m n x y) ∙ sym (as_lines others)
-
 -- ---- the holders are one list
 
 one_holders_meant : (held : Held) (entries : List Entry) (q : Question) (xs ys : List HolderView) → AreHoldersMeant held entries q xs
@@ -205,7 +187,10 @@ one_answer l (CanI who quiet why q) text other status ending (inr a) (inl b) = a
 one_answer l (CanI who quiet why q) text other status ending (inr a) (inr b) = (a.1 ∙ sym b.1, a.2 ∙ sym b.2)
 one_answer l (WhoCan q) text other status ending (xs, are, e, s) (ys, others, f, t) =
     (e ∙ ap holders_text (one_holders_meant l.policy.held l.catalogue.entries q xs ys are others) ∙ sym f, s ∙ sym t)
-one_answer l Matrix text other status ending (u, rows, m, x, e, s) (v, others, n, y, f, t) = (
-  e ∙ ap (λ (ls : List ℕ). ls ++ line (codes "end")) (one_text l.policy.held l.lists u v rows others m.sets n.sets x y) ∙ sym f,
+one_answer l (Matrix after limit) text other status ending (u, rows, m, x, e, s) (v, others, n, y, f, t) = (
+  e ∙ one_listing after limit rows others (one_lines l.policy.held l.lists u v rows others m.sets n.sets x y) ∙ sym f,
   s ∙ sym t,
 )
+one_answer l Lint text other status ending (found, are, e, s) (others, these, f, t) =
+    let one = one_findings l.policy.held l.replaced found others are these in
+    (e ∙ ap findings_text one ∙ sym f, s ∙ ap findings_status one ∙ sym t)

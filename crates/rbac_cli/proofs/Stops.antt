@@ -1,32 +1,28 @@
 -- From printed text to written text.
-use Rattle.std.proofs.Common.{◌≡◌, ◌∙◌, ℕ, List, [], Option, inl, inr, refl, sym, subst, ap, append-nil, codes}
+use Rattle.std.proofs.Common.{◌≡◌, ◌∙◌, ℕ, List, [], Option, inl, inr, refl, sym, subst, ap, append-nil}
 use Rattle.rbac_streams.specs.Streams.{SinkView, PageView}
-use Rattle.rbac_streams.specs.Taken.{Took, Printed, Prints, Stopped, StopsIn}
+use Rattle.rbac_streams.specs.Taken.{Took, Printed, Stopped, StopsIn}
 use Rattle.rbac_streams.specs.declared.page.PrintFault.{PrintFault}
 use Rattle.rbac_streams.specs.declared.page.PrintFault.TheVariants.{SinkFailed, NoMemory}
-use Rattle.rbac_streams.proofs.TakenLemmas.{Stops-after}
+use Rattle.rbac_terms.specs.Keys.{KeyTexts}
 use Rattle.rbac_model.specs.Policies.{Held}
 use Rattle.rbac_model.specs.Universes.{UniverseView, RowView, IsMatrix}
-use Rattle.rbac_matrix.specs.Printed.{rows_text, StopsInMatrix}
 use Rattle.rbac_matrix.proofs.OneMatrix.{one_matrix}
-use Rattle.rbac_matrix.proofs.Within.{within_of, within_more}
+use Rattle.rbac_matrix.proofs.Within.{within_of}
 use Rattle.rbac_manifest.specs.Load.{LoadedView}
 use Rattle.rbac_question.specs.declared.command.Action.{Action}
-use Rattle.rbac_question.specs.declared.command.Action.TheVariants.{CanI, WhoCan, Matrix}
-use Rattle.rbac_cli.specs.Out.{Answers, line, matrix_text}
+use Rattle.rbac_question.specs.declared.command.Action.TheVariants.{CanI, WhoCan, Matrix, Lint}
+use Rattle.rbac_cli.specs.Out.{Answers, listing_text}
 use Rattle.rbac_cli.specs.declared.ending.Status.{Status}
 use Rattle.rbac_cli.specs.declared.ending.RunFault.{RunFault}
 use Rattle.rbac_cli.specs.declared.ending.RunFault.TheVariants.{Load, Universe, Memory, Write}
 use Rattle.rbac_cli.specs.Ends.{WritesFront}
-use Rattle.rbac_cli.specs.Printing.{StopsInListing, StopsInAnswer, StopsPrinting, StopsWith, IsUntouched, fault_at}
+use Rattle.rbac_cli.specs.Printing.{StopsInAnswer, StopsPrinting, StopsWith, IsUntouched, fault_at}
 use Rattle.rbac_cli.proofs.Matrices.{front_of_text}
 
--- the lines of the matrix, without the last line and with it
-abbrev IsRowsText : Held → UniverseView → List ℕ → Type 0
-IsRowsText held u text = (rows : List RowView) × IsMatrix held u rows × (text ≡ rows_text rows)
-
-abbrev IsMatrixText : Held → UniverseView → List ℕ → Type 0
-IsMatrixText held u text = (rows : List RowView) × IsMatrix held u rows × (text ≡ matrix_text rows)
+-- the page of the matrix
+abbrev pub IsListing : Option KeyTexts → Option ℕ → Held → UniverseView → List ℕ → Type 0
+IsListing k limit held u text = (rows : List RowView) × IsMatrix held u rows × (text ≡ listing_text k limit rows)
 
 module _ {W : Type 0} (contents : W → Option (List ℕ)) where
   as_front : (s t : SinkView W) (p : PageView) (l : LoadedView) (action : Action) (text : List ℕ) (status : Status) (n : ℕ) → n ≡ p.written
@@ -44,11 +40,12 @@ module _ {W : Type 0} (contents : W → Option (List ℕ)) where
       → Answers l action text status → StopsIn contents s p t q text → StopsInAnswer contents s p t q l action
   stops_in_text s t p q l (CanI who quiet why question) text status a f = (text, status, a, f)
   stops_in_text s t p q l (WhoCan question) text status a f = (text, status, a, f)
-  stops_in_text s t p q l Matrix text status (u, rows, is_universe, matrix, same, zero) f = (
+  stops_in_text s t p q l Lint text status a f = (text, status, a, f)
+  stops_in_text s t p q l (Matrix k limit) text status (u, rows, is_universe, matrix, same, zero) f = (
     u,
     is_universe,
-    within_of contents s t p q text (IsMatrixText l.policy.held u) f
-        (λ more (others, other, e). ([], e ∙ ap matrix_text (one_matrix l.policy.held u others rows other matrix) ∙ sym same ∙ sym (append-nil text))),
+    within_of contents s t p q text (IsListing k limit l.policy.held u) f
+        (λ more (others, other, e). ([], e ∙ ap (listing_text k limit) (one_matrix l.policy.held u others rows other matrix) ∙ sym same ∙ sym (append-nil text))),
   )
 
   -- stopped while it was printed
@@ -63,9 +60,10 @@ module _ {W : Type 0} (contents : W → Option (List ℕ)) where
   within s t p q l (CanI who quiet why question) n printed e (text, status, a, f) =
       as_front s t q l (CanI who quiet why question) text status n e a (f s [] printed)
   within s t p q l (WhoCan question) n printed e (text, status, a, f) = as_front s t q l (WhoCan question) text status n e a (f s [] printed)
-  within s t p q l Matrix n printed e (u, is_universe, f) = let stop = f s [] printed in (
+  within s t p q l Lint n printed e (text, status, a, f) = as_front s t q l Lint text status n e a (f s [] printed)
+  within s t p q l (Matrix k limit) n printed e (u, is_universe, f) = let stop = f s [] printed in (
     stop.front,
-    (u, is_universe, λ rows matrix. stop.begins (matrix_text rows) (rows, matrix, refl)),
+    (u, is_universe, λ rows matrix. stop.begins (listing_text k limit rows) (rows, matrix, refl)),
     stop.took,
     e ∙ stop.written,
   )
@@ -81,15 +79,3 @@ module _ {W : Type 0} (contents : W → Option (List ℕ)) where
     stopped (Memory n) (e, inl u) = inl (untaken u, e ∙ ap (λ (x : PageView). x.written) u.1 ∙ empty)
     stopped (Memory n) (e, inr h) = inr (within s t p q l action n printed e h)
     stopped (Write n) (e, h) = within s t p q l action n printed e h
-
-  -- ---- the lines of a matrix
-
-  pub stopped_in_rows : (s t : SinkView W) (p q : PageView) (held : Held) (u : UniverseView) → StopsInMatrix contents s p t q held u → StopsInListing contents s p t q held u
-  stopped_in_rows s t p q held u f =
-      within_more contents s t p q (IsRowsText held u) (IsMatrixText held u) f (λ more (rows, matrix, e). (rows_text rows, (rows, matrix, refl), (line (codes "end"), e)))
-
-  pub stopped_in_end : (s t v : SinkView W) (p q r : PageView) (held : Held) (u : UniverseView) (rows : List RowView) → IsMatrix held u rows
-      → Prints contents s p t q (rows_text rows) → StopsIn contents t q v r (line (codes "end")) → StopsInListing contents s p v r held u
-  stopped_in_end s t v p q r held u rows matrix f g =
-      within_of contents s v p r (matrix_text rows) (IsMatrixText held u) (Stops-after contents s t v p q r (rows_text rows) (line (codes "end")) f g)
-      (λ more (others, other, e). ([], e ∙ ap matrix_text (one_matrix held u others rows other matrix) ∙ sym (append-nil (matrix_text rows))))

@@ -6,7 +6,7 @@ use Rattle.rbac_universe.specs.declared.fault.UniverseFault.{UniverseFault}
 use Rattle.rbac_universe.specs.declared.fault.UniverseFault.TheVariants as universe
 use Rattle.rbac_manifest.specs.Load.{LoadedView, IsLoaded, HasFault}
 use Rattle.rbac_question.specs.declared.command.Action.{Action}
-use Rattle.rbac_question.specs.declared.command.Action.TheVariants.{CanI, WhoCan, Matrix}
+use Rattle.rbac_question.specs.declared.command.Action.TheVariants.{CanI, WhoCan, Matrix, Lint}
 use Rattle.rbac_question.specs.declared.command.Command.{Command}
 use Rattle.rbac_cli.specs.Out.{Answers, IsFrontOfAnswer}
 use Rattle.rbac_cli.specs.declared.ending.Status.{Status}
@@ -29,7 +29,8 @@ WritesNothing took n = took [] × (n ≡ 0)
 abbrev pub LacksUniverse : LoadedView → Action → UniverseFault → Type 0
 LacksUniverse l (CanI who quiet why q) fault = ⊥
 LacksUniverse l (WhoCan q) fault = ⊥
-LacksUniverse l Matrix fault = HasUniverseFault l.lists fault × (fault ≢ universe.NoMemory)
+LacksUniverse l Lint fault = ⊥
+LacksUniverse l (Matrix after limit) fault = HasUniverseFault l.lists fault × (fault ≢ universe.NoMemory)
 
 -- the inputs are loaded, and what the command means over them is written
 abbrev pub Succeeds : (List ℕ → Type 0) → Command → List (List ℕ) → Status → Type 0

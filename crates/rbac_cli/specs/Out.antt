@@ -1,20 +1,24 @@
 -- What a command writes, and its status.
-use Rattle.std.specs.Prelude.{◌≡◌, ℕ, ◌⊎◌, Bool, true, false, List, [], ◌∷◌, ◌++◌, codes}
+use Rattle.std.specs.Prelude.{◌≡◌, ℕ, ◌⊎◌, Bool, true, false, List, [], ◌∷◌, ◌++◌, codes, Option}
 use Rattle.std.specs.List.{flat_map}
 use Rattle.rbac_terms.specs.Text.{Text, BeginsWith}
 use Rattle.rbac_terms.specs.Targets.{What}
 use Rattle.rbac_terms.specs.Principals.{Who}
+use Rattle.rbac_terms.specs.Keys.{KeyTexts}
 use Rattle.rbac_model.specs.Policies.{Held, Allows, PolicyView, GrantView, IsWhy}
-use Rattle.rbac_model.specs.Universes.{UniverseView, RowView, IsMatrix}
+use Rattle.rbac_model.specs.Universes.{UniverseView, RowView, IsMatrix, rows_after}
 use Rattle.rbac_model.specs.Holders.{HolderView, AreHolders}
 use Rattle.rbac_catalogue.specs.declared.entry.Entry.{Entry}
 use Rattle.rbac_universe.specs.Sets.{IsUniverseOf}
 use Rattle.rbac_text.specs.Row.{holder_text}
 use Rattle.rbac_text.specs.Why.{why_text}
-use Rattle.rbac_matrix.specs.Printed.{rows_text}
+use Rattle.rbac_text.specs.Finding.{finding_text}
+use Rattle.rbac_matrix.specs.Pages.{cut_at, page_text}
 use Rattle.rbac_manifest.specs.Load.{LoadedView}
+use Rattle.rbac_lint.specs.declared.finding.Finding.{Finding}
+use Rattle.rbac_lint.specs.Findings.{AreFindings}
 use Rattle.rbac_question.specs.declared.command.Action.{Action}
-use Rattle.rbac_question.specs.declared.command.Action.TheVariants.{CanI, WhoCan, Matrix}
+use Rattle.rbac_question.specs.declared.command.Action.TheVariants.{CanI, WhoCan, Matrix, Lint}
 use Rattle.rbac_question.specs.declared.command.Question.{Question}
 use Rattle.rbac_cli.specs.Meant.{IsMeant}
 use Rattle.rbac_cli.specs.declared.ending.Status.{Status}
@@ -61,12 +65,23 @@ AreHoldersMeant held entries q xs =
 abbrev pub holders_text : List HolderView → List ℕ
 holders_text xs = flat_map (λ x. holder_text x.key x.binding) xs
 
--- the lines of a matrix, and a last one that says that it is whole (own)
-abbrev pub matrix_text : List RowView → List ℕ
-matrix_text rows = rows_text rows ++ line (codes "end")
+-- of the rows of a matrix those whose key is greater than this one, cut at the limit, each on a line, and a last line that says whether
+-- more follow (own); with a limit n, `cut_at` of them is `page k n rows`
+abbrev pub listing_text : Option KeyTexts → Option ℕ → List RowView → List ℕ
+listing_text k limit rows = page_text (cut_at limit (rows_after k rows))
+
+-- a line for each finding, in order
+abbrev pub findings_text : List Finding → List ℕ
+findings_text found = flat_map (λ f. finding_text f.code f.object f.place f.other) found
+
+-- 1 where something is found (own)
+abbrev pub findings_status : List Finding → Status
+findings_status [] = Zero
+findings_status (f ∷ found) = One
 
 -- the text and the status that an action means over what was loaded: `can-i` answers `yes` and 0 or `no` and 1 (kubectl auth can-i);
--- `who-can` answers a line for each holder, and 0; `matrix` the matrix of a universe of the lists, and 0 (own)
+-- `who-can` answers a line for each holder, and 0; `matrix` a page of the matrix of a universe of the lists, and 0 (own);
+-- `lint` a line for each finding, and 1 where there is one (own)
 abbrev pub Answers : LoadedView → Action → List ℕ → Status → Type 0
 Answers l (CanI who quiet why q) text status =
     (IsAllowed l.policy.held l.catalogue.entries who q
@@ -75,14 +90,18 @@ Answers l (CanI who quiet why q) text status =
     ⊎ (IsDenied l.policy.held l.catalogue.entries who q × (text ≡ line_unless quiet (codes "no")) × (status ≡ One))
 Answers l (WhoCan q) text status =
     (xs : List HolderView) × AreHoldersMeant l.policy.held l.catalogue.entries q xs × (text ≡ holders_text xs) × (status ≡ Zero)
-Answers l Matrix text status =
+Answers l (Matrix after limit) text status =
     (u : UniverseView) × (rows : List RowView) × IsUniverseOf l.lists u × IsMatrix l.policy.held u rows
-    × (text ≡ matrix_text rows) × (status ≡ Zero)
+    × (text ≡ listing_text after limit rows) × (status ≡ Zero)
+Answers l Lint text status =
+    (found : List Finding) × AreFindings l.policy.held l.replaced found × (text ≡ findings_text found) × (status ≡ findings_status found)
 
--- a front of the text that the action means: of a verdict's, of the holders', or, for a universe of the lists, of whichever rows are its matrix
+-- a front of the text that the action means: of a verdict's, of the holders', of the findings', or, for a universe of the lists, of whichever rows are its matrix
 abbrev pub IsFrontOfAnswer : LoadedView → Action → List ℕ → Type 0
 IsFrontOfAnswer l (CanI who quiet why q) front =
     (text : List ℕ) × (status : Status) × Answers l (CanI who quiet why q) text status × BeginsWith text front
 IsFrontOfAnswer l (WhoCan q) front = (text : List ℕ) × (status : Status) × Answers l (WhoCan q) text status × BeginsWith text front
-IsFrontOfAnswer l Matrix front =
-    (u : UniverseView) × IsUniverseOf l.lists u × ((rows : List RowView) → IsMatrix l.policy.held u rows → BeginsWith (matrix_text rows) front)
+IsFrontOfAnswer l (Matrix after limit) front =
+    (u : UniverseView) × IsUniverseOf l.lists u
+    × ((rows : List RowView) → IsMatrix l.policy.held u rows → BeginsWith (listing_text after limit rows) front)
+IsFrontOfAnswer l Lint front = (text : List ℕ) × (status : Status) × Answers l Lint text status × BeginsWith text front

@@ -1,5 +1,6 @@
 -- How printing an answer ends, on the way to writing it.
 use Rattle.std.specs.Prelude.{◌≡◌, ℕ, ◌⊎◌, Bool, true, false, List, [], Option, Result, Ok, Err}
+use Rattle.rbac_terms.specs.Keys.{KeyTexts}
 use Rattle.rbac_model.specs.Policies.{Held}
 use Rattle.rbac_model.specs.Universes.{UniverseView, RowView, IsMatrix}
 use Rattle.rbac_streams.specs.Streams.{SinkView, PageView}
@@ -10,36 +11,38 @@ use Rattle.rbac_universe.specs.Sets.{IsUniverseOf}
 use Rattle.rbac_matrix.specs.Printed.{StopsWithin}
 use Rattle.rbac_manifest.specs.Load.{LoadedView}
 use Rattle.rbac_question.specs.declared.command.Action.{Action}
-use Rattle.rbac_question.specs.declared.command.Action.TheVariants.{CanI, WhoCan, Matrix}
-use Rattle.rbac_cli.specs.Out.{Answers, matrix_text}
+use Rattle.rbac_question.specs.declared.command.Action.TheVariants.{CanI, WhoCan, Matrix, Lint}
+use Rattle.rbac_cli.specs.Out.{Answers, listing_text}
 use Rattle.rbac_cli.specs.Ends.{WritesFront, WritesNothing, LacksUniverse}
 use Rattle.rbac_cli.specs.declared.ending.Status.{Status}
 use Rattle.rbac_cli.specs.declared.ending.RunFault.{RunFault}
 use Rattle.rbac_cli.specs.declared.ending.RunFault.TheVariants.{Load, Universe, Memory, Write}
 
--- the lines of a matrix and the last line were printed
-abbrev pub PrintsListing : {W : Type 0} → (W → Option (List ℕ)) → SinkView W → PageView → SinkView W → PageView → Held → UniverseView → Type 0
-PrintsListing contents old page new after held u =
-    (rows : List RowView) × IsMatrix held u rows × Prints contents old page new after (matrix_text rows)
+-- a page of the matrix was printed: what comes after the key, cut at the limit, and the last line
+abbrev pub PrintsListing : {W : Type 0} → (W → Option (List ℕ)) → SinkView W → PageView → SinkView W → PageView → Option KeyTexts → Option ℕ → Held → UniverseView → Type 0
+PrintsListing contents old page new after k limit held u =
+    (rows : List RowView) × IsMatrix held u rows × Prints contents old page new after (listing_text k limit rows)
 
--- printing stopped within them
-abbrev pub StopsInListing : {W : Type 0} → (W → Option (List ℕ)) → SinkView W → PageView → SinkView W → PageView → Held → UniverseView → Type 0
-StopsInListing contents old page new after held u =
-    StopsWithin contents old page new after (λ more. (rows : List RowView) × IsMatrix held u rows × (more ≡ matrix_text rows))
+-- printing stopped within it
+abbrev pub StopsInListing : {W : Type 0} → (W → Option (List ℕ)) → SinkView W → PageView → SinkView W → PageView → Option KeyTexts → Option ℕ → Held → UniverseView → Type 0
+StopsInListing contents old page new after k limit held u =
+    StopsWithin contents old page new after (λ more. (rows : List RowView) × IsMatrix held u rows × (more ≡ listing_text k limit rows))
 
 -- more text was printed, one that the action means over what was loaded
 abbrev pub PrintsAnswer : {W : Type 0} → (W → Option (List ℕ)) → SinkView W → PageView → SinkView W → PageView → LoadedView → Action → Status → Type 0
 PrintsAnswer contents old page new after l action status =
     (text : List ℕ) × Answers l action text status × Prints contents old page new after text
 
--- printing stopped within such a text: a verdict's, the holders', or, for a universe of the lists, the lines of its matrix
+-- printing stopped within such a text: a verdict's, the holders', the findings', or, for a universe of the lists, the page of its matrix
 abbrev pub StopsInAnswer : {W : Type 0} → (W → Option (List ℕ)) → SinkView W → PageView → SinkView W → PageView → LoadedView → Action → Type 0
 StopsInAnswer contents old page new after l (CanI who quiet why q) =
     (text : List ℕ) × (status : Status) × Answers l (CanI who quiet why q) text status × StopsIn contents old page new after text
 StopsInAnswer contents old page new after l (WhoCan q) =
     (text : List ℕ) × (status : Status) × Answers l (WhoCan q) text status × StopsIn contents old page new after text
-StopsInAnswer contents old page new after l Matrix =
-    (u : UniverseView) × IsUniverseOf l.lists u × StopsInListing contents old page new after l.policy.held u
+StopsInAnswer contents old page new after l Lint =
+    (text : List ℕ) × (status : Status) × Answers l Lint text status × StopsIn contents old page new after text
+StopsInAnswer contents old page new after l (Matrix k limit) =
+    (u : UniverseView) × IsUniverseOf l.lists u × StopsInListing contents old page new after k limit l.policy.held u
 
 -- nothing was printed
 abbrev pub IsUntouched : {W : Type 0} → SinkView W → PageView → SinkView W → PageView → Type 0

@@ -6,6 +6,7 @@ ghost use Rattle.rbac_cli.specs.Printing.{PrintsAnswer, StopsPrinting};
 
 use crate::can_i::{print_told, told_of};
 use crate::ending::{RunFault, Status};
+use crate::lint::print_findings;
 use crate::matrix::print_listing;
 use crate::who_can::print_holders;
 use rbac_manifest::Loaded;
@@ -38,6 +39,9 @@ pub(crate) fn print_answer<W: Write + Drop>(
             print_told(told, sink, page)
         }
         Action::WhoCan { question } => print_holders(alloc, loaded, question, sink, page),
-        Action::Matrix => print_listing(alloc, loaded, sink, page),
+        Action::Matrix { after, limit } => {
+            print_listing(alloc, loaded, after.as_ref(), *limit, sink, page)
+        }
+        Action::Lint => print_findings(alloc, loaded, sink, page),
     }
 }

@@ -12,7 +12,7 @@ use std::fmt;
 /// The exit status of a run that told its answer.
 #[derive(Clone, Copy, Debug, PartialEq, Eq)]
 pub enum Status {
-    /// 0: `yes`, all holders, or a whole matrix.
+    /// 0: `yes`, all holders, or a page of the matrix.
     Zero,
     /// 1: `no`.
     One,

@@ -8,6 +8,7 @@ mod asking;
 mod can_i;
 mod ending;
 mod laws;
+mod lint;
 mod matrix;
 mod running;
 mod who_can;

@@ -1,40 +1,48 @@
 //! The matrix, as an answer.
 
-ghost use Rattle.std.specs.Prelude.{◌≡◌, ◌≢◌, false, IfOk, IfErr, OnOk, OnErr, MatchResult};
+ghost use Rattle.std.specs.Prelude.{◌≡◌, ◌≢◌, length, false, IfOk, IfErr, OnOk, OnErr, MatchResult};
+ghost use Rattle.std.specs.Option.{option_copied};
 ghost use Rattle.rbac_universe.specs.Sets.{IsUniverseOf, HasFault};
-ghost use Rattle.rbac_question.specs.declared.command.Action.TheVariants.{Matrix};
+ghost use Rattle.rbac_index.specs.Reaches.{AreReaches};
+ghost use Rattle.rbac_question.specs.declared.command.Action.TheVariants.{Matrix as ListsMatrix};
 ghost use Rattle.rbac_cli.specs.Ends.{is_write_fault};
 ghost use Rattle.rbac_cli.specs.Printing.{PrintsAnswer, StopsPrinting, PrintsListing, StopsInListing, fault_at, is_sink_fault};
 
 use crate::ending::{RunFault, Status, fault_of};
+use rbac_index::{Index, IndexFault, Reach, reaches_of};
 use rbac_manifest::Loaded;
-use rbac_matrix::print_matrix;
+use rbac_matrix::{Matrix, Seat, a_matrix_is_there, print_page};
 use rbac_model::Policy;
 use rbac_streams::{Page, PrintFault, Sink};
+use rbac_terms::Key;
 use rbac_universe::{Universe, UniverseFault};
-use std::alloc::Global;
+use std::alloc::{AllocError, Global};
 use std::io::Write;
 
-// What tells that a matrix is whole.
-const LAST_LINE: &[u8] = b"end\n";
-
-/// Prints the matrix of what was loaded, and after it a line that says that it is whole.
+/// Prints a page of the matrix of what was loaded: a line for each row whose key is greater than
+/// `after`, at most as many as the limit says, and a last line that says whether more follow.
 pub(crate) fn print_listing<W: Write + Drop>(
     alloc: Global,
     loaded: &Loaded,
+    after: Option<&Key>,
+    limit: Option<u32>,
     sink: &mut Sink<W>,
     page: &mut Page,
 ) -> Result<Status, RunFault>
     requires { sink.old.has_failed ≡ false }
-    ensures ok { IfOk result (PrintsAnswer W.contents sink.old page.old sink.new page.new loaded.now Matrix) }
-    ensures err { IfErr result (StopsPrinting W.contents sink.old page.old sink.new page.new loaded.now Matrix) }
+    ensures ok { IfOk result (PrintsAnswer W.contents sink.old page.old sink.new page.new loaded.now (ListsMatrix (option_copied after.entry) limit)) }
+    ensures err { IfErr result (StopsPrinting W.contents sink.old page.old sink.new page.new loaded.now (ListsMatrix (option_copied after.entry) limit)) }
     ensures failed { sink.new.has_failed ≡ is_write_fault result }
 {
-    let universe = match universe_of(alloc, loaded) {
-        Ok(universe) => universe,
+    let lent = match lent_by(alloc, loaded) {
+        Ok(lent) => lent,
         Err(fault) => return Err(unmade(page, fault)),
     };
-    match print_rows(alloc, loaded.policy(), &universe, sink, page) {
+    let mut seats = match seats_for(alloc, &lent.index) {
+        Ok(seats) => seats,
+        Err(_) => return Err(fault_of(page, PrintFault::NoMemory)),
+    };
+    match print_rows(alloc, &lent, seats.as_mut_slice(), after, limit, sink, page) {
         Ok(()) => Ok(Status::Zero),
         Err(fault) => Err(fault_of(page, fault)),
     }
@@ -51,29 +59,69 @@ fn unmade(page: &Page, fault: UniverseFault) -> RunFault
     }
 }
 
-// The universe of the lists that were loaded.
-fn universe_of(alloc: Global, loaded: &Loaded) -> Result<Universe, UniverseFault>
-    ensures { MatchResult result (IsUniverseOf loaded.now.lists) (HasFault loaded.now.lists) }
-{
-    let lists = loaded.lists(alloc)?;
-    Universe::build(alloc, &lists)
+// What a matrix borrows: a universe, an index, and the reach of each grant.
+#[derive(Drop)]
+struct Lent<'p> {
+    universe: Universe,
+    index: Index<'p>,
+    reaches: Vec<Reach>,
 }
 
-// Prints the rows of the matrix and the last line.
+// What the matrix of what was loaded borrows.
+fn lent_by(alloc: Global, loaded: &Loaded) -> Result<Lent<'_>, UniverseFault>
+    ensures universe { MatchResult result (λ lent. IsUniverseOf loaded.now.lists lent.universe) (HasFault loaded.now.lists) }
+    ensures index { IfOk result (λ lent. lent.index ≡ loaded.now.policy) }
+    ensures reaches { IfOk result (λ lent. AreReaches lent.index lent.universe lent.reaches.items) }
+{
+    let lists = loaded.lists(alloc)?;
+    let universe = Universe::build(alloc, &lists)?;
+    match lent_for(alloc, loaded.policy(), universe) {
+        Ok(lent) => Ok(lent),
+        Err(_) => Err(UniverseFault::NoMemory),
+    }
+}
+
+// What the matrix of a policy over a universe borrows.
+fn lent_for(alloc: Global, policy: &Policy, universe: Universe) -> Result<Lent<'_>, IndexFault>
+    ensures universe { IfOk result (λ lent. lent.universe ≡ universe) }
+    ensures index { IfOk result (λ lent. lent.index ≡ policy.now) }
+    ensures reaches { IfOk result (λ lent. AreReaches lent.index lent.universe lent.reaches.items) }
+{
+    let index = Index::build(alloc, policy)?;
+    let reaches = reaches_of(alloc, &index, &universe)?;
+    Ok(Lent {
+        universe,
+        index,
+        reaches,
+    })
+}
+
+// A seat for each grant.
+fn seats_for(alloc: Global, index: &Index<'_>) -> Result<Vec<Seat>, AllocError>
+    ensures { IfOk result (λ seats. length seats.items ≡ length index.now.grants) }
+{
+    vec![in alloc; Seat::new(); index.len() as usize]
+}
+
+// Prints the rows of a page and its last line.
 fn print_rows<W: Write + Drop>(
     alloc: Global,
-    policy: &Policy,
-    universe: &Universe,
+    lent: &Lent<'_>,
+    seats: &mut [Seat],
+    after: Option<&Key>,
+    limit: Option<u32>,
     sink: &mut Sink<W>,
     page: &mut Page,
 ) -> Result<(), PrintFault>
-    requires { sink.old.has_failed ≡ false }
-    ensures ok { OnOk result (PrintsListing W.contents sink.old page.old sink.new page.new policy.now.held universe.now) }
-    ensures err { OnErr result (StopsInListing W.contents sink.old page.old sink.new page.new policy.now.held universe.now) }
+    requires works { sink.old.has_failed ≡ false }
+    requires reaches { AreReaches lent.now.index lent.now.universe lent.now.reaches.items }
+    requires seats { length seats.old ≡ length lent.now.index.grants }
+    ensures ok { OnOk result (PrintsListing W.contents sink.old page.old sink.new page.new (option_copied after.entry) limit lent.now.index.held lent.now.universe) }
+    ensures err { OnErr result (StopsInListing W.contents sink.old page.old sink.new page.new (option_copied after.entry) limit lent.now.index.held lent.now.universe) }
     ensures failed { sink.new.has_failed ≡ is_sink_fault result }
 {
-    match print_matrix(alloc, policy, universe, sink, page) {
-        Ok(()) => page.print(sink, LAST_LINE),
-        Err(fault) => Err(fault),
-    }
+    a_matrix_is_there();
+    let mut matrix = Matrix::build(&lent.index, &lent.universe, lent.reaches.as_slice(), seats);
+    let mut rows = matrix.rows_after(after);
+    print_page(alloc, &mut rows, limit, sink, page)
 }

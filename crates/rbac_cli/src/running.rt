@@ -15,6 +15,10 @@ use std::io::Write;
 
 /// Loads the inputs, answers the command over them and writes the answer.
 ///
+/// For a matrix it writes exactly one line for each request of the universe that is allowed and
+/// whose key is greater than the token's, in order of keys, each with the first binding that grants
+/// it, cut at the limit, and last a line that says whether more follow.
+///
 /// Refused are inputs that [`load`] refuses, and for a matrix those whose lists make no universe;
 /// nothing is written then. Where memory was refused or a write failed, what was written is a front
 /// of the answer, and the fault tells its length.

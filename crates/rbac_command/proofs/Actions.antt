@@ -3,37 +3,41 @@ use Rattle.std.proofs.Common.{◌≡◌, ◌∙◌, refl, sym, subst, inl, inr, 
 use Rattle.std.specs.Prelude.{◌||◌}
 use Rattle.std.specs.Str.{bytes_eq}
 use Rattle.std.proofs.lemmas.Slice.Eq.{bytes_eq-Decides}
-use Rattle.clap.specs.Words.{Row, Text}
-use Rattle.rbac_question.specs.Lines.{QuestionParts, CanIParts, MeansCanI, MeansWhoCan, AcceptsCanI, AcceptsQuestion, RefusesCanI, RefusesQuestion}
+use Rattle.clap.specs.Words.{Row, Text, first_of}
+use Rattle.rbac_question.specs.Lines.{QuestionParts, CanIParts, MatrixParts, MeansCanI, MeansWhoCan, MeansMatrix, AcceptsCanI, AcceptsQuestion, RefusesCanI, RefusesQuestion, RefusesMatrix, HasBadToken, IsAfter}
 use Rattle.rbac_question.specs.declared.command.Action.{Action}
-use Rattle.rbac_question.specs.declared.command.Action.TheVariants.{CanI, WhoCan, Matrix}
+use Rattle.rbac_question.specs.declared.command.Action.TheVariants.{CanI, WhoCan, Matrix, Lint}
 use Rattle.rbac_question.specs.declared.fault.QuestionFault.{QuestionFault}
-use Rattle.rbac_question.specs.declared.fault.QuestionFault.TheVariants.{EmptyWord, UrlSubresource, NoMemory}
-use Rattle.rbac_command.specs.Meaning.{question_in, parts_in, is_known, DoesAction, RefusesAction}
+use Rattle.rbac_question.specs.declared.fault.QuestionFault.TheVariants.{EmptyWord, UrlSubresource, BadToken, NoMemory}
+use Rattle.rbac_command.specs.Meaning.{question_in, parts_in, is_known, DoesAction, IsNumberAt, RefusesAction}
 
-first_of_three : (a b c : Bool) → a || (b || c) ≡ true → b ≡ false → c ≡ false → a ≡ true
-first_of_three true b c h e k = refl
-first_of_three false true c h e k = cc
-first_of_three false false c h e k = cc
+first_of_four : (a b c d : Bool) → a || (b || (c || d)) ≡ true → b ≡ false → c ≡ false → d ≡ false → a ≡ true
+first_of_four true b c d h e k l = refl
+first_of_four false true c d h e k l = cc
+first_of_four false false true d h e k l = cc
+first_of_four false false false d h e k l = cc
 
--- a known name that is neither `matrix` nor `who-can` is `can-i`
-pub the_other : (name : Text) (is_matrix is_who_can : Bool) → is_known name ≡ true
+-- a known name that is none of the others is `can-i`
+pub the_other : (name : Text) (is_matrix is_who_can is_lint : Bool) → is_known name ≡ true
     → is_matrix ≡ bytes_eq name (codes "matrix") → is_matrix ≡ false
     → is_who_can ≡ bytes_eq name (codes "who-can") → is_who_can ≡ false
+    → is_lint ≡ bytes_eq name (codes "lint") → is_lint ≡ false
     → name ≡ codes "can-i"
-the_other name is_matrix is_who_can known m no_matrix w no_who_can =
+the_other name is_matrix is_who_can is_lint known m no_matrix w no_who_can l no_lint =
     (bytes_eq-Decides name (codes "can-i")).0
-    (first_of_three (bytes_eq name (codes "can-i")) (bytes_eq name (codes "who-can")) (bytes_eq name (codes "matrix"))
-    known (sym w ∙ no_who_can) (sym m ∙ no_matrix))
+    (first_of_four (bytes_eq name (codes "can-i")) (bytes_eq name (codes "who-can")) (bytes_eq name (codes "matrix")) (bytes_eq name (codes "lint"))
+    known (sym w ∙ no_who_can) (sym m ∙ no_matrix) (sym l ∙ no_lint))
 
 as_can_i : (name : Text) (rows : List Row) (r : Result Action QuestionFault) → name ≡ codes "can-i"
     → MatchResult r (λ a. AcceptsCanI (parts_in rows) × MeansCanI (parts_in rows) a) (RefusesCanI (parts_in rows))
     → MatchResult r (DoesAction name rows) (RefusesAction name rows)
 as_can_i name rows (Ok (CanI principal quiet why question)) e h = (e, h.0, h.1)
 as_can_i name rows (Ok (WhoCan question)) e h = absurd h.1
-as_can_i name rows (Ok Matrix) e h = absurd h.1
+as_can_i name rows (Ok (Matrix after limit)) e h = absurd h.1
+as_can_i name rows (Ok Lint) e h = absurd h.1
 as_can_i name rows (Err EmptyWord) e h = inl (e, h)
 as_can_i name rows (Err UrlSubresource) e h = inl (e, h)
+as_can_i name rows (Err BadToken) e h = absurd h
 as_can_i name rows (Err NoMemory) e h = tt
 
 pub can_i_line : (name : Text) (rows : List Row) (l : CanIParts) (r : Result Action QuestionFault) → name ≡ codes "can-i" → l ≡ parts_in rows
@@ -47,9 +51,11 @@ as_who_can : (name : Text) (rows : List Row) (r : Result Action QuestionFault) �
     → MatchResult r (DoesAction name rows) (RefusesAction name rows)
 as_who_can name rows (Ok (CanI principal quiet why question)) e h = absurd h.1
 as_who_can name rows (Ok (WhoCan question)) e h = (e, h.0, h.1)
-as_who_can name rows (Ok Matrix) e h = absurd h.1
+as_who_can name rows (Ok (Matrix after limit)) e h = absurd h.1
+as_who_can name rows (Ok Lint) e h = absurd h.1
 as_who_can name rows (Err EmptyWord) e h = inr (e, h)
 as_who_can name rows (Err UrlSubresource) e h = inr (e, h)
+as_who_can name rows (Err BadToken) e h = absurd h
 as_who_can name rows (Err NoMemory) e h = tt
 
 pub who_can_line : (name : Text) (rows : List Row) (l : QuestionParts) (r : Result Action QuestionFault) → name ≡ codes "who-can" → l ≡ question_in rows
@@ -57,3 +63,17 @@ pub who_can_line : (name : Text) (rows : List Row) (l : QuestionParts) (r : Resu
     → MatchResult r (DoesAction name rows) (RefusesAction name rows)
 who_can_line name rows l r e same h =
     as_who_can name rows r e (subst (λ (parts : QuestionParts). MatchResult r (λ a. AcceptsQuestion parts × MeansWhoCan parts a) (RefusesQuestion parts)) same h)
+
+-- a `matrix` line does what its token and number say
+pub matrix_line : (name : Text) (rows : List Row) (l : MatrixParts) (r : Result Action QuestionFault) → name ≡ codes "matrix"
+    → l.after ≡ first_of (codes "after") rows → IsNumberAt (codes "limit") rows l.limit → MatchResult r (MeansMatrix l) (RefusesMatrix l)
+    → MatchResult r (DoesAction name rows) (RefusesAction name rows)
+matrix_line name rows l (Ok (CanI principal quiet why question)) e f n h = absurd h
+matrix_line name rows l (Ok (WhoCan question)) e f n h = absurd h
+matrix_line name rows l (Ok (Matrix after limit)) e f n h =
+    (e, subst (λ (t : _). IsAfter t after) f h.0, subst (λ (m : _). IsNumberAt (codes "limit") rows m) (sym h.1) n)
+matrix_line name rows l (Ok Lint) e f n h = absurd h
+matrix_line name rows l (Err EmptyWord) e f n h = absurd h
+matrix_line name rows l (Err UrlSubresource) e f n h = absurd h
+matrix_line name rows l (Err BadToken) e f n h = (e, subst HasBadToken f h)
+matrix_line name rows l (Err NoMemory) e f n h = tt

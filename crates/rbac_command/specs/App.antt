@@ -1,7 +1,8 @@
 -- The command line of `rbacaudit`, as `clap` sees it.
-use Rattle.std.specs.Prelude.{Some, codes, true}
+use Rattle.std.specs.Prelude.{Some, codes, pos, true}
 use Rattle.clap.specs.Words.{App, Rule, new_app, new_rule, with_rule, with_subcommand}
 use Rattle.clap.specs.declared.builder.ArgAction.TheVariants.{SetTrue, Append}
+use Rattle.clap.specs.declared.builder.value_parser.ValueParser.TheVariants.{Signed}
 
 -- `--as USER`, which must be given
 abbrev pub user_rule : Rule
@@ -58,6 +59,18 @@ verb_rule = record (new_rule (codes "verb")) { value_names = 1; required = true 
 abbrev pub target_rule : Rule
 target_rule = record (new_rule (codes "target")) { value_names = 1; required = true }
 
+-- `--after TOKEN`
+abbrev pub after_rule : Rule
+after_rule = record (new_rule (codes "after")) { long = Some (codes "after"); value_names = 1 }
+
+-- `--limit N`, of which `clap` takes a number from 1 to 1,000,000
+abbrev pub limit_rule : Rule
+limit_rule = record (new_rule (codes "limit")) {
+  long = Some (codes "limit");
+  value_names = 1;
+  parser = Some (Signed (pos 1) (pos 1000000));
+}
+
 -- [FILE]..
 abbrev pub files_rule : Rule
 files_rule = record (new_rule (codes "files")) { value_names = 1; action = Some Append }
@@ -83,9 +96,13 @@ can_i_app =
 abbrev pub who_can_app : App
 who_can_app = with_question (with_scope (new_app (codes "who-can")))
 
--- matrix [FILE]..
+-- matrix [--after TOKEN] [--limit N] [FILE]..
 abbrev pub matrix_app : App
-matrix_app = with_rule (new_app (codes "matrix")) files_rule
+matrix_app = with_rule (with_rule (with_rule (new_app (codes "matrix")) after_rule) limit_rule) files_rule
+
+-- lint [FILE]..
+abbrev pub lint_app : App
+lint_app = with_rule (new_app (codes "lint")) files_rule
 
 -- the program: it has a version, a subcommand is required, and there is no subcommand `help`
 abbrev pub as_program : App → App
@@ -104,4 +121,5 @@ bare_app = as_program (new_app (codes "rbacaudit"))
 -- the whole command line
 unfoldable pub rbac_app : App
 rbac_app =
-    with_subcommand (with_subcommand (with_subcommand bare_app can_i_app.top) who_can_app.top) matrix_app.top
+    with_subcommand (with_subcommand (with_subcommand (with_subcommand bare_app can_i_app.top) who_can_app.top) matrix_app.top)
+    lint_app.top

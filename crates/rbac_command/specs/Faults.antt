@@ -3,12 +3,13 @@ use Rattle.rbac_question.specs.Faults.{fault_text}
 use Rattle.rbac_question.specs.declared.fault.QuestionFault.{QuestionFault}
 use Rattle.rbac_question.specs.declared.fault.QuestionFault.TheVariants as question
 use Rattle.rbac_command.specs.declared.fault.UsageFault.{UsageFault}
-use Rattle.rbac_command.specs.declared.fault.UsageFault.TheVariants.{Refused, EmptyWord, UrlSubresource, NoMemory}
+use Rattle.rbac_command.specs.declared.fault.UsageFault.TheVariants.{Refused, EmptyWord, UrlSubresource, BadToken, NoMemory}
 
 -- the refusal of a question, as one of a command line
 abbrev pub usage_fault : QuestionFault → UsageFault
 usage_fault question.EmptyWord = EmptyWord
 usage_fault question.UrlSubresource = UrlSubresource
+usage_fault question.BadToken = BadToken
 usage_fault question.NoMemory = NoMemory
 
 -- the text of a refusal; that of `clap` is its own
@@ -16,4 +17,5 @@ abbrev pub usage_text : UsageFault → Option (List ℕ)
 usage_text (Refused e) = None
 usage_text EmptyWord = Some (fault_text question.EmptyWord)
 usage_text UrlSubresource = Some (fault_text question.UrlSubresource)
+usage_text BadToken = Some (fault_text question.BadToken)
 usage_text NoMemory = Some (fault_text question.NoMemory)

@@ -1,17 +1,18 @@
 -- What the words of a command line mean, by `clap`'s matches.
-use Rattle.std.specs.Prelude.{◌≡◌, ◌||◌, ◌⊎◌, Bool, List, [], Option, Some, None, Result, map, codes, unwrap_or, MatchResult, string_bytes}
+use Rattle.std.specs.Prelude.{◌≡◌, ◌||◌, ◌⊎◌, ◌<◌, ◌^◌, ℕ, Bool, List, [], Option, Some, None, Result, map, codes, unwrap_or, MatchResult, string_bytes}
 use Rattle.std.specs.Str.{bytes_eq}
-use Rattle.clap.specs.Words.{Row, Text, all_of, fault_of, first_of, kind_of, subcommand_of}
+use Rattle.std.specs.Str.Parse.{IsNumeral, without_leading_plus, digits_value}
+use Rattle.clap.specs.Words.{Row, Text, all_of, fault_of, first_of, kind_of, one_of, subcommand_of}
 use Rattle.clap.specs.Kinds.{IsAmong}
-use Rattle.rbac_question.specs.Lines.{QuestionParts, CanIParts, MeansCanI, MeansWhoCan, AcceptsCanI, AcceptsQuestion, RefusesCanI, RefusesQuestion}
+use Rattle.rbac_question.specs.Lines.{QuestionParts, CanIParts, MeansCanI, MeansWhoCan, AcceptsCanI, AcceptsQuestion, RefusesCanI, RefusesQuestion, HasBadToken, IsAfter}
 use Rattle.rbac_question.specs.declared.command.Action.{Action}
-use Rattle.rbac_question.specs.declared.command.Action.TheVariants.{CanI, WhoCan, Matrix}
+use Rattle.rbac_question.specs.declared.command.Action.TheVariants.{CanI, WhoCan, Matrix, Lint}
 use Rattle.rbac_question.specs.declared.command.Command.{Command}
 use Rattle.rbac_question.specs.declared.fault.QuestionFault.{QuestionFault}
 use Rattle.rbac_question.specs.declared.fault.QuestionFault.TheVariants as question
 use Rattle.rbac_command.specs.App.{rbac_app}
 use Rattle.rbac_command.specs.declared.fault.UsageFault.{UsageFault}
-use Rattle.rbac_command.specs.declared.fault.UsageFault.TheVariants.{Refused, EmptyWord, UrlSubresource, NoMemory}
+use Rattle.rbac_command.specs.declared.fault.UsageFault.TheVariants.{Refused, EmptyWord, UrlSubresource, BadToken, NoMemory}
 
 -- ---- what stands under an id
 
@@ -47,11 +48,25 @@ parts_in rows = record {
   question = question_in rows;
 }
 
+-- the text is a number of 32 bits: decimal digits, before which a plus sign may stand
+abbrev pub IsNumberText : Text → Type 0
+IsNumberText text = IsNumeral 10 (without_leading_plus text) × (digits_value 10 (without_leading_plus text) < 2 ^ 32)
+
+-- the number that a text reads as, none where there is no text or no number
+abbrev pub IsNumber : Option Text → Option ℕ → Type 0
+IsNumber None number = number ≡ None
+IsNumber (Some text) None = ¬ IsNumberText text
+IsNumber (Some text) (Some n) = IsNumberText text × (n ≡ digits_value 10 (without_leading_plus text))
+
+-- the number under an id
+abbrev pub IsNumberAt : Text → List Row → Option ℕ → Type 0
+IsNumberAt id rows number = IsNumber (one_of id rows) number
+
 -- ---- a command
 
 -- one of the subcommands
 abbrev pub is_known : Text → Bool
-is_known name = bytes_eq name (codes "can-i") || (bytes_eq name (codes "who-can") || bytes_eq name (codes "matrix"))
+is_known name = bytes_eq name (codes "can-i") || (bytes_eq name (codes "who-can") || (bytes_eq name (codes "matrix") || bytes_eq name (codes "lint")))
 
 -- what the subcommand of that name does, by its matches
 abbrev pub DoesAction : Text → List Row → Action → Type 0
@@ -59,7 +74,9 @@ DoesAction name rows (CanI principal quiet why question) =
     (name ≡ codes "can-i") × AcceptsCanI (parts_in rows) × MeansCanI (parts_in rows) (CanI principal quiet why question)
 DoesAction name rows (WhoCan question) =
     (name ≡ codes "who-can") × AcceptsQuestion (question_in rows) × MeansWhoCan (question_in rows) (WhoCan question)
-DoesAction name rows Matrix = name ≡ codes "matrix"
+DoesAction name rows (Matrix after limit) =
+    (name ≡ codes "matrix") × IsAfter (first_of (codes "after") rows) after × IsNumberAt (codes "limit") rows limit
+DoesAction name rows Lint = name ≡ codes "lint"
 
 -- the command is what the matches of the subcommand of that name mean
 pub record MeansRows (name : Text) (rows : List Row) (c : Command) : Type 0 where
@@ -73,9 +90,10 @@ Means (Some p) c = MeansRows p.0 p.1 c
 
 -- ---- refusals
 
--- the refusal of a subcommand's matches: `matrix` has none but want of memory, which may come at any time
+-- the refusal of a subcommand's matches: U4 is of `matrix` alone, which has no other but want of memory, as `lint` has; that may come at any time
 abbrev pub RefusesAction : Text → List Row → QuestionFault → Type 0
 RefusesAction name rows question.NoMemory = Unit {0}
+RefusesAction name rows question.BadToken = (name ≡ codes "matrix") × HasBadToken (first_of (codes "after") rows)
 RefusesAction name rows e = ((name ≡ codes "can-i") × RefusesCanI (parts_in rows) e)
     ⊎ ((name ≡ codes "who-can") × RefusesQuestion (question_in rows) e)
 
@@ -84,6 +102,7 @@ abbrev pub IsCauseOf : Option (Text × List Row) → UsageFault → Type 0
 IsCauseOf None e = ⊥
 IsCauseOf (Some p) EmptyWord = RefusesAction p.0 p.1 question.EmptyWord
 IsCauseOf (Some p) UrlSubresource = RefusesAction p.0 p.1 question.UrlSubresource
+IsCauseOf (Some p) BadToken = RefusesAction p.0 p.1 question.BadToken
 IsCauseOf (Some p) NoMemory = RefusesAction p.0 p.1 question.NoMemory
 IsCauseOf (Some p) (Refused e) = ⊥
 

@@ -3,10 +3,10 @@
 ghost use Rattle.std.specs.Prelude.{◌≡◌, IfOk, false};
 ghost use Rattle.clap.specs.Words.{app_of, new_app, rule_of, with_rule, with_subcommand};
 ghost use Rattle.clap.specs.declared.builder.command.Command.TheViews.{out-Command as fields_of};
-ghost use Rattle.rbac_command.specs.App.{user_rule, groups_rule, namespace_rule, all_rule, subresource_rule, quiet_rule, why_rule, verb_rule, target_rule, files_rule};
-ghost use Rattle.rbac_command.specs.App.{with_asker, with_scope, with_question, can_i_app, who_can_app, matrix_app, bare_app, rbac_app};
+ghost use Rattle.rbac_command.specs.App.{after_rule, limit_rule, user_rule, groups_rule, namespace_rule, all_rule, subresource_rule, quiet_rule, why_rule, verb_rule, target_rule, files_rule};
+ghost use Rattle.rbac_command.specs.App.{with_asker, with_scope, with_question, can_i_app, who_can_app, matrix_app, lint_app, bare_app, rbac_app};
 
-use clap::{Arg, ArgAction, Command};
+use clap::{Arg, ArgAction, Command, value_parser};
 use std::alloc::{AllocError, Global};
 
 // What `--version` prints after the program's name.
@@ -45,8 +45,25 @@ const MATRIX_MORE: &str =
 API group, resource or URL, object name, and the first binding that grants it; - is an empty field.
 A Universe document says whom and what to ask.
 
+The last line is end, or next and a TOKEN, joined by a tab, where --limit left rows out:
+--after TOKEN goes on from there.
+
+Examples:
+  rbacaudit matrix cluster.json namespaced.json universe.json
+  rbacaudit matrix --limit 1000 --after TOKEN cluster.json namespaced.json";
+
+const LINT_MORE: &str =
+    "A line has five fields, joined by tabs: code, word, object, place, and the other; - is an empty field.
+  L1  dangling-role              a binding names a role that is not there
+  L2  unused-role                no binding names the role, nor an aggregated role that gathers it
+  L3  redundant-rule             another rule of the role allows all that this rule does
+  L4  escalation                 a rule lets its holders escalate or bind roles
+  L5  account-without-namespace  a ClusterRoleBinding has a service account without a namespace
+  L6  stale-aggregate            the rules written in an aggregated role are not the gathered ones
+  L7  replaced-object            a later document replaced earlier ones of this object
+
 Example:
-  rbacaudit matrix cluster.json namespaced.json universe.json";
+  rbacaudit lint cluster.json namespaced.json";
 
 fn user_arg<'a>(alloc: Global) -> Arg<'a>
     ensures rule { rule_of result ≡ user_rule }
@@ -140,6 +157,27 @@ fn target_arg<'a>(alloc: Global) -> Arg<'a>
         .value_name("TARGET")
         .required(true)
         .help("TYPE, TYPE/NAME or a URL path, e.g. pods, deployments.apps/web or /healthz")
+}
+
+fn after_arg<'a>(alloc: Global) -> Arg<'a>
+    ensures rule { rule_of result ≡ after_rule }
+    ensures local { result.global ≡ false }
+{
+    Arg::new(alloc, "after")
+        .long("after")
+        .value_name("TOKEN")
+        .help("List only the rows after this TOKEN of a next line (default: from the first)")
+}
+
+fn limit_arg<'a>(alloc: Global) -> Arg<'a>
+    ensures rule { rule_of result ≡ limit_rule }
+    ensures local { result.global ≡ false }
+{
+    Arg::new(alloc, "limit")
+        .long("limit")
+        .value_name("N")
+        .value_parser(value_parser!(u32).range(1..=1_000_000))
+        .help("List at most N rows, 1 to 1000000 (default: all)")
 }
 
 fn files_arg<'a>(alloc: Global) -> Arg<'a>
@@ -240,6 +278,21 @@ fn matrix<'a>(alloc: Global) -> Result<Command<'a>, AllocError>
         "List everything that anyone may do: a line for each request that is allowed, then end",
         MATRIX_MORE,
     );
+    let command = with(command, after_arg(alloc))?;
+    let command = with(command, limit_arg(alloc))?;
+    with(command, files_arg(alloc))
+}
+
+fn lint<'a>(alloc: Global) -> Result<Command<'a>, AllocError>
+    ensures app { IfOk result (λ r. app_of r ≡ lint_app) }
+    ensures local { IfOk result (λ r. (fields_of r).has_globals ≡ false) }
+{
+    let command = named(
+        alloc,
+        "lint",
+        "List what is wrong with the roles: exit status 1 where something is, else 0; 2 is a fault",
+        LINT_MORE,
+    );
     with(command, files_arg(alloc))
 }
 
@@ -282,5 +335,6 @@ pub(crate) fn program<'a>(alloc: Global) -> Result<Command<'a>, AllocError>
     let command = with_bin_name(bare(alloc), "rbacaudit")?;
     let command = with_sub(command, can_i(alloc)?)?;
     let command = with_sub(command, who_can(alloc)?)?;
-    with_sub(command, matrix(alloc)?)
+    let command = with_sub(command, matrix(alloc)?)?;
+    with_sub(command, lint(alloc)?)
 }

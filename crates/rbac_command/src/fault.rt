@@ -17,6 +17,8 @@ pub enum UsageFault {
     EmptyWord,
     /// U3: a subresource is asked for with a URL.
     UrlSubresource,
+    /// U4: what follows `--after` is the token of no key.
+    BadToken,
     /// Memory was refused.
     NoMemory,
 }
@@ -50,6 +52,7 @@ impl From<QuestionFault> for UsageFault {
         match cause {
             QuestionFault::EmptyWord => UsageFault::EmptyWord,
             QuestionFault::UrlSubresource => UsageFault::UrlSubresource,
+            QuestionFault::BadToken => UsageFault::BadToken,
             QuestionFault::NoMemory => UsageFault::NoMemory,
         }
     }
@@ -65,6 +68,7 @@ impl fmt::Display for UsageFault {
             UsageFault::Refused(error) => write!(f, "{error}"),
             UsageFault::EmptyWord => write!(f, "{}", QuestionFault::EmptyWord),
             UsageFault::UrlSubresource => write!(f, "{}", QuestionFault::UrlSubresource),
+            UsageFault::BadToken => write!(f, "{}", QuestionFault::BadToken),
             UsageFault::NoMemory => write!(f, "{}", QuestionFault::NoMemory),
         }
     }

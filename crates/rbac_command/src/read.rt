@@ -1,16 +1,16 @@
 //! From words to a command.
 
-ghost use Rattle.std.specs.Prelude.{◌≡◌, [], Some, None, IfOk, IfErr, MatchResult, map, string_bytes, true, false, option_map};
+ghost use Rattle.std.specs.Prelude.{◌≡◌, [], Some, None, IfOk, IfErr, MatchResult, map, string_bytes, codes, true, false, option_map};
 ghost use Rattle.std.specs.Option.{option_map_or};
 ghost use Rattle.clap.specs.Words.{found_of, all_of, rows_of, first_of, subcommand_rows_of, subcommand_of, fault_of};
 ghost use Rattle.rbac_command.specs.App.{rbac_app};
-ghost use Rattle.rbac_command.specs.Meaning.{text_at, has_flag, files_in, question_in, parts_in, is_known, DoesAction, RefusesAction, Means, IsCauseOf, IsRefusal, IsAnswer};
+ghost use Rattle.rbac_command.specs.Meaning.{text_at, has_flag, IsNumberAt, files_in, question_in, parts_in, is_known, DoesAction, RefusesAction, Means, IsCauseOf, IsRefusal, IsAnswer};
 
 use crate::build::program;
 use crate::fault::UsageFault;
 use clap::ArgMatches;
 use clap::error::ErrorKind;
-use rbac_question::{Action, CanILine, Command, QuestionFault, QuestionLine};
+use rbac_question::{Action, CanILine, Command, MatrixLine, QuestionFault, QuestionLine};
 use std::alloc::{AllocError, Global};
 
 // The first value of `id`, in the words of a parse's rows.
@@ -67,6 +67,24 @@ fn line_of<'a>(matches: &ArgMatches<'a>) -> CanILine<'a>
     }
 }
 
+// The number under `id`, as its text reads.
+fn number_of(matches: &ArgMatches<'_>, id: &str) -> Option<u32>
+    ensures { IsNumberAt id.now (rows_of (found_of matches.now)) result }
+{
+    matches.get_one::<u32>(id)
+}
+
+// The parts of a `matrix` line.
+fn matrix_line_of<'a>(matches: &ArgMatches<'a>) -> MatrixLine<'a>
+    ensures after { result.after ≡ first_of (codes "after") (rows_of (found_of matches.now)) }
+    ensures limit { IsNumberAt (codes "limit") (rows_of (found_of matches.now)) result.limit }
+{
+    MatrixLine {
+        after: value_of(matches, "after"),
+        limit: number_of(matches, "limit"),
+    }
+}
+
 fn files_of(alloc: Global, matches: &ArgMatches<'_>) -> Result<Vec<String>, AllocError>
     ensures { IfOk result (λ v. map string_bytes v.items ≡ files_in (rows_of (found_of matches.now))) }
 {
@@ -102,10 +120,13 @@ fn action_of(alloc: Global, name: &str, matches: &ArgMatches<'_>) -> Result<Acti
         (RefusesAction name.now (rows_of (found_of matches.now))) }
 {
     if name == "matrix" {
-        return Ok(Action::Matrix);
+        return Action::matrix(alloc, &matrix_line_of(matches));
     }
     if name == "who-can" {
         return Action::who_can(alloc, &question_of(matches));
+    }
+    if name == "lint" {
+        return Ok(Action::Lint);
     }
     Action::can_i(alloc, &line_of(matches))
 }
@@ -135,7 +156,7 @@ fn meaning_of(alloc: Global, matches: &ArgMatches<'_>) -> Result<Command, UsageF
 
 /// The command that the words say; the first word is the program's name.
 ///
-/// U1 where `clap` refuses the words or help is asked, then U2 and U3.
+/// U1 where `clap` refuses the words or help is asked, then U2, U3 and U4.
 pub fn command_of(alloc: Global, words: &[String]) -> Result<Command, UsageFault>
     ensures { IsAnswer (map string_bytes words.now) result }
 {

@@ -1,6 +1,6 @@
-//! Readers and writers that fail.
+//! Readers and writers that fail, and count their calls: none is made twice, and none after one that failed.
 
-use rbac_streams::{Failed, InputFault, Sink, Source, read_input};
+use rbac_streams::{Failed, InputFault, Sink, Source, read_input, read_slice};
 use std::io;
 use std::io::{ErrorKind, Read, Write};
 use std::test::Fail;
@@ -9,14 +9,14 @@ use std::test::Fail;
 #[derive(Drop)]
 struct Drip<'a> {
     rest: &'a [u8],
-    calls: usize,
+    calls: &'a mut usize,
     fails_at: usize,
 }
 
 impl Read for Drip<'_> {
     fn read(&mut self, buf: &mut [u8]) -> io::Result<usize> {
-        self.calls = self.calls.saturating_add(1);
-        if self.calls == self.fails_at {
+        *self.calls = self.calls.saturating_add(1);
+        if *self.calls == self.fails_at {
             return Err(io::Error::from(ErrorKind::Interrupted));
         }
         let most = buf.len().min(self.rest.len()).min(1);
@@ -28,16 +28,16 @@ impl Read for Drip<'_> {
 
 // Takes `most` bytes at a time and is interrupted at call `fails_at`, from 1.
 #[derive(Drop)]
-struct Sip {
+struct Sip<'a> {
     most: usize,
-    calls: usize,
+    calls: &'a mut usize,
     fails_at: usize,
 }
 
-impl Write for Sip {
+impl Write for Sip<'_> {
     fn write(&mut self, buf: &[u8]) -> io::Result<usize> {
-        self.calls = self.calls.saturating_add(1);
-        if self.calls == self.fails_at {
+        *self.calls = self.calls.saturating_add(1);
+        if *self.calls == self.fails_at {
             return Err(io::Error::from(ErrorKind::Interrupted));
         }
         Ok(buf.len().min(self.most))
@@ -48,19 +48,21 @@ impl Write for Sip {
     }
 }
 
+const LIST: &[u8] = b"{\"kind\":\"List\"}";
+
 #[test]
-fn reads_until_the_end(rt: HostRuntime) -> Result<(), Fail> {
-    let text = b"{\"kind\":\"List\"}";
+fn reads_until_the_end(rt: HostRuntime) {
     for fails_at in 1..18usize {
+        let mut calls = 0;
         let mut source = Source::new(Drip {
-            rest: text,
-            calls: 0,
+            rest: LIST,
+            calls: &mut calls,
             fails_at,
         });
         match read_input(rt.alloc(), &mut source) {
             Ok(input) => {
                 assert!(rt; fails_at == 17 && !source.failed());
-                assert!(rt; input.as_bytes() == text.as_slice());
+                assert!(rt; input.as_bytes() == LIST);
             }
             Err(fault) => {
                 assert!(rt; fails_at < 17 && source.failed());
@@ -69,19 +71,29 @@ fn reads_until_the_end(rt: HostRuntime) -> Result<(), Fail> {
                 assert!(rt; source.read(&mut [0u8; 4]) == Err(Failed));
             }
         }
+        // (15 bytes, and one read that finds the end)
+        assert!(rt; calls == fails_at.min(16));
     }
+}
+
+#[test]
+fn a_slice_is_read_whole(rt: HostRuntime) -> Result<(), Fail> {
+    let mut source = Source::new(LIST);
+    assert!(rt; read_slice(rt.alloc(), &mut source)?.as_bytes() == LIST);
     Ok(())
 }
 
-// How many bytes a writer takes at a time, at which call it fails, and how many of four it has taken.
-const SIPS: &[(usize, usize, usize)] = &[(1, 4, 3), (0, 9, 0), (64, 1, 0)];
+// How many bytes a writer takes at a time, at which call it fails, how many of four it has taken, and
+// how often it was called.
+const SIPS: &[(usize, usize, usize, usize)] = &[(1, 4, 3, 4), (0, 9, 0, 1), (64, 1, 0, 1)];
 
 #[test]
 fn a_failed_writer_stays_failed(rt: HostRuntime) {
-    for (most, fails_at, taken) in SIPS {
+    for (most, fails_at, taken, called) in SIPS {
+        let mut calls = 0;
         let mut sink = Sink::new(Sip {
             most: *most,
-            calls: 0,
+            calls: &mut calls,
             fails_at: *fails_at,
         });
         assert!(rt; sink.put(b"yes\n") == Err(*taken));
@@ -89,5 +101,6 @@ fn a_failed_writer_stays_failed(rt: HostRuntime) {
         // The writer may take a byte now, but it isn't called again.
         assert!(rt; sink.write(b"x") == Err(Failed));
         assert!(rt; sink.taken() == *taken as u128);
+        assert!(rt; calls == *called);
     }
 }

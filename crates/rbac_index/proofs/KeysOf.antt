@@ -1,8 +1,8 @@
 -- the keys of who asks are its own, those of the groups given, and those of implied groups
-use Rattle.std.proofs.Common.{◌≡◌, List, ◌++◌, ap, sym, ◌∙◌, refl, subst, inl, inr, ◌⊎◌, ◌↔◌, Contains, [], arith}
+use Rattle.std.proofs.Common.{◌≡◌, ◌++◌, ap, ◌∙◌, refl, inl, inr, ◌⊎◌, ◌↔◌, Contains, [], arith}
 use Rattle.std.specs.Prelude.{codes}
 use Rattle.rbac_terms.specs.Text.{Text}
-use Rattle.rbac_terms.specs.Principals.{Who, AsUser, AsMember, key_of, given_of, IsInGroup}
+use Rattle.rbac_terms.specs.Principals.{Who, AsUser, AsMember, key_of, given_of}
 use Rattle.rbac_index.specs.Holding.{IsKeyFor}
 use Rattle.rbac_index.specs.Keyed.{IsGivenKey, IsAccountKey, IsSignInKey}
 

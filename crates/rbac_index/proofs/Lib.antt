@@ -18,4 +18,5 @@ pub mod RowLemmas
 pub mod RunLemmas
 pub mod SeenLemmas
 pub mod SpanLemmas
+pub mod StemLemmas
 pub mod WrittenLemmas

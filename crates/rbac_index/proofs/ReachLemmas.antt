@@ -1,8 +1,8 @@
 -- a reach that is told target by target
-use Rattle.std.proofs.Common.{◌≡◌, ℕ, suc, zero, ◌+◌, ◌<◌, ◌≤◌, List, [], ◌∷◌, ◌++◌, length, get_or, slice_get, arith, inl, inr, ◌⊎◌, ◌↔◌, subst, sym, ◌∙◌, ap, Contains, append_assoc, append-nil}
-use Rattle.std.specs.Prelude.{Some, map}
+use Rattle.std.proofs.Common.{◌≡◌, ℕ, suc, zero, ◌+◌, ◌<◌, ◌≤◌, List, [], ◌∷◌, ◌++◌, length, get_or, slice_get, arith, inl, inr, ◌↔◌, subst, sym, ◌∙◌, ap, Contains, append_assoc, append-nil}
+use Rattle.std.specs.Prelude.{Some}
 use Rattle.std.specs.List.Sorted.{IsStrictlyIncreasing}
-use Rattle.std.proofs.lemmas.Bool.{cases_lt, cases_eq}
+use Rattle.std.proofs.lemmas.Bool.{cases_lt}
 use Rattle.std.proofs.lemmas.Grind.{common_steps}
 use Rattle.std.proofs.lemmas.List.{length-append}
 use Rattle.std.proofs.lemmas.List.Elements.{Contains-append_left, Contains-get_or, Contains-push, Contains-push_cases}

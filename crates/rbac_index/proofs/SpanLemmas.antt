@@ -1,10 +1,7 @@
 -- places kept as runs of neighbours
-use Rattle.std.proofs.Common.{◌≡◌, ℕ, zero, suc, ◌+◌, ◌-◌, ◌<◌, ◌≤◌, List, [], ◌∷◌, ◌++◌, length, get_or, slice_get, ap, sym, ◌∙◌, refl, arith, inl, inr, Contains, append_assoc, append-nil, Bool, true, false, leb, subst}
-use Rattle.std.specs.Prelude.{Some}
+use Rattle.std.proofs.Common.{◌≡◌, ℕ, zero, suc, ◌+◌, ◌-◌, ◌<◌, ◌≤◌, List, [], ◌∷◌, ◌++◌, length, get_or, ap, sym, ◌∙◌, refl, arith, append_assoc, append-nil, true, false, leb, subst}
 use Rattle.std.specs.List.Sorted.{IsNonDecreasingBy, IsPartitionPoint, IsStrictlyIncreasing}
-use Rattle.std.proofs.lemmas.Bool.{cases_lt}
 use Rattle.std.proofs.lemmas.List.{length-append, get_or_append_left, get_or-append-add}
-use Rattle.std.proofs.lemmas.Option.{same_Some}
 use Rattle.rbac_index.specs.declared.spans.Span.{Span}
 use Rattle.rbac_index.specs.Spans.{places_from, places_of, IsCounted, AreSpans}
 

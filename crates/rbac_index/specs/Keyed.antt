@@ -9,7 +9,6 @@ use Rattle.rbac_terms.specs.Granting.{IsSubjectKey}
 use Rattle.rbac_terms.specs.declared.granting.Binding.{Binding}
 use Rattle.rbac_terms.specs.declared.granting.Subject.{Subject}
 use Rattle.rbac_model.specs.Policies.{PolicyView, IsOfBinding}
-use Rattle.rbac_index.specs.Holding.{IsKeyFor}
 use Rattle.rbac_index.specs.declared.keyed.Keyed.{Keyed}
 use Rattle.rbac_index.specs.declared.living.Live.{Live}
 

@@ -6,6 +6,7 @@ pub mod Indexed
 pub mod Keyed
 pub mod Listing
 pub mod Living
+pub mod Matched
 pub mod Reaches
 pub mod Spans
 pub mod Written

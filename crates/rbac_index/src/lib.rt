@@ -24,7 +24,7 @@ pub use deciding::{Why, why_allowed};
 pub use fault::IndexFault;
 pub use holders::{Holder, Holders};
 pub use index::Index;
-pub use laws::holders_are_one;
+pub use laws::{holders_are_one, holders_decide};
 pub use meter::Meter;
 pub use numbers::GrantNos;
 pub use reach::{Reach, reaches_of};

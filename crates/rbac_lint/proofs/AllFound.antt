@@ -1,24 +1,28 @@
 -- the findings of all codes, one code after the other
-use Rattle.std.proofs.Common.{◌≡◌, ℕ, ◌<◌, ◌⊎◌, inl, inr, List, [], subst, arith}
+use Rattle.std.proofs.Common.{◌≡◌, ◌<◌, ◌⊎◌, inl, inr, List, [], subst, arith}
 use Rattle.rbac_model.specs.Policies.{Held}
+use Rattle.rbac_manifest.specs.declared.replaced.Replaced.{Replaced}
+use Rattle.rbac_lint.specs.Replaced.{IsReplaced}
 use Rattle.rbac_lint.specs.declared.finding.Finding.{Finding}
-use Rattle.rbac_lint.specs.Lines.{Line, Adds, OfEach}
+use Rattle.rbac_lint.specs.Lines.{Line, Adds}
 use Rattle.rbac_lint.specs.Findings.{IsDangling, IsUnused, IsRedundant, IsEscalation, IsAccountWithout, IsStale, IsFinding, AreFindings}
 use Rattle.rbac_lint.proofs.Exact.{Adds-code, AreShown-all}
-use Rattle.rbac_lint.proofs.Order.{Names}
-use Rattle.rbac_lint.proofs.Named.{dangling_names, unused_names, redundant_names, escalation_names, account_names, stale_names}
+use Rattle.rbac_lint.proofs.Named.{dangling_names, unused_names, redundant_names, escalation_names, account_names, stale_names, replaced_names}
 
-abbrev pub After5 : Held → Line → Type 0
-After5 h x = IsAccountWithout h x ⊎ IsStale h x
+abbrev pub After6 : Held → List Replaced → Line → Type 0
+After6 h rs x = IsStale h x ⊎ IsReplaced rs x
 
-abbrev pub After4 : Held → Line → Type 0
-After4 h x = IsEscalation h x ⊎ After5 h x
+abbrev pub After5 : Held → List Replaced → Line → Type 0
+After5 h rs x = IsAccountWithout h x ⊎ After6 h rs x
 
-abbrev pub After3 : Held → Line → Type 0
-After3 h x = IsRedundant h x ⊎ After4 h x
+abbrev pub After4 : Held → List Replaced → Line → Type 0
+After4 h rs x = IsEscalation h x ⊎ After5 h rs x
 
-abbrev pub After2 : Held → Line → Type 0
-After2 h x = IsUnused h x ⊎ After3 h x
+abbrev pub After3 : Held → List Replaced → Line → Type 0
+After3 h rs x = IsRedundant h x ⊎ After4 h rs x
+
+abbrev pub After2 : Held → List Replaced → Line → Type 0
+After2 h rs x = IsUnused h x ⊎ After3 h rs x
 
 dangling_code : (h : Held) (x : Line) → IsDangling h x → x.code ≡ 1
 dangling_code h x p = (dangling_names h).code_is p.1 x p.3
@@ -38,31 +42,39 @@ account_code h x p = account_names.code_is p.1 x p.3
 stale_code : (h : Held) (x : Line) → IsStale h x → x.code ≡ 6
 stale_code h x p = (stale_names h).code_is p.1 x p.3
 
-past4 : (h : Held) (x : Line) → After5 h x → 4 < x.code
-past4 h x (inl p) = omega (arith, account_code h x p)
-past4 h x (inr p) = omega (arith, stale_code h x p)
+replaced_code : (rs : List Replaced) (x : Line) → IsReplaced rs x → x.code ≡ 7
+replaced_code rs x p = replaced_names.code_is p.1 x p.3
 
-past3 : (h : Held) (x : Line) → After4 h x → 3 < x.code
-past3 h x (inl p) = omega (arith, escalation_code h x p)
-past3 h x (inr p) = omega (arith, past4 h x p)
+past6 : (rs : List Replaced) (x : Line) → IsReplaced rs x → 6 < x.code
+past6 rs x p = omega (arith, replaced_code rs x p)
 
-past2 : (h : Held) (x : Line) → After3 h x → 2 < x.code
-past2 h x (inl p) = omega (arith, redundant_code h x p)
-past2 h x (inr p) = omega (arith, past3 h x p)
+past5 : (h : Held) (rs : List Replaced) (x : Line) → After6 h rs x → 5 < x.code
+past5 h rs x (inl p) = omega (arith, stale_code h x p)
+past5 h rs x (inr p) = omega (arith, past6 rs x p)
 
-past1 : (h : Held) (x : Line) → After2 h x → 1 < x.code
-past1 h x (inl p) = omega (arith, unused_code h x p)
-past1 h x (inr p) = omega (arith, past2 h x p)
+past4 : (h : Held) (rs : List Replaced) (x : Line) → After5 h rs x → 4 < x.code
+past4 h rs x (inl p) = omega (arith, account_code h x p)
+past4 h rs x (inr p) = omega (arith, past5 h rs x p)
 
-past5 : (h : Held) (x : Line) → IsStale h x → 5 < x.code
-past5 h x p = omega (arith, stale_code h x p)
+past3 : (h : Held) (rs : List Replaced) (x : Line) → After4 h rs x → 3 < x.code
+past3 h rs x (inl p) = omega (arith, escalation_code h x p)
+past3 h rs x (inr p) = omega (arith, past4 h rs x p)
 
-pub all_found : (h : Held) (a b c d e f g : List Finding) → a ≡ [] → Adds (IsDangling h) a b → Adds (IsUnused h) b c → Adds (IsRedundant h) c d → Adds (IsEscalation h) d e → Adds (IsAccountWithout h) e f → Adds (IsStale h) f g → AreFindings h g
-all_found h a b c d e f g none p1 p2 p3 p4 p5 p6 =
-    let q5 = Adds-code (IsAccountWithout h) (IsStale h) 5 e f g (account_code h) (past5 h) p5 p6 in
-    let q4 = Adds-code (IsEscalation h) (After5 h) 4 d e g (escalation_code h) (past4 h) p4 q5 in
-    let q3 = Adds-code (IsRedundant h) (After4 h) 3 c d g (redundant_code h) (past3 h) p3 q4 in
-    let q2 = Adds-code (IsUnused h) (After3 h) 2 b c g (unused_code h) (past2 h) p2 q3 in
-    let q1 = Adds-code (IsDangling h) (After2 h) 1 a b g (dangling_code h) (past1 h) p1 q2 in
-    let P : List Finding → Type 0 = λ fs. Adds (IsFinding h) fs g in
-    AreShown-all (IsFinding h) g (subst P none q1)
+past2 : (h : Held) (rs : List Replaced) (x : Line) → After3 h rs x → 2 < x.code
+past2 h rs x (inl p) = omega (arith, redundant_code h x p)
+past2 h rs x (inr p) = omega (arith, past3 h rs x p)
+
+past1 : (h : Held) (rs : List Replaced) (x : Line) → After2 h rs x → 1 < x.code
+past1 h rs x (inl p) = omega (arith, unused_code h x p)
+past1 h rs x (inr p) = omega (arith, past2 h rs x p)
+
+pub all_found : (h : Held) (rs : List Replaced) (a b c d e f g k : List Finding) → a ≡ [] → Adds (IsDangling h) a b → Adds (IsUnused h) b c → Adds (IsRedundant h) c d → Adds (IsEscalation h) d e → Adds (IsAccountWithout h) e f → Adds (IsStale h) f g → Adds (IsReplaced rs) g k → AreFindings h rs k
+all_found h rs a b c d e f g k none p1 p2 p3 p4 p5 p6 p7 =
+    let q6 = Adds-code (IsStale h) (IsReplaced rs) 6 f g k (stale_code h) (past6 rs) p6 p7 in
+    let q5 = Adds-code (IsAccountWithout h) (After6 h rs) 5 e f k (account_code h) (past5 h rs) p5 q6 in
+    let q4 = Adds-code (IsEscalation h) (After5 h rs) 4 d e k (escalation_code h) (past4 h rs) p4 q5 in
+    let q3 = Adds-code (IsRedundant h) (After4 h rs) 3 c d k (redundant_code h) (past3 h rs) p3 q4 in
+    let q2 = Adds-code (IsUnused h) (After3 h rs) 2 b c k (unused_code h) (past2 h rs) p2 q3 in
+    let q1 = Adds-code (IsDangling h) (After2 h rs) 1 a b k (dangling_code h) (past1 h rs) p1 q2 in
+    let P : List Finding → Type 0 = λ fs. Adds (IsFinding h rs) fs k in
+    AreShown-all (IsFinding h rs) k (subst P none q1)

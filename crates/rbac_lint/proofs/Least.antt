@@ -7,7 +7,7 @@ use Rattle.rbac_terms.specs.declared.matching.Rule.{Rule}
 use Rattle.rbac_lint.specs.Findings.{MakesRedundantAt, MakesRedundant, IsLeastCover, IsRedundantAt, role_line}
 use Rattle.rbac_model.specs.Policies.{Source}
 use Rattle.rbac_lint.specs.declared.finding.Finding.{Finding}
-use Rattle.rbac_lint.specs.Lines.{Line, shown, Adds}
+use Rattle.rbac_lint.specs.Lines.{shown, Adds}
 use Rattle.rbac_lint.proofs.Exact.{Adds-none, Adds-one}
 
 -- none of the first n rules makes it redundant

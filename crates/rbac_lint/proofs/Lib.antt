@@ -10,3 +10,5 @@ pub mod Marked
 pub mod StaleRules
 pub mod AllFound
 pub mod OneLines
+pub mod Listed
+pub mod Looked

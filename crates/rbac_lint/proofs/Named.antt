@@ -1,10 +1,12 @@
 -- the lines of each code name their objects and places
-use Rattle.std.proofs.Common.{◌≡◌, ℕ, List, ap, ◌∙◌, sym, refl, inl, inr}
-use Rattle.std.specs.Prelude.{Some, codes}
+use Rattle.std.proofs.Common.{◌≡◌, ℕ, List, [], ◌∷◌, ap, ◌∙◌, sym, refl, inl, inr}
+use Rattle.std.specs.Prelude.{Some, codes, unwrap_or}
 use Rattle.rbac_terms.specs.Text.{Text, text_cmp}
 use Rattle.rbac_terms.specs.declared.matching.Rule.{Rule}
 use Rattle.rbac_terms.specs.declared.granting.Binding.{Binding}
 use Rattle.rbac_model.specs.Policies.{Held, Source, binding_name, cluster_role_name}
+use Rattle.rbac_manifest.specs.Replaced.{replaced_name}
+use Rattle.rbac_lint.specs.Replaced.{scope_of, IsReplacedOf}
 use Rattle.rbac_lint.specs.declared.finding.Finding.{Finding}
 use Rattle.rbac_lint.specs.Lines.{Line, object_texts, Adds}
 use Rattle.rbac_lint.specs.Roles.{source_object, binding_object}
@@ -96,4 +98,15 @@ unfolding IsStaleOf
 stale_names h = record {
   code_is = λ s x p. ap (λ t. t.code) p.1;
   object_is = λ s x p. ap (λ t. object_texts t.object) p.1;
+}
+
+scope_texts : (namespace : Text) → unwrap_or (scope_of namespace) [] ≡ namespace
+scope_texts [] = refl
+scope_texts (c ∷ namespace) = refl
+
+pub replaced_names : Names replaced_name IsReplacedOf 7
+unfolding IsReplacedOf
+replaced_names = record {
+  code_is = λ r x p. ap (λ t. t.code) p;
+  object_is = λ r x p. ap (λ t. object_texts t.object) p ∙ ap (λ (n : Text). r.kind ∷ n ∷ r.name ∷ []) (scope_texts r.namespace);
 }

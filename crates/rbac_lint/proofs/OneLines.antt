@@ -1,16 +1,17 @@
 -- lines in order are one list, by what is among them
-use Rattle.std.proofs.Common.{◌≡◌, ℕ, ◌<◌, ◌⊎◌, inl, inr, List, [], ◌∷◌, get_or, length, sym, ap, ap₂, ◌∙◌, refl, subst, arith, zero, suc, map}
+use Rattle.std.proofs.Common.{◌≡◌, ◌<◌, ◌⊎◌, inl, inr, List, [], ◌∷◌, sym, ap, ap₂, ◌∙◌, refl, subst, arith, zero, suc, map}
 use Rattle.std.specs.Prelude.{Contains, AllPairs}
 use Rattle.std.specs.declared.cmp.Ordering.{Ordering}
-use Rattle.std.specs.declared.cmp.Ordering.TheVariants.{Less, Equal, Greater}
+use Rattle.std.specs.declared.cmp.Ordering.TheVariants.{Less}
 use Rattle.std.specs.Cmp.{IsTotalOrder}
 use Rattle.std.specs.Cmp.Lexicographic.{slice_cmp}
 use Rattle.std.proofs.lemmas.Cmp.{nat_list_cmp_total, lists_total, tied_itself}
-use Rattle.rbac_terms.specs.Text.{Text, text_cmp}
+use Rattle.rbac_terms.specs.Text.{text_cmp}
 use Rattle.rbac_model.specs.Policies.{Held}
+use Rattle.rbac_manifest.specs.declared.replaced.Replaced.{Replaced}
 use Rattle.rbac_lint.specs.declared.finding.Finding.{Finding}
-use Rattle.rbac_lint.specs.Lines.{Line, object_texts, place_key, IsBefore, AreExactly, AreShown, shown}
-use Rattle.rbac_lint.specs.Findings.{IsFinding, AreFindings}
+use Rattle.rbac_lint.specs.Lines.{Line, object_texts, place_key, IsBefore, AreShown, shown}
+use Rattle.rbac_lint.specs.Findings.{AreFindings}
 
 never_less : {X : Type 0} (R : X → X → Ordering) → IsTotalOrder R → (x y : X) → x ≡ y → R x y ≡ Less → ⊥
 never_less R total x y e l =
@@ -82,8 +83,8 @@ one_list (x ∷ xs) (y ∷ ys) up vp f g =
     ]) in
     ap₂ (λ (h : Line) (t : List Line). h ∷ t) heads rest
 
-pub one_findings : (h : Held) (found others : List Finding) → AreFindings h found → AreFindings h others → found ≡ others
+pub one_findings : (h : Held) (rs : List Replaced) (found others : List Finding) → AreFindings h rs found → AreFindings h rs others → found ≡ others
 unfolding AreShown
-one_findings h found others p q =
+one_findings h rs found others p q =
     let same : p.0 ≡ q.0 = one_list p.0 q.0 p.1.ordered q.1.ordered (λ x w. (q.1.exact x).1 ((p.1.exact x).0 w)) (λ x w. (p.1.exact x).1 ((q.1.exact x).0 w)) in
     p.2 ∙ ap (map shown) same ∙ sym q.2

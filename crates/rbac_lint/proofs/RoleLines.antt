@@ -1,5 +1,5 @@
 -- the roles of an export in order, and the lines of their rules
-use Rattle.std.proofs.Common.{◌≡◌, ℕ, ◌<◌, ◌+◌, ◌-◌, inl, inr, List, [], ◌∷◌, ◌++◌, get_or, length, map, sym, ap, ◌∙◌, refl, subst, arith, zero, suc}
+use Rattle.std.proofs.Common.{◌≡◌, ℕ, ◌<◌, ◌+◌, ◌-◌, inl, inr, List, [], ◌∷◌, ◌++◌, get_or, length, map, sym, ap, ◌∙◌, refl, arith, zero, suc}
 use Rattle.std.specs.Prelude.{Option, Some, None, Contains, slice_get, Bool, true, false, is_some, option_map}
 use Rattle.std.specs.Cmp.Lexicographic.{slice_cmp}
 use Rattle.std.specs.declared.cmp.Ordering.TheVariants.{Less}
@@ -11,7 +11,7 @@ use Rattle.rbac_terms.specs.declared.selecting.Selector.{Selector}
 use Rattle.rbac_terms.specs.declared.granting.Role.{Role}
 use Rattle.rbac_terms.specs.declared.granting.ClusterRole.{ClusterRole}
 use Rattle.rbac_model.specs.Lists.{by_name, IsAscendingBy}
-use Rattle.rbac_model.specs.Policies.{Held, IsHeld, Source, InRole, InClusterRole, IsPlain, role_name, cluster_role_name}
+use Rattle.rbac_model.specs.Policies.{Held, IsHeld, Source, InRole, InClusterRole, role_name, cluster_role_name}
 use Rattle.rbac_lint.specs.Lines.{object_texts}
 use Rattle.rbac_lint.specs.Roles.{roles_in, IsPlainRole, source_object}
 use Rattle.rbac_lint.proofs.Exact.{all_pairs_append}

@@ -92,9 +92,9 @@ resources_from_samples a b f has =
     let s = has.2.1 in
     let cs : Contains b.resources s = (has.2.0, has.2.2, has.2.3) in
     let n = some_name a.resource_names b.resource_names in (
+      each (AllowsResource a) b.resources (λ w c p. (f v.0 (Resource g.0 w n.0) (v.1, g.1, c, n.1, p)).1.1),
       each (AllowsVerb a) b.verbs (λ w c. (f w (Resource g.0 s n.0) (c, g.1, cs, n.1, has.2.4)).0),
       each (AllowsGroup a) b.groups (λ w c. (f v.0 (Resource w s n.0) (v.1, c, cs, n.1, has.2.4)).1.0),
-      each (AllowsResource a) b.resources (λ w c p. (f v.0 (Resource g.0 w n.0) (v.1, g.1, c, n.1, p)).1.1),
       name_words a b (λ m c. (f v.0 (Resource g.0 s m) (v.1, g.1, cs, c, has.2.4)).1.2),
     )
 
@@ -156,7 +156,7 @@ urls_through a b x p all m =
 pub Covers-from : (a b : Rule) → CoversResources a b → CoversUrls a b → Covers a b
 Covers-from a b rs us v (Resource g s n) p h =
     let d = rs (has_resource b v g s n p h) in
-    (verbs_through a b v d.0 h.0, (groups_through a b g d.1 h.1.0, resources_through a b s p d.2 h.1.1, names_through a b n d.3 h.1.2))
+    (verbs_through a b v d.1 h.0, (groups_through a b g d.2 h.1.0, resources_through a b s p d.0 h.1.1, names_through a b n d.3 h.1.2))
 Covers-from a b rs us v (Url x) p h =
     let d = us (has_url b v x p h) in
     (verbs_through a b v d.0 h.0, urls_through a b x p d.1 h.1)

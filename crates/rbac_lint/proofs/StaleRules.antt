@@ -1,17 +1,28 @@
 -- the rules that aggregated roles gather, compared with their written ones
-use Rattle.std.proofs.Common.{Bor, ◌≡◌, ℕ, ◌<◌, ◌+◌, ◌≢◌, ◌⊎◌, ◌↔◌, inl, inr, List, [], ◌∷◌, ◌++◌, length, map, sym, ap, ◌∙◌, refl, subst, arith}
-use Rattle.std.specs.Prelude.{Option, Some, None, slice_get, Bool, true, false, IsTrue, Contains, All, Any, not, get_or, is_some}
+use Rattle.std.proofs.Common.{Bor, ◌≡◌, ℕ, ◌<◌, ◌+◌, ◌≢◌, ◌⊎◌, ◌↔◌, inl, inr, List, [], ◌∷◌, ◌++◌, length, take, sym, ap, ◌∙◌, refl, subst, arith, cond}
+use Rattle.std.specs.Prelude.{Option, Some, None, slice_get, Bool, true, false, IsTrue, Contains, All, not, get_or, is_some}
 use Rattle.std.proofs.lemmas.Bool.{cases_lt}
 use Rattle.std.proofs.lemmas.Option.{slice_get_within, slice_get-get_or, same_Some}
-use Rattle.std.proofs.lemmas.List.Elements.{Contains-append_cases, Contains-append_left, Contains-append_right, All-contains, Contains-get_or}
-use Rattle.std.proofs.lemmas.List.{get_or-map, length-map, get_or_default}
+use Rattle.std.proofs.lemmas.List.Elements.{Contains-append_cases, Contains-append_left, Contains-append_right, Contains-push, Contains-push_cases, All-contains, Contains-get_or}
+use Rattle.std.proofs.lemmas.List.{get_or-map, length-map, get_or_default, take_more, map-append}
+use Rattle.std.specs.BTreeSet.{BTreeSet, contains}
+use Rattle.std.specs.BTreeMap.{is_at}
+use Rattle.std.specs.Cmp.Lexicographic.{slice_cmp}
+use Rattle.std.specs.List.{list_any}
+use Rattle.std.specs.Ordering.{is_eq, ordering_then}
+use Rattle.std.specs.declared.cmp.Ordering.{Ordering}
+use Rattle.std.specs.declared.cmp.Ordering.TheVariants.{Less, Equal, Greater}
+use Rattle.std.proofs.lemmas.Cmp.{tied_itself}
+use Rattle.rbac_terms.specs.Text.{Text, text_cmp}
+use Rattle.rbac_model.proofs.NamePlaces.{same_name}
+use Rattle.rbac_lint.specs.RuleSets.{rule_lists, lists_cmp, lists_cmp_total, IsIn, IsSetOf}
 use Rattle.rbac_terms.specs.declared.matching.Rule.{Rule}
 use Rattle.rbac_terms.specs.declared.selecting.Selector.{Selector}
 use Rattle.rbac_terms.specs.declared.granting.ClusterRole.{ClusterRole}
 use Rattle.rbac_model.specs.Places.{IsReachedAt}
 use Rattle.rbac_model.specs.Policies.{Held, IsPlain, Reaches, IsPath, Step}
 use Rattle.rbac_lint.specs.Findings.{IsGathered, IsStaleRole, HasSameRules}
-use Rattle.rbac_lint.specs.Gathering.{IsGatheredBy, AreGatheredBy, IsAmong, IsWritten, rules_at}
+use Rattle.rbac_lint.specs.Gathering.{AreGatheredBy, rules_at}
 
 pub gathered_start : (h : Held) (place : ℕ) (rules : List Rule) → rules ≡ [] → AreGatheredBy h place 0 rules
 gathered_start h place rules e = λ r here rule. (
@@ -74,27 +85,6 @@ gathered_all h place n rules all was r here rule = (
 
 -- ---- the same rules
 
-among_contains : (gs : List (Bor Rule)) (rule : Rule) → IsAmong gs rule → Contains (rules_at gs) rule
-unfolding IsAmong
-among_contains gs rule a =
-    (a.0, omega (arith, a.2, length-map gs (λ x. x.now)), get_or-map (λ x. x.now) gs a.0 a.1 rule a.2 ∙ ap (λ (v : Bor Rule). v.now) a.3 ∙ a.4)
-
-contains_among : (gs : List (Bor Rule)) (rule : Rule) → Contains (rules_at gs) rule → IsAmong gs rule
-unfolding IsAmong
-contains_among [] rule w = absurd (omega (arith, w.1))
-contains_among (g ∷ gs) rule w =
-    let l : w.0 < length (g ∷ gs) = omega (arith, w.1, length-map (g ∷ gs) (λ x. x.now)) in
-    let one : Bor Rule = get_or (g ∷ gs) w.0 g in
-    (w.0, one, l, get_or_default (g ∷ gs) w.0 one g l, sym (get_or-map (λ x. x.now) (g ∷ gs) w.0 g rule l) ∙ w.2)
-
-written_contains : (ws : List Rule) (rule : Rule) → IsWritten ws rule → Contains ws rule
-unfolding IsWritten
-written_contains ws rule a = (a.0, a.2, get_or_default ws a.0 rule a.1 a.2 ∙ a.3 ∙ a.4)
-
-contains_written : (ws : List Rule) (rule : Rule) → Contains ws rule → IsWritten ws rule
-unfolding IsWritten
-contains_written ws rule w = (w.0, rule, w.1, w.2, refl)
-
 each_of : {X : Type 0} (P : X → Type 0) (xs : List X) → ((x : X) → Contains xs x → P x) → All P xs
 each_of P xs f k d l = f (get_or xs k d) (Contains-get_or xs k d l)
 
@@ -102,23 +92,116 @@ contains_now : (gs : List (Bor Rule)) (g : Bor Rule) → Contains gs g → Conta
 contains_now gs g w =
     (w.0, omega (arith, w.1, length-map gs (λ x. x.now)), get_or-map (λ x. x.now) gs w.0 g g.now w.1 ∙ ap (λ (v : Bor Rule). v.now) w.2)
 
-shown_written : (ws : List Rule) (gs : List (Bor Rule)) (rule : Rule) → All (λ g. IsWritten ws g.now) gs → IsAmong gs rule → Contains ws rule
-unfolding IsAmong
-shown_written ws gs rule f a =
-    let P : Rule → Type 0 = λ v. Contains ws v in
-    subst P a.4 (written_contains ws a.1.now (All-contains (λ g. IsWritten ws g.now) gs a.1 f (a.0, a.2, a.3)))
+-- whatever is shown is shown by a reference
+shown_by : (gs : List (Bor Rule)) (rule : Rule) → Contains (rules_at gs) rule → (g : Bor Rule) × Contains gs g × (g.now ≡ rule)
+shown_by [] rule w = absurd (omega (arith, w.1))
+shown_by (g ∷ gs) rule w =
+    let l : w.0 < length (g ∷ gs) = omega (arith, w.1, length-map (g ∷ gs) (λ x. x.now)) in
+    let one : Bor Rule = get_or (g ∷ gs) w.0 g in
+    (one, (w.0, l, get_or_default (g ∷ gs) w.0 one g l), sym (get_or-map (λ x. x.now) (g ∷ gs) w.0 g rule l) ∙ w.2)
 
-pub same_rules_from : (ws : List Rule) (gs : List (Bor Rule)) → All (IsAmong gs) ws → All (λ rule. IsWritten ws rule.now) gs → HasSameRules ws (Contains (rules_at gs))
-same_rules_from ws gs f g = λ rule. (
-  λ w. among_contains gs rule (All-contains (IsAmong gs) ws rule f w),
-  λ w. shown_written ws gs rule g (contains_among gs rule w),
+-- each rule is in the set, and so each that is shown
+each_in : (gs : List (Bor Rule)) (rules : List Rule) (set : BTreeSet (List (List Text))) → IsSetOf rules set → All (λ g. IsIn set g.now) gs → (rule : Rule) → Contains (rules_at gs) rule → Contains rules rule
+unfolding IsSetOf
+each_in gs rules set is all rule w =
+    let g = shown_by gs rule w in
+    let P : Rule → Type 0 = λ v. IsIn set v in
+    (is rule).0 (subst P g.2 (All-contains (λ (x : Bor Rule). IsIn set x.now) gs g.0 all g.1))
+
+in_each : (gs : List (Bor Rule)) (rules : List Rule) (set : BTreeSet (List (List Text))) → IsSetOf rules set → ((rule : Rule) → Contains (rules_at gs) rule → Contains rules rule) → All (λ g. IsIn set g.now) gs
+unfolding IsSetOf
+in_each gs rules set is f = each_of (λ (g : Bor Rule). IsIn set g.now) gs (λ g w. (is g.now).1 (f g.now (contains_now gs g w)))
+
+pub same_rules_from : (ws gs : List (Bor Rule)) (these those : BTreeSet (List (List Text))) → IsSetOf (rules_at ws) these → IsSetOf (rules_at gs) those
+    → All (λ w. IsIn those w.now) ws → All (λ g. IsIn these g.now) gs → HasSameRules (rules_at ws) (Contains (rules_at gs))
+same_rules_from ws gs these those p q f g = λ rule. (each_in ws (rules_at gs) those q f rule, each_in gs (rules_at ws) these p g rule)
+
+pub same_rules_gathered : (ws gs : List (Bor Rule)) (those : BTreeSet (List (List Text))) → IsSetOf (rules_at gs) those → HasSameRules (rules_at ws) (Contains (rules_at gs)) → All (λ w. IsIn those w.now) ws
+same_rules_gathered ws gs those q s = in_each ws (rules_at gs) those q (λ rule w. (s rule).0 w)
+
+pub same_rules_written : (ws gs : List (Bor Rule)) (these : BTreeSet (List (List Text))) → IsSetOf (rules_at ws) these → HasSameRules (rules_at ws) (Contains (rules_at gs)) → All (λ g. IsIn these g.now) gs
+same_rules_written ws gs these p s = in_each gs (rules_at ws) these p (λ rule w. (s rule).1 w)
+
+-- ---- a set grows
+
+both_equal : (o p : Ordering) → ordering_then o p ≡ Equal → (o ≡ Equal) × (p ≡ Equal)
+both_equal Less p e = cc
+both_equal Equal p e = (refl, e)
+both_equal Greater p e = cc
+
+exact_lists : (xs ys : List (List Text)) → lists_cmp xs ys ≡ Equal → xs ≡ ys
+exact_lists [] [] e = refl
+exact_lists [] (y ∷ ys) e = cc
+exact_lists (x ∷ xs) [] e = cc
+exact_lists (x ∷ xs) (y ∷ ys) e =
+    let parts = both_equal (slice_cmp text_cmp x y) (lists_cmp xs ys) e in
+    let heads : x ≡ y = same_name (λ (t : List Text). t) x y parts.0 in
+    let tails : xs ≡ ys = exact_lists xs ys parts.1 in cc
+
+abbrev rule_of : List Text → List Text → List Text → List Text → List Text → Rule
+rule_of verbs groups resources names urls = record { verbs = verbs; groups = groups; resources = resources; resource_names = names; urls = urls }
+
+same_rule : (a b : Rule) → rule_lists a ≡ rule_lists b → a ≡ b
+same_rule a b e =
+    let verbs : a.verbs ≡ b.verbs = cc (e) in
+    let groups : a.groups ≡ b.groups = cc (e) in
+    let resources : a.resources ≡ b.resources = cc (e) in
+    let names : a.resource_names ≡ b.resource_names = cc (e) in
+    let urls : a.urls ≡ b.urls = cc (e) in
+    ap (λ (ws : List Text). rule_of ws a.groups a.resources a.resource_names a.urls) verbs
+    ∙ ap (λ (ws : List Text). rule_of b.verbs ws a.resources a.resource_names a.urls) groups
+    ∙ ap (λ (ws : List Text). rule_of b.verbs b.groups ws a.resource_names a.urls) resources
+    ∙ ap (λ (ws : List Text). rule_of b.verbs b.groups b.resources ws a.urls) names
+    ∙ ap (λ (ws : List Text). rule_of b.verbs b.groups b.resources b.resource_names ws) urls
+
+by_test : (o : Ordering) → is_eq o ≡ true → o ≡ Equal
+by_test Less h = cc
+by_test Equal h = refl
+by_test Greater h = cc
+
+tied_rule : (a b : Rule) → a ≡ b → is_eq (lists_cmp (rule_lists a) (rule_lists b)) ≡ true
+tied_rule a b e = ap (λ (v : Rule). is_eq (lists_cmp (rule_lists a) (rule_lists v))) (sym e) ∙ ap is_eq (tied_itself lists_cmp_total (rule_lists a))
+
+either_true : (b c : Bool) → cond b true c ≡ true → (b ≡ true) ⊎ (c ≡ true)
+either_true true c h = inl refl
+either_true false c h = inr h
+
+true_either : (b c : Bool) → (b ≡ true) ⊎ (c ≡ true) → cond b true c ≡ true
+true_either true c h = refl
+true_either false c (inl h) = cc
+true_either false c (inr h) = h
+
+pub set_start : (set : BTreeSet (List (List Text))) → set.keys ≡ [] → IsSetOf [] set
+unfolding IsSetOf IsIn
+set_start set e rule = (
+  λ t. absurd (let none : contains lists_cmp set (rule_lists rule) ≡ false = ap (λ (ks : List (List (List Text))). list_any (is_at (lists_cmp (rule_lists rule))) ks) e in cc),
+  λ w. absurd (omega (arith, w.1)),
 )
 
-pub same_rules_gathered : (ws : List Rule) (gs : List (Bor Rule)) → HasSameRules ws (Contains (rules_at gs)) → All (IsAmong gs) ws
-same_rules_gathered ws gs s = each_of (IsAmong gs) ws (λ rule w. contains_among gs rule ((s rule).0 w))
+pub set_more : (rules : List Rule) (a : Rule) (old new : BTreeSet (List (List Text)))
+    → ((q : List (List Text)) → contains lists_cmp new q ≡ cond (is_eq (lists_cmp (rule_lists a) q)) true (contains lists_cmp old q)) → IsSetOf rules old → IsSetOf (rules ++ a ∷ []) new
+unfolding IsSetOf IsIn
+set_more rules a old new is was rule =
+    let now = is (rule_lists rule) in (
+      λ t. elim (either_true (is_eq (lists_cmp (rule_lists a) (rule_lists rule))) (contains lists_cmp old (rule_lists rule)) (sym now ∙ t)) [
+        | inl e ↦
+            let same : a ≡ rule = same_rule a rule (exact_lists (rule_lists a) (rule_lists rule) (by_test (lists_cmp (rule_lists a) (rule_lists rule)) e)) in
+            subst (λ (v : Rule). Contains (rules ++ a ∷ []) v) same (Contains-push rules a)
+        | inr o ↦ Contains-append_left rules (a ∷ []) rule ((was rule).0 o)
+      ],
+      λ w. now ∙ true_either (is_eq (lists_cmp (rule_lists a) (rule_lists rule))) (contains lists_cmp old (rule_lists rule)) (elim (Contains-push_cases rules a rule w) [
+        | inl o ↦ inr ((was rule).1 o)
+        | inr e ↦ inl (tied_rule a rule e)
+      ]),
+    )
 
-pub same_rules_written : (ws : List Rule) (gs : List (Bor Rule)) → HasSameRules ws (Contains (rules_at gs)) → All (λ rule. IsWritten ws rule.now) gs
-same_rules_written ws gs s = each_of (λ (rule : Bor Rule). IsWritten ws rule.now) gs (λ g w. contains_written ws g.now ((s g.now).1 (contains_now gs g w)))
+pub set_more_taken : (gs : List (Bor Rule)) (i : ℕ) (g : Bor Rule) (old new : BTreeSet (List (List Text))) → i < length gs → g ≡ get_or gs i g
+    → ((q : List (List Text)) → contains lists_cmp new q ≡ cond (is_eq (lists_cmp (rule_lists g.now) q)) true (contains lists_cmp old q))
+    → IsSetOf (rules_at (take i gs)) old → IsSetOf (rules_at (take (i + 1) gs)) new
+set_more_taken gs i g old new lt at is was =
+    let taken : take (i + 1) gs ≡ take i gs ++ g ∷ [] = take_more gs i g lt ∙ ap (λ (x : Bor Rule). take i gs ++ x ∷ []) (sym at) in
+    let more : rules_at (take (i + 1) gs) ≡ rules_at (take i gs) ++ g.now ∷ [] = ap rules_at taken ∙ map-append (λ (x : Bor Rule). x.now) (take i gs) (g ∷ []) in
+    subst (λ (rs : List Rule). IsSetOf rs new) (sym more) (set_more (rules_at (take i gs)) g.now old new is was)
 
 -- ---- stale roles
 

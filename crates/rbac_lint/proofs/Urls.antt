@@ -1,8 +1,8 @@
 -- URL words taken as texts
-use Rattle.std.proofs.Common.{◌≡◌, ◌≢◌, ℕ, ◌+◌, ◌<◌, ◌≤◌, ◌⊎◌, List, [], ◌∷◌, ◌++◌, take, drop, length, replicate, inl, inr, sym, ap, ◌∙◌, refl, subst, arith, zero, suc, append_assoc, add-one, ◌↔◌, Any, All, MatchOption, Bor}
+use Rattle.std.proofs.Common.{◌≡◌, ◌≢◌, ℕ, ◌+◌, ◌≤◌, ◌⊎◌, List, [], ◌∷◌, ◌++◌, take, drop, length, replicate, inl, inr, sym, ap, ◌∙◌, refl, subst, arith, zero, suc, append_assoc, add-one, ◌↔◌, Any, All, MatchOption, Bor}
 use Rattle.std.specs.Prelude.{codes, Option, Some, None}
 use Rattle.std.proofs.lemmas.Bool.{cases_eq}
-use Rattle.std.proofs.lemmas.List.{same_from_push, append-nil, take-append-le, take-append-drop, length-append, length-replicate}
+use Rattle.std.proofs.lemmas.List.{same_from_push, append-nil, take-append-le, take-append-drop, length-append}
 use Rattle.std.proofs.lemmas.List.Elements.{All-cons, All-nil}
 use Rattle.std.proofs.Math.Seq.{take-append_seam}
 use Rattle.rbac_terms.specs.Text.{Text, star, slash, BeginsWith}
@@ -74,7 +74,7 @@ IsPath-less : (c : ℕ) (q rest : Text) → IsPath ((c ∷ q) ++ rest) → IsPat
 IsPath-less c q rest p = let same : c ≡ slash = cc (p.1) in (q, ap (λ d. d ∷ q) same)
 
 -- a text and its stars
-ends : (w q : Text) (k : ℕ) → w ≡ q ++ replicate (k + 1) star → EndsInStar w
+pub ends : (w q : Text) (k : ℕ) → w ≡ q ++ replicate (k + 1) star → EndsInStar w
 ends w q k e = (q ++ replicate k star, e ∙ ap (λ n. q ++ replicate n star) (add-one k) ∙ one_more_star q k)
 
 no_stars : (w q : Text) → w ≡ q ++ replicate 0 star → w ≡ q

@@ -95,7 +95,7 @@ HasUrl b = (b.verbs ≢ []) × Any GivesPath b.urls
 
 -- a allows these, list by list
 abbrev pub CoversResources : Rule → Rule → Type 0
-CoversResources a b = HasResource b → AllowsVerbs a b × AllowsGroups a b × AllowsResources a b × AllowsNames a b
+CoversResources a b = HasResource b → AllowsResources a b × AllowsVerbs a b × AllowsGroups a b × AllowsNames a b
 
 abbrev pub CoversUrls : Rule → Rule → Type 0
 CoversUrls a b = HasUrl b → AllowsVerbs a b × AllowsUrls a b

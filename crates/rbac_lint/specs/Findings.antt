@@ -11,7 +11,10 @@ use Rattle.rbac_model.specs.Policies.{Held, Source, InRole, InClusterRole, IsPla
 use Rattle.rbac_model.specs.Universes.{Covers}
 use Rattle.rbac_lint.specs.declared.finding.Finding.{Finding}
 use Rattle.rbac_lint.specs.Lines.{Line, OfEach, object_text, AreShown}
-use Rattle.rbac_lint.specs.Roles.{roles_in, IsPlainRole, rules_of, source_object, binding_object, named_object}
+use Rattle.rbac_manifest.specs.declared.replaced.Replaced.{Replaced}
+use Rattle.rbac_lint.specs.Replaced.{IsReplaced}
+use Rattle.rbac_model.specs.Places.{rules_of}
+use Rattle.rbac_lint.specs.Roles.{roles_in, IsPlainRole, source_object, binding_object, named_object}
 
 -- a line of a role, and of a binding
 abbrev pub role_line : ℕ → Source → Option ℕ → Text → Line
@@ -67,15 +70,15 @@ abbrev pub IsRedundant : Held → Line → Type 0
 IsRedundant h = OfEach (λ k s. IsRedundantOf s) (roles_in h)
 
 -- L4: the rule allows the verb on roles or cluster roles, whatever their names (Using RBAC Authorization, Privilege escalation prevention and bootstrapping)
-abbrev pub HasGroup : Rule → Text → Type 0
-HasGroup r group = Any (λ w. WordMatches w group) r.groups
+abbrev pub MatchesGroup : Rule → Text → Type 0
+MatchesGroup r group = Any (λ w. WordMatches w group) r.groups
 
-abbrev pub HasResource : Rule → Text → Type 0
-HasResource r text = Any (λ w. ResourceWordMatches w text) r.resources
+abbrev pub MatchesResource : Rule → Text → Type 0
+MatchesResource r text = Any (λ w. ResourceWordMatches w text) r.resources
 
 unfoldable pub Escalates : Rule → Text → Type 0
-Escalates r verb = VerbOk r verb × HasGroup r (codes "rbac.authorization.k8s.io")
-    × (HasResource r (codes "roles") ⊎ HasResource r (codes "clusterroles"))
+Escalates r verb = VerbOk r verb × MatchesGroup r (codes "rbac.authorization.k8s.io")
+    × (MatchesResource r (codes "roles") ⊎ MatchesResource r (codes "clusterroles"))
 
 unfoldable pub IsEscalationBy : Text → Source → ℕ → Rule → Line → Type 0
 IsEscalationBy verb s i r x = Escalates r verb × (x ≡ role_line 4 s (Some i) verb)
@@ -115,10 +118,11 @@ IsStaleOf h r x = IsStaleRole h r × (x ≡ role_line 6 (InClusterRole r) None [
 abbrev pub IsStale : Held → Line → Type 0
 IsStale h = OfEach (λ k r. IsStaleOf h r) h.cluster_roles
 
--- all that lint finds
-abbrev pub IsFinding : Held → Line → Type 0
-IsFinding h x = IsDangling h x ⊎ (IsUnused h x ⊎ (IsRedundant h x ⊎ (IsEscalation h x ⊎ (IsAccountWithout h x ⊎ IsStale h x))))
+-- all that lint finds, L7 among it: an object was given by several documents
+abbrev pub IsFinding : Held → List Replaced → Line → Type 0
+IsFinding h rs x =
+    IsDangling h x ⊎ (IsUnused h x ⊎ (IsRedundant h x ⊎ (IsEscalation h x ⊎ (IsAccountWithout h x ⊎ (IsStale h x ⊎ IsReplaced rs x)))))
 
 -- these are the findings: exactly those lines, in order (own)
-abbrev pub AreFindings : Held → List Finding → Type 0
-AreFindings h found = AreShown (IsFinding h) found
+abbrev pub AreFindings : Held → List Replaced → List Finding → Type 0
+AreFindings h rs found = AreShown (IsFinding h rs) found

@@ -1,5 +1,5 @@
 -- While stale aggregates are looked for: the rules that an aggregated role gathers.
-use Rattle.std.specs.Prelude.{◌≡◌, ℕ, ◌<◌, ◌↔◌, List, Some, Any, Contains, map, slice_get}
+use Rattle.std.specs.Prelude.{◌≡◌, ℕ, ◌<◌, ◌↔◌, List, Some, Contains, map, slice_get}
 use Rattle.std.proofs.Common.{Bor}
 use Rattle.rbac_terms.specs.declared.matching.Rule.{Rule}
 use Rattle.rbac_terms.specs.declared.granting.ClusterRole.{ClusterRole}
@@ -9,13 +9,6 @@ use Rattle.rbac_model.specs.Policies.{Held, IsPlain}
 -- the rules that references show
 abbrev pub rules_at : List (Bor Rule) → List Rule
 rules_at rules = map (λ x. x.now) rules
-
--- a rule is among those that references show, or among written ones
-unfoldable pub IsAmong : List (Bor Rule) → Rule → Type 0
-IsAmong rules rule = Any (λ x. x.now ≡ rule) rules
-
-unfoldable pub IsWritten : List Rule → Rule → Type 0
-IsWritten rules rule = Any (λ x. x ≡ rule) rules
 
 -- r gathers the rule from one of the first n cluster roles: a plain one that it reaches
 abbrev pub IsGatheredBy : Held → ClusterRole → ℕ → Rule → Type 0

@@ -2,6 +2,9 @@ pub mod Covering
 pub mod Findings
 pub mod Gathering
 pub mod Lines
+pub mod Listing
 pub mod Marks
 pub mod Powers
+pub mod Replaced
 pub mod Roles
+pub mod RuleSets

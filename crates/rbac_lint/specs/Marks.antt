@@ -1,5 +1,5 @@
 -- While unused roles are looked for: which roles bindings name.
-use Rattle.std.specs.Prelude.{◌≡◌, ℕ, ◌<◌, ◌⊎◌, ◌↔◌, List, Some, Bool, true, false, length, get_or, slice_get}
+use Rattle.std.specs.Prelude.{◌≡◌, ℕ, ◌⊎◌, ◌↔◌, List, Some, Bool, true, false, length, get_or, slice_get}
 use Rattle.rbac_terms.specs.declared.granting.Binding.{Binding}
 use Rattle.rbac_terms.specs.declared.granting.ClusterRole.{ClusterRole}
 use Rattle.rbac_model.specs.Policies.{Held, Source, InClusterRole, IsRefTo}

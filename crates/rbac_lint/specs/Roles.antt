@@ -1,7 +1,6 @@
 -- The roles of an export as one list, and the objects that findings name.
-use Rattle.std.specs.Prelude.{◌≡◌, List, [], ◌++◌, Option, Some, None, codes, map, unwrap_or}
+use Rattle.std.specs.Prelude.{List, [], ◌++◌, Option, Some, None, codes, map, unwrap_or}
 use Rattle.rbac_terms.specs.Text.{Text}
-use Rattle.rbac_terms.specs.declared.matching.Rule.{Rule}
 use Rattle.rbac_terms.specs.declared.granting.Binding.{Binding}
 use Rattle.rbac_terms.specs.declared.granting.RoleRef.{RoleRef}
 use Rattle.rbac_terms.specs.declared.granting.RoleRef.TheVariants.{Role as ToRole, ClusterRole as ToClusterRole}
@@ -16,11 +15,6 @@ roles_in h = map (λ r. InClusterRole r) h.cluster_roles ++ map (λ r. InRole r)
 abbrev pub IsPlainRole : Source → Type 0
 IsPlainRole (InRole r) = Unit {0}
 IsPlainRole (InClusterRole r) = IsPlain r
-
--- the rules that are written in a role
-abbrev pub rules_of : Source → List Rule
-rules_of (InRole r) = r.rules
-rules_of (InClusterRole r) = r.rules
 
 -- objects by their names
 abbrev pub role_object : Text → Text → ObjectName

@@ -19,11 +19,12 @@ pub fn covers(a: &Rule, b: &Rule) -> bool
     covers_resources(a, b) && covers_urls(a, b)
 }
 
+// The resources come first: of many rules few are about the same ones.
 fn covers_resources(a: &Rule, b: &Rule) -> bool
     ensures { IsTrue result ↔ CoversResources a.now b.now }
 {
     !has_resource(b)
-        || allows_verbs(a, b) && allows_groups(a, b) && allows_resources(a, b) && allows_names(a, b)
+        || allows_resources(a, b) && allows_verbs(a, b) && allows_groups(a, b) && allows_names(a, b)
 }
 
 fn covers_urls(a: &Rule, b: &Rule) -> bool
@@ -139,7 +140,7 @@ fn after_slash(text: &[u8]) -> Option<&[u8]>
 }
 
 #[tactic(auto, unfolding(crate::specs::Covering::HasResource))]
-fn has_resource(rule: &Rule) -> bool
+pub(crate) fn has_resource(rule: &Rule) -> bool
     ensures { IsTrue result ↔ HasResource rule.now }
 {
     !rule.verbs.is_empty()
@@ -152,7 +153,7 @@ fn has_resource(rule: &Rule) -> bool
 }
 
 #[tactic(auto, unfolding(crate::specs::Covering::HasUrl))]
-fn has_url(rule: &Rule) -> bool
+pub(crate) fn has_url(rule: &Rule) -> bool
     ensures { IsTrue result ↔ HasUrl rule.now }
 {
     !rule.verbs.is_empty() && rule.urls.as_slice().iter().any(|word| gives_path(word))
@@ -170,13 +171,13 @@ fn is_stars(text: &[u8]) -> bool
     !text.is_empty() && text.iter().all(|byte| *byte == b'*')
 }
 
-fn is_resource_text(text: &Word) -> bool
+pub(crate) fn is_resource_text(text: &Word) -> bool
     ensures { IsTrue result ↔ IsResourceText text.now }
 {
     !text.is_empty() && !is_path(text.as_bytes())
 }
 
-fn gives_path(word: &Word) -> bool
+pub(crate) fn gives_path(word: &Word) -> bool
     ensures { IsTrue result ↔ GivesPath word.now }
 {
     is_path(word.as_bytes()) || is_stars(word.as_bytes())

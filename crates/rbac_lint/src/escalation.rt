@@ -3,7 +3,7 @@
 ghost use Rattle.std.specs.Prelude.{◌≡◌, OnOk, IfOk, IsTrue, ◌↔◌, ◌⊎◌, codes};
 ghost use Rattle.rbac_model.specs.Sources.{source_of};
 ghost use Rattle.rbac_lint.specs.Lines.{Adds, OfEach};
-ghost use Rattle.rbac_lint.specs.Findings.{Escalates, IsEscalationBy, IsEscalationAt, IsEscalationOf, IsEscalation, HasResource};
+ghost use Rattle.rbac_lint.specs.Findings.{Escalates, IsEscalationBy, IsEscalationAt, IsEscalationOf, IsEscalation, MatchesResource};
 ghost use Rattle.rbac_lint.specs.Powers.{the_powers};
 
 use crate::finding::{Finding, Findings, role_word};
@@ -143,7 +143,7 @@ fn escalates(powers: &Powers, rule: &Rule, verb: &Word) -> bool
 
 fn has_roles(powers: &Powers, rule: &Rule) -> bool
     requires { powers.now ≡ the_powers }
-    ensures { IsTrue result ↔ (HasResource rule.now (codes "roles") ⊎ HasResource rule.now (codes "clusterroles")) }
+    ensures { IsTrue result ↔ (MatchesResource rule.now (codes "roles") ⊎ MatchesResource rule.now (codes "clusterroles")) }
 {
     resource_matches(rule, &powers.roles) || resource_matches(rule, &powers.cluster_roles)
 }

@@ -9,8 +9,11 @@ mod fault;
 mod finding;
 mod laws;
 mod linting;
+mod listing;
 mod redundant;
+mod replaced;
 mod roles;
+mod rule_set;
 mod stale;
 mod unused;
 

@@ -9,24 +9,26 @@ use crate::escalation::find_escalations;
 use crate::fault::LintFault;
 use crate::finding::Findings;
 use crate::redundant::find_redundant;
+use crate::replaced::find_replaced;
 use crate::stale::find_stale;
 use crate::unused::find_unused;
-use rbac_model::Policy;
+use rbac_manifest::Loaded;
 use std::alloc::Global;
 
-/// What the roles and bindings of a policy deserve a second look for (own): bindings whose role
-/// isn't there, roles that no binding leads to, rules that another rule of their role covers, rules
-/// that let a subject grant more than it has, accounts without a namespace, and aggregated roles
-/// whose written rules aren't those that they gather. In order of these codes, then of objects by
-/// kind, namespace and name, then of places, then of what else is told.
+/// What loaded inputs deserve a second look for (own): bindings whose role isn't there, roles that
+/// no binding leads to, rules that another rule of their role covers, rules that let a subject
+/// grant more than it has, accounts without a namespace, aggregated roles whose written rules
+/// aren't those that they gather, and objects that were given more than once. In order of these
+/// codes, then of objects by kind, namespace and name, then of places, then of what else is told.
 ///
 /// # Errors
 ///
 /// N1 where memory was refused.
-pub fn lint(alloc: Global, policy: &Policy) -> Result<Findings, LintFault>
-    ensures ok { IfOk result (AreFindings policy.now.held) }
+pub fn lint(alloc: Global, loaded: &Loaded) -> Result<Findings, LintFault>
+    ensures ok { IfOk result (AreFindings loaded.now.policy.held loaded.now.replaced) }
     ensures only_memory { IfErr result (λ e. e ≡ LintFault.NoMemory) }
 {
+    let policy = loaded.policy();
     let objects = policy.objects();
     let mut found = Findings::new(alloc);
     find_dangling(alloc, &mut found, objects)?;
@@ -35,5 +37,6 @@ pub fn lint(alloc: Global, policy: &Policy) -> Result<Findings, LintFault>
     find_escalations(alloc, &mut found, objects)?;
     find_accounts(alloc, &mut found, objects)?;
     find_stale(alloc, &mut found, policy)?;
+    find_replaced(alloc, &mut found, loaded.replaced())?;
     Ok(found)
 }

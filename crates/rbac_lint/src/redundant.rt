@@ -1,16 +1,23 @@
 //! Rules that another rule of their role covers.
 
-ghost use Rattle.std.specs.Prelude.{◌≡◌, ◌<◌, ℕ, length, IsTrue, ◌↔◌, MatchOption, slice_get, Some, IfSome, OnOk};
+ghost use Rattle.std.specs.Prelude.{◌≡◌, ◌<◌, ℕ, List, length, IsTrue, ◌↔◌, MatchOption, slice_get, Some, IfSome, IfOk, OnOk};
+ghost use Rattle.std.specs.Option.{ForSome};
 ghost use Rattle.rbac_model.specs.Sources.{source_of};
+ghost use Rattle.rbac_terms.specs.declared.matching.Rule.{Rule as RuleView};
 ghost use Rattle.rbac_lint.specs.Lines.{Adds, OfEach};
+ghost use Rattle.rbac_lint.specs.Listing.{IsListingOf, AreCandidates, IsAscending, IsRedundantBy, AnswersLeast, sooner as sooner_of};
 ghost use Rattle.rbac_lint.specs.Findings.{CoversAll, MakesRedundantAt, MakesRedundant, IsLeastCover, IsRedundantAt, IsRedundantOf, IsRedundant};
 
 use crate::covering::covers;
 use crate::finding::{Finding, Findings, number_word, role_word};
+use crate::listing::{Candidates, Listing, fewest_for, listing_of};
 use crate::roles::{plain_rules, role_at, role_count};
 use rbac_model::{Objects, SourceRole};
 use rbac_terms::Rule;
 use std::alloc::{AllocError, Global};
+
+// From so many rules on a role's rules are listed by their words.
+const MANY: usize = 16;
 
 // Those of all plain roles.
 pub(crate) fn find_redundant(
@@ -44,10 +51,22 @@ fn find_in_rules(
 ) -> Result<(), AllocError>
     ensures { OnOk result (Adds (OfEach (λ i r. IsRedundantAt (source_of role.entry) rules.now i) rules.now) found.old found.new) }
 {
+    let listing = listing_if_many(alloc, rules)?;
+    let listed = listing.as_ref();
     for (place, rule) in rules.iter().enumerate() {
-        find_at(alloc, found, role, rules, place, rule)?;
+        find_at(alloc, found, role, rules, listed, place, rule)?;
     }
     Ok(())
+}
+
+// The listing of these rules; a few are compared sooner than listed.
+fn listing_if_many(alloc: Global, rules: &[Rule]) -> Result<Option<Listing>, AllocError>
+    ensures { IfOk result (λ l. ForSome l (IsListingOf rules.now)) }
+{
+    if rules.len() < MANY {
+        return Ok(None);
+    }
+    Ok(Some(listing_of(alloc, rules)?))
 }
 
 // The one that the rule at this place is, if it is one.
@@ -56,13 +75,15 @@ fn find_at(
     found: &mut Findings,
     role: SourceRole<'_>,
     rules: &[Rule],
+    listing: Option<&Listing>,
     place: usize,
     rule: &Rule,
 ) -> Result<(), AllocError>
-    requires { slice_get rules.now place ≡ Some rule.now }
+    requires here { slice_get rules.now place ≡ Some rule.now }
+    requires listed { ForSome listing (λ l. IsListingOf rules.now l.now) }
     ensures { OnOk result (Adds (IsRedundantAt (source_of role.entry) rules.now place) found.old found.new) }
 {
-    let Some(wide) = covering_rule(rules, place, rule) else {
+    let Some(wide) = covering_rule(rules, listing, place, rule) else {
         return Ok(());
     };
     let object = role_word(alloc, role)?;
@@ -76,7 +97,83 @@ fn find_at(
 }
 
 // The least place of a rule that makes this one redundant.
-fn covering_rule(rules: &[Rule], place: usize, rule: &Rule) -> Option<usize>
+fn covering_rule(
+    rules: &[Rule],
+    listing: Option<&Listing>,
+    place: usize,
+    rule: &Rule,
+) -> Option<usize>
+    requires here { slice_get rules.now place ≡ Some rule.now }
+    requires listed { ForSome listing (λ l. IsListingOf rules.now l.now) }
+    ensures least { MatchOption result ((j : ℕ) → ¬ MakesRedundant rules.now place j) (λ j. IsLeastCover rules.now place j) }
+    ensures within { IfSome result (λ j. j < length rules.now) }
+{
+    match candidates_if_listed(listing, rule) {
+        Some(candidates) => first_of(rules, candidates, place, rule),
+        None => first_of_all(rules, place, rule),
+    }
+}
+
+fn candidates_if_listed<'a>(listing: Option<&'a Listing>, rule: &'a Rule) -> Option<Candidates<'a>>
+    ensures { (rules : List RuleView) → ForSome listing.entry (λ l. IsListingOf rules l.now) → IfSome result (AreCandidates rules rule.now) }
+{
+    match listing {
+        Some(listing) => fewest_for(listing, rule),
+        None => None,
+    }
+}
+
+// The same among candidates.
+fn first_of(rules: &[Rule], candidates: Candidates<'_>, place: usize, rule: &Rule) -> Option<usize>
+    requires here { slice_get rules.now place ≡ Some rule.now }
+    requires complete { AreCandidates rules.now rule.now candidates }
+    ensures least { MatchOption result ((j : ℕ) → ¬ MakesRedundant rules.now place j) (λ j. IsLeastCover rules.now place j) }
+    ensures within { IfSome result (λ j. j < length rules.now) }
+{
+    sooner(
+        first_listed(rules, candidates.own, place, rule),
+        first_listed(rules, candidates.wild, place, rule),
+    )
+}
+
+// The lesser place.
+fn sooner(a: Option<usize>, b: Option<usize>) -> Option<usize>
+    ensures { result ≡ sooner_of a b }
+{
+    match (a, b) {
+        (Some(a), Some(b)) => Some(a.min(b)),
+        (Some(a), None) => Some(a),
+        (None, b) => b,
+    }
+}
+
+// The least of these places whose rule makes this one redundant.
+fn first_listed(rules: &[Rule], listed: &[usize], place: usize, rule: &Rule) -> Option<usize>
+    requires here { slice_get rules.now place ≡ Some rule.now }
+    requires ascending { IsAscending listed.now }
+    ensures { AnswersLeast (IsRedundantBy rules.now place listed.now) result }
+{
+    for other in listed {
+        if is_redundant_by(rules, place, rule, *other) {
+            return Some(*other);
+        }
+    }
+    None
+}
+
+// Whether the rule at the other place makes this one redundant.
+fn is_redundant_by(rules: &[Rule], place: usize, rule: &Rule, other: usize) -> bool
+    requires { slice_get rules.now place ≡ Some rule.now }
+    ensures { IsTrue result ↔ MakesRedundant rules.now place other }
+{
+    match rules.get(other) {
+        Some(wide) => makes_redundant(place, rule, other, wide),
+        None => false,
+    }
+}
+
+// The same among all rules.
+fn first_of_all(rules: &[Rule], place: usize, rule: &Rule) -> Option<usize>
     requires { slice_get rules.now place ≡ Some rule.now }
     ensures least { MatchOption result ((j : ℕ) → ¬ MakesRedundant rules.now place j) (λ j. IsLeastCover rules.now place j) }
     ensures within { IfSome result (λ j. j < length rules.now) }

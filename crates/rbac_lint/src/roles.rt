@@ -3,7 +3,8 @@
 ghost use Rattle.std.specs.Prelude.{◌≡◌, ◌<◌, Some, length, slice_get, MatchOption};
 ghost use Rattle.rbac_model.specs.Policies.{IsHeld};
 ghost use Rattle.rbac_model.specs.Sources.{source_of};
-ghost use Rattle.rbac_lint.specs.Roles.{roles_in, IsPlainRole, rules_of};
+ghost use Rattle.rbac_model.specs.Places.{rules_of};
+ghost use Rattle.rbac_lint.specs.Roles.{roles_in, IsPlainRole};
 
 use rbac_model::{Objects, SourceRole};
 use rbac_terms::Rule;

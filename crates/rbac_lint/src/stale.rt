@@ -1,15 +1,16 @@
 //! Aggregated roles whose written rules aren't those that they gather.
 
-ghost use Rattle.std.specs.Prelude.{◌≡◌, ◌≢◌, [], ◌+◌, ◌++◌, ◌<◌, ◌↔◌, Some, IfOk, OnOk, IsTrue, All, Contains, slice_get, length};
+ghost use Rattle.std.specs.Prelude.{◌≡◌, ◌≢◌, [], ◌+◌, ◌++◌, ◌<◌, ◌↔◌, Some, IfOk, OnOk, IsTrue, Contains, slice_get, length};
 ghost use Rattle.rbac_terms.specs.declared.matching.Rule.{Rule as RuleView};
 ghost use Rattle.rbac_terms.specs.declared.granting.ClusterRole.{ClusterRole as ClusterRoleView};
 ghost use Rattle.rbac_lint.specs.Lines.{Adds};
-ghost use Rattle.rbac_lint.specs.Gathering.{AreGatheredBy, IsAmong, IsWritten, rules_at};
-ghost use Rattle.rbac_lint.specs.Findings.{IsGathered, HasSameRules, IsStaleRole, IsStaleOf, IsStale};
+ghost use Rattle.rbac_lint.specs.Gathering.{AreGatheredBy, rules_at};
+ghost use Rattle.rbac_lint.specs.Findings.{IsGathered, IsStaleRole, IsStaleOf, IsStale};
 
 use crate::finding::{Finding, Findings, role_word};
+use crate::rule_set::has_same_rules;
 use rbac_model::{Policy, SourceRole};
-use rbac_terms::{ClusterRole, Rule, Word, Words};
+use rbac_terms::{ClusterRole, Rule, Word};
 use std::alloc::{AllocError, Global};
 
 // Those of all cluster roles.
@@ -28,12 +29,12 @@ pub(crate) fn find_stale(
 }
 
 // The one that this role is, if it is one.
-fn find_stale_role(
+fn find_stale_role<'p>(
     alloc: Global,
     found: &mut Findings,
-    policy: &Policy,
+    policy: &'p Policy,
     place: usize,
-    role: &ClusterRole,
+    role: &'p ClusterRole,
 ) -> Result<(), AllocError>
     requires { slice_get policy.now.held.cluster_roles place ≡ Some role.now }
     ensures { OnOk result (Adds (IsStaleOf policy.now.held role.now) found.old found.new) }
@@ -51,11 +52,11 @@ fn find_stale_role(
 }
 
 // Whether the role is aggregated, and has written rules that aren't those that it gathers.
-fn is_stale(
+fn is_stale<'p>(
     alloc: Global,
-    policy: &Policy,
+    policy: &'p Policy,
     place: usize,
-    role: &ClusterRole,
+    role: &'p ClusterRole,
 ) -> Result<bool, AllocError>
     requires { slice_get policy.now.held.cluster_roles place ≡ Some role.now }
     ensures { IfOk result (λ stale. IsTrue stale ↔ IsStaleRole policy.now.held role.now) }
@@ -67,13 +68,23 @@ fn is_stale(
         return Ok(false);
     }
     let gathered = gathered_rules(alloc, policy, place)?;
-    Ok(!has_same_rules(role.rules.as_slice(), gathered.as_slice()))
+    let written = written_rules(alloc, role)?;
+    let same = has_same_rules(alloc, written.as_slice(), gathered.as_slice())?;
+    Ok(!same)
 }
 
 fn has_rules(role: &ClusterRole) -> bool
     ensures { IsTrue result ↔ (role.now.rules ≢ []) }
 {
     !role.rules.as_slice().is_empty()
+}
+
+fn written_rules(alloc: Global, role: &ClusterRole) -> Result<Vec<&Rule>, AllocError>
+    ensures { IfOk result (λ v. rules_at v.items ≡ role.now.rules) }
+{
+    let mut written = Vec::new(alloc);
+    push_rules(&mut written, role.rules.as_slice())?;
+    Ok(written)
 }
 
 // The rules that the cluster role at this place gathers.
@@ -121,62 +132,4 @@ fn push_rules<'p>(gathered: &mut Vec<&'p Rule>, rules: &'p [Rule]) -> Result<(),
         gathered.push(rule)?;
     }
     Ok(())
-}
-
-// Whether the two hold the same rules, whatever their order and number.
-fn has_same_rules(written: &[Rule], gathered: &[&Rule]) -> bool
-    ensures { IsTrue result ↔ HasSameRules written.now (Contains (rules_at gathered.now)) }
-{
-    each_is_gathered(written, gathered) && each_is_written(written, gathered)
-}
-
-fn each_is_gathered(written: &[Rule], gathered: &[&Rule]) -> bool
-    ensures { IsTrue result ↔ All (IsAmong gathered.now) written.now }
-{
-    written.iter().all(|rule| is_gathered(gathered, rule))
-}
-
-fn each_is_written(written: &[Rule], gathered: &[&Rule]) -> bool
-    ensures { IsTrue result ↔ All (λ rule. IsWritten written.now rule.now) gathered.now }
-{
-    gathered.iter().all(|rule| is_written(written, *rule))
-}
-
-#[tactic(auto, unfolding(crate::specs::Gathering::IsAmong))]
-fn is_gathered(gathered: &[&Rule], rule: &Rule) -> bool
-    ensures { IsTrue result ↔ IsAmong gathered.now rule.now }
-{
-    gathered.iter().any(|other| is_same_rule(*other, rule))
-}
-
-#[tactic(auto, unfolding(crate::specs::Gathering::IsWritten))]
-fn is_written(written: &[Rule], rule: &Rule) -> bool
-    ensures { IsTrue result ↔ IsWritten written.now rule.now }
-{
-    written.iter().any(|other| is_same_rule(other, rule))
-}
-
-// Whether the rules' five lists are equal, item by item.
-fn is_same_rule(a: &Rule, b: &Rule) -> bool
-    ensures { IsTrue result ↔ (a.now ≡ b.now) }
-{
-    if !is_same_list(&a.verbs, &b.verbs) {
-        return false;
-    }
-    if !is_same_list(&a.groups, &b.groups) {
-        return false;
-    }
-    if !is_same_list(&a.resources, &b.resources) {
-        return false;
-    }
-    if !is_same_list(&a.resource_names, &b.resource_names) {
-        return false;
-    }
-    is_same_list(&a.urls, &b.urls)
-}
-
-fn is_same_list(a: &Words, b: &Words) -> bool
-    ensures { IsTrue result ↔ (a.now ≡ b.now) }
-{
-    a.as_slice() == b.as_slice()
 }

@@ -4,7 +4,7 @@ use rbac_terms::{Word, Words};
 use rbac_universe::{ListedResources, Principals};
 
 /// A ServiceAccount object.
-#[derive(Clone, Drop)]
+#[derive(Drop)]
 pub struct Account {
     /// Its namespace.
     pub namespace: Word,
@@ -14,7 +14,7 @@ pub struct Account {
 
 /// The lists that a Universe document gives (own); one that it doesn't give is left to the documents
 /// before it, or else derived.
-#[derive(Clone, Drop)]
+#[derive(Drop)]
 pub struct GivenLists {
     /// Users, with the groups given to them, and members of groups.
     pub principals: Option<Principals>,

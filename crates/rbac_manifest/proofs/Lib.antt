@@ -8,3 +8,4 @@ pub mod OneLoad
 pub mod Outcomes
 pub mod Rules
 pub mod Texts
+pub mod Replacing

@@ -6,6 +6,11 @@ use Rattle.rbac_model.specs.Policies.{Held, IsHeld, GrantView, PolicyView, AreGr
 use Rattle.rbac_catalogue.specs.Catalogue.{CatalogueView}
 use Rattle.rbac_universe.specs.declared.lists.UniverseLists.{UniverseLists}
 use Rattle.rbac_lists.specs.Meant.{lists_meant}
+use Rattle.rbac_terms.specs.Text.{Text}
+use Rattle.rbac_model.proofs.OneList.{one_list}
+use Rattle.rbac_manifest.specs.declared.replaced.Replaced.{Replaced}
+use Rattle.rbac_manifest.specs.Names.{names_given}
+use Rattle.rbac_manifest.specs.Replaced.{replaced_name, AreReplaced}
 use Rattle.rbac_manifest.specs.declared.fault.LoadFault.{LoadFault}
 use Rattle.rbac_manifest.specs.Load.{LoadedView, IsLoaded, HasFault, document_fault, given, too_many}
 use Rattle.rbac_manifest.specs.Gathered.{objects_in, namespaces_in, accounts_in, catalogue_in, documents_in}
@@ -29,17 +34,22 @@ no_fault kept grants inputs l f loaded fault = elim fault [
       omega (arith, ap length same, w.2.2.2, loaded.few)
 ]
 
--- what is held, and its grants, tell a policy, and these with the catalogue and the lists what is loaded
-loaded_of : Held → List GrantView → CatalogueView → UniverseLists → LoadedView
-loaded_of held grants catalogue lists = record { policy = record { held = held; grants = grants }; catalogue = catalogue; lists = lists }
+-- what is held, and its grants, tell a policy, and these with the catalogue, the lists and what was replaced what is loaded
+loaded_of : Held → List GrantView → CatalogueView → UniverseLists → List Replaced → LoadedView
+loaded_of held grants catalogue lists replaced = record { policy = record { held = held; grants = grants }; catalogue = catalogue; lists = lists; replaced = replaced }
 
-same_loaded : (l m : LoadedView) → l.policy.held ≡ m.policy.held → l.policy.grants ≡ m.policy.grants → l.catalogue ≡ m.catalogue → l.lists ≡ m.lists → l ≡ m
+same_loaded : (l m : LoadedView) → l.policy.held ≡ m.policy.held → l.policy.grants ≡ m.policy.grants → l.catalogue ≡ m.catalogue → l.lists ≡ m.lists → l.replaced ≡ m.replaced → l ≡ m
 unfolding loaded_of
-same_loaded l m a b c d =
-    ap (λ (x : Held). loaded_of x l.policy.grants l.catalogue l.lists) a
-    ∙ ap (λ (x : List GrantView). loaded_of m.policy.held x l.catalogue l.lists) b
-    ∙ ap (λ (x : CatalogueView). loaded_of m.policy.held m.policy.grants x l.lists) c
-    ∙ ap (λ (x : UniverseLists). loaded_of m.policy.held m.policy.grants m.catalogue x) d
+same_loaded l m a b c d e =
+    ap (λ (x : Held). loaded_of x l.policy.grants l.catalogue l.lists l.replaced) a
+    ∙ ap (λ (x : List GrantView). loaded_of m.policy.held x l.catalogue l.lists l.replaced) b
+    ∙ ap (λ (x : CatalogueView). loaded_of m.policy.held m.policy.grants x l.lists l.replaced) c
+    ∙ ap (λ (x : UniverseLists). loaded_of m.policy.held m.policy.grants m.catalogue x l.replaced) d
+    ∙ ap (λ (x : List Replaced). loaded_of m.policy.held m.policy.grants m.catalogue m.lists x) e
+
+-- what was replaced is one list
+one_replaced : (names : List (List Text)) (a b : List Replaced) → AreReplaced names a → AreReplaced names b → a ≡ b
+one_replaced names a b p q = one_list replaced_name a b p.ordered q.ordered (λ r w. (q.exact r).1 ((p.exact r).0 w)) (λ r w. (p.exact r).1 ((q.exact r).0 w))
 
 pub one_load : KeptIsOne → GrantsAreOne → (inputs : List (List ℕ)) (l m : LoadedView) → IsLoaded inputs l → IsLoaded inputs m → l ≡ m
 one_load kept grants inputs l m a b =
@@ -51,6 +61,7 @@ one_load kept grants inputs l m a b =
     λ h c. lists_meant h c (namespaces_in (given inputs)) (accounts_in (given inputs)) (documents_in (given inputs)) in
     same_loaded l m held listed found
     (a.lists ∙ ap (λ (h : Held). meant h l.catalogue) held ∙ ap (λ (c : CatalogueView). meant m.policy.held c) found ∙ sym b.lists)
+    (one_replaced (names_given (objects_in (given inputs)) (namespaces_in (given inputs)) (accounts_in (given inputs))) l.replaced m.replaced a.replaced b.replaced)
 
 same_fault : (o : Option LoadFault) (f g : LoadFault) → o ≡ Some f → o ≡ Some g → f ≡ g
 same_fault o f g a b = cc

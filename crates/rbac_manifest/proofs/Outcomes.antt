@@ -4,27 +4,32 @@ use Rattle.rbac_model.specs.Kept.{AreKept}
 use Rattle.rbac_model.specs.Policies.{Held, PolicyView, IsPolicy, HasTooMany}
 use Rattle.rbac_lists.specs.Meant.{lists_meant}
 use Rattle.rbac_manifest.specs.declared.fault.LoadFault.{LoadFault}
+use Rattle.rbac_manifest.specs.declared.replaced.Replaced.{Replaced}
+use Rattle.rbac_manifest.specs.Names.{names_given}
+use Rattle.rbac_manifest.specs.Replaced.{AreReplaced}
 use Rattle.rbac_manifest.specs.Gathered.{GatheredView, gathered}
 use Rattle.rbac_manifest.specs.Load.{LoadedView, IsLoaded, HasFault, document_fault, given, too_many}
 
-abbrev pub view_of : GatheredView → PolicyView → LoadedView
-view_of g p = record { policy = p; catalogue = g.catalogue; lists = lists_meant p.held g.catalogue g.namespaces g.accounts g.documents }
+abbrev pub view_of : GatheredView → PolicyView → List Replaced → LoadedView
+view_of g p rs = record { policy = p; catalogue = g.catalogue; lists = lists_meant p.held g.catalogue g.namespaces g.accounts g.documents; replaced = rs }
 
-pub loaded : (inputs : List (List ℕ)) (g : GatheredView) (p : PolicyView)
+pub loaded : (inputs : List (List ℕ)) (g : GatheredView) (p : PolicyView) (rs : List Replaced)
     → g ≡ gathered (given inputs)
     → document_fault inputs ≡ None
     → AreKept g.objects p.held
     → IsPolicy p
     → length p.grants ≤ 1000000
-    → IsLoaded inputs (view_of g p)
+    → AreReplaced (names_given g.objects g.namespaces g.accounts) rs
+    → IsLoaded inputs (view_of g p rs)
 unfolding gathered
-loaded inputs g p e accepted kept policy few = record {
+loaded inputs g p rs e accepted kept policy few replaced = record {
   accepted = accepted;
   kept = subst (λ h. AreKept h.objects p.held) e kept;
   policy = policy;
   few = few;
   catalogue = ap (λ h. h.catalogue) e;
   lists = ap (λ h. lists_meant p.held g.catalogue h.namespaces h.accounts h.documents) e;
+  replaced = subst (λ h. AreReplaced (names_given h.objects h.namespaces h.accounts) rs) e replaced;
 }
 
 pub refused : (inputs : List (List ℕ)) (g : GatheredView)

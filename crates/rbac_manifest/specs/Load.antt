@@ -14,6 +14,9 @@ use Rattle.rbac_universe.specs.declared.lists.UniverseLists.{UniverseLists}
 use Rattle.rbac_lists.specs.Meant.{lists_meant}
 use Rattle.rbac_model.specs.Kept.{AreKept}
 use Rattle.rbac_model.specs.Policies.{Held, PolicyView, IsPolicy, HasTooMany}
+use Rattle.rbac_manifest.specs.Names.{names_given}
+use Rattle.rbac_manifest.specs.Replaced.{AreReplaced}
+use Rattle.rbac_manifest.specs.declared.replaced.Replaced.{Replaced}
 use Rattle.rbac_manifest.specs.declared.given.Given.{Given}
 use Rattle.rbac_manifest.specs.declared.kind.Kind.{Kind}
 use Rattle.rbac_manifest.specs.declared.kind.Kind.TheVariants as kinds
@@ -134,10 +137,11 @@ pub record LoadedView : Type 0 where
   pub policy : PolicyView
   pub catalogue : CatalogueView
   pub lists : UniverseLists
+  pub replaced : List Replaced
 
 -- every document is accepted, of each kind, namespace and name the last object is kept (own), the grants
 -- follow from what is kept and are no more than there may be, the catalogue is that of all API resource
--- lists, and the lists are those that all of it means
+-- lists, the lists are those that all of it means, and those objects are told as replaced of which several documents were given
 pub record IsLoaded (inputs : List (List ℕ)) (l : LoadedView) : Type 0 where
   pub accepted : document_fault inputs ≡ None
   pub kept : AreKept (objects_in (given inputs)) l.policy.held
@@ -145,6 +149,7 @@ pub record IsLoaded (inputs : List (List ℕ)) (l : LoadedView) : Type 0 where
   pub few : length l.policy.grants ≤ 1000000
   pub catalogue : l.catalogue ≡ catalogue_in (given inputs)
   pub lists : l.lists ≡ lists_meant l.policy.held l.catalogue (namespaces_in (given inputs)) (accounts_in (given inputs)) (documents_in (given inputs))
+  pub replaced : AreReplaced (names_given (objects_in (given inputs)) (namespaces_in (given inputs)) (accounts_in (given inputs))) l.replaced
 
 -- more grants than there may be, of all inputs together; this fault has no place
 abbrev pub too_many : LoadFault

@@ -5,12 +5,16 @@ ghost use Rattle.serde_json.specs.View.{view};
 ghost use Rattle.rbac_manifest.specs.declared.fault.Cause.TheVariants.{NotJson, NoMemory};
 ghost use Rattle.rbac_manifest.specs.Load.{json_in, in_file, file_refusal, given_by_file, document_fault, given, too_many, IsLoaded, HasFault};
 ghost use Rattle.rbac_manifest.specs.Gathered.{gathered, with_given};
+ghost use Rattle.rbac_manifest.specs.Names.{names_given};
+ghost use Rattle.rbac_manifest.specs.Replaced.{AreReplaced, replaced_name};
+ghost use Rattle.rbac_model.specs.Lists.{IsAscendingBy};
 ghost use Rattle.rbac_model.specs.Kept.{AreKept};
 ghost use Rattle.rbac_model.specs.Policies.{Held, IsPolicy, HasTooMany};
 
 use crate::fault::{Cause, LoadFault, Refusal};
 use crate::gathered::Gathered;
 use crate::items::input_into;
+use crate::replaced::{Replaced, replaced_of};
 use rbac_catalogue::Catalogue;
 use rbac_lists::{Account, GivenLists, lists_of};
 use rbac_model::{Object, Objects, Policy, ResolveFault};
@@ -29,11 +33,14 @@ pub struct Loaded {
     namespaces: Vec<Word>,
     accounts: Vec<Account>,
     documents: Vec<GivenLists>,
+    replaced: Vec<Replaced>,
 }
 
 impl Model for Loaded {
     ghost use Rattle.rbac_lists.specs.Meant.{lists_meant};
     ghost use Rattle.rbac_manifest.specs.Load.{LoadedView};
+    ghost use Rattle.rbac_manifest.specs.Replaced.{replaced_name};
+    ghost use Rattle.rbac_model.specs.Lists.{IsAscendingBy};
 
     ghost Value = { LoadedView };
 
@@ -41,7 +48,10 @@ impl Model for Loaded {
       policy = l.policy;
       catalogue = l.catalogue;
       lists = lists_meant l.policy.held l.catalogue l.namespaces.items l.accounts.items l.documents.items;
+      replaced = l.replaced.items;
     } };
+
+    ghost invariant = { λ l. IsAscendingBy replaced_name l.replaced.items };
 }
 
 impl Loaded {
@@ -65,6 +75,15 @@ impl Loaded {
         ensures { result.now ≡ self.now.catalogue }
     {
         &self.catalogue
+    }
+
+    /// The objects of which several documents were given, in order of kind, namespace and name, with
+    /// how many earlier ones the last replaced (own). Takes no memory.
+    pub fn replaced(&self) -> &[Replaced]
+        ensures replaced { result.now ≡ self.now.replaced }
+        ensures ordered { IsAscendingBy replaced_name self.now.replaced }
+    {
+        self.replaced.as_slice()
     }
 
     /// The lists that a universe is made of (own): each as the last of the Universe documents that
@@ -129,6 +148,19 @@ fn gathered_of(alloc: Global, inputs: &[Input]) -> Result<Gathered, LoadFault>
     Ok(gathered)
 }
 
+// The objects of which several of these documents were given.
+fn replaced_among(
+    alloc: Global,
+    objects: &[Object],
+    namespaces: &[Word],
+    accounts: &[Account],
+) -> Result<Vec<Replaced>, LoadFault>
+    ensures replaced { IfOk result (λ v. AreReplaced (names_given objects.now namespaces.now accounts.now) v.items) }
+    ensures memory { IfErr result (λ e. e ≡ record { at = None; cause = NoMemory }) }
+{
+    replaced_of(alloc, objects, namespaces, accounts).map_err(|_| LoadFault::no_memory())
+}
+
 // The policy of these objects, of each kind, namespace and name the last.
 fn policy_of(alloc: Global, objects: Vec<Object>) -> Result<Policy, LoadFault>
     ensures kept { IfOk result (λ p. AreKept objects.items p.held) }
@@ -153,8 +185,8 @@ fn unresolved(fault: ResolveFault) -> LoadFault
 }
 
 /// Reads inputs, in order, to what they give: the policy of their objects, of each kind, namespace
-/// and name the last (own), the catalogue of their API resource lists, and what the lists of a
-/// universe are made of. Documents of other kinds are passed over.
+/// and name the last (own), the catalogue of their API resource lists, what the lists of a universe
+/// are made of, and which objects were replaced. Documents of other kinds are passed over.
 ///
 /// # Errors
 ///
@@ -172,6 +204,12 @@ pub fn load(alloc: Global, inputs: &[Input]) -> Result<Loaded, LoadFault>
         catalogue,
         documents,
     } = gathered_of(alloc, inputs)?;
+    let replaced = replaced_among(
+        alloc,
+        objects.as_slice(),
+        namespaces.as_slice(),
+        accounts.as_slice(),
+    )?;
     let policy = policy_of(alloc, objects)?;
     Ok(Loaded {
         policy,
@@ -179,5 +217,6 @@ pub fn load(alloc: Global, inputs: &[Input]) -> Result<Loaded, LoadFault>
         namespaces,
         accounts,
         documents,
+        replaced,
     })
 }

@@ -10,7 +10,7 @@ use std::cmp::Ordering;
 use std::marker::Model;
 
 /// An object that a policy is made of (Using RBAC Authorization, API objects).
-#[derive(Clone, Drop)]
+#[derive(Drop)]
 pub enum Object {
     /// A role of one namespace.
     Role(Role),

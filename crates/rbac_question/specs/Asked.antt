@@ -1,7 +1,7 @@
 use Rattle.std.specs.Prelude.{◌≡◌, ◌≢◌, [], ◌⊎◌, Contains, Bool, true, false, codes}
 use Rattle.rbac_terms.specs.Text.{Text, slash, IsCutAtFirst, BeginsWith}
 use Rattle.rbac_question.specs.declared.fault.QuestionFault.{QuestionFault}
-use Rattle.rbac_question.specs.declared.fault.QuestionFault.TheVariants.{EmptyWord, UrlSubresource, NoMemory}
+use Rattle.rbac_question.specs.declared.fault.QuestionFault.TheVariants.{EmptyWord, UrlSubresource, BadToken, NoMemory}
 
 -- what a question asks for: a URL by its path, or a type of resource by its word, with a subresource and an object name (each may be empty)
 pub data AskedFor : Type 0 where
@@ -39,6 +39,7 @@ HasUrlSubresource target subresource = BeginsWith target (codes "/") × (subreso
 abbrev pub RefusesTarget : Text → Text → QuestionFault → Type 0
 RefusesTarget target subresource EmptyWord = LacksType target
 RefusesTarget target subresource UrlSubresource = HasUrlSubresource target subresource
+RefusesTarget target subresource BadToken = ⊥
 RefusesTarget target subresource NoMemory = Unit {0}
 
 -- its parts; a URL has no subresource and no name

@@ -1,9 +1,19 @@
 use Rattle.std.specs.Prelude.{List, ℕ, codes}
 use Rattle.rbac_question.specs.declared.fault.QuestionFault.{QuestionFault}
-use Rattle.rbac_question.specs.declared.fault.QuestionFault.TheVariants.{EmptyWord, UrlSubresource, NoMemory}
+use Rattle.rbac_question.specs.declared.fault.QuestionFault.TheVariants.{EmptyWord, UrlSubresource, BadToken, NoMemory}
+use Rattle.rbac_token.specs.declared.fault.TokenFault.{TokenFault}
+use Rattle.rbac_token.specs.declared.fault.TokenFault.TheVariants as token
 
 -- the text of a refusal (own)
 abbrev pub fault_text : QuestionFault → List ℕ
 fault_text EmptyWord = codes "U2 empty word"
 fault_text UrlSubresource = codes "U3 subresource with a URL"
+fault_text BadToken = codes "U4 bad token"
 fault_text NoMemory = codes "out of memory"
+
+-- why a token stands for no key, as a refusal of the line that holds it
+abbrev pub question_fault : TokenFault → QuestionFault
+question_fault token.NotBase64 = BadToken
+question_fault token.BadVersion = BadToken
+question_fault token.NotCanonical = BadToken
+question_fault token.NoMemory = NoMemory

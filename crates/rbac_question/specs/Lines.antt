@@ -1,13 +1,15 @@
-use Rattle.std.specs.Prelude.{◌≡◌, ◌≢◌, ◌==◌, ◌⊎◌, ℕ, Bool, true, false, not, length, List, [], filter, codes, if◌then◌else◌}
+use Rattle.std.specs.Prelude.{◌≡◌, ◌≢◌, ◌==◌, ◌⊎◌, ℕ, Bool, true, false, not, length, List, [], Option, Some, None, filter, codes, if◌then◌else◌}
 use Rattle.std.specs.List.{slice_split}
 use Rattle.rbac_terms.specs.Text.{Text}
+use Rattle.rbac_terms.specs.Keys.{KeyTexts}
 use Rattle.rbac_terms.specs.Principals.{AsUser}
+use Rattle.rbac_token.specs.Token.{IsTokenOf}
 use Rattle.rbac_question.specs.Asked.{AsksFor, LacksType, HasUrlSubresource}
 use Rattle.rbac_question.specs.declared.command.Action.{Action}
-use Rattle.rbac_question.specs.declared.command.Action.TheVariants.{CanI, WhoCan, Matrix}
+use Rattle.rbac_question.specs.declared.command.Action.TheVariants.{CanI, WhoCan, Matrix, Lint}
 use Rattle.rbac_question.specs.declared.command.Question.{Question}
 use Rattle.rbac_question.specs.declared.fault.QuestionFault.{QuestionFault}
-use Rattle.rbac_question.specs.declared.fault.QuestionFault.TheVariants.{EmptyWord, UrlSubresource, NoMemory}
+use Rattle.rbac_question.specs.declared.fault.QuestionFault.TheVariants.{EmptyWord, UrlSubresource, BadToken, NoMemory}
 
 -- the parts of a line that ask a question; the text of an option that isn't given is empty
 pub record QuestionParts : Type 0 where
@@ -24,6 +26,11 @@ pub record CanIParts : Type 0 where
   pub quiet : Bool
   pub why : Bool
   pub question : QuestionParts
+
+-- the parts of a `matrix` line: the token of `--after` and the number of `--limit`
+pub record MatrixParts : Type 0 where
+  pub after : Option Text
+  pub limit : Option ℕ
 
 -- the byte `,`
 abbrev pub comma : ℕ
@@ -56,18 +63,34 @@ abbrev pub MeansCanI : CanIParts → Action → Type 0
 MeansCanI l (CanI principal quiet why question) =
     (principal ≡ AsUser l.user (groups_in l.groups)) × (quiet ≡ l.quiet) × (why ≡ l.why) × IsQuestion l.question question
 MeansCanI l (WhoCan question) = ⊥
-MeansCanI l Matrix = ⊥
+MeansCanI l (Matrix after limit) = ⊥
+MeansCanI l Lint = ⊥
 
 -- what a `who-can` line means: it asks who is allowed this
 abbrev pub MeansWhoCan : QuestionParts → Action → Type 0
 MeansWhoCan l (CanI principal quiet why question) = ⊥
 MeansWhoCan l (WhoCan question) = IsQuestion l question
-MeansWhoCan l Matrix = ⊥
+MeansWhoCan l (Matrix after limit) = ⊥
+MeansWhoCan l Lint = ⊥
+
+-- the key is the one whose token is given; none where none is given
+abbrev pub IsAfter : Option Text → Option KeyTexts → Type 0
+IsAfter None after = after ≡ None
+IsAfter (Some token) None = ⊥
+IsAfter (Some token) (Some k) = IsTokenOf token k
+
+-- what a `matrix` line means: it lists what comes after the token's key, as many rows as the limit says
+abbrev pub MeansMatrix : MatrixParts → Action → Type 0
+MeansMatrix l (CanI principal quiet why question) = ⊥
+MeansMatrix l (WhoCan question) = ⊥
+MeansMatrix l Lint = ⊥
+MeansMatrix l (Matrix after limit) = IsAfter l.after after × (limit ≡ l.limit)
 
 -- which refusal USER comes to
 abbrev pub RefusesUser : Text → QuestionFault → Type 0
 RefusesUser user EmptyWord = user ≡ []
 RefusesUser user UrlSubresource = ⊥
+RefusesUser user BadToken = ⊥
 RefusesUser user NoMemory = Unit {0}
 
 -- U2 of a question: VERB or TARGET is empty, or nothing stands before the dot of the type word (own)
@@ -82,6 +105,7 @@ AcceptsQuestion l = (¬ LacksWord l) × (¬ HasUrlSubresource l.target l.subreso
 abbrev pub RefusesQuestion : QuestionParts → QuestionFault → Type 0
 RefusesQuestion l EmptyWord = LacksWord l
 RefusesQuestion l UrlSubresource = (¬ LacksWord l) × HasUrlSubresource l.target l.subresource
+RefusesQuestion l BadToken = ⊥
 RefusesQuestion l NoMemory = Unit {0}
 
 -- a line without U2 and U3: U2 of `can-i` is an empty USER too (own)
@@ -92,4 +116,17 @@ AcceptsCanI l = (l.user ≢ []) × AcceptsQuestion l.question
 abbrev pub RefusesCanI : CanIParts → QuestionFault → Type 0
 RefusesCanI l EmptyWord = (l.user ≡ []) ⊎ LacksWord l.question
 RefusesCanI l UrlSubresource = (l.user ≢ []) × RefusesQuestion l.question UrlSubresource
+RefusesCanI l BadToken = ⊥
 RefusesCanI l NoMemory = Unit {0}
+
+-- U4: a token is given that no key has (own)
+abbrev pub HasBadToken : Option Text → Type 0
+HasBadToken None = ⊥
+HasBadToken (Some token) = (k : KeyTexts) → ¬ IsTokenOf token k
+
+-- the refusal of a `matrix` line; memory may be refused at any time
+abbrev pub RefusesMatrix : MatrixParts → QuestionFault → Type 0
+RefusesMatrix l EmptyWord = ⊥
+RefusesMatrix l UrlSubresource = ⊥
+RefusesMatrix l BadToken = HasBadToken l.after
+RefusesMatrix l NoMemory = Unit {0}

@@ -11,7 +11,7 @@ use std::marker::Model;
 
 /// What a question asks for: a URL by its path, or a type of resource by its word, with a
 /// subresource and an object name, each of which may be empty (own).
-#[derive(Clone, Drop)]
+#[derive(Drop)]
 pub struct Asked {
     is_url: bool,
     text: Word,

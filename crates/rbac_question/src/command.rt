@@ -1,10 +1,10 @@
 //! What a command line says.
 
 use crate::asked::Asked;
-use rbac_terms::{Principal, Word};
+use rbac_terms::{Key, Principal, Word};
 
 /// Whether a verb may be used on what is asked for, in a namespace (own, after `kubectl auth can-i`).
-#[derive(Clone, Drop)]
+#[derive(Drop)]
 pub struct Question {
     /// What `-n` names, or `default`; empty with `-A`.
     pub namespace: Word,
@@ -15,7 +15,7 @@ pub struct Question {
 }
 
 /// What to do.
-#[derive(Clone, Drop)]
+#[derive(Drop)]
 pub enum Action {
     /// Answers yes or no, whether the principal is allowed what is asked.
     CanI {
@@ -34,7 +34,14 @@ pub enum Action {
         question: Question,
     },
     /// Lists all that anyone may do.
-    Matrix,
+    Matrix {
+        /// The key of `--after`: only what comes after it is listed.
+        after: Option<Key>,
+        /// The most rows, as `--limit` gives it.
+        limit: Option<u32>,
+    },
+    /// Lists what is wrong with the roles.
+    Lint,
 }
 
 /// A command line that was accepted.

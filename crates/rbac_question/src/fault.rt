@@ -2,6 +2,7 @@
 
 ghost use Rattle.std.specs.Prelude.{◌≡◌};
 
+use rbac_token::TokenFault;
 use std::alloc::{AllocError, AllocFailed};
 use std::error::Error;
 use std::fmt;
@@ -13,6 +14,8 @@ pub enum QuestionFault {
     EmptyWord,
     /// U3: a subresource is asked for with a URL.
     UrlSubresource,
+    /// U4: what follows `--after` is the token of no key.
+    BadToken,
     /// Memory was refused.
     NoMemory,
 }
@@ -37,6 +40,21 @@ impl<T: Drop> From<AllocFailed<T>> for QuestionFault {
     }
 }
 
+impl From<TokenFault> for QuestionFault {
+    ghost use Rattle.rbac_question.specs.Faults.{question_fault};
+
+    ghost from_gives = { λ cause fault. fault ≡ question_fault cause };
+
+    fn from(cause: TokenFault) -> Self {
+        match cause {
+            TokenFault::NotBase64 | TokenFault::BadVersion | TokenFault::NotCanonical => {
+                QuestionFault::BadToken
+            }
+            TokenFault::NoMemory => QuestionFault::NoMemory,
+        }
+    }
+}
+
 impl fmt::Display for QuestionFault {
     ghost use Rattle.std.specs.Prelude.{Some};
     ghost use Rattle.rbac_question.specs.Faults.{fault_text};
@@ -47,6 +65,7 @@ impl fmt::Display for QuestionFault {
         match self {
             QuestionFault::EmptyWord => write!(f, "U2 empty word"),
             QuestionFault::UrlSubresource => write!(f, "U3 subresource with a URL"),
+            QuestionFault::BadToken => write!(f, "U4 bad token"),
             QuestionFault::NoMemory => write!(f, "out of memory"),
         }
     }

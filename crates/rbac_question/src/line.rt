@@ -1,13 +1,15 @@
 //! What the texts of a line mean.
 
-ghost use Rattle.std.specs.Prelude.{◌≡◌, ◌≢◌, [], map, IfOk, MatchResult};
+ghost use Rattle.std.specs.Prelude.{◌≡◌, ◌≢◌, ◌⊎◌, [], Some, map, IfOk, IfErr, MatchResult};
 ghost use Rattle.rbac_terms.specs.Principals.{AsUser};
-ghost use Rattle.rbac_question.specs.Lines.{comma, parts_between, groups_in, namespace_meant, IsQuestion, MeansCanI, MeansWhoCan, LacksWord, AcceptsQuestion, RefusesQuestion, AcceptsCanI, RefusesCanI, RefusesUser};
+ghost use Rattle.rbac_token.specs.Token.{IsTokenOf};
+ghost use Rattle.rbac_question.specs.Lines.{comma, parts_between, groups_in, namespace_meant, IsQuestion, MeansCanI, MeansWhoCan, MeansMatrix, LacksWord, AcceptsQuestion, RefusesQuestion, AcceptsCanI, RefusesCanI, RefusesMatrix, RefusesUser, HasBadToken};
 
 use crate::asked::Asked;
 use crate::command::{Action, Question};
 use crate::fault::QuestionFault;
-use rbac_terms::{ModelFault, Principal, Word, Words};
+use rbac_terms::{Key, ModelFault, Principal, Word, Words};
+use rbac_token::key_of_token;
 use std::alloc::{AllocError, Global};
 use std::marker::Model;
 
@@ -70,6 +72,24 @@ impl<'a> Model for CanILine<'a> {
     } };
 }
 
+/// The parts of a `matrix` line.
+#[derive(Drop)]
+pub struct MatrixLine<'a> {
+    /// The token after `--after`.
+    pub after: Option<&'a str>,
+    /// The number after `--limit`.
+    pub limit: Option<u32>,
+}
+
+impl<'a> Model for MatrixLine<'a> {
+    ghost use Rattle.std.specs.Prelude.{option_map};
+    ghost use Rattle.rbac_question.specs.Lines.{MatrixParts};
+
+    ghost Value = { MatrixParts };
+
+    ghost view = { λ l. record { after = option_map (λ t. t.now) l.after; limit = l.limit } };
+}
+
 // The parts between commas.
 fn parts_of<'a>(alloc: Global, text: &'a str) -> Result<Vec<&'a str>, AllocError>
     ensures { IfOk result (λ v. map (λ part. part.now) v.items ≡ parts_between comma text.now) }
@@ -118,6 +138,16 @@ fn principal_of(alloc: Global, user: &str, groups: &str) -> Result<Principal, Qu
         Err(ModelFault::NoMemory) => Err(QuestionFault::NoMemory),
         Err(ModelFault::BadTarget) => unreachable!(),
     }
+}
+
+// The key whose token this is.
+fn key_after(alloc: Global, token: &str) -> Result<Key, QuestionFault>
+    ensures key { IfOk result (IsTokenOf token.now) }
+    ensures refused { IfErr result (λ e. (e ≡ QuestionFault.NoMemory)
+        ⊎ ((e ≡ QuestionFault.BadToken) × HasBadToken (Some token.now))) }
+{
+    let token = Word::from_slice(alloc, token.as_bytes())?;
+    Ok(key_of_token(alloc, &token)?)
 }
 
 // The question that a line asks, whoever asks it.
@@ -175,6 +205,22 @@ impl Action {
     {
         Ok(Action::WhoCan {
             question: question_of(alloc, line)?,
+        })
+    }
+
+    /// What a `matrix` line means.
+    ///
+    /// U4 where what follows `--after` is the token of no key.
+    pub fn matrix(alloc: Global, line: &MatrixLine<'_>) -> Result<Self, QuestionFault>
+        ensures { MatchResult result (MeansMatrix line.now) (RefusesMatrix line.now) }
+    {
+        let after = match line.after {
+            Some(token) => Some(key_after(alloc, token)?),
+            None => None,
+        };
+        Ok(Action::Matrix {
+            after,
+            limit: line.limit,
         })
     }
 }

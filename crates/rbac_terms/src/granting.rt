@@ -12,7 +12,7 @@ use std::alloc::{AllocError, Global};
 use std::marker::Model;
 
 /// A role of one namespace (Using RBAC Authorization, "Role and ClusterRole").
-#[derive(Debug, Clone, Drop)]
+#[derive(Drop)]
 pub struct Role {
     /// The role's namespace.
     pub namespace: Word,
@@ -24,7 +24,7 @@ pub struct Role {
 
 /// A role of the whole cluster, whose rules may be gathered from others (Using RBAC Authorization,
 /// "Role and ClusterRole", "Aggregated ClusterRoles").
-#[derive(Debug, Clone, Drop)]
+#[derive(Drop)]
 pub struct ClusterRole {
     /// The role's name, which is its own within the cluster.
     pub name: Word,
@@ -38,7 +38,7 @@ pub struct ClusterRole {
 
 /// The role that a binding grants, by name (Using RBAC Authorization, "RoleBinding and
 /// ClusterRoleBinding").
-#[derive(Debug, Clone, Drop)]
+#[derive(Drop)]
 pub enum RoleRef {
     /// The Role of this name, in the binding's own namespace.
     Role(Word),
@@ -47,7 +47,7 @@ pub enum RoleRef {
 }
 
 /// Whom a binding grants its role to (Using RBAC Authorization, "Referring to subjects").
-#[derive(Debug, Clone, Drop)]
+#[derive(Drop)]
 pub enum Subject {
     /// The user of this name.
     User(Word),
@@ -63,7 +63,7 @@ pub enum Subject {
 }
 
 /// The subjects of a binding in their written order: as many as memory holds.
-#[derive(Debug, Clone, Drop)]
+#[derive(Drop)]
 pub struct Subjects {
     subjects: Vec<Subject>,
 }
@@ -94,7 +94,7 @@ impl Subjects {
 }
 
 /// A binding of a role to subjects (Using RBAC Authorization, "RoleBinding and ClusterRoleBinding").
-#[derive(Debug, Clone, Drop)]
+#[derive(Drop)]
 pub struct Binding {
     /// A RoleBinding's namespace; a ClusterRoleBinding has none.
     pub namespace: Option<Word>,

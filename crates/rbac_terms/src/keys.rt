@@ -13,7 +13,7 @@ use std::marker::Model;
 /// The key of a request: the principal's key, namespace, verb, API group, resource text or URL, and
 /// object name. A request for a URL has no namespace, group and name. Keys are ordered text by text
 /// in this order, each byte by byte (own).
-#[derive(Debug, Clone, Drop)]
+#[derive(Drop)]
 pub struct Key {
     principal: Word,
     namespace: Word,

@@ -12,7 +12,7 @@ use std::marker::Model;
 /// A rule of a role: which verbs may be used on which resources or URLs (Using RBAC Authorization,
 /// "API objects"). Any lists of words are accepted here; what a manifest may hold is the loader's
 /// concern.
-#[derive(Debug, Clone, Drop)]
+#[derive(Drop)]
 pub struct Rule {
     /// Verbs, or `*` for each verb.
     pub verbs: Words,
@@ -27,7 +27,7 @@ pub struct Rule {
 }
 
 /// The rules of a role in their written order: as many as memory holds.
-#[derive(Debug, Clone, Drop)]
+#[derive(Drop)]
 pub struct Rules {
     rules: Vec<Rule>,
 }

@@ -40,7 +40,7 @@ const UNAUTHENTICATED: &[u8] = b"system:unauthenticated";
 /// What a request is for: a resource by API group, resource text and object name, or a URL by its
 /// path. A resource text isn't empty and doesn't begin with a slash, and a URL does (own, after the
 /// paths of API requests). What follows the first slash of a resource text is its subresource.
-#[derive(Debug, Clone, Drop)]
+#[derive(Drop)]
 pub struct Target {
     is_url: bool,
     group: Word,
@@ -132,7 +132,7 @@ impl Target {
 /// Who asks: a user of a name with the groups given, or a member of one group without a name of
 /// its own. A service account asks as the user `system:serviceaccount:NAMESPACE:NAME` (Using RBAC
 /// Authorization, "Referring to subjects"; members of a group: own). Neither name is empty.
-#[derive(Debug, Clone, Drop)]
+#[derive(Clone, Drop)]
 pub struct Principal {
     is_user: bool,
     key: Word,

@@ -8,7 +8,7 @@ use std::marker::Model;
 
 /// Labels as pairs of a key and a value (Labels and Selectors): as many as memory holds. A manifest
 /// gives each key once, and nothing here asks for that.
-#[derive(Debug, Clone, Drop)]
+#[derive(Drop)]
 pub struct Labels {
     labels: Vec<(Word, Word)>,
 }
@@ -64,7 +64,7 @@ impl Labels {
 }
 
 /// What a requirement asks of a key (Labels and Selectors, "Set-based requirement").
-#[derive(Debug, Drop, Clone, Copy, PartialEq, Eq)]
+#[derive(Drop, Clone, Copy)]
 pub enum SelectOp {
     /// `In`: there is a label of the key, with one of the values.
     OneOf,
@@ -77,7 +77,7 @@ pub enum SelectOp {
 }
 
 /// What a selector asks of one key: an item of `matchExpressions` (Labels and Selectors).
-#[derive(Debug, Clone, Drop)]
+#[derive(Drop)]
 pub struct Requirement {
     /// The label's key.
     pub key: Word,
@@ -88,7 +88,7 @@ pub struct Requirement {
 }
 
 /// A list of requirements, each of which is asked for: as many as memory holds.
-#[derive(Debug, Clone, Drop)]
+#[derive(Drop)]
 pub struct Requirements {
     requirements: Vec<Requirement>,
 }
@@ -120,7 +120,7 @@ impl Requirements {
 
 /// A label selector, which asks for all that it lists; the empty one selects everything (Labels and
 /// Selectors).
-#[derive(Debug, Clone, Drop)]
+#[derive(Drop)]
 pub struct Selector {
     /// `matchLabels`: labels that an object must have.
     pub labels: Labels,
@@ -130,7 +130,7 @@ pub struct Selector {
 
 /// The selectors of an aggregated cluster role, any of which may select (Using RBAC Authorization,
 /// "Aggregated ClusterRoles"): as many as memory holds.
-#[derive(Debug, Clone, Drop)]
+#[derive(Drop)]
 pub struct Selectors {
     selectors: Vec<Selector>,
 }

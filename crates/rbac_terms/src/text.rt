@@ -148,7 +148,7 @@ impl Hash for Word {
 }
 
 /// A list of texts, in order, with repeats: as many as memory holds.
-#[derive(Debug, Clone, Drop)]
+#[derive(Clone, Drop)]
 pub struct Words {
     words: Vec<Word>,
 }

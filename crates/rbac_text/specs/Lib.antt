@@ -1,3 +1,4 @@
 pub mod Field
+pub mod Finding
 pub mod Row
 pub mod Why

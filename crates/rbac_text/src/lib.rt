@@ -3,11 +3,13 @@
 #![tactic(auto)]
 
 mod field;
+mod finding;
 mod holder;
 mod row;
 mod why;
 
 pub use field::put_field;
+pub use finding::put_finding;
 pub use holder::put_holder;
 pub use row::{put_binding, put_row};
 pub use why::{put_cluster_role, put_place, put_role, put_why};

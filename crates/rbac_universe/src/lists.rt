@@ -8,7 +8,7 @@ use std::marker::Model;
 
 /// What a universe is made of: who asks, where, to do what, for which resources by which object
 /// names, and for which URLs (own).
-#[derive(Debug, Clone, Drop)]
+#[derive(Drop)]
 pub struct UniverseLists {
     /// Users and groups; the groups that are given to one user are united.
     pub principals: Principals,
@@ -25,7 +25,7 @@ pub struct UniverseLists {
 }
 
 /// A list of principals.
-#[derive(Debug, Clone, Drop)]
+#[derive(Clone, Drop)]
 pub struct Principals {
     principals: Vec<Principal>,
 }
@@ -63,7 +63,7 @@ impl Principals {
 }
 
 /// A resource as it is listed.
-#[derive(Debug, Clone, Drop)]
+#[derive(Clone, Drop)]
 pub struct ListedResource {
     /// The API group, empty for the core group.
     pub group: Word,
@@ -74,7 +74,7 @@ pub struct ListedResource {
 }
 
 /// A list of resources.
-#[derive(Debug, Clone, Drop)]
+#[derive(Clone, Drop)]
 pub struct ListedResources {
     resources: Vec<ListedResource>,
 }

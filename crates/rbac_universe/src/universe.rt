@@ -16,7 +16,7 @@ use std::marker::Model;
 
 /// The requests that a matrix ranges over: principals, namespaces, verbs and targets, each a set in
 /// byte order (own).
-#[derive(Debug, Drop)]
+#[derive(Drop)]
 pub struct Universe {
     principals: Vec<Principal>,
     namespaces: Vec<Word>,

@@ -1,28 +1,30 @@
-use Rattle.std.proofs.Common.{codes}
+use Rattle.std.proofs.Common.{◌∙◌, subst}
+use Rattle.std.specs.Option.{option_copied}
 use Rattle.std.proofs.lemmas.Result.{on_ok_weaker, on_err_weaker}
-use Rattle.rbac_streams.proofs.TakenLemmas.{Prints-trans}
-use Rattle.rbac_matrix.specs.Printed.{rows_text}
-use Rattle.rbac_cli.specs.Out.{line}
-use Rattle.rbac_cli.proofs.Stops.{stopped_in_rows, stopped_in_end}
+use Rattle.rbac_model.specs.Policies.{IsPolicy}
+use Rattle.rbac_model.specs.Universes.{IsUniverse}
+use Rattle.rbac_cli.proofs.Listings.{listing_printed, listing_stopped}
 use Rattle.rbac_cli.proofs.matrix.print_rows.Goals as goal
 
-pub returns-in-Ok-clause-ok : goal.returns-in-Ok-clause-ok
-returns-in-Ok-clause-ok g c =
-    let rows = c.in-Ok.ensures.ok in
-    on_ok_weaker c.print.result (λ more. (
-      rows.0,
-      rows.1,
-      Prints-trans g.W.Write.contents c.args.sink.now c.print_matrix.new.sink c.print.new.sink c.args.page.now c.print_matrix.new.page c.print.new.self
-          (rows_text rows.0) (line (codes "end")) rows.2 more,
-    )) c.print.ensures.ok
+pub returns-clause-ok : goal.returns-clause-ok
+returns-clause-ok g c =
+    let lent = c.args.lent.now in
+    let matrix = c.build-matrix in
+    let rows = c.rows_after-rows in
+    let policy = subst IsPolicy (rows.ensures.index ∙ matrix.ensures.index) rows.ensures.going.policy in
+    let universe = subst IsUniverse (rows.ensures.universe ∙ matrix.ensures.universe) rows.ensures.going.universe in
+    on_ok_weaker c.print_page.result
+    (listing_printed rows.result (option_copied c.args.after) c.args.limit lent.index matrix.result.index.now lent.universe matrix.result.universe.now
+    matrix.ensures.index matrix.ensures.universe rows.ensures.rows g.W.Write.contents c.args.sink.now c.print_page.new.sink c.args.page.now c.print_page.new.page
+    (c.a_matrix_is_there.ensures lent.index lent.universe policy universe))
+    c.print_page.ensures.ok
 
-pub returns-in-Ok-clause-err : goal.returns-in-Ok-clause-err
-returns-in-Ok-clause-err g c =
-    let rows = c.in-Ok.ensures.ok in
-    on_err_weaker c.print.result (stopped_in_end g.W.Write.contents c.args.sink.now c.print_matrix.new.sink c.print.new.sink
-    c.args.page.now c.print_matrix.new.page c.print.new.self c.args.policy.now.held c.args.universe.now rows.0 rows.1 rows.2) c.print.ensures.err
-
-pub returns-in-Err-clause-err : goal.returns-in-Err-clause-err
-returns-in-Err-clause-err g c =
-    stopped_in_rows g.W.Write.contents c.args.sink.now c.print_matrix.new.sink c.args.page.now c.print_matrix.new.page
-    c.args.policy.now.held c.args.universe.now c.in-Err.ensures.err
+pub returns-clause-err : goal.returns-clause-err
+returns-clause-err g c =
+    let lent = c.args.lent.now in
+    let matrix = c.build-matrix in
+    let rows = c.rows_after-rows in
+    on_err_weaker c.print_page.result
+    (listing_stopped rows.result (option_copied c.args.after) c.args.limit lent.index matrix.result.index.now lent.universe matrix.result.universe.now
+    matrix.ensures.index matrix.ensures.universe rows.ensures.rows g.W.Write.contents c.args.sink.now c.print_page.new.sink c.args.page.now c.print_page.new.page)
+    c.print_page.ensures.err

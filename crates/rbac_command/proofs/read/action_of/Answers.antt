@@ -2,8 +2,14 @@ use Rattle.std.proofs.Common.{◌∙◌, sym}
 use Rattle.std.specs.Prelude.{codes}
 use Rattle.std.proofs.lemmas.Slice.Eq.{bytes_eq-Decides}
 use Rattle.clap.specs.Words.{found_of, rows_of}
-use Rattle.rbac_command.proofs.Actions.{the_other, can_i_line, who_can_line}
+use Rattle.rbac_command.proofs.Actions.{the_other, can_i_line, matrix_line, who_can_line}
 use Rattle.rbac_command.proofs.read.action_of.Goals as goal
+
+pub returns-then-eq : goal.returns-then-eq
+returns-then-eq c =
+    matrix_line c.args.name.now (rows_of (found_of c.args.matches.now)) _ c.matrix.result
+    ((bytes_eq-Decides c.args.name.now (codes "matrix")).0 (sym c.eq.ensures ∙ c.if-eq.true)) c.matrix_line_of.ensures.after
+    c.matrix_line_of.ensures.limit c.matrix.ensures
 
 pub returns-then-eq-2 : goal.returns-then-eq-2
 returns-then-eq-2 c =
@@ -13,5 +19,6 @@ returns-then-eq-2 c =
 pub returns : goal.returns
 returns c =
     can_i_line c.args.name.now (rows_of (found_of c.args.matches.now)) _ c.can_i.result
-    (the_other c.args.name.now c.eq.result c.eq-2.result c.requires c.eq.ensures c.if-eq.false c.eq-2.ensures c.if-eq-2.false)
+    (the_other c.args.name.now c.eq.result c.eq-2.result c.eq-3.result c.requires c.eq.ensures c.if-eq.false c.eq-2.ensures c.if-eq-2.false
+    c.eq-3.ensures c.if-eq-3.false)
     c.line_of.ensures c.can_i.ensures.answer

@@ -1,7 +1,6 @@
-use Rattle.std.proofs.Common.{◌≡◌, ◌∙◌, ◌++◌, ◌⊎◌, inl, inr, ap, sym, arith, length, ◌<◌, take, drop, rules}
+use Rattle.std.proofs.Common.{◌≡◌, ◌∙◌, ◌++◌, ◌⊎◌, inl, inr, ap, arith, length, ◌<◌}
 use Rattle.std.proofs.lemmas.Bool.{cases_lt}
 use Rattle.std.proofs.lemmas.List.{take-append-drop}
-use Rattle.std.specs.Ordering.{ordering_then}
 use Rattle.rbac_terms.specs.Text.{Text, text_cmp}
 use Rattle.rbac_index.proofs.KeyedLemmas.{joined_cmp}
 use Rattle.rbac_index.proofs.keyed.cmp_joined.Goals as goal

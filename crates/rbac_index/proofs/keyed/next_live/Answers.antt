@@ -1,6 +1,5 @@
-use Rattle.std.proofs.Common.{◌≡◌, ◌++◌, ℕ, ◌<◌, refl, rules, arith}
+use Rattle.std.proofs.Common.{◌++◌}
 use Rattle.std.proofs.lemmas.Bool.{both_ways}
-use Rattle.rbac_index.specs.Keyed.{IsLiveAt}
 use Rattle.rbac_index.proofs.KeyedLemmas.{first_live, none_next, next_inside, next_outside}
 use Rattle.rbac_index.proofs.keyed.next_live.Goals as goal
 

@@ -1,6 +1,6 @@
-use Rattle.std.proofs.Common.{◌≡◌, ◌≤◌, ◌+◌, ◌-◌, ◌++◌, ℕ, List, arith, subst, sym, ap}
+use Rattle.std.proofs.Common.{◌≡◌, ◌+◌, ◌-◌, ◌++◌, ℕ, arith, subst, sym}
 use Rattle.rbac_index.specs.Spans.{places_from}
-use Rattle.rbac_index.proofs.ReachLemmas.{IsReachBelow, reach_skip, reach_take, reach_all, reach_none}
+use Rattle.rbac_index.proofs.ReachLemmas.{IsReachBelow, reach_skip, reach_take, reach_all}
 use Rattle.rbac_index.proofs.matched.matched.Goals as goal
 
 pub push-requires-clause-ascending : goal.push-requires-clause-ascending

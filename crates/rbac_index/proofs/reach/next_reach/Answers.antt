@@ -1,4 +1,4 @@
-use Rattle.std.proofs.Common.{◌≡◌, ◌<◌, ◌∙◌, ℕ, List, ap, sym, arith, length}
+use Rattle.std.proofs.Common.{◌<◌, ◌∙◌, ℕ, List, ap, sym, arith, length}
 use Rattle.std.specs.Prelude.{Some}
 use Rattle.std.proofs.lemmas.Option.{slice_get-get_or}
 use Rattle.rbac_index.proofs.AlikeLemmas.{reach_shared}

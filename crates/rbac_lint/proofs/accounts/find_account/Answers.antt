@@ -1,6 +1,5 @@
 use Rattle.std.proofs.Common.{◌≡◌, ◌∙◌, ap, refl}
-use Rattle.std.specs.Prelude.{Some, None}
-use Rattle.rbac_terms.specs.declared.granting.Subject.TheVariants.{Account}
+use Rattle.std.specs.Prelude.{Some}
 use Rattle.rbac_lint.specs.declared.finding.Finding.{Finding}
 use Rattle.rbac_lint.specs.Lines.{Line, shown}
 use Rattle.rbac_lint.specs.Findings.{IsAccountAt, binding_line}

@@ -1,5 +1,4 @@
-use Rattle.std.proofs.Common.{List, subst, ap}
-use Rattle.std.specs.Prelude.{codes}
+use Rattle.std.proofs.Common.{subst, ap}
 use Rattle.rbac_terms.specs.Text.{Text}
 use Rattle.rbac_model.specs.Sources.{source_of}
 use Rattle.rbac_lint.specs.Lines.{Adds}

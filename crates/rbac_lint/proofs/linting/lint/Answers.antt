@@ -1,23 +1,39 @@
-use Rattle.std.proofs.Common.{subst}
-use Rattle.rbac_model.specs.Policies.{Held}
+use Rattle.std.proofs.Common.{List, subst, sym, ap, ◌∙◌}
+use Rattle.rbac_model.specs.Policies.{Held, PolicyView}
+use Rattle.rbac_model.specs.Lists.{IsAscendingBy}
+use Rattle.rbac_manifest.specs.Replaced.{replaced_name}
+use Rattle.rbac_manifest.specs.declared.replaced.Replaced.{Replaced}
 use Rattle.rbac_lint.specs.Lines.{Adds}
-use Rattle.rbac_lint.specs.Findings.{IsDangling, IsRedundant, IsEscalation, IsAccountWithout}
+use Rattle.rbac_lint.specs.Findings.{IsDangling, IsUnused, IsRedundant, IsEscalation, IsAccountWithout, IsStale}
+use Rattle.rbac_lint.specs.Replaced.{IsReplaced}
 use Rattle.rbac_lint.proofs.AllFound.{all_found}
 use Rattle.rbac_lint.proofs.linting.lint.Goals as goal
 
 pub returns-clause-ok : goal.returns-clause-ok
 returns-clause-ok c =
-    let h = c.args.policy.now.held in
-    let e = c.objects-objects.ensures.held in
-    let a = c.new-found.result in
+    let h = c.args.loaded.now.policy.held in
+    let p = ap (λ (v : PolicyView). v.held) c.policy-policy.ensures in
+    let e = c.objects-objects.ensures.held ∙ p in
     let b = c.find_dangling.new.found in
     let u = c.find_unused.new.found in
     let r = c.find_redundant.new.found in
-    let p = c.find_escalations.new.found in
+    let s = c.find_escalations.new.found in
     let w = c.find_accounts.new.found in
     let z = c.find_stale.new.found in
-    let P1 : Held → Type 0 = λ k. Adds (IsDangling k) a b in
-    let P3 : Held → Type 0 = λ k. Adds (IsRedundant k) u r in
-    let P4 : Held → Type 0 = λ k. Adds (IsEscalation k) r p in
-    let P5 : Held → Type 0 = λ k. Adds (IsAccountWithout k) p w in
-    all_found h a b u r p w z c.new-found.ensures (subst P1 e c.in_ok-find_dangling.ensures) c.in_ok-find_unused.ensures (subst P3 e c.in_ok-find_redundant.ensures) (subst P4 e c.in_ok-find_escalations.ensures) (subst P5 e c.in_ok-find_accounts.ensures) c.in_ok-find_stale.ensures
+    let k = c.find_replaced.new.found in
+    let P1 : Held → Type 0 = λ v. Adds (IsDangling v) c.new-found.result b in
+    let P2 : Held → Type 0 = λ v. Adds (IsUnused v) b u in
+    let P3 : Held → Type 0 = λ v. Adds (IsRedundant v) u r in
+    let P4 : Held → Type 0 = λ v. Adds (IsEscalation v) r s in
+    let P5 : Held → Type 0 = λ v. Adds (IsAccountWithout v) s w in
+    let P6 : Held → Type 0 = λ v. Adds (IsStale v) w z in
+    let P7 : List Replaced → Type 0 = λ rs. Adds (IsReplaced rs) z k in
+    all_found h c.args.loaded.now.replaced c.new-found.result b u r s w z k c.new-found.ensures
+    (subst P1 e c.in_ok-find_dangling.ensures) (subst P2 p c.in_ok-find_unused.ensures) (subst P3 e c.in_ok-find_redundant.ensures)
+    (subst P4 e c.in_ok-find_escalations.ensures) (subst P5 e c.in_ok-find_accounts.ensures) (subst P6 p c.in_ok-find_stale.ensures)
+    (subst P7 c.replaced.ensures.replaced c.in_ok-find_replaced.ensures)
+
+pub find_replaced-requires : goal.find_replaced-requires
+find_replaced-requires c =
+    let P : List Replaced → Type 0 = λ rs. IsAscendingBy replaced_name rs in
+    subst P (sym c.replaced.ensures.replaced) c.replaced.ensures.ordered

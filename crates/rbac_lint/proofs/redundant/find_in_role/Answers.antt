@@ -2,7 +2,8 @@ use Rattle.std.proofs.Common.{List, subst}
 use Rattle.rbac_terms.specs.declared.matching.Rule.{Rule}
 use Rattle.rbac_model.specs.Sources.{source_of}
 use Rattle.rbac_lint.specs.Lines.{Adds, OfEach}
-use Rattle.rbac_lint.specs.Roles.{IsPlainRole, rules_of}
+use Rattle.rbac_model.specs.Places.{rules_of}
+use Rattle.rbac_lint.specs.Roles.{IsPlainRole}
 use Rattle.rbac_lint.specs.Findings.{IsRedundantAt, IsRedundantOf}
 use Rattle.rbac_lint.proofs.Exact.{on_ok, Adds-where, Adds-nowhere}
 use Rattle.rbac_lint.proofs.redundant.find_in_role.Goals as goal

@@ -1,4 +1,5 @@
-use Rattle.std.proofs.Common.{arith, refl}
+use Rattle.std.proofs.Common.{◌∙◌, ap, arith, refl, sym}
+use Rattle.std.specs.Option.{option_copied}
 use Rattle.std.proofs.lemmas.Option.{slice_get_read}
 use Rattle.rbac_terms.specs.declared.matching.Rule.{Rule}
 use Rattle.rbac_model.specs.Sources.{source_of}
@@ -9,8 +10,11 @@ use Rattle.rbac_lint.proofs.Order.{Adds-next_place}
 use Rattle.rbac_lint.proofs.Named.{redundant_places}
 use Rattle.rbac_lint.proofs.redundant.find_in_rules.Goals as goal
 
-pub find_at-requires : goal.find_at-requires
-find_at-requires c = slice_get_read c.args.rules.now _ c.loop-place.place c.index-rules-place.result refl c.loop-place-test.true c.index-rules-place.is
+pub find_at-requires-clause-here : goal.find_at-requires-clause-here
+find_at-requires-clause-here c = slice_get_read c.args.rules.now _ c.loop-place.place c.index-rules-place.result refl c.loop-place-test.true c.index-rules-place.is
+
+pub find_at-requires-clause-listed : goal.find_at-requires-clause-listed
+find_at-requires-clause-listed c = λ l e. c.in_ok-listing.ensures l.now (sym c.as_ref-listed.ensures.value ∙ ap option_copied e)
 
 pub loop-place-init : goal.loop-place-init
 loop-place-init c = Adds-start (λ i (r : Rule). IsRedundantAt (source_of c.args.role) c.args.rules.now i) c.args.rules.now c.args.found.now

@@ -23,7 +23,10 @@ pub returns : goal.returns
 returns c =
     let h = c.args.policy.now.held in
     let r = c.args.role.now in
-    let P : List Rule → Type 0 = λ ws. IsTrue c.has_same_rules.result ↔ HasSameRules ws (Contains (rules_at c.as_slice-2.result.now)) in
-    let Q : List (Bor Rule) → Type 0 = λ gs. IsTrue c.has_same_rules.result ↔ HasSameRules r.rules (Contains (rules_at gs)) in
-    stale_iff h r c.is_none.result c.has_same_rules.result (rules_at c.in_ok-gathered.gathered.items) c.is_none.ensures c.if-is_none.false (c.has_rules.ensures.0 c.if-not-has_rules.false)
-    (c.in_ok-gathered.ensures r c.requires) (subst Q c.as_slice-2.ensures.value (subst P c.as_slice.ensures c.has_same_rules.ensures))
+    let same = c.in_ok-same.same in
+    let P : List (Bor Rule) → Type 0 = λ ws. IsTrue same ↔ HasSameRules (rules_at ws) (Contains (rules_at c.as_slice-2.result.now)) in
+    let Q : List (Bor Rule) → Type 0 = λ gs. IsTrue same ↔ HasSameRules (rules_at c.in_ok-written.written.items) (Contains (rules_at gs)) in
+    let R : List Rule → Type 0 = λ rs. IsTrue same ↔ HasSameRules rs (Contains (rules_at c.in_ok-gathered.gathered.items)) in
+    stale_iff h r c.is_none.result same (rules_at c.in_ok-gathered.gathered.items) c.is_none.ensures c.if-is_none.false (c.has_rules.ensures.0 c.if-not-has_rules.false)
+    (c.in_ok-gathered.ensures r c.requires)
+    (subst R c.in_ok-written.ensures (subst Q c.as_slice-2.ensures.value (subst P c.as_slice.ensures.value c.in_ok-same.ensures)))

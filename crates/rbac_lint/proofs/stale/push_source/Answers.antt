@@ -1,6 +1,6 @@
 use Rattle.std.proofs.Common.{◌∙◌, ap, ◌++◌}
 use Rattle.std.proofs.lemmas.Bool.{both_ways}
-use Rattle.rbac_lint.specs.Gathering.{rules_at, AreGatheredBy}
+use Rattle.rbac_lint.specs.Gathering.{rules_at}
 use Rattle.rbac_lint.proofs.Exact.{on_ok}
 use Rattle.rbac_lint.proofs.StaleRules.{gathered_more, gathered_same, plain_source, not_plain_source}
 use Rattle.rbac_lint.proofs.stale.push_source.Goals as goal

@@ -1,6 +1,5 @@
-use Rattle.std.proofs.Common.{◌≡◌, ap, arith, length, sym, subst}
-use Rattle.rbac_model.specs.Policies.{Held, IsHeld}
-use Rattle.rbac_lint.specs.Lines.{Adds, OfEach}
+use Rattle.std.proofs.Common.{◌≡◌, ap, arith, length}
+use Rattle.rbac_model.specs.Policies.{Held}
 use Rattle.rbac_lint.specs.Roles.{roles_in}
 use Rattle.rbac_lint.specs.Findings.{IsUnusedOf}
 use Rattle.rbac_lint.proofs.Exact.{Adds-start, Adds-each}

@@ -1,5 +1,5 @@
-use Rattle.std.proofs.Common.{◌≡◌, ◌∙◌, sym, ap, subst, ◌++◌, ◌∷◌, []}
-use Rattle.std.specs.Prelude.{Some, None, slice_get, codes}
+use Rattle.std.proofs.Common.{◌≡◌, ◌∙◌, sym, ap, []}
+use Rattle.std.specs.Prelude.{Some, None, slice_get}
 use Rattle.std.proofs.lemmas.Bool.{both_ways}
 use Rattle.std.proofs.lemmas.Option.{same_Some}
 use Rattle.rbac_model.specs.Policies.{Held, Source}

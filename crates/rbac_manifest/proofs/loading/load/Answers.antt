@@ -1,4 +1,9 @@
-use Rattle.std.proofs.Common.{rules, ◌≡◌, ◌≢◌, ◌∙◌}
+use Rattle.std.proofs.Common.{rules, ◌≡◌, ◌≢◌, ◌∙◌, List, ap, subst}
+use Rattle.rbac_terms.specs.Text.{Text}
+use Rattle.rbac_model.specs.declared.holding.Object.{Object}
+use Rattle.rbac_lists.specs.declared.given.Account.{Account}
+use Rattle.rbac_manifest.specs.Names.{names_given}
+use Rattle.rbac_manifest.specs.Replaced.{AreReplaced}
 use Rattle.rbac_manifest.specs.Gathered.{GatheredView, gathered}
 use Rattle.rbac_manifest.specs.Load.{HasFault, given}
 use Rattle.rbac_manifest.specs.declared.fault.Cause.TheVariants.{NoMemory}
@@ -19,4 +24,10 @@ returns-clause-ok c =
     let i = c.objects.inside in
     let g : GatheredView = record { objects = i.objects.items; namespaces = i.namespaces.items; accounts = i.accounts.items; catalogue = i.catalogue; documents = i.documents.items } in
     let e : g ≡ gathered (given c.args.inputs.now) = c.objects.view_is ∙ c.in_ok-objects.ensures.given in
-    loaded c.args.inputs.now g c.in_ok-policy.policy e c.in_ok-objects.ensures.sound c.in_ok-policy.ensures.kept c.in_ok-policy.ensures.policy c.in_ok-policy.ensures.few
+    let rs = c.in_ok-replaced.replaced.items in
+    let names = ap (λ (os : List Object). names_given os c.as_slice-2.result.now c.as_slice-3.result.now) c.as_slice.ensures.value
+    ∙ ap (λ (ns : List Text). names_given i.objects.items ns c.as_slice-3.result.now) c.as_slice-2.ensures.value
+    ∙ ap (λ (accounts : List Account). names_given i.objects.items i.namespaces.items accounts) c.as_slice-3.ensures.value in
+    let P : List (List Text) → Type 0 = λ ns. AreReplaced ns rs in
+    let several : AreReplaced (names_given i.objects.items i.namespaces.items i.accounts.items) rs = subst P names c.in_ok-replaced.ensures.replaced in
+    loaded c.args.inputs.now g c.in_ok-policy.policy c.in_ok-replaced.replaced.items e c.in_ok-objects.ensures.sound c.in_ok-policy.ensures.kept c.in_ok-policy.ensures.policy c.in_ok-policy.ensures.few several

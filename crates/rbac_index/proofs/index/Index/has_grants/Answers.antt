@@ -1,4 +1,4 @@
-use Rattle.std.proofs.Common.{◌≡◌, ◌≤◌, List, length, ap, subst, arith}
+use Rattle.std.proofs.Common.{◌≤◌, List, length, ap, subst, arith}
 use Rattle.rbac_index.specs.declared.keyed.Keyed.{Keyed}
 use Rattle.rbac_index.specs.declared.living.Live.{Live}
 use Rattle.rbac_index.specs.Holding.{IsKeyFor}

@@ -1,0 +1,95 @@
+//! What lint finds, as an answer.
+
+ghost use Rattle.std.specs.Prelude.{◌≡◌, false, IfOk, IfErr, OnOk, OnErr};
+ghost use Rattle.rbac_text.specs.Finding.{finding_text};
+ghost use Rattle.rbac_streams.specs.Taken.{Prints, StopsIn};
+ghost use Rattle.rbac_question.specs.declared.command.Action.TheVariants.{Lint};
+ghost use Rattle.rbac_cli.specs.Out.{findings_text, findings_status};
+ghost use Rattle.rbac_cli.specs.Ends.{is_write_fault};
+ghost use Rattle.rbac_cli.specs.Printing.{PrintsAnswer, StopsPrinting, is_sink_fault};
+
+use crate::ending::{RunFault, Status, fault_of};
+use rbac_lint::{Finding, lint};
+use rbac_manifest::Loaded;
+use rbac_streams::{Page, PrintFault, Sink};
+use rbac_text::put_finding;
+use std::alloc::Global;
+use std::io::Write;
+
+/// Prints what lint finds in what was loaded, each on a line.
+pub(crate) fn print_findings<W: Write + Drop>(
+    alloc: Global,
+    loaded: &Loaded,
+    sink: &mut Sink<W>,
+    page: &mut Page,
+) -> Result<Status, RunFault>
+    requires { sink.old.has_failed ≡ false }
+    ensures ok { IfOk result (PrintsAnswer W.contents sink.old page.old sink.new page.new loaded.now Lint) }
+    ensures err { IfErr result (StopsPrinting W.contents sink.old page.old sink.new page.new loaded.now Lint) }
+    ensures failed { sink.new.has_failed ≡ is_write_fault result }
+{
+    let findings = match lint(alloc, loaded) {
+        Ok(findings) => findings,
+        Err(_) => return Err(fault_of(page, PrintFault::NoMemory)),
+    };
+    match print_lines(alloc, findings.as_slice(), sink, page) {
+        Ok(()) => Ok(status_of(findings.as_slice())),
+        Err(fault) => Err(fault_of(page, fault)),
+    }
+}
+
+// 1 where something is found.
+fn status_of(findings: &[Finding]) -> Status
+    ensures { result ≡ findings_status findings.now }
+{
+    match findings.first() {
+        Some(_) => Status::One,
+        None => Status::Zero,
+    }
+}
+
+// Prints the lines of findings.
+fn print_lines<W: Write + Drop>(
+    alloc: Global,
+    findings: &[Finding],
+    sink: &mut Sink<W>,
+    page: &mut Page,
+) -> Result<(), PrintFault>
+    requires { sink.old.has_failed ≡ false }
+    ensures ok { OnOk result (Prints W.contents sink.old page.old sink.new page.new (findings_text findings.now)) }
+    ensures err { OnErr result (StopsIn W.contents sink.old page.old sink.new page.new (findings_text findings.now)) }
+    ensures failed { sink.new.has_failed ≡ is_sink_fault result }
+{
+    let mut line = Vec::new(alloc);
+    for finding in findings {
+        if let Err(fault) = print_line(finding, &mut line, sink, page) {
+            return Err(fault);
+        }
+    }
+    Ok(())
+}
+
+// Prints the line of one finding, which is put together in `line`.
+fn print_line<W: Write + Drop>(
+    finding: &Finding,
+    line: &mut Vec<u8>,
+    sink: &mut Sink<W>,
+    page: &mut Page,
+) -> Result<(), PrintFault>
+    requires { sink.old.has_failed ≡ false }
+    ensures ok { OnOk result (Prints W.contents sink.old page.old sink.new page.new (finding_text finding.now.code finding.now.object finding.now.place finding.now.other)) }
+    ensures err { OnErr result (StopsIn W.contents sink.old page.old sink.new page.new (finding_text finding.now.code finding.now.object finding.now.place finding.now.other)) }
+    ensures failed { sink.new.has_failed ≡ is_sink_fault result }
+{
+    line.clear();
+    let Finding {
+        code,
+        object,
+        place,
+        other,
+    } = finding;
+    if put_finding(line, *code, object, *place, other).is_err() {
+        return Err(PrintFault::NoMemory);
+    }
+    page.print(sink, line.as_slice())
+}

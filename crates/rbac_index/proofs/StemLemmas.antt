@@ -1,0 +1,150 @@
+-- targets of one group and resource text stand together
+use Rattle.std.proofs.Common.{◌≡◌, ◌⊎◌, ℕ, ◌+◌, ◌-◌, ◌<◌, ◌≤◌, List, [], ◌∷◌, length, get_or, slice_get, map, ap, sym, ◌∙◌, refl, subst, arith, inl, inr, false, Any, Contains, take, ◌++◌}
+use Rattle.std.specs.Prelude.{Option, Some, None, IfSome}
+use Rattle.std.specs.Ordering.{ordering_then, ordering_reverse}
+use Rattle.std.specs.Cmp.Lexicographic.{slice_cmp}
+use Rattle.std.specs.declared.cmp.Ordering.{Ordering}
+use Rattle.std.specs.declared.cmp.Ordering.TheVariants.{Less, Equal, Greater}
+use Rattle.std.proofs.lemmas.Bool.{cases_eq}
+use Rattle.std.proofs.lemmas.Cmp.{nat_list_cmp_total, tied_itself}
+use Rattle.std.proofs.lemmas.List.{get_or-map, length-map, take_more}
+use Rattle.std.proofs.lemmas.List.Elements.{Contains-push_cases}
+use Rattle.std.proofs.lemmas.Map.Lookups.{exact_bytes}
+use Rattle.std.proofs.lemmas.Option.{slice_get_within, get_or_from_slice_get, same_Some}
+use Rattle.rbac_terms.specs.Text.{Text, text_cmp}
+use Rattle.rbac_terms.specs.Targets.{What, Resource, Url, group_of, text_of, name_of, IsResource}
+use Rattle.rbac_terms.specs.Matching.{TargetOk, WordMatches, ResourceWordMatches}
+use Rattle.rbac_terms.specs.declared.matching.Rule.{Rule}
+use Rattle.rbac_model.specs.Lists.{IsAscendingBy}
+use Rattle.rbac_model.specs.Universes.{Listed, target_texts}
+use Rattle.rbac_index.specs.Matched.{what_texts, IsBetween, IsLaterOfStem, AreOfStem, StemOk}
+use Rattle.rbac_index.specs.Reaches.{MatchesAt}
+use Rattle.rbac_index.proofs.ReadLemmas.{read_some}
+
+-- the targets of a universe are in order
+pub targets_ordered : (us : List Listed) → IsAscendingBy target_texts us → IsAscendingBy what_texts (map (λ t. t.0) us)
+targets_ordered us up i j d lt within =
+    let first : Listed → What = λ t. t.0 in
+    let short : j < length us = omega (arith, within, length-map {A = Listed} {B = What} us first) in
+    rw (get_or-map first us i (d, false) d (omega (arith, lt, short)), get_or-map first us j (d, false) d short) (up i j (d, false) lt short)
+
+pinched_then : (o p q : Ordering) → ordering_then o p ≡ Less → ordering_then (ordering_reverse o) q ≡ Less → (o ≡ Equal) × (p ≡ Less) × (q ≡ Less)
+pinched_then Less p q e f = cc
+pinched_then Equal p q e f = (refl, e, f)
+pinched_then Greater p q e f = cc
+
+-- what stands between two that begin alike begins so
+pinched : (a b : Text) (p q : Ordering) → ordering_then (text_cmp a b) p ≡ Less → ordering_then (text_cmp b a) q ≡ Less → (b ≡ a) × (p ≡ Less) × (q ≡ Less)
+pinched a b p q e f =
+    let both = pinched_then (text_cmp a b) p q e (subst (λ (o : Ordering). ordering_then o q ≡ Less) (nat_list_cmp_total.antisymm b a) f) in
+    (sym (exact_bytes a b both.0), both.1, both.2)
+
+less_alone : (o : Ordering) → ordering_then o Equal ≡ Less → o ≡ Less
+less_alone Less e = refl
+less_alone Equal e = cc
+less_alone Greater e = cc
+
+before_too : (before : Option Text) (x y : Text) → text_cmp x y ≡ Less → IfSome before (λ m. text_cmp y m ≡ Less) → IfSome before (λ m. text_cmp x m ≡ Less)
+before_too None x y l is = tt
+before_too (Some m) x y l is = nat_list_cmp_total.trans x y m l is
+
+-- what stands between a target and a later one of its stem is a later one too
+later_between : (before : Option Text) (t u w : What) → slice_cmp text_cmp (what_texts t) (what_texts u) ≡ Less → slice_cmp text_cmp (what_texts u) (what_texts w) ≡ Less → IsLaterOfStem before t w → IsLaterOfStem before t u
+later_between before t u w low high of =
+    let back : slice_cmp text_cmp (what_texts u) (group_of t ∷ text_of t ∷ name_of w ∷ []) ≡ Less = subst (λ (g : Text). slice_cmp text_cmp (what_texts u) (g ∷ text_of t ∷ name_of w ∷ []) ≡ Less) of.group (subst (λ (x : Text). slice_cmp text_cmp (what_texts u) (group_of w ∷ x ∷ name_of w ∷ []) ≡ Less) of.text high) in
+    let groups = pinched (group_of t) (group_of u) _ _ low back in
+    let texts = pinched (text_of t) (text_of u) _ _ groups.1 groups.2 in
+    record {
+      group = groups.0;
+      text = texts.0;
+      name = (less_alone (text_cmp (name_of t) (name_of u)) texts.1, before_too before (name_of u) (name_of w) (less_alone (text_cmp (name_of u) (name_of w)) texts.2) of.name.1);
+    }
+
+-- where the last of them is a later one of the stem of the first, all between are
+pub of_stem : (before : Option Text) (ts : List What) (at end : ℕ) (t w : What) → IsAscendingBy what_texts ts → slice_get ts at ≡ Some t → slice_get ts (end - 1) ≡ Some w → IsLaterOfStem before t w → AreOfStem before ts at end
+of_stem before ts at end t w up there last of n x u low high read_x read_u =
+    let same : t ≡ x = same_Some t x (sym there ∙ read_x) in
+    subst (λ (v : What). IsLaterOfStem before v u) same (elim (cases_eq n (end - 1)) [
+      | inl e ↦ subst (IsLaterOfStem before t) (same_Some w u (sym last ∙ ap (slice_get ts) (sym e) ∙ read_u)) of
+      | inr ne ↦
+          let inside : end - 1 < length ts = slice_get_within ts (end - 1) w last in
+          let is_t : get_or ts at t ≡ t = get_or_from_slice_get ts at t t there in
+          let is_u : get_or ts n t ≡ u = get_or_from_slice_get ts n u t read_u in
+          let is_w : get_or ts (end - 1) t ≡ w = get_or_from_slice_get ts (end - 1) w t last in
+          let up_to = rw (is_t, is_u) at (up at n t low (slice_get_within ts n u read_u)) in
+          let from = rw (is_u, is_w) at (up n (end - 1) t (omega (arith, ne, high)) inside) in
+          later_between before t u w up_to from of
+    ])
+
+-- a later one of a stem has a name
+none_below : (x : Text) → text_cmp x [] ≡ Less → ⊥
+none_below [] e = cc
+none_below (b ∷ bs) e = cc
+
+-- a rule that matches a later one of the stem matches the stem
+fails_of_stem : (b : Option Text) (r : Rule) (t u : What) → IsLaterOfStem b t u → ¬ StemOk r t → TargetOk r u → ⊥
+fails_of_stem b r t (Url path) of bad ok = none_below (name_of t) of.name.0
+fails_of_stem b r t (Resource g x n) of bad ok = bad (subst (λ (w : Text). Any (λ v. WordMatches v w) r.groups) of.group ok.0, subst (λ (w : Text). Any (λ v. ResourceWordMatches v w) r.resources) of.text ok.1)
+
+-- where it matches one without naming it, it matches all
+matches_of_stem : (b : Option Text) (r : Rule) (t u : What) → IsLaterOfStem b t u → IsResource t → TargetOk r t → r.resource_names ≡ [] → TargetOk r u
+matches_of_stem b r t (Url path) of is ok none = absurd (none_below (name_of t) of.name.0)
+matches_of_stem b r (Url path) (Resource g x n) of is ok none = cc
+matches_of_stem b r (Resource h y m) (Resource g x n) of is ok none = (
+  subst (λ (w : Text). Any (λ v. WordMatches v w) r.groups) (sym of.group) ok.0,
+  subst (λ (w : Text). Any (λ v. ResourceWordMatches v w) r.resources) (sym of.text) ok.1,
+  inl none,
+)
+
+-- where it doesn't match one, it doesn't match a later one that it doesn't name
+unnamed_of_stem : (b : Option Text) (r : Rule) (t u : What) → IsLaterOfStem b t u → IsResource t → ¬ TargetOk r t → ¬ Contains r.resource_names (name_of u) → TargetOk r u → ⊥
+unnamed_of_stem b r t (Url path) of is bad unnamed ok = none_below (name_of t) of.name.0
+unnamed_of_stem b r (Url path) (Resource g x n) of is bad unnamed ok = cc
+unnamed_of_stem b r (Resource h y m) (Resource g x n) of is bad unnamed ok = elim (ok.2) [
+  | inl none ↦ bad (subst (λ (w : Text). Any (λ v. WordMatches v w) r.groups) of.group ok.0, subst (λ (w : Text). Any (λ v. ResourceWordMatches v w) r.resources) of.text ok.1, inl none)
+  | inr has ↦ unnamed has
+]
+
+module _ (b : Option Text) (r : Rule) (ts : List What) (at end : ℕ) (t : What) (there : slice_get ts at ≡ Some t) (stem : AreOfStem b ts at end) where
+  pub none_of_stem : ¬ StemOk r t → (MatchesAt r ts at → ⊥) → (n : ℕ) → at ≤ n → n < end → MatchesAt r ts n → ⊥
+  none_of_stem bad fails n low high m = elim (cases_eq at n) [
+    | inl e ↦ fails (subst (MatchesAt r ts) (sym e) m)
+    | inr ne ↦ fails_of_stem b r t m.0 (stem n t m.0 (omega (arith, low, ne)) high there m.1) bad m.2
+  ]
+
+  pub none_unnamed : IsResource t → ((x : Text) → Contains r.resource_names x → IsBetween (name_of t) b x → ⊥) → (MatchesAt r ts at → ⊥) → (n : ℕ) → at ≤ n → n < end → MatchesAt r ts n → ⊥
+  none_unnamed resource none fails n low high m = elim (cases_eq at n) [
+    | inl e ↦ fails (subst (MatchesAt r ts) (sym e) m)
+    | inr ne ↦
+        let of = stem n t m.0 (omega (arith, low, ne)) high there m.1 in
+        unnamed_of_stem b r t m.0 of resource (λ ok. fails (t, there, ok)) (λ has. none (name_of m.0) has of.name) m.2
+  ]
+
+  pub all_of_stem : IsResource t → r.resource_names ≡ [] → MatchesAt r ts at → end ≤ length ts → (n : ℕ) → at ≤ n → n < end → MatchesAt r ts n
+  all_of_stem resource none m within n low high = elim (cases_eq at n) [
+    | inl e ↦ subst (MatchesAt r ts) e m
+    | inr ne ↦
+        let u = read_some ts n (omega (arith, within, high)) in
+        let same : m.0 ≡ t = same_Some m.0 t (sym m.1 ∙ there) in
+        (u.0, u.1, matches_of_stem b r t u.0 (stem n t u.0 (omega (arith, low, ne)) high there u.1) resource (subst (TargetOk r) same m.2) none)
+  ]
+
+-- the least text after one: none of those seen stands between the two
+module _ (xs : List Text) (i : ℕ) (x after : Text) (before : Option Text) (within : i < length xs) (is : x ≡ get_or xs i x) (none : (y : Text) → Contains (take i xs) y → IsBetween after before y → ⊥) where
+  seen : (y : Text) → Contains (take (i + 1) xs) y → Contains (take i xs) y ⊎ (x ≡ y)
+  seen y has = Contains-push_cases (take i xs) x y (subst (λ (l : List Text). Contains l y) (take_more xs i x within ∙ ap (λ z. take i xs ++ z ∷ []) (sym is)) has)
+
+  pub none_passed : (IsBetween after before x → ⊥) → (y : Text) → Contains (take (i + 1) xs) y → IsBetween after before y → ⊥
+  none_passed outside y has between = elim (seen y has) [
+    | inl old ↦ none y old between
+    | inr new ↦ outside (subst (IsBetween after before) (sym new) between)
+  ]
+
+  pub none_nearer : IsBetween after before x → (y : Text) → Contains (take (i + 1) xs) y → IsBetween after (Some x) y → ⊥
+  none_nearer inside y has between = elim (seen y has) [
+    | inl old ↦ none y old (between.0, before_too before y x between.1 inside.1)
+    | inr new ↦
+        let less : text_cmp y y ≡ Less = subst (λ (z : Text). text_cmp y z ≡ Less) new between.1 in
+        let tied = tied_itself nat_list_cmp_total y in
+        cc
+  ]

@@ -1,0 +1,29 @@
+-- The order of targets, and those of one stem.
+use Rattle.std.specs.Prelude.{◌≡◌, ℕ, ◌<◌, List, [], ◌∷◌, Any, Option, Some, IfSome, slice_get}
+use Rattle.std.specs.declared.cmp.Ordering.TheVariants.{Less}
+use Rattle.rbac_terms.specs.Text.{Text, text_cmp}
+use Rattle.rbac_terms.specs.Targets.{What, group_of, text_of, name_of}
+use Rattle.rbac_terms.specs.Matching.{WordMatches, ResourceWordMatches}
+use Rattle.rbac_terms.specs.declared.matching.Rule.{Rule}
+
+-- the texts of a target by which targets are ordered: group, resource text or path, and name
+abbrev pub what_texts : What → List Text
+what_texts t = group_of t ∷ text_of t ∷ name_of t ∷ []
+
+-- a text stands after one, and before another where it is given
+abbrev pub IsBetween : Text → Option Text → Text → Type 0
+IsBetween after before x = (text_cmp after x ≡ Less) × IfSome before (λ m. text_cmp x m ≡ Less)
+
+-- u has the group and resource text of t, and a later name, which stands before that one where it is given
+pub record IsLaterOfStem (before : Option Text) (t u : What) : Type 0 where
+  pub group : group_of u ≡ group_of t
+  pub text : text_of u ≡ text_of t
+  pub name : IsBetween (name_of t) before (name_of u)
+
+-- the targets at the places between these are such of the one at the first
+abbrev pub AreOfStem : Option Text → List What → ℕ → ℕ → Type 0
+AreOfStem before ts at end = (n : ℕ) (t u : What) → at < n → n < end → slice_get ts at ≡ Some t → slice_get ts n ≡ Some u → IsLaterOfStem before t u
+
+-- words of the rule match the group and the resource text
+abbrev pub StemOk : Rule → What → Type 0
+StemOk r t = Any (λ w. WordMatches w (group_of t)) r.groups × Any (λ w. ResourceWordMatches w (text_of t)) r.resources

@@ -1,0 +1,160 @@
+-- places of rules, as they are listed under words
+use Rattle.std.proofs.Common.{◌≡◌, ◌≢◌, ℕ, ◌+◌, ◌<◌, ◌≤◌, ◌⊎◌, inl, inr, List, [], ◌∷◌, ◌++◌, get_or, length, take, sym, ap, ◌∙◌, refl, subst, arith, zero, suc, cond, Bool, true, false}
+use Rattle.std.specs.Prelude.{Option, Some, Contains, slice_get, unwrap_or, codes}
+use Rattle.std.specs.BTreeMap.{get}
+use Rattle.std.specs.Ordering.{is_eq}
+use Rattle.std.specs.declared.cmp.Ordering.{Ordering}
+use Rattle.std.specs.declared.cmp.Ordering.TheVariants.{Less, Equal, Greater}
+use Rattle.std.proofs.lemmas.Bool.{cases_lt}
+use Rattle.std.proofs.lemmas.Cmp.{tied_itself, nat_list_cmp_total}
+use Rattle.std.proofs.lemmas.List.{take_more}
+use Rattle.std.proofs.lemmas.List.Elements.{Contains-append_left, Contains-push, Contains-push_cases}
+use Rattle.std.proofs.lemmas.Map.Lookups.{exact_bytes}
+use Rattle.std.proofs.lemmas.Option.{slice_get_within, get_or_from_slice_get, same_Some}
+use Rattle.rbac_terms.specs.Text.{Text, text_cmp}
+use Rattle.rbac_terms.specs.declared.matching.Rule.{Rule}
+use Rattle.rbac_lint.specs.declared.listing.Field.{Field}
+use Rattle.rbac_lint.specs.Listing.{Lists, listed, words_in, IsAscending, IsWild, IsUnder, TakesIn, ListsPlace, ListsAll, AreListed}
+use Rattle.rbac_lint.proofs.Exact.{all_pairs_append}
+
+pub contains_at : {X : Type 0} (xs : List X) (k : ℕ) (x : X) → slice_get xs k ≡ Some x → Contains xs x
+contains_at xs k x e = (k, slice_get_within xs k x e, get_or_from_slice_get xs k x x e)
+
+-- ---- one list
+
+pub takes_none : (old : List ℕ) (place : ℕ) → Contains old place → TakesIn old old place
+takes_none old place c = record {
+  kept = λ n h. h;
+  has = c;
+  only = λ n h. inl h;
+  ascending = λ up below. up;
+}
+
+one_below : (place : ℕ) → IsAscending (place ∷ [])
+one_below place i j d lt l = absurd (omega (arith, l, lt))
+
+only_one : (x y k : ℕ) → k < 1 → get_or (x ∷ []) k y ≡ y → x ≡ y
+only_one x y zero l e = e
+only_one x y (suc k) l e = absurd (omega arith)
+
+pub takes_push : (old new : List ℕ) (place : ℕ) → new ≡ old ++ place ∷ [] → TakesIn old new place
+takes_push old new place e = record {
+  kept = λ n h. subst (λ (l : List ℕ). Contains l n) (sym e) (Contains-append_left old (place ∷ []) n h);
+  has = subst (λ (l : List ℕ). Contains l place) (sym e) (Contains-push old place);
+  only = λ n h. elim (Contains-push_cases old place n (subst (λ (l : List ℕ). Contains l n) e h)) [ inl a ↦ inl a | inr s ↦ inr (sym s) ];
+  ascending = λ up below. subst IsAscending (sym e)
+      (all_pairs_append (λ i j. i ≤ j) old (place ∷ []) up (one_below place)
+      (λ x y c d. subst (λ (n : ℕ). x ≤ n) (only_one place y d.0 d.1 d.2) (below x c)));
+}
+
+-- ---- the lists of a map
+
+by_bool : {G : Type 0} (b : Bool) → (b ≡ true → G) → (b ≡ false → G) → G
+by_bool true f g = f refl
+by_bool false f g = g refl
+
+equal_from_test : (o : Ordering) → is_eq o ≡ true → o ≡ Equal
+equal_from_test Less h = cc
+equal_from_test Equal h = refl
+equal_from_test Greater h = cc
+
+tied : (w : Text) → is_eq (text_cmp w w) ≡ true
+tied w = ap is_eq (tied_itself nat_list_cmp_total w)
+
+not_tied : (word w : Text) → w ≢ word → is_eq (text_cmp word w) ≡ false
+not_tied word w ne = by_bool (is_eq (text_cmp word w)) (λ h. absurd (ne (sym (exact_bytes word w (equal_from_test (text_cmp word w) h))))) (λ h. h)
+
+-- one word's list is another, and no other list has changed
+pub lists_place : (old new : Lists) (word : Text) (place : ℕ) (before xs : List ℕ) → before ≡ listed old word
+    → ((q : Text) → get text_cmp new q ≡ cond (is_eq (text_cmp word q)) (Some xs) (get text_cmp old q)) → TakesIn before xs place → ListsPlace old new word place
+lists_place old new word place before xs was reads takes =
+    let now : xs ≡ listed new word = sym (ap (λ (o : Option (List ℕ)). unwrap_or o []) (reads word ∙ ap (λ (b : Bool). cond b (Some xs) (get text_cmp old word)) (tied word))) in (
+      subst (λ (l : List ℕ). TakesIn (listed old word) l place) now (subst (λ (l : List ℕ). TakesIn l xs place) was takes),
+      λ w ne. ap (λ (o : Option (List ℕ)). unwrap_or o []) (reads w ∙ ap (λ (b : Bool). cond b (Some xs) (get text_cmp old w)) (not_tied word w ne)),
+    )
+
+same_or_not : (a b : Text) → (a ≡ b) ⊎ (a ≢ b)
+same_or_not a b = by_bool (is_eq (text_cmp b a))
+    (λ h. inl (sym (exact_bytes b a (equal_from_test (text_cmp b a) h))))
+    (λ h. inr (λ e. let t : is_eq (text_cmp b a) ≡ true = subst (λ (x : Text). is_eq (text_cmp b x) ≡ true) (sym e) (tied b) in cc))
+
+only_word : (x y : Text) (k : ℕ) → k < 1 → get_or (x ∷ []) k y ≡ y → x ≡ y
+only_word x y zero l e = e
+only_word x y (suc k) l e = absurd (omega arith)
+
+-- a place listed under a word, or under a star where it is wild, is listed for it
+pub lists_one : (old new : Lists) (word key : Text) (place : ℕ) → ListsPlace old new key place → (key ≡ codes "*") ⊎ ((key ≡ word) × (IsWild word → ⊥))
+    → ListsAll old new (word ∷ []) place
+lists_one old new word key place l at = record {
+  kept = λ w n c. elim (same_or_not w key) [
+    | inl e ↦ subst (λ (x : Text). Contains (listed new x) n) (sym e) (l.0.kept n (subst (λ (x : Text). Contains (listed old x) n) e c))
+    | inr ne ↦ subst (λ (xs : List ℕ). Contains xs n) (sym (l.1 w ne)) c
+  ];
+  has = λ w c. subst (λ (x : Text). IsUnder new x place) (only_word word w c.0 c.1 c.2) (elim at [
+    | inl e ↦ inl (subst (λ (x : Text). Contains (listed new x) place) e l.0.has)
+    | inr p ↦ inr (p.1, subst (λ (x : Text). Contains (listed new x) place) p.0 l.0.has)
+  ]);
+  only = λ w n c. elim (same_or_not w key) [
+    | inl e ↦ elim (l.0.only n (subst (λ (x : Text). Contains (listed new x) n) e c)) [
+      | inl a ↦ inl (subst (λ (x : Text). Contains (listed old x) n) (sym e) a)
+      | inr s ↦ inr s
+    ]
+    | inr ne ↦ inl (subst (λ (xs : List ℕ). Contains xs n) (l.1 w ne) c)
+  ];
+  ascending = λ up below w. elim (same_or_not w key) [
+    | inl e ↦ subst (λ (x : Text). IsAscending (listed new x)) (sym e) (l.0.ascending (up key) (below key))
+    | inr ne ↦ subst IsAscending (sym (l.1 w ne)) (up w)
+  ];
+}
+
+-- ---- the words of a rule
+
+pub lists_none : (m : Lists) (place : ℕ) → ListsAll m m [] place
+lists_none m place = record {
+  kept = λ w n c. c;
+  has = λ w c. absurd (omega (arith, c.1));
+  only = λ w n c. inl c;
+  ascending = λ up below. up;
+}
+
+under_kept : (m new : Lists) (w : Text) (place : ℕ) → ((v : Text) (n : ℕ) → Contains (listed m v) n → Contains (listed new v) n) → IsUnder m w place → IsUnder new w place
+under_kept m new w place kept (inl s) = inl (kept (codes "*") place s)
+under_kept m new w place kept (inr p) = inr (p.0, kept w place p.1)
+
+at_most : (m new : Lists) (place : ℕ) → ((w : Text) (n : ℕ) → Contains (listed new w) n → Contains (listed m w) n ⊎ (n ≡ place))
+    → ((w : Text) (n : ℕ) → Contains (listed m w) n → n ≤ place) → (w : Text) (n : ℕ) → Contains (listed new w) n → n ≤ place
+at_most m new place only below w n c = elim (only w n c) [
+  | inl a ↦ below w n a
+  | inr e ↦ omega (arith, e)
+]
+
+pub lists_more : (old mid new : Lists) (words : List Text) (i : ℕ) (word : Text) (place : ℕ) → i < length words → word ≡ get_or words i word
+    → ListsAll old mid (take i words) place → ListsAll mid new (word ∷ []) place → ListsAll old new (take (i + 1) words) place
+lists_more old mid new words i word place lt at before step =
+    let more : take (i + 1) words ≡ take i words ++ word ∷ [] = take_more words i word lt ∙ ap (λ (x : Text). take i words ++ x ∷ []) (sym at) in
+    record {
+      kept = λ w n c. step.kept w n (before.kept w n c);
+      has = λ w c. elim (Contains-push_cases (take i words) word w (subst (λ (l : List Text). Contains l w) more c)) [
+        | inl a ↦ under_kept mid new w place step.kept (before.has w a)
+        | inr e ↦ step.has w (0, omega arith, e)
+      ];
+      only = λ w n c. elim (step.only w n c) [ inl a ↦ before.only w n a | inr e ↦ inr e ];
+      ascending = λ up below. step.ascending (before.ascending up below) (at_most old mid place before.only below);
+    }
+
+-- ---- rules
+
+pub listed_more : (field : Field) (rules : List Rule) (i : ℕ) (r : Rule) (words : List Text) (old new : Lists) → slice_get rules i ≡ Some r → words ≡ words_in field r
+    → AreListed field rules i old → ListsAll old new words i → AreListed field rules (i + 1) new
+listed_more field rules i r words old new at same was is = record {
+  complete = λ n s w lt there c. elim (cases_lt n i) [
+    | inl below ↦ under_kept old new w n is.kept (was.complete n s w below there c)
+    | inr le ↦
+        let here : n ≡ i = omega (arith, le, lt) in
+        let one : s ≡ r = same_Some s r (sym there ∙ ap (slice_get rules) here ∙ at) in
+        subst (λ (k : ℕ). IsUnder new w k) (sym here)
+        (is.has w (subst (λ (ws : List Text). Contains ws w) (sym same) (subst (λ (x : Rule). Contains (words_in field x) w) one c)))
+  ];
+  below = λ w n c. elim (is.only w n c) [ inl a ↦ let l = was.below w n a in omega (arith, l) | inr e ↦ omega (arith, e) ];
+  ascending = is.ascending was.ascending (λ w n c. let l = was.below w n c in omega (arith, l));
+}

@@ -1,0 +1,20 @@
+-- L7: what lint finds of replaced documents.
+use Rattle.std.specs.Prelude.{◌≡◌, List, [], ◌∷◌, Option, Some, None, decimal}
+use Rattle.rbac_terms.specs.Text.{Text}
+use Rattle.rbac_manifest.specs.declared.replaced.Replaced.{Replaced}
+use Rattle.rbac_lint.specs.Lines.{Line, ObjectName, OfEach}
+
+-- the namespace of an object; a cluster-scoped one has none
+abbrev pub scope_of : Text → Option Text
+scope_of [] = None
+scope_of (c ∷ namespace) = Some (c ∷ namespace)
+
+abbrev pub replaced_object : Replaced → ObjectName
+replaced_object r = record { kind = r.kind; namespace = scope_of r.namespace; name = r.name }
+
+-- the object was given by several documents; how many earlier ones the last replaced is told (own)
+unfoldable pub IsReplacedOf : Replaced → Line → Type 0
+IsReplacedOf r x = x ≡ record { code = 7; object = replaced_object r; place = None; other = decimal r.earlier }
+
+abbrev pub IsReplaced : List Replaced → Line → Type 0
+IsReplaced rs = OfEach (λ k r. IsReplacedOf r) rs

@@ -1,0 +1,58 @@
+//! Objects of which several documents were given.
+
+ghost use Rattle.std.specs.Prelude.{◌≡◌, ◌++◌, IfOk, OnOk};
+ghost use Rattle.rbac_model.specs.Lists.{IsAscendingBy};
+ghost use Rattle.rbac_manifest.specs.Replaced.{replaced_name};
+ghost use Rattle.rbac_lint.specs.Lines.{Adds, object_text};
+ghost use Rattle.rbac_lint.specs.Replaced.{replaced_object, IsReplacedOf, IsReplaced};
+
+use crate::finding::{Finding, Findings, number_word};
+use rbac_manifest::Replaced;
+use rbac_terms::Word;
+use std::alloc::{AllocError, Global};
+
+// One for each.
+pub(crate) fn find_replaced(
+    alloc: Global,
+    found: &mut Findings,
+    replaced: &[Replaced],
+) -> Result<(), AllocError>
+    requires { IsAscendingBy replaced_name replaced.now }
+    ensures { OnOk result (Adds (IsReplaced replaced.now) found.old found.new) }
+{
+    for object in replaced {
+        find_replaced_of(alloc, found, object)?;
+    }
+    Ok(())
+}
+
+fn find_replaced_of(
+    alloc: Global,
+    found: &mut Findings,
+    replaced: &Replaced,
+) -> Result<(), AllocError>
+    ensures { OnOk result (Adds (IsReplacedOf replaced.now) found.old found.new) }
+{
+    let object = replaced_word(alloc, replaced)?;
+    let other = number_word(alloc, replaced.earlier)?;
+    found.push(Finding {
+        code: 7,
+        object,
+        place: None,
+        other,
+    })
+}
+
+// An object as findings name it.
+fn replaced_word(alloc: Global, replaced: &Replaced) -> Result<Word, AllocError>
+    ensures { IfOk result (λ w. w ≡ object_text (replaced_object replaced.now)) }
+{
+    let mut text = Word::from_slice(alloc, replaced.kind.as_bytes())?;
+    text.push(b'/')?;
+    if !replaced.namespace.is_empty() {
+        text.push_slice(replaced.namespace.as_bytes())?;
+        text.push(b'/')?;
+    }
+    text.push_slice(replaced.name.as_bytes())?;
+    Ok(text)
+}

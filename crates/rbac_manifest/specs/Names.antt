@@ -1,0 +1,30 @@
+-- The names of the objects that documents give: kind, namespace (empty where cluster-scoped) and name.
+use Rattle.std.specs.Prelude.{List, [], ◌∷◌, ◌++◌, codes, map}
+use Rattle.std.specs.declared.cmp.Ordering.{Ordering}
+use Rattle.std.specs.Cmp.Lexicographic.{slice_cmp}
+use Rattle.rbac_terms.specs.Text.{Text, text_cmp}
+use Rattle.rbac_model.specs.Policies.{role_name, cluster_role_name, binding_name}
+use Rattle.rbac_model.specs.declared.holding.Object.{Object}
+use Rattle.rbac_model.specs.declared.holding.Object.TheVariants.{Role as ARole, ClusterRole as AClusterRole, Binding as ABinding}
+use Rattle.rbac_lists.specs.declared.given.Account.{Account}
+
+-- the order of names: text by text, each by its bytes
+abbrev pub name_cmp : List Text → List Text → Ordering
+name_cmp = slice_cmp text_cmp
+
+-- the name of a role or a binding
+abbrev pub object_name : Object → List Text
+object_name (ARole r) = role_name r
+object_name (AClusterRole r) = cluster_role_name r
+object_name (ABinding b) = binding_name b
+
+-- the name of a Namespace, and of a ServiceAccount
+abbrev pub namespace_name : Text → List Text
+namespace_name name = codes "Namespace" ∷ [] ∷ name ∷ []
+
+abbrev pub account_name : Account → List Text
+account_name a = codes "ServiceAccount" ∷ a.namespace ∷ a.name ∷ []
+
+-- the names of all documents of these kinds
+abbrev pub names_given : List Object → List Text → List Account → List (List Text)
+names_given objects namespaces accounts = map object_name objects ++ map namespace_name namespaces ++ map account_name accounts

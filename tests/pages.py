@@ -1,0 +1,272 @@
+"""Random small universes, walked page by page by the built program, against the definition written down once more.
+
+Each export has plain and aggregated roles, bindings of both kinds, dangling ones too, and a Universe document with all six
+lists. Its matrix is worked out here by asking every request of every binding in turn, as docs/BEHAVIOUR.md says it. Then
+the program lists it whole, in pages of random sizes from token to token, and after the keys of requests that aren't in
+the universe. `pages.py SEED COUNT` tries others. The last line is `N passed, M failed`.
+"""
+
+import base64
+import itertools
+import json
+import os
+import random
+import subprocess
+import sys
+
+TOP = os.path.dirname(os.path.dirname(os.path.abspath(__file__)))
+PROGRAM = os.path.join(TOP, 'crates/rbacaudit/out/rbacaudit')
+V1 = 'rbac.authorization.k8s.io/v1'
+
+# What is drawn from: few words, so that much is allowed, and some that only nearly match.
+NAMESPACES = ['', 'dev', 'prod']
+VERBS = ['get', 'list', '-']
+GROUPS = ['', 'apps']
+RESOURCES = ['pods', 'pods/log', 'jobs/scale', 'x/autoscale']
+NAMES = ['', '-', 'a', 'a\tb', 'é', 'c\\d']
+URLS = ['/healthz', '/healthz/ready', '/metrics', '/']
+USERS = ['alice', 'bob', 'system:anonymous', 'system:serviceaccount:dev:ci', 'system:serviceaccount:dev:']
+TEAMS = ['devs', 'system:authenticated', 'system:unauthenticated', 'system:serviceaccounts', 'system:serviceaccounts:dev']
+
+
+def some(draw, words, most=3):
+    return draw.sample(words, draw.randint(1, min(most, len(words))))
+
+
+# ---- drawing an export
+
+def rule(draw, in_cluster):
+    if in_cluster and draw.random() < 0.3:
+        return {'verbs': some(draw, VERBS + ['*']), 'nonResourceURLs': some(draw, URLS + ['*', '/health*', '/healthz/**'])}
+    drawn = {'verbs': some(draw, VERBS + ['*']), 'apiGroups': some(draw, GROUPS + ['*']),
+             'resources': some(draw, RESOURCES + ['*', '*/scale', '*/log', '*/*'])}
+    if draw.random() < 0.3:
+        drawn['resourceNames'] = some(draw, NAMES + ['*'])
+    return drawn
+
+
+def subject(draw):
+    kind = draw.choice(['User', 'User', 'Group', 'ServiceAccount'])
+    if kind == 'User':
+        return {'kind': kind, 'name': draw.choice(USERS)}
+    if kind == 'Group':
+        return {'kind': kind, 'name': draw.choice(TEAMS)}
+    named = {'kind': kind, 'name': 'ci'}
+    return dict(named, namespace=draw.choice(['dev', 'prod'])) if draw.random() < 0.7 else named
+
+
+def roles(draw):
+    for name in draw.sample('abcdef', 4):
+        labels = {'to': draw.choice('xyz')}
+        made = {'apiVersion': V1, 'kind': 'ClusterRole', 'metadata': {'name': name, 'labels': labels},
+                'rules': [rule(draw, True) for _ in range(draw.randint(0, 3))]}
+        if draw.random() < 0.3:
+            made['aggregationRule'] = {'clusterRoleSelectors': [{'matchLabels': {'to': to}} for to in some(draw, 'xyz', 2)]}
+        yield made
+    for namespace, name in draw.sample([*itertools.product(['dev', 'prod'], 'ab')], 3):
+        yield {'apiVersion': V1, 'kind': 'Role', 'metadata': {'namespace': namespace, 'name': name},
+               'rules': [rule(draw, False) for _ in range(draw.randint(1, 3))]}
+
+
+def bindings(draw):
+    for _ in range(draw.randint(3, 10)):
+        metadata = {'name': 'b%d' % draw.randint(0, 9)}
+        subjects = [subject(draw) for _ in range(draw.randint(0, 4))]
+        kind = draw.choice(['ClusterRoleBinding', 'RoleBinding', 'RoleBinding'])
+        of_role = kind == 'RoleBinding' and draw.random() < 0.5
+        if kind == 'RoleBinding':
+            metadata['namespace'] = draw.choice(['dev', 'prod'])
+        yield {'apiVersion': V1, 'kind': kind, 'metadata': metadata, 'subjects': subjects,
+               'roleRef': {'kind': 'Role' if of_role else 'ClusterRole', 'name': draw.choice('abcdef')}}
+
+
+def universe(draw):
+    who = [{'user': user, 'groups': some(draw, TEAMS)} if draw.random() < 0.4 else {'user': user} for user in some(draw, USERS, 4)]
+    who += [{'group': team} for team in some(draw, TEAMS, 2)]
+    pairs = some(draw, [*itertools.product(GROUPS, RESOURCES)], 6)
+    return {'apiVersion': 'rbacaudit/v1', 'kind': 'Universe', 'principals': who,
+            'namespaces': some(draw, NAMESPACES), 'verbs': some(draw, VERBS, 4), 'names': some(draw, NAMES, 4),
+            'resources': [{'group': g, 'resource': r, 'namespaced': draw.random() < 0.7} for g, r in pairs],
+            'urls': some(draw, URLS)}
+
+
+# ---- the definition
+
+def groups_of(user, given):
+    groups = set(given)
+    parts = user.split(':')
+    if len(parts) == 4 and parts[:2] == ['system', 'serviceaccount'] and parts[2] and parts[3]:
+        groups |= {'system:serviceaccounts', 'system:serviceaccounts:' + parts[2]}
+    if user == 'system:anonymous':
+        return groups | {'system:unauthenticated'}
+    return groups if 'system:unauthenticated' in groups else groups | {'system:authenticated'}
+
+
+def is_named(subject, namespace, who):
+    kind, name, groups = who
+    if subject['kind'] == 'Group':
+        return subject['name'] in groups
+    if subject['kind'] == 'User':
+        return kind == 'u' and subject['name'] == name
+    home = subject.get('namespace') or namespace
+    return kind == 'u' and bool(home) and name == 'system:serviceaccount:%s:%s' % (home, subject['name'])
+
+
+def word_matches(words, text):
+    return '*' in words or text in words
+
+
+def rule_allows(rule, verb, target):
+    if not word_matches(rule['verbs'], verb):
+        return False
+    if target[0] == 'url':
+        path = target[1]
+        return any(word == path or word.endswith('*') and path.startswith(word.rstrip('*')) for word in rule.get('nonResourceURLs', []))
+    _, group, resource, name = target
+    below = resource.partition('/')[2]
+    return (word_matches(rule.get('apiGroups', []), group)
+            and any(word in ('*', resource) or below and word == '*/' + below for word in rule.get('resources', []))
+            and (not rule.get('resourceNames') or name in rule['resourceNames']))
+
+
+def rules_of(role, cluster_roles):
+    """The rules of a role; of an aggregated one those of the plain ones that it leads to."""
+    if 'aggregationRule' not in role:
+        return role['rules']
+    reached, waiting = set(), [role]
+    while waiting:
+        selectors = waiting.pop()['aggregationRule']['clusterRoleSelectors']
+        for name, other in cluster_roles.items():
+            is_selected = any(selector['matchLabels'].items() <= other['metadata']['labels'].items() for selector in selectors)
+            if is_selected and name not in reached:
+                reached.add(name)
+                waiting += [other] * ('aggregationRule' in other)
+    return [rule for name in sorted(reached) if 'aggregationRule' not in cluster_roles[name] for rule in cluster_roles[name]['rules']]
+
+
+def name_of(item):
+    metadata = item['metadata']
+    return item['kind'], metadata.get('namespace', ''), metadata['name']
+
+
+def ordered_bindings(items):
+    """Each binding by order, as its printed name, its namespace, its subjects and the rules of its role."""
+    last = {name_of(item): item for item in items}
+    cluster_roles = {name: item for (kind, _, name), item in last.items() if kind == 'ClusterRole'}
+    for (kind, namespace, name), item in sorted(last.items()):
+        if kind in ('ClusterRoleBinding', 'RoleBinding'):
+            wanted = item['roleRef']
+            role = last.get((wanted['kind'], namespace if wanted['kind'] == 'Role' else '', wanted['name']))
+            shown = '/'.join([kind, namespace, name] if namespace else [kind, name])
+            yield shown, namespace, item['subjects'], rules_of(role, cluster_roles) if role else []
+
+
+def allows(binding, who, namespace, verb, target):
+    _, home, subjects, rules = binding
+    is_live = not home or target[0] == 'resource' and home == namespace
+    return (is_live and any(is_named(subject, home, who) for subject in subjects)
+            and any(rule_allows(rule, verb, target) for rule in rules))
+
+
+def principals(lists):
+    given = {}
+    for entry in lists['principals']:
+        if 'user' in entry:
+            given.setdefault('u:' + entry['user'], set()).update(entry.get('groups', []))
+        else:
+            given['g:' + entry['group']] = {entry['group']}
+    return {key: ('u', key[2:], groups_of(key[2:], groups)) if key[0] == 'u' else ('g', key[2:], groups) for key, groups in given.items()}
+
+
+def matrix(items, lists):
+    """The rows by key: the printed fields of the request, and its first binding."""
+    held = [*ordered_bindings(items)]
+    targets = [(('url', path), ('', path, ''), False) for path in lists['urls']]
+    for entry in lists['resources']:
+        for name in lists['names']:
+            key = entry['group'], entry['resource'], name
+            targets.append((('resource', *key), key, entry['namespaced']))
+    rows = {}
+    for (key, who), namespace, verb, (target, fields, namespaced) in itertools.product(
+            principals(lists).items(), lists['namespaces'], lists['verbs'], targets):
+        first = next((it[0] for it in held if allows(it, who, namespace, verb, target)), None)
+        if first and (namespaced or not namespace):
+            rows[tuple(text.encode() for text in (key, namespace, verb, *fields))] = first
+    return rows
+
+
+# ---- texts
+
+def field(text):
+    shown = ''.join('\\x%02x' % ord(c) if ord(c) < 32 or ord(c) == 127 else c * 2 if c == '\\' else c for c in text.decode())
+    return {'': '-', '-': '\\x2d'}.get(shown, shown)
+
+
+def token(key):
+    return base64.urlsafe_b64encode('\t'.join(['1', *map(field, key)]).encode()).rstrip(b'=').decode()
+
+
+def page(rows, after, limit):
+    """What the program has to print."""
+    left = [key for key in sorted(rows) if after is None or key > after]
+    shown = left if limit is None else left[:limit]
+    lines = ['\t'.join([*map(field, key), rows[key]]) for key in shown]
+    lines.append('end' if len(shown) == len(left) else 'next\t' + token(shown[-1]))
+    return ''.join(line + '\n' for line in lines), shown[-1:] if len(shown) < len(left) else []
+
+
+# ---- walking
+
+def listed(given, after, limit):
+    words = ['matrix'] + (['--after', token(after)] if after else []) + (['--limit', str(limit)] if limit else [])
+    return subprocess.run([PROGRAM, *words], input=given, stdout=subprocess.PIPE, timeout=60).stdout.decode()
+
+
+def foreign_key(draw):
+    """A key, mostly of no request of the universe."""
+    who = draw.choice(['u:', 'g:']) + draw.choice(['a', 'alice', 'b', 'devs', 'system:authenticated', 'zoe'])
+    verb, namespace = draw.choice(['', 'get', 'h', 'zz']), draw.choice(['', 'd', 'dev', 'e', 'z'])
+    if draw.random() < 0.3:
+        return tuple(text.encode() for text in (who, '', verb, '', draw.choice(['/', '/health', '/metricsx']), ''))
+    return tuple(text.encode() for text in (who, namespace, verb, draw.choice(['', 'a', 'b']), draw.choice(['p', 'pods', 'pods/x']),
+                                            draw.choice(['', '-', 'a', 'b'])))
+
+
+def walk(draw, items, lists):
+    """The first page that isn't what it has to be, or nothing; and how many rows there are."""
+    given = json.dumps({'apiVersion': 'v1', 'kind': 'List', 'items': [*items, lists]}).encode()
+    rows = matrix(items, lists)
+    asked = [(None, None)] + [(foreign_key(draw), draw.choice([None, 1, 2, 5])) for _ in range(4)]
+    after = [None]
+    while after and len(asked) < 40:
+        limit = draw.randint(1, 2 + len(rows) // 3)
+        asked.append((after[0], limit))
+        after = page(rows, after[0], limit)[1]
+    for after, limit in asked:
+        wanted, got = page(rows, after, limit)[0], listed(given, after, limit)
+        if got != wanted:
+            return 'after %r at most %r: wanted %r, got %r; %s' % (after, limit, wanted, got, given.decode()), len(rows)
+    return None, len(rows)
+
+
+def main(seed, count):
+    passed = failed = total = 0
+    for number in range(int(count)):
+        draw = random.Random('%s %d' % (seed, number))
+        items = [*roles(draw), *bindings(draw)]
+        draw.shuffle(items)
+        wrong, rows = walk(draw, items, universe(draw))
+        total += rows
+        passed, failed = passed + (not wrong), failed + bool(wrong)
+        if wrong:
+            print('FAIL universe %d of seed %s: %s' % (number, seed, wrong))
+    if total < 10 * int(count):
+        print('FAIL %d universes have no more than %d rows' % (int(count), total))
+        failed += 1
+    print('%d universes with %d rows, walked page by page' % (int(count), total))
+    print('%d passed, %d failed' % (passed, failed))
+    return 1 if failed else 0
+
+
+if __name__ == '__main__':
+    sys.exit(main(*(sys.argv[1:3] or ['1', '200'])))
