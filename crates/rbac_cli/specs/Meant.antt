@@ -20,10 +20,6 @@ IsTargetMeant entries (ForUrl path) target = target ≡ Url path
 IsTargetMeant entries (ForType word subresource name) target =
     (found : Found) × IsFound entries word found × (target ≡ Resource found.group (with_subresource found.resource subresource) name)
 
--- nothing else is asked for
-abbrev pub IsOnlyTargetMeant : List Entry → AskedFor → What → Type 0
-IsOnlyTargetMeant entries asked target = (other : What) → IsTargetMeant entries asked other → other ≡ target
-
 -- where it is asked for: a target that is known to be outside all namespaces in none, any other in the one given (own)
 abbrev pub IsNamespaceMeant : List Entry → What → Text → Text → Type 0
 IsNamespaceMeant entries target given namespace =

@@ -4,7 +4,7 @@ ghost use Rattle.std.specs.Prelude.{◌≡◌, [], IfOk, codes};
 ghost use Rattle.rbac_terms.specs.Targets.{Url};
 ghost use Rattle.rbac_terms.specs.Text.{BeginsWith};
 ghost use Rattle.rbac_question.specs.Asked.{ForType, IsTypeWord};
-ghost use Rattle.rbac_cli.specs.Meant.{IsTargetMeant, IsOnlyTargetMeant, IsNamespaceMeant, IsMeant, with_subresource};
+ghost use Rattle.rbac_cli.specs.Meant.{IsTargetMeant, IsNamespaceMeant, IsMeant, with_subresource};
 
 use rbac_catalogue::Catalogue;
 use rbac_question::{Asked, Question};
@@ -24,8 +24,7 @@ pub(crate) fn meant_by(
     catalogue: &Catalogue,
     question: &Question,
 ) -> Result<Meant, AllocError>
-    ensures meant { IfOk result (λ meant. IsMeant catalogue.now.entries question.now meant.target meant.namespace) }
-    ensures only { IfOk result (λ meant. IsOnlyTargetMeant catalogue.now.entries question.now.asked meant.target) }
+    ensures { IfOk result (λ meant. IsMeant catalogue.now.entries question.now meant.target meant.namespace) }
 {
     let target = target_of(alloc, catalogue, &question.asked)?;
     let nowhere = Word::new(alloc);
@@ -34,11 +33,10 @@ pub(crate) fn meant_by(
     Ok(Meant { target, namespace })
 }
 
-/// What a question asks for (own): a URL as it is written; a type word is what
-/// [`Catalogue::resolve_word`] makes of it, and a subresource stands after it and a slash.
-pub fn target_of(alloc: Global, catalogue: &Catalogue, asked: &Asked) -> Result<Target, AllocError>
-    ensures meant { IfOk result (IsTargetMeant catalogue.now.entries asked.now) }
-    ensures only { IfOk result (IsOnlyTargetMeant catalogue.now.entries asked.now) }
+// What a question asks for (own): a URL as it is written; a type word is what
+// [`Catalogue::resolve_word`] makes of it, and a subresource stands after it and a slash.
+fn target_of(alloc: Global, catalogue: &Catalogue, asked: &Asked) -> Result<Target, AllocError>
+    ensures { IfOk result (IsTargetMeant catalogue.now.entries asked.now) }
 {
     if asked.is_url() {
         url_target(alloc, asked.text())
@@ -71,8 +69,7 @@ fn resource_target(
     name: &Word,
 ) -> Result<Target, AllocError>
     requires { IsTypeWord word.now }
-    ensures meant { IfOk result (IsTargetMeant catalogue.now.entries (ForType word.now subresource.now name.now)) }
-    ensures only { IfOk result (IsOnlyTargetMeant catalogue.now.entries (ForType word.now subresource.now name.now)) }
+    ensures { IfOk result (IsTargetMeant catalogue.now.entries (ForType word.now subresource.now name.now)) }
 {
     let found = catalogue.resolve_word(alloc, word)?;
     let text = resource_text(alloc, found.resource.as_bytes(), subresource.as_bytes())?;

@@ -13,10 +13,8 @@ mod matrix;
 mod running;
 mod who_can;
 
-pub use asking::target_of;
 pub use ending::{RunFault, Status};
 pub use laws::{answers_are_one, runs_are_one};
-pub use rbac_catalogue::Catalogue;
 pub use rbac_command::{UsageFault, command_of};
 pub use rbac_manifest::{At, Cause, LoadFault};
 pub use rbac_question::{Action, Asked, Command, Question};

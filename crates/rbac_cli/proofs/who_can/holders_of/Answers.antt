@@ -14,7 +14,7 @@ returns c =
     IfOk-weaker c.who_can.result _ _ (λ xs holders. (
       target,
       namespace,
-      subst (λ (v : CatalogueView). IsMeant v.entries q target namespace) c.catalogue.ensures c.in_ok-meant.ensures.meant,
+      subst (λ (v : CatalogueView). IsMeant v.entries q target namespace) c.catalogue.ensures c.in_ok-meant.ensures,
       subst (λ (p : PolicyView). AreHolders p.held namespace q.verb target xs) c.policy.ensures
           (subst (λ (p : PolicyView). AreHolders p.held namespace q.verb target xs) c.in_ok-index.ensures holders),
     )) c.who_can.ensures.holders

@@ -1,0 +1,120 @@
+"""An input that is made to hurt, of at most 64 MiB.
+
+    python3 generate_hostile.py KIND OUT [N [M]]
+
+KIND is one of
+    ring         N aggregated cluster roles, each of which selects the next
+    all          N aggregated cluster roles that all select all
+    steps        N aggregated cluster roles that select M plain ones
+    expressions  M cluster roles, and a selector of N expressions
+    values       M cluster roles, and a `NotIn` of N values
+    labels       a cluster role of N labels, and a selector of as many
+    groups       a binding of N groups
+    names        N resources, and the name of one object, which has M bytes
+    bindings     N bindings of a user each
+    nested       a list of lists of N documents, each nested as deep as may be
+    collide      a binding of the users whose names stand on standard input, one a line (generate_collisions.c)
+"""
+
+import sys
+
+LIMIT = 67_108_864
+V1 = '"apiVersion":"rbac.authorization.k8s.io/v1"'
+PODS = '{"verbs":["get"],"apiGroups":[""],"resources":["pods"]}'
+
+
+def listed(items):
+    return '{"apiVersion":"v1","kind":"List","items":[%s]}' % ','.join(items)
+
+
+def role(name, rules='', labels='', selectors=None):
+    metadata = '"name":"%s"' % name + (',"labels":{%s}' % labels if labels else '')
+    parts = [V1, '"kind":"ClusterRole"', '"metadata":{%s}' % metadata, '"rules":[%s]' % rules]
+    if selectors is not None:
+        parts.append('"aggregationRule":{"clusterRoleSelectors":[%s]}' % selectors)
+    return '{%s}' % ','.join(parts)
+
+
+def binding(name, subjects):
+    return '{%s,"kind":"ClusterRoleBinding","metadata":{"name":"%s"},"roleRef":{"kind":"ClusterRole","name":"r"},"subjects":[%s]}' % (
+        V1, name, subjects)
+
+
+def subject(kind, name):
+    return '{"kind":"%s","name":"%s"}' % (kind, name)
+
+
+def many(count, text):
+    return (text % number for number in range(count))
+
+
+def selecting(requirement):
+    return role('a', selectors='{"matchExpressions":[%s]}' % requirement)
+
+
+def ring(n, _):
+    chain = (role('r%d' % i, '', '"l":"%d"' % i, '{"matchLabels":{"l":"%d"}}' % ((i + 1) % n)) for i in range(n))
+    return [*chain, role('z', PODS, '"l":"0"')]
+
+
+def select_all(n, _):
+    return [*(role('r%d' % i, selectors='{}') for i in range(n)), role('z', PODS)]
+
+
+def steps(n, m):
+    aggregated = (role('a%d' % i, selectors='{"matchLabels":{"l":"1"}}') for i in range(n))
+    return [*aggregated, *(role('p%d' % i, PODS, '"l":"1"') for i in range(m))]
+
+
+def expressions(n, m):
+    wanted = ','.join(many(n, '{"key":"k%d","operator":"DoesNotExist"}'))
+    return [selecting(wanted), *(role('p%d' % i) for i in range(m))]
+
+
+def values(n, m):
+    wanted = '{"key":"k","operator":"NotIn","values":[%s]}' % ','.join(many(n, '"v%d"'))
+    return [selecting(wanted), *(role('p%d' % i, labels='"k":"w"') for i in range(m))]
+
+
+def labels(n, _):
+    each = ','.join(many(n, '"k%d":"v"'))
+    return [role('a', selectors='{"matchLabels":{%s}}' % each), role('p', labels=each)]
+
+
+def groups(n, _):
+    return [role('r', PODS), binding('b', ','.join(subject('Group', 'x%d' % i) for i in range(n)))]
+
+
+def names(n, m):
+    words = ','.join(many(n, '"r%d"'))
+    named = '{"verbs":["get"],"apiGroups":[""],"resources":["x"],"resourceNames":["%s"]}' % ('n' * m)
+    return [role('r', '{"verbs":["get"],"apiGroups":[""],"resources":[%s]},%s' % (words, named))]
+
+
+def bindings(n, _):
+    return [role('r', PODS), *(binding('b%d' % i, subject('User', 'u%d' % i)) for i in range(n))]
+
+
+def nested(n, _):
+    return ['{"kind":"x","y":%s}' % ('[' * 120 + ']' * 120)] * n
+
+
+def collide(_n, _m):
+    return [role('r', PODS), binding('b', ','.join(subject('User', name) for name in sys.stdin.read().split()))]
+
+
+KINDS = {'ring': ring, 'all': select_all, 'steps': steps, 'expressions': expressions, 'values': values, 'labels': labels, 'groups': groups,
+         'names': names, 'bindings': bindings, 'nested': nested, 'collide': collide}
+
+
+def main(kind, out, n='1000', m='1000'):
+    text = listed(KINDS[kind](int(n), int(m)))
+    if len(text) > LIMIT:
+        sys.exit('%s %s %s: %d bytes are more than an input may have' % (kind, n, m, len(text)))
+    with open(out, 'w', encoding='utf-8') as file:
+        file.write(text)
+
+
+if len(sys.argv) < 3 or sys.argv[1] not in KINDS:
+    sys.exit(__doc__)
+main(*sys.argv[1:])

@@ -1,0 +1,54 @@
+#!/usr/bin/env bash
+# Measures the built program on inputs that are made to hurt, beside reading and dropping the same JSON alone: processor time
+# and the most memory of one run each. `make build` builds the program; the yardstick is built here.
+set -eu
+cd "$(dirname "$0")"
+audit=../crates/rbacaudit/out/rbacaudit
+room=$(mktemp -d)
+trap 'rm -rf "$room"' EXIT
+alone=$room/json_alone
+json_alone/build.sh "$alone"
+cc -O2 generate_collisions.c -o "$room/collisions"
+input=$room/hostile.json
+
+# One line: an input's name and size, the time and memory of reading it, and those of a command over it. A run ends after 120 seconds.
+measure() {
+    local name=$1
+    shift
+    printf '%-52s %9d bytes  JSON alone %s  %s %s\n' "$name" "$(stat -c %s "$input")" \
+        "$(python3 least.py --both=120 "$alone" "$input")" "$1" "$(python3 least.py --both=120 "$audit" "$@" "$input")"
+}
+
+hostile() {
+    python3 generate_hostile.py "$1" "$input" "${@:2}"
+}
+
+for count in "100000 14" "500000 14"; do
+    # shellcheck disable=SC2086
+    "$room/collisions" $count | hostile collide
+    measure "who-can, ${count% *} users whose keys collide" who-can -A get pods
+    seq "${count% *}" | sed 's/^/user-of-/' | hostile collide
+    measure "who-can, ${count% *} users with other names" who-can -A get pods
+done
+hostile ring 20000
+measure "ring of 20000 aggregated roles" can-i --as kim -A get pods
+for count in 10000 20000; do
+    hostile all "$count"
+    measure "$count cluster roles that all select all" can-i --as kim -A get pods
+done
+hostile steps 20000 30000
+measure "20000 roles aggregated of 30000 plain ones" can-i --as kim -A get pods
+hostile expressions 100000 100000
+measure "a selector of 100000 expressions, 100000 roles" can-i --as kim -A get pods
+hostile values 1000000 100000
+measure "NotIn with 1000000 values, 100000 roles" can-i --as kim -A get pods
+hostile labels 100000
+measure "100000 matchLabels against as many labels" can-i --as kim -A get pods
+hostile groups 1000000
+measure "1000000 groups as subjects, a user of 2000 groups" can-i --as kim --groups "$(seq -s, 2000)" -A get pods
+hostile names 5000 1000000
+measure "5000 resources by one name of a megabyte" matrix
+hostile bindings 60000
+measure "60000 users by 60000 bindings" matrix --limit 1000
+hostile nested 200000
+measure "values nested to the limit" can-i --as kim -A get pods
