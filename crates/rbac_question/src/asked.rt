@@ -31,12 +31,12 @@ impl Model for Asked {
 }
 
 impl Asked {
-    /// What TARGET and `--subresource` ask for (own): a URL where TARGET begins with `/`, else a
-    /// type, split at its first `/` into type word and object name. A missing name is the empty text.
-    ///
-    /// U2 where TARGET is empty or begins with `.`, U3 where a URL has a subresource. Both are told
-    /// before any memory is asked for.
-    pub fn from_target(
+    // What TARGET and `--subresource` ask for (own): a URL where TARGET begins with `/`, else a
+    // type, split at its first `/` into type word and object name. A missing name is the empty text.
+    //
+    // U2 where TARGET is empty or begins with `.`, U3 where a URL has a subresource. Both are told
+    // before any memory is asked for.
+    pub(crate) fn from_target(
         alloc: Global,
         target: &str,
         subresource: &str,

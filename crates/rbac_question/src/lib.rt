@@ -10,4 +10,4 @@ mod line;
 pub use asked::Asked;
 pub use command::{Action, Command, Question};
 pub use fault::QuestionFault;
-pub use line::{CanILine, MatrixLine, QuestionLine, groups_from, namespace_from};
+pub use line::{CanILine, MatrixLine, QuestionLine};

@@ -97,8 +97,8 @@ fn parts_of<'a>(alloc: Global, text: &'a str) -> Result<Vec<&'a str>, AllocError
     text.split(',').collect(alloc)
 }
 
-/// The groups of `--groups`: the parts between commas that are not empty, in order (own).
-pub fn groups_from(alloc: Global, text: &str) -> Result<Words, AllocError>
+// The groups of `--groups`: the parts between commas that are not empty, in order (own).
+fn groups_from(alloc: Global, text: &str) -> Result<Words, AllocError>
     ensures { IfOk result (λ groups. groups ≡ groups_in text.now) }
 {
     let mut groups = Vec::new(alloc);
@@ -110,9 +110,9 @@ pub fn groups_from(alloc: Global, text: &str) -> Result<Words, AllocError>
     Ok(Words::from_vec(groups))
 }
 
-/// The namespace of `-A` and `-n` (own): with `-A` the empty one, else the one given, and `default`
-/// where none is.
-pub fn namespace_from(alloc: Global, all: bool, given: &str) -> Result<Word, AllocError>
+// The namespace of `-A` and `-n` (own): with `-A` the empty one, else the one given, and `default`
+// where none is.
+fn namespace_from(alloc: Global, all: bool, given: &str) -> Result<Word, AllocError>
     ensures { IfOk result (λ namespace. namespace ≡ namespace_meant all given.now) }
 {
     if all {

@@ -211,16 +211,16 @@ impl Principal {
         &key[2..]
     }
 
-    /// Whether this is the user of that name, with whatever groups. Takes no memory.
-    pub fn is_user_named(&self, name: &Word) -> bool
+    // Whether this is the user of that name, with whatever groups. Takes no memory.
+    pub(crate) fn is_user_named(&self, name: &Word) -> bool
         ensures { IsTrue result ↔ IsUserNamed self.now name.now }
     {
         self.is_user && self.name() == name.as_bytes()
     }
 
-    /// Whether this is the user of that service account, `system:serviceaccount:NAMESPACE:NAME`
-    /// (Using RBAC Authorization, "Referring to subjects"). Takes no memory.
-    pub fn is_account(&self, namespace: &Word, name: &Word) -> bool
+    // Whether this is the user of that service account, `system:serviceaccount:NAMESPACE:NAME`
+    // (Using RBAC Authorization, "Referring to subjects"). Takes no memory.
+    pub(crate) fn is_account(&self, namespace: &Word, name: &Word) -> bool
         ensures { IsTrue result ↔ IsUserNamed self.now (account_user namespace.now name.now) }
     {
         self.is_user && is_account_user(self.name(), namespace.as_bytes(), name.as_bytes())

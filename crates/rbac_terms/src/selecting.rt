@@ -29,23 +29,23 @@ impl Labels {
         Labels { labels }
     }
 
-    /// The labels by key and value, in order.
-    pub fn as_slice(&self) -> &[(Word, Word)]
+    // The labels by key and value, in order.
+    fn as_slice(&self) -> &[(Word, Word)]
         ensures { result.now ≡ self.now }
     {
         self.labels.as_slice()
     }
 
-    /// Whether there is a label of this key. Takes no memory.
-    pub fn has_key(&self, key: &Word) -> bool
+    // Whether there is a label of this key. Takes no memory.
+    fn has_key(&self, key: &Word) -> bool
         ensures { IsTrue result ↔ HasKey self.now key.now }
     {
         self.as_slice().iter().any(|label| label.0 == *key)
     }
 
-    /// Whether there is a label of this key and this value. Takes no memory.
+    // Whether there is a label of this key and this value. Takes no memory.
     #[tactic(auto, unfolding(crate::specs::Selecting::HasLabel))]
-    pub fn has(&self, key: &Word, value: &Word) -> bool
+    fn has(&self, key: &Word, value: &Word) -> bool
         ensures { IsTrue result ↔ HasLabel self.now key.now value.now }
     {
         self.as_slice()
@@ -53,8 +53,8 @@ impl Labels {
             .any(|label| label.0 == *key && label.1 == *value)
     }
 
-    /// Whether there is a label of this key, with one of these values. Takes no memory.
-    pub fn has_one_of(&self, key: &Word, values: &Words) -> bool
+    // Whether there is a label of this key, with one of these values. Takes no memory.
+    fn has_one_of(&self, key: &Word, values: &Words) -> bool
         ensures { IsTrue result ↔ HasOneOf self.now key.now values.now }
     {
         self.as_slice()
@@ -110,8 +110,8 @@ impl Requirements {
         Requirements { requirements }
     }
 
-    /// The requirements, in order.
-    pub fn as_slice(&self) -> &[Requirement]
+    // The requirements, in order.
+    fn as_slice(&self) -> &[Requirement]
         ensures { result.now ≡ self.now }
     {
         self.requirements.as_slice()

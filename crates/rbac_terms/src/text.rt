@@ -202,9 +202,9 @@ impl Words {
         self.words.push(word)
     }
 
-    /// Adds all of these at the end, in order. Fails only where memory is refused, and the list is
-    /// then as before.
-    pub fn append(&mut self, mut more: Words) -> Result<(), AllocError>
+    // Adds all of these at the end, in order. Fails only where memory is refused, and the list is
+    // then as before.
+    pub(crate) fn append(&mut self, mut more: Words) -> Result<(), AllocError>
         ensures ok { OnOk result (self.new ≡ self.old ++ more) }
         ensures err { OnErr result (self.new ≡ self.old) }
     {

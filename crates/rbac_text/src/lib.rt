@@ -12,4 +12,4 @@ pub use field::put_field;
 pub use finding::put_finding;
 pub use holder::put_holder;
 pub use row::{put_binding, put_row};
-pub use why::{put_cluster_role, put_place, put_role, put_why};
+pub use why::{put_place, put_role, put_why};

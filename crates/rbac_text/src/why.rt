@@ -23,9 +23,9 @@ pub fn put_role(line: &mut Vec<u8>, namespace: &Word, name: &Word) -> Result<(),
     put_text(line, name.as_bytes())
 }
 
-/// Adds the name of a role of the whole cluster as one field (own): `ClusterRole/NAME`. Where memory
-/// is refused a front of it may have been added.
-pub fn put_cluster_role(line: &mut Vec<u8>, name: &Word) -> Result<(), AllocError>
+// Adds the name of a role of the whole cluster as one field (own): `ClusterRole/NAME`. Where memory
+// is refused a front of it may have been added.
+fn put_cluster_role(line: &mut Vec<u8>, name: &Word) -> Result<(), AllocError>
     ensures { OnOk result (line.new.items ≡ line.old.items ++ cluster_role_text name.now) }
 {
     line.extend_from_slice(b"ClusterRole/")?;
