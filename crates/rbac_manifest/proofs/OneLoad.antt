@@ -2,7 +2,7 @@
 use Rattle.std.proofs.Common.{◌≡◌, ℕ, List, Option, Some, None, inl, inr, length, subst, ap, arith, sym, ◌∙◌}
 use Rattle.rbac_model.specs.declared.holding.Object.{Object}
 use Rattle.rbac_model.specs.Kept.{AreKept}
-use Rattle.rbac_model.specs.Policies.{Held, IsHeld, GrantView, PolicyView, AreGrantsOf, OneListOfGrants}
+use Rattle.rbac_model.specs.Policies.{Held, IsHeld, GrantView, AreGrantsOf, OneListOfGrants}
 use Rattle.rbac_catalogue.specs.Catalogue.{CatalogueView}
 use Rattle.rbac_universe.specs.declared.lists.UniverseLists.{UniverseLists}
 use Rattle.rbac_lists.specs.Meant.{lists_meant}
@@ -12,8 +12,8 @@ use Rattle.rbac_manifest.specs.declared.replaced.Replaced.{Replaced}
 use Rattle.rbac_manifest.specs.Names.{names_given}
 use Rattle.rbac_manifest.specs.Replaced.{replaced_name, AreReplaced}
 use Rattle.rbac_manifest.specs.declared.fault.LoadFault.{LoadFault}
-use Rattle.rbac_manifest.specs.Load.{LoadedView, IsLoaded, HasFault, document_fault, given, too_many}
-use Rattle.rbac_manifest.specs.Gathered.{objects_in, namespaces_in, accounts_in, catalogue_in, documents_in}
+use Rattle.rbac_manifest.specs.Load.{LoadedView, IsLoaded, HasFault, document_fault, given}
+use Rattle.rbac_manifest.specs.Gathered.{objects_in, namespaces_in, accounts_in, documents_in}
 
 abbrev pub KeptIsOne : Type 0
 KeptIsOne = (os : List Object) (held : Held) (others : Held) → AreKept os held → AreKept os others → held ≡ others

@@ -1,216 +1,362 @@
--- which names are given more than once, by their counts
-use Rattle.std.proofs.Common.{◌≡◌, ◌≢◌, ℕ, ◌+◌, ◌-◌, ◌<◌, ◌≤◌, ◌⊎◌, ◌↔◌, inl, inr, List, [], ◌∷◌, ◌++◌, length, get_or, take, map, sym, ap, ◌∙◌, refl, subst, arith, zero, suc, cond}
-use Rattle.std.specs.Prelude.{Option, Some, None, Bool, true, false, Contains, AllPairs, slice_get, unwrap_or, count_by, nat_lt, if◌then◌else◌}
-use Rattle.std.specs.List.{flat_map, AllByRecursion, sum_by}
-use Rattle.std.proofs.lemmas.List.Sums.{sum_by-append}
-use Rattle.std.proofs.lemmas.List.Kept.{AllPairs-cons}
-use Rattle.std.proofs.lemmas.List.Elements.{Contains-append_cases, Contains-append_left, Contains-append_right, Contains-get_or}
-use Rattle.std.specs.List.Sorted.{IsStrictlySortedBy}
-use Rattle.std.specs.Map.{keys_of}
-use Rattle.std.specs.BTreeMap.{BTreeMap, IsOrdered, get, is_at}
-use Rattle.std.specs.Ordering.{is_eq}
+-- which names stand more than once in a sorted list, run by run of equal ones
+use Rattle.std.proofs.Common.{◌≡◌, ◌≢◌, ℕ, ◌+◌, ◌-◌, ◌<◌, ◌≤◌, ◌⊎◌, ◌↔◌, inl, inr, List, [], ◌∷◌, ◌++◌, length, get_or, length-append, append-nil, append_assoc, sym, ap, ◌∙◌, refl, subst, arith, zero, suc, cond, Bor}
+use Rattle.std.specs.Prelude.{Bool, true, false, Contains, count_by}
+use denote.Param.Members.{Mut}
+use Rattle.std.specs.Fn.{ComputesOnPairs}
+use Rattle.std.specs.Iterator.{Yields}
+use Rattle.std.specs.Slice.Iter.{chunk_by_rest, chunk_by_callee, chunk_by_steps}
+use Rattle.std.specs.List.{sum_by, flat_map, IsChunkByPrefix}
+use Rattle.std.specs.List.Sorted.{IsPermutation, IsSorted}
+use Rattle.std.specs.Ordering.{is_eq, is_lt, ordering_reverse}
 use Rattle.std.specs.declared.cmp.Ordering.{Ordering}
 use Rattle.std.specs.declared.cmp.Ordering.TheVariants.{Less, Equal, Greater}
-use Rattle.std.proofs.lemmas.Bool.{ltb-true, ltb-false}
-use Rattle.std.proofs.lemmas.Cmp.{tied_itself}
-use Rattle.std.proofs.lemmas.Option.{slice_get-get_or, slice_get_within, get_or_from_slice_get}
-use Rattle.std.proofs.lemmas.Map.Entries.{btree_map_get_place, place_from_lookup}
+use Rattle.std.proofs.Math.ListN.{get_or-append}
+use Rattle.std.proofs.Math.Seq.{get_or-append_seam}
+use Rattle.std.proofs.lemmas.List.Sums.{sum_by-append}
+use Rattle.std.proofs.lemmas.List.Sorted.{sorted_far, sum_by-IsPermutation}
+use Rattle.std.proofs.lemmas.List.Quantifiers.{all_pairs_push}
+use Rattle.std.proofs.lemmas.List.Elements.{Contains-append_cases, Contains-append_left, Contains-append_right, Contains-get_or}
 use Rattle.rbac_terms.specs.Text.{Text}
 use Rattle.rbac_model.specs.Lists.{IsCount, IsAscendingBy, by_name}
-use Rattle.rbac_model.proofs.NamePlaces.{same_name, equal_from_name}
+use Rattle.rbac_model.proofs.NamePlaces.{same_name, equal_from_name, by_ordering, total}
+use Rattle.rbac_model.proofs.LastNamed.{ranks}
 use Rattle.rbac_manifest.specs.declared.replaced.Replaced.{Replaced}
 use Rattle.rbac_manifest.specs.Names.{name_cmp}
-use Rattle.rbac_manifest.specs.NameOrder.{name_cmp_total}
-use Rattle.rbac_manifest.specs.Replaced.{replaced_name, replaced_by, AreReplaced, AreCounts, IsCountedMore}
+use Rattle.rbac_manifest.specs.Replaced.{replaced_name, replaced_by, AreReplaced}
+
+abbrev Name : Type 0
+Name = List Text
+
+-- ---- the order of names
+
+same_names : (n q : Name) → name_cmp n q ≡ Equal → n ≡ q
+same_names n q e = same_name (λ (t : Name). t) n q e
+
+tied_names : (n q : Name) → n ≡ q → name_cmp n q ≡ Equal
+tied_names n q e = equal_from_name (λ (t : Name). t) n q e
+
+turned : (n q : Name) → name_cmp n q ≡ Greater → name_cmp q n ≡ Less
+turned n q e = (total (λ (t : Name). t)).antisymm q n ∙ ap ordering_reverse e
+
+less_differs : (n q : Name) → name_cmp n q ≡ Less → n ≢ q
+less_differs n q l e = let t = tied_names n q e in cc
+
+same_from_test : (n q : Name) (o : Ordering) → name_cmp n q ≡ o → is_eq o ≡ true → n ≡ q
+same_from_test n q Less e t = cc
+same_from_test n q Equal e t = same_names n q e
+same_from_test n q Greater e t = cc
+
+-- what isn't less either way is the same
+less_from_both : (n q : Name) (o : Ordering) → name_cmp n q ≡ o → is_eq o ≡ false → name_cmp q n ≢ Less → name_cmp n q ≡ Less
+less_from_both n q Less e t h = e
+less_from_both n q Equal e t h = cc
+less_from_both n q Greater e t h = absurd (h (turned n q e))
+
+abbrev alike : Name → Name → Bool
+alike x y = is_eq (name_cmp x y)
+
+-- ---- sorted names
+
+-- no name is less than an earlier one
+NotFalling : List Name → Type 0
+NotFalling [] = Unit {0}
+NotFalling (x ∷ xs) = ((y : Name) → Contains xs y → name_cmp y x ≢ Less) × NotFalling xs
+
+not_less : (o : Ordering) → is_lt o ≡ false → o ≢ Less
+not_less Less e l = cc
+not_less Equal e l = cc
+not_less Greater e l = cc
+
+far_apart : (xs : List Name) → ((i j : ℕ) (d : Name) → i ≤ j → j < length xs → is_lt (name_cmp (get_or xs j d) (get_or xs i d)) ≡ false) → NotFalling xs
+unfolding NotFalling
+far_apart [] h = tt
+far_apart (x ∷ xs) h = (
+  λ y w. let P : Name → Type 0 = λ z. name_cmp z x ≢ Less in subst P w.2 (not_less (name_cmp (get_or xs w.0 y) x) (h 0 (suc w.0) y (omega arith) (omega (arith, w.1)))),
+  far_apart xs (λ i j d le l. h (suc i) (suc j) d (omega arith) (omega arith)),
+)
+
+not_falling : (xs : List Name) → IsSorted name_cmp xs → NotFalling xs
+not_falling xs up = far_apart xs (sorted_far (λ x y. is_lt (name_cmp x y)) (ranks (λ (t : Name). t)) xs up)
+
+falls_later : (xs ys : List Name) → NotFalling (xs ++ ys) → NotFalling ys
+unfolding NotFalling
+falls_later [] ys h = h
+falls_later (x ∷ xs) ys h = falls_later xs ys h.1
+
+-- ---- a run of equal names
+
+head_there : (k : Name) (r : List Name) → Contains (k ∷ r) k
+head_there k r = (0, omega arith, refl)
+
+first_or_later : (k : Name) (r : List Name) (x : Name) → Contains (k ∷ r) x → (k ≡ x) ⊎ Contains r x
+first_or_later k r x (zero, l, same) = inl same
+first_or_later k r x (suc i, l, same) = inr (i, omega (arith, l), same)
+
+all_equal : (k : Name) (r rest : List Name) → ((i : ℕ) (d : Name) → i + 1 < length (k ∷ r) → alike (get_or (k ∷ r ++ rest) i d) (get_or (k ∷ r ++ rest) (i + 1) d) ≡ true) → (x : Name) → Contains (k ∷ r) x → x ≡ k
+all_equal k r rest h x (zero, l, same) = sym same
+all_equal k [] rest h x (suc i, l, same) = absurd (omega (arith, l))
+all_equal k (m ∷ r) rest h x (suc i, l, same) =
+    let next : (j : ℕ) → suc j + 1 ≡ suc (j + 1) = λ j. omega arith in
+    let P : (d : Name) (j n : ℕ) → Type 0 = λ d j n. alike (get_or (k ∷ m ∷ r ++ rest) (suc j) d) (get_or (k ∷ m ∷ r ++ rest) n d) ≡ true in
+    all_equal m r rest (λ j d n. subst (P d j) (next j) (h (suc j) d (omega arith))) x (i, omega (arith, l), same)
+    ∙ sym (same_from_test k m (name_cmp k m) refl (h 0 k (omega arith)))
+
+-- the last name of the run isn't the one after it
+after_run : (k : Name) (r more : List Name) → ((x : Name) → Contains (k ∷ r) x → x ≡ k)
+    → (length (k ∷ r) < length ((k ∷ r) ++ more) → (d : Name) → alike (get_or ((k ∷ r) ++ more) (length (k ∷ r) - 1) d) (get_or ((k ∷ r) ++ more) (length (k ∷ r)) d) ≡ false)
+    → 0 < length more → (d : Name) → alike k (get_or more 0 d) ≡ false
+after_run k r [] same cut some d = absurd (omega (arith, some))
+after_run k r (m ∷ more) same cut some d =
+    let last : get_or ((k ∷ r) ++ m ∷ more) (length r) d ≡ k = get_or-append (k ∷ r) (m ∷ more) d (length r) (omega arith) ∙ same (get_or (k ∷ r) (length r) d) (Contains-get_or (k ∷ r) (length r) d (omega arith)) in
+    let next : get_or ((k ∷ r) ++ m ∷ more) (length (k ∷ r)) d ≡ m = get_or-append_seam (k ∷ r) m more d in
+    let before : length (k ∷ r) - 1 ≡ length r = omega arith in
+    let there : (i : ℕ) → Name = λ i. get_or ((k ∷ r) ++ m ∷ more) i d in
+    sym (ap (λ (i : ℕ). alike (there i) (there (length (k ∷ r)))) before ∙ ap (λ (x : Name). alike x (there (length (k ∷ r)))) last ∙ ap (λ (y : Name). alike k y) next) ∙ cut (omega (arith, length-append (k ∷ r) (m ∷ more))) d
+
+-- the names after the run are greater
+run_below : (k : Name) (r rest : List Name) → NotFalling (k ∷ r ++ rest) → ((x : Name) → Contains (k ∷ r) x → x ≡ k)
+    → (0 < length rest → (d : Name) → alike k (get_or rest 0 d) ≡ false) → (y : Name) → Contains rest y → name_cmp k y ≡ Less
+unfolding NotFalling
+run_below k r [] up same gap y w = absurd (omega (arith, w.1))
+run_below k r (z ∷ rest) up same gap y w =
+    let first : name_cmp k z ≡ Less = less_from_both k z (name_cmp k z) refl (gap (omega arith) z) (up.0 z (Contains-append_right r (z ∷ rest) z (head_there z rest))) in
+    let after : (o : Ordering) → name_cmp k y ≡ o → o ≢ Equal = λ o e q. (
+    let tied : k ≡ y = same_names k y (e ∙ q) in
+    let P : Name → Type 0 = λ n. name_cmp n z ≢ Less in
+    elim (first_or_later z rest y w) [
+      | inl there ↦ less_differs k z first (tied ∙ sym there)
+      | inr later ↦ subst P (sym tied) ((falls_later r (z ∷ rest) up.1).0 y later) first
+    ]) in
+    by_ordering (name_cmp k y) (λ e. e) (λ e. absurd (after Equal e refl)) (λ e. absurd (up.0 y (Contains-append_right r (z ∷ rest) y w) (turned k y e)))
 
 -- ---- counts
 
-test_of : (q n : List Text) → Bool
-test_of q n = is_eq (name_cmp n q)
-
-same_names : (n q : List Text) → name_cmp n q ≡ Equal → n ≡ q
-same_names n q e = same_name (λ (t : List Text). t) n q e
-
-tied_names : (n q : List Text) → n ≡ q → name_cmp n q ≡ Equal
-tied_names n q e = equal_from_name (λ (t : List Text). t) n q e
-
 -- a count by the test is a count of what is the name
-count_step : (q n : List Text) (k : ℕ) (o : Ordering) (ns : List (List Text)) → name_cmp n q ≡ o → IsCount (λ t. t ≡ q) ns k → IsCount (λ t. t ≡ q) (n ∷ ns) (cond (is_eq o) 1 0 + k)
-count_step q n k Less ns e c = let same : 0 + k ≡ k = omega arith in inr ((λ s. let t = tied_names n q s in absurd (let no_way : Less ≡ Equal = sym e ∙ t in cc)), let P : ℕ → Type 0 = λ m. IsCount (λ t. t ≡ q) ns m in subst P (sym same) c)
+count_step : (q n : Name) (k : ℕ) (o : Ordering) (ns : List Name) → name_cmp n q ≡ o → IsCount (λ t. t ≡ q) ns k → IsCount (λ t. t ≡ q) (n ∷ ns) (cond (is_eq o) 1 0 + k)
+count_step q n k Less ns e c = let same : 0 + k ≡ k = omega arith in inr (less_differs n q e, let P : ℕ → Type 0 = λ m. IsCount (λ t. t ≡ q) ns m in subst P (sym same) c)
 count_step q n k Equal ns e c = inl (same_names n q e, (k, omega arith, c))
 count_step q n k Greater ns e c = let same : 0 + k ≡ k = omega arith in inr ((λ s. let t = tied_names n q s in absurd (let no_way : Greater ≡ Equal = sym e ∙ t in cc)), let P : ℕ → Type 0 = λ m. IsCount (λ t. t ≡ q) ns m in subst P (sym same) c)
 
-counted : (q : List Text) (ns : List (List Text)) → IsCount (λ t. t ≡ q) ns (count_by (λ n. is_eq (name_cmp n q)) ns)
+counted : (q : Name) (ns : List Name) → IsCount (λ t. t ≡ q) ns (count_by (λ n. is_eq (name_cmp n q)) ns)
 counted q [] = refl
 counted q (n ∷ ns) =
-    let f : List Text → ℕ = λ t. cond (is_eq (name_cmp t q)) 1 0 in
+    let f : Name → ℕ = λ t. cond (is_eq (name_cmp t q)) 1 0 in
     let same : sum_by f (n ∷ ns) ≡ f n + sum_by f ns = sum_by-append f (n ∷ []) ns ∙ (let plain : 0 + f n ≡ f n = omega arith in ap (λ (k : ℕ). k + sum_by f ns) plain) in
     let P : ℕ → Type 0 = λ k. IsCount (λ t. t ≡ q) (n ∷ ns) k in
     subst P (sym same) (count_step q n (count_by (λ t. is_eq (name_cmp t q)) ns) (name_cmp n q) ns refl (counted q ns))
 
-one_count : (q : List Text) (ns : List (List Text)) (a b : ℕ) → IsCount (λ t. t ≡ q) ns a → IsCount (λ t. t ≡ q) ns b → a ≡ b
+one_count : (q : Name) (ns : List Name) (a b : ℕ) → IsCount (λ t. t ≡ q) ns a → IsCount (λ t. t ≡ q) ns b → a ≡ b
 one_count q [] a b p r = p ∙ sym r
 one_count q (n ∷ ns) a b (inl p) (inl r) = omega (arith, p.1.1, r.1.1, one_count q ns p.1.0 r.1.0 p.1.2 r.1.2)
 one_count q (n ∷ ns) a b (inl p) (inr r) = absurd (r.0 p.0)
 one_count q (n ∷ ns) a b (inr p) (inl r) = absurd (p.0 r.0)
 one_count q (n ∷ ns) a b (inr p) (inr r) = one_count q ns a b p.1 r.1
 
--- one more name
-count_push : (q n : List Text) (ns : List (List Text)) → count_by (λ t. is_eq (name_cmp t q)) (ns ++ n ∷ []) ≡ count_by (λ t. is_eq (name_cmp t q)) ns + cond (is_eq (name_cmp n q)) 1 0
-count_push q n ns =
-    let f : List Text → ℕ = λ t. cond (is_eq (name_cmp t q)) 1 0 in
-    sum_by-append f ns (n ∷ []) ∙ (let plain : 0 + f n ≡ f n = omega arith in ap (λ (k : ℕ). sum_by f ns + k) plain)
+count_as : (q : Name) (ns : List Name) (a b : ℕ) → a ≡ b → IsCount (λ t. t ≡ q) ns a → IsCount (λ t. t ≡ q) ns b
+count_as q ns a b e c = let P : ℕ → Type 0 = λ n. IsCount (λ t. t ≡ q) ns n in subst P e c
 
-told_more : (o : Ordering) (old : Option ℕ) (k c : ℕ) → unwrap_or old 0 ≡ c → (is_eq o ≡ true → k ≡ c + 1) → unwrap_or (cond (is_eq o) (Some k) old) 0 ≡ c + cond (is_eq o) 1 0
-told_more Less old k c e f = e ∙ (let same : c ≡ c + 0 = omega arith in same)
-told_more Equal old k c e f = f refl
-told_more Greater old k c e f = e ∙ (let same : c ≡ c + 0 = omega arith in same)
+count_append : (q : Name) (ms ns : List Name) (a b : ℕ) → IsCount (λ t. t ≡ q) ms a → IsCount (λ t. t ≡ q) ns b → IsCount (λ t. t ≡ q) (ms ++ ns) (a + b)
+count_append q [] ns a b p r = count_as q ns b (a + b) (omega (arith, p)) r
+count_append q (m ∷ ms) ns a b (inl p) r = inl (p.0, (p.1.0 + b, omega (arith, p.1.1), count_append q ms ns p.1.0 b p.1.2 r))
+count_append q (m ∷ ms) ns a b (inr p) r = inr (p.0, count_append q ms ns a b p.1 r)
 
-same_from_tie : (n q : List Text) (o : Ordering) → name_cmp n q ≡ o → is_eq o ≡ true → n ≡ q
-same_from_tie n q Less e t = cc
-same_from_tie n q Equal e t = same_names n q e
-same_from_tie n q Greater e t = cc
+count_none : (q : Name) (ns : List Name) → ((x : Name) → Contains ns x → x ≢ q) → IsCount (λ t. t ≡ q) ns 0
+count_none q [] h = refl
+count_none q (n ∷ ns) h = inr (h n (head_there n ns), count_none q ns (λ x w. h x (suc w.0, omega (arith, w.1), w.2)))
 
-pub counts_more : (ns : List (List Text)) (n : List Text) (old new : BTreeMap (List Text) ℕ) → AreCounts ns old → IsCountedMore old new n → AreCounts (ns ++ n ∷ []) new
-counts_more ns n old new was is = λ q.
-    let now = is.0 q in
-    let before = was q in
-    ap (λ (o : Option ℕ). unwrap_or o 0) now
-    ∙ told_more (name_cmp n q) (get name_cmp old q) (unwrap_or (get name_cmp old n) 0 + 1) (count_by (λ t. is_eq (name_cmp t q)) ns) before
-    (λ t. let e = same_from_tie n q (name_cmp n q) refl t in ap (λ (v : List Text). unwrap_or (get name_cmp old v) 0 + 1) e ∙ ap (λ (k : ℕ). k + 1) before)
-    ∙ sym (count_push q n ns)
+count_all : (q : Name) (ns : List Name) → ((x : Name) → Contains ns x → x ≡ q) → IsCount (λ t. t ≡ q) ns (length ns)
+count_all q [] h = refl
+count_all q (n ∷ ns) h = inl (h n (head_there n ns), (length ns, omega arith, count_all q ns (λ x w. h x (suc w.0, omega (arith, w.1), w.2))))
 
--- ---- what several counts give
+count_there : (q : Name) (ns : List Name) (k : ℕ) → IsCount (λ t. t ≡ q) ns (k + 1) → Contains ns q
+count_there q [] k c = absurd (omega (arith, c))
+count_there q (n ∷ ns) k (inl p) = (0, omega arith, p.0)
+count_there q (n ∷ ns) k (inr p) = let w = count_there q ns k p.1 in (suc w.0, omega (arith, w.1), w.2)
 
-one_item : (x r : Replaced) (k : ℕ) → k < 1 → get_or (x ∷ []) k r ≡ r → x ≡ r
-one_item x r zero l e = e
-one_item x r (suc k) l e = absurd (omega (arith, l))
+-- ---- what one run gives
 
-Gives : List Text → ℕ → Replaced → Type 0
+Gives : Name → ℕ → Replaced → Type 0
 Gives k n r = (k ≡ replaced_name r) × (n ≡ r.earlier + 1) × (0 < r.earlier)
 
-gives_one : (kind namespace name : Text) (n : ℕ) (b : Bool) (r : Replaced) → nat_lt n 2 ≡ b
-    → Contains (if b then [] else record { kind = kind; namespace = namespace; name = name; earlier = n - 1 } ∷ []) r → Gives (kind ∷ namespace ∷ name ∷ []) n r
+gives : (k : Name) (run : List Name) (r : Replaced) → Contains (replaced_by (k ∷ run)) r → Gives k (length (k ∷ run)) r
 unfolding Gives
-gives_one kind namespace name n true r e w = absurd (omega (arith, w.1))
-gives_one kind namespace name n false r e w =
-    let x : Replaced = record { kind = kind; namespace = namespace; name = name; earlier = n - 1 } in
-    let same : x ≡ r = one_item x r w.0 w.1 w.2 in
-    let two : 2 ≤ n = ltb-false n 2 e in
-    let less : n - 1 ≡ r.earlier = ap (λ (v : Replaced). v.earlier) same in
-    (ap replaced_name same, omega (arith, two, less), omega (arith, two, less))
+gives [] run r w = absurd (omega (arith, w.1))
+gives (a ∷ []) run r w = absurd (omega (arith, w.1))
+gives (a ∷ b ∷ []) run r w = absurd (omega (arith, w.1))
+gives (a ∷ b ∷ c ∷ d ∷ k) run r w = absurd (omega (arith, w.1))
+gives (a ∷ b ∷ c ∷ []) [] r w = absurd (omega (arith, w.1))
+gives (a ∷ b ∷ c ∷ []) (m ∷ run) r (suc i, l, same) = absurd (omega (arith, l))
+gives (a ∷ b ∷ c ∷ []) (m ∷ run) r (zero, l, same) =
+    let earlier : length run + 1 ≡ r.earlier = ap (λ (v : Replaced). v.earlier) same in
+    (ap replaced_name same, omega (arith, earlier), omega (arith, earlier))
 
-gives : (k : List Text) (n : ℕ) (r : Replaced) → Contains (replaced_by (k, n)) r → Gives k n r
-gives [] n r w = absurd (omega (arith, w.1))
-gives (a ∷ []) n r w = absurd (omega (arith, w.1))
-gives (a ∷ b ∷ []) n r w = absurd (omega (arith, w.1))
-gives (a ∷ b ∷ c ∷ []) n r w = gives_one a b c n (nat_lt n 2) r refl w
-gives (a ∷ b ∷ c ∷ d ∷ k) n r w = absurd (omega (arith, w.1))
-
-has_one : (r : Replaced) (b : Bool) → nat_lt (r.earlier + 1) 2 ≡ b → 0 < r.earlier
-    → Contains (if b then [] else record { kind = r.kind; namespace = r.namespace; name = r.name; earlier = r.earlier + 1 - 1 } ∷ []) r
-has_one r true e l = absurd (omega (arith, l, ltb-true (r.earlier + 1) 2 e))
-has_one r false e l =
-    let same : r.earlier + 1 - 1 ≡ r.earlier = omega arith in
+has : (r : Replaced) (run : List Name) → length run ≡ r.earlier → 0 < r.earlier → Contains (replaced_by (replaced_name r ∷ run)) r
+has r [] e l = absurd (omega (arith, e))
+has r (m ∷ run) e l =
+    let same : length run + 1 ≡ r.earlier = omega (arith, e) in
     (0, omega arith, ap (λ (n : ℕ). record { kind = r.kind; namespace = r.namespace; name = r.name; earlier = n }) same)
 
-has : (k : List Text) (n : ℕ) (r : Replaced) → Gives k n r → Contains (replaced_by (k, n)) r
-unfolding Gives
-has k n r g =
-    let P : List Text → Type 0 = λ v. Contains (replaced_by (v, n)) r in
-    let Q : ℕ → Type 0 = λ m. Contains (replaced_by (replaced_name r, m)) r in
-    subst P (sym g.0) (subst Q (sym g.1) (has_one r (nat_lt (r.earlier + 1) 2) refl g.2))
+at_most_one : (k : Name) (run : List Name) → length (replaced_by (k ∷ run)) ≤ 1
+at_most_one [] run = omega arith
+at_most_one (a ∷ []) run = omega arith
+at_most_one (a ∷ b ∷ []) run = omega arith
+at_most_one (a ∷ b ∷ c ∷ d ∷ k) run = omega arith
+at_most_one (a ∷ b ∷ c ∷ []) [] = omega arith
+at_most_one (a ∷ b ∷ c ∷ []) (m ∷ run) = omega arith
 
--- all of them
-shift : {X : Type 0} (y : X) (xs : List X) (x : X) → Contains xs x → Contains (y ∷ xs) x
-shift y xs x w = (suc w.0, omega (arith, w.1), w.2)
+pairs_append : (xs ys : List Replaced) → length ys ≤ 1 → IsAscendingBy replaced_name xs → ((x y : Replaced) → Contains xs x → Contains ys y → by_name replaced_name x y ≡ Less) → IsAscendingBy replaced_name (xs ++ ys)
+pairs_append xs [] l up cross = let P : List Replaced → Type 0 = λ v. IsAscendingBy replaced_name v in subst P (sym (append-nil xs)) up
+pairs_append xs (y ∷ []) l up cross = all_pairs_push (λ a b. by_name replaced_name a b ≡ Less) xs y up (λ k d m. cross (get_or xs k d) y (Contains-get_or xs k d m) (0, omega arith, refl))
+pairs_append xs (y ∷ z ∷ ys) l up cross = absurd (omega (arith, l))
 
-pair_same : (e : List Text × ℕ) (k : List Text) (n : ℕ) → e.0 ≡ k → e.1 ≡ n → e ≡ (k, n)
-pair_same e k n p q = ap (λ (v : List Text). (v, e.1)) p ∙ ap (λ (m : ℕ). (k, m)) q
+-- ---- run after run
 
-entry_of : (es : List (List Text × ℕ)) (r : Replaced) → Contains (flat_map replaced_by es) r → Contains es (replaced_name r, r.earlier + 1) × (0 < r.earlier)
-unfolding Gives
-entry_of [] r w = absurd (omega (arith, w.1))
-entry_of (e ∷ es) r w = elim (Contains-append_cases (replaced_by e) (flat_map replaced_by es) r w) [
-  | inl l ↦
-      let g : Gives e.0 e.1 r = gives e.0 e.1 r l in
-      let same : e ≡ (replaced_name r, r.earlier + 1) = pair_same e (replaced_name r) (r.earlier + 1) g.0 g.1 in
-      ((0, omega arith, same), g.2)
-  | inr d ↦ let g = entry_of es r d in (shift e es (replaced_name r, r.earlier + 1) g.0, g.1)
-]
+-- of the names, all but the rest are told, and less than the rest
+record IsTold (names rest : List Name) (rs : List Replaced) : Type 0 where
+  pub seen : List Name
+  pub whole : names ≡ seen ++ rest
+  pub told : AreReplaced seen rs
+  pub below : (x y : Name) → Contains seen x → Contains rest y → name_cmp x y ≡ Less
 
-of_entry : (es : List (List Text × ℕ)) (r : Replaced) → Contains es (replaced_name r, r.earlier + 1) → 0 < r.earlier → Contains (flat_map replaced_by es) r
-unfolding Gives
-of_entry [] r w l = absurd (omega (arith, w.1))
-of_entry (e ∷ es) r (zero, l, same) some =
-    Contains-append_left (replaced_by e) (flat_map replaced_by es) r
-    (let k : e.0 ≡ replaced_name r = ap (λ (p : List Text × ℕ). p.0) same in
-    let n : e.1 ≡ r.earlier + 1 = ap (λ (p : List Text × ℕ). p.1) same in
-    has e.0 e.1 r (k, n, some))
-of_entry (e ∷ es) r (suc i, l, same) some =
-    Contains-append_right (replaced_by e) (flat_map replaced_by es) r (of_entry es r (i, omega (arith, l), same) some)
+none_told : (names : List Name) → IsTold names names []
+none_told names = record {
+  seen = [];
+  whole = refl;
+  told = record {
+    ordered = λ i j d lt l. absurd (omega (arith, l));
+    exact = λ r. (λ w. absurd (omega (arith, w.1)), λ w. absurd (omega (arith, w.1)));
+  };
+  below = λ x y w v. absurd (omega (arith, w.1));
+}
 
-all_keys : (P : List Text → Type 0) (es : List (List Text × ℕ)) (p : List Text × ℕ) → AllByRecursion P (keys_of es) → Contains es p → P p.0
-all_keys P [] p all w = absurd (omega (arith, w.1))
-all_keys P (e ∷ es) p all (zero, l, same) = subst P (ap (λ (q : List Text × ℕ). q.0) same) all.0
-all_keys P (e ∷ es) p all (suc i, l, same) = all_keys P es p all.1 (i, omega (arith, l), same)
+all_told : (names rest : List Name) (rs : List Replaced) → length rest ≡ 0 → IsTold names rest rs → AreReplaced names rs
+all_told names [] rs l is = let P : List Name → Type 0 = λ ns. AreReplaced ns rs in subst P (sym (is.whole ∙ append-nil is.seen)) is.told
+all_told names (n ∷ rest) rs l is = absurd (omega (arith, l))
 
-one_of : (b : Bool) (x : Replaced) → length (if b then [] else x ∷ []) ≤ 1
-one_of true x = omega arith
-one_of false x = omega arith
+-- one more run, of names that are k
+module _ (seen : List Name) (rs : List Replaced) (told : AreReplaced seen rs) (k : Name) (r : List Name) (same : (x : Name) → Contains (k ∷ r) x → x ≡ k) (below : (x : Name) → Contains seen x → name_cmp x k ≡ Less) where
+  abbrev run : List Name
+  run = k ∷ r
 
-at_most_one : (k : List Text) (n : ℕ) → length (replaced_by (k, n)) ≤ 1
-at_most_one [] n = omega arith
-at_most_one (a ∷ []) n = omega arith
-at_most_one (a ∷ b ∷ []) n = omega arith
-at_most_one (a ∷ b ∷ c ∷ []) n = one_of (nat_lt n 2) (record { kind = a; namespace = b; name = c; earlier = n - 1 })
-at_most_one (a ∷ b ∷ c ∷ d ∷ k) n = omega arith
+  other_in_run : (q : Name) → k ≢ q → IsCount (λ t. t ≡ q) run 0
+  other_in_run q ne = count_none q run (λ x w e. ne (sym (same x w) ∙ e))
 
-pairs_append : (xs ys : List Replaced) → length xs ≤ 1 → IsAscendingBy replaced_name ys → ((x y : Replaced) → Contains xs x → Contains ys y → by_name replaced_name x y ≡ Less) → IsAscendingBy replaced_name (xs ++ ys)
-pairs_append [] ys l up cross = up
-pairs_append (x ∷ []) ys l up cross =
-    AllPairs-cons (λ a b. by_name replaced_name a b ≡ Less) x ys (λ k d m. cross x (get_or ys k d) (0, omega arith, refl) (Contains-get_or ys k d m)) up
-pairs_append (x ∷ z ∷ xs) ys l up cross = absurd (omega (arith, l))
+  unseen : IsCount (λ t. t ≡ k) seen 0
+  unseen = count_none k seen (λ x w. less_differs x k (below x w))
 
-ascending : (es : List (List Text × ℕ)) → IsStrictlySortedBy name_cmp (keys_of es) → IsAscendingBy replaced_name (flat_map replaced_by es)
-unfolding IsStrictlySortedBy Gives
-ascending [] up = λ i j d lt l. absurd (omega (arith, l))
-ascending (e ∷ es) up =
-    pairs_append (replaced_by e) (flat_map replaced_by es) (at_most_one e.0 e.1) (ascending es up.1)
-    (λ x y a b.
-    let g : Gives e.0 e.1 x = gives e.0 e.1 x a in
-    let w = entry_of es y b in
-    let less : name_cmp e.0 (replaced_name y) ≡ Less = all_keys (λ k. name_cmp e.0 k ≡ Less) es (replaced_name y, y.earlier + 1) up.0 w.0 in
-    ap (λ (k : List Text). name_cmp k (replaced_name y)) (sym g.0) ∙ less)
+  of_run : IsCount (λ t. t ≡ k) (seen ++ run) (length run)
+  of_run = count_as k (seen ++ run) (0 + length run) (length run) (omega arith) (count_append k seen run 0 (length run) unseen (count_all k run same))
 
--- an entry is what the look-up finds
-some_count : (o : Option ℕ) (n : ℕ) → unwrap_or o 0 ≡ n + 1 → o ≡ Some (n + 1)
-some_count None n e = absurd (omega (arith, e))
-some_count (Some m) n e = ap (λ (k : ℕ). Some k) e
+  told_more : (x : Replaced) → Contains (rs ++ replaced_by run) x → (0 < x.earlier) × IsCount (λ n. n ≡ replaced_name x) (seen ++ run) (x.earlier + 1)
+  unfolding Gives
+  told_more x w = elim (Contains-append_cases rs (replaced_by run) x w) [
+    | inl was ↦
+        let q : Name = replaced_name x in
+        let before = (told.exact x).0 was in
+        let ne : q ≢ k = less_differs q k (below q (count_there q seen x.earlier before.1)) in
+        (before.0, count_as q (seen ++ run) (x.earlier + 1 + 0) (x.earlier + 1) (omega arith) (count_append q seen run (x.earlier + 1) 0 before.1 (other_in_run q (λ e. ne (sym e)))))
+    | inr new ↦
+        let g : Gives k (length run) x = gives k r x new in
+        let P : Name → Type 0 = λ q. IsCount (λ t. t ≡ q) (seen ++ run) (x.earlier + 1) in
+        (g.2, subst P g.0 (count_as k (seen ++ run) (length run) (x.earlier + 1) g.1 of_run))
+  ]
 
-entry_at : (m : BTreeMap (List Text) ℕ) (k : List Text) (v : ℕ) → get name_cmp m k ≡ Some v → Contains m.entries (k, v)
-entry_at m k v e =
-    let p = place_from_lookup (is_at (name_cmp k)) m.entries v e in
-    let same : p.1 ≡ k = sym (same_from_tie k p.1 (name_cmp k p.1) refl p.3) in
-    let l = slice_get_within m.entries p.0 (p.1, v) p.2 in
-    (p.0, l, get_or_from_slice_get m.entries p.0 (p.1, v) (k, v) p.2 ∙ ap (λ (t : List Text). (t, v)) same)
+  more_told : (x : Replaced) → 0 < x.earlier → IsCount (λ n. n ≡ replaced_name x) (seen ++ run) (x.earlier + 1) → Contains (rs ++ replaced_by run) x
+  more_told x some count =
+      let q : Name = replaced_name x in
+      let other : k ≢ q → Contains (rs ++ replaced_by run) x = λ ne. (
+      let before = count_by (λ t. is_eq (name_cmp t q)) seen in
+      let all = count_append q seen run before 0 (counted q seen) (other_in_run q ne) in
+      let n : before ≡ x.earlier + 1 = omega (arith, one_count q (seen ++ run) (before + 0) (x.earlier + 1) all count) in
+      Contains-append_left rs (replaced_by run) x ((told.exact x).1 (some, count_as q seen before (x.earlier + 1) n (counted q seen)))) in
+      by_ordering (name_cmp k q)
+      (λ e. other (less_differs k q e))
+      (λ e.
+      let is : k ≡ q = same_names k q e in
+      let P : Name → Type 0 = λ n. IsCount (λ t. t ≡ n) (seen ++ run) (length run) in
+      let n : length run ≡ x.earlier + 1 = one_count q (seen ++ run) (length run) (x.earlier + 1) (subst P is of_run) count in
+      let Q : Name → Type 0 = λ n. Contains (replaced_by (n ∷ r)) x in
+      Contains-append_right rs (replaced_by run) x (subst Q (sym is) (has x r (omega (arith, n)) some)))
+      (λ e. other (λ t. let tied = tied_names k q t in cc))
 
-found_at : (m : BTreeMap (List Text) ℕ) (k : List Text) (v : ℕ) → IsOrdered name_cmp m → Contains m.entries (k, v) → get name_cmp m k ≡ Some v
-found_at m k v up w = btree_map_get_place name_cmp_total m w.0 k v up (slice_get-get_or m.entries w.0 (k, v) w.1 ∙ ap (λ (p : List Text × ℕ). Some p) w.2)
+  run_told : AreReplaced (seen ++ run) (rs ++ replaced_by run)
+  unfolding Gives
+  run_told = record {
+    ordered = pairs_append rs (replaced_by run) (at_most_one k r) told.ordered
+        (λ x y a b.
+        let q : Name = replaced_name x in
+        let g : Gives k (length run) y = gives k r y b in
+        let less = below q (count_there q seen x.earlier ((told.exact x).0 a).1) in
+        ap (λ (n : Name). name_cmp q n) (sym g.0) ∙ less);
+    exact = λ x. (told_more x, λ w. more_told x w.0 w.1);
+  }
 
-pub replaced_all : (names : List (List Text)) (m : BTreeMap (List Text) ℕ) (rs : List Replaced) → IsOrdered name_cmp m → rs ≡ flat_map replaced_by m.entries → AreCounts names m → AreReplaced names rs
-replaced_all names m rs up e counts = record {
-  ordered = (let P : List Replaced → Type 0 = λ v. IsAscendingBy replaced_name v in subst P (sym e) (ascending m.entries up));
+-- one more run
+step_to : (names rest more : List Name) (rs : List Replaced) (k : Name) (r : List Name) → NotFalling names → IsTold names rest rs → rest ≡ (k ∷ r) ++ more
+    → IsChunkByPrefix alike rest (length (k ∷ r)) → IsTold names more (rs ++ replaced_by (k ∷ r))
+step_to names rest more rs k r up is parts chunk =
+    let P : List Name → Type 0 = λ ns. IsChunkByPrefix alike ns (length (k ∷ r)) in
+    let run : List Name = k ∷ r in
+    let cut = subst P parts chunk in
+    let same = all_equal k r more (λ i d l. cut.0 i d l) in
+    let whole : names ≡ is.seen ++ (run ++ more) = is.whole ∙ ap (λ (ns : List Name). is.seen ++ ns) parts in
+    let there : (y : Name) → Contains (run ++ more) y → Contains rest y = λ y w. (let Q : List Name → Type 0 = λ ns. Contains ns y in subst Q (sym parts) w) in
+    let below : (x : Name) → Contains is.seen x → name_cmp x k ≡ Less = λ x w. is.below x k w (there k (Contains-append_left run more k (head_there k r))) in
+    let gap : 0 < length more → (d : Name) → alike k (get_or more 0 d) ≡ false = λ some d. after_run k r more same cut.1 some d in
+    let later : (y : Name) → Contains more y → name_cmp k y ≡ Less = run_below k r more (falls_later is.seen (run ++ more) (let Q : List Name → Type 0 = λ ns. NotFalling ns in subst Q whole up)) same gap in
+    record {
+      seen = is.seen ++ run;
+      whole = whole ∙ sym (append_assoc is.seen run more);
+      told = run_told is.seen rs is.told k r same below;
+      below = λ x y w v. elim (Contains-append_cases is.seen run x w) [
+        | inl before ↦ is.below x y before (there y (Contains-append_right run more y v))
+        | inr now ↦ let Q : Name → Type 0 = λ n. name_cmp n y ≡ Less in subst Q (sym (same x now)) (later y v)
+      ];
+    }
+
+one_more_run : (names rest more run : List Name) (rs : List Replaced) → NotFalling names → IsTold names rest rs → rest ≡ run ++ more → 0 < length run
+    → IsChunkByPrefix alike rest (length run) → IsTold names more (rs ++ replaced_by run)
+one_more_run names rest more [] rs up is parts some chunk = absurd (omega (arith, some))
+one_more_run names rest more (k ∷ r) rs up is parts some chunk = step_to names rest more rs k r up is parts chunk
+
+-- `chunk_by` cuts names into these runs
+module _ {F : Type 0} (g : Mut F (Bor Name × (Bor Name × Unit {0})) Bool) (names : List Name) (up : NotFalling names) where
+  each_run : (runs : List (Bor (List Name))) (rs : List Replaced) (s t : _) → ComputesOnPairs g alike (chunk_by_callee s) → IsTold names (chunk_by_rest s) rs → Yields (chunk_by_steps g) s runs t
+      → IsTold names (chunk_by_rest t) (rs ++ flat_map (λ run. replaced_by run.now) runs)
+  each_run [] rs s t tests is y =
+      let P : List Name → Type 0 = λ rest. IsTold names rest rs in
+      let Q : List Replaced → Type 0 = λ v. IsTold names (chunk_by_rest t) v in
+      subst Q (sym (append-nil rs)) (subst P (ap chunk_by_rest y) is)
+  each_run (run ∷ runs) rs s t tests is y =
+      let cut = y.1.2 alike tests in
+      let told = one_more_run names (chunk_by_rest s) (chunk_by_rest y.0) run.now rs up is y.1.0 y.1.1 cut.1 in
+      let Q : List Replaced → Type 0 = λ v. IsTold names (chunk_by_rest t) v in
+      subst Q (append_assoc rs (replaced_by run.now) (flat_map (λ r. replaced_by r.now) runs)) (each_run runs (rs ++ replaced_by run.now) y.0 t cut.0 told y.2)
+
+pub all_runs : {F : Type 0} {g : Mut F (Bor Name × (Bor Name × Unit {0})) Bool} (names : List Name) (runs : List (Bor (List Name))) (s t : _) → Yields (chunk_by_steps g) s runs t → IsSorted name_cmp names
+    → chunk_by_rest s ≡ names → ComputesOnPairs g alike (chunk_by_callee s) → length (chunk_by_rest t) ≡ 0 → AreReplaced names (flat_map (λ run. replaced_by run.now) runs)
+all_runs {F} {g} names runs s t y up e tests l =
+    let P : List Name → Type 0 = λ rest. IsTold names rest [] in
+    all_told names (chunk_by_rest t) (flat_map (λ run. replaced_by run.now) runs) l (each_run g names (not_falling names up) runs [] s t tests (subst P (sym e) (none_told names)) y)
+
+-- ---- sorted or not
+
+as_often : (q : Name) (names sorted : List Name) (n : ℕ) → IsPermutation names sorted → IsCount (λ t. t ≡ q) sorted n ↔ IsCount (λ t. t ≡ q) names n
+as_often q names sorted n moved =
+    let f : Name → ℕ = λ t. cond (is_eq (name_cmp t q)) 1 0 in
+    let same : sum_by f sorted ≡ sum_by f names = sum_by-IsPermutation f names sorted moved in
+    let in_names = counted q names in
+    let in_sorted = counted q sorted in (
+      λ c. count_as q names (sum_by f names) n (sym same ∙ one_count q sorted (sum_by f sorted) n in_sorted c) in_names,
+      λ c. count_as q sorted (sum_by f sorted) n (same ∙ one_count q names (sum_by f names) n in_names c) in_sorted,
+    )
+
+pub sorted_told : (names sorted : List Name) (rs : List Replaced) → IsPermutation names sorted → AreReplaced sorted rs → AreReplaced names rs
+sorted_told names sorted rs moved are = record {
+  ordered = are.ordered;
   exact = λ r.
-      let P : List Replaced → Type 0 = λ v. Contains v r in
-      let k : List Text = replaced_name r in (
-        λ w. (
-            let g = entry_of m.entries r (subst P e w) in
-            let n : r.earlier + 1 ≡ count_by (λ t. is_eq (name_cmp t k)) names = sym (ap (λ (o : Option ℕ). unwrap_or o 0) (found_at m k (r.earlier + 1) up g.0)) ∙ counts k in
-            let Q : ℕ → Type 0 = λ c. IsCount (λ t. t ≡ k) names c in
-            (g.1, subst Q (sym n) (counted k names))),
-        λ w. (
-            let n : count_by (λ t. is_eq (name_cmp t k)) names ≡ r.earlier + 1 = one_count k names (count_by (λ t. is_eq (name_cmp t k)) names) (r.earlier + 1) (counted k names) w.1 in
-            subst P (sym e) (of_entry m.entries r (entry_at m k (r.earlier + 1) (some_count (get name_cmp m k) r.earlier (counts k ∙ n))) w.0)),
+      let often = as_often (replaced_name r) names sorted (r.earlier + 1) moved in (
+        λ w. let a = (are.exact r).0 w in (a.0, often.0 a.1),
+        λ w. (are.exact r).1 (w.0, often.1 w.1),
       );
 }

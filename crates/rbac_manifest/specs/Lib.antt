@@ -9,7 +9,6 @@ pub mod Label
 pub mod Lists
 pub mod Load
 pub mod Metadata
-pub mod NameOrder
 pub mod Names
 pub mod Reads
 pub mod Replaced

@@ -1,18 +1,16 @@
 //! Which documents were replaced by later ones of their kind, namespace and name.
 
-ghost use Rattle.std.specs.Prelude.{◌≡◌, ◌+◌, ◌<◌, ◌^◌, ◌∷◌, [], ◌++◌, List, ℕ, IfOk, OnOk, map, unwrap_or};
-ghost use Rattle.std.specs.BTreeMap.{get};
-ghost use Rattle.rbac_terms.specs.Text.{Text};
+ghost use Rattle.std.specs.Prelude.{◌≡◌, ◌++◌, IfOk, OnOk, map};
+ghost use Rattle.std.specs.List.Sorted.{IsSorted};
 ghost use Rattle.rbac_model.specs.Policies.{binding_name};
 ghost use Rattle.rbac_manifest.specs.Names.{object_name, namespace_name, account_name, names_given, name_cmp};
-ghost use Rattle.rbac_manifest.specs.Replaced.{replaced_by, AreReplaced, AreCounts, IsCountedMore};
+ghost use Rattle.rbac_manifest.specs.Replaced.{replaced_by, AreReplaced};
 
 use rbac_lists::Account;
 use rbac_model::Object;
 use rbac_terms::{Binding, Word};
 use std::alloc::{AllocError, Global};
 use std::cmp::Ordering;
-use std::collections::BTreeMap;
 use std::marker::Model;
 
 /// An object of which several documents were given; the last of them is kept (own).
@@ -28,100 +26,20 @@ pub struct Replaced {
     pub earlier: usize,
 }
 
-// The kind, namespace and name of an object.
+// The kind, namespace and name of an object, borrowed from it.
 #[derive(Drop)]
-pub(crate) struct ObjectName {
-    kind: Word,
-    namespace: Word,
-    name: Word,
+struct ObjectName<'a> {
+    kind: &'a [u8],
+    namespace: &'a [u8],
+    name: &'a [u8],
 }
 
-impl Model for ObjectName {
+impl<'a> Model for ObjectName<'a> {
     ghost use Rattle.std.specs.Prelude.{ℕ, List, ◌∷◌, []};
 
     ghost Value = { List (List ℕ) };
 
-    ghost view = { λ n. n.kind ∷ n.namespace ∷ n.name ∷ [] };
-}
-
-impl ObjectName {
-    fn of(alloc: Global, kind: &[u8], namespace: &[u8], name: &[u8]) -> Result<Self, AllocError>
-        ensures { IfOk result (λ n. n ≡ kind.now ∷ namespace.now ∷ name.now ∷ []) }
-    {
-        Ok(ObjectName {
-            kind: Word::from_slice(alloc, kind)?,
-            namespace: Word::from_slice(alloc, namespace)?,
-            name: Word::from_slice(alloc, name)?,
-        })
-    }
-
-    fn copied(&self, alloc: Global) -> Result<Self, AllocError>
-        ensures { IfOk result (λ n. n ≡ self.now) }
-    {
-        ObjectName::of(
-            alloc,
-            self.kind.as_bytes(),
-            self.namespace.as_bytes(),
-            self.name.as_bytes(),
-        )
-    }
-}
-
-impl PartialEq for ObjectName {
-    ghost use Rattle.std.specs.Cmp as Cmp;
-    ghost use Rattle.std.specs.Ordering.{eq_by_cmp};
-    ghost use Rattle.rbac_manifest.specs.Names.{name_cmp};
-    ghost use Rattle.rbac_manifest.specs.NameOrder.{name_cmp_equiv};
-
-    ghost eq = { eq_by_cmp name_cmp };
-
-    ghost laws = { Cmp.partial_equiv_from_equiv name_cmp_equiv };
-
-    fn eq(&self, other: &Self) -> bool {
-        self.cmp(other) == Ordering::Equal
-    }
-}
-
-impl Eq for ObjectName {
-    ghost use Rattle.rbac_manifest.specs.NameOrder.{name_cmp_equiv};
-
-    ghost laws = { name_cmp_equiv };
-}
-
-impl PartialOrd for ObjectName {
-    ghost use Rattle.std.specs.Ordering.{as_partial_cmp};
-    ghost use Rattle.rbac_manifest.specs.Names.{name_cmp};
-    ghost use Rattle.rbac_manifest.specs.NameOrder.{name_cmp_partial};
-
-    ghost partial_cmp = { as_partial_cmp name_cmp };
-
-    ghost laws = { name_cmp_partial };
-
-    fn partial_cmp(&self, other: &Self) -> Option<Ordering> {
-        Some(self.cmp(other))
-    }
-}
-
-impl Ord for ObjectName {
-    ghost use Rattle.std.specs.Prelude.{refl};
-    ghost use Rattle.rbac_manifest.specs.Names.{name_cmp};
-    ghost use Rattle.rbac_manifest.specs.NameOrder.{name_cmp_total};
-
-    ghost cmp = { name_cmp };
-
-    ghost total = { name_cmp_total };
-
-    ghost matches_partial_cmp = { λ _ _. refl };
-
-    ghost matches_eq = { λ _ _. refl };
-
-    fn cmp(&self, other: &Self) -> Ordering {
-        self.kind.cmp(&other.kind).then(
-            self.namespace
-                .cmp(&other.namespace)
-                .then(self.name.cmp(&other.name)),
-        )
-    }
+    ghost view = { λ n. n.kind.now ∷ n.namespace.now ∷ n.name.now ∷ [] };
 }
 
 const ROLE: &[u8] = b"Role";
@@ -138,7 +56,72 @@ const SERVICE_ACCOUNT: &[u8] = b"ServiceAccount";
 
 const NOWHERE: &[u8] = b"";
 
-// The objects of which several of these documents were given, with how many were replaced.
+impl<'a> ObjectName<'a> {
+    fn of_object(object: &'a Object) -> Self
+        ensures { result ≡ object_name object.now }
+    {
+        match object {
+            Object::Role(role) => ObjectName {
+                kind: ROLE,
+                namespace: role.namespace.as_bytes(),
+                name: role.name.as_bytes(),
+            },
+            Object::ClusterRole(role) => ObjectName {
+                kind: CLUSTER_ROLE,
+                namespace: NOWHERE,
+                name: role.name.as_bytes(),
+            },
+            Object::Binding(binding) => ObjectName::of_binding(binding),
+        }
+    }
+
+    fn of_binding(binding: &'a Binding) -> Self
+        ensures { result ≡ binding_name binding.now }
+    {
+        let name = binding.name.as_bytes();
+        match &binding.namespace {
+            Some(namespace) => ObjectName {
+                kind: ROLE_BINDING,
+                namespace: namespace.as_bytes(),
+                name,
+            },
+            None => ObjectName {
+                kind: CLUSTER_ROLE_BINDING,
+                namespace: NOWHERE,
+                name,
+            },
+        }
+    }
+
+    fn of_namespace(namespace: &'a Word) -> Self
+        ensures { result ≡ namespace_name namespace.now }
+    {
+        ObjectName {
+            kind: NAMESPACE,
+            namespace: NOWHERE,
+            name: namespace.as_bytes(),
+        }
+    }
+
+    fn of_account(account: &'a Account) -> Self
+        ensures { result ≡ account_name account.now }
+    {
+        ObjectName {
+            kind: SERVICE_ACCOUNT,
+            namespace: account.namespace.as_bytes(),
+            name: account.name.as_bytes(),
+        }
+    }
+
+    fn cmp_name(&self, other: &Self) -> Ordering
+        ensures { result ≡ name_cmp self.now other.now }
+    {
+        (self.kind, (self.namespace, self.name)).cmp(&(other.kind, (other.namespace, other.name)))
+    }
+}
+
+// The objects of which several of these documents were given, with how many were replaced. Names are
+// borrowed, and sorted so that equal ones stand together: only those told are copied.
 pub(crate) fn replaced_of(
     alloc: Global,
     objects: &[Object],
@@ -147,156 +130,82 @@ pub(crate) fn replaced_of(
 ) -> Result<Vec<Replaced>, AllocError>
     ensures { IfOk result (λ v. AreReplaced (names_given objects.now namespaces.now accounts.now) v.items) }
 {
-    let names = names_of(alloc, objects, namespaces, accounts)?;
-    let counts = counts_of(alloc, names.as_slice())?;
-    several(alloc, counts)
+    let mut names = names_of(alloc, objects, namespaces, accounts)?;
+    names.sort_by(|a, b| a.cmp_name(b))?;
+    several(alloc, names.as_slice())
 }
 
 // The names of these documents' objects.
-fn names_of(
+fn names_of<'a>(
     alloc: Global,
-    objects: &[Object],
-    namespaces: &[Word],
-    accounts: &[Account],
-) -> Result<Vec<ObjectName>, AllocError>
+    objects: &'a [Object],
+    namespaces: &'a [Word],
+    accounts: &'a [Account],
+) -> Result<Vec<ObjectName<'a>>, AllocError>
     ensures { IfOk result (λ v. v.items ≡ names_given objects.now namespaces.now accounts.now) }
 {
     let mut names = Vec::new(alloc);
     for object in objects {
-        names.push(name_of_object(alloc, object)?)?;
+        names.push(ObjectName::of_object(object))?;
     }
-    push_namespaces(alloc, namespaces, &mut names)?;
-    push_accounts(alloc, accounts, &mut names)?;
+    push_namespaces(namespaces, &mut names)?;
+    push_accounts(accounts, &mut names)?;
     Ok(names)
 }
 
-fn push_namespaces(
-    alloc: Global,
-    namespaces: &[Word],
-    names: &mut Vec<ObjectName>,
+fn push_namespaces<'a>(
+    namespaces: &'a [Word],
+    names: &mut Vec<ObjectName<'a>>,
 ) -> Result<(), AllocError>
     ensures { OnOk result (names.new.items ≡ names.old.items ++ map namespace_name namespaces.now) }
 {
     for namespace in namespaces {
-        names.push(ObjectName::of(alloc, NAMESPACE, NOWHERE, namespace.as_bytes())?)?;
+        names.push(ObjectName::of_namespace(namespace))?;
     }
     Ok(())
 }
 
-fn push_accounts(
-    alloc: Global,
-    accounts: &[Account],
-    names: &mut Vec<ObjectName>,
+fn push_accounts<'a>(
+    accounts: &'a [Account],
+    names: &mut Vec<ObjectName<'a>>,
 ) -> Result<(), AllocError>
     ensures { OnOk result (names.new.items ≡ names.old.items ++ map account_name accounts.now) }
 {
     for account in accounts {
-        names.push(ObjectName::of(
-            alloc,
-            SERVICE_ACCOUNT,
-            account.namespace.as_bytes(),
-            account.name.as_bytes(),
-        )?)?;
+        names.push(ObjectName::of_account(account))?;
     }
     Ok(())
 }
 
-// The name of an object.
-fn name_of_object(alloc: Global, object: &Object) -> Result<ObjectName, AllocError>
-    ensures { IfOk result (λ n. n ≡ object_name object.now) }
-{
-    match object {
-        Object::Role(role) => ObjectName::of(
-            alloc,
-            ROLE,
-            role.namespace.as_bytes(),
-            role.name.as_bytes(),
-        ),
-        Object::ClusterRole(role) => {
-            ObjectName::of(alloc, CLUSTER_ROLE, NOWHERE, role.name.as_bytes())
-        }
-        Object::Binding(binding) => name_of_binding(alloc, binding),
-    }
-}
-
-fn name_of_binding(alloc: Global, binding: &Binding) -> Result<ObjectName, AllocError>
-    ensures { IfOk result (λ n. n ≡ binding_name binding.now) }
-{
-    match &binding.namespace {
-        Some(namespace) => ObjectName::of(
-            alloc,
-            ROLE_BINDING,
-            namespace.as_bytes(),
-            binding.name.as_bytes(),
-        ),
-        None => ObjectName::of(
-            alloc,
-            CLUSTER_ROLE_BINDING,
-            NOWHERE,
-            binding.name.as_bytes(),
-        ),
-    }
-}
-
-// How often each name is there.
-fn counts_of(alloc: Global, names: &[ObjectName]) -> Result<BTreeMap<ObjectName, usize>, AllocError>
-    ensures { IfOk result (λ m. AreCounts names.now m) }
-{
-    let mut counts = BTreeMap::new(alloc);
-    for name in names {
-        count(alloc, &mut counts, name)?;
-    }
-    Ok(counts)
-}
-
-// Counts a name.
-fn count(
-    alloc: Global,
-    counts: &mut BTreeMap<ObjectName, usize>,
-    name: &ObjectName,
-) -> Result<(), AllocError>
-    requires { unwrap_or (get name_cmp counts.old name.now) 0 < 2 ^ 63 }
-    ensures { OnOk result (IsCountedMore counts.old counts.new name.now) }
-{
-    let before = match counts.get(name) {
-        Some(number) => *number,
-        None => 0,
-    };
-    counts.insert(name.copied(alloc)?, before + 1)?;
-    Ok(())
-}
-
-// The names that are there more than once.
-fn several(alloc: Global, counts: BTreeMap<ObjectName, usize>) -> Result<Vec<Replaced>, AllocError>
-    ensures { IfOk result (λ v. (names : List (List Text)) → AreCounts names counts → AreReplaced names v.items) }
+// The objects whose names stand there more than once.
+fn several(alloc: Global, names: &[ObjectName]) -> Result<Vec<Replaced>, AllocError>
+    requires { IsSorted name_cmp names.now }
+    ensures { IfOk result (λ v. AreReplaced names.now v.items) }
 {
     let mut replaced = Vec::new(alloc);
-    for (name, number) in counts {
-        push_replaced(&mut replaced, name, number)?;
+    for same in names.chunk_by(|a, b| a.cmp_name(b).is_eq()) {
+        push_replaced(alloc, &mut replaced, same)?;
     }
     Ok(replaced)
 }
 
+// Tells of the object of this name, if its name stands there more than once.
 fn push_replaced(
+    alloc: Global,
     replaced: &mut Vec<Replaced>,
-    name: ObjectName,
-    number: usize,
+    same: &[ObjectName],
 ) -> Result<(), AllocError>
-    ensures { OnOk result (replaced.new.items ≡ replaced.old.items ++ replaced_by (name, number)) }
+    ensures { OnOk result (replaced.new.items ≡ replaced.old.items ++ replaced_by same.now) }
 {
-    if number < 2 {
+    if same.len() < 2 {
         return Ok(());
     }
-    let ObjectName {
-        kind,
-        namespace,
-        name,
-    } = name;
+    let name = &same[0];
     replaced.push(Replaced {
-        kind,
-        namespace,
-        name,
-        earlier: number - 1,
+        kind: Word::from_slice(alloc, name.kind)?,
+        namespace: Word::from_slice(alloc, name.namespace)?,
+        name: Word::from_slice(alloc, name.name)?,
+        earlier: same.len() - 1,
     })?;
     Ok(())
 }
