@@ -15,5 +15,6 @@ pub mod MarkedNames
 pub mod NamePlaces
 pub mod OneKept
 pub mod OneList
+pub mod Searched
 pub mod Stairs
 pub mod UpTo

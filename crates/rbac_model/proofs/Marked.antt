@@ -35,6 +35,12 @@ both_marks old new more n joined kept few k = elim (cases_lt (k / 64) n) [
       rw (kept (k / 64) le) (λ m. inl m, elim [ inl m ↦ m | inr m ↦ absurd (isnt m) ])
 ]
 
+-- where the bits of one word are among those of another, so are its marks
+pub covered_word : (xs ys : List ℕ) (at : ℕ) → bit_or (get_or xs at 0) (get_or ys at 0) ≡ get_or ys at 0 → (k : ℕ) → k / 64 ≡ at → IsMarked xs k → IsMarked ys k
+covered_word xs ys at covered k here marked =
+    let same : bit_or (get_or xs (k / 64) 0) (get_or ys (k / 64) 0) ≡ get_or ys (k / 64) 0 = rw here covered in
+    subst (λ (word : ℕ). bit_at word (k % 64) ≡ 1) same ((either_bit (get_or xs (k / 64) 0) (get_or ys (k / 64) 0) (k % 64)).1 (inl marked))
+
 -- a word with one bit more
 module _ (words new : List ℕ) (place : ℕ) (l : place / 64 < length words) (is : new ≡ set words (place / 64) (bit_or (get_or words (place / 64) 0) (1 * 2 ^ (place % 64) % 2 ^ 64))) where
   here : get_or new (place / 64) 0 ≡ bit_or (get_or words (place / 64) 0) (1 * 2 ^ (place % 64) % 2 ^ 64)

@@ -18,7 +18,7 @@ pub(crate) fn reaches_of(alloc: Global, objects: &Objects) -> Result<Vec<Marks>,
     ensures { IfOk result (λ rows. AreReaches objects.now rows.items) }
 {
     let mut rows = steps_of(alloc, objects)?;
-    close(&mut rows)?;
+    close(alloc, &mut rows)?;
     Ok(rows)
 }
 

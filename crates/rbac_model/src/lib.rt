@@ -14,6 +14,7 @@ mod places;
 mod policy;
 mod reaching;
 mod resolving;
+mod visiting;
 
 pub use allowing::is_live;
 pub use fault::ResolveFault;

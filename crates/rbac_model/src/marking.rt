@@ -1,6 +1,6 @@
 //! Sets of places, with a bit for each: a place is in the set where its bit is 1, its mark.
 
-ghost use Rattle.std.specs.Prelude.{◌≡◌, ◌+◌, ◌<◌, ◌≤◌, ◌⊎◌, ◌↔◌, ℕ, IsTrue, OnOk, length, vec_len, slice_index_or, []};
+ghost use Rattle.std.specs.Prelude.{◌≡◌, ◌+◌, ◌/◌, ◌<◌, ◌≤◌, ◌⊎◌, ◌↔◌, ℕ, IsTrue, OnOk, MatchOption, length, vec_len, slice_index_or, []};
 ghost use Rattle.rbac_model.specs.Graphs.{IsMarked};
 
 use std::alloc::{AllocError, Global};
@@ -41,10 +41,67 @@ impl Marks {
     pub(crate) fn has(&self, place: usize) -> bool
         ensures { IsTrue result ↔ IsMarked self.now place }
     {
-        match self.words.as_slice().get(place / 64) {
-            Some(word) => (*word >> (place % 64)) & 1 == 1,
-            None => false,
+        (self.word(place / 64) >> (place % 64)) & 1 == 1
+    }
+
+    // The word at a place, without marks where there is none.
+    fn word(&self, at: usize) -> u64
+        ensures { result ≡ slice_index_or self.now at 0 }
+    {
+        match self.words.as_slice().get(at) {
+            Some(word) => *word,
+            None => 0,
         }
+    }
+
+    // The first place of these, below a bound, that isn't in the other set.
+    pub(crate) fn first_outside(&self, other: &Marks, bound: usize) -> Option<usize>
+        ensures { MatchOption result
+            ((k : ℕ) → k < bound → IsMarked self.now k → IsMarked other.now k)
+            (λ k. IsMarked self.now k × (¬ IsMarked other.now k)) }
+    {
+        for at in 0..bound / 64 + 1 {
+            if let Some(place) = self.outside_in(other, at, bound) {
+                return Some(place);
+            }
+        }
+        None
+    }
+
+    // The first such place in one word.
+    fn outside_in(&self, other: &Marks, at: usize, bound: usize) -> Option<usize>
+        requires { at ≤ bound / 64 }
+        ensures { MatchOption result
+            ((k : ℕ) → k / 64 ≡ at → k < bound → IsMarked self.now k → IsMarked other.now k)
+            (λ k. IsMarked self.now k × (¬ IsMarked other.now k)) }
+    {
+        let others = other.word(at);
+        if self.word(at) | others == others {
+            return None;
+        }
+        for place in at * 64..(at * 64).saturating_add(64).min(bound) {
+            if self.has(place) && !other.has(place) {
+                return Some(place);
+            }
+        }
+        None
+    }
+
+    // A place of these that is in the first set and not in the other; the words before this place
+    // aren't looked at.
+    pub(crate) fn shared_outside(&self, with: &Marks, other: &Marks, from: usize) -> Option<usize>
+        ensures { MatchOption result (Unit {0}) (λ k. IsMarked self.now k × (¬ IsMarked other.now k)) }
+    {
+        for at in from / 64..self.words.len() {
+            let word = self.word(at) & with.word(at) & !other.word(at);
+            let place = at
+                .saturating_mul(64)
+                .saturating_add(word.trailing_zeros() as usize);
+            if word != 0 && self.has(place) && !other.has(place) {
+                return Some(place);
+            }
+        }
+        None
     }
 
     // Marks this place.
