@@ -49,11 +49,6 @@ is_less m n lt = grind arith
 not_less : (m n : ℕ) → is_lt (nat_cmp m n) ≡ false → n ≤ m
 not_less m n e = grind arith
 
-pub is_eq_is : (o : Ordering) → is_eq o ≡ true → o ≡ Equal
-is_eq_is Less e = cc
-is_eq_is Equal e = refl
-is_eq_is Greater e = cc
-
 -- the order of entries of one key is that of their places
 under_one : (key : Text) (m n : ℕ) → keyed_cmp (keyed key m) (keyed key n) ≡ nat_cmp m n
 under_one key m n = ap (λ (o : Ordering). ordering_then o (nat_cmp m n)) (tied_itself nat_list_cmp_total key)

@@ -1,6 +1,6 @@
 -- the list of keys, binding after binding
 use Rattle.std.proofs.Common.{◌≡◌, ℕ, ◌+◌, ◌<◌, ◌≤◌, List, [], ◌∷◌, ◌++◌, length, slice_get, Contains, ap, sym, ◌∙◌, subst, arith, inl, inr, ◌⊎◌, ◌↔◌}
-use Rattle.std.specs.Prelude.{Some, Any}
+use Rattle.std.specs.Prelude.{Some}
 use Rattle.std.specs.List.Sorted.{IsPermutation, IsSorted}
 use Rattle.std.proofs.lemmas.Bool.{cases_eq, cases_lt}
 use Rattle.std.proofs.lemmas.List.Elements.{Contains-append_left, Contains-push, Contains-push_cases}
@@ -13,12 +13,24 @@ use Rattle.rbac_terms.specs.declared.granting.Subject.{Subject}
 use Rattle.rbac_model.specs.Policies.{PolicyView, IsPolicy, IsOfBinding}
 use Rattle.rbac_model.proofs.BindingPlaces.{of_some_binding}
 use Rattle.rbac_index.specs.declared.keyed.Keyed.{Keyed}
-use Rattle.rbac_index.specs.Keyed.{keyed, keyed_cmp, IsKeyAmong, IsKeyedAt, HasGrants, HasKeysOf, AreKeyedBelow, AreKeyed}
+use Rattle.rbac_index.specs.Keyed.{keyed, keyed_cmp, IsKeyIn, IsKeyedAt, HasGrants, HasKeysOf, AreKeyed}
 
-pub keys_none : (xs : List Keyed) (b : Binding) (place : ℕ) → HasKeysOf xs xs b place 0
+-- one of so many first subjects of the binding has the key
+abbrev pub IsKeyAmong : Binding → ℕ → Text → Type 0
+IsKeyAmong b count key = (at : ℕ) × (s : Subject) × (at < count) × (slice_get b.subjects at ≡ Some s) × IsSubjectKey s b.namespace key
+
+-- new has what old has, and the keys of so many first subjects of the binding with its place
+abbrev pub HasKeysBelow : List Keyed → List Keyed → Binding → ℕ → ℕ → Type 0
+HasKeysBelow old new b place count = (x : Keyed) → Contains new x ↔ (Contains old x ⊎ ((x.place ≡ place) × IsKeyAmong b count x.key))
+
+-- exactly the keys of the subjects of those of so many first bindings that have grants
+abbrev pub AreKeyedBelow : PolicyView → ℕ → List Keyed → Type 0
+AreKeyedBelow p count xs = (x : Keyed) → Contains xs x ↔ ((x.place < count) × HasGrants p x.place × IsKeyedAt p.held.bindings x.key x.place)
+
+pub keys_none : (xs : List Keyed) (b : Binding) (place : ℕ) → HasKeysBelow xs xs b place 0
 keys_none xs b place x = (λ c. inl c, λ d. elim d [ inl c ↦ c | inr w ↦ absurd (omega (arith, w.1.2)) ])
 
-module _ (old mid : List Keyed) (b : Binding) (place n : ℕ) (s : Subject) (there : slice_get b.subjects n ≡ Some s) (has : HasKeysOf old mid b place n) where
+module _ (old mid : List Keyed) (b : Binding) (place n : ℕ) (s : Subject) (there : slice_get b.subjects n ≡ Some s) (has : HasKeysBelow old mid b place n) where
   last_key : (key : Text) → IsKeyAmong b (n + 1) key → IsKeyAmong b n key ⊎ IsSubjectKey s b.namespace key
   last_key key k = elim (cases_lt k.0 n) [
     | inl l ↦ inl (k.0, k.1, l, k.3, k.4)
@@ -34,7 +46,7 @@ module _ (old mid : List Keyed) (b : Binding) (place n : ℕ) (s : Subject) (the
   this_key : (key : Text) → IsSubjectKey s b.namespace key → IsKeyAmong b (n + 1) key
   this_key key k = (n, s, omega arith, there, k)
 
-  pub keys_without : ((key : Text) → IsSubjectKey s b.namespace key → ⊥) → HasKeysOf old mid b place (n + 1)
+  pub keys_without : ((key : Text) → IsSubjectKey s b.namespace key → ⊥) → HasKeysBelow old mid b place (n + 1)
   keys_without none x = (
     λ c. elim ((has x).0 c) [ inl o ↦ inl o | inr w ↦ inr (w.0, earlier_key x.key w.1) ],
     λ d. (has x).1 (elim d [
@@ -43,7 +55,7 @@ module _ (old mid : List Keyed) (b : Binding) (place n : ℕ) (s : Subject) (the
     ]),
   )
 
-  pub keys_with : (key : Text) (new : List Keyed) → ((k : Text) → IsSubjectKey s b.namespace k ↔ (k ≡ key)) → new ≡ mid ++ keyed key place ∷ [] → HasKeysOf old new b place (n + 1)
+  pub keys_with : (key : Text) (new : List Keyed) → ((k : Text) → IsSubjectKey s b.namespace k ↔ (k ≡ key)) → new ≡ mid ++ keyed key place ∷ [] → HasKeysBelow old new b place (n + 1)
   keys_with key new is made x = (
     λ c. elim (Contains-push_cases mid (keyed key place) x (subst (λ (l : List Keyed). Contains l x) made c)) [
       | inl o ↦ elim ((has x).0 o) [ inl q ↦ inl q | inr w ↦ inr (w.0, earlier_key x.key w.1) ]
@@ -60,20 +72,29 @@ module _ (old mid : List Keyed) (b : Binding) (place n : ℕ) (s : Subject) (the
     ]),
   )
 
+-- all subjects of the binding are passed
+module _ (b : Binding) (key : Text) where
+  key_in : IsKeyAmong b (length b.subjects) key → IsKeyIn b key
+  key_in k = (k.0, k.1, k.2, get_or_from_slice_get b.subjects k.0 k.1 k.1 k.3, k.4)
+
+  key_among : IsKeyIn b key → IsKeyAmong b (length b.subjects) key
+  key_among k = (k.0, k.1, k.2, slice_get-get_or b.subjects k.0 k.1 k.2 ∙ ap (λ (s : Subject). Some s) k.3, k.4)
+
+pub keys_all : (old new : List Keyed) (b : Binding) (place count : ℕ) → count ≡ length b.subjects → HasKeysBelow old new b place count → HasKeysOf old new b place
+keys_all old new b place count all has x =
+    let below = subst (HasKeysBelow old new b place) all has x in (
+      λ c. elim (below.0 c) [ inl o ↦ inl o | inr w ↦ inr (w.0, key_in b x.key w.1) ],
+      λ d. below.1 (elim d [ inl o ↦ inl o | inr w ↦ inr (w.0, key_among b x.key w.1) ]),
+    )
+
 pub keyed_none : (p : PolicyView) → AreKeyedBelow p 0 []
 keyed_none p x = (λ c. absurd (omega (arith, c.1)), λ w. absurd (omega (arith, w.0)))
 
 module _ (p : PolicyView) (ok : IsPolicy p) (old : List Keyed) (place : ℕ) (b : Binding) (there : slice_get p.held.bindings place ≡ Some b) (below : AreKeyedBelow p place old) where
-  any_key : (key : Text) → IsKeyAmong b (length b.subjects) key → IsKeyedAt p.held.bindings key place
-  any_key key k = (b, there, (k.0, k.1, k.2, get_or_from_slice_get b.subjects k.0 k.1 k.1 k.3, k.4))
+  key_here : (key : Text) → IsKeyedAt p.held.bindings key place → IsKeyIn b key
+  key_here key w = subst (λ (c : Binding). IsKeyIn c key) (same_Some w.0 b (sym w.1 ∙ there)) w.2
 
-  key_among : (key : Text) → IsKeyedAt p.held.bindings key place → IsKeyAmong b (length b.subjects) key
-  key_among key w =
-      let same : w.0 ≡ b = same_Some w.0 b (sym w.1 ∙ there) in
-      let a = subst (λ (c : Binding). Any (λ s. IsSubjectKey s c.namespace key) c.subjects) same w.2 in
-      (a.0, a.1, a.2, slice_get-get_or b.subjects a.0 a.1 a.2 ∙ ap (λ (s : Subject). Some s) a.3, a.4)
-
-  pub keyed_more : (new : List Keyed) (from to : ℕ) → from < to → to ≤ length p.grants → ((n at : ℕ) → IsOfBinding p n at → ((from ≤ n) × (n < to)) ↔ (at ≡ place)) → HasKeysOf old new b place (length b.subjects) → AreKeyedBelow p (place + 1) new
+  pub keyed_more : (new : List Keyed) (from to : ℕ) → from < to → to ≤ length p.grants → ((n at : ℕ) → IsOfBinding p n at → ((from ≤ n) × (n < to)) ↔ (at ≡ place)) → HasKeysOf old new b place → AreKeyedBelow p (place + 1) new
   keyed_more new from to some within between has x =
       let first = of_some_binding p ok from (omega (arith, some, within)) in
       let here : first.0 ≡ place = (between from first.0 first.1).0 (omega arith, some) in
@@ -83,11 +104,11 @@ module _ (p : PolicyView) (ok : IsPolicy p) (old : List Keyed) (place : ℕ) (b 
           | inr w ↦ (
             omega (arith, w.0),
             subst (HasGrants p) (sym w.0) grants,
-            subst (IsKeyedAt p.held.bindings x.key) (sym w.0) (any_key x.key w.1),
+            subst (IsKeyedAt p.held.bindings x.key) (sym w.0) (b, there, w.1),
           )
         ],
         λ w. (has x).1 (elim (cases_eq x.place place) [
-          | inl e ↦ inr (e, key_among x.key (subst (IsKeyedAt p.held.bindings x.key) e w.2))
+          | inl e ↦ inr (e, key_here x.key (subst (IsKeyedAt p.held.bindings x.key) e w.2))
           | inr ne ↦ inl ((below x).1 (omega (arith, w.0), w.1, w.2))
         ]),
       )

@@ -1,6 +1,6 @@
 pub mod AlikeLemmas
 pub mod DecidingLemmas
-pub mod EntryLemmas
+pub mod HolderKeys
 pub mod HolderLaw
 pub mod HoldingLemmas
 pub mod IndexLemmas

@@ -7,18 +7,17 @@ use Rattle.rbac_terms.specs.Text.{Text, text_cmp}
 use Rattle.rbac_terms.specs.Principals.{Who, IsAccountIn, SignsInAs}
 use Rattle.rbac_terms.specs.Granting.{IsSubjectKey}
 use Rattle.rbac_terms.specs.declared.granting.Binding.{Binding}
-use Rattle.rbac_terms.specs.declared.granting.Subject.{Subject}
 use Rattle.rbac_model.specs.Policies.{PolicyView, IsOfBinding}
 use Rattle.rbac_index.specs.declared.keyed.Keyed.{Keyed}
 use Rattle.rbac_index.specs.declared.living.Live.{Live}
 
--- one of so many first subjects of the binding has the key
-abbrev pub IsKeyAmong : Binding → ℕ → Text → Type 0
-IsKeyAmong b count key = (at : ℕ) × (s : Subject) × (at < count) × (slice_get b.subjects at ≡ Some s) × IsSubjectKey s b.namespace key
+-- some subject of the binding has the key
+abbrev pub IsKeyIn : Binding → Text → Type 0
+IsKeyIn b key = Any (λ s. IsSubjectKey s b.namespace key) b.subjects
 
 -- some subject of the binding at that place has the key
 abbrev pub IsKeyedAt : List Binding → Text → ℕ → Type 0
-IsKeyedAt bs key place = (b : Binding) × (slice_get bs place ≡ Some b) × Any (λ s. IsSubjectKey s b.namespace key) b.subjects
+IsKeyedAt bs key place = (b : Binding) × (slice_get bs place ≡ Some b) × IsKeyIn b key
 
 -- some grant is of the binding at that place
 abbrev pub HasGrants : PolicyView → ℕ → Type 0
@@ -32,13 +31,9 @@ keyed_cmp x y = ordering_then (text_cmp x.key y.key) (nat_cmp x.place y.place)
 abbrev pub keyed : Text → ℕ → Keyed
 keyed key place = record { key = key; place = place }
 
--- exactly the keys of the subjects of those of so many first bindings that have grants
-abbrev pub AreKeyedBelow : PolicyView → ℕ → List Keyed → Type 0
-AreKeyedBelow p count xs = (x : Keyed) → Contains xs x ↔ ((x.place < count) × HasGrants p x.place × IsKeyedAt p.held.bindings x.key x.place)
-
--- new has behind old exactly the keys of so many first subjects of the binding, with its place
-abbrev pub HasKeysOf : List Keyed → List Keyed → Binding → ℕ → ℕ → Type 0
-HasKeysOf old new b place count = (x : Keyed) → Contains new x ↔ (Contains old x ⊎ ((x.place ≡ place) × IsKeyAmong b count x.key))
+-- new has what old has, and the keys of the binding's subjects with its place
+abbrev pub HasKeysOf : List Keyed → List Keyed → Binding → ℕ → Type 0
+HasKeysOf old new b place = (x : Keyed) → Contains new x ↔ (Contains old x ⊎ ((x.place ≡ place) × IsKeyIn b x.key))
 
 -- exactly the keys of the subjects of the bindings that have grants, in order
 pub record AreKeyed (p : PolicyView) (xs : List Keyed) : Type 0 where

@@ -6,15 +6,16 @@ ghost use Rattle.rbac_terms.specs.Targets.{What};
 ghost use Rattle.rbac_model.specs.Policies.{Held};
 ghost use Rattle.rbac_index.specs.Holding.{IsSeenMore, AreSeen, BringsAt, BringsRuleAt};
 
-use indexmap::IndexMap;
 use rbac_model::is_live;
 use rbac_terms::{Binding, Target, Word, subject_key};
 use std::alloc::{AllocError, Global};
+use std::collections::BTreeSet;
 use std::marker::Model;
 
-// Where a holder was first seen.
-#[derive(Clone, Copy)]
+// A holder's key, and where it was first seen.
+#[derive(Drop)]
 struct Seen<'p> {
+    key: Word,
     binding: &'p Binding,
     binding_place: usize,
     subject_place: usize,
@@ -36,7 +37,9 @@ pub struct Holder<'a> {
 /// Holders, each once, in order of the bindings and subjects by which they hold.
 #[derive(Drop)]
 pub struct Holders<'p> {
-    by_key: IndexMap<Word, Seen<'p>>,
+    seen: Vec<Seen<'p>>,
+    // Their keys, found by their order: a hash could be aimed at by whoever writes the export.
+    keys: BTreeSet<Word>,
 }
 
 impl<'p> Model for Holders<'p> {
@@ -45,9 +48,11 @@ impl<'p> Model for Holders<'p> {
 
     ghost Value = { List HolderView };
 
-    ghost use Rattle.rbac_index.specs.HolderViews.{holders_of};
+    ghost use Rattle.rbac_index.specs.HolderViews.{holders_of, AreKeysOf};
 
-    ghost view = { λ hs. holders_of hs.by_key.entries };
+    ghost view = { λ hs. holders_of hs.seen.items };
+
+    ghost invariant = { λ hs. AreKeysOf hs.keys (holders_of hs.seen.items) };
 }
 
 impl<'p> Holders<'p> {
@@ -58,7 +63,8 @@ impl<'p> Holders<'p> {
         ensures { result ≡ [] }
     {
         Holders {
-            by_key: IndexMap::new(alloc),
+            seen: Vec::new(alloc),
+            keys: BTreeSet::new(alloc),
         }
     }
 
@@ -66,7 +72,7 @@ impl<'p> Holders<'p> {
     pub fn len(&self) -> usize
         ensures { result ≡ length self.now }
     {
-        self.by_key.len()
+        self.seen.len()
     }
 
     /// The holder at this place, from 0.
@@ -74,9 +80,9 @@ impl<'p> Holders<'p> {
         requires { place < length self.now }
         ensures { slice_get self.now place ≡ Some (holder_shown result) }
     {
-        let (key, seen) = self.by_key.get_index(place).unwrap();
+        let seen = &self.seen[place];
         Holder {
-            principal: key,
+            principal: &seen.key,
             binding: seen.binding,
             binding_place: seen.binding_place,
             subject_place: seen.subject_place,
@@ -84,11 +90,14 @@ impl<'p> Holders<'p> {
     }
 
     // Puts a holder behind the others, unless its key is among theirs.
-    fn see(&mut self, key: Word, seen: Seen<'p>) -> Result<(), AllocError>
-        ensures { OnOk result (IsSeenMore self.old self.new (holder_of (key, seen.entry))) }
+    fn see(&mut self, alloc: Global, seen: Seen<'p>) -> Result<(), AllocError>
+        ensures { OnOk result (IsSeenMore self.old self.new (holder_of seen.entry)) }
     {
-        if self.by_key.get(&key).is_none() {
-            self.by_key.insert(key, seen)?;
+        // Room first, so that a key is among the keys only where its holder is listed.
+        self.seen.reserve(1)?;
+        let key = Word::from_slice(alloc, seen.key.as_bytes())?;
+        if self.keys.insert(key)? {
+            self.seen.push(seen)?;
         }
         Ok(())
     }
@@ -122,8 +131,9 @@ impl<'p> Holders<'p> {
         for (subject_place, subject) in binding.subjects.as_slice().iter().enumerate() {
             if let Some(key) = subject_key(alloc, subject, binding.namespace.as_ref())? {
                 self.see(
-                    key,
+                    alloc,
                     Seen {
+                        key,
                         binding,
                         binding_place,
                         subject_place,

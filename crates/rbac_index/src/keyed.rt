@@ -1,7 +1,7 @@
 //! The bindings under the keys of their subjects, in a sorted list: so that the bindings that name
 //! a principal are found by its keys, and no export can make a look-up slow.
 
-ghost use Rattle.std.specs.Prelude.{◌≡◌, ◌≤◌, ◌++◌, ℕ, IfOk, OnOk, Contains, length};
+ghost use Rattle.std.specs.Prelude.{◌≡◌, ◌≤◌, ◌++◌, ℕ, IfOk, OnOk, Contains};
 ghost use Rattle.std.specs.Ordering.{is_lt};
 ghost use Rattle.std.specs.List.Sorted.{IsSorted};
 ghost use Rattle.rbac_terms.specs.Text.{text_cmp};
@@ -53,7 +53,7 @@ fn push_keys(
     place: usize,
     entries: &mut Vec<Keyed>,
 ) -> Result<(), AllocError>
-    ensures { OnOk result (HasKeysOf entries.old.items entries.new.items binding.now place (length binding.now.subjects)) }
+    ensures { OnOk result (HasKeysOf entries.old.items entries.new.items binding.now place) }
 {
     for subject in binding.subjects.as_slice() {
         if let Some(key) = subject_key(alloc, subject, binding.namespace.as_ref())? {

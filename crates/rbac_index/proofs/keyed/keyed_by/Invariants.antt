@@ -1,4 +1,4 @@
-use Rattle.rbac_index.specs.Keyed.{AreKeyedBelow}
+use Rattle.rbac_index.proofs.KeyingLemmas.{AreKeyedBelow}
 use Rattle.rbac_index.proofs.keyed.keyed_by.Given as goal
 
 abbrev pub invariant-loop-place : goal.invariant-loop-place

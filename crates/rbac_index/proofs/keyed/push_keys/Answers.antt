@@ -1,8 +1,7 @@
-use Rattle.std.proofs.Common.{◌≡◌, ap, refl, length, slice_get, arith, subst}
+use Rattle.std.proofs.Common.{◌≡◌, ap, refl, length, slice_get, arith}
 use Rattle.std.specs.Prelude.{Some}
 use Rattle.std.proofs.lemmas.Option.{slice_get_read}
-use Rattle.rbac_index.specs.Keyed.{HasKeysOf}
-use Rattle.rbac_index.proofs.KeyingLemmas.{keys_with, keys_without}
+use Rattle.rbac_index.proofs.KeyingLemmas.{keys_with, keys_without, keys_all}
 use Rattle.rbac_index.proofs.keyed.push_keys.Goals as goal
 use Rattle.rbac_index.proofs.keyed.push_keys.Goals.{in-Some+in_ok-push, in_default}
 
@@ -27,4 +26,4 @@ loop-subject-preserved c =
 pub returns : goal.returns
 returns c =
     let at : c.loop-subject.subject-index ≡ length c.args.binding.now.subjects = omega (arith, c.loop-subject.auto.subject-index-end, c.loop-subject-test.false, ap length c.as_slice-subject-items.ensures) in
-    subst (HasKeysOf c.args.entries.now.items c.loop-subject.entries.items c.args.binding.now c.args.place) at c.loop-subject.invariant
+    keys_all c.args.entries.now.items c.loop-subject.entries.items c.args.binding.now c.args.place c.loop-subject.subject-index at c.loop-subject.invariant
