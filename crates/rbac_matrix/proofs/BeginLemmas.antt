@@ -11,7 +11,7 @@ use Rattle.rbac_matrix.specs.Metering.{AreSought, IsReady}
 use Rattle.rbac_matrix.specs.declared.line.Place.{Place}
 use Rattle.rbac_matrix.specs.declared.seat.Seat.{Seat}
 use Rattle.rbac_matrix.specs.Seats.{AreEmpty, AreSeated, filled, seat_at, stand_of}
-use Rattle.rbac_matrix.proofs.EnumLemmas.{same_head, no_head}
+use Rattle.rbac_matrix.proofs.PassLemmas.{same_head, no_head}
 
 count_few : {X : Type 0} (P : X → Type 0) (f : Seat → ℕ) → ((s : Seat) → f s ≤ 1) → (gs : List X) (seats : List Seat) (n : ℕ) → length seats ≤ length gs
     → ((k : ℕ) → k < length seats → (f (seat_at seats k) ≡ 0) ⊎ ((g : X) × (slice_get gs k ≡ Some g) × P g)) → IsCount P gs n → sum_by f seats ≤ n

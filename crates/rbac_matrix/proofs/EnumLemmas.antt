@@ -15,6 +15,8 @@ use Rattle.rbac_matrix.specs.Passing.{EndsLine, FindsCell, FindsRow, Passes, cel
 use Rattle.rbac_matrix.specs.declared.line.Place.{Place}
 use Rattle.rbac_matrix.specs.declared.seat.Seat.{Seat}
 use Rattle.rbac_matrix.specs.Seats.{AreEmpty, AreReal, AreSeated, Costs, empty_seat, filled, past_all, reach_at, seat_at, stand_of}
+use Rattle.rbac_matrix.proofs.BeginLemmas.{ready_line}
+use Rattle.rbac_matrix.proofs.IdleLemmas.{rowless_both}
 use Rattle.rbac_matrix.proofs.RowLemmas.{rows_append}
 use Rattle.rbac_matrix.proofs.PassLemmas.{passes_more, passes_rows, passes_then}
 use Rattle.rbac_matrix.proofs.LineLemmas.{ends_line}
@@ -67,8 +69,7 @@ module _ (h : Held) (u : UniverseView) where
   skips_then a b c p q = record {
     between = p.between ++ q.between;
     whole = p.whole ∙ ap (λ (ls : List LineView). p.between ++ ls) q.whole ∙ sym (append_assoc p.between q.between (lines_from u c));
-    none = subst (λ (cs : List Cell). AreRowsOf h cs []) (sym (flat_map-append (line_cells_from u 0) p.between q.between))
-        (rows_append h (flat_map (line_cells_from u 0) p.between) (flat_map (line_cells_from u 0) q.between) [] [] p.none q.none);
+    none = rowless_both h u p.between q.between p.none q.none;
   }
 
   pub whole_cells : (ls : List LineView) → cells_of_lines u 0 ls ≡ flat_map (line_cells_from u 0) ls
@@ -97,12 +98,6 @@ module _ (h : Held) (u : UniverseView) where
       subst (λ (cs : List Cell). Passes h cs (cells_left u next 0) []) (sym (cells_at at from l (lines_from u next) e))
       (subst (λ (cs : List Cell). Passes h (line_cells_from u from l ++ flat_map (line_cells_from u 0) (lines_from u next)) cs []) (sym (whole_cells (lines_from u next))) all)
 
-pub same_head : {X : Type 0} (x y : X) (xs ys : List X) → x ∷ xs ≡ y ∷ ys → x ≡ y
-same_head x y xs ys e = cc
-
-pub no_head : {X : Type 0} (x : X) (xs : List X) → x ∷ xs ≡ [] → ⊥
-no_head x xs e = cc
-
 module _ (p : PolicyView) (u : UniverseView) (rs : List (List ℕ)) where
   -- a line whose cursors have no entries has no row
   pub idle_line : (l : LineView) (seats : List Seat) → IsPolicy p → IsUniverse u → AreReaches p u rs → length u.targets ≤ 1000000 → AreReal rs → AreSeated p l rs 0 seats → filled seats ≡ 0 → AreRowsOf p.held (line_cells_from u 0 l) []
@@ -117,18 +112,9 @@ module _ (p : PolicyView) (u : UniverseView) (rs : List (List ℕ)) where
     line = l;
     others = ls;
     line_at = e;
-    target = f.target;
-    grant = f.grant;
-    target_at = f.target_at;
-    grant_at = f.grant_at;
-    fits = f.fits;
+    found = f.found;
     passes = passes_then p.held (cells_left u start first) (cells_left u at from) (cells_left u at (place + 1)) [] _ before (line_passes p.held u at from (place + 1) l ls _ e f.passes);
-    ready = record {
-      settled = ready.settled;
-      count = f.seated.count;
-      seated = λ m ms other. subst (λ (x : LineView). AreSeated p x rs (place + 1) seats) (same_head l m ls ms (sym e ∙ other)) f.seated;
-      ended = λ other. absurd (no_head l ls (sym e ∙ other));
-    };
+    ready = ready_line p u rs at (place + 1) seats ready.settled l ls e f.seated;
   }
 
   -- the account over the end of a line, and the lines that are skipped

@@ -16,9 +16,8 @@ use Rattle.rbac_matrix.specs.Enumeration.{EntersLast}
 use Rattle.rbac_matrix.specs.declared.line.Place.{Place}
 use Rattle.rbac_matrix.specs.declared.seat.Seat.{Seat}
 use Rattle.rbac_matrix.proofs.SeatLemmas.{empty_passed, empty_standing}
-use Rattle.rbac_matrix.proofs.PassLemmas.{passes_left, passes_rows}
+use Rattle.rbac_matrix.proofs.PassLemmas.{no_head, passes_left, passes_rows}
 use Rattle.rbac_matrix.proofs.TouchLemmas.{reads_few, touched_split}
-use Rattle.rbac_matrix.proofs.EnumLemmas.{no_head}
 use Rattle.rbac_matrix.proofs.LineLemmas.{mapped_at}
 
 module _ (h : Held) (cs ds : List Cell) (row : RowView) (p : Passes h cs ds (row ∷ [])) where

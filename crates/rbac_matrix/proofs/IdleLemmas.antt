@@ -8,12 +8,12 @@ use Rattle.rbac_model.specs.Universes.{UniverseView, Cell}
 use Rattle.rbac_index.specs.Bound.{IsNamedBy}
 use Rattle.rbac_matrix.specs.Cells.{AreRowsOf}
 use Rattle.rbac_matrix.specs.Cursors.{IsBoundOn, IsCursorAt}
-use Rattle.rbac_matrix.specs.Lines.{IsLineAt, LineView, line, line_cells_from, lines_from, namespace_lines, onward, verb_lines}
+use Rattle.rbac_matrix.specs.Lines.{IsLineAt, LineView, line, line_cells_from, lines_from, namespace_lines, onward, place, verb_lines}
 use Rattle.rbac_matrix.specs.Metering.{Skips}
 use Rattle.rbac_matrix.specs.declared.line.Place.{Place}
 use Rattle.rbac_matrix.proofs.RowLemmas.{rows_append}
 use Rattle.rbac_matrix.proofs.LineLemmas.{no_cursors}
-use Rattle.rbac_matrix.proofs.LinesLemmas.{lines_of_principal, namespaces_at, place, verbs_at}
+use Rattle.rbac_matrix.proofs.LinesLemmas.{lines_of_principal, namespaces_at, verbs_at}
 use Rattle.rbac_matrix.proofs.WalkLemmas.{cursor_bound}
 
 cursor_named : (p : PolicyView) (l : LineView) (k : ℕ) → IsCursorAt p l k → IsNamedBy p l.who k
@@ -26,10 +26,10 @@ bound_alike p l verb k b = b
 
 -- lists of lines without rows
 module _ (h : Held) (u : UniverseView) where
-  abbrev Rowless : List LineView → Type 0
+  abbrev pub Rowless : List LineView → Type 0
   Rowless ls = AreRowsOf h (flat_map (line_cells_from u 0) ls) []
 
-  rowless_both : (ls ms : List LineView) → Rowless ls → Rowless ms → Rowless (ls ++ ms)
+  pub rowless_both : (ls ms : List LineView) → Rowless ls → Rowless ms → Rowless (ls ++ ms)
   rowless_both ls ms p q = subst (λ (cs : List Cell). AreRowsOf h cs []) (sym (flat_map-append (line_cells_from u 0) ls ms))
       (rows_append h (flat_map (line_cells_from u 0) ls) (flat_map (line_cells_from u 0) ms) [] [] p q)
 

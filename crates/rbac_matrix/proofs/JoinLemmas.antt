@@ -1,5 +1,5 @@
 -- pages of rows in order of their keys join
-use Rattle.std.proofs.Common.{◌≡◌, ◌≢◌, ℕ, zero, suc, ◌<◌, Bool, true, false, List, [], ◌∷◌, ◌++◌, length, drop, take, refl, ap, ◌∙◌, sym, arith, Contains, ◌⊎◌, inl, inr, Less, Equal, Greater, Ordering, subst}
+use Rattle.std.proofs.Common.{◌≡◌, ◌≢◌, ℕ, zero, suc, ◌<◌, Bool, true, false, List, [], ◌∷◌, ◌++◌, length, drop, take, refl, ap, ◌∙◌, sym, arith, Contains, ◌⊎◌, inl, inr, Less, Greater, subst}
 use Rattle.std.specs.Prelude.{Some, None, filter, nat_lt, ◌↔◌, AllPairs}
 use Rattle.std.specs.Ordering.{is_gt, ordering_reverse}
 use Rattle.std.proofs.lemmas.Bool.{false≢true}
@@ -12,7 +12,11 @@ use Rattle.rbac_terms.specs.Keys.{KeyTexts, key_cmp}
 use Rattle.rbac_terms.specs.KeyOrder.{key_cmp_total}
 use Rattle.rbac_model.specs.Universes.{RowView, cell_key, rows_after}
 use Rattle.rbac_matrix.specs.Paging.{PagesJoin}
-use Rattle.rbac_matrix.proofs.OneMatrix.{by_keys}
+use Rattle.rbac_universe.proofs.Flattened.{there}
+use Rattle.rbac_matrix.proofs.OneMatrix.{by_keys, key_name}
+use Rattle.rbac_matrix.proofs.Orders.{greater}
+use Rattle.rbac_matrix.proofs.RowLemmas.{head_below, tail_ascends}
+use Rattle.rbac_matrix.proofs.StartLemmas.{filter_all}
 
 abbrev key : RowView → KeyTexts
 key row = cell_key row.cell
@@ -26,11 +30,6 @@ Ascends rows = AllPairs (λ a b. key_cmp (key a) (key b) ≡ Less) rows
 bool_cases : (b : Bool) → (b ≡ true) ⊎ (b ≡ false)
 bool_cases true = inl refl
 bool_cases false = inr refl
-
-greater : (o : Ordering) → is_gt o ≡ true → o ≡ Greater
-greater Less e = cc
-greater Equal e = cc
-greater Greater e = refl
 
 turned : (a b : KeyTexts) → key_cmp a b ≡ Less → key_cmp b a ≡ Greater
 turned a b e = key_cmp_total.antisymm b a ∙ ap ordering_reverse e
@@ -54,20 +53,6 @@ still_after k j row e f =
     let above = turned_back (key row) j (greater (key_cmp (key row) j) f) in
     ap is_gt (turned k (key row) (key_cmp_total.trans k j (key row) below above))
 
-tail_ascends : (row : RowView) (rows : List RowView) → Ascends (row ∷ rows) → Ascends rows
-tail_ascends row rows up i j d lt l = up (suc i) (suc j) d (omega arith) (omega arith)
-
-head_below : (row : RowView) (rows : List RowView) (other : RowView) → Ascends (row ∷ rows) → Contains rows other → key_cmp (key row) (key other) ≡ Less
-head_below row rows other up w = rw w.2 at (up 0 (suc w.0) other (omega arith) (omega (arith, w.1)))
-
-there : (row : RowView) (rows : List RowView) (other : RowView) → Contains rows other → Contains (row ∷ rows) other
-there row rows other w = (suc w.0, omega (arith, w.1), w.2)
-
-filter-all : (k : KeyTexts) (rows : List RowView) → ((row : RowView) → Contains rows row → is_after k row ≡ true) → filter (is_after k) rows ≡ rows
-filter-all k [] h = refl
-filter-all k (row ∷ rows) h =
-    rw (h row (0, omega arith, refl)) (ap (λ (rest : List RowView). row ∷ rest) (filter-all k rows (λ other w. h other (there row rows other w))))
-
 in_taken : (n : ℕ) (rows before : List RowView) (last : RowView) → take n rows ≡ before ++ last ∷ [] → Contains rows last
 in_taken zero rows [] last e = cc
 in_taken zero rows (b ∷ before) last e = cc
@@ -88,12 +73,12 @@ filter-last (suc n) (row ∷ rows) [] last up e =
     let none : take n rows ≡ [] = cc in
     let left : drop n rows ≡ rows = ap (λ (taken : List RowView). taken ++ drop n rows) (sym none) ∙ take-append-drop n rows in
     let all : filter (is_after (key row)) (row ∷ rows) ≡ rows =
-    rw (not_after_itself row) (filter-all (key row) rows (λ other w. later row other (head_below row rows other up w))) in
+    rw (not_after_itself row) (filter_all (is_after (key row)) rows (λ other w. later row other (head_below key_name row rows other up w))) in
     subst (λ (x : RowView). filter (is_after (key x)) (row ∷ rows) ≡ drop n rows) same (all ∙ sym left)
 filter-last (suc n) (row ∷ rows) (b ∷ before) last up e =
     let rest : take n rows ≡ before ++ last ∷ [] = cc in
-    let first = earlier row last (head_below row rows last up (in_taken n rows before last rest)) in
-    rw first (filter-last n rows before last (tail_ascends row rows up) rest)
+    let first = earlier row last (head_below key_name row rows last up (in_taken n rows before last rest)) in
+    rw first (filter-last n rows before last (tail_ascends key_name row rows up) rest)
 
 filter-filter : (k j : KeyTexts) (rows : List RowView) → is_gt (key_cmp j k) ≡ true → filter (is_after j) (filter (is_after k) rows) ≡ filter (is_after j) rows
 filter-filter k j [] e = refl

@@ -8,6 +8,7 @@ pub mod LineLemmas
 pub mod LinesLemmas
 pub mod LoopLemmas
 pub mod OneMatrix
+pub mod Orders
 pub mod PageLemmas
 pub mod PassLemmas
 pub mod Product

@@ -248,12 +248,8 @@ module _ (p : PolicyView) (u : UniverseView) (rs : List (List ℕ)) (l : LineVie
             let t = read_at u.targets place least_within in
             let fit : Fits (cell_of l t.0) = subst (λ (x : Bool). (IsTrue x) ⊎ (l.namespace ≡ [])) (sym (flag_at u.targets place t.0 b t.1 flag)) fits in
             record {
-              target = t.0;
-              grant = least.cursor.grant;
-              target_at = t.1;
-              grant_at = least.cursor.at;
+              found = record { target = t.0; grant = least.cursor.grant; target_at = t.1; grant_at = least.cursor.at; fits = fit };
               passes = passes_then p.held (line_cells_from u start l) (line_cells_from u from l) (line_cells_from u (place + 1) l) [] _ before (line_hit t.0 t.1 fit);
-              fits = fit;
               seated = next;
             }
 

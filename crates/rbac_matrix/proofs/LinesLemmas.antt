@@ -10,7 +10,7 @@ use Rattle.rbac_terms.specs.Text.{Text}
 use Rattle.rbac_terms.specs.Principals.{Who}
 use Rattle.rbac_model.specs.Universes.{UniverseView}
 use Rattle.rbac_matrix.specs.declared.line.Place.{Place}
-use Rattle.rbac_matrix.specs.Lines.{IsSettled, LineView, line, lines_from, namespace_lines, onward, verb_lines}
+use Rattle.rbac_matrix.specs.Lines.{IsLineAt, IsSettled, LineView, line, lines_from, namespace_lines, next_verb, onward, place, verb_lines}
 use Rattle.rbac_matrix.proofs.PassLemmas.{read_at}
 
 pub drop_at : {A : Type 0} (xs : List A) (i : ℕ) (x : A) → slice_get xs i ≡ Some x → drop i xs ≡ x ∷ drop (i + 1) xs
@@ -42,9 +42,6 @@ module _ {A B : Type 0} where
   onward_none f g first whole [] = refl
   onward_none f g first whole (x ∷ xs) = rw (first x) (flat_none g whole xs)
 
-abbrev pub place : ℕ → ℕ → ℕ → Place
-place p n v = record { principal = p; namespace = n; verb = v }
-
 module _ (u : UniverseView) where
   pub verbs_at : (who : Who) (ns : Text) (v : ℕ) (verb : Text) → slice_get u.verbs v ≡ Some verb → verb_lines u who v ns ≡ line who ns verb ∷ verb_lines u who (v + 1) ns
   verbs_at who ns v verb at = rw (drop_at u.verbs v verb at) refl
@@ -72,6 +69,9 @@ module _ (u : UniverseView) where
       let now : namespace_lines u n v who ≡ line who ns verb ∷ namespace_lines u n (v + 1) who =
       namespaces_at who n v ns b ∙ ap (λ (l : List LineView). l ++ namespace_lines u (n + 1) 0 who) (verbs_at who ns v verb c) ∙ ap (λ (l : List LineView). line who ns verb ∷ l) (sym (namespaces_at who n (v + 1) ns b)) in
       lines_of_principal p n v who a ∙ ap (λ (l : List LineView). l ++ lines_from u (place (p + 1) 0 0)) now ∙ ap (λ (l : List LineView). line who ns verb ∷ l) (sym (lines_of_principal p n (v + 1) who a))
+
+  pub line_here : (at : Place) (l : LineView) → IsLineAt u at l → lines_from u at ≡ l ∷ lines_from u (next_verb at)
+  line_here at l here = line_first at.principal at.namespace at.verb l.who l.namespace l.verb here.principal here.namespace here.verb
 
   -- where the verbs are over the next namespace follows, and where the namespaces are over the next principal
   pub after_verbs_same : (p n v : ℕ) → n < length u.namespaces → length u.verbs ≤ v → lines_from u (place p (n + 1) 0) ≡ lines_from u (place p n v)

@@ -14,10 +14,14 @@ use Rattle.rbac_matrix.proofs.SeatLemmas.{Costs-none, Costs-set, filled_set, sea
 pub cursor_within : (p : PolicyView) (l : LineView) (k : ℕ) → IsCursorAt p l k → k < length p.grants
 cursor_within p l k c = slice_get_within p.grants k c.grant c.at
 
+-- a cursor's seat at `from`, or an empty one, to which the walk will come if it is a cursor's
+abbrev pub IsTakenAt : PolicyView → LineView → List (List ℕ) → ℕ → Walk → ℕ → Seat → Type 0
+IsTakenAt p l rs from w k s = (IsCursorAt p l k × IsSeated (reach_at rs k) from s) ⊎ ((s ≡ empty_seat) × (IsCursorAt p l k → IsAhead p l w k))
+
 -- some of the cursors have seats at `from`, and the walk will come to the others
 pub record AreTaken (p : PolicyView) (l : LineView) (rs : List (List ℕ)) (from : ℕ) (w : Walk) (n : ℕ) (old seats : List Seat) (before after : ℕ) : Type 0 where
   pub count : length seats ≡ length p.grants
-  pub each : (k : ℕ) → k < length seats → (IsCursorAt p l k × IsSeated (reach_at rs k) from (seat_at seats k)) ⊎ ((seat_at seats k ≡ empty_seat) × (IsCursorAt p l k → IsAhead p l w k))
+  pub each : (k : ℕ) → k < length seats → IsTakenAt p l rs from w k (seat_at seats k)
   pub is_filled : n ≡ filled seats
   pub few : n ≤ length p.grants
   pub started : from ≡ 0 → Costs 0 0 old seats before after
@@ -59,7 +63,7 @@ module _ (p : PolicyView) (l : LineView) (rs : List (List ℕ)) (from : ℕ) whe
     pub taken_within : k < length seats
     taken_within = omega (arith, cursor_within p l k cursor, h.count)
 
-    taken_other : (j : ℕ) → j ≢ k → (x : Seat) → (IsCursorAt p l j × IsSeated (reach_at rs j) from x) ⊎ ((x ≡ empty_seat) × (IsCursorAt p l j → IsAhead p l w j)) → (IsCursorAt p l j × IsSeated (reach_at rs j) from x) ⊎ ((x ≡ empty_seat) × (IsCursorAt p l j → IsAhead p l v j))
+    taken_other : (j : ℕ) → j ≢ k → (x : Seat) → IsTakenAt p l rs from w j x → IsTakenAt p l rs from v j x
     taken_other j ne x (inl s) = inl s
     taken_other j ne x (inr (e, ahead)) = inr (
       e,
@@ -74,7 +78,7 @@ module _ (p : PolicyView) (l : LineView) (rs : List (List ℕ)) (from : ℕ) whe
     taken_keep r is top kept = record {
       count = h.count;
       each = λ j lt. elim (cases_eq j k) [
-        | inl e ↦ subst (λ (i : ℕ). (IsCursorAt p l i × IsSeated (reach_at rs i) from (seat_at seats i)) ⊎ ((seat_at seats i ≡ empty_seat) × (IsCursorAt p l i → IsAhead p l v i))) (sym e)
+        | inl e ↦ subst (λ (i : ℕ). IsTakenAt p l rs from v i (seat_at seats i)) (sym e)
             (inl (
               cursor,
               elim (h.each k taken_within) [
@@ -101,7 +105,7 @@ module _ (p : PolicyView) (l : LineView) (rs : List (List ℕ)) (from : ℕ) whe
         record {
           count = length-set seats k s ∙ h.count;
           each = set_each seats k s taken_within
-              (λ j x. (IsCursorAt p l j × IsSeated (reach_at rs j) from x) ⊎ ((x ≡ empty_seat) × (IsCursorAt p l j → IsAhead p l v j)))
+              (λ j x. IsTakenAt p l rs from v j x)
               (λ j lt ne. taken_other j ne (seat_at seats j) (h.each j lt))
               (inl (cursor, subst (λ (x : List ℕ). IsSeated x from s) is seated));
           is_filled = now;
@@ -119,10 +123,14 @@ module _ (p : PolicyView) (l : LineView) (rs : List (List ℕ)) (from : ℕ) whe
     ];
   }
 
+-- a cursor's seat at the place, to which the walk will come, or past it; or an empty one of no cursor
+abbrev pub IsAdvancedAt : PolicyView → LineView → List (List ℕ) → ℕ → Walk → ℕ → Seat → Type 0
+IsAdvancedAt p l rs place w k s = (IsCursorAt p l k × ((IsSeated (reach_at rs k) place s × IsAhead p l w k) ⊎ IsSeated (reach_at rs k) (place + 1) s)) ⊎ ((IsCursorAt p l k → ⊥) × (s ≡ empty_seat))
+
 -- the cursors that were visited stand past the place, and the walk will come to the others
 pub record AreAdvanced (p : PolicyView) (l : LineView) (rs : List (List ℕ)) (place : ℕ) (w : Walk) (old seats : List Seat) (before after : ℕ) : Type 0 where
   pub count : length seats ≡ length p.grants
-  pub each : (k : ℕ) → k < length seats → (IsCursorAt p l k × ((IsSeated (reach_at rs k) place (seat_at seats k) × IsAhead p l w k) ⊎ IsSeated (reach_at rs k) (place + 1) (seat_at seats k))) ⊎ ((IsCursorAt p l k → ⊥) × (seat_at seats k ≡ empty_seat))
+  pub each : (k : ℕ) → k < length seats → IsAdvancedAt p l rs place w k (seat_at seats k)
   pub gain : ℕ
   pub costs : Costs 0 gain old seats before after
   pub moved : (k : ℕ) → IsCursorAt p l k → (seat_at old k).place ≡ place → ((seat_at seats k).place ≡ place) ⊎ (0 < gain)
@@ -141,7 +149,7 @@ module _ (p : PolicyView) (l : LineView) (rs : List (List ℕ)) (place : ℕ) wh
   }
 
   advanced_each : (w : Walk) (seats : List Seat) (k : ℕ) → ((j : ℕ) → IsAhead p l w j → ⊥)
-      → (IsCursorAt p l k × ((IsSeated (reach_at rs k) place (seat_at seats k) × IsAhead p l w k) ⊎ IsSeated (reach_at rs k) (place + 1) (seat_at seats k))) ⊎ ((IsCursorAt p l k → ⊥) × (seat_at seats k ≡ empty_seat))
+      → IsAdvancedAt p l rs place w k (seat_at seats k)
       → (IsCursorAt p l k × IsSeated (reach_at rs k) (place + 1) (seat_at seats k)) ⊎ ((IsCursorAt p l k → ⊥) × (seat_at seats k ≡ empty_seat))
   advanced_each w seats k none (inl (c, inl (s, a))) = absurd (none k a)
   advanced_each w seats k none (inl (c, inr s)) = inl (c, s)
@@ -176,19 +184,9 @@ module _ (p : PolicyView) (l : LineView) (rs : List (List ℕ)) (place : ℕ) wh
       | inr e ↦ let empty : (seat_at seats k).place ≡ past_all = rw e.1 refl in absurd (omega arith)
     ]
 
-    -- and it stands there or past it
-    pub advanced_here : IsCursorAt p l k → (IsSeated (reach_at rs k) place (seat_at seats k)) ⊎ IsSeated (reach_at rs k) (place + 1) (seat_at seats k)
-    advanced_here cursor = elim (h.each k within) [
-      | inl s ↦ elim s.1 [
-        | inl a ↦ inl a.0
-        | inr b ↦ inr b
-      ]
-      | inr e ↦ absurd (e.0 cursor)
-    ]
-
     other : (j : ℕ) → j ≢ k
-        → (IsCursorAt p l j × ((IsSeated (reach_at rs j) place (seat_at seats j) × IsAhead p l w j) ⊎ IsSeated (reach_at rs j) (place + 1) (seat_at seats j))) ⊎ ((IsCursorAt p l j → ⊥) × (seat_at seats j ≡ empty_seat))
-        → (IsCursorAt p l j × ((IsSeated (reach_at rs j) place (seat_at seats j) × IsAhead p l v j) ⊎ IsSeated (reach_at rs j) (place + 1) (seat_at seats j))) ⊎ ((IsCursorAt p l j → ⊥) × (seat_at seats j ≡ empty_seat))
+        → IsAdvancedAt p l rs place w j (seat_at seats j)
+        → IsAdvancedAt p l rs place v j (seat_at seats j)
     other j ne (inl (c, inl (s, a))) = elim (on j a) [
       | inl e ↦ absurd (ne e)
       | inr b ↦ inl (c, inl (s, b))
@@ -197,8 +195,8 @@ module _ (p : PolicyView) (l : LineView) (rs : List (List ℕ)) (place : ℕ) wh
     other j ne (inr e) = inr e
 
     here : (seat_at seats k).place ≢ place
-        → (IsCursorAt p l k × ((IsSeated (reach_at rs k) place (seat_at seats k) × IsAhead p l w k) ⊎ IsSeated (reach_at rs k) (place + 1) (seat_at seats k))) ⊎ ((IsCursorAt p l k → ⊥) × (seat_at seats k ≡ empty_seat))
-        → (IsCursorAt p l k × ((IsSeated (reach_at rs k) place (seat_at seats k) × IsAhead p l v k) ⊎ IsSeated (reach_at rs k) (place + 1) (seat_at seats k))) ⊎ ((IsCursorAt p l k → ⊥) × (seat_at seats k ≡ empty_seat))
+        → IsAdvancedAt p l rs place w k (seat_at seats k)
+        → IsAdvancedAt p l rs place v k (seat_at seats k)
     here ne (inl (c, inl (s, a))) = inl (c, inr (seated_stays (reach_at rs k) place (seat_at seats k) s ne))
     here ne (inl (c, inr s)) = inl (c, inr s)
     here ne (inr e) = inr e
@@ -208,7 +206,7 @@ module _ (p : PolicyView) (l : LineView) (rs : List (List ℕ)) (place : ℕ) wh
     advanced_stay ne = record {
       count = h.count;
       each = λ j lt. elim (cases_eq j k) [
-        | inl e ↦ subst (λ (i : ℕ). (IsCursorAt p l i × ((IsSeated (reach_at rs i) place (seat_at seats i) × IsAhead p l v i) ⊎ IsSeated (reach_at rs i) (place + 1) (seat_at seats i))) ⊎ ((IsCursorAt p l i → ⊥) × (seat_at seats i ≡ empty_seat))) (sym e) (here ne (h.each k within))
+        | inl e ↦ subst (λ (i : ℕ). IsAdvancedAt p l rs place v i (seat_at seats i)) (sym e) (here ne (h.each k within))
         | inr other_one ↦ other j other_one (h.each j lt)
       ];
       gain = h.gain;
@@ -221,7 +219,7 @@ module _ (p : PolicyView) (l : LineView) (rs : List (List ℕ)) (place : ℕ) wh
     advanced_move r s m' cursor is at seated costs = record {
       count = length-set seats k s ∙ h.count;
       each = set_each seats k s within
-          (λ j x. (IsCursorAt p l j × ((IsSeated (reach_at rs j) place x × IsAhead p l v j) ⊎ IsSeated (reach_at rs j) (place + 1) x)) ⊎ ((IsCursorAt p l j → ⊥) × (x ≡ empty_seat)))
+          (λ j x. IsAdvancedAt p l rs place v j x)
           (λ j lt ne. other j ne (h.each j lt))
           (inl (cursor, inr (rw (is, at) at seated)));
       gain = h.gain + 1;

@@ -1,5 +1,5 @@
 -- the matrix is the rows of the requests of its universe, and it is one
-use Rattle.std.proofs.Common.{◌≡◌, ℕ, ◌<◌, List, length, get_or, Contains, IsTrue, Less, Equal, Greater, Ordering, sym, ap₂, ◌∙◌, refl, arith}
+use Rattle.std.proofs.Common.{◌≡◌, ℕ, ◌<◌, List, length, get_or, Contains, IsTrue, Less, Ordering, sym, ap₂, ◌∙◌, refl, arith}
 use Rattle.std.specs.Ordering.{is_lt}
 use Rattle.std.specs.Cmp.Lexicographic.{slice_cmp}
 use Rattle.std.proofs.lemmas.List.Elements.{Contains-get_or}
@@ -8,18 +8,15 @@ use Rattle.rbac_terms.specs.Keys.{texts}
 use Rattle.rbac_model.specs.Lists.{by_name, IsAscendingBy}
 use Rattle.rbac_model.specs.Policies.{Held}
 use Rattle.rbac_model.specs.Universes.{UniverseView, IsUniverse, RowView, IsCellOf, Fits, IsMatrix, cell_key}
+use Rattle.rbac_model.proofs.NamePlaces.{is_less}
 use Rattle.rbac_model.proofs.OneList.{one_list}
 use Rattle.rbac_matrix.specs.Cells.{AreRowsOf, cells_of}
 use Rattle.rbac_matrix.proofs.RowLemmas.{rows_sound, rows_complete, rows_ascend, rows_from}
-use Rattle.rbac_matrix.proofs.Product.{cell_name, key_texts, in_cells, cells_in, cells_ascend}
+use Rattle.rbac_matrix.specs.Starting.{cell_name}
+use Rattle.rbac_matrix.proofs.Product.{key_texts, in_cells, cells_in, cells_ascend}
 
-less_is : (o : Ordering) → IsTrue (is_lt o) → o ≡ Less
-less_is Less e = refl
-less_is Equal e = cc
-less_is Greater e = cc
-
-is_less : (o : Ordering) → o ≡ Less → IsTrue (is_lt o)
-is_less o e = rw e refl
+less_is : (o : Ordering) → o ≡ Less → IsTrue (is_lt o)
+less_is o e = rw e refl
 
 -- rows are named by the texts of their keys
 abbrev pub key_name : RowView → List Text
@@ -27,7 +24,7 @@ key_name r = texts (cell_key r.cell)
 
 -- the rows of a matrix are in order of their keys
 pub by_keys : (h : Held) (u : UniverseView) (rows : List RowView) → IsMatrix h u rows → IsAscendingBy key_name rows
-by_keys h u rows m i j d lt l = less_is _ (m.ordered i j d lt l)
+by_keys h u rows m i j d lt l = is_less _ (m.ordered i j d lt l)
 
 pub one_matrix : (h : Held) (u : UniverseView) (rows others : List RowView) → IsMatrix h u rows → IsMatrix h u others → rows ≡ others
 one_matrix h u rows others m n =
@@ -48,7 +45,7 @@ module _ (h : Held) (u : UniverseView) (is : IsUniverse u) (rows : List RowView)
       let fit : (r : RowView) → Contains rows r → IsCellOf u r.cell × Fits r.cell = λ r w. let s = sound r w in (in_cells u r.cell s.0, s.1.0) in
       let up = rows_ascend h cell_name (cells_of u) rows are (cells_ascend u is) in
       record {
-        ordered = λ i j d lt l. is_less _ (same_order fit i j d lt l ∙ up i j d lt l);
+        ordered = λ i j d lt l. less_is _ (same_order fit i j d lt l ∙ up i j d lt l);
         exact = λ r. (
           λ w. let s = sound r w in (in_cells u r.cell s.0, s.1.0, s.1.1),
           λ row. rows_complete h (cells_of u) rows are r (cells_in u r.cell row.0) (row.1, row.2),

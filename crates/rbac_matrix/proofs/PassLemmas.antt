@@ -17,6 +17,12 @@ read_at (x ∷ xs) zero lt = (x, refl)
 read_at (x ∷ xs) (suc i) lt = read_at xs i (omega arith)
 read_at [] i lt = absurd (omega arith)
 
+pub same_head : {X : Type 0} (x y : X) (xs ys : List X) → x ∷ xs ≡ y ∷ ys → x ≡ y
+same_head x y xs ys e = cc
+
+pub no_head : {X : Type 0} (x : X) (xs : List X) → x ∷ xs ≡ [] → ⊥
+no_head x xs e = cc
+
 module _ (h : Held) where
   pub passes_none : (cs : List Cell) → Passes h cs cs []
   passes_none cs = record { between = []; whole = refl; are = refl }

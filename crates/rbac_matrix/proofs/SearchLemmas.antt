@@ -2,12 +2,14 @@
 use Rattle.std.proofs.Common.{◌≡◌, ℕ, zero, suc, ◌+◌, ◌<◌, ◌≤◌, List, [], ◌∷◌, length, get_or, map, take, drop, false, Contains, Less, Equal, Greater, Ordering, refl, ap, ◌∙◌, sym, arith, inl, inr}
 use Rattle.std.specs.Prelude.{Some, Ok, Err, Result, IfOk, IfErr, slice_get}
 use Rattle.std.specs.List.Sorted.{IsBinarySearchResult, IsNonDecreasingBy, IsPartitionPoint, IsSearchInRange}
-use Rattle.std.specs.Ordering.{ordering_index, ordering_reverse, ordering_then}
+use Rattle.std.specs.Ordering.{ordering_index, ordering_reverse}
 use Rattle.std.specs.Cmp.{IsTotalOrder}
 use Rattle.std.proofs.lemmas.Bool.{cases_lt}
 use Rattle.std.proofs.lemmas.Option.{same_Some, slice_get-get_or, get_or_from_slice_get, slice_get_within}
 use Rattle.rbac_terms.specs.Text.{Text, text_cmp}
 use Rattle.rbac_model.specs.Lists.{IsAscendingBy}
+use Rattle.rbac_model.proofs.NamePlaces.{by_ordering}
+use Rattle.rbac_matrix.proofs.Orders.{not_greater, not_tied, single}
 use Rattle.rbac_matrix.proofs.PassLemmas.{read_at}
 use Rattle.std.specs.Cmp.Lexicographic.{slice_cmp}
 use Rattle.std.proofs.lemmas.List.{get_or-map, length-map}
@@ -16,11 +18,6 @@ use Rattle.rbac_terms.specs.Keys.{KeyTexts}
 use Rattle.rbac_model.specs.Universes.{UniverseView, IsUniverse, Listed}
 use Rattle.rbac_universe.proofs.Flattened.{map_contains}
 use Rattle.rbac_matrix.specs.Starting.{IsFoundAt, IsGapAt, IsTargetPlace, target_part, what_texts}
-
-by_ordering : {G : Type 0} (o : Ordering) → (o ≡ Less → G) → (o ≡ Equal → G) → (o ≡ Greater → G) → G
-by_ordering Less f g h = f refl
-by_ordering Equal f g h = g refl
-by_ordering Greater f g h = h refl
 
 index_few : (o : Ordering) → ordering_index o ≤ 2
 index_few Less = omega arith
@@ -91,30 +88,15 @@ module _ {X K : Type 0} (cmp : K → K → Ordering) (total : IsTotalOrder cmp) 
     above = λ y w. let r = in_drop xs i y w in rw (get_or_from_slice_get xs r.0 y y r.2) at (parted.1 r.0 y r.1 (slice_get_within xs r.0 y r.2));
   }
 
-  pub found_from : (r : Result ℕ ℕ) → IsSearchInRange r (length xs) → IsBinarySearchResult (λ y. cmp (name y) t) xs r → IfOk r (IsFoundAt cmp name xs t)
-  found_from (Ok i) lt at = let x = read_at xs i lt in found_at i x.0 x.1 (rw (get_or_from_slice_get xs i x.0 x.0 x.1) at (at x.0))
-  found_from (Err i) lt at = tt
-
-  pub gap_from : (r : Result ℕ ℕ) → IsSearchInRange r (length xs) → IsBinarySearchResult (λ y. cmp (name y) t) xs r → IfErr r (IsGapAt cmp name xs t)
-  gap_from (Ok i) le at = tt
-  gap_from (Err i) le at = gap_at i le (at rises)
-
-single : (o : Ordering) → ordering_then o Equal ≡ Less → o ≡ Less
-single Less e = refl
-single Equal e = cc
-single Greater e = cc
+  pub place_from : (r : Result ℕ ℕ) → IsSearchInRange r (length xs) → IsBinarySearchResult (λ y. cmp (name y) t) xs r → IfOk r (IsFoundAt cmp name xs t) × IfErr r (IsGapAt cmp name xs t)
+  place_from (Ok i) lt at = let x = read_at xs i lt in (found_at i x.0 x.1 (rw (get_or_from_slice_get xs i x.0 x.0 x.1) at (at x.0)), tt)
+  place_from (Err i) le at = (tt, gap_at i le (at rises))
 
 -- lists in order of one text
 pub by_text : {X : Type 0} (name : X → Text) (xs : List X) → IsAscendingBy (λ x. name x ∷ []) xs → (i j : ℕ) (d : X) → i < j → j < length xs → text_cmp (name (get_or xs i d)) (name (get_or xs j d)) ≡ Less
 by_text name xs up i j d lt l = single (text_cmp (name (get_or xs i d)) (name (get_or xs j d))) (up i j d lt l)
 
 -- ---- the targets of a universe
-
-not_greater : (o : Ordering) → o ≡ Less → o ≡ Greater → ⊥
-not_greater o e f = cc
-
-not_tied : (o : Ordering) → o ≡ Equal → o ≡ Greater → ⊥
-not_tied o e f = cc
 
 module _ (u : UniverseView) (is : IsUniverse u) (k : KeyTexts) where
   abbrev pub whats : List What

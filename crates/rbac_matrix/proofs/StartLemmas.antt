@@ -2,10 +2,11 @@
 use Rattle.std.proofs.Common.{◌≡◌, ℕ, ◌+◌, Bool, true, false, List, [], ◌∷◌, ◌++◌, map, take, drop, Contains, filter, Less, Equal, Greater, Ordering, refl, ap, ◌∙◌, sym, arith, subst, inl, inr, append_assoc}
 use Rattle.std.specs.Prelude.{Option, Some, None, slice_get}
 use Rattle.std.specs.List.{flat_map}
-use Rattle.std.specs.Ordering.{is_gt, ordering_then}
+use Rattle.std.specs.Ordering.{is_gt}
 use Rattle.std.specs.Cmp.Lexicographic.{slice_cmp}
 use Rattle.std.proofs.lemmas.Grind.{flat_map-append}
 use Rattle.std.proofs.lemmas.List.{map-append, take-append-drop}
+use Rattle.std.proofs.lemmas.Option.{slice_get_within}
 use Rattle.std.proofs.lemmas.List.Elements.{Contains-append_cases, Contains-append_left, Contains-append_right, filter-append}
 use Rattle.rbac_terms.specs.Text.{Text, text_cmp}
 use Rattle.rbac_terms.specs.Principals.{Who, key_of as who_key}
@@ -14,13 +15,14 @@ use Rattle.rbac_model.specs.Policies.{Held}
 use Rattle.rbac_model.specs.Universes.{UniverseView, IsUniverse, Cell, RowView, cell_key, rows_after, target_texts}
 use Rattle.rbac_universe.proofs.Flattened.{contains_flat, contains_map, here, there}
 use Rattle.rbac_matrix.specs.Cells.{AreRowsOf, cell_at, cells_of, line_cells, namespace_cells, principal_cells}
-use Rattle.rbac_matrix.specs.Lines.{LineView, cells_of_lines, line, line_cells_from, lines_from, namespace_lines, verb_lines}
+use Rattle.rbac_matrix.specs.Lines.{IsSettled, LineView, cells_of_lines, line, line_cells_from, lines_from, namespace_lines, place, verb_lines}
 use Rattle.rbac_matrix.specs.Passing.{cells_left}
-use Rattle.rbac_matrix.specs.Starting.{IsAfter, IsFoundAt, IsGapAt, IsStart, IsTargetPlace, target_part}
+use Rattle.rbac_matrix.specs.Starting.{IsAfter, IsFoundAt, IsGapAt, IsOwnLine, IsOwnPlace, IsStart, IsTargetPlace, cell_name, target_part}
 use Rattle.rbac_matrix.specs.declared.line.Place.{Place}
-use Rattle.rbac_matrix.proofs.Product.{cell_name, in_cells, in_line, in_namespace, in_principal, key_texts}
+use Rattle.rbac_matrix.proofs.Orders.{first_greater, first_less, first_tied, greater, is_greater, not_greater, same_text}
+use Rattle.rbac_matrix.proofs.Product.{in_cells, in_line, in_namespace, in_principal, key_texts}
 use Rattle.rbac_matrix.proofs.RowLemmas.{rows_sound, rows_split}
-use Rattle.rbac_matrix.proofs.LinesLemmas.{drop_at, line_first, lines_of_principal, namespaces_at, onward_whole, place}
+use Rattle.rbac_matrix.proofs.LinesLemmas.{drop_at, line_first, lines_of_principal, namespaces_at, onward_whole}
 
 -- ---- the rows after a key
 
@@ -32,25 +34,45 @@ filter_none : {X : Type 0} (q : X → Bool) (xs : List X) → ((x : X) → Conta
 filter_none q [] none = refl
 filter_none q (x ∷ xs) none = rw (is_false (q x) (none x (here x xs))) (filter_none q xs (λ y w. none y (there x xs y w)))
 
-filter_all : {X : Type 0} (q : X → Bool) (xs : List X) → ((x : X) → Contains xs x → q x ≡ true) → filter q xs ≡ xs
+pub filter_all : {X : Type 0} (q : X → Bool) (xs : List X) → ((x : X) → Contains xs x → q x ≡ true) → filter q xs ≡ xs
 filter_all q [] all = refl
 filter_all {X} q (x ∷ xs) all = rw (all x (here x xs)) (ap (λ (rest : List X). x ∷ rest) (filter_all q xs (λ y w. all y (there x xs y w))))
 
-all_rows : (h : Held) (u : UniverseView) (at : Place) (from : ℕ) (rs ss : List RowView) → (k : Option KeyTexts) → ((r : RowView) → Contains rs r → IsAfter k r.cell → ⊥) → ((r : RowView) → Contains ss r → IsAfter k r.cell) → rows_after k (rs ++ ss) ≡ ss
-all_rows h u at from [] ss None early late = refl
-all_rows h u at from (r ∷ rs) ss None early late = absurd (early r (here r rs) tt)
-all_rows h u at from rs ss (Some k) early late =
+-- a row comes after the key where its request does
+abbrev RowAfter : Option KeyTexts → RowView → Type 0
+RowAfter None r = Unit {0}
+RowAfter (Some k) r = is_gt (key_cmp (cell_key r.cell) k) ≡ true
+
+after_row : (k : Option KeyTexts) (r : RowView) → texts (cell_key r.cell) ≡ cell_name r.cell → IsAfter k r.cell → RowAfter k r
+after_row None r e after = tt
+after_row (Some k) r e after = is_greater (key_cmp (cell_key r.cell) k) (ap (λ (n : List Text). slice_cmp text_cmp n (texts k)) e ∙ after)
+
+row_after : (k : Option KeyTexts) (r : RowView) → texts (cell_key r.cell) ≡ cell_name r.cell → RowAfter k r → IsAfter k r.cell
+row_after None r e after = tt
+row_after (Some k) r e after = ap (λ (n : List Text). slice_cmp text_cmp n (texts k)) (sym e) ∙ greater (key_cmp (cell_key r.cell) k) after
+
+all_rows : (k : Option KeyTexts) (rs ss : List RowView) → ((r : RowView) → Contains rs r → RowAfter k r → ⊥) → ((r : RowView) → Contains ss r → RowAfter k r) → rows_after k (rs ++ ss) ≡ ss
+all_rows None [] ss early late = refl
+all_rows None (r ∷ rs) ss early late = absurd (early r (here r rs) tt)
+all_rows (Some k) rs ss early late =
     let q : RowView → Bool = λ row. is_gt (key_cmp (cell_key row.cell) k) in
     filter-append q rs ss ∙ rw (filter_none q rs early, filter_all q ss late) refl
 
 -- the rows of what is left from the start are those after the key
-pub start_rows : (h : Held) (u : UniverseView) (k : Option KeyTexts) (at : Place) (from : ℕ) (rows : List RowView) → IsStart u k at from → AreRowsOf h (cells_of u) rows → AreRowsOf h (cells_left u at from) (rows_after k rows)
-start_rows h u k at from rows s are =
-    let split = rows_split h s.before (cells_left u at from) rows (subst (λ (cs : List Cell). AreRowsOf h cs rows) s.whole are) in
-    let same : rows_after k rows ≡ split.1 = ap (rows_after k) split.4 ∙ all_rows h u at from split.0 split.1 k
-    (λ r w. let has = rows_sound h s.before split.0 split.2 r w in s.early r.cell has.0 has.1.0)
-    (λ r w. let has = rows_sound h (cells_left u at from) split.1 split.3 r w in s.late r.cell has.0 has.1.0) in
-    subst (λ (rs : List RowView). AreRowsOf h (cells_left u at from) rs) (sym same) split.3
+pub start_rows : (h : Held) (u : UniverseView) → IsUniverse u → (k : Option KeyTexts) (at : Place) (from : ℕ) (rows : List RowView) → IsStart u k at from → AreRowsOf h (cells_of u) rows → AreRowsOf h (cells_left u at from) (rows_after k rows)
+start_rows h u is k at from rows s are =
+    let left = cells_left u at from in
+    let split = rows_split h s.before left rows (subst (λ (cs : List Cell). AreRowsOf h cs rows) s.whole are) in
+    let same : rows_after k rows ≡ split.1 = ap (rows_after k) split.4 ∙ all_rows k split.0 split.1
+    (λ r w after.
+    let has = rows_sound h s.before split.0 split.2 r w in
+    let name = key_texts u r.cell is (in_cells u r.cell (rw s.whole (Contains-append_left s.before left r.cell has.0))) has.1.0 in
+    s.early r.cell has.0 (row_after k r name after))
+    (λ r w.
+    let has = rows_sound h left split.1 split.3 r w in
+    let name = key_texts u r.cell is (in_cells u r.cell (rw s.whole (Contains-append_right s.before left r.cell has.0))) has.1.0 in
+    after_row k r name (s.late r.cell has.0)) in
+    subst (λ (rs : List RowView). AreRowsOf h left rs) (sym same) split.3
 
 -- ---- requests that stand on one side or the other
 
@@ -58,9 +80,6 @@ pub record Cut (O : Cell → Ordering) (cs before left : List Cell) : Type 0 whe
   pub whole : cs ≡ before ++ left
   pub early : (c : Cell) → Contains before c → O c ≡ Greater → ⊥
   pub late : (c : Cell) → Contains left c → O c ≡ Greater
-
-not_greater : (o : Ordering) → o ≡ Less → o ≡ Greater → ⊥
-not_greater o e f = cc
 
 module _ {X : Type 0} (O : Cell → Ordering) (f : X → List Cell) (xs : List X) where
   pub cut_gap : (i : ℕ) → ((x : X) → Contains (take i xs) x → (c : Cell) → Contains (f x) c → O c ≡ Less) → ((x : X) → Contains (drop i xs) x → (c : Cell) → Contains (f x) c → O c ≡ Greater) → Cut O (flat_map f xs) (flat_map f (take i xs)) (flat_map f (drop i xs))
@@ -102,23 +121,6 @@ module _ (k : KeyTexts) where
   abbrev pub by_target : Cell → Ordering
   by_target c = slice_cmp text_cmp (target_texts c.target) (target_part k)
 
-greater_of : (o : Ordering) → is_gt o ≡ true → o ≡ Greater
-greater_of Less e = cc
-greater_of Equal e = cc
-greater_of Greater e = refl
-
-greater_is : (o : Ordering) → o ≡ Greater → is_gt o ≡ true
-greater_is o e = rw e refl
-
-first_less : (o p : Ordering) → o ≡ Less → ordering_then o p ≡ Less
-first_less o p e = rw e refl
-
-first_greater : (o p : Ordering) → o ≡ Greater → ordering_then o p ≡ Greater
-first_greater o p e = rw e refl
-
-first_tied : (o p : Ordering) → o ≡ Equal → ordering_then o p ≡ p
-first_tied o p e = rw e refl
-
 -- ---- the requests that are left, list by list
 
 flat_same : {X Y : Type 0} (f g : X → List Y) → ((x : X) → f x ≡ g x) → (xs : List X) → flat_map f xs ≡ flat_map g xs
@@ -154,16 +156,13 @@ module _ (u : UniverseView) where
       ∙ flat_flat (line_cells_from u 0) (namespace_lines u 0 0) (drop p u.principals)
       ∙ flat_same (λ (who : Who). flat_map (line_cells_from u 0) (namespace_lines u 0 0 who)) (principal_cells u) (λ who. names_flat who 0) (drop p u.principals)
 
-  flat_from : (at : Place) → cells_left u at 0 ≡ flat_map (line_cells_from u 0) (lines_from u at)
-  flat_from at = onward_whole (line_cells_from u 0) (lines_from u at)
-
   -- the requests from a principal, a namespace, a verb or a target on
-  pub left_of_principal : (p : ℕ) (at : Place) → lines_from u at ≡ lines_from u (place p 0 0) → cells_left u at 0 ≡ flat_map (principal_cells u) (drop p u.principals)
-  left_of_principal p at e = flat_from at ∙ ap (flat_map (line_cells_from u 0)) e ∙ all_flat p
+  left_of_principal : (p : ℕ) → cells_left u (place p 0 0) 0 ≡ flat_map (principal_cells u) (drop p u.principals)
+  left_of_principal p = onward_whole (line_cells_from u 0) (lines_from u (place p 0 0)) ∙ all_flat p
 
-  pub left_of_namespace : (p n : ℕ) (who : Who) (at : Place) → slice_get u.principals p ≡ Some who → lines_from u at ≡ lines_from u (place p n 0) → cells_left u at 0 ≡ flat_map (namespace_cells u who) (drop n u.namespaces) ++ flat_map (principal_cells u) (drop (p + 1) u.principals)
-  left_of_namespace p n who at a e =
-      flat_from at ∙ ap (flat_map (line_cells_from u 0)) (e ∙ lines_of_principal u p n 0 who a)
+  left_of_namespace : (p n : ℕ) (who : Who) → slice_get u.principals p ≡ Some who → cells_left u (place p n 0) 0 ≡ flat_map (namespace_cells u who) (drop n u.namespaces) ++ flat_map (principal_cells u) (drop (p + 1) u.principals)
+  left_of_namespace p n who a =
+      onward_whole (line_cells_from u 0) (lines_from u (place p n 0)) ∙ ap (flat_map (line_cells_from u 0)) (lines_of_principal u p n 0 who a)
       ∙ flat_map-append (line_cells_from u 0) (namespace_lines u n 0 who) (lines_from u (place (p + 1) 0 0))
       ∙ rw (names_flat who n, all_flat (p + 1)) refl
 
@@ -174,9 +173,9 @@ module _ (u : UniverseView) where
       (ap (flat_map (line_cells_from u 0)) (namespaces_at u who n v ns b) ∙ flat_map-append (line_cells_from u 0) (verb_lines u who v ns) (namespace_lines u (n + 1) 0 who))
       ∙ rw (verbs_flat who ns v, names_flat who (n + 1), all_flat (p + 1)) refl
 
-  pub left_of_verb : (p n v : ℕ) (who : Who) (ns : Text) (at : Place) → slice_get u.principals p ≡ Some who → slice_get u.namespaces n ≡ Some ns → lines_from u at ≡ lines_from u (place p n v) → cells_left u at 0 ≡ (flat_map (line_cells u who ns) (drop v u.verbs) ++ flat_map (namespace_cells u who) (drop (n + 1) u.namespaces)) ++ flat_map (principal_cells u) (drop (p + 1) u.principals)
-  left_of_verb p n v who ns at a b e =
-      flat_from at ∙ ap (flat_map (line_cells_from u 0)) (e ∙ lines_of_principal u p n v who a) ∙ later_names p n v who ns b
+  left_of_verb : (p n v : ℕ) (who : Who) (ns : Text) → slice_get u.principals p ≡ Some who → slice_get u.namespaces n ≡ Some ns → cells_left u (place p n v) 0 ≡ (flat_map (line_cells u who ns) (drop v u.verbs) ++ flat_map (namespace_cells u who) (drop (n + 1) u.namespaces)) ++ flat_map (principal_cells u) (drop (p + 1) u.principals)
+  left_of_verb p n v who ns a b =
+      onward_whole (line_cells_from u 0) (lines_from u (place p n v)) ∙ ap (flat_map (line_cells_from u 0)) (lines_of_principal u p n v who a) ∙ later_names p n v who ns b
 
   line_cells_are : (from : ℕ) (l : LineView) → line_cells_from u from l ≡ map (cell_at l.who l.namespace l.verb) (drop from u.targets)
   unfolding line_cells_from
@@ -247,29 +246,62 @@ module _ (u : UniverseView) where
         cut
 
     -- a cut of all requests is the start of what is left
-    pub start_of_cut : IsUniverse u → (at : Place) (from : ℕ) (before left : List Cell) → Cut (by_all k) (cells_of u) before left → cells_left u at from ≡ left → IsStart u (Some k) at from
-    start_of_cut is at from before left cut e = record {
+    start_of_cut : (at : Place) (from : ℕ) (before left : List Cell) → Cut (by_all k) (cells_of u) before left → cells_left u at from ≡ left → IsStart u (Some k) at from
+    start_of_cut at from before left cut e = record {
       before = before;
       whole = cut.whole ∙ ap (λ (cs : List Cell). before ++ cs) (sym e);
-      early = λ c w fits after. cut.early c w (greater_of _ (subst (λ (n : List Text). is_gt (slice_cmp text_cmp n (texts k)) ≡ true) (key_texts u c is (in_cells u c (rw cut.whole (Contains-append_left before left c w))) fits) after));
-      late = λ c w fits.
-          let v : Contains left c = subst (λ (cs : List Cell). Contains cs c) e w in
-          subst (λ (n : List Text). is_gt (slice_cmp text_cmp n (texts k)) ≡ true) (sym (key_texts u c is (in_cells u c (rw cut.whole (Contains-append_right before left c v))) fits)) (greater_is _ (cut.late c v));
+      early = cut.early;
+      late = λ c w. cut.late c (subst (λ (cs : List Cell). Contains cs c) e w);
     }
 
-    module _ (is : IsUniverse u) where
-      pub start_principal_gap : (p : ℕ) (at : Place) → IsGapAt text_cmp who_key u.principals k.principal p → lines_from u at ≡ lines_from u (place p 0 0) → IsStart u (Some k) at 0
-      start_principal_gap p at g e = start_of_cut is at 0 _ _ (cut_principal_gap p g) (left_of_principal p at e)
+    pub start_principal_gap : (p : ℕ) → IsGapAt text_cmp who_key u.principals k.principal p → IsStart u (Some k) (place p 0 0) 0
+    start_principal_gap p g = start_of_cut (place p 0 0) 0 _ _ (cut_principal_gap p g) (left_of_principal p)
 
-      pub start_namespace_gap : (p n : ℕ) (at : Place) (f : IsFoundAt text_cmp who_key u.principals k.principal p) → IsGapAt text_cmp (λ w. w) u.namespaces k.namespace n → lines_from u at ≡ lines_from u (place p n 0) → IsStart u (Some k) at 0
-      start_namespace_gap p n at f g e = start_of_cut is at 0 _ _ (cut_principal p _ _ f (cut_namespace_gap f.here.0 n g)) (left_of_namespace p n f.here.0 at f.here.1 e)
+    pub start_namespace_gap : (p n : ℕ) (f : IsFoundAt text_cmp who_key u.principals k.principal p) → IsGapAt text_cmp (λ w. w) u.namespaces k.namespace n → IsStart u (Some k) (place p n 0) 0
+    start_namespace_gap p n f g = start_of_cut (place p n 0) 0 _ _ (cut_principal p _ _ f (cut_namespace_gap f.here.0 n g)) (left_of_namespace p n f.here.0 f.here.1)
 
-      pub start_verb_gap : (p n v : ℕ) (at : Place) (f : IsFoundAt text_cmp who_key u.principals k.principal p) (g : IsFoundAt text_cmp (λ w. w) u.namespaces k.namespace n) → IsGapAt text_cmp (λ w. w) u.verbs k.verb v → lines_from u at ≡ lines_from u (place p n v) → IsStart u (Some k) at 0
-      start_verb_gap p n v at f g h e = start_of_cut is at 0 _ _ (cut_principal p _ _ f (cut_namespace f.here.0 n _ _ g (cut_verb_gap f.here.0 g.here.0 v h))) (left_of_verb p n v f.here.0 g.here.0 at f.here.1 g.here.1 e)
+    pub start_verb_gap : (p n v : ℕ) (f : IsFoundAt text_cmp who_key u.principals k.principal p) (g : IsFoundAt text_cmp (λ w. w) u.namespaces k.namespace n) → IsGapAt text_cmp (λ w. w) u.verbs k.verb v → IsStart u (Some k) (place p n v) 0
+    start_verb_gap p n v f g h = start_of_cut (place p n v) 0 _ _ (cut_principal p _ _ f (cut_namespace f.here.0 n _ _ g (cut_verb_gap f.here.0 g.here.0 v h))) (left_of_verb p n v f.here.0 g.here.0 f.here.1 g.here.1)
 
-      pub start_found : (p n v from : ℕ) (f : IsFoundAt text_cmp who_key u.principals k.principal p) (g : IsFoundAt text_cmp (λ w. w) u.namespaces k.namespace n) (h : IsFoundAt text_cmp (λ w. w) u.verbs k.verb v) → IsTargetPlace u k from → IsStart u (Some k) (place p n v) from
-      start_found p n v from f g h t = start_of_cut is (place p n v) from _ _ (cut_principal p _ _ f (cut_namespace f.here.0 n _ _ g (cut_verb f.here.0 g.here.0 v _ _ h (cut_targets f.here.0 g.here.0 h.here.0 from t)))) (left_of_target p n v from f.here.0 g.here.0 h.here.0 f.here.1 g.here.1 h.here.1)
+    module _ (at : Place) (own : IsOwnPlace u k at) where
+      abbrev who : Who
+      who = own.principal.here.0
+
+      abbrev namespace : Text
+      namespace = own.namespace.here.0
+
+      abbrev verb : Text
+      verb = own.verb.here.0
+
+      pub start_found : (from : ℕ) → IsTargetPlace u k from → IsStart u (Some k) at from
+      start_found from t = start_of_cut at from _ _
+          (cut_principal at.principal _ _ own.principal (cut_namespace who at.namespace _ _ own.namespace (cut_verb who namespace at.verb _ _ own.verb (cut_targets who namespace verb from t))))
+          (left_of_target at.principal at.namespace at.verb from who namespace verb own.principal.here.1 own.namespace.here.1 own.verb.here.1)
+
+      pub own_settled : IsSettled u at
+      own_settled = inl (slice_get_within u.principals at.principal who own.principal.here.1, slice_get_within u.namespaces at.namespace namespace own.namespace.here.1, slice_get_within u.verbs at.verb verb own.verb.here.1)
+
+      pub own_line : IsOwnLine u (Some k) at
+      own_line = (
+        line who namespace verb,
+        lines_from u (place at.principal at.namespace (at.verb + 1)),
+        line_first u at.principal at.namespace at.verb who namespace verb own.principal.here.1 own.namespace.here.1 own.verb.here.1,
+        same_text (who_key who) k.principal own.principal.here.2,
+        same_text namespace k.namespace own.namespace.here.2,
+        same_text verb k.verb own.verb.here.2,
+      )
+
+  -- at a place with the same lines the same begins
+  pub start_same : (k : Option KeyTexts) (at to : Place) → lines_from u at ≡ lines_from u to → IsStart u k to 0 → IsStart u k at 0
+  start_same k at to e s =
+      let left : cells_left u at 0 ≡ cells_left u to 0 = ap (cells_of_lines u 0) e in
+      record {
+        before = s.before;
+        whole = s.whole ∙ ap (λ (cs : List Cell). s.before ++ cs) (sym left);
+        early = s.early;
+        late = λ c w. s.late c (subst (λ (cs : List Cell). Contains cs c) left w);
+      }
 
   -- without a key all begins with the first line
-  pub start_first : (at : Place) → lines_from u at ≡ lines_from u (place 0 0 0) → IsStart u None at 0
-  start_first at e = record { before = []; whole = sym (left_of_principal 0 at e); early = λ c w fits after. absurd (omega (arith, w.1)); late = λ c w fits. tt }
+  pub start_first : IsStart u None (place 0 0 0) 0
+  start_first = record { before = []; whole = sym (left_of_principal 0); early = λ c w after. absurd (omega (arith, w.1)); late = λ c w. tt }

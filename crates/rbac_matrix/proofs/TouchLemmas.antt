@@ -174,14 +174,7 @@ module _ (p : PolicyView) (u : UniverseView) (start : Place) (sought : ℕ) wher
   }
 
   pub metered_on : (at : Place) (old seats : List Seat) (given m m' : ℕ) → IsMetered p u start sought at old given m → Costs 0 0 old seats m m' → IsMetered p u start sought at seats given m'
-  metered_on at old seats given m m' h c = record {
-    total = h.total + c.total;
-    meter = rw (← raised-raised, ← h.meter) c.meter;
-    low = omega (arith, h.low, c.low);
-    behind = h.behind;
-    whole = h.whole;
-    high = λ n touched. omega (arith, h.high n touched, c.high);
-  }
+  metered_on at old seats given m m' h c = let same : given + 0 ≡ given = omega arith in rw same at (metered_more at old seats given 0 m m' h c)
 
   -- lines without cursors are passed, with empty seats or others
   pub metered_skip : (at to : Place) (seats : List Seat) (given m : ℕ) (between : List LineView) → lines_from u at ≡ between ++ lines_from u to → IsMetered p u start sought at seats given m → IsMetered p u start sought to seats given m

@@ -2,10 +2,10 @@
 use Rattle.std.specs.Prelude.{◌≡◌, ℕ, ◌↔◌, List, [], ◌∷◌, ◌++◌, Option, MatchOption, length}
 use Rattle.std.specs.Iterator.{Count, at_most}
 use Rattle.rbac_model.specs.Policies.{IsPolicy}
-use Rattle.rbac_model.specs.Universes.{IsUniverse, RowView}
+use Rattle.rbac_model.specs.Universes.{Cell, IsUniverse, RowView}
 use Rattle.rbac_matrix.specs.Cells.{AreRowsOf}
 use Rattle.rbac_matrix.specs.Cursors.{AreRunsAt}
-use Rattle.rbac_matrix.specs.Lines.{LineView, lines_from}
+use Rattle.rbac_matrix.specs.Lines.{LineView, line, lines_from}
 use Rattle.rbac_matrix.specs.Metering.{IsMetered, IsReady}
 use Rattle.rbac_matrix.specs.Passing.{cells_left}
 use Rattle.rbac_index.specs.Reaches.{AreReaches, raised}
@@ -24,10 +24,15 @@ requests_left s = length (cells_left s.universe.now s.at s.from)
 abbrev pub left_at_most : Rows → Count
 left_at_most s = at_most (requests_left s)
 
--- a row was given, which is the first of those that are left, and the others are left
+-- the last line that was entered is that of the request
+abbrev pub IsOnLine : Rows → Cell → Type 0
+IsOnLine s c = (ls : List LineView) × (lines_from s.universe.now s.at ≡ line c.who c.namespace c.verb ∷ ls)
+
+-- a row was given, which is the first of those that are left, and the others are left; no line past its own was entered
 pub record GivesRow (s : Rows) (r : Row) (t : Rows) : Type 0 where
   pub row : RowView
   pub shows : Shows r row
+  pub on : IsOnLine t row.cell
   pub left : (all : List RowView) → AreLeft s all ↔ ((others : List RowView) × (all ≡ row ∷ others) × AreLeft t others)
 
 -- a call gave the first row of those that are left, or nothing where none is left

@@ -31,9 +31,12 @@ namespace_lines u n v who = onward (verb_lines u who v) (verb_lines u who 0) (dr
 unfoldable pub lines_from : UniverseView → Place → List LineView
 lines_from u at = onward (namespace_lines u at.namespace at.verb) (namespace_lines u 0 0) (drop at.principal u.principals)
 
--- the place after a line
+-- the place of a principal, a namespace and a verb, and the one after a line
+abbrev pub place : ℕ → ℕ → ℕ → Place
+place p n v = record { principal = p; namespace = n; verb = v }
+
 abbrev pub next_verb : Place → Place
-next_verb at = record { principal = at.principal; namespace = at.namespace; verb = at.verb + 1 }
+next_verb at = place at.principal at.namespace (at.verb + 1)
 
 -- the place is that of the line
 pub record IsLineAt (u : UniverseView) (at : Place) (l : LineView) : Type 0 where

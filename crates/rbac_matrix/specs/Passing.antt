@@ -19,14 +19,22 @@ pub record Passes (h : Held) (cs ds : List Cell) (rows : List RowView) : Type 0 
 abbrev pub cell_of : LineView → Listed → Cell
 cell_of l t = cell_at l.who l.namespace l.verb t
 
--- the row of a target's place on a line, by the grant of that number, was the next one
-pub record FindsRow (p : PolicyView) (u : UniverseView) (rs : List (List ℕ)) (l : LineView) (from : ℕ) (seats : List Seat) (place number : ℕ) : Type 0 where
+-- a target at that place and the grant of that number, for a request of the line that fits
+pub record IsRowOn (p : PolicyView) (u : UniverseView) (l : LineView) (place number : ℕ) : Type 0 where
   pub target : Listed
   pub grant : GrantView
   pub target_at : slice_get u.targets place ≡ Some target
   pub grant_at : slice_get p.grants number ≡ Some grant
-  pub passes : Passes p.held (line_cells_from u from l) (line_cells_from u (place + 1) l) (record { cell = cell_of l target; binding = grant.binding } ∷ [])
   pub fits : Fits (cell_of l target)
+
+-- its row
+abbrev pub row_on : (p : PolicyView) (u : UniverseView) (l : LineView) (place number : ℕ) → IsRowOn p u l place number → RowView
+row_on p u l place number r = record { cell = cell_of l r.target; binding = r.grant.binding }
+
+-- the row of a target's place on a line, by the grant of that number, was the next one
+pub record FindsRow (p : PolicyView) (u : UniverseView) (rs : List (List ℕ)) (l : LineView) (from : ℕ) (seats : List Seat) (place number : ℕ) : Type 0 where
+  pub found : IsRowOn p u l place number
+  pub passes : Passes p.held (line_cells_from u from l) (line_cells_from u (place + 1) l) (row_on p u l place number found ∷ [])
   pub seated : AreSeated p l rs (place + 1) seats
 
 -- a line has no further row
@@ -45,12 +53,8 @@ pub record FindsCell (p : PolicyView) (u : UniverseView) (rs : List (List ℕ)) 
   pub line : LineView
   pub others : List LineView
   pub line_at : lines_from u to ≡ line ∷ others
-  pub target : Listed
-  pub grant : GrantView
-  pub target_at : slice_get u.targets place ≡ Some target
-  pub grant_at : slice_get p.grants number ≡ Some grant
-  pub fits : Fits (cell_of line target)
-  pub passes : Passes p.held (cells_left u at from) (cells_left u to (place + 1)) (record { cell = cell_of line target; binding = grant.binding } ∷ [])
+  pub found : IsRowOn p u line place number
+  pub passes : Passes p.held (cells_left u at from) (cells_left u to (place + 1)) (row_on p u line place number found ∷ [])
   pub ready : IsReady p u rs to (place + 1) seats
 
 -- there was no further row

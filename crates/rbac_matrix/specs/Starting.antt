@@ -1,28 +1,39 @@
 -- Where the rows after a key begin.
-use Rattle.std.specs.Prelude.{◌≡◌, ℕ, ◌+◌, ◌≤◌, true, List, [], ◌∷◌, ◌++◌, Contains, Option, Some, None, take, drop, length, slice_get}
-use Rattle.std.specs.Ordering.{is_gt}
+use Rattle.std.specs.Prelude.{◌≡◌, ℕ, ◌+◌, ◌≤◌, List, [], ◌∷◌, ◌++◌, Contains, Option, Some, None, take, drop, length, slice_get}
 use Rattle.std.specs.declared.cmp.Ordering.{Ordering}
 use Rattle.std.specs.declared.cmp.Ordering.TheVariants.{Less, Equal, Greater}
 use Rattle.std.specs.Cmp.Lexicographic.{slice_cmp}
 use Rattle.rbac_terms.specs.Text.{Text, text_cmp}
 use Rattle.rbac_terms.specs.Targets.{What, group_of, text_of, name_of}
-use Rattle.rbac_terms.specs.Keys.{KeyTexts, key_cmp}
-use Rattle.rbac_model.specs.Universes.{UniverseView, Listed, Cell, Fits, cell_key, target_texts}
+use Rattle.rbac_terms.specs.Principals.{key_of as who_key}
+use Rattle.rbac_terms.specs.Keys.{KeyTexts, texts}
+use Rattle.rbac_model.specs.Universes.{UniverseView, Listed, Cell, target_texts}
 use Rattle.rbac_matrix.specs.Cells.{cells_of}
+use Rattle.rbac_matrix.specs.Lines.{LineView, lines_from}
 use Rattle.rbac_matrix.specs.Passing.{cells_left}
 use Rattle.rbac_matrix.specs.declared.line.Place.{Place}
 
--- the key of a request is greater than the one given; without one all are meant
+-- the texts by which requests are in order: those of its key, but with the namespace also where it is for a URL
+abbrev pub cell_name : Cell → List Text
+cell_name c = who_key c.who ∷ c.namespace ∷ c.verb ∷ target_texts c.target
+
+-- a request comes after the key; without one all do
 abbrev pub IsAfter : Option KeyTexts → Cell → Type 0
 IsAfter None c = Unit {0}
-IsAfter (Some k) c = is_gt (key_cmp (cell_key c) k) ≡ true
+IsAfter (Some k) c = slice_cmp text_cmp (cell_name c) (texts k) ≡ Greater
 
--- of the requests that fit, those from the place on have a greater key, and those before it haven't
+-- the requests from the place on, whether they fit or not, come after the key, and those before it don't
 pub record IsStart (u : UniverseView) (k : Option KeyTexts) (at : Place) (from : ℕ) : Type 0 where
   pub before : List Cell
   pub whole : cells_of u ≡ before ++ cells_left u at from
-  pub early : (c : Cell) → Contains before c → Fits c → IsAfter k c → ⊥
-  pub late : (c : Cell) → Contains (cells_left u at from) c → Fits c → IsAfter k c
+  pub early : (c : Cell) → Contains before c → IsAfter k c → ⊥
+  pub late : (c : Cell) → Contains (cells_left u at from) c → IsAfter k c
+
+-- the line at the place is the key's own
+abbrev pub IsOwnLine : UniverseView → Option KeyTexts → Place → Type 0
+IsOwnLine u None at = ⊥
+IsOwnLine u (Some k) at =
+    (l : LineView) × (ls : List LineView) × (lines_from u at ≡ l ∷ ls) × (who_key l.who ≡ k.principal) × (l.namespace ≡ k.namespace) × (l.verb ≡ k.verb)
 
 -- what ties with t stands at that place of an ascending list
 pub record IsFoundAt {X K : Type 0} (cmp : K → K → Ordering) (name : X → K) (xs : List X) (t : K) (i : ℕ) : Type 0 where
@@ -35,6 +46,12 @@ pub record IsGapAt {X K : Type 0} (cmp : K → K → Ordering) (name : X → K) 
   pub within : i ≤ length xs
   pub below : (x : X) → Contains (take i xs) x → cmp (name x) t ≡ Less
   pub above : (x : X) → Contains (drop i xs) x → cmp (name x) t ≡ Greater
+
+-- the principal, the namespace and the verb of a key stand at that place
+pub record IsOwnPlace (u : UniverseView) (k : KeyTexts) (at : Place) : Type 0 where
+  pub principal : IsFoundAt text_cmp who_key u.principals k.principal at.principal
+  pub namespace : IsFoundAt text_cmp (λ n. n) u.namespaces k.namespace at.namespace
+  pub verb : IsFoundAt text_cmp (λ v. v) u.verbs k.verb at.verb
 
 -- the texts by which targets are ordered, and those of a key
 abbrev pub what_texts : What → List Text

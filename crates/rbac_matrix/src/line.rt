@@ -2,7 +2,8 @@
 
 ghost use Rattle.std.specs.Prelude.{◌≡◌, ◌∷◌, [], ◌<◌, ◌≤◌, ◌+◌, length, IfSome, MatchOption};
 ghost use Rattle.rbac_model.specs.Universes.{IsUniverse};
-ghost use Rattle.rbac_matrix.specs.Lines.{LineView, IsLineAt, IsSettled, lines_from, next_verb};
+ghost use Rattle.rbac_universe.specs.Sets.{IsWithinLimits};
+ghost use Rattle.rbac_matrix.specs.Lines.{LineView, IsLineAt, IsSettled, lines_from, next_verb, place};
 ghost use Rattle.rbac_matrix.specs.Shown.{line_of};
 
 use rbac_terms::{Principal, Word};
@@ -14,6 +15,26 @@ pub(crate) struct Place {
     pub(crate) principal: usize,
     pub(crate) namespace: usize,
     pub(crate) verb: usize,
+}
+
+impl Place {
+    // That of the first line of a principal.
+    pub(crate) fn of_principal(principal: usize) -> Self
+        ensures { result ≡ place principal 0 0 }
+    {
+        Place::of_namespace(principal, 0)
+    }
+
+    // That of the first line of a principal in a namespace.
+    pub(crate) fn of_namespace(principal: usize, namespace: usize) -> Self
+        ensures { result ≡ place principal namespace 0 }
+    {
+        Place {
+            principal,
+            namespace,
+            verb: 0,
+        }
+    }
 }
 
 /// Who, where, and to do what.
@@ -28,6 +49,7 @@ pub(crate) struct Line<'a> {
 pub(crate) fn line_at<'a>(universe: &'a Universe, at: Place) -> Option<Line<'a>>
     requires { IsSettled universe.now at }
     ensures universe { IsUniverse universe.now }
+    ensures limits { IsWithinLimits universe.now }
     ensures few { IfSome result (λ _. (at.principal < 65535) × (at.namespace < 65535) × (at.verb < 65535)) }
     ensures place { IfSome result (λ line. IsLineAt universe.now at (line_of line)) }
     ensures line { MatchOption result (lines_from universe.now at ≡ [])
@@ -61,11 +83,7 @@ fn after_verbs(universe: &Universe, at: Place) -> Place
     let namespaces = universe.namespaces().len();
     let verbs = universe.verbs().len();
     if at.namespace < namespaces && verbs <= at.verb {
-        return Place {
-            principal: at.principal,
-            namespace: at.namespace + 1,
-            verb: 0,
-        };
+        return Place::of_namespace(at.principal, at.namespace + 1);
     }
     at
 }
@@ -79,11 +97,7 @@ fn after_namespaces(universe: &Universe, at: Place) -> Place
     let principals = universe.principals().len();
     let namespaces = universe.namespaces().len();
     if at.principal < principals && namespaces <= at.namespace {
-        return Place {
-            principal: at.principal + 1,
-            namespace: 0,
-            verb: 0,
-        };
+        return Place::of_principal(at.principal + 1);
     }
     at
 }

@@ -2,6 +2,7 @@
 
 ghost use Rattle.std.specs.Prelude.{◌≡◌, ◌+◌, ◌<◌, ◌≤◌, ◌↔◌, ℕ, IsTrue, length};
 ghost use Rattle.std.specs.List.{slice_index_or};
+ghost use Rattle.std.specs.List.Sorted.{IsStrictlyIncreasing};
 ghost use Rattle.rbac_index.specs.Reaches.{raised};
 ghost use Rattle.rbac_matrix.specs.Seats.{IsSeated, IsFirstFrom, ReadsAtMost, SeatCosts, empty_seat, past_all};
 
@@ -48,6 +49,7 @@ fn seat_in(reach: &Reach, position: usize, meter: &mut Meter) -> Seat
     ensures place { result.place ≡ slice_index_or reach.now position past_all }
     ensures read { position < length reach.now → meter.new ≡ raised meter.old 1 }
     ensures unread { length reach.now ≤ position → meter.new ≡ meter.old }
+    ensures ascending { IsStrictlyIncreasing reach.now }
 {
     if position < reach.len() {
         Seat {
@@ -104,8 +106,5 @@ pub(crate) fn seat_after(reach: &Reach, seat: Seat, meter: &mut Meter) -> Seat
     ensures seated { IsSeated reach.now (seat.place + 1) result }
     ensures costs { SeatCosts 0 1 seat result meter.old meter.new }
 {
-    if seat.position as usize >= reach.len() {
-        return seat;
-    }
     seat_in(reach, seat.position as usize + 1, meter)
 }

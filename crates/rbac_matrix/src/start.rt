@@ -1,6 +1,6 @@
 //! Where the rows after a key begin.
 
-ghost use Rattle.std.specs.Prelude.{Some, ◌≡◌, [], ◌∷◌, ◌≤◌, IfOk, IfErr};
+ghost use Rattle.std.specs.Prelude.{Some, ◌≡◌, ◌⊎◌, [], ◌∷◌, ◌≤◌, IfOk, IfErr};
 ghost use Rattle.std.specs.Option.{option_copied};
 ghost use Rattle.std.specs.Cmp.Lexicographic.{slice_cmp};
 ghost use Rattle.rbac_terms.specs.Text.{text_cmp};
@@ -13,7 +13,7 @@ ghost use Rattle.rbac_model.specs.Universes.{IsUniverse};
 ghost use Rattle.rbac_matrix.specs.Metering.{AreSought, IsMetered, IsReady};
 ghost use Rattle.rbac_index.specs.Reaches.{AreReaches};
 ghost use Rattle.rbac_matrix.specs.Seats.{AreEmpty};
-ghost use Rattle.rbac_matrix.specs.Starting.{IsFoundAt, IsGapAt, IsStart, IsTargetPlace, target_part, what_texts};
+ghost use Rattle.rbac_matrix.specs.Starting.{IsFoundAt, IsGapAt, IsOwnLine, IsOwnPlace, IsStart, IsTargetPlace, target_part, what_texts};
 
 use crate::bound::Runs;
 use crate::line::{Place, line_at, settled};
@@ -62,13 +62,45 @@ fn cmp_target(target: &Target, key: &Key) -> Ordering
 
 // The place after the targets that aren't past that of the key.
 fn target_place(universe: &Universe, key: &Key) -> usize
-    ensures { IsTargetPlace universe.now key.now result }
+    ensures place { IsTargetPlace universe.now key.now result }
+    ensures few { result ≤ 1000000 }
 {
     let targets = universe.targets();
     match targets.binary_search_by(|target| cmp_target(target, key)) {
         Ok(place) => place + 1,
         Err(place) => place,
     }
+}
+
+// The place of the key's own line; where there is none, that from which the lines past it stand.
+fn line_place(universe: &Universe, key: &Key) -> Result<Place, Place>
+    ensures found { IfOk result (IsOwnPlace universe.now key.now) }
+    ensures gap { IfErr result (λ at. IsStart universe.now (Some key.now) at 0) }
+    ensures universe { IsUniverse universe.now }
+{
+    let principal = match principal_place(universe, key) {
+        Ok(place) => place,
+        Err(place) => return Err(Place::of_principal(place)),
+    };
+    let namespace = match word_place(universe.namespaces(), key.field(1)) {
+        Ok(place) => place,
+        Err(place) => return Err(Place::of_namespace(principal, place)),
+    };
+    let verb = match word_place(universe.verbs(), key.field(2)) {
+        Ok(place) => place,
+        Err(place) => {
+            return Err(Place {
+                principal,
+                namespace,
+                verb: place,
+            });
+        }
+    };
+    Ok(Place {
+        principal,
+        namespace,
+        verb,
+    })
 }
 
 // The start of a line, of the next one where there is none at the place.
@@ -87,54 +119,15 @@ fn line_start(universe: &Universe, at: Place) -> Start
 fn start_at(universe: &Universe, key: &Key) -> Start
     ensures settled { IsSettled universe.now result.at }
     ensures start { IsStart universe.now (Some key.now) result.at result.from }
+    ensures own { (result.from ≡ 0) ⊎ IsOwnLine universe.now (Some key.now) result.at }
     ensures few { result.from ≤ 1000000 }
 {
-    let principal = match principal_place(universe, key) {
-        Ok(place) => place,
-        Err(place) => {
-            return line_start(
-                universe,
-                Place {
-                    principal: place,
-                    namespace: 0,
-                    verb: 0,
-                },
-            );
-        }
-    };
-    let namespace = match word_place(universe.namespaces(), key.field(1)) {
-        Ok(place) => place,
-        Err(place) => {
-            return line_start(
-                universe,
-                Place {
-                    principal,
-                    namespace: place,
-                    verb: 0,
-                },
-            );
-        }
-    };
-    let verb = match word_place(universe.verbs(), key.field(2)) {
-        Ok(place) => place,
-        Err(place) => {
-            return line_start(
-                universe,
-                Place {
-                    principal,
-                    namespace,
-                    verb: place,
-                },
-            );
-        }
-    };
-    Start {
-        at: Place {
-            principal,
-            namespace,
-            verb,
+    match line_place(universe, key) {
+        Ok(at) => Start {
+            at,
+            from: target_place(universe, key) as u32,
         },
-        from: target_place(universe, key) as u32,
+        Err(at) => line_start(universe, at),
     }
 }
 
@@ -142,18 +135,12 @@ fn start_at(universe: &Universe, key: &Key) -> Start
 pub(crate) fn start_after(universe: &Universe, key: Option<&Key>) -> Start
     ensures settled { IsSettled universe.now result.at }
     ensures start { IsStart universe.now (option_copied key.entry) result.at result.from }
+    ensures own { (result.from ≡ 0) ⊎ IsOwnLine universe.now (option_copied key.entry) result.at }
     ensures few { result.from ≤ 1000000 }
 {
     match key {
         Some(key) => start_at(universe, key),
-        None => line_start(
-            universe,
-            Place {
-                principal: 0,
-                namespace: 0,
-                verb: 0,
-            },
-        ),
+        None => line_start(universe, Place::of_principal(0)),
     }
 }
 
@@ -181,7 +168,6 @@ pub(crate) fn seat_start(
     ensures sought { AreSought index.now universe.now start.at result }
     ensures universe { IsUniverse universe.now }
 {
-    let targets = universe.targets().len();
     let Some(line) = line_at(universe, start.at) else {
         return 0;
     };

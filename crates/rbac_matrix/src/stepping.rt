@@ -2,7 +2,8 @@
 
 ghost use Rattle.std.specs.Prelude.{ℕ, ◌≡◌, ◌<◌, ◌+◌, if◌then◌else◌, is_some, ◌⊎◌, ◌↔◌, ◌≤◌, [], IsTrue, MatchOption, length};
 ghost use Rattle.rbac_model.specs.Policies.{IsPolicy};
-ghost use Rattle.rbac_model.specs.Universes.{UniverseView};
+ghost use Rattle.rbac_model.specs.Universes.{IsUniverse, UniverseView};
+ghost use Rattle.rbac_universe.specs.Sets.{IsWithinLimits};
 ghost use Rattle.rbac_matrix.specs.Shown.{line_of};
 ghost use Rattle.rbac_index.specs.Reaches.{AreReaches};
 ghost use Rattle.rbac_matrix.specs.Cursors.{AreRuns, AreRunsAt, IsBoundOn};
@@ -40,6 +41,8 @@ pub(crate) fn next_in_line(
     meter: &mut Meter,
 ) -> Option<(u32, u32)>
     requires policy { IsPolicy index.now }
+    requires universe { IsUniverse universe.now }
+    requires limits { IsWithinLimits universe.now }
     requires runs { AreRuns index.now (line_of line) runs.now }
     requires reaches { AreReaches index.now universe.now reaches.now }
     requires seated { AreSeated index.now (line_of line) reaches.now from seats.old }
@@ -50,7 +53,6 @@ pub(crate) fn next_in_line(
         (Costs 0 0 seats.old seats.new meter.old meter.new)
         (λ _. Costs 0 1 seats.old seats.new meter.old meter.new) }
 {
-    let targets = universe.targets().len();
     let mut from = from;
     while let Some((place, no)) = least_seat(index, line, runs, seats) {
         advance(index, reaches, line, runs, place, seats, meter);
@@ -81,7 +83,6 @@ fn next_line(
     ensures runs { AreRunsAt index.now universe.now result runs.new }
     ensures costs { Costs 0 0 seats.old seats.new meter.old meter.new }
 {
-    let targets = universe.targets().len();
     let mut at = settled(universe, at);
     while let Some(line) = line_at(universe, at) {
         *runs = Runs::of(index, line);
@@ -106,17 +107,9 @@ fn past_idle(index: &Index<'_>, line: Line<'_>, at: Place) -> Place
     ensures on { (u : UniverseView) → IsLineAt u at (line_of line.entry) → length (lines_from u result) < length (lines_from u at) }
 {
     if at.namespace == 0 && !index.has_grants(line.principal) {
-        return Place {
-            principal: at.principal + 1,
-            namespace: 0,
-            verb: 0,
-        };
+        return Place::of_principal(at.principal + 1);
     }
-    Place {
-        principal: at.principal,
-        namespace: at.namespace + 1,
-        verb: 0,
-    }
+    Place::of_namespace(at.principal, at.namespace + 1)
 }
 
 // The next row from a place and a target's place on: the place of its line, and the place of its

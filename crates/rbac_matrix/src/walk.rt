@@ -75,9 +75,7 @@ pub(crate) fn next_bound(
     ensures ends { IfSome result (λ _. steps_left index.now walk.new < steps_left index.now walk.old) }
 {
     if walk.end <= walk.next {
-        let Some(found) = next_run(index, line, runs, walk) else {
-            return None;
-        };
+        let found = next_run(index, line, runs, walk)?;
         walk.next = found.start;
         walk.end = found.end;
     }
@@ -102,8 +100,6 @@ fn next_run(index: &Index<'_>, line: Line<'_>, runs: &Runs, walk: &mut Walk) -> 
     if runs.are_all() {
         return None;
     }
-    let Some((start, end)) = index.next_run(line.principal, line.namespace, walk.end) else {
-        return None;
-    };
+    let (start, end) = index.next_run(line.principal, line.namespace, walk.end)?;
     Some(Run { start, end })
 }

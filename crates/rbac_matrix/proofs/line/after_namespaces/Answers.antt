@@ -7,10 +7,10 @@ pub returns-then-namespaces-at-clause-same : goal.returns-then-namespaces-at-cla
 returns-then-namespaces-at-clause-same c =
     let n = ap length c.namespaces-namespaces.ensures.namespaces in
     let p = ap length c.principals-principals.ensures.principals in
-    after_namespaces_same c.args.universe.now c.args.at.principal c.args.at.namespace c.args.at.verb (omega (arith, p)) (omega (arith, n))
+    rw c.of_principal.ensures (after_namespaces_same c.args.universe.now c.args.at.principal c.args.at.namespace c.args.at.verb (omega (arith, p)) (omega (arith, n)))
 
 pub returns-then-namespaces-at-clause-settled : goal.returns-then-namespaces-at-clause-settled
-returns-then-namespaces-at-clause-settled c = λ n v. settled_place c.args.universe.now (c.args.at.principal + 1) 0 0 (λ lt. (n, v))
+returns-then-namespaces-at-clause-settled c = λ n v. rw c.of_principal.ensures (settled_place c.args.universe.now (c.args.at.principal + 1) 0 0 (λ lt. (n, v)))
 
 pub returns-clause-settled : goal.returns-clause-settled
 returns-clause-settled c = λ n v. settled_place c.args.universe.now c.args.at.principal c.args.at.namespace c.args.at.verb (λ lt.

@@ -1,11 +1,14 @@
-use Rattle.std.proofs.Common.{◌<◌, length, arith}
-use Rattle.rbac_matrix.proofs.SeatLemmas.{seated_after, next_costs}
+use Rattle.std.proofs.Common.{arith}
+use Rattle.rbac_matrix.proofs.SeatLemmas.{next_costs, seated_after, stands_within}
 use Rattle.rbac_matrix.proofs.seat.seat_after.Goals as goal
+
+pub seat_in-requires : goal.seat_in-requires
+seat_in-requires c = omega (arith, stands_within c.args.reach.now c.args.seat.place c.args.seat c.requires.seated c.requires.stands)
 
 pub returns-clause-seated : goal.returns-clause-seated
 returns-clause-seated c =
-    let within : c.args.seat.position < length c.args.reach.now = omega arith in
-    seated_after c.args.reach.now c.args.seat c.seat_in.result c.len.ensures.ascending c.requires.seated c.requires.stands c.seat_in.ensures.position (rw c.seat_in.ensures.position c.seat_in.ensures.place) within
+    seated_after c.args.reach.now c.args.seat c.seat_in.result c.seat_in.ensures.ascending c.requires.seated c.requires.stands c.seat_in.ensures.position (rw c.seat_in.ensures.position c.seat_in.ensures.place)
+    (stands_within c.args.reach.now c.args.seat.place c.args.seat c.requires.seated c.requires.stands)
 
 pub returns-clause-costs : goal.returns-clause-costs
 returns-clause-costs c =

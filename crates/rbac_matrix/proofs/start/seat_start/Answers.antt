@@ -9,7 +9,7 @@ pub returns-in_default-clause-metered : goal.returns-in_default-clause-metered
 returns-in_default-clause-metered c = rw c.requires.fresh (metered_start c.args.index.now c.args.universe.now c.args.start.at 0 c.args.seats.now c.args.seats.now 0 c.requires.empty (Costs-none c.args.seats.now 0))
 
 pub seat_line-filled-requires-clause-real : goal.seat_line-filled-requires-clause-real
-seat_line-filled-requires-clause-real c = are_real c.args.index.now c.args.universe.now c.args.reaches.now (line_of c.in-Some.line) c.requires.policy c.targets-targets.ensures.ordered c.requires.reaches c.targets-targets.ensures.few.targets
+seat_line-filled-requires-clause-real c = are_real c.args.index.now c.args.universe.now c.args.reaches.now (line_of c.in-Some.line) c.requires.policy c.line_at.ensures.universe c.requires.reaches c.line_at.ensures.limits.targets
 
 pub returns-then-start-eq0-clause-metered : goal.returns-then-start-eq0-clause-metered
 returns-then-start-eq0-clause-metered c =

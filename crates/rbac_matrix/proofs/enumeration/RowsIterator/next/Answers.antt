@@ -5,9 +5,9 @@ use Rattle.rbac_model.specs.Policies.{GrantView}
 use Rattle.rbac_model.specs.Sources.{grant_of}
 use Rattle.rbac_model.specs.Universes.{Listed}
 use Rattle.rbac_matrix.specs.Shown.{line_of}
-use Rattle.rbac_matrix.specs.Passing.{cell_of, cells_left}
+use Rattle.rbac_matrix.specs.Passing.{cells_left, row_on}
 use Rattle.rbac_matrix.specs.Enumeration.{AreLeft, requests_left}
-use Rattle.rbac_matrix.proofs.EnumLemmas.{same_head}
+use Rattle.rbac_matrix.proofs.PassLemmas.{same_head}
 use Rattle.rbac_matrix.proofs.GoingLemmas.{ended_left, fewer_left, fits_namespace, key_is, none_given, own_row, row_given, target_is}
 use Rattle.rbac_matrix.proofs.enumeration.RowsIterator.next.Goals as goal
 
@@ -23,44 +23,45 @@ returns-in_err-place-clause-steps c =
 pub overflow_add-self : goal.overflow_add-self
 overflow_add-self c =
     let f = rw c.in_ok-place.was at c.next_cell-found.ensures.row in
-    let within = slice_get_within c.args.self.now.universe.now.targets c.in_ok-place.place f.target f.target_at in
+    let within = slice_get_within c.args.self.now.universe.now.targets c.in_ok-place.place f.found.target f.found.target_at in
     omega (arith, within, c.targets-targets.ensures.few.targets)
 
 pub grant-grant-requires : goal.grant-grant-requires
 grant-grant-requires c =
     let f = rw c.in_ok-place.was at c.next_cell-found.ensures.row in
-    slice_get_within c.args.self.now.index.now.grants c.in_ok-place.no f.grant f.grant_at
+    slice_get_within c.args.self.now.index.now.grants c.in_ok-place.no f.found.grant f.found.grant_at
 
 pub bounds-targets-place : goal.bounds-targets-place
 bounds-targets-place c =
     let f = rw c.in_ok-place.was at c.next_cell-found.ensures.row in
-    let within = slice_get_within c.args.self.now.universe.now.targets c.in_ok-place.place f.target f.target_at in
+    let within = slice_get_within c.args.self.now.universe.now.targets c.in_ok-place.place f.found.target f.found.target_at in
     let e = ap length c.targets-targets.ensures.targets in
     omega (arith, within, e, length-map c.args.self.now.universe.now.targets (λ (t : Listed). t.0))
 
 pub row_of-requires : goal.row_of-requires
 row_of-requires c =
     let f = rw c.in_ok-place.was at c.next_cell-found.ensures.row in
-    own_row f.line (line_of c.in_ok-line.line) c.index-targets-place.result f.target
+    own_row f.line (line_of c.in_ok-line.line) c.index-targets-place.result f.found.target
     (same_head (line_of c.in_ok-line.line) f.line _ f.others (sym c.in_ok-line.ensures.line ∙ f.line_at))
-    (target_is c.args.self.now.universe.now.targets c.targets-targets.result.now c.in_ok-place.place c.index-targets-place.result f.target c.targets-targets.ensures.targets c.index-targets-place.is f.target_at)
-    (fits_namespace c.args.self.now.universe.now c.requires.universe f.line c.in_ok-place.place f.target f.target_at f.fits)
+    (target_is c.args.self.now.universe.now.targets c.targets-targets.result.now c.in_ok-place.place c.index-targets-place.result f.found.target c.targets-targets.ensures.targets c.index-targets-place.is f.found.target_at)
+    (fits_namespace c.args.self.now.universe.now c.requires.universe f.line c.in_ok-place.place f.found.target f.found.target_at f.found.fits)
 
 pub returns-clause-steps : goal.returns-clause-steps
 unfolding AreLeft
 returns-clause-steps c =
     let f = rw c.in_ok-place.was at c.next_cell-found.ensures.row in
     let line = same_head (line_of c.in_ok-line.line) f.line _ f.others (sym c.in_ok-line.ensures.line ∙ f.line_at) in
-    let target = target_is c.args.self.now.universe.now.targets c.targets-targets.result.now c.in_ok-place.place c.index-targets-place.result f.target c.targets-targets.ensures.targets c.index-targets-place.is f.target_at in
-    let key = key_is f.line (line_of c.in_ok-line.line) c.index-targets-place.result f.target line target in
-    let grant : grant_of c.grant-grant.result ≡ f.grant = same_Some (grant_of c.grant-grant.result) f.grant (sym c.grant-grant.ensures ∙ f.grant_at) in
+    let target = target_is c.args.self.now.universe.now.targets c.targets-targets.result.now c.in_ok-place.place c.index-targets-place.result f.found.target c.targets-targets.ensures.targets c.index-targets-place.is f.found.target_at in
+    let key = key_is f.line (line_of c.in_ok-line.line) c.index-targets-place.result f.found.target line target in
+    let grant : grant_of c.grant-grant.result ≡ f.found.grant = same_Some (grant_of c.grant-grant.result) f.found.grant (sym c.grant-grant.ensures ∙ f.found.grant_at) in
     record {
-      row = record { cell = cell_of f.line f.target; binding = f.grant.binding };
+      row = row_on c.args.self.now.index.now c.args.self.now.universe.now f.line c.in_ok-place.place c.in_ok-place.no f.found;
       shows = record {
         key = c.row_of.ensures.key ∙ key;
         texts = c.row_of.ensures.texts ∙ key;
         binding = c.row_of.ensures.binding ∙ ap (λ (g : GrantView). g.binding) grant;
       };
+      on = (f.others, f.line_at);
       left = row_given c.args.self.now.index.now.held (cells_left c.args.self.now.universe.now c.args.self.now.at c.args.self.now.from) (cells_left c.args.self.now.universe.now c.next_cell-found.result.0 (c.in_ok-place.place + 1)) _ f.passes;
     }
 

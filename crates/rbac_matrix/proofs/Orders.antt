@@ -1,0 +1,38 @@
+-- orders of texts, text by text
+use Rattle.std.proofs.Common.{◌≡◌, true, [], ◌∷◌, Less, Equal, Greater, Ordering, refl}
+use Rattle.std.specs.Ordering.{is_gt, ordering_then}
+use Rattle.rbac_terms.specs.Text.{Text, text_cmp}
+use Rattle.rbac_model.proofs.NamePlaces.{same_name}
+
+pub not_greater : (o : Ordering) → o ≡ Less → o ≡ Greater → ⊥
+not_greater o e f = cc
+
+pub not_tied : (o : Ordering) → o ≡ Equal → o ≡ Greater → ⊥
+not_tied o e f = cc
+
+pub greater : (o : Ordering) → is_gt o ≡ true → o ≡ Greater
+greater Less e = cc
+greater Equal e = cc
+greater Greater e = refl
+
+pub is_greater : (o : Ordering) → o ≡ Greater → is_gt o ≡ true
+is_greater o e = rw e refl
+
+-- the first text decides, unless it ties
+pub first_less : (o p : Ordering) → o ≡ Less → ordering_then o p ≡ Less
+first_less o p e = rw e refl
+
+pub first_greater : (o p : Ordering) → o ≡ Greater → ordering_then o p ≡ Greater
+first_greater o p e = rw e refl
+
+pub first_tied : (o p : Ordering) → o ≡ Equal → ordering_then o p ≡ p
+first_tied o p e = rw e refl
+
+-- a list of one text
+pub single : (o : Ordering) → ordering_then o Equal ≡ Less → o ≡ Less
+single Less e = refl
+single Equal e = cc
+single Greater e = cc
+
+pub same_text : (x y : Text) → text_cmp x y ≡ Equal → x ≡ y
+same_text x y e = let same : x ∷ [] ≡ y ∷ [] = same_name (λ (t : Text). t ∷ []) x y (first_tied (text_cmp x y) Equal e) in cc
