@@ -1,4 +1,4 @@
-# rbacaudit: the commands of this repository. They need the Rattle kit (`rt` on the PATH), make and a C compiler.
+# rbacaudit: the commands of this repository. They need the Rattle kit (`rt` on the PATH), make, a C compiler and Python 3.
 
 PREFIX ?= /usr/local
 PROGRAM = crates/rbacaudit/out/rbacaudit

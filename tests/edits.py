@@ -9,7 +9,8 @@ import os
 import re
 import sys
 
-TOP = os.path.dirname(os.path.dirname(os.path.abspath(__file__)))
+from common import TOP
+
 TIERS = ('must-fail', 'wrong-bodies')
 PARTS = ('src/', 'specs/', 'proofs/')
 
@@ -86,6 +87,9 @@ def main():
         if fault:
             print('FAIL %s: %s' % (os.path.relpath(path, TOP), fault))
         passed, failed = passed + (not fault), failed + bool(fault)
+    if not passed:
+        print('FAIL there is no edit that fits')
+        failed += 1
     print('%d passed, %d failed' % (passed, failed))
     return 1 if failed else 0
 

@@ -21,10 +21,9 @@ import sys
 import tempfile
 import time
 
-TOP = os.path.dirname(os.path.dirname(os.path.abspath(__file__)))
-PROGRAM = os.path.join(TOP, 'crates/rbacaudit/out/rbacaudit')
+from common import PROGRAM, TOP, V1
+
 RBAC = 'rbac.authorization.k8s.io'
-V1 = RBAC + '/v1'
 DEEPEST = 127
 
 

@@ -10,17 +10,12 @@ the universe. Last, in a token each byte is replaced by every other ASCII one, a
 
 import base64
 import itertools
-import json
-import os
 import random
 import re
 import subprocess
 import sys
-import tempfile
 
-TOP = os.path.dirname(os.path.dirname(os.path.abspath(__file__)))
-PROGRAM = os.path.join(TOP, 'crates/rbacaudit/out/rbacaudit')
-V1 = 'rbac.authorization.k8s.io/v1'
+from common import PROGRAM, V1, export
 
 # What is drawn from: few words, so that much is allowed, and some that only nearly match.
 NAMESPACES = ['', 'dev', 'prod']
@@ -221,9 +216,14 @@ def page(rows, after, limit):
 
 # ---- walking
 
+def matrix_told(words, given=b''):
+    """Status, output and error of the command."""
+    ended = subprocess.run([PROGRAM, 'matrix', *words], input=given, stdout=subprocess.PIPE, stderr=subprocess.PIPE, timeout=60)
+    return ended.returncode, ended.stdout.decode('latin-1'), ended.stderr.decode('latin-1')
+
+
 def listed(given, after, limit):
-    words = ['matrix'] + (['--after', token(after)] if after else []) + (['--limit', str(limit)] if limit else [])
-    return subprocess.run([PROGRAM, *words], input=given, stdout=subprocess.PIPE, timeout=60).stdout.decode('latin-1')
+    return matrix_told((['--after', token(after)] if after else []) + (['--limit', str(limit)] if limit else []), given)
 
 
 def foreign_key(draw):
@@ -238,7 +238,7 @@ def foreign_key(draw):
 
 def walk(draw, items, lists):
     """The first page that isn't what it has to be, or nothing; and how many rows there are."""
-    given = json.dumps({'apiVersion': 'v1', 'kind': 'List', 'items': [*items, lists]}).encode()
+    given = export(*items, lists)
     rows = matrix(items, lists)
     asked = [(None, None)] + [(foreign_key(draw), draw.choice([None, 1, 2, 5])) for _ in range(4)]
     after = [None]
@@ -247,7 +247,7 @@ def walk(draw, items, lists):
         asked.append((after[0], limit))
         after = page(rows, after[0], limit)[1]
     for after, limit in asked:
-        wanted, got = page(rows, after, limit)[0], listed(given, after, limit)
+        wanted, got = (0, page(rows, after, limit)[0], ''), listed(given, after, limit)
         if got != wanted:
             return 'after %r at most %r: wanted %r, got %r; %s' % (after, limit, wanted, got, given.decode()), len(rows)
     return None, len(rows)
@@ -295,30 +295,20 @@ def altered(text):
                 yield text[:at] + chr(code) + text[at + 1:]
 
 
-def wrong_tokens(path):
-    """The texts after `--after` that the program doesn't take as it has to, and how many stand for a key."""
-    rows = matrix([ROLE, BINDING], THREE_VERBS)
-    wrong, keys = [], 0
+def tokens():
+    """How many altered tokens are taken as they have to be, and how many aren't; some of them have to be tokens of other keys."""
+    rows, given = matrix([ROLE, BINDING], THREE_VERBS), export(ROLE, BINDING, THREE_VERBS)
+    wrong, count, keys = [], 0, 0
     for text in altered(token(sorted(rows)[0])):
         key = key_of(text)
-        keys += key is not None
+        count, keys = count + 1, keys + (key is not None)
         wanted = (2, '', 'rbacaudit: U4 bad token\n') if key is None else (0, page(rows, key, None)[0], '')
-        ended = subprocess.run([PROGRAM, 'matrix', '--after=' + text, path], stdout=subprocess.PIPE, stderr=subprocess.PIPE, timeout=60)
-        if (ended.returncode, ended.stdout.decode('latin-1'), ended.stderr.decode('latin-1')) != wanted:
+        if matrix_told(['--after=' + text], given) != wanted:
             wrong.append(text)
-    return wrong, keys
-
-
-def tokens():
-    """One check: every altered token; some of them have to be tokens of other keys."""
-    with tempfile.NamedTemporaryFile('w', suffix='.json') as file:
-        json.dump({'apiVersion': 'v1', 'kind': 'List', 'items': [ROLE, BINDING, THREE_VERBS]}, file)
-        file.flush()
-        wrong, keys = wrong_tokens(file.name)
-    print('%d altered tokens stand for another key' % keys)
+    print('%d altered tokens, of which %d stand for another key' % (count, keys))
     for text in wrong:
         print('FAIL token %r' % text)
-    return not wrong and keys > 0
+    return count - len(wrong), len(wrong) + (not keys)
 
 
 def main(seed, count):
@@ -336,10 +326,9 @@ def main(seed, count):
         print('FAIL %d universes have no more than %d rows' % (int(count), total))
         failed += 1
     print('%d universes with %d rows, walked page by page' % (int(count), total))
-    well = tokens()
-    passed, failed = passed + well, failed + (not well)
-    print('%d passed, %d failed' % (passed, failed))
-    return 1 if failed else 0
+    taken, wrong = tokens()
+    print('%d passed, %d failed' % (passed + taken, failed + wrong))
+    return 1 if failed or wrong else 0
 
 
 if __name__ == '__main__':

@@ -9,21 +9,15 @@ import json
 import os
 import re
 import resource
-import signal
 import subprocess
 import sys
 import tempfile
+import textwrap
 
-TOP = os.path.dirname(os.path.dirname(os.path.abspath(__file__)))
-PROGRAM = os.path.join(TOP, 'crates/rbacaudit/out/rbacaudit')
-V1 = 'rbac.authorization.k8s.io/v1'
+from common import PODS, PROGRAM, TOP, V1, export, tested, told
+
 MOST_BYTES = 67_108_864
-results = []
-
-
-def told(name, well, said=''):
-    results.append(well)
-    print(('ok   ' if well else 'FAIL ') + name + ('' if well else ': ' + said))
+LEAST = b'{"apiVersion":"v1","kind":"List"}'
 
 
 def run(words, given=b'', **how):
@@ -53,11 +47,6 @@ def binding(kind, name, role_kind, role_name, namespace=None):
             'roleRef': {'kind': role_kind, 'name': role_name}, 'subjects': [{'kind': 'User', 'name': 'alice'}]}
 
 
-def export(*items):
-    return json.dumps({'apiVersion': 'v1', 'kind': 'List', 'items': items}).encode()
-
-
-PODS = {'verbs': ['get'], 'apiGroups': [''], 'resources': ['pods']}
 ALICE_GETS_PODS = ['can-i', '--as', 'alice', 'get', 'pods']
 BOUND = binding('RoleBinding', 'b', 'Role', 'r', 'default')
 GRANTED = export(role('default', 'r', [PODS]), BOUND)
@@ -94,8 +83,7 @@ def streams():
         expect('a bad token before a missing file', ['matrix', '--after', 'MQ', missing], 2, err=b'rbacaudit: U4 bad token\n')
         expect('the file of a bad document', ALICE_GETS_PODS + [roles, put('bad.json', b'[]')], 2,
                err=b'rbacaudit: file 2: M2 not an object\n')
-        least = b'{"apiVersion":"v1","kind":"List"}'
-        full = put('full.json', least + b' ' * (MOST_BYTES - len(least)))
+        full = put('full.json', LEAST + b' ' * (MOST_BYTES - len(LEAST)))
         expect('the longest input is read', ALICE_GETS_PODS + [full], 1, b'no\n')
         with open(full, 'ab') as file:
             file.write(b' ')
@@ -104,23 +92,22 @@ def streams():
 
 def help_and_usage():
     """Help on standard output with status 0; a refused line on standard error with status 2."""
-    for words in (['--help'], ['can-i', '--help'], ['who-can', '--help'], ['matrix', '--help']):
+    for words in (['--help'], ['can-i', '--help'], ['who-can', '--help'], ['matrix', '--help'], ['lint', '--help'], ['-h'], ['lint', '-h']):
         ended = run(words)
         told('%s is on standard output' % ' '.join(words),
              ended.returncode == 0 and b'Usage' in ended.stdout and not ended.stderr, repr(ended))
     commands = run(['--help']).stdout
-    for command in (b'can-i', b'who-can', b'matrix'):
+    for command in (b'can-i', b'who-can', b'matrix', b'lint'):
         told('help names %s' % command.decode(), command in commands, repr(commands))
-    told('help of matrix names FILE', b'FILE' in run(['matrix', '--help']).stdout)
     options = run(['can-i', '--help']).stdout
     for option in (b'--as', b'--groups', b'-n, --namespace', b'-A, --all-namespaces', b'--subresource', b'-q, --quiet',
                    b'--why', b'VERB', b'TARGET', b'FILE'):
         told('help names %s' % option.decode(), option in options, repr(options))
     for line in (b'Namespace to check (default: default)', b'five fields, joined by tabs', b'rbacaudit can-i --as alice -n dev get pods'):
         told('help of can-i says "%s"' % line.decode(), line in options, repr(options))
-    for command in ('who-can', 'matrix'):
+    for command in ('who-can', 'matrix', 'lint'):
         text = run([command, '--help']).stdout
-        told('help of %s has an example' % command, b'rbacaudit %s ' % command.encode() in text, repr(text))
+        told('help of %s names FILE and has an example' % command, b'FILE' in text and b'rbacaudit %s ' % command.encode() in text, repr(text))
     for option in (b'--after <TOKEN>', b'--limit <N>'):
         told('help names %s' % option.decode(), option in run(['matrix', '--help']).stdout)
     for token in ('', 'MQ==', 'M', 'OQ', 'MQ', 'MQlnOmEJLQktCS0JeAkt='):
@@ -132,7 +119,8 @@ def help_and_usage():
     for words in ([], ['can-i'], ['can-i', 'get', 'pods'], ['who-knows'], ['can-i', '--as', 'alice', '--why', 'get'],
                   ['can-i', '--as', 'a', '--as', 'b', 'get', 'pods'], ['who-can', 'get'],
                   ['who-can', '--as', 'alice', 'get', 'pods'], ['who-can', '--limit', '1', 'get', 'pods'],
-                  ['matrix', '--limit', '1', '--limit', '1'], ['matrix', '--after', 'MQ', '--after', 'MQ'], ['matrix', '-n', 'dev']):
+                  ['matrix', '--limit', '1', '--limit', '1'], ['matrix', '--after', 'MQ', '--after', 'MQ'], ['matrix', '-n', 'dev'],
+                  ['lint', '--limit', '1'], ['lint', '-n', 'dev'], ['help']):
         ended = run(words)
         told('refused: %s' % (' '.join(words) or 'no words'),
              ended.returncode == 2 and not ended.stdout and b'Usage' in ended.stderr, repr(ended))
@@ -147,27 +135,12 @@ def full_disk():
     told('a full disk', (ended.returncode, ended.stderr) == (2, b'rbacaudit: write failed after 0 bytes\n'), repr(ended))
 
 
-def short_disk():
-    """A disk with room for three bytes: `yes` is written, and its line end isn't."""
-    def three_bytes():
-        signal.signal(signal.SIGXFSZ, signal.SIG_IGN)
-        resource.setrlimit(resource.RLIMIT_FSIZE, (3, 3))
-
-    with tempfile.TemporaryFile() as short:
-        ended = subprocess.run([PROGRAM, *ALICE_GETS_PODS], input=GRANTED, stdout=short, stderr=subprocess.PIPE, timeout=120,
-                               preexec_fn=three_bytes)
-        short.seek(0)
-        got = (ended.returncode, short.read(), ended.stderr)
-    told('a disk with room for three bytes', got == (2, b'yes', b'rbacaudit: write failed after 3 bytes\n'), repr(got))
-
-
 def little_memory():
     """With 128 MiB neither the longest input nor the values of four million items find room: nothing is written."""
     def little():
         resource.setrlimit(resource.RLIMIT_AS, (2 ** 27, 2 ** 27))
 
-    least = b'{"apiVersion":"v1","kind":"List"}'
-    inputs = {'reading': least + b' ' * (MOST_BYTES - len(least)), 'loading': b'[' + b','.join([b'{}'] * 4_000_000) + b']'}
+    inputs = {'reading': LEAST + b' ' * (MOST_BYTES - len(LEAST)), 'loading': b'[' + b','.join([b'{}'] * 4_000_000) + b']'}
     for name, given in inputs.items():
         ended = subprocess.run([PROGRAM, *ALICE_GETS_PODS], input=given, stdout=subprocess.PIPE, stderr=subprocess.PIPE, timeout=120,
                                preexec_fn=little)
@@ -310,20 +283,13 @@ def transcripts():
                      'got %r' % ended.stdout.decode())
 
 
-if not os.path.isfile(PROGRAM):
-    told('the program is built', False, 'no file %s' % os.path.relpath(PROGRAM, TOP))
-else:
-    streams()
-    help_and_usage()
-    full_disk()
-    short_disk()
-    little_memory()
-    rows()
-    matrix_streams()
-    lint_streams()
-    limits()
-    universe_limits()
-    ring()
-    transcripts()
-print('%d passed, %d failed' % (results.count(True), results.count(False)))
-sys.exit(0 if all(results) else 1)
+def loop_of_pages():
+    """README.md shows the loop of examples/pages.sh."""
+    with open(os.path.join(TOP, 'README.md'), encoding='utf-8') as readme, open(os.path.join(TOP, 'examples', 'pages.sh')) as script:
+        loop = re.search(r'^after=\n.*^done\n', script.read(), re.S | re.M)[0]
+        told('the loop of examples/pages.sh', textwrap.indent(loop, '    ') in readme.read())
+
+
+if __name__ == '__main__':
+    sys.exit(tested(streams, help_and_usage, full_disk, little_memory, rows, matrix_streams, lint_streams, limits,
+                    universe_limits, ring, transcripts, loop_of_pages))

@@ -12,7 +12,6 @@ import concurrent.futures
 import errno
 import fcntl
 import itertools
-import json
 import os
 import re
 import resource
@@ -23,29 +22,18 @@ import sys
 import tempfile
 import threading
 
-TOP = os.path.dirname(os.path.dirname(os.path.abspath(__file__)))
-PROGRAM = os.path.join(TOP, 'crates/rbacaudit/out/rbacaudit')
-V1 = 'rbac.authorization.k8s.io/v1'
+from common import PODS, PROGRAM, TOP, V1, export, tested, told
+
 NO_MEMORY = b'rbacaudit: out of memory\n'
 READ_FAULT = b'rbacaudit: file 1: I1 read fault\n'
 FULL = 65_536
 NEVER_LAST = 10 ** 9
-results = []
-
-
-def told(name, well, said=''):
-    results.append(bool(well))
-    print(('ok   ' if well else 'FAIL ') + name + ('' if well else ': ' + said), flush=True)
 
 
 # ---- what is asked, and what it answers
 
 def item(kind, metadata, version=V1, **more):
     return {'apiVersion': version, 'kind': kind, 'metadata': metadata, **more}
-
-
-def export(*items):
-    return json.dumps({'apiVersion': 'v1', 'kind': 'List', 'items': items}).encode()
 
 
 def universe(**lists):
@@ -62,7 +50,6 @@ def users(*names):
 
 # Longer than what a short text keeps without memory of its own.
 LONG = 'readers-of-everything-in-all-shops'
-PODS = {'verbs': ['get'], 'apiGroups': [''], 'resources': ['pods']}
 AGGREGATED = {'clusterRoleSelectors': [
     {'matchLabels': {'for': 'admins'}, 'matchExpressions': [{'key': 'tier', 'operator': 'NotIn', 'values': ['gone']}]}]}
 
@@ -140,6 +127,10 @@ def long_holders():
         item('ClusterRoleBinding', {'name': 'b'}, roleRef=role_ref('ClusterRole', 'r'), subjects=users(*names)))
     return Case('holders with long names', ['who-can', 'get', 'pods'], given, 0,
                 ''.join('u:%s\tClusterRoleBinding/b\n' % name for name in names))
+
+
+def can_i():
+    return Case('can-i', ALICE_GETS_PODS, export(*WORKED), 0, 'yes\n')
 
 
 def few_holders():
@@ -222,13 +213,13 @@ def is_write_fault(whole, got):
 
 
 def tell_sweep(name, met, must_cut=False, once=False):
-    """A sweep is well where no run went wrong and it shows something: refusals, texts that were cut where some must be, and,
-    where calls fail from one on, that none was made after the first that failed."""
+    """A sweep is well where no run went wrong and it shows something: refusals, runs that told less than all, texts that were
+    cut where some must be, and, where calls fail from one on, that none was made after the first that failed."""
     if met.wrong:
         said = 'wrong are (N, status, text, message) = %s' % ', '.join(map(repr, met.wrong[:5]))
     elif once and met.refusals != met.runs - 1:
         said = 'a call after one that had failed'
-    elif not met.refusals or must_cut and not met.cut:
+    elif not met.refusals or met.whole == met.runs or must_cut and not met.cut:
         said = 'it shows nothing'
     else:
         said = ''
@@ -241,7 +232,7 @@ def which(from_there_on):
 
 def answers():
     """Each command, and each option of it that has an answer of its own."""
-    yield Case('can-i', ALICE_GETS_PODS, export(*WORKED), 0, 'yes\n')
+    yield can_i()
     yield Case('can-i, no', [*ALICE, 'delete', 'po'], export(*WORKED), 1, 'no\n')
     yield Case('can-i of a URL', [*ALICE, 'get', '/healthz/ready'], export(*WORKED), 0, 'yes\n')
     yield Case('can-i --why', ['can-i', '--as', 'kim', '--groups', 'ops,dev', '--why', 'get', 'pods'], export(*WORKED), 0,
@@ -305,8 +296,7 @@ def refused_memory(shim, room):
 def failed_reads(shim):
     """Each read in turn, of an input that comes in pieces of 100 bytes and of one that comes byte by byte."""
     small = Case('can-i', ALICE_GETS_PODS, export(), 1, 'no\n')
-    worked = Case('can-i', ALICE_GETS_PODS, export(*WORKED), 0, 'yes\n')
-    for (case, piece), error in itertools.product(((worked, 100), (small, 1)), (errno.EIO, errno.EINTR)):
+    for (case, piece), error in itertools.product(((can_i(), 100), (small, 1)), (errno.EIO, errno.EINTR)):
         for mode in (False, True):
             met = sweep(shim, case, 'read', is_read_fault, error, mode, piece)
             tell_sweep('%s in reads of up to %d bytes, %s' % (errno.errorcode[error], piece, which(mode)), met, once=mode)
@@ -388,8 +378,8 @@ def pipes():
 
 def disks_with_room():
     """A disk with room for so many bytes: it gets them, and the line tells their number."""
-    who, listing = few_holders(), long_matrix()
-    rooms = [(who, size) for size in range(len(who.whole[1]) + 1)]
+    listing = long_matrix()
+    rooms = [(case, size) for case in (can_i(), few_holders()) for size in range(len(case.whole[1]) + 1)]
     rooms += [(listing, size) for size in (FULL - 1, FULL, FULL + 1, 2 * FULL, len(listing.whole[1]) - 1)]
     wrong = [(case.name, size) for case, size in rooms if not fills(case, size)]
     told('disks with room for %d sizes' % len(rooms), not wrong, repr(wrong[:10]))
@@ -491,9 +481,5 @@ def main():
         fifos(room)
 
 
-if not os.path.isfile(PROGRAM):
-    told('the program is built', False, 'no file %s' % os.path.relpath(PROGRAM, TOP))
-else:
-    main()
-print('%d passed, %d failed' % (results.count(True), results.count(False)))
-sys.exit(0 if all(results) else 1)
+if __name__ == '__main__':
+    sys.exit(tested(main))

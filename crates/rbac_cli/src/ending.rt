@@ -12,9 +12,9 @@ use std::fmt;
 /// The exit status of a run that told its answer.
 #[derive(Clone, Copy, Debug, PartialEq, Eq)]
 pub enum Status {
-    /// 0: `yes`, all holders, or a page of the matrix.
+    /// 0: `yes`, all holders, a page of the matrix, or no findings.
     Zero,
-    /// 1: `no`.
+    /// 1: `no`, or findings.
     One,
 }
 

@@ -1,7 +1,8 @@
 //! `rbacaudit`: answers questions about exported Kubernetes roles.
 //!
 //! Reads the command line, then each FILE in order or standard input, runs the command to standard
-//! output, and tells a fault on standard error. The status is 0, or 1 for `no`, or 2 for a fault.
+//! output, and tells a fault on standard error. The status is 0, or 1 for `no` and for findings, or
+//! 2 for a fault.
 #![tactic(auto)]
 
 use rbac_cli::{

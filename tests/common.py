@@ -1,0 +1,28 @@
+"""What the tests of the built program share: where it is, exports, and the count of what passed."""
+
+import json
+import os
+
+TOP = os.path.dirname(os.path.dirname(os.path.abspath(__file__)))
+PROGRAM = os.path.join(TOP, 'crates/rbacaudit/out/rbacaudit')
+V1 = 'rbac.authorization.k8s.io/v1'
+PODS = {'verbs': ['get'], 'apiGroups': [''], 'resources': ['pods']}
+results = []
+
+
+def export(*items):
+    return json.dumps({'apiVersion': 'v1', 'kind': 'List', 'items': items}).encode()
+
+
+def told(name, well, said=''):
+    results.append(bool(well))
+    print(('ok   ' if well else 'FAIL ') + name + ('' if well else ': ' + said), flush=True)
+
+
+def tested(*parts):
+    """Runs each part over the built program and prints the last line; the status to end with."""
+    told('the program is built', os.path.isfile(PROGRAM), 'no file %s' % os.path.relpath(PROGRAM, TOP))
+    for part in parts if all(results) else ():
+        part()
+    print('%d passed, %d failed' % (results.count(True), results.count(False)))
+    return 0 if all(results) else 1
