@@ -7,10 +7,21 @@ use Rattle.rbac_model.specs.Policies.{role_name, cluster_role_name, binding_name
 use Rattle.rbac_model.specs.declared.holding.Object.{Object}
 use Rattle.rbac_model.specs.declared.holding.Object.TheVariants.{Role as ARole, ClusterRole as AClusterRole, Binding as ABinding}
 use Rattle.rbac_lists.specs.declared.given.Account.{Account}
+use Rattle.rbac_manifest.specs.declared.replaced.ObjectKind.{ObjectKind}
+use Rattle.rbac_manifest.specs.declared.replaced.ObjectKind.TheVariants.{ClusterRole, ClusterRoleBinding, Namespace, Role, RoleBinding, ServiceAccount}
 
 -- the order of names: text by text, each by its bytes
 abbrev pub name_cmp : List Text → List Text → Ordering
 name_cmp = slice_cmp text_cmp
+
+-- the kind as documents give it
+abbrev pub kind_word : ObjectKind → Text
+kind_word ClusterRole = codes "ClusterRole"
+kind_word ClusterRoleBinding = codes "ClusterRoleBinding"
+kind_word Namespace = codes "Namespace"
+kind_word Role = codes "Role"
+kind_word RoleBinding = codes "RoleBinding"
+kind_word ServiceAccount = codes "ServiceAccount"
 
 -- the name of a role or a binding
 abbrev pub object_name : Object → List Text

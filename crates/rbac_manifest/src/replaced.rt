@@ -3,7 +3,8 @@
 ghost use Rattle.std.specs.Prelude.{◌≡◌, ◌++◌, IfOk, OnOk, map};
 ghost use Rattle.std.specs.List.Sorted.{IsSorted};
 ghost use Rattle.rbac_model.specs.Policies.{binding_name};
-ghost use Rattle.rbac_manifest.specs.Names.{object_name, namespace_name, account_name, names_given, name_cmp};
+ghost use Rattle.rbac_terms.specs.Text.{text_cmp};
+ghost use Rattle.rbac_manifest.specs.Names.{kind_word, object_name, namespace_name, account_name, names_given, name_cmp};
 ghost use Rattle.rbac_manifest.specs.Replaced.{replaced_by, AreReplaced};
 
 use rbac_lists::Account;
@@ -26,33 +27,54 @@ pub struct Replaced {
     pub earlier: usize,
 }
 
+// The kind of an object that has a name, in the order of these words.
+#[derive(Clone, Copy, PartialEq, Eq, PartialOrd, Ord, Drop)]
+enum ObjectKind {
+    ClusterRole,
+    ClusterRoleBinding,
+    Namespace,
+    Role,
+    RoleBinding,
+    ServiceAccount,
+}
+
+impl ObjectKind {
+    fn as_bytes(self) -> &'static [u8]
+        ensures { result.now ≡ kind_word self }
+    {
+        match self {
+            ObjectKind::ClusterRole => b"ClusterRole",
+            ObjectKind::ClusterRoleBinding => b"ClusterRoleBinding",
+            ObjectKind::Namespace => b"Namespace",
+            ObjectKind::Role => b"Role",
+            ObjectKind::RoleBinding => b"RoleBinding",
+            ObjectKind::ServiceAccount => b"ServiceAccount",
+        }
+    }
+
+    fn cmp_word(self, other: Self) -> Ordering
+        ensures { result ≡ text_cmp (kind_word self) (kind_word other) }
+    {
+        self.cmp(&other)
+    }
+}
+
 // The kind, namespace and name of an object, borrowed from it.
 #[derive(Drop)]
 struct ObjectName<'a> {
-    kind: &'a [u8],
+    kind: ObjectKind,
     namespace: &'a [u8],
     name: &'a [u8],
 }
 
 impl<'a> Model for ObjectName<'a> {
     ghost use Rattle.std.specs.Prelude.{ℕ, List, ◌∷◌, []};
+    ghost use Rattle.rbac_manifest.specs.Names.{kind_word};
 
     ghost Value = { List (List ℕ) };
 
-    ghost view = { λ n. n.kind.now ∷ n.namespace.now ∷ n.name.now ∷ [] };
+    ghost view = { λ n. kind_word n.kind ∷ n.namespace.now ∷ n.name.now ∷ [] };
 }
-
-const ROLE: &[u8] = b"Role";
-
-const CLUSTER_ROLE: &[u8] = b"ClusterRole";
-
-const ROLE_BINDING: &[u8] = b"RoleBinding";
-
-const CLUSTER_ROLE_BINDING: &[u8] = b"ClusterRoleBinding";
-
-const NAMESPACE: &[u8] = b"Namespace";
-
-const SERVICE_ACCOUNT: &[u8] = b"ServiceAccount";
 
 const NOWHERE: &[u8] = b"";
 
@@ -62,12 +84,12 @@ impl<'a> ObjectName<'a> {
     {
         match object {
             Object::Role(role) => ObjectName {
-                kind: ROLE,
+                kind: ObjectKind::Role,
                 namespace: role.namespace.as_bytes(),
                 name: role.name.as_bytes(),
             },
             Object::ClusterRole(role) => ObjectName {
-                kind: CLUSTER_ROLE,
+                kind: ObjectKind::ClusterRole,
                 namespace: NOWHERE,
                 name: role.name.as_bytes(),
             },
@@ -81,12 +103,12 @@ impl<'a> ObjectName<'a> {
         let name = binding.name.as_bytes();
         match &binding.namespace {
             Some(namespace) => ObjectName {
-                kind: ROLE_BINDING,
+                kind: ObjectKind::RoleBinding,
                 namespace: namespace.as_bytes(),
                 name,
             },
             None => ObjectName {
-                kind: CLUSTER_ROLE_BINDING,
+                kind: ObjectKind::ClusterRoleBinding,
                 namespace: NOWHERE,
                 name,
             },
@@ -97,7 +119,7 @@ impl<'a> ObjectName<'a> {
         ensures { result ≡ namespace_name namespace.now }
     {
         ObjectName {
-            kind: NAMESPACE,
+            kind: ObjectKind::Namespace,
             namespace: NOWHERE,
             name: namespace.as_bytes(),
         }
@@ -107,7 +129,7 @@ impl<'a> ObjectName<'a> {
         ensures { result ≡ account_name account.now }
     {
         ObjectName {
-            kind: SERVICE_ACCOUNT,
+            kind: ObjectKind::ServiceAccount,
             namespace: account.namespace.as_bytes(),
             name: account.name.as_bytes(),
         }
@@ -116,7 +138,10 @@ impl<'a> ObjectName<'a> {
     fn cmp_name(&self, other: &Self) -> Ordering
         ensures { result ≡ name_cmp self.now other.now }
     {
-        (self.kind, (self.namespace, self.name)).cmp(&(other.kind, (other.namespace, other.name)))
+        match self.kind.cmp_word(other.kind) {
+            Ordering::Equal => (self.namespace, self.name).cmp(&(other.namespace, other.name)),
+            unlike => unlike,
+        }
     }
 }
 
@@ -202,7 +227,7 @@ fn push_replaced(
     }
     let name = &same[0];
     replaced.push(Replaced {
-        kind: Word::from_slice(alloc, name.kind)?,
+        kind: Word::from_slice(alloc, name.kind.as_bytes())?,
         namespace: Word::from_slice(alloc, name.namespace)?,
         name: Word::from_slice(alloc, name.name)?,
         earlier: same.len() - 1,
