@@ -1,6 +1,6 @@
 -- places of rules, as they are listed under words
 use Rattle.std.proofs.Common.{◌≡◌, ◌≢◌, ℕ, ◌+◌, ◌<◌, ◌≤◌, ◌⊎◌, inl, inr, List, [], ◌∷◌, ◌++◌, get_or, length, take, sym, ap, ◌∙◌, refl, subst, arith, zero, suc, cond, Bool, true, false}
-use Rattle.std.specs.Prelude.{Option, Some, Contains, slice_get, unwrap_or, codes}
+use Rattle.std.specs.Prelude.{Option, Some, Contains, All, slice_get, unwrap_or}
 use Rattle.std.specs.BTreeMap.{get}
 use Rattle.std.specs.Ordering.{is_eq}
 use Rattle.std.specs.declared.cmp.Ordering.{Ordering}
@@ -8,13 +8,15 @@ use Rattle.std.specs.declared.cmp.Ordering.TheVariants.{Less, Equal, Greater}
 use Rattle.std.proofs.lemmas.Bool.{cases_lt}
 use Rattle.std.proofs.lemmas.Cmp.{tied_itself, nat_list_cmp_total}
 use Rattle.std.proofs.lemmas.List.{take_more}
-use Rattle.std.proofs.lemmas.List.Elements.{Contains-append_left, Contains-push, Contains-push_cases}
+use Rattle.std.proofs.lemmas.List.Elements.{All-cons, All-nil, All-more, All-weaker, Contains-append_left, Contains-push, Contains-push_cases}
 use Rattle.std.proofs.lemmas.Map.Lookups.{exact_bytes}
 use Rattle.std.proofs.lemmas.Option.{slice_get_within, get_or_from_slice_get, same_Some}
 use Rattle.rbac_terms.specs.Text.{Text, text_cmp}
+use Rattle.rbac_terms.proofs.Texts.{same_front}
 use Rattle.rbac_terms.specs.declared.matching.Rule.{Rule}
 use Rattle.rbac_lint.specs.declared.listing.Field.{Field}
-use Rattle.rbac_lint.specs.Listing.{Lists, listed, words_in, IsAscending, IsWild, IsUnder, TakesIn, ListsPlace, ListsAll, AreListed}
+use Rattle.rbac_lint.specs.declared.listing.Field.TheVariants.{Verbs, Groups, Resources, Names, Urls, Fronts}
+use Rattle.rbac_lint.specs.Listing.{Lists, listed, words_in, IsAscending, IsFront, IsKey, TakesIn, ListsPlace, ListsAll, HasLength, HasLengths, Lengthens, AreListed}
 use Rattle.rbac_lint.proofs.Exact.{all_pairs_append}
 
 pub contains_at : {X : Type 0} (xs : List X) (k : ℕ) (x : X) → slice_get xs k ≡ Some x → Contains xs x
@@ -82,18 +84,30 @@ only_word : (x y : Text) (k : ℕ) → k < 1 → get_or (x ∷ []) k y ≡ y →
 only_word x y zero l e = e
 only_word x y (suc k) l e = absurd (omega arith)
 
--- a place listed under a word, or under a star where it is wild, is listed for it
-pub lists_one : (old new : Lists) (word key : Text) (place : ℕ) → ListsPlace old new key place → (key ≡ codes "*") ⊎ ((key ≡ word) × (IsWild word → ⊥))
-    → ListsAll old new (word ∷ []) place
-lists_one old new word key place l at = record {
+-- a word has one front, and one key
+pub front_one : (w p q : Text) → IsFront w p → IsFront w q → p ≡ q
+front_one w p q a b = same_front p q (a.0 + 1) (b.0 + 1) a.2 b.2 (sym a.1 ∙ b.1)
+
+key_one : (field : Field) (w p q : Text) → IsKey field w p → IsKey field w q → p ≡ q
+key_one Verbs w p q a b = sym a ∙ b
+key_one Groups w p q a b = sym a ∙ b
+key_one Resources w p q a b = sym a ∙ b
+key_one Names w p q a b = sym a ∙ b
+key_one Urls w p q a b = sym a ∙ b
+key_one Fronts w p q a b = front_one w p q a b
+
+-- a place listed under its key is listed for the word
+pub lists_one : (old new : Lists) (field : Field) (word key : Text) (place : ℕ) → ListsPlace old new key place → IsKey field word key
+    → ListsAll old new field (word ∷ []) place
+lists_one old new field word key place l at = record {
   kept = λ w n c. elim (same_or_not w key) [
     | inl e ↦ subst (λ (x : Text). Contains (listed new x) n) (sym e) (l.0.kept n (subst (λ (x : Text). Contains (listed old x) n) e c))
     | inr ne ↦ subst (λ (xs : List ℕ). Contains xs n) (sym (l.1 w ne)) c
   ];
-  has = λ w c. subst (λ (x : Text). IsUnder new x place) (only_word word w c.0 c.1 c.2) (elim at [
-    | inl e ↦ inl (subst (λ (x : Text). Contains (listed new x) place) e l.0.has)
-    | inr p ↦ inr (p.1, subst (λ (x : Text). Contains (listed new x) place) p.0 l.0.has)
-  ]);
+  has = λ w other c is.
+      let same : w ≡ word = sym (only_word word w c.0 c.1 c.2) in
+      let here : key ≡ other = key_one field word key other at (subst (λ (x : Text). IsKey field x other) same is) in
+      subst (λ (x : Text). Contains (listed new x) place) here l.0.has;
   only = λ w n c. elim (same_or_not w key) [
     | inl e ↦ elim (l.0.only n (subst (λ (x : Text). Contains (listed new x) n) e c)) [
       | inl a ↦ inl (subst (λ (x : Text). Contains (listed old x) n) (sym e) a)
@@ -109,17 +123,20 @@ lists_one old new word key place l at = record {
 
 -- ---- the words of a rule
 
-pub lists_none : (m : Lists) (place : ℕ) → ListsAll m m [] place
-lists_none m place = record {
+lists_same : (m : Lists) (field : Field) (words : List Text) (place : ℕ) → ((w key : Text) → Contains words w → IsKey field w key → ⊥) → ListsAll m m field words place
+lists_same m field words place none = record {
   kept = λ w n c. c;
-  has = λ w c. absurd (omega (arith, c.1));
+  has = λ w key c is. absurd (none w key c is);
   only = λ w n c. inl c;
   ascending = λ up below. up;
 }
 
-under_kept : (m new : Lists) (w : Text) (place : ℕ) → ((v : Text) (n : ℕ) → Contains (listed m v) n → Contains (listed new v) n) → IsUnder m w place → IsUnder new w place
-under_kept m new w place kept (inl s) = inl (kept (codes "*") place s)
-under_kept m new w place kept (inr p) = inr (p.0, kept w place p.1)
+pub lists_none : (m : Lists) (field : Field) (place : ℕ) → ListsAll m m field [] place
+lists_none m field place = lists_same m field [] place (λ w key c is. absurd (omega (arith, c.1)))
+
+pub lists_skipped : (m : Lists) (field : Field) (word : Text) (place : ℕ) → ((key : Text) → IsKey field word key → ⊥) → ListsAll m m field (word ∷ []) place
+lists_skipped m field word place none =
+    lists_same m field (word ∷ []) place (λ w key c is. none key (subst (λ (x : Text). IsKey field x key) (sym (only_word word w c.0 c.1 c.2)) is))
 
 at_most : (m new : Lists) (place : ℕ) → ((w : Text) (n : ℕ) → Contains (listed new w) n → Contains (listed m w) n ⊎ (n ≡ place))
     → ((w : Text) (n : ℕ) → Contains (listed m w) n → n ≤ place) → (w : Text) (n : ℕ) → Contains (listed new w) n → n ≤ place
@@ -128,15 +145,15 @@ at_most m new place only below w n c = elim (only w n c) [
   | inr e ↦ omega (arith, e)
 ]
 
-pub lists_more : (old mid new : Lists) (words : List Text) (i : ℕ) (word : Text) (place : ℕ) → i < length words → word ≡ get_or words i word
-    → ListsAll old mid (take i words) place → ListsAll mid new (word ∷ []) place → ListsAll old new (take (i + 1) words) place
-lists_more old mid new words i word place lt at before step =
+pub lists_more : (old mid new : Lists) (field : Field) (words : List Text) (i : ℕ) (word : Text) (place : ℕ) → i < length words → word ≡ get_or words i word
+    → ListsAll old mid field (take i words) place → ListsAll mid new field (word ∷ []) place → ListsAll old new field (take (i + 1) words) place
+lists_more old mid new field words i word place lt at before step =
     let more : take (i + 1) words ≡ take i words ++ word ∷ [] = take_more words i word lt ∙ ap (λ (x : Text). take i words ++ x ∷ []) (sym at) in
     record {
       kept = λ w n c. step.kept w n (before.kept w n c);
-      has = λ w c. elim (Contains-push_cases (take i words) word w (subst (λ (l : List Text). Contains l w) more c)) [
-        | inl a ↦ under_kept mid new w place step.kept (before.has w a)
-        | inr e ↦ step.has w (0, omega arith, e)
+      has = λ w key c is. elim (Contains-push_cases (take i words) word w (subst (λ (l : List Text). Contains l w) more c)) [
+        | inl a ↦ step.kept key place (before.has w key a is)
+        | inr e ↦ step.has w key (0, omega arith, e) is
       ];
       only = λ w n c. elim (step.only w n c) [ inl a ↦ before.only w n a | inr e ↦ inr e ];
       ascending = λ up below. step.ascending (before.ascending up below) (at_most old mid place before.only below);
@@ -145,16 +162,48 @@ lists_more old mid new words i word place lt at before step =
 -- ---- rules
 
 pub listed_more : (field : Field) (rules : List Rule) (i : ℕ) (r : Rule) (words : List Text) (old new : Lists) → slice_get rules i ≡ Some r → words ≡ words_in field r
-    → AreListed field rules i old → ListsAll old new words i → AreListed field rules (i + 1) new
+    → AreListed field rules i old → ListsAll old new field words i → AreListed field rules (i + 1) new
 listed_more field rules i r words old new at same was is = record {
-  complete = λ n s w lt there c. elim (cases_lt n i) [
-    | inl below ↦ under_kept old new w n is.kept (was.complete n s w below there c)
+  complete = λ n s w key lt there c k. elim (cases_lt n i) [
+    | inl below ↦ is.kept key n (was.complete n s w key below there c k)
     | inr le ↦
         let here : n ≡ i = omega (arith, le, lt) in
         let one : s ≡ r = same_Some s r (sym there ∙ ap (slice_get rules) here ∙ at) in
-        subst (λ (k : ℕ). IsUnder new w k) (sym here)
-        (is.has w (subst (λ (ws : List Text). Contains ws w) (sym same) (subst (λ (x : Rule). Contains (words_in field x) w) one c)))
+        subst (λ (m : ℕ). Contains (listed new key) m) (sym here)
+        (is.has w key (subst (λ (ws : List Text). Contains ws w) (sym same) (subst (λ (x : Rule). Contains (words_in field x) w) one c)) k)
   ];
   below = λ w n c. elim (is.only w n c) [ inl a ↦ let l = was.below w n a in omega (arith, l) | inr e ↦ omega (arith, e) ];
   ascending = is.ascending was.ascending (λ w n c. let l = was.below w n c in omega (arith, l));
 }
+
+-- ---- how long fronts are
+
+pub lengthens_front : (old new : List ℕ) (w front : Text) → IsFront w front → new ≡ old ++ length front ∷ [] → Lengthens old new (w ∷ [])
+lengthens_front old new w front is e =
+    let has : HasLength new w = λ other f. subst (λ (l : List ℕ). Contains l (length other)) (sym e)
+    (subst (λ (x : Text). Contains (old ++ length front ∷ []) (length x)) (front_one w front other is f) (Contains-push old (length front))) in
+    (λ n c. subst (λ (l : List ℕ). Contains l n) (sym e) (Contains-append_left old (length front ∷ []) n c), All-cons (HasLength new) w [] has (All-nil (HasLength new)))
+
+pub lengthens_none : (old : List ℕ) (w : Text) → ((front : Text) → IsFront w front → ⊥) → Lengthens old old (w ∷ [])
+lengthens_none old w none = (λ n c. c, All-cons (HasLength old) w [] (λ front f. absurd (none front f)) (All-nil (HasLength old)))
+
+pub lengthens_start : (old : List ℕ) → Lengthens old old []
+lengthens_start old = (λ n c. c, All-nil (HasLength old))
+
+lengths_kept : (old new : List ℕ) → ((n : ℕ) → Contains old n → Contains new n) → (words : List Text) → All (HasLength old) words → All (HasLength new) words
+lengths_kept old new kept = All-weaker (HasLength old) (HasLength new) (λ w has front is. kept (length front) (has front is))
+
+pub lengthens_more : (old mid new : List ℕ) (words : List Text) (i : ℕ) (word : Text) → i < length words → word ≡ get_or words i word
+    → Lengthens old mid (take i words) → Lengthens mid new (word ∷ []) → Lengthens old new (take (i + 1) words)
+lengthens_more old mid new words i word lt at before step = (
+  λ n c. step.0 n (before.0 n c),
+  All-more (HasLength new) words i word lt (lengths_kept mid new step.0 (take i words) before.1) (subst (HasLength new) at (step.1 0 word (omega arith))),
+)
+
+pub lengths_else : (old new : List ℕ) (rules : List Rule) → ((n : ℕ) → Contains old n → Contains new n) → All (HasLengths old) rules → All (HasLengths new) rules
+lengths_else old new rules kept = All-weaker (HasLengths old) (HasLengths new) (λ r has. lengths_kept old new kept r.urls has) rules
+
+pub lengths_more : (old new : List ℕ) (rules : List Rule) (i : ℕ) (r : Rule) → i < length rules → r ≡ get_or rules i r
+    → All (HasLengths old) (take i rules) → Lengthens old new r.urls → All (HasLengths new) (take (i + 1) rules)
+lengths_more old new rules i r lt at before step =
+    All-more (HasLengths new) rules i r lt (lengths_else old new (take i rules) step.0 before) (subst (HasLengths new) at step.1)

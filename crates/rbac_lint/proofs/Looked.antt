@@ -1,115 +1,196 @@
--- whatever covers a rule is listed for each of its words
-use Rattle.std.proofs.Common.{◌≡◌, ℕ, ◌+◌, ◌<◌, ◌≤◌, ◌⊎◌, inl, inr, List, [], ◌∷◌, get_or, length, sym, ap, ◌∙◌, refl, subst, arith}
-use Rattle.std.specs.Prelude.{Option, Some, None, Contains, slice_get, codes, MatchOption, IfSome, min}
+-- whatever covers a rule is listed under a word that matches one of its own
+use Rattle.std.proofs.Common.{◌≡◌, ℕ, ◌+◌, ◌<◌, ◌≤◌, ◌⊎◌, ◌↔◌, inl, inr, List, [], ◌∷◌, ◌++◌, get_or, take, length, sym, ap, ◌∙◌, refl, subst, arith, Bor, All}
+use Rattle.std.specs.Prelude.{Option, Some, None, Contains, slice_get, codes, IfSome, min}
 use Rattle.std.proofs.lemmas.Bool.{cases_lt}
-use Rattle.std.proofs.lemmas.List.Elements.{All-contains}
+use Rattle.std.proofs.Math.Seq.{take-append_seam}
+use Rattle.std.proofs.lemmas.List.{take_more, length-append}
+use Rattle.std.proofs.lemmas.List.Elements.{All-contains, All-nil, All-push, Contains-append_left, Contains-push, Contains-push_cases}
 use Rattle.std.proofs.lemmas.Option.{slice_get_within, get_or_from_slice_get, same_Some, slice_get-get_or}
-use Rattle.rbac_terms.specs.Text.{Text, slash}
-use Rattle.rbac_terms.specs.Matching.{WordMatches, ResourceWordMatches, UrlWordMatches}
+use Rattle.rbac_terms.specs.Text.{Text, slash, IsCutAtFirst, BeginsWith}
+use Rattle.rbac_terms.proofs.Texts.{IsCutAtFirst-one}
+use Rattle.rbac_terms.specs.Matching.{ResourceWordMatches}
 use Rattle.rbac_terms.specs.declared.matching.Rule.{Rule}
 use Rattle.rbac_model.specs.Universes.{Covers}
-use Rattle.rbac_lint.specs.Covering.{IsUrlSample, sample_front, AllowsVerbs, AllowsVerb, AllowsGroups, AllowsGroup, AllowsResources, AllowsResource, AllowsNames, AllowsName, AllowsUrls, AllowsUrl, HasResource, HasUrl, GivesPath}
-use Rattle.rbac_lint.specs.Findings.{CoversAll, MakesRedundantAt, MakesRedundant, IsLeastCover}
+use Rattle.rbac_lint.specs.Covering.{AllowsVerbs, AllowsVerb, AllowsGroups, AllowsGroup, AllowsResources, AllowsResource, AllowsNames, AllowsName, AllowsUrls, AllowsUrl, HasResource, HasUrl, GivesPath}
+use Rattle.rbac_lint.specs.Findings.{CoversAll, MakesRedundantAt, MakesRedundant}
 use Rattle.rbac_lint.specs.declared.listing.Field.{Field}
-use Rattle.rbac_lint.specs.declared.listing.Field.TheVariants.{Verbs, Groups, Resources, Names, Urls}
+use Rattle.rbac_lint.specs.declared.listing.Field.TheVariants.{Verbs, Groups, Resources, Names, Urls, Fronts}
 use Rattle.rbac_lint.specs.declared.listing.Listing.{Listing}
-use Rattle.rbac_lint.specs.declared.listing.Candidates.{Candidates}
-use Rattle.rbac_lint.specs.Listing.{Lists, listed, lists_in, words_in, names_or_star, IsAscending, IsWild, IsUnder, IsAsked, Binds, AreListed, IsListingOf, CoversAt, AreCandidates, IsRedundantBy, AnswersLeast, sooner}
+use Rattle.rbac_lint.specs.declared.candidates.Candidates.{Candidates}
+use Rattle.rbac_lint.specs.Listing.{Lists, listed, lists_in, words_in, names_or_star, IsAscending, AreAscending, IsFront, HasLength, HasLengths, IsListingOf}
+use Rattle.rbac_lint.specs.Candidates.{IsAsked, Binds, IsFound, StandsIn, IsAmong, Ascend, Finds, AddsUnder, IsOfEach, IsFrontOf, AreMatching, CoversAt, AreCandidates, IsLeastCoverIfAny, IsRedundantBy, IsRedundantIn, AnswersLeast, sooner}
 use Rattle.rbac_lint.proofs.Samples.{samples_from_Covers, resources_from_samples, urls_from_samples}
-use Rattle.rbac_lint.proofs.Urls.{ends}
+use Rattle.rbac_lint.proofs.Urls.{GivesPath-path, UrlWordMatches-begins}
 
--- what is asked for a word finds the place
-abbrev pub IsFound : Lists → Text → ℕ → Type 0
-IsFound m w n = Contains (listed m w) n ⊎ Contains (listed m (codes "*")) n
+-- ---- the words that match
 
-star_is_wild : IsWild (codes "*")
-star_is_wild = inl ([], refl)
+-- each place of a rule's words is listed under them
+abbrev pub IsListedAll : List Text → Lists → ℕ → Type 0
+IsListedAll words m n = (u : Text) → Contains words u → Contains (listed m u) n
 
-found_same : (m : Lists) (w : Text) (n : ℕ) → IsUnder m w n → IsFound m w n
-found_same m w n (inl s) = inr s
-found_same m w n (inr p) = inl p.1
+-- a place is listed under a word that matches
+abbrev pub IsMatched : Lists → Text → ℕ → Type 0
+IsMatched m w n = (u : Text) × ResourceWordMatches u w × Contains (listed m u) n
 
-found_wild : (m : Lists) (u w : Text) (n : ℕ) → IsWild u → IsUnder m u n → IsFound m w n
-found_wild m u w n wild (inl s) = inr s
-found_wild m u w n wild (inr p) = absurd (p.0 wild)
-
--- a word that matches finds it
-found_word : (m : Lists) (u w : Text) (n : ℕ) → WordMatches u w → IsUnder m u n → IsFound m w n
-found_word m u w n (inl e) under = found_wild m u w n (subst IsWild (sym e) star_is_wild) under
-found_word m u w n (inr e) under = found_same m w n (subst (λ (x : Text). IsUnder m x n) e under)
-
-found_resource : (m : Lists) (u w : Text) (n : ℕ) → ResourceWordMatches u w → IsUnder m u n → IsFound m w n
-found_resource m u w n (inl match) under = found_word m u w n match under
-found_resource m u w n (inr s) under = found_wild m u w n (inl (slash ∷ s.0, s.1)) under
-
-found_url : (m : Lists) (u w x : Text) (n : ℕ) → IsUrlSample w x → UrlWordMatches u x → IsUnder m u n → IsFound m w n
-found_url m u w x n sample (inr b) under = found_wild m u w n (inr (ends u b.0 b.1 b.2)) under
-found_url m u w x n (inl a) (inl e) under = found_same m w n (subst (λ (y : Text). IsUnder m y n) (e ∙ a.1) under)
-found_url m u w x n (inr a) (inl e) under = found_wild m u w n (inr (sample_front a.0, e ∙ a.4)) under
-
--- each place of the rule's words is listed
-abbrev pub IsListedAll : Field → Rule → Lists → ℕ → Type 0
-IsListedAll field a m n = (u : Text) → Contains (words_in field a) u → IsUnder m u n
-
-found_star : (m : Lists) (a : Rule) (w : Text) (n : ℕ) → a.resource_names ≡ [] → IsListedAll Names a m n → IsFound m w n
-found_star m a w n e under =
+matched_star : (m : Lists) (a : Rule) (w : Text) (n : ℕ) → a.resource_names ≡ [] → IsListedAll (names_or_star a.resource_names) m n → IsMatched m w n
+matched_star m a w n e under =
     let has : Contains (names_or_star a.resource_names) (codes "*") = subst (λ (ns : List Text). Contains (names_or_star ns) (codes "*")) (sym e) (0, omega arith, refl) in
-    found_wild m (codes "*") w n star_is_wild (under (codes "*") has)
+    (codes "*", inl (inl refl), under (codes "*") has)
 
 named : (names : List Text) (w : Text) → Contains names w → Contains (names_or_star names) w
 named [] w c = absurd (omega (arith, c.1))
 named (n ∷ ns) w c = c
 
-found_name : (m : Lists) (a b : Rule) (names : List Text) (w : Text) (n : ℕ) → names ≡ b.resource_names → AllowsNames a b → Contains (names_or_star names) w → IsListedAll Names a m n → IsFound m w n
+matched_name : (m : Lists) (a b : Rule) (names : List Text) (w : Text) (n : ℕ) → names ≡ b.resource_names → AllowsNames a b → Contains (names_or_star names) w
+    → IsListedAll (names_or_star a.resource_names) m n → IsMatched m w n
 unfolding AllowsNames AllowsName
-found_name m a b [] w n e h c under = found_star m a w n (h.0 (sym e)) under
-found_name m a b (x ∷ xs) w n e h c under = elim (All-contains (AllowsName a) b.resource_names w h.1 (subst (λ (ns : List Text). Contains ns w) e c)) [
-  | inl none ↦ found_star m a w n none under
-  | inr there ↦ found_same m w n (under w (named a.resource_names w there))
+matched_name m a b [] w n e h c under = matched_star m a w n (h.0 (sym e)) under
+matched_name m a b (x ∷ xs) w n e h c under = elim (All-contains (AllowsName a) b.resource_names w h.1 (subst (λ (ns : List Text). Contains ns w) e c)) [
+  | inl none ↦ matched_star m a w n none under
+  | inr there ↦ (w, inl (inr refl), under w (named a.resource_names w there))
 ]
 
 verbs_of : (a b : Rule) → Covers a b → HasResource b ⊎ HasUrl b → AllowsVerbs a b
 verbs_of a b c (inl has) = (resources_from_samples a b (samples_from_Covers a b c) has).1
 verbs_of a b c (inr has) = (urls_from_samples a b (samples_from_Covers a b c) has).0
 
-pub found : (field : Field) (a b : Rule) (m : Lists) (w : Text) (n : ℕ) → Covers a b → Binds field b → IsAsked field w → Contains (words_in field b) w → IsListedAll field a m n → IsFound m w n
+found_url : (rules : List Rule) (l : Listing) (w u : Text) (n : ℕ) (a : Rule) → IsListingOf rules l → slice_get rules n ≡ Some a → Contains a.urls u
+    → (u ≡ w) ⊎ ((front : Text) × IsFront u front × BeginsWith w front) → IsFound Urls l w n
+found_url rules l w u n a is at has (inl e) = inl (is.urls.complete n a u w (slice_get_within rules n a at) at has e)
+found_url rules l w u n a is at has (inr f) =
+    let lt : n < length rules = slice_get_within rules n a at in
+    let known : HasLengths l.lengths.items a = All-contains (HasLengths l.lengths.items) rules a is.lengths (n, lt, get_or_from_slice_get rules n a a at) in
+    inr (f.0, f.2, All-contains (HasLength l.lengths.items) a.urls u known has f.0 f.1, is.fronts.complete n a u f.0 lt at has f.1)
+
+-- what covers a rule is found for each of its words that is asked
+pub found : (field : Field) (rules : List Rule) (l : Listing) (b : Rule) (w : Text) (n : ℕ) → IsListingOf rules l → Binds field b → IsAsked field w → Contains (words_in field b) w
+    → CoversAt rules b n → IsFound field l w n
 unfolding AllowsVerbs AllowsVerb AllowsGroups AllowsGroup AllowsResources AllowsResource AllowsUrls AllowsUrl GivesPath
-found Verbs a b m w n c has asked at under =
-    let any = All-contains (AllowsVerb a) b.verbs w (verbs_of a b c has) at in
-    found_word m any.1 w n any.4 (under any.1 (any.0, any.2, any.3))
-found Groups a b m w n c has asked at under =
-    let any = All-contains (AllowsGroup a) b.groups w (resources_from_samples a b (samples_from_Covers a b c) has).2 at in
-    found_word m any.1 w n any.4 (under any.1 (any.0, any.2, any.3))
-found Resources a b m w n c has asked at under =
-    let any = All-contains (AllowsResource a) b.resources w (resources_from_samples a b (samples_from_Covers a b c) has).0 at asked in
-    found_resource m any.1 w n any.4 (under any.1 (any.0, any.2, any.3))
-found Names a b m w n c has asked at under =
-    found_name m a b b.resource_names w n refl (resources_from_samples a b (samples_from_Covers a b c) has).3 at under
-found Urls a b m w n c has asked at under =
-    let any = All-contains (AllowsUrl a) b.urls w (urls_from_samples a b (samples_from_Covers a b c) has).1 at asked.0 asked.1 asked.2 in
-    found_url m any.1 w asked.0 n asked.1 any.4 (under any.1 (any.0, any.2, any.3))
+found Verbs rules l b w n is has asked at c =
+    let any = All-contains (AllowsVerb c.0) b.verbs w (verbs_of c.0 b c.2 has) at in
+    (any.1, inl any.4, is.verbs.complete n c.0 any.1 any.1 (slice_get_within rules n c.0 c.1) c.1 (any.0, any.2, any.3) refl)
+found Groups rules l b w n is has asked at c =
+    let any = All-contains (AllowsGroup c.0) b.groups w (resources_from_samples c.0 b (samples_from_Covers c.0 b c.2) has).2 at in
+    (any.1, inl any.4, is.groups.complete n c.0 any.1 any.1 (slice_get_within rules n c.0 c.1) c.1 (any.0, any.2, any.3) refl)
+found Resources rules l b w n is has asked at c =
+    let any = All-contains (AllowsResource c.0) b.resources w (resources_from_samples c.0 b (samples_from_Covers c.0 b c.2) has).0 at asked in
+    (any.1, any.4, is.resources.complete n c.0 any.1 any.1 (slice_get_within rules n c.0 c.1) c.1 (any.0, any.2, any.3) refl)
+found Names rules l b w n is has asked at c =
+    matched_name l.names c.0 b b.resource_names w n refl (resources_from_samples c.0 b (samples_from_Covers c.0 b c.2) has).3 at
+    (λ u has. is.names.complete n c.0 u u (slice_get_within rules n c.0 c.1) c.1 has refl)
+found Urls rules l b w n is has asked at c =
+    let sample = GivesPath-path w asked in
+    let any = All-contains (AllowsUrl c.0) b.urls w (urls_from_samples c.0 b (samples_from_Covers c.0 b c.2) has).1 at sample.0 sample.1 sample.2 in
+    found_url rules l w any.1 n c.0 is c.1 (any.0, any.2, any.3) (UrlWordMatches-begins any.1 w sample.0 asked sample.1 any.4)
+found Fronts rules l b w n is has asked at c = absurd has
 
-lists_of : (field : Field) (rules : List Rule) (l : Listing) → IsListingOf rules l → AreListed field rules (length rules) (lists_in field l)
-lists_of Verbs rules l is = is.verbs
-lists_of Groups rules l is = is.groups
-lists_of Resources rules l is = is.resources
-lists_of Names rules l is = is.names
-lists_of Urls rules l is = is.urls
-
--- the places for one word
-pub places_for_word : (field : Field) (rules : List Rule) (l : Listing) (b : Rule) (w : Text) (c : Candidates) → IsListingOf rules l → Binds field b → IsAsked field w → Contains (words_in field b) w
-    → c.own.now ≡ listed (lists_in field l) w → c.wild.now ≡ listed (lists_in field l) (codes "*") → AreCandidates rules b c
+pub are_candidates : (field : Field) (rules : List Rule) (l : Listing) (b : Rule) (w : Text) (c : Candidates) → IsListingOf rules l → Binds field b → IsAsked field w → Contains (words_in field b) w
+    → Finds field l w c → AreCandidates rules b c
 unfolding AreCandidates
-places_for_word field rules l b w c is has asked at own wild =
-    let m = lists_in field l in
-    let are : AreListed field rules (length rules) m = lists_of field rules l is in (
-      subst IsAscending (sym own) (are.ascending w),
-      subst IsAscending (sym wild) (are.ascending (codes "*")),
-      λ n covers. elim (found field covers.0 b m w n covers.2 has asked at (λ u at. are.complete n covers.0 u (slice_get_within rules n covers.0 covers.1) covers.1 at)) [
-        | inl x ↦ inl (subst (λ (xs : List ℕ). Contains xs n) (sym own) x)
-        | inr x ↦ inr (subst (λ (xs : List ℕ). Contains xs n) (sym wild) x)
-      ],
-    )
+are_candidates field rules l b w c is has asked at finds = (finds.0, λ n covers. finds.1 n (found field rules l b w n is has asked at covers))
+
+-- ---- lists of places
+
+stands_kept : (lists more : List (Bor (List ℕ))) (n : ℕ) → StandsIn lists n → StandsIn (lists ++ more) n
+stands_kept lists more n s = let c = Contains-append_left lists more s.1 (s.0, s.2, s.3) in (c.0, s.1, c.1, c.2, s.4)
+
+stands_push : (lists : List (Bor (List ℕ))) (places : Bor (List ℕ)) (n : ℕ) → Contains places.now n → StandsIn (lists ++ places ∷ []) n
+stands_push lists places n h = let c = Contains-push lists places in (c.0, places, c.1, c.2, h)
+
+stands_cases : (lists : List (Bor (List ℕ))) (places : Bor (List ℕ)) (n : ℕ) → StandsIn (lists ++ places ∷ []) n → StandsIn lists n ⊎ Contains places.now n
+stands_cases lists places n s = elim (Contains-push_cases lists places s.1 (s.0, s.2, s.3)) [
+  | inl c ↦ inl (c.0, s.1, c.1, c.2, s.4)
+  | inr e ↦ inr (subst (λ (x : Bor (List ℕ)). Contains x.now n) (sym e) s.4)
+]
+
+-- what is added to candidates
+pub adds_under : (m : Lists) (w : Text) (old new : Candidates) (p : Bor (List ℕ)) → new.lists.items ≡ old.lists.items ++ p ∷ [] → p.now ≡ listed m w → AddsUnder m (λ u. u ≡ w) old new
+adds_under m w old new p e same =
+    let here : (P : List (Bor (List ℕ)) → Type 0) → P (old.lists.items ++ p ∷ []) → P new.lists.items = λ P h. subst P (sym e) h in
+    record {
+      kept = λ n c. here (λ ls. StandsIn ls n) (stands_kept old.lists.items (p ∷ []) n c);
+      has = λ u n is c. here (λ ls. StandsIn ls n) (stands_push old.lists.items p n (subst (λ (ns : List ℕ). Contains ns n) (ap (listed m) is ∙ sym same) c));
+      ascending = λ up was. here (λ ls. All (λ x. IsAscending x.now) ls) (All-push (λ x. IsAscending x.now) old.lists.items p was (subst IsAscending (sym same) (up w)));
+    }
+
+pub adds_none : (m : Lists) (P : Text → Type 0) (c : Candidates) → ((u : Text) → P u → ⊥) → AddsUnder m P c c
+adds_none m P c none = record {
+  kept = λ n s. s;
+  has = λ u n is s. absurd (none u is);
+  ascending = λ up was. was;
+}
+
+pub adds_fewer : (m : Lists) (P Q : Text → Type 0) (old new : Candidates) → ((u : Text) → Q u → P u) → AddsUnder m P old new → AddsUnder m Q old new
+adds_fewer m P Q old new f a = record {
+  kept = a.kept;
+  has = λ u n is s. a.has u n (f u is) s;
+  ascending = a.ascending;
+}
+
+-- the word for each resource with a subresource is one
+pub of_each_one : (w front rest word : Text) → IsCutAtFirst w slash front rest → word ≡ codes "*/" ++ rest → (u : Text) → IsOfEach w u → u ≡ word
+of_each_one w front rest word cut is u of =
+    of.1 ∙ ap (λ (s : Text). codes "*/" ++ s) (IsCutAtFirst-one w of.2.0 front of.0 rest slash of.2.1 cut) ∙ sym is
+
+-- those under the words that match a resource text
+pub all_matching : (m : Lists) (w : Text) (none own every c : Candidates) → none.lists.items ≡ [] → AddsUnder m (λ u. u ≡ w) none own → AddsUnder m (λ u. u ≡ codes "*") own every
+    → AddsUnder m (IsOfEach w) every c → AreMatching m w c
+all_matching m w none own every c e a b d = (
+  λ up. d.ascending up (b.ascending up (a.ascending up (subst (λ (ls : List (Bor (List ℕ))). All (λ x. IsAscending x.now) ls) (sym e) (All-nil (λ x. IsAscending x.now))))),
+  λ u n match s. elim match [
+    | inl plain ↦ elim plain [ inl is ↦ d.kept n (b.has u n is s) | inr is ↦ d.kept n (b.kept n (a.has u n is s)) ]
+    | inr sub ↦ d.has u n (sub.0, sub.1, sub.3) s
+  ],
+)
+
+pub matching_found : (field : Field) (rules : List Rule) (l : Listing) (w : Text) (c : Candidates) → (field ≡ Urls → ⊥) → IsListingOf rules l → AreMatching (lists_in field l) w c → Finds field l w c
+matching_found Verbs rules l w c other is m = (m.0 is.verbs.ascending, λ n s. m.1 s.0 n s.1 s.2)
+matching_found Groups rules l w c other is m = (m.0 is.groups.ascending, λ n s. m.1 s.0 n s.1 s.2)
+matching_found Resources rules l w c other is m = (m.0 is.resources.ascending, λ n s. m.1 s.0 n s.1 s.2)
+matching_found Names rules l w c other is m = (m.0 is.names.ascending, λ n s. m.1 s.0 n s.1 s.2)
+matching_found Urls rules l w c other is m = absurd (other refl)
+matching_found Fronts rules l w c other is m = (m.0 is.fronts.ascending, λ n s. m.1 s.0 n s.1 s.2)
+
+-- those under the fronts of a URL
+begins : (w front : Text) → BeginsWith w front → take (length front) w ≡ front
+begins w front b = ap (λ (t : Text). take (length front) t) b.1 ∙ take-append_seam front b.0
+
+shorter : (w front : Text) → BeginsWith w front → length front ≤ length w
+shorter w front b = omega (arith, ap length b.1, length-append front b.0)
+
+pub record HasFronts (l : Listing) (w : Text) (lengths : List ℕ) (c : Candidates) : Type 0 where
+  pub own : (n : ℕ) → Contains (listed l.urls w) n → IsAmong c n
+  pub fronts : (len n : ℕ) (u : Text) → Contains lengths len → IsFrontOf w len u → Contains (listed l.fronts u) n → IsAmong c n
+  pub ascending : AreAscending l.urls → AreAscending l.fronts → Ascend c
+
+pub fronts_start : (l : Listing) (w : Text) (none c : Candidates) → none.lists.items ≡ [] → AddsUnder l.urls (λ u. u ≡ w) none c → HasFronts l w [] c
+fronts_start l w none c e a = record {
+  own = λ n s. a.has w n refl s;
+  fronts = λ len n u k is s. absurd (omega (arith, k.1));
+  ascending = λ up more. a.ascending up (subst (λ (ls : List (Bor (List ℕ))). All (λ x. IsAscending x.now) ls) (sym e) (All-nil (λ x. IsAscending x.now)));
+}
+
+pub fronts_more : (l : Listing) (w : Text) (lengths : List ℕ) (i : ℕ) (old new : Candidates) → i < length lengths
+    → HasFronts l w (take i lengths) old → AddsUnder l.fronts (IsFrontOf w (get_or lengths i 0)) old new → HasFronts l w (take (i + 1) lengths) new
+fronts_more l w lengths i old new lt was a =
+    let more : take (i + 1) lengths ≡ take i lengths ++ get_or lengths i 0 ∷ [] = take_more lengths i 0 lt in
+    record {
+      own = λ n s. a.kept n (was.own n s);
+      fronts = λ k n u h is s. elim (Contains-push_cases (take i lengths) (get_or lengths i 0) k (subst (λ (ls : List ℕ). Contains ls k) more h)) [
+        | inl before ↦ a.kept n (was.fronts k n u before is s)
+        | inr same ↦ a.has u n (subst (λ (x : ℕ). IsFrontOf w x u) (sym same) is) s
+      ];
+      ascending = λ up more. a.ascending more (was.ascending up more);
+    }
+
+pub fronts_found : (rules : List Rule) (l : Listing) (w : Text) (c : Candidates) → IsListingOf rules l → HasFronts l w l.lengths.items c → Finds Urls l w c
+fronts_found rules l w c is has = (
+  has.ascending is.urls.ascending is.fronts.ascending,
+  λ n s. elim s [
+    | inl own ↦ has.own n own
+    | inr f ↦ has.fronts (length f.0) n f.0 f.2 (shorter w f.0 f.1, sym (begins w f.0 f.1)) f.3
+  ],
+)
 
 -- ---- the least of places
 
@@ -127,6 +208,10 @@ least_of_two P Q None (Some j) p q = (inr q.0, λ k s. elim s [ inl a ↦ absurd
 least_of_two P Q (Some i) None p q = (inl p.0, λ k s. elim s [ inl a ↦ p.1 k a | inr b ↦ absurd (q k b) ])
 least_of_two P Q (Some i) (Some j) p q = least_min P Q i j p q
 
+least_same : (P Q : ℕ → Type 0) (o : Option ℕ) → ((n : ℕ) → P n ↔ Q n) → AnswersLeast P o → AnswersLeast Q o
+least_same P Q None same none = λ n q. none n ((same n).1 q)
+least_same P Q (Some i) same least = ((same i).0 least.0, λ k q. least.1 k ((same k).1 q))
+
 -- what makes a rule redundant covers it
 covers_at : (rules : List Rule) (i j : ℕ) (b : Rule) → slice_get rules i ≡ Some b → MakesRedundant rules i j → CoversAt rules b j
 unfolding MakesRedundantAt CoversAll
@@ -134,30 +219,33 @@ covers_at rules i j b here m =
     let same : m.0 ≡ b = same_Some m.0 b (sym m.2 ∙ here) in
     (m.1, m.3, subst (λ (x : Rule). Covers m.1 x) same m.4.1)
 
-least_answer : (rules : List Rule) (i : ℕ) (b : Rule) (c : Candidates) (o : Option ℕ) → slice_get rules i ≡ Some b → AreCandidates rules b c
-    → AnswersLeast (λ n. IsRedundantBy rules i c.own.now n ⊎ IsRedundantBy rules i c.wild.now n) o
-    → MatchOption o ((j : ℕ) → MakesRedundant rules i j → ⊥) (λ j. IsLeastCover rules i j)
+pub least_cover : (rules : List Rule) (i : ℕ) (b : Rule) (c : Candidates) (o : Option ℕ) → slice_get rules i ≡ Some b → AreCandidates rules b c
+    → AnswersLeast (IsRedundantIn rules i c.lists.items) o → IsLeastCoverIfAny rules i o
 unfolding AreCandidates
-least_answer rules i b c None here are none = λ j m. elim (are.2 j (covers_at rules i j b here m)) [
-  | inl x ↦ none j (inl (m, x))
-  | inr x ↦ none j (inr (m, x))
-]
-least_answer rules i b c (Some j) here are least = (
-  elim least.0 [ inl x ↦ x.0 | inr x ↦ x.0 ],
-  λ k m. least.1 k (elim (are.2 k (covers_at rules i k b here m)) [
-    | inl x ↦ inl (m, x)
-    | inr x ↦ inr (m, x)
-  ]),
+least_cover rules i b c o here are =
+    least_same (IsRedundantIn rules i c.lists.items) (MakesRedundant rules i) o (λ n. (λ x. x.0, λ m. (m, are.1 n (covers_at rules i n b here m))))
+
+-- the least of more lists
+pub least_start : (rules : List Rule) (i : ℕ) → AnswersLeast (IsRedundantIn rules i []) None
+least_start rules i = λ n x. omega (arith, x.1.2)
+
+more_lists : (rules : List Rule) (i : ℕ) (lists : List (Bor (List ℕ))) (p : Bor (List ℕ)) (n : ℕ)
+    → (IsRedundantIn rules i lists n ⊎ IsRedundantBy rules i p.now n) ↔ IsRedundantIn rules i (lists ++ p ∷ []) n
+more_lists rules i lists p n = (
+  λ s. elim s [ inl x ↦ (x.0, stands_kept lists (p ∷ []) n x.1) | inr x ↦ (x.0, stands_push lists p n x.1) ],
+  λ x. elim (stands_cases lists p n x.1) [ inl y ↦ inl (x.0, y) | inr y ↦ inr (x.0, y) ],
 )
 
-pub least_cover : (rules : List Rule) (i : ℕ) (b : Rule) (c : Candidates) (p q o : Option ℕ) → slice_get rules i ≡ Some b → AreCandidates rules b c
-    → AnswersLeast (IsRedundantBy rules i c.own.now) p → AnswersLeast (IsRedundantBy rules i c.wild.now) q → o ≡ sooner p q
-    → MatchOption o ((j : ℕ) → MakesRedundant rules i j → ⊥) (λ j. IsLeastCover rules i j)
-least_cover rules i b c p q o here are own wild e =
-    least_answer rules i b c o here are
-    (subst (AnswersLeast (λ n. IsRedundantBy rules i c.own.now n ⊎ IsRedundantBy rules i c.wild.now n)) (sym e) (least_of_two (IsRedundantBy rules i c.own.now) (IsRedundantBy rules i c.wild.now) p q own wild))
+pub least_more : (rules : List Rule) (i : ℕ) (lists : List (Bor (List ℕ))) (k : ℕ) (d : Bor (List ℕ)) (a b o : Option ℕ) → k < length lists
+    → AnswersLeast (IsRedundantIn rules i (take k lists)) a → AnswersLeast (IsRedundantBy rules i (get_or lists k d).now) b → o ≡ sooner a b → AnswersLeast (IsRedundantIn rules i (take (k + 1) lists)) o
+least_more rules i lists k d a b o lt before here e =
+    let p : Bor (List ℕ) = get_or lists k d in
+    subst (λ (ls : List (Bor (List ℕ))). AnswersLeast (IsRedundantIn rules i ls) o) (sym (take_more lists k d lt))
+    (subst (λ (x : Option ℕ). AnswersLeast (IsRedundantIn rules i (take k lists ++ p ∷ [])) x) (sym e)
+    (least_same (λ n. IsRedundantIn rules i (take k lists) n ⊎ IsRedundantBy rules i p.now n) (IsRedundantIn rules i (take k lists ++ p ∷ [])) (sooner a b) (more_lists rules i (take k lists) p)
+    (least_of_two (IsRedundantIn rules i (take k lists)) (IsRedundantBy rules i p.now) a b before here)))
 
-pub least_within : (rules : List Rule) (i : ℕ) (o : Option ℕ) → MatchOption o ((j : ℕ) → MakesRedundant rules i j → ⊥) (λ j. IsLeastCover rules i j) → IfSome o (λ j. j < length rules)
+pub least_within : (rules : List Rule) (i : ℕ) (o : Option ℕ) → IsLeastCoverIfAny rules i o → IfSome o (λ j. j < length rules)
 least_within rules i None h = tt
 least_within rules i (Some j) h = slice_get_within rules j h.0.1 h.0.3
 
@@ -202,7 +290,7 @@ first_least rules i listed count n up at holds before k r =
 
 -- ---- the fewest places
 
-pub fewer_of : (rules : List Rule) (b : Rule) (best fewest : Option Candidates) (other : Candidates) → (fewest ≡ best) ⊎ (fewest ≡ Some other)
-    → IfSome best (AreCandidates rules b) → AreCandidates rules b other → IfSome fewest (AreCandidates rules b)
-fewer_of rules b best fewest other (inl e) was is = subst (λ (o : Option Candidates). IfSome o (AreCandidates rules b)) (sym e) was
-fewer_of rules b best fewest other (inr e) was is = subst (λ (o : Option Candidates). IfSome o (AreCandidates rules b)) (sym e) is
+pub fewer_of : (rules : List Rule) (b : Rule) (best : Option Candidates) (other c : Candidates) → (best ≡ Some c) ⊎ (c ≡ other)
+    → IfSome best (AreCandidates rules b) → AreCandidates rules b other → AreCandidates rules b c
+fewer_of rules b best other c (inl e) was is = subst (λ (o : Option Candidates). IfSome o (AreCandidates rules b)) e was
+fewer_of rules b best other c (inr e) was is = subst (AreCandidates rules b) (sym e) is

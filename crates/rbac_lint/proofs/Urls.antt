@@ -10,6 +10,7 @@ use Rattle.rbac_terms.specs.Matching.{UrlWordMatches, EndsInStar}
 use Rattle.rbac_terms.proofs.Texts.{one_more_star, same_front}
 use Rattle.rbac_terms.specs.declared.matching.Rule.{Rule}
 use Rattle.rbac_lint.specs.Covering.{IsPath, IsStars, IsUrlSample, sample_front, AllowsUrl, GivesPath, MatchesEachPath}
+use Rattle.rbac_lint.specs.Listing.{IsFront}
 
 pub BeginsWith-through : (x f q : Text) → BeginsWith x f → BeginsWith f q → BeginsWith x q
 BeginsWith-through x f q a b = (b.0 ++ a.0, a.1 ∙ ap (λ t. t ++ a.0) b.1 ∙ append_assoc q b.0 a.0)
@@ -47,6 +48,19 @@ UrlWordMatches-below : (u f x : Text) → (EndsInStar f → ⊥) → UrlWordMatc
 UrlWordMatches-below u f x none m b =
     let r : ReachesBelow u f = matches_reaches u f 0 none m in
     inr (r.0, r.1, r.2, r.3, BeginsWith-through x f r.0 b r.4)
+
+-- what matches the sample of a path is the path itself, or has a front with which it begins
+begins_with : (u w q : Text) → ReachesBelow u q → BeginsWith w q → (front : Text) × IsFront u front × BeginsWith w front
+begins_with u w q r b = (r.0, (r.1, r.2, r.3), BeginsWith-through w q r.0 b r.4)
+
+pub UrlWordMatches-begins : (u w x : Text) → IsPath w → IsUrlSample w x → UrlWordMatches u x → (u ≡ w) ⊎ ((front : Text) × IsFront u front × BeginsWith w front)
+UrlWordMatches-begins u w x path (inl a) (inl e) = inl (e ∙ a.1)
+UrlWordMatches-begins u w x path (inl a) (inr b) = inr (b.0, (b.1, b.2, b.3), subst (λ (t : Text). BeginsWith t b.0) a.1 b.4)
+UrlWordMatches-begins u w x path (inr ([], k, e, none, same)) m =
+    absurd (let stars : w ≡ star ∷ replicate k star = e ∙ ap (λ n. replicate n star) (add-one k) in let slashed : star ≡ slash = cc (stars, path.1) in omega (arith, slashed))
+UrlWordMatches-begins u w x path (inr (c ∷ q, k, e, none, same)) m =
+    let reaches = matches_reaches u (c ∷ q) 0 none (subst (λ (t : Text). UrlWordMatches u t) same m) in
+    inr (begins_with u w (c ∷ q) reaches (replicate (k + 1) star, e))
 
 -- the front of a sample ends in no star, and is a path where what begins with the word's front is one
 one_byte : (c : ℕ) → c ≢ star → EndsInStar (c ∷ []) → ⊥
@@ -297,3 +311,7 @@ MatchesEachPath-else w path = (
 pub after_slash_is : (text front : Text) (r : Option (Bor Text)) → front ≡ codes "/" → MatchOption r ((rest : Text) → text ≢ front ++ rest) (λ x. text ≡ front ++ x.now) → MatchOption r (IsPath text → ⊥) (λ x. text ≡ codes "/" ++ x.now)
 after_slash_is text front None e h = λ b. h b.0 (b.1 ∙ ap (λ t. t ++ b.0) (sym e))
 after_slash_is text front (Some x) e h = h ∙ ap (λ t. t ++ x.now) e
+
+pub without_star_is : (text back : Text) (r : Option (Bor Text)) → back ≡ star ∷ [] → MatchOption r ((front : Text) → text ≢ front ++ back) (λ x. text ≡ x.now ++ back) → MatchOption r (EndsInStar text → ⊥) (λ x. text ≡ x.now ++ star ∷ [])
+without_star_is text back None e h = λ b. h b.0 (b.1 ∙ ap (λ t. b.0 ++ t) (sym e))
+without_star_is text back (Some x) e h = h ∙ ap (λ t. x.now ++ t) e

@@ -1,3 +1,4 @@
+pub mod Candidates
 pub mod Covering
 pub mod Findings
 pub mod Gathering

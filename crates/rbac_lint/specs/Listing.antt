@@ -1,16 +1,12 @@
--- Where to look for the rules that cover a rule: the places of a role's rules, listed under the words that they hold.
-use Rattle.std.specs.Prelude.{◌≡◌, ◌≢◌, ℕ, ◌<◌, ◌≤◌, ◌⊎◌, List, [], ◌∷◌, Option, Some, None, min, MatchOption, AllPairs, Contains, codes, length, unwrap_or, slice_get}
+-- The places of a role's rules, listed under the words that they hold.
+use Rattle.std.specs.Prelude.{◌≡◌, ◌≢◌, ℕ, ◌+◌, ◌<◌, ◌≤◌, ◌⊎◌, List, [], ◌∷◌, ◌++◌, All, AllPairs, Contains, codes, length, replicate, unwrap_or, slice_get, Some}
 use Rattle.std.specs.BTreeMap.{BTreeMap, get}
-use Rattle.rbac_terms.specs.Text.{Text, text_cmp, BeginsWith}
+use Rattle.rbac_terms.specs.Text.{Text, star, text_cmp}
 use Rattle.rbac_terms.specs.Matching.{EndsInStar}
 use Rattle.rbac_terms.specs.declared.matching.Rule.{Rule}
-use Rattle.rbac_model.specs.Universes.{Covers}
-use Rattle.rbac_lint.specs.Covering.{IsResourceText, GivesPath, HasResource, HasUrl}
-use Rattle.rbac_lint.specs.Findings.{MakesRedundant}
 use Rattle.rbac_lint.specs.declared.listing.Field.{Field}
-use Rattle.rbac_lint.specs.declared.listing.Field.TheVariants.{Verbs, Groups, Resources, Names, Urls}
+use Rattle.rbac_lint.specs.declared.listing.Field.TheVariants.{Verbs, Groups, Resources, Names, Urls, Fronts}
 use Rattle.rbac_lint.specs.declared.listing.Listing.{Listing}
-use Rattle.rbac_lint.specs.declared.listing.Candidates.{Candidates}
 
 -- lists of places under words
 abbrev pub Lists : Type 0
@@ -23,26 +19,31 @@ listed m w = unwrap_or (get text_cmp m w) []
 abbrev pub IsAscending : List ℕ → Type 0
 IsAscending places = AllPairs (λ i j. i ≤ j) places
 
--- a word that may match others begins or ends in a star
-abbrev pub IsWild : Text → Type 0
-IsWild w = BeginsWith w (codes "*") ⊎ EndsInStar w
+abbrev pub AreAscending : Lists → Type 0
+AreAscending m = (w : Text) → IsAscending (listed m w)
 
 -- a rule without names allows each, as if its name were a star
 abbrev pub names_or_star : List Text → List Text
 names_or_star [] = codes "*" ∷ []
 names_or_star (n ∷ ns) = n ∷ ns
 
--- the words of a rule in one of its five lists
+-- the words of a rule in one of its lists; its fronts are those of its URLs
 abbrev pub words_in : Field → Rule → List Text
 words_in Verbs r = r.verbs
 words_in Groups r = r.groups
 words_in Resources r = r.resources
 words_in Names r = names_or_star r.resource_names
 words_in Urls r = r.urls
+words_in Fronts r = r.urls
 
--- a place is listed for a word: under it, or under `*`, where each wild word's places stand
-abbrev pub IsUnder : Lists → Text → ℕ → Type 0
-IsUnder m w place = Contains (listed m (codes "*")) place ⊎ ((¬ IsWild w) × Contains (listed m w) place)
+-- the front of a word that ends in stars: what stands before all of them
+abbrev pub IsFront : Text → Text → Type 0
+IsFront w front = (k : ℕ) × (w ≡ front ++ replicate (k + 1) star) × (¬ EndsInStar front)
+
+-- under what a word is listed: itself, or its front
+abbrev pub IsKey : Field → Text → Text → Type 0
+IsKey Fronts w key = IsFront w key
+IsKey field w key = w ≡ key
 
 -- ---- while places are listed
 
@@ -58,17 +59,27 @@ abbrev pub ListsPlace : Lists → Lists → Text → ℕ → Type 0
 ListsPlace old new word place = TakesIn (listed old word) (listed new word) place × ((w : Text) → w ≢ word → listed new w ≡ listed old w)
 
 -- the place is listed for each of the words, and nothing else is
-pub record ListsAll (old new : Lists) (words : List Text) (place : ℕ) : Type 0 where
+pub record ListsAll (old new : Lists) (field : Field) (words : List Text) (place : ℕ) : Type 0 where
   pub kept : (w : Text) (n : ℕ) → Contains (listed old w) n → Contains (listed new w) n
-  pub has : (w : Text) → Contains words w → IsUnder new w place
+  pub has : (w key : Text) → Contains words w → IsKey field w key → Contains (listed new key) place
   pub only : (w : Text) (n : ℕ) → Contains (listed new w) n → Contains (listed old w) n ⊎ (n ≡ place)
-  pub ascending : ((w : Text) → IsAscending (listed old w)) → ((w : Text) (n : ℕ) → Contains (listed old w) n → n ≤ place) → (w : Text) → IsAscending (listed new w)
+  pub ascending : AreAscending old → ((w : Text) (n : ℕ) → Contains (listed old w) n → n ≤ place) → AreAscending new
 
 -- so many first rules are listed for each of their words in that list, ascending
 pub record AreListed (field : Field) (rules : List Rule) (count : ℕ) (m : Lists) : Type 0 where
-  pub complete : (n : ℕ) (r : Rule) (w : Text) → n < count → slice_get rules n ≡ Some r → Contains (words_in field r) w → IsUnder m w n
+  pub complete : (n : ℕ) (r : Rule) (w key : Text) → n < count → slice_get rules n ≡ Some r → Contains (words_in field r) w → IsKey field w key → Contains (listed m key) n
   pub below : (w : Text) (n : ℕ) → Contains (listed m w) n → n < count
-  pub ascending : (w : Text) → IsAscending (listed m w)
+  pub ascending : AreAscending m
+
+-- how long the front of the word is, if it has one, is among these; and so for words, and for a rule's URLs
+abbrev pub HasLength : List ℕ → Text → Type 0
+HasLength lengths w = (front : Text) → IsFront w front → Contains lengths (length front)
+
+abbrev pub Lengthens : List ℕ → List ℕ → List Text → Type 0
+Lengthens old new words = ((n : ℕ) → Contains old n → Contains new n) × All (HasLength new) words
+
+abbrev pub HasLengths : List ℕ → Rule → Type 0
+HasLengths lengths r = All (HasLength lengths) r.urls
 
 -- all rules are listed for all their words
 pub record IsListingOf (rules : List Rule) (l : Listing) : Type 0 where
@@ -78,49 +89,14 @@ pub record IsListingOf (rules : List Rule) (l : Listing) : Type 0 where
   pub resources : AreListed Resources rules (length rules) l.resources
   pub names : AreListed Names rules (length rules) l.names
   pub urls : AreListed Urls rules (length rules) l.urls
+  pub fronts : AreListed Fronts rules (length rules) l.fronts
+  pub lengths : All (HasLengths l.lengths.items) rules
 
--- ---- while they are looked up
-
+-- the lists under the words of one of a rule's lists
 abbrev pub lists_in : Field → Listing → Lists
 lists_in Verbs l = l.verbs
 lists_in Groups l = l.groups
 lists_in Resources l = l.resources
 lists_in Names l = l.names
 lists_in Urls l = l.urls
-
--- whatever covers the rule allows its words in that list
-abbrev pub Binds : Field → Rule → Type 0
-Binds Verbs b = HasResource b ⊎ HasUrl b
-Binds Groups b = HasResource b
-Binds Resources b = HasResource b
-Binds Names b = HasResource b
-Binds Urls b = HasUrl b
-
--- the word gives a target, where it is one of a target's
-abbrev pub IsAsked : Field → Text → Type 0
-IsAsked Resources w = IsResourceText w
-IsAsked Urls w = GivesPath w
-IsAsked field w = Unit {0}
-
--- the rule at the place covers this one
-abbrev pub CoversAt : List Rule → Rule → ℕ → Type 0
-CoversAt rules b n = (a : Rule) × (slice_get rules n ≡ Some a) × Covers a b
-
--- each rule that covers this one stands at one of these places
-unfoldable pub AreCandidates : List Rule → Rule → Candidates → Type 0
-AreCandidates rules b c = IsAscending c.own.now × IsAscending c.wild.now
-    × ((n : ℕ) → CoversAt rules b n → Contains c.own.now n ⊎ Contains c.wild.now n)
-
--- the least number with the property, if one has it
-abbrev pub AnswersLeast : (ℕ → Type 0) → Option ℕ → Type 0
-AnswersLeast P o = MatchOption o ((n : ℕ) → ¬ P n) (λ n. P n × ((k : ℕ) → P k → n ≤ k))
-
--- the least of the listed places whose rule makes the one at a place redundant
-abbrev pub IsRedundantBy : List Rule → ℕ → List ℕ → ℕ → Type 0
-IsRedundantBy rules place places n = MakesRedundant rules place n × Contains places n
-
--- the lesser of two numbers, if there is one
-abbrev pub sooner : Option ℕ → Option ℕ → Option ℕ
-sooner None b = b
-sooner (Some a) None = Some a
-sooner (Some a) (Some b) = Some (min a b)
+lists_in Fronts l = l.fronts

@@ -159,7 +159,7 @@ pub(crate) fn has_url(rule: &Rule) -> bool
     !rule.verbs.is_empty() && rule.urls.as_slice().iter().any(|word| gives_path(word))
 }
 
-fn is_path(text: &[u8]) -> bool
+pub(crate) fn is_path(text: &[u8]) -> bool
     ensures { IsTrue result ↔ IsPath text.now }
 {
     text.starts_with(b"/".as_slice())
@@ -177,7 +177,7 @@ pub(crate) fn is_resource_text(text: &Word) -> bool
     !text.is_empty() && !is_path(text.as_bytes())
 }
 
-pub(crate) fn gives_path(word: &Word) -> bool
+fn gives_path(word: &Word) -> bool
     ensures { IsTrue result ↔ GivesPath word.now }
 {
     is_path(word.as_bytes()) || is_stars(word.as_bytes())

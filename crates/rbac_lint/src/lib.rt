@@ -2,6 +2,7 @@
 #![tactic(auto)]
 
 mod accounts;
+mod candidates;
 mod covering;
 mod dangling;
 mod escalation;

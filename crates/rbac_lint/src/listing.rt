@@ -1,14 +1,10 @@
-//! Where to look for the rules that cover a rule: the places of a role's rules, listed under the
-//! words that they hold. Whatever covers a rule allows each of its words, taken as a text: so it
-//! stands among the places of any one of them, and the word with the fewest is asked.
+//! The places of a role's rules, listed under the words that they hold.
 
-ghost use Rattle.std.specs.Prelude.{◌≡◌, ◌++◌, ◌∷◌, [], ◌↔◌, ◌⊎◌, ℕ, List, Some, Contains, IfOk, IfSome, OnOk, IsTrue, codes, length};
-ghost use Rattle.rbac_terms.specs.Text.{BeginsWith};
+ghost use Rattle.std.specs.Prelude.{◌≡◌, ◌++◌, ◌∷◌, [], Contains, All, IfOk, OnOk, IsTrue, MatchOption, codes, length};
+ghost use Rattle.rbac_terms.specs.Text.{Text, star};
 ghost use Rattle.rbac_terms.specs.Matching.{EndsInStar};
-ghost use Rattle.rbac_terms.specs.declared.matching.Rule.{Rule as RuleView};
-ghost use Rattle.rbac_lint.specs.Listing.{listed, lists_in, words_in, IsWild, IsAsked, Binds, IsAscending, TakesIn, ListsPlace, ListsAll, AreListed, IsListingOf, AreCandidates};
+ghost use Rattle.rbac_lint.specs.Listing.{listed, lists_in, words_in, IsFront, IsKey, TakesIn, ListsPlace, ListsAll, HasLengths, Lengthens, AreListed, IsListingOf};
 
-use crate::covering::{gives_path, has_resource, has_url, is_resource_text};
 use rbac_terms::{Rule, Word};
 use std::alloc::{AllocError, Global};
 use std::collections::BTreeMap;
@@ -63,7 +59,8 @@ impl Places {
     }
 }
 
-// The lists of words that a rule has.
+// The lists under whose words rules are listed: those of a rule, and of the URLs that end in stars
+// what stands before these.
 #[derive(Clone, Copy, Debug)]
 pub(crate) enum Field {
     Verbs,
@@ -71,25 +68,21 @@ pub(crate) enum Field {
     Resources,
     Names,
     Urls,
+    Fronts,
 }
 
-// The places of a role's rules under the words of each of their lists. Words that may match others
-// are all listed under a star.
+// The places of a role's rules under the words of each of their lists.
 #[derive(Drop)]
 pub(crate) struct Listing {
-    star: Word,
+    pub(crate) star: Word,
     verbs: BTreeMap<Word, Places>,
     groups: BTreeMap<Word, Places>,
     resources: BTreeMap<Word, Places>,
     names: BTreeMap<Word, Places>,
     urls: BTreeMap<Word, Places>,
-}
-
-// The places where a word's rules stand: those of the word itself, and those of wild words.
-#[derive(Clone, Copy)]
-pub(crate) struct Candidates<'a> {
-    pub(crate) own: &'a [usize],
-    pub(crate) wild: &'a [usize],
+    fronts: BTreeMap<Word, Places>,
+    // How long the fronts are, each length once.
+    pub(crate) lengths: Vec<usize>,
 }
 
 // Lists these rules.
@@ -102,6 +95,8 @@ pub(crate) fn listing_of(alloc: Global, rules: &[Rule]) -> Result<Listing, Alloc
     let resources = lists_of(alloc, rules, &star, Field::Resources)?;
     let names = lists_of(alloc, rules, &star, Field::Names)?;
     let urls = lists_of(alloc, rules, &star, Field::Urls)?;
+    let fronts = lists_of(alloc, rules, &star, Field::Fronts)?;
+    let lengths = lengths_of(alloc, rules)?;
     Ok(Listing {
         star,
         verbs,
@@ -109,6 +104,8 @@ pub(crate) fn listing_of(alloc: Global, rules: &[Rule]) -> Result<Listing, Alloc
         resources,
         names,
         urls,
+        fronts,
+        lengths,
     })
 }
 
@@ -124,13 +121,13 @@ fn lists_of(
 {
     let mut lists = BTreeMap::new(alloc);
     for (place, rule) in rules.iter().enumerate() {
-        list_all(alloc, &mut lists, words_in(field, rule, star), star, place)?;
+        list_all(alloc, &mut lists, field, words_in(field, rule, star), place)?;
     }
     Ok(lists)
 }
 
 // The words of a rule in one of its lists; a rule without names allows each.
-fn words_in<'a>(field: Field, rule: &'a Rule, star: &'a Word) -> &'a [Word]
+pub(crate) fn words_in<'a>(field: Field, rule: &'a Rule, star: &'a Word) -> &'a [Word]
     ensures { star.now ≡ codes "*" → result.now ≡ words_in field rule.now }
 {
     match field {
@@ -144,7 +141,7 @@ fn words_in<'a>(field: Field, rule: &'a Rule, star: &'a Word) -> &'a [Word]
                 rule.resource_names.as_slice()
             }
         }
-        Field::Urls => rule.urls.as_slice(),
+        Field::Urls | Field::Fronts => rule.urls.as_slice(),
     }
 }
 
@@ -152,77 +149,118 @@ fn words_in<'a>(field: Field, rule: &'a Rule, star: &'a Word) -> &'a [Word]
 fn list_all(
     alloc: Global,
     lists: &mut BTreeMap<Word, Places>,
+    field: Field,
     words: &[Word],
-    star: &Word,
     place: usize,
 ) -> Result<(), AllocError>
-    requires { star.now ≡ codes "*" }
-    ensures { OnOk result (ListsAll lists.old lists.new words.now place) }
+    ensures { OnOk result (ListsAll lists.old lists.new field words.now place) }
 {
     for word in words {
-        list_for(alloc, lists, word, star, place)?;
+        list_for(alloc, lists, field, word, place)?;
     }
     Ok(())
 }
 
-// Lists a place for one word: under a star where the word may match others.
+// Lists a place for one word.
 fn list_for(
     alloc: Global,
     lists: &mut BTreeMap<Word, Places>,
+    field: Field,
     word: &Word,
-    star: &Word,
     place: usize,
 ) -> Result<(), AllocError>
-    requires { star.now ≡ codes "*" }
-    ensures { OnOk result (ListsAll lists.old lists.new (word.now ∷ []) place) }
+    ensures { OnOk result (ListsAll lists.old lists.new field (word.now ∷ []) place) }
 {
-    if is_wild(word) {
-        return list_under(alloc, lists, star, place);
+    let Some(key) = key_of(field, word.as_bytes()) else {
+        return Ok(());
+    };
+    list_under(alloc, lists, Word::from_slice(alloc, key)?, place)
+}
+
+// Under what a word is listed, if it is.
+fn key_of(field: Field, word: &[u8]) -> Option<&[u8]>
+    ensures { MatchOption result ((key : Text) → ¬ IsKey field word.now key) (λ key. IsKey field word.now key.now) }
+{
+    match field {
+        Field::Fronts => front_of(word),
+        _ => Some(word),
     }
-    list_under(alloc, lists, word, place)
 }
 
-fn is_wild(word: &Word) -> bool
-    ensures { IsTrue result ↔ IsWild word.now }
+// What stands before the stars at the end of a word, if there are some.
+fn front_of(word: &[u8]) -> Option<&[u8]>
+    ensures { MatchOption result ((front : Text) → ¬ IsFront word.now front) (λ front. IsFront word.now front.now) }
 {
-    begins_in_star(word.as_bytes()) || ends_in_star(word.as_bytes())
+    let Some(last) = without_star(word) else {
+        return None;
+    };
+    let mut front = last;
+    while let Some(before) = without_star(front) {
+        front = before;
+    }
+    Some(front)
 }
 
-fn begins_in_star(text: &[u8]) -> bool
-    ensures { IsTrue result ↔ BeginsWith text.now (codes "*") }
+fn without_star(text: &[u8]) -> Option<&[u8]>
+    ensures { MatchOption result (¬ EndsInStar text.now) (λ before. text.now ≡ before.now ++ star ∷ []) }
 {
-    text.starts_with(b"*".as_slice())
-}
-
-fn ends_in_star(text: &[u8]) -> bool
-    ensures { IsTrue result ↔ EndsInStar text.now }
-{
-    text.ends_with(b"*".as_slice())
+    text.strip_suffix(b"*".as_slice())
 }
 
 // Lists a place under this word.
 fn list_under(
     alloc: Global,
     lists: &mut BTreeMap<Word, Places>,
-    word: &Word,
+    word: Word,
     place: usize,
 ) -> Result<(), AllocError>
-    ensures { OnOk result (ListsPlace lists.old lists.new word.now place) }
+    ensures { OnOk result (ListsPlace lists.old lists.new word place) }
 {
-    match lists.get_mut(word) {
+    match lists.get_mut(&word) {
         Some(places) => places.take_in(place)?,
         None => {
             let mut places = Places::new(alloc);
             places.take_in(place)?;
-            let key = Word::from_slice(alloc, word.as_bytes())?;
-            lists.insert(key, places)?;
+            lists.insert(word, places)?;
         }
     }
     Ok(())
 }
 
+// How long the fronts of these rules are, each length once.
+fn lengths_of(alloc: Global, rules: &[Rule]) -> Result<Vec<usize>, AllocError>
+    ensures { IfOk result (λ v. All (HasLengths v.items) rules.now) }
+{
+    let mut lengths = Vec::new(alloc);
+    for rule in rules {
+        push_lengths(&mut lengths, rule.urls.as_slice())?;
+    }
+    lengths.sort_unstable();
+    lengths.dedup();
+    Ok(lengths)
+}
+
+// Adds how long the fronts of these words are.
+fn push_lengths(lengths: &mut Vec<usize>, words: &[Word]) -> Result<(), AllocError>
+    ensures { OnOk result (Lengthens lengths.old.items lengths.new.items words.now) }
+{
+    for word in words {
+        push_length(lengths, word.as_bytes())?;
+    }
+    Ok(())
+}
+
+fn push_length(lengths: &mut Vec<usize>, word: &[u8]) -> Result<(), AllocError>
+    ensures { OnOk result (Lengthens lengths.old.items lengths.new.items (word.now ∷ [])) }
+{
+    if let Some(front) = front_of(word) {
+        lengths.push(front.len())?;
+    }
+    Ok(())
+}
+
 // The places under a word.
-fn under<'a>(lists: &'a BTreeMap<Word, Places>, word: &Word) -> &'a [usize]
+pub(crate) fn under<'a>(lists: &'a BTreeMap<Word, Places>, word: &Word) -> &'a [usize]
     ensures { result.now ≡ listed lists.now word.now }
 {
     match lists.get(word) {
@@ -233,7 +271,7 @@ fn under<'a>(lists: &'a BTreeMap<Word, Places>, word: &Word) -> &'a [usize]
 
 impl Listing {
     // The places under the words of one list.
-    fn lists(&self, field: Field) -> &BTreeMap<Word, Places>
+    pub(crate) fn lists(&self, field: Field) -> &BTreeMap<Word, Places>
         ensures { result.now ≡ lists_in field self.now }
     {
         match field {
@@ -242,78 +280,7 @@ impl Listing {
             Field::Resources => &self.resources,
             Field::Names => &self.names,
             Field::Urls => &self.urls,
+            Field::Fronts => &self.fronts,
         }
     }
-}
-
-// The fewest places among which each rule stands that covers this one; none of a rule that allows
-// nothing.
-pub(crate) fn fewest_for<'a>(listing: &'a Listing, rule: &'a Rule) -> Option<Candidates<'a>>
-    ensures { (rules : List RuleView) → IsListingOf rules listing.now → IfSome result (AreCandidates rules rule.now) }
-{
-    if has_resource(rule) {
-        let best = fewest_in(listing, rule, Field::Verbs, None);
-        let best = fewest_in(listing, rule, Field::Groups, best);
-        let best = fewest_in(listing, rule, Field::Resources, best);
-        return fewest_in(listing, rule, Field::Names, best);
-    }
-    if has_url(rule) {
-        let best = fewest_in(listing, rule, Field::Verbs, None);
-        return fewest_in(listing, rule, Field::Urls, best);
-    }
-    None
-}
-
-// The fewest places of these and those of the words of one list.
-fn fewest_in<'a>(
-    listing: &'a Listing,
-    rule: &'a Rule,
-    field: Field,
-    best: Option<Candidates<'a>>,
-) -> Option<Candidates<'a>>
-    ensures { (rules : List RuleView) → IsListingOf rules listing.now → Binds field rule.now → IfSome best.entry (AreCandidates rules rule.now) → IfSome result (AreCandidates rules rule.now) }
-{
-    let lists = listing.lists(field);
-    let star = &listing.star;
-    let mut fewest = best;
-    for word in words_in(field, rule, star) {
-        if is_asked(field, word) {
-            fewest = fewer(fewest, places_for(lists, word, star));
-        }
-    }
-    fewest
-}
-
-fn is_asked(field: Field, word: &Word) -> bool
-    ensures { IsTrue result → IsAsked field word.now }
-{
-    match field {
-        Field::Resources => is_resource_text(word),
-        Field::Urls => gives_path(word),
-        _ => true,
-    }
-}
-
-fn places_for<'a>(lists: &'a BTreeMap<Word, Places>, word: &Word, star: &Word) -> Candidates<'a>
-    ensures own { result.own.now ≡ listed lists.now word.now }
-    ensures wild { result.wild.now ≡ listed lists.now star.now }
-{
-    Candidates {
-        own: under(lists, word),
-        wild: under(lists, star),
-    }
-}
-
-// Those that are fewer.
-fn fewer<'a>(best: Option<Candidates<'a>>, other: Candidates<'a>) -> Option<Candidates<'a>>
-    ensures { (result ≡ best.entry) ⊎ (result ≡ Some other.entry) }
-{
-    match best {
-        Some(few) if count(few) <= count(other) => best,
-        _ => Some(other),
-    }
-}
-
-fn count(candidates: Candidates<'_>) -> usize {
-    candidates.own.len().saturating_add(candidates.wild.len())
 }

@@ -5,12 +5,14 @@ ghost use Rattle.std.specs.Option.{ForSome};
 ghost use Rattle.rbac_model.specs.Sources.{source_of};
 ghost use Rattle.rbac_terms.specs.declared.matching.Rule.{Rule as RuleView};
 ghost use Rattle.rbac_lint.specs.Lines.{Adds, OfEach};
-ghost use Rattle.rbac_lint.specs.Listing.{IsListingOf, AreCandidates, IsAscending, IsRedundantBy, AnswersLeast, sooner as sooner_of};
-ghost use Rattle.rbac_lint.specs.Findings.{CoversAll, MakesRedundantAt, MakesRedundant, IsLeastCover, IsRedundantAt, IsRedundantOf, IsRedundant};
+ghost use Rattle.rbac_lint.specs.Listing.{IsAscending, IsListingOf};
+ghost use Rattle.rbac_lint.specs.Candidates.{AreCandidates, IsRedundantBy, IsLeastCoverIfAny, AnswersLeast, sooner as sooner_of};
+ghost use Rattle.rbac_lint.specs.Findings.{CoversAll, MakesRedundantAt, MakesRedundant, IsRedundantAt, IsRedundantOf, IsRedundant};
 
+use crate::candidates::{Candidates, fewest_for};
 use crate::covering::covers;
 use crate::finding::{Finding, Findings, number_word, role_word};
-use crate::listing::{Candidates, Listing, fewest_for, listing_of};
+use crate::listing::{Listing, listing_of};
 use crate::roles::{plain_rules, role_at, role_count};
 use rbac_model::{Objects, SourceRole};
 use rbac_terms::Rule;
@@ -83,7 +85,7 @@ fn find_at(
     requires listed { ForSome listing (λ l. IsListingOf rules.now l.now) }
     ensures { OnOk result (Adds (IsRedundantAt (source_of role.entry) rules.now place) found.old found.new) }
 {
-    let Some(wide) = covering_rule(rules, listing, place, rule) else {
+    let Some(wide) = covering_rule(alloc, rules, listing, place, rule)? else {
         return Ok(());
     };
     let object = role_word(alloc, role)?;
@@ -98,42 +100,48 @@ fn find_at(
 
 // The least place of a rule that makes this one redundant.
 fn covering_rule(
+    alloc: Global,
     rules: &[Rule],
     listing: Option<&Listing>,
     place: usize,
     rule: &Rule,
-) -> Option<usize>
+) -> Result<Option<usize>, AllocError>
     requires here { slice_get rules.now place ≡ Some rule.now }
     requires listed { ForSome listing (λ l. IsListingOf rules.now l.now) }
-    ensures least { MatchOption result ((j : ℕ) → ¬ MakesRedundant rules.now place j) (λ j. IsLeastCover rules.now place j) }
-    ensures within { IfSome result (λ j. j < length rules.now) }
+    ensures least { IfOk result (IsLeastCoverIfAny rules.now place) }
+    ensures within { IfOk result (λ o. IfSome o (λ j. j < length rules.now)) }
 {
-    match candidates_if_listed(listing, rule) {
-        Some(candidates) => first_of(rules, candidates, place, rule),
-        None => first_of_all(rules, place, rule),
+    match candidates_if_listed(alloc, listing, rule)? {
+        Some(candidates) => Ok(first_of(rules, &candidates, place, rule)),
+        None => Ok(first_of_all(rules, place, rule)),
     }
 }
 
-fn candidates_if_listed<'a>(listing: Option<&'a Listing>, rule: &'a Rule) -> Option<Candidates<'a>>
-    ensures { (rules : List RuleView) → ForSome listing.entry (λ l. IsListingOf rules l.now) → IfSome result (AreCandidates rules rule.now) }
+fn candidates_if_listed<'a>(
+    alloc: Global,
+    listing: Option<&'a Listing>,
+    rule: &'a Rule,
+) -> Result<Option<Candidates<'a>>, AllocError>
+    ensures { IfOk result (λ o. (rules : List RuleView) → ForSome listing.entry (λ l. IsListingOf rules l.now) → IfSome o (AreCandidates rules rule.now)) }
 {
     match listing {
-        Some(listing) => fewest_for(listing, rule),
-        None => None,
+        Some(listing) => fewest_for(alloc, listing, rule),
+        None => Ok(None),
     }
 }
 
 // The same among candidates.
-fn first_of(rules: &[Rule], candidates: Candidates<'_>, place: usize, rule: &Rule) -> Option<usize>
+fn first_of(rules: &[Rule], candidates: &Candidates<'_>, place: usize, rule: &Rule) -> Option<usize>
     requires here { slice_get rules.now place ≡ Some rule.now }
-    requires complete { AreCandidates rules.now rule.now candidates }
-    ensures least { MatchOption result ((j : ℕ) → ¬ MakesRedundant rules.now place j) (λ j. IsLeastCover rules.now place j) }
+    requires complete { AreCandidates rules.now rule.now candidates.now }
+    ensures least { IsLeastCoverIfAny rules.now place result }
     ensures within { IfSome result (λ j. j < length rules.now) }
 {
-    sooner(
-        first_listed(rules, candidates.own, place, rule),
-        first_listed(rules, candidates.wild, place, rule),
-    )
+    let mut first = None;
+    for listed in candidates.lists.as_slice() {
+        first = sooner(first, first_listed(rules, listed, place, rule));
+    }
+    first
 }
 
 // The lesser place.
@@ -175,7 +183,7 @@ fn is_redundant_by(rules: &[Rule], place: usize, rule: &Rule, other: usize) -> b
 // The same among all rules.
 fn first_of_all(rules: &[Rule], place: usize, rule: &Rule) -> Option<usize>
     requires { slice_get rules.now place ≡ Some rule.now }
-    ensures least { MatchOption result ((j : ℕ) → ¬ MakesRedundant rules.now place j) (λ j. IsLeastCover rules.now place j) }
+    ensures least { IsLeastCoverIfAny rules.now place result }
     ensures within { IfSome result (λ j. j < length rules.now) }
 {
     for (other, wide) in rules.iter().enumerate() {

@@ -3,4 +3,4 @@ use Rattle.rbac_lint.specs.Listing.{ListsAll}
 use Rattle.rbac_lint.proofs.listing.list_all.Given as goal
 
 abbrev pub invariant-loop-word : goal.invariant-loop-word
-invariant-loop-word l = ListsAll l.initial.lists l.lists (take l.word-index l.words) l.place
+invariant-loop-word l = ListsAll l.initial.lists l.lists l.field (take l.word-index l.words) l.place

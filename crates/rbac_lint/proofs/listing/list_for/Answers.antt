@@ -1,18 +1,21 @@
-use Rattle.std.proofs.Common.{inl, inr, refl}
-use Rattle.std.proofs.lemmas.Bool.{both_ways}
+use Rattle.std.proofs.Common.{subst}
+use Rattle.rbac_terms.specs.Text.{Text}
+use Rattle.rbac_lint.specs.Listing.{IsKey, ListsPlace}
 use Rattle.rbac_lint.proofs.Exact.{on_ok}
-use Rattle.rbac_lint.proofs.Listed.{lists_one}
+use Rattle.rbac_lint.proofs.Listed.{lists_one, lists_skipped}
 use Rattle.rbac_lint.proofs.listing.list_for.Goals as goal
 
-pub returns-then-is_wild : goal.returns-then-is_wild
-returns-then-is_wild c =
-    on_ok c.list_under.result _ _
-    (λ l. lists_one c.args.lists.now c.list_under.new.lists c.args.word.now c.args.star.now c.args.place l (inl c.requires))
-    c.list_under.ensures
+pub returns-in_default : goal.returns-in_default
+returns-in_default c =
+    lists_skipped c.args.lists.now c.args.field c.args.word.now c.args.place
+    (subst (λ (x : Text). (key : Text) → IsKey c.args.field x key → ⊥) c.as_bytes.ensures c.in_default.ensures)
 
 pub returns : goal.returns
 returns c =
-    on_ok c.list_under-2.result _ _
-    (λ l. lists_one c.args.lists.now c.list_under-2.new.lists c.args.word.now c.args.word.now c.args.place l
-    (inr (refl, λ wild. both_ways _ c.if-is_wild.false (c.is_wild.ensures.1 wild))))
-    c.list_under-2.ensures
+    let field = c.args.field in
+    let key = c.in-Some.key.now in
+    let is : IsKey field c.args.word.now key = subst (λ (x : Text). IsKey field x key) c.as_bytes.ensures c.in-Some.ensures in
+    on_ok c.list_under.result _ _
+    (λ l. lists_one c.args.lists.now c.list_under.new.lists field c.args.word.now key c.args.place
+    (subst (λ (x : Text). ListsPlace c.args.lists.now c.list_under.new.lists x c.args.place) c.in_ok-from_slice.ensures l) is)
+    c.list_under.ensures

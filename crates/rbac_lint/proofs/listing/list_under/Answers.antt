@@ -9,18 +9,17 @@ use Rattle.rbac_lint.proofs.listing.list_under.Goals as goal
 
 pub returns-in_ok-take_in-in-Some : goal.returns-in_ok-take_in-in-Some
 returns-in_ok-take_in-in-Some c =
-    lists_place c.args.lists.now (c.get_mut.follows.lender c.take_in.new.self) c.args.word.now c.args.place c.in-Some.places.now c.take_in.new.self
+    lists_place c.args.lists.now (c.get_mut.follows.lender c.take_in.new.self) c.args.word c.args.place c.in-Some.places.now c.take_in.new.self
     (ap (λ (o : Option (List ℕ)). unwrap_or o []) c.in-Some.ensures.value)
     ((c.get_mut.follows.holds c.take_in.new.self).3 (ap is_some (sym c.in-Some.ensures.value))).0
     c.in_ok-take_in-in-Some.ensures
 
 pub returns-in_ok-insert-in-None : goal.returns-in_ok-insert-in-None
 returns-in_ok-insert-in-None c =
-    let same : c.in_ok-key-in-None.key ≡ c.args.word.now = c.in_ok-key-in-None.ensures ∙ c.as_bytes.ensures in
     let before : c.get_mut.follows.lender-at-none ≡ c.args.lists.now = c.get_mut.follows.holds-at-none in
-    let none : [] ≡ listed c.args.lists.now c.args.word.now = ap (λ (o : Option (List ℕ)). unwrap_or o []) c.in-None.ensures.value in
-    lists_place c.args.lists.now c.insert.new.self c.args.word.now c.args.place c.new-places.result c.take_in-in-None.new.self
+    let none : [] ≡ listed c.args.lists.now c.args.word = ap (λ (o : Option (List ℕ)). unwrap_or o []) c.in-None.ensures.value in
+    lists_place c.args.lists.now c.insert.new.self c.args.word c.args.place c.new-places.result c.take_in-in-None.new.self
     (c.new-places.ensures ∙ none)
-    (subst (λ (m : Lists). (q : Text) → get text_cmp c.insert.new.self q ≡ cond (is_eq (text_cmp c.args.word.now q)) (Some c.take_in-in-None.new.self) (get text_cmp m q)) before
-    (subst (λ (k : Text). (q : Text) → get text_cmp c.insert.new.self q ≡ cond (is_eq (text_cmp k q)) (Some c.take_in-in-None.new.self) (get text_cmp c.get_mut.follows.lender-at-none q)) same c.in_ok-insert-in-None.ensures.updates.0))
+    (subst (λ (m : Lists). (q : Text) → get text_cmp c.insert.new.self q ≡ cond (is_eq (text_cmp c.args.word q)) (Some c.take_in-in-None.new.self) (get text_cmp m q)) before
+    c.in_ok-insert-in-None.ensures.updates.0)
     c.in_ok-take_in-in-None.ensures

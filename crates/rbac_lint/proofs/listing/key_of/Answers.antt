@@ -1,0 +1,9 @@
+use Rattle.std.proofs.Common.{sym, subst, MatchOption}
+use Rattle.rbac_terms.specs.Text.{Text}
+use Rattle.rbac_lint.specs.declared.listing.Field.{Field}
+use Rattle.rbac_lint.specs.Listing.{IsKey}
+use Rattle.rbac_lint.proofs.listing.key_of.Goals as goal
+
+pub returns-in-Fronts : goal.returns-in-Fronts
+returns-in-Fronts c =
+    subst (λ (f : Field). MatchOption c.front_of.result ((key : Text) → IsKey f c.args.word.now key → ⊥) (λ key. IsKey f c.args.word.now key.now)) (sym c.in-Fronts.is) c.front_of.ensures

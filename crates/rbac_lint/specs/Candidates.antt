@@ -1,0 +1,95 @@
+-- Where to look for the rules that cover a rule: in the lists of the words that match one of its own.
+use Rattle.std.specs.Prelude.{◌≡◌, ℕ, ◌≤◌, ◌⊎◌, ◌++◌, List, Option, Some, None, min, MatchOption, All, Any, Contains, codes, length, slice_get, take}
+use Rattle.std.proofs.Common.{Bor}
+use Rattle.rbac_terms.specs.Text.{Text, BeginsWith}
+use Rattle.rbac_terms.specs.Matching.{ResourceWordMatches, FollowsFirstSlash}
+use Rattle.rbac_terms.specs.declared.matching.Rule.{Rule}
+use Rattle.rbac_model.specs.Universes.{Covers}
+use Rattle.rbac_lint.specs.Covering.{IsResourceText, IsPath, HasResource, HasUrl}
+use Rattle.rbac_lint.specs.Findings.{MakesRedundant}
+use Rattle.rbac_lint.specs.Listing.{Lists, listed, lists_in, IsAscending, AreAscending}
+use Rattle.rbac_lint.specs.declared.listing.Field.{Field}
+use Rattle.rbac_lint.specs.declared.listing.Field.TheVariants.{Verbs, Groups, Resources, Names, Urls, Fronts}
+use Rattle.rbac_lint.specs.declared.listing.Listing.{Listing}
+use Rattle.rbac_lint.specs.declared.candidates.Candidates.{Candidates}
+
+-- whatever covers the rule allows its words in that list; no front is asked for
+abbrev pub Binds : Field → Rule → Type 0
+Binds Verbs b = HasResource b ⊎ HasUrl b
+Binds Groups b = HasResource b
+Binds Resources b = HasResource b
+Binds Names b = HasResource b
+Binds Urls b = HasUrl b
+Binds Fronts b = ⊥
+
+-- the word gives a target, where it is one of a target's
+abbrev pub IsAsked : Field → Text → Type 0
+IsAsked Resources w = IsResourceText w
+IsAsked Urls w = IsPath w
+IsAsked field w = Unit {0}
+
+-- a place is listed under a word that matches this one: it is `*`, the word itself, or `*/` and what follows the word's first slash; for a URL it is the word, or a front of it
+abbrev pub IsFound : Field → Listing → Text → ℕ → Type 0
+IsFound Urls l w n = Contains (listed l.urls w) n
+    ⊎ ((front : Text) × BeginsWith w front × Contains l.lengths.items (length front) × Contains (listed l.fronts front) n)
+IsFound field l w n = (u : Text) × ResourceWordMatches u w × Contains (listed (lists_in field l) u) n
+
+-- a place stands in one of these lists
+abbrev pub StandsIn : List (Bor (List ℕ)) → ℕ → Type 0
+StandsIn lists n = Any (λ places. Contains places.now n) lists
+
+abbrev pub IsAmong : Candidates → ℕ → Type 0
+IsAmong c n = StandsIn c.lists.items n
+
+abbrev pub Ascend : Candidates → Type 0
+Ascend c = All (λ places. IsAscending places.now) c.lists.items
+
+-- each place that is to be found is among them
+abbrev pub Finds : Field → Listing → Text → Candidates → Type 0
+Finds field l w c = Ascend c × ((n : ℕ) → IsFound field l w n → IsAmong c n)
+
+-- new has old's places, and those under the words with the property
+pub record AddsUnder (m : Lists) (P : Text → Type 0) (old new : Candidates) : Type 0 where
+  pub kept : (n : ℕ) → IsAmong old n → IsAmong new n
+  pub has : (u : Text) (n : ℕ) → P u → Contains (listed m u) n → IsAmong new n
+  pub ascending : AreAscending m → Ascend old → Ascend new
+
+-- the words that match this one: each resource's with its subresource; and of a URL the front of that length, if it is as long
+abbrev pub IsOfEach : Text → Text → Type 0
+IsOfEach w u = (s : Text) × (u ≡ codes "*/" ++ s) × FollowsFirstSlash w s
+
+abbrev pub IsFrontOf : Text → ℕ → Text → Type 0
+IsFrontOf w len u = (len ≤ length w) × (u ≡ take len w)
+
+-- the places under the words that match a resource text, in ascending lists
+abbrev pub AreMatching : Lists → Text → Candidates → Type 0
+AreMatching m w c = (AreAscending m → Ascend c) × ((u : Text) (n : ℕ) → ResourceWordMatches u w → Contains (listed m u) n → IsAmong c n)
+
+-- the rule at the place covers this one
+abbrev pub CoversAt : List Rule → Rule → ℕ → Type 0
+CoversAt rules b n = (a : Rule) × (slice_get rules n ≡ Some a) × Covers a b
+
+-- each rule that covers this one stands at one of these places
+unfoldable pub AreCandidates : List Rule → Rule → Candidates → Type 0
+AreCandidates rules b c = Ascend c × ((n : ℕ) → CoversAt rules b n → IsAmong c n)
+
+-- the least number with the property, if one has it
+abbrev pub AnswersLeast : (ℕ → Type 0) → Option ℕ → Type 0
+AnswersLeast P o = MatchOption o ((n : ℕ) → ¬ P n) (λ n. P n × ((k : ℕ) → P k → n ≤ k))
+
+-- the least place of a rule that makes the one at a place redundant, if one does
+abbrev pub IsLeastCoverIfAny : List Rule → ℕ → Option ℕ → Type 0
+IsLeastCoverIfAny rules i o = AnswersLeast (MakesRedundant rules i) o
+
+-- a place of the list, or of one of the lists, whose rule makes the one at a place redundant
+abbrev pub IsRedundantBy : List Rule → ℕ → List ℕ → ℕ → Type 0
+IsRedundantBy rules place places n = MakesRedundant rules place n × Contains places n
+
+abbrev pub IsRedundantIn : List Rule → ℕ → List (Bor (List ℕ)) → ℕ → Type 0
+IsRedundantIn rules place lists n = MakesRedundant rules place n × StandsIn lists n
+
+-- the lesser of two numbers, if there is one
+abbrev pub sooner : Option ℕ → Option ℕ → Option ℕ
+sooner None b = b
+sooner (Some a) None = Some a
+sooner (Some a) (Some b) = Some (min a b)

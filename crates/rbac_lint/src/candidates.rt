@@ -1,0 +1,197 @@
+//! Where to look for the rules that cover a rule. Whatever covers a rule allows each of its words,
+//! taken as a text: so it is listed under one of the few words that match this one, and the word
+//! with the fewest places is asked.
+
+ghost use Rattle.std.specs.Prelude.{◌≡◌, ◌++◌, ◌∷◌, [], ◌⊎◌, List, Some, IfOk, IfSome, OnOk, IsTrue};
+ghost use Rattle.rbac_terms.specs.declared.matching.Rule.{Rule as RuleView};
+ghost use Rattle.rbac_lint.specs.declared.listing.Field.TheVariants.{Urls};
+ghost use Rattle.rbac_lint.specs.Listing.{IsListingOf};
+ghost use Rattle.rbac_lint.specs.Candidates.{IsAsked, Binds, Finds, AddsUnder, IsOfEach, IsFrontOf, AreMatching, AreCandidates};
+
+use crate::covering::{has_resource, has_url, is_path, is_resource_text};
+use crate::listing::{Field, Listing, Places, under, words_in};
+use rbac_terms::{Rule, Word, cut_at_first};
+use std::alloc::{AllocError, Global};
+use std::collections::BTreeMap;
+
+// The places where a word's rules stand, in ascending lists, and how many there are at least.
+#[derive(Drop)]
+pub(crate) struct Candidates<'a> {
+    pub(crate) lists: Vec<&'a [usize]>,
+    count: usize,
+}
+
+impl<'a> Candidates<'a> {
+    // None, which takes no memory.
+    fn new(alloc: Global) -> Self
+        ensures { result.lists.items ≡ [] }
+    {
+        Candidates {
+            lists: Vec::new(alloc),
+            count: 0,
+        }
+    }
+
+    fn add(&mut self, places: &'a [usize]) -> Result<(), AllocError>
+        ensures { OnOk result (self.new.lists.items ≡ self.old.lists.items ++ places.entry ∷ []) }
+    {
+        self.lists.push(places)?;
+        self.count = self.count.saturating_add(places.len());
+        Ok(())
+    }
+
+    // Adds the places under a word.
+    fn add_under(
+        &mut self,
+        lists: &'a BTreeMap<Word, Places>,
+        word: &Word,
+    ) -> Result<(), AllocError>
+        ensures { OnOk result (AddsUnder lists.now (λ u. u ≡ word.now) self.old self.new) }
+    {
+        self.add(under(lists, word))
+    }
+}
+
+// The fewest places among which each rule stands that covers this one; none of a rule that allows
+// nothing.
+pub(crate) fn fewest_for<'a>(
+    alloc: Global,
+    listing: &'a Listing,
+    rule: &'a Rule,
+) -> Result<Option<Candidates<'a>>, AllocError>
+    ensures { IfOk result (λ o. (rules : List RuleView) → IsListingOf rules listing.now → IfSome o (AreCandidates rules rule.now)) }
+{
+    if has_resource(rule) {
+        let best = fewest_in(alloc, listing, rule, Field::Verbs, None)?;
+        let best = fewest_in(alloc, listing, rule, Field::Groups, best)?;
+        let best = fewest_in(alloc, listing, rule, Field::Resources, best)?;
+        return fewest_in(alloc, listing, rule, Field::Names, best);
+    }
+    if has_url(rule) {
+        let best = fewest_in(alloc, listing, rule, Field::Verbs, None)?;
+        return fewest_in(alloc, listing, rule, Field::Urls, best);
+    }
+    Ok(None)
+}
+
+// The fewest places of these and those of the words of one list.
+fn fewest_in<'a>(
+    alloc: Global,
+    listing: &'a Listing,
+    rule: &'a Rule,
+    field: Field,
+    best: Option<Candidates<'a>>,
+) -> Result<Option<Candidates<'a>>, AllocError>
+    ensures { IfOk result (λ o. (rules : List RuleView) → IsListingOf rules listing.now → Binds field rule.now → IfSome best.entry (AreCandidates rules rule.now) → IfSome o (AreCandidates rules rule.now)) }
+{
+    let mut fewest = best;
+    for word in words_in(field, rule, &listing.star) {
+        if is_asked(field, word) {
+            let candidates = candidates_for(alloc, listing, field, word)?;
+            fewest = Some(fewer(fewest, candidates));
+        }
+    }
+    Ok(fewest)
+}
+
+fn is_asked(field: Field, word: &Word) -> bool
+    ensures { IsTrue result → IsAsked field word.now }
+{
+    match field {
+        Field::Resources => is_resource_text(word),
+        Field::Urls => is_path(word.as_bytes()),
+        _ => true,
+    }
+}
+
+// Those that are fewer.
+fn fewer<'a>(best: Option<Candidates<'a>>, other: Candidates<'a>) -> Candidates<'a>
+    ensures { (best.entry ≡ Some result) ⊎ (result ≡ other.entry) }
+{
+    match best {
+        Some(few) => { if few.count <= other.count { few } else { other } }
+        None => other,
+    }
+}
+
+// The places under the words that may match this one.
+fn candidates_for<'a>(
+    alloc: Global,
+    listing: &'a Listing,
+    field: Field,
+    word: &Word,
+) -> Result<Candidates<'a>, AllocError>
+    ensures { IfOk result (λ c. (rules : List RuleView) → IsListingOf rules listing.now → Finds field listing.now word.now c) }
+{
+    match field {
+        Field::Urls => starting(alloc, listing, word),
+        _ => matching(alloc, listing.lists(field), word),
+    }
+}
+
+// The places under the words that match this resource text; other texts are matched by fewer.
+fn matching<'a>(
+    alloc: Global,
+    lists: &'a BTreeMap<Word, Places>,
+    word: &Word,
+) -> Result<Candidates<'a>, AllocError>
+    ensures { IfOk result (AreMatching lists.now word.now) }
+{
+    let mut candidates = Candidates::new(alloc);
+    let every = Word::from_slice(alloc, b"*".as_slice())?;
+    candidates.add_under(lists, word)?;
+    candidates.add_under(lists, &every)?;
+    add_of_each(alloc, &mut candidates, lists, word)?;
+    Ok(candidates)
+}
+
+// Adds the places under the word for each resource with the subresource of this one.
+fn add_of_each<'a>(
+    alloc: Global,
+    candidates: &mut Candidates<'a>,
+    lists: &'a BTreeMap<Word, Places>,
+    word: &Word,
+) -> Result<(), AllocError>
+    ensures { OnOk result (AddsUnder lists.now (IsOfEach word.now) candidates.old candidates.new) }
+{
+    let Some((_, subresource)) = cut_at_first(word.as_bytes(), b'/') else {
+        return Ok(());
+    };
+    let mut of_each = Word::from_slice(alloc, b"*/".as_slice())?;
+    of_each.push_slice(subresource)?;
+    candidates.add_under(lists, &of_each)
+}
+
+// The places under a URL word, and under the fronts with which it begins.
+fn starting<'a>(
+    alloc: Global,
+    listing: &'a Listing,
+    word: &Word,
+) -> Result<Candidates<'a>, AllocError>
+    ensures { IfOk result (λ c. (rules : List RuleView) → IsListingOf rules listing.now → Finds Urls listing.now word.now c) }
+{
+    let fronts = listing.lists(Field::Fronts);
+    let mut candidates = Candidates::new(alloc);
+    candidates.add_under(listing.lists(Field::Urls), word)?;
+    for length in listing.lengths.as_slice() {
+        add_front(alloc, &mut candidates, fronts, word.as_bytes(), *length)?;
+    }
+    Ok(candidates)
+}
+
+// Adds the places under the front of this length, if the word has one.
+fn add_front<'a>(
+    alloc: Global,
+    candidates: &mut Candidates<'a>,
+    fronts: &'a BTreeMap<Word, Places>,
+    word: &[u8],
+    length: usize,
+) -> Result<(), AllocError>
+    ensures { OnOk result (AddsUnder fronts.now (IsFrontOf word.now length) candidates.old candidates.new) }
+{
+    if word.len() < length {
+        return Ok(());
+    }
+    let front = Word::from_slice(alloc, &word[..length])?;
+    candidates.add_under(fronts, &front)
+}
