@@ -1,8 +1,6 @@
 -- each binding brings some rules, so bindings have grants
 use Rattle.std.proofs.Common.{◌≡◌, ℕ, ◌<◌, List, [], ◌∷◌, ◌++◌, length, get_or, Any, ◌⊎◌, inl, inr, refl, ap, ◌∙◌, arith, suc, zero}
-use Rattle.std.specs.Prelude.{Option, Some, None, Vec}
-use Rattle.std.specs.declared.alloc.Global.{Global}
-use Rattle.std.proofs.lemmas.Option.{slice_get_cases}
+use Rattle.std.specs.Prelude.{Option, Some, None}
 use Rattle.rbac_terms.specs.Text.{Text}
 use Rattle.rbac_terms.specs.declared.granting.Binding.{Binding}
 use Rattle.rbac_terms.specs.declared.granting.Role.{Role}
@@ -11,9 +9,9 @@ use Rattle.rbac_terms.specs.declared.granting.RoleRef.{RoleRef}
 use Rattle.rbac_terms.specs.declared.granting.RoleRef.TheVariants.{Role as ToRole, ClusterRole as ToClusterRole}
 use Rattle.rbac_model.specs.Lists.{by_name}
 use Rattle.rbac_model.specs.Policies.{Held, InRole, SourcedRule, GrantView, AreRulesFor, AreGrantsOf, written_from, role_name, cluster_role_name}
-use Rattle.rbac_model.specs.Places.{AreSources, IsRefAt, granted_by, rules_in, roles_at}
+use Rattle.rbac_model.specs.Places.{AreSourcesAt, IsRefAt, granted_by, rules_in, roles_at}
 use Rattle.rbac_model.specs.declared.places.RolePlace.TheVariants.{RoleAt, ClusterRoleAt}
-use Rattle.rbac_model.proofs.Brought.{role_rules, source_rules, source_within}
+use Rattle.rbac_model.proofs.Brought.{role_rules, source_rules}
 use Rattle.rbac_model.proofs.Lookups.{role_named, cluster_role_named, same_role, same_cluster_role, role_ref, cluster_role_ref, no_role_ref, no_cluster_role_ref}
 use Rattle.rbac_model.proofs.NamePlaces.{by_ordering, same_name, equal_from_name}
 
@@ -45,7 +43,7 @@ named_or_not name (y ∷ ys) x = elim (same_or_not name y x) [
   ]
 ]
 
-module _ (h : Held) (rows : List (Vec ℕ Global)) (are : AreSources h rows) where
+module _ (h : Held) (sources : (k : ℕ) → (ps : List ℕ) × AreSourcesAt h k ps) where
   by_role : (b : Binding) (namespace name : Text) → b.namespace ≡ Some namespace → b.role ≡ ToRole name → (rules : List SourcedRule) × AreRulesFor h b rules
   by_role b namespace name e f = elim (named_or_not role_name h.roles (role_named namespace name)) [
     | inl w ↦
@@ -60,11 +58,8 @@ module _ (h : Held) (rows : List (Vec ℕ Global)) (are : AreSources h rows) whe
     | inl w ↦
         let found : IsRefAt h b.namespace (ToClusterRole name) (ClusterRoleAt w.0) = cluster_role_ref h b.namespace name w.0 (w.1, λ d. same_cluster_role (get_or h.cluster_roles w.0 d) (cluster_role_named name) (w.2 d)) in
         let ref : IsRefAt h b.namespace b.role (ClusterRoleAt w.0) = rw f found in
-        let l = source_within h b w.0 rows are ref in
-        elim ((slice_get_cases rows w.0).1) [
-          | inl row ↦ (rules_in (roles_at h row.0.items), (source_rules h b w.0 rows are ref row.0 row.2).0)
-          | inr over ↦ absurd (omega (arith, l, over.0))
-        ]
+        let of = sources w.0 in
+        (rules_in (roles_at h of.0), (source_rules h b w.0 of.0 of.1 ref).0)
     | inr none ↦ ([], inr (rw f (no_cluster_role_ref h b.namespace name (λ w. none (w.0, w.1, w.2, w.3, cluster_role_same w.1 name w.4))), refl))
   ]
 

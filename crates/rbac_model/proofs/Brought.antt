@@ -1,16 +1,14 @@
 -- the rules that a binding brings, by the place of its role
 use Rattle.std.proofs.Common.{◌≡◌, ℕ, ◌<◌, List, [], ◌∷◌, ◌++◌, length, All, inl, inr, sym, ap, ◌∙◌, refl, arith, subst, option_map, Result, Ok, Err, OnOk, IfErr, append-nil, ◌+◌, ◌⊎◌}
-use Rattle.std.specs.Prelude.{Option, Some, None, slice_get, Vec, IsSome}
-use Rattle.std.specs.declared.alloc.Global.{Global}
+use Rattle.std.specs.Prelude.{Option, Some, None, slice_get, IsSome}
 use Rattle.std.proofs.lemmas.Option.{same_Some, slice_get_within}
 use Rattle.rbac_model.specs.Policies.{Held, Source, InRole, InClusterRole, SourcedRule, IsRefTo, IsPlain, AreRulesOf, AreRulesFor, AreGathered, written_from, grant_at}
-use Rattle.rbac_model.specs.Places.{IsRefAt, AreSources, AreSourcesOf, IsAdded, rules_in, roles_at, role_places, places_in}
+use Rattle.rbac_model.specs.Places.{IsRefAt, AreSourcesAt, IsAdded, rules_in, roles_at, role_places, places_in}
 use Rattle.rbac_terms.specs.declared.granting.Binding.{Binding}
 use Rattle.rbac_terms.specs.declared.granting.Role.{Role}
 use Rattle.rbac_terms.specs.declared.granting.ClusterRole.{ClusterRole}
 use Rattle.rbac_model.specs.declared.places.GrantPlace.{GrantPlace}
 use Rattle.rbac_model.specs.declared.places.RolePlace.TheVariants.{RoleAt, ClusterRoleAt}
-use Rattle.rbac_model.proofs.Stairs.{zip_read, zip_len}
 use Rattle.rbac_model.proofs.Listed.{added, role_placed, sources_placed, placed_len}
 
 pub on_ok : {T E : Type 0} {P Q : Type 0} (o : Result T E) → (P → Q) → OnOk o P → OnOk o Q
@@ -42,19 +40,17 @@ module _ (h : Held) (b : Binding) (k : ℕ) where
     | inr u ↦ inr (u.0, (ss, u.1, refl))
   ]
 
-  pub source_rules : (rows : List (Vec ℕ Global)) → AreSources h rows → IsRefAt h b.namespace b.role (ClusterRoleAt k) → (row : Vec ℕ Global) → slice_get rows k ≡ Some row → AreRulesFor h b (rules_in (roles_at h row.items)) × All (λ p. p < length h.cluster_roles) row.items
-  source_rules rows are ref row e =
+  pub source_rules : (ps : List ℕ) → AreSourcesAt h k ps → IsRefAt h b.namespace b.role (ClusterRoleAt k) → AreRulesFor h b (rules_in (roles_at h ps)) × All (λ p. p < length h.cluster_roles) ps
+  source_rules ps of ref =
       let there = cluster_role_there h k (slice_get h.cluster_roles k) refl ref.0 ref.1 in
       let P : Source → Type 0 = λ s. IsRefTo h b.namespace b.role s in
-      let R : ClusterRole → Vec ℕ Global → Type 0 = λ r v. AreSourcesOf h r v.items in
-      let from = zip_read R h.cluster_roles rows k there.0 row are there.1 e in
-      (inl (InClusterRole there.0, subst P (sym there.2) ref.2, own_or_gathered there.0 (roles_at h row.items) from.1), from.0)
+      let from = of there.0 there.1 in
+      (inl (InClusterRole there.0, subst P (sym there.2) ref.2, own_or_gathered there.0 (roles_at h ps) from.1), from.0)
 
-  pub source_within : (rows : List (Vec ℕ Global)) → AreSources h rows → IsRefAt h b.namespace b.role (ClusterRoleAt k) → k < length rows
-  source_within rows are ref =
+  pub source_within : IsRefAt h b.namespace b.role (ClusterRoleAt k) → k < length h.cluster_roles
+  source_within ref =
       let there = cluster_role_there h k (slice_get h.cluster_roles k) refl ref.0 ref.1 in
-      let R : ClusterRole → Vec ℕ Global → Type 0 = λ r v. AreSourcesOf h r v.items in
-      omega (arith, zip_len R h.cluster_roles rows are, slice_get_within h.cluster_roles k there.0 there.1)
+      slice_get_within h.cluster_roles k there.0 there.1
 
   module _ (at : ℕ) (here : slice_get h.bindings at ≡ Some b) where
     pub role_added : (old new : List GrantPlace) → IsRefAt h b.namespace b.role (RoleAt k) → All (λ g. IsSome (grant_at h g)) old → new ≡ old ++ role_places h at k → (rules : List SourcedRule) × AreRulesFor h b rules × IsAdded h b old new rules
@@ -67,12 +63,12 @@ module _ (h : Held) (b : Binding) (k : ℕ) where
         let r = role_rules ref in
         (written_from (InRole r.0) 0 r.0.rules, r.2, omega (arith, l, placed_len h b at here (role_places h at k) (written_from (InRole r.0) 0 r.0.rules) (role_placed h b at here k r.0 r.1)))
 
-    pub sources_added : (rows : List (Vec ℕ Global)) → AreSources h rows → (row : Vec ℕ Global) → slice_get rows k ≡ Some row → (old new : List GrantPlace) → IsRefAt h b.namespace b.role (ClusterRoleAt k) → All (λ g. IsSome (grant_at h g)) old → new ≡ old ++ places_in h at row.items → (rules : List SourcedRule) × AreRulesFor h b rules × IsAdded h b old new rules
-    sources_added rows are row read old new ref held e =
-        let r = source_rules rows are ref row read in
-        (rules_in (roles_at h row.items), r.0, added h b at here old new (places_in h at row.items) (rules_in (roles_at h row.items)) e held (sources_placed h b at here row.items r.1))
+    pub sources_added : (ps : List ℕ) → AreSourcesAt h k ps → (old new : List GrantPlace) → IsRefAt h b.namespace b.role (ClusterRoleAt k) → All (λ g. IsSome (grant_at h g)) old → new ≡ old ++ places_in h at ps → (rules : List SourcedRule) × AreRulesFor h b rules × IsAdded h b old new rules
+    sources_added ps of old new ref held e =
+        let r = source_rules ps of ref in
+        (rules_in (roles_at h ps), r.0, added h b at here old new (places_in h at ps) (rules_in (roles_at h ps)) e held (sources_placed h b at here ps r.1))
 
-    pub sources_many : (rows : List (Vec ℕ Global)) → AreSources h rows → (row : Vec ℕ Global) → slice_get rows k ≡ Some row → (n : ℕ) → IsRefAt h b.namespace b.role (ClusterRoleAt k) → 1000000 < n + length (places_in h at row.items) → (rules : List SourcedRule) × AreRulesFor h b rules × (1000000 < n + length rules)
-    sources_many rows are row read n ref l =
-        let r = source_rules rows are ref row read in
-        (rules_in (roles_at h row.items), r.0, omega (arith, l, placed_len h b at here (places_in h at row.items) (rules_in (roles_at h row.items)) (sources_placed h b at here row.items r.1)))
+    pub sources_many : (ps : List ℕ) → AreSourcesAt h k ps → (n : ℕ) → IsRefAt h b.namespace b.role (ClusterRoleAt k) → 1000000 < n + length (places_in h at ps) → (rules : List SourcedRule) × AreRulesFor h b rules × (1000000 < n + length rules)
+    sources_many ps of n ref l =
+        let r = source_rules ps of ref in
+        (rules_in (roles_at h ps), r.0, omega (arith, l, placed_len h b at here (places_in h at ps) (rules_in (roles_at h ps)) (sources_placed h b at here ps r.1)))

@@ -1,19 +1,22 @@
 -- the roles at places with marks are those that an aggregated role gathers from
-use Rattle.std.proofs.Common.{◌≡◌, ℕ, ◌<◌, List, [], ◌∷◌, length, get_or, Contains, All, AllPairs, ◌↔◌, inl, inr, sym, ap, ◌∙◌, refl, arith, subst, Result, Ok, Err, IfOk}
-use Rattle.std.specs.Prelude.{Some, IsSome, slice_get, Vec, option_and_then}
+use Rattle.std.proofs.Common.{◌≡◌, ℕ, ◌<◌, ◌⊎◌, ◌/◌, ◌%◌, List, [], ◌∷◌, length, get_or, Contains, All, AllPairs, ◌↔◌, inl, inr, sym, ap, ◌∙◌, refl, arith, subst, Result, Ok, Err, IfOk}
+use Rattle.std.specs.Prelude.{Option, Some, None, IsSome, slice_get, Vec, option_and_then}
+use Rattle.std.specs.Int.{bit_at}
+use Rattle.std.proofs.lemmas.Bool.{cases_eq}
 use Rattle.std.specs.List.{filter_map}
 use Rattle.std.specs.declared.alloc.Global.{Global}
-use Rattle.std.specs.declared.alloc.AllocError.{AllocError}
 use Rattle.std.proofs.lemmas.List.{get_or_default}
 use Rattle.std.proofs.lemmas.List.Elements.{Contains-get_or}
 use Rattle.std.proofs.lemmas.Option.{same_Some, slice_get_within, get_or_from_slice_get, slice_get-get_or, slice_get_cases}
 use Rattle.rbac_model.specs.Policies.{Held, IsHeld, Reaches, IsPlain, cluster_role_name}
-use Rattle.rbac_model.specs.Lists.{IsAscendingBy}
-use Rattle.rbac_model.specs.Graphs.{IsMarked}
-use Rattle.rbac_model.specs.Places.{IsReachedAt, AreSourcesOf, IsPlainAt}
+use Rattle.rbac_model.specs.Lists.{IsAscendingBy, IsUpTo}
+use Rattle.rbac_model.specs.Graphs.{Graph, IsMarked}
+use Rattle.rbac_model.specs.Places.{IsReachedAt, AreReaches, AreSourcesOf, AreSourcesAt, IsPlainAt}
 use Rattle.rbac_terms.specs.declared.granting.ClusterRole.{ClusterRole}
 use Rattle.rbac_model.proofs.Kept.{length-filter_map, slice_get-filter_map}
-use Rattle.rbac_model.proofs.Stairs.{read_contains, reached_held}
+use Rattle.rbac_model.proofs.Stairs.{read_contains, reached_held, marked_reached}
+use Rattle.rbac_model.proofs.UpTo.{all_kept, some_list}
+use Rattle.rbac_terms.specs.declared.selecting.Selector.{Selector}
 
 k_itself : (ks : List ℕ) (i : ℕ) → i < length ks → get_or ks i (get_or ks i 0) ≡ get_or ks i 0
 k_itself ks i l = get_or_default ks i (get_or ks i 0) 0 l
@@ -53,9 +56,18 @@ pub own_source : (h : Held) (at : ℕ) (r : ClusterRole) → slice_get h.cluster
 own_source h at r e plain =
     (λ k d l. let first : k ≡ 0 = omega arith in rw first (slice_get_within h.cluster_roles at r e), inl (plain, rw e refl))
 
+pub at_place : (h : Held) (at : ℕ) (r : ClusterRole) (ps : List ℕ) → slice_get h.cluster_roles at ≡ Some r → AreSourcesOf h r ps → AreSourcesAt h at ps
+at_place h at r ps read of = λ s e. subst (λ (t : ClusterRole). AreSourcesOf h t ps) (same_Some r s (sym read ∙ e)) of
+
+-- a mark on a plain role
+abbrev pub IsGatheredAt : Held → List ℕ → ℕ → Type 0
+IsGatheredAt h marks k = IsMarked marks k × IsPlainAt h.cluster_roles k
+
 module _ (h : Held) (held : IsHeld h) (r : ClusterRole) (aggregated : IsPlain r → ⊥) (marks : List ℕ) (reached : (k : ℕ) → IsMarked marks k ↔ IsReachedAt h r k) where
-  gathered_from : (ks : List ℕ) → AllPairs (λ a b. a < b) ks → ((k : ℕ) → Contains ks k ↔ (IsMarked marks k × IsPlainAt h.cluster_roles k)) → AreSourcesOf h r ks
-  gathered_from ks rising exact =
+  pub gathered_from : (ks : List ℕ) → IsUpTo (IsGatheredAt h marks) ks (length h.cluster_roles) → AreSourcesOf h r ks
+  gathered_from ks up =
+      let rising = up.ascending in
+      let exact : (k : ℕ) → Contains ks k ↔ IsGatheredAt h marks k = all_kept (IsGatheredAt h marks) ks (length h.cluster_roles) (λ k p. slice_get_within h.cluster_roles k p.1.0 p.1.1) up in
       let within : All (λ k. k < length h.cluster_roles) ks = λ i d l. let p = ((exact (get_or ks i d)).0 (Contains-get_or ks i d l)).1 in slice_get_within h.cluster_roles (get_or ks i d) p.0 p.1 in (
         within,
         inr (
@@ -78,6 +90,43 @@ module _ (h : Held) (held : IsHeld h) (r : ClusterRole) (aggregated : IsPlain r 
         ),
       )
 
-  pub gathered_sources : (o : Result (Vec ℕ Global) AllocError) → record { ascending : IfOk o (λ row. AllPairs (λ a b. a < b) row.items); exact : IfOk o (λ row. (k : ℕ) → Contains row.items k ↔ (IsMarked marks k × IsPlainAt h.cluster_roles k)) } → IfOk o (λ row. AreSourcesOf h r row.items)
-  gathered_sources (Ok row) c = gathered_from row.items c.ascending c.exact
-  gathered_sources (Err e) c = tt
+-- an aggregation is there, or not
+plain_or_not : (r : ClusterRole) (o : Option (List Selector)) → r.aggregation ≡ o → IsPlain r ⊎ (IsPlain r → ⊥)
+plain_or_not r None e = inl e
+plain_or_not r (Some selectors) e = inr (λ plain. let f = sym plain ∙ e in cc)
+
+plain_at_or_not : (roles : List ClusterRole) (k : ℕ) → IsPlainAt roles k ⊎ (IsPlainAt roles k → ⊥)
+plain_at_or_not roles k = elim ((slice_get_cases roles k).1) [
+  | inl w ↦ elim (plain_or_not w.0 w.0.aggregation refl) [
+    | inl plain ↦ inl (w.0, w.2, plain)
+    | inr isnt ↦ inr (λ p. isnt (subst IsPlain (same_Some p.0 w.0 (sym p.1 ∙ w.2)) p.2))
+  ]
+  | inr w ↦ inr (λ p. let l = slice_get_within roles k p.0 p.1 in absurd (omega (arith, l, w.0)))
+]
+
+gathered_or_not : (h : Held) (marks : List ℕ) (k : ℕ) → IsGatheredAt h marks k ⊎ (IsGatheredAt h marks k → ⊥)
+gathered_or_not h marks k = elim (cases_eq (bit_at (get_or marks (k / 64) 0) (k % 64)) 1) [
+  | inl marked ↦ elim (plain_at_or_not h.cluster_roles k) [
+    | inl plain ↦ inl (marked, plain)
+    | inr isnt ↦ inr (λ p. isnt p.1)
+  ]
+  | inr isnt ↦ inr (λ p. isnt p.0)
+]
+
+module _ (h : Held) (held : IsHeld h) (rows : Graph) (are : AreReaches h rows) (at : ℕ) where
+  pub gathered_at : {E : Type 0} (r : ClusterRole) (marks : List ℕ) (o : Result (Vec ℕ Global) E) → slice_get h.cluster_roles at ≡ Some r → (IsPlain r → ⊥) → marks ≡ get_or rows at marks → IfOk o (λ row. IsUpTo (IsGatheredAt h marks) row.items (length h.cluster_roles)) → IfOk o (λ row. AreSourcesAt h at row.items)
+  gathered_at r marks (Ok row) e aggregated read up = at_place h at r row.items e (gathered_from h held r aggregated marks (marked_reached h rows at r marks are e read) row.items up)
+  gathered_at r marks (Err fault) e aggregated read up = tt
+
+  -- each place has its sources
+  pub some_sources : (ps : List ℕ) × AreSourcesAt h at ps
+  some_sources = elim ((slice_get_cases h.cluster_roles at).1) [
+    | inr w ↦ ([], λ r e. let l = slice_get_within h.cluster_roles at r e in absurd (omega (arith, l, w.0)))
+    | inl w ↦ elim (plain_or_not w.0 w.0.aggregation refl) [
+      | inl plain ↦ (at ∷ [], at_place h at w.0 (at ∷ []) w.2 (own_source h at w.0 w.2 plain))
+      | inr aggregated ↦
+          let marks = get_or rows at [] in
+          let some = some_list (IsGatheredAt h marks) (gathered_or_not h marks) (length h.cluster_roles) in
+          (some.0, at_place h at w.0 some.0 w.2 (gathered_from h held w.0 aggregated marks (are.exact at w.0 w.2) some.0 some.1))
+    ]
+  ]

@@ -42,3 +42,8 @@ IsGapForName name xs x i = (i ≤ length xs) × AllWithin (λ y. by_name name y 
 pub record IsOnceEach {X : Type 0} (cmp : X → X → Ordering) (xs ys : List X) : Type 0 where
   pub ascending : IsStrictlySortedBy cmp ys
   pub same : (x : X) → Contains ys x ↔ Contains xs x
+
+-- the places below a bound that have a property, ascending
+pub record IsUpTo (P : ℕ → Type 0) (ks : List ℕ) (bound : ℕ) : Type 0 where
+  pub ascending : AllPairs (λ a b. a < b) ks
+  pub exact : (k : ℕ) → Contains ks k ↔ ((k < bound) × P k)

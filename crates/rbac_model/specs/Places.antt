@@ -1,7 +1,6 @@
-use Rattle.std.specs.Prelude.{◌≡◌, ◌↔◌, Contains, ℕ, ◌<◌, ◌⊎◌, List, [], ◌∷◌, ◌++◌, Option, Some, None, All, IsSome, map, slice_get, length, zero, suc, Vec}
+use Rattle.std.specs.Prelude.{◌≡◌, ◌↔◌, Contains, ℕ, ◌<◌, ◌⊎◌, List, [], ◌∷◌, ◌++◌, Option, Some, None, All, IsSome, map, slice_get, length, zero, suc}
 use Rattle.std.specs.List.{filter_map, flat_map, AllZip}
 use Rattle.std.specs.Option.{option_map}
-use Rattle.std.specs.declared.alloc.Global.{Global}
 use Rattle.rbac_model.specs.Graphs.{Graph, HasEdge, IsMarked}
 use Rattle.rbac_model.specs.Lists.{IsAscendingBy}
 use Rattle.rbac_terms.specs.Text.{Text}
@@ -54,9 +53,9 @@ AreSourcesOf h r ps =
     All (λ p. p < length h.cluster_roles) ps
     × ((IsPlain r × (roles_at h ps ≡ r ∷ [])) ⊎ ((¬ IsPlain r) × AreGathered h r (roles_at h ps)))
 
--- such places, for each cluster role
-abbrev pub AreSources : Held → List (Vec ℕ Global) → Type 0
-AreSources h rows = AllZip (λ r row. AreSourcesOf h r row.items) h.cluster_roles rows
+-- such places, for the cluster role at a place
+abbrev pub AreSourcesAt : Held → ℕ → List ℕ → Type 0
+AreSourcesAt h at ps = (r : ClusterRole) → slice_get h.cluster_roles at ≡ Some r → AreSourcesOf h r ps
 
 -- the role at a place is plain
 abbrev pub IsPlainAt : List ClusterRole → ℕ → Type 0

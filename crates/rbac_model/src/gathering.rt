@@ -1,10 +1,11 @@
 //! What aggregated roles gather from.
 
-ghost use Rattle.std.specs.Prelude.{◌≡◌, ◌≢◌, ◌<◌, ◌↔◌, ℕ, IsTrue, Some, IfOk, IsOkAnd, Contains, slice_get, AllPairs, Any, []};
+ghost use Rattle.std.specs.Prelude.{◌≡◌, ◌≢◌, ◌+◌, ◌*◌, ◌/◌, ◌<◌, ◌≤◌, ◌↔◌, IsTrue, IfOk, OnOk, IsOkAnd, Contains, Any, [], length, min};
 ghost use Rattle.rbac_model.specs.Policies.{Gathers, AreReachedNames};
 ghost use Rattle.rbac_model.specs.Graphs.{IsMarked};
+ghost use Rattle.rbac_model.specs.Lists.{IsUpTo};
 ghost use Rattle.rbac_terms.specs.declared.granting.ClusterRole.{ClusterRole};
-ghost use Rattle.rbac_model.specs.Places.{IsRowOf, AreSteps, IsReachedAt, AreReaches, AreSources, AreSourcesOf, IsPlainAt, AreMarkedNames};
+ghost use Rattle.rbac_model.specs.Places.{IsRowOf, AreSteps, IsReachedAt, AreReaches, AreSourcesAt, IsPlainAt, AreMarkedNames};
 
 use crate::holding::Objects;
 use crate::marking::Marks;
@@ -67,40 +68,25 @@ fn gathers(role: &ClusterRole, other: &ClusterRole) -> bool
     }
 }
 
-// For each cluster role the places of those whose written rules it has.
-pub(crate) fn sources_of(
+// The places of the cluster roles whose written rules the one at this place has. They are read out
+// of the set when a binding asks for them: lists for all roles may be more than memory holds.
+pub(crate) fn sources_at(
     alloc: Global,
     objects: &Objects,
     reaches: &[Marks],
-) -> Result<Vec<Vec<usize>>, AllocError>
-    requires { AreReaches objects.now reaches.now }
-    ensures { IfOk result (λ rows. AreSources objects.now rows.items) }
+    at: usize,
+) -> Result<Vec<usize>, AllocError>
+    requires reaches { AreReaches objects.now reaches.now }
+    requires at { at < length objects.now.cluster_roles }
+    ensures { IfOk result (λ row. AreSourcesAt objects.now at row.items) }
 {
     let roles = objects.cluster_roles();
-    let mut rows = Vec::with_capacity(alloc, roles.len())?;
-    for (at, role) in roles.iter().enumerate() {
-        rows.push(sources_at(alloc, objects, &reaches[at], at, role)?)?;
-    }
-    Ok(rows)
-}
-
-fn sources_at(
-    alloc: Global,
-    objects: &Objects,
-    reached: &Marks,
-    at: usize,
-    role: &ClusterRole,
-) -> Result<Vec<usize>, AllocError>
-    requires at { slice_get objects.now.cluster_roles at ≡ Some role.now }
-    requires reached { (k : ℕ) → IsMarked reached.now k ↔ IsReachedAt objects.now role.now k }
-    ensures { IfOk result (λ row. AreSourcesOf objects.now role.now row.items) }
-{
-    if role.aggregation.is_none() {
+    if roles[at].aggregation.is_none() {
         let mut own = Vec::new(alloc);
         own.push(at)?;
         return Ok(own);
     }
-    plain_marked(alloc, objects.cluster_roles(), reached)
+    plain_marked(alloc, roles, &reaches[at])
 }
 
 // The places of the plain roles with a mark, ascending.
@@ -109,16 +95,34 @@ fn plain_marked(
     roles: &[ClusterRole],
     marks: &Marks,
 ) -> Result<Vec<usize>, AllocError>
-    ensures ascending { IfOk result (λ row. AllPairs (λ a b. a < b) row.items) }
-    ensures exact { IfOk result (λ row. (k : ℕ) → Contains row.items k ↔ (IsMarked marks.now k × IsPlainAt roles.now k)) }
+    ensures { IfOk result (λ row. IsUpTo (λ k. IsMarked marks.now k × IsPlainAt roles.now k) row.items (length roles.now)) }
 {
     let mut row = Vec::new(alloc);
-    for (at, role) in roles.iter().enumerate() {
-        if marks.has(at) && role.aggregation.is_none() {
-            row.push(at)?;
+    for at in 0..roles.len() / 64 + 1 {
+        if marks.has_word(at) {
+            put_plain(roles, marks, at, &mut row)?;
         }
     }
     Ok(row)
+}
+
+// Adds those that have their mark in one word.
+fn put_plain(
+    roles: &[ClusterRole],
+    marks: &Marks,
+    at: usize,
+    row: &mut Vec<usize>,
+) -> Result<(), AllocError>
+    requires word { at ≤ length roles.now / 64 }
+    requires before { IsUpTo (λ k. IsMarked marks.now k × IsPlainAt roles.now k) row.old.items (at * 64) }
+    ensures { OnOk result (IsUpTo (λ k. IsMarked marks.now k × IsPlainAt roles.now k) row.new.items (min (at * 64 + 64) (length roles.now))) }
+{
+    for place in at * 64..(at * 64).saturating_add(64).min(roles.len()) {
+        if marks.has(place) && roles[place].aggregation.is_none() {
+            row.push(place)?;
+        }
+    }
+    Ok(())
 }
 
 // The names of those that the cluster role of this name reaches; where no role has the name, none,

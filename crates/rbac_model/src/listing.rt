@@ -2,10 +2,12 @@
 
 ghost use Rattle.std.specs.Prelude.{◌≡◌, ◌+◌, ◌<◌, ◌≤◌, ◌++◌, List, Some, IsSome, All, IfOk, IfErr, OnOk, length, slice_get, vec_len};
 ghost use Rattle.rbac_model.specs.Policies.{AreGrantsOf, AreRulesFor, HasTooMany, SourcedRule, grant_at, grants_at};
-ghost use Rattle.rbac_model.specs.Places.{AreSources, IsAdded, places_of, places_in, role_places};
+ghost use Rattle.rbac_model.specs.Places.{AreReaches, IsAdded, places_of, places_in, role_places};
 
 use crate::fault::ResolveFault;
+use crate::gathering::sources_at;
 use crate::holding::Objects;
+use crate::marking::Marks;
 use crate::places::{GrantPlace, RolePlace};
 use crate::resolving::ref_place;
 use rbac_terms::Binding;
@@ -15,9 +17,9 @@ use std::alloc::{AllocError, Global};
 pub(crate) fn grants_of(
     alloc: Global,
     objects: &Objects,
-    sources: &[Vec<usize>],
+    reaches: &[Marks],
 ) -> Result<Vec<GrantPlace>, ResolveFault>
-    requires { AreSources objects.now sources.now }
+    requires { AreReaches objects.now reaches.now }
     ensures are { IfOk result (λ gs. AreGrantsOf objects.now objects.now.bindings (grants_at objects.now gs.items)) }
     ensures held { IfOk result (λ gs. All (λ g. IsSome (grant_at objects.now g)) gs.items) }
     ensures few { IfOk result (λ gs. vec_len gs ≤ 1000000) }
@@ -26,20 +28,21 @@ pub(crate) fn grants_of(
     let bindings = objects.bindings();
     let mut grants = Vec::new(alloc);
     for (at, binding) in bindings.iter().enumerate() {
-        put_binding(objects, sources, at, binding, &mut grants)?;
+        put_binding(alloc, objects, reaches, at, binding, &mut grants)?;
     }
     Ok(grants)
 }
 
 // Adds the grants of one binding.
 fn put_binding(
+    alloc: Global,
     objects: &Objects,
-    sources: &[Vec<usize>],
+    reaches: &[Marks],
     at: usize,
     binding: &Binding,
     grants: &mut Vec<GrantPlace>,
 ) -> Result<(), ResolveFault>
-    requires sources { AreSources objects.now sources.now }
+    requires reaches { AreReaches objects.now reaches.now }
     requires at { slice_get objects.now.bindings at ≡ Some binding.now }
     requires few { vec_len grants.old ≤ 1000000 }
     requires held { All (λ g. IsSome (grant_at objects.now g)) grants.old.items }
@@ -49,7 +52,10 @@ fn put_binding(
 {
     match ref_place(objects, binding) {
         Some(RolePlace::RoleAt(role)) => put_role(objects, at, role, grants),
-        Some(RolePlace::ClusterRoleAt(role)) => put_sources(objects, at, &sources[role], grants),
+        Some(RolePlace::ClusterRoleAt(role)) => {
+            let sources = sources_at(alloc, objects, reaches, role)?;
+            put_sources(objects, at, sources.as_slice(), grants)
+        }
         None => Ok(()),
     }
 }

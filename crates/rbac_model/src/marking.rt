@@ -1,6 +1,6 @@
 //! Sets of places, with a bit for each: a place is in the set where its bit is 1, its mark.
 
-ghost use Rattle.std.specs.Prelude.{◌≡◌, ◌+◌, ◌/◌, ◌<◌, ◌≤◌, ◌⊎◌, ◌↔◌, ℕ, IsTrue, OnOk, MatchOption, length, vec_len, slice_index_or, []};
+ghost use Rattle.std.specs.Prelude.{◌≡◌, ◌+◌, ◌/◌, ◌<◌, ◌≤◌, ◌⊎◌, ◌↔◌, ℕ, IsTrue, false, OnOk, MatchOption, length, vec_len, slice_index_or, []};
 ghost use Rattle.rbac_model.specs.Graphs.{IsMarked};
 
 use std::alloc::{AllocError, Global};
@@ -52,6 +52,13 @@ impl Marks {
             Some(word) => *word,
             None => 0,
         }
+    }
+
+    // Whether some place of a word has a mark.
+    pub(crate) fn has_word(&self, at: usize) -> bool
+        ensures { result ≡ false → (k : ℕ) → k / 64 ≡ at → ¬ IsMarked self.now k }
+    {
+        self.word(at) != 0
     }
 
     // The first place of these, below a bound, that isn't in the other set.

@@ -9,7 +9,7 @@ ghost use Rattle.rbac_terms.specs.declared.granting.ClusterRole.{ClusterRole};
 
 use crate::allowing::grant_allows;
 use crate::fault::ResolveFault;
-use crate::gathering::{names_from, reaches_of, sources_of};
+use crate::gathering::{names_from, reaches_of};
 use crate::holding::Objects;
 use crate::listing::grants_of;
 use crate::marking::Marks;
@@ -53,8 +53,7 @@ impl Policy {
         ensures many { IfErr result (λ e. e ≡ ResolveFault.TooMany → HasTooMany objects) }
     {
         let reaches = reaches_of(alloc, &objects)?;
-        let sources = sources_of(alloc, &objects, &reaches)?;
-        let grants = grants_of(alloc, &objects, &sources)?;
+        let grants = grants_of(alloc, &objects, &reaches)?;
         Ok(Policy {
             objects,
             reaches,

@@ -1,33 +1,37 @@
-use Rattle.std.proofs.Common.{ℕ, ◌≡◌, ◌<◌, length, sym, ap, ◌∙◌, arith, refl}
-use Rattle.std.proofs.lemmas.Option.{slice_get_read, slice_get_within, same_Some}
+use Rattle.std.proofs.Common.{ℕ, ◌≡◌, ◌+◌, ◌*◌, ◌/◌, length, min, arith, subst}
 use Rattle.rbac_model.specs.Graphs.{IsMarked}
+use Rattle.rbac_model.specs.Lists.{IsUpTo}
 use Rattle.rbac_model.specs.Places.{IsPlainAt}
-use Rattle.rbac_terms.specs.declared.granting.ClusterRole.{ClusterRole}
-use Rattle.rbac_model.proofs.UpTo.{none_yet, one_more, not_more, all_kept, none_is, isnt_none}
+use Rattle.rbac_model.proofs.UpTo.{none_yet, none_between}
 use Rattle.rbac_model.proofs.gathering.plain_marked.Goals as goal
-use Rattle.rbac_model.proofs.gathering.plain_marked.Goals.{then-has+then-is_none+in_ok-push, else-has, else-has-via-then-has+else-is_none, else-has-via-else-has}
+use Rattle.rbac_model.proofs.gathering.plain_marked.Goals.{then-has_word+in_ok-put_plain, else-has_word}
 
 pub loop-at-init : goal.loop-at-init
-loop-at-init c = rw c.new-row.ensures.items (none_yet _)
+loop-at-init c =
+    let P : ℕ → Type 0 = λ k. IsMarked c.args.marks.now k × IsPlainAt c.args.roles.now k in
+    let none : 0 ≡ min 0 (length c.args.roles.now) = omega arith in
+    subst (λ (i : ℕ). IsUpTo P c.new-row.result.items i) none (rw c.new-row.ensures.items (none_yet P))
+
+pub put_plain-requires-clause-before : goal.put_plain-requires-clause-before
+put_plain-requires-clause-before c =
+    let P : ℕ → Type 0 = λ k. IsMarked c.args.marks.now k × IsPlainAt c.args.roles.now k in
+    let below : min (c.loop-at.at * 64) (length c.args.roles.now) ≡ c.loop-at.at * 64 = omega arith in
+    subst (λ (i : ℕ). IsUpTo P c.loop-at.row.items i) below c.loop-at.invariant
 
 pub loop-at-preserved : goal.loop-at-preserved
 loop-at-preserved c =
     let P : ℕ → Type 0 = λ k. IsMarked c.args.marks.now k × IsPlainAt c.args.roles.now k in
-    let in_range : c.loop-at.at < length c.args.roles.now = omega arith in
-    let read = slice_get_read _ _ _ _ refl in_range c.index-roles-at.is in
-    elim c.if-has.branch [
-      | then-has+then-is_none+in_ok-push w ↦
-          rw (w.row-is, w.in_ok-push.ensures.items) (one_more P c.loop-at.row.items c.loop-at.at (c.has.ensures.0 w.if-has.true, (c.index-roles-at.result, read, none_is c.index-roles-at.result.aggregation _ w.is_none.ensures w.if-is_none.true)) c.loop-at.invariant)
-      | else-has w ↦ rw w.row-is (not_more P c.loop-at.row.items c.loop-at.at (elim w.else-has.branch [
-        | else-has-via-then-has+else-is_none v ↦ λ p.
-            let same = same_Some p.1.0 c.index-roles-at.result (sym p.1.1 ∙ read) in
-            isnt_none c.index-roles-at.result.aggregation _ v.is_none.ensures v.if-is_none.false (ap (λ (r : ClusterRole). r.aggregation) (sym same) ∙ p.1.2)
-        | else-has-via-else-has v ↦ λ p. let no = v.if-has.false in let yes = c.has.ensures.1 p.0 in cc
-      ]) c.loop-at.invariant)
+    let n = length c.args.roles.now in
+    let at = c.loop-at.at in
+    let next : min (at * 64 + 64) n ≡ min ((at + 1) * 64) n = omega arith in
+    elim c.if-has_word.branch [
+      | then-has_word+in_ok-put_plain w ↦ rw w.row-is (subst (λ (i : ℕ). IsUpTo P w.put_plain.new.row.items i) next w.in_ok-put_plain.ensures)
+      | else-has_word w ↦ rw w.row-is (none_between P c.loop-at.row.items (min (at * 64) n) (min ((at + 1) * 64) n) (omega arith)
+          (λ k ge lt p. let here : k / 64 ≡ at = omega arith in c.has_word.ensures w.if-has_word.false k here p.0) c.loop-at.invariant)
     ]
 
-pub returns-clause-exact : goal.returns-clause-exact
-returns-clause-exact c =
-    let ended : c.loop-at.at ≡ length c.args.roles.now = omega arith in
-    all_kept (λ k. IsMarked c.args.marks.now k × IsPlainAt c.args.roles.now k) c.loop-at.row.items (length c.args.roles.now)
-    (λ k p. slice_get_within c.args.roles.now k p.1.0 p.1.1) (rw ended at c.loop-at.invariant)
+pub returns : goal.returns
+returns c =
+    let P : ℕ → Type 0 = λ k. IsMarked c.args.marks.now k × IsPlainAt c.args.roles.now k in
+    let all : min (c.loop-at.at * 64) (length c.args.roles.now) ≡ length c.args.roles.now = omega arith in
+    subst (λ (i : ℕ). IsUpTo P c.loop-at.row.items i) all c.loop-at.invariant

@@ -3,6 +3,7 @@ use Rattle.std.proofs.lemmas.Option.{slice_get_read}
 use Rattle.std.proofs.lemmas.Result.{err_from_is_err_and}
 use Rattle.rbac_model.specs.Policies.{grants_at, grant_at}
 use Rattle.rbac_model.proofs.AllGranted.{all_granted}
+use Rattle.rbac_model.proofs.Gathered.{some_sources}
 use Rattle.rbac_model.proofs.Kept.{length-filter_map}
 use Rattle.rbac_model.proofs.Listed.{binding_more}
 use Rattle.rbac_model.proofs.OneList.{grants_from}
@@ -29,7 +30,7 @@ returns-in_err-put_binding-clause-many c =
     let p = err_from_is_err_and c.from_residual.result c.from_residual.ensures.1 in
     rw (p.1, p.2) (λ e.
     let m = c.in_err-put_binding.ensures.many e in
-    let all = all_granted h c.args.sources.now c.requires h.bindings in (
+    let all = all_granted h (some_sources h c.bindings-bindings.ensures.held c.args.reaches.now c.requires) h.bindings in (
       all.0,
       all.1,
       omega (

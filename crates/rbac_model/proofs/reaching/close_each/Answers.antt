@@ -1,4 +1,4 @@
-use Rattle.std.proofs.Common.{refl, arith, ◌∙◌}
+use Rattle.std.proofs.Common.{refl, arith}
 use Rattle.rbac_model.proofs.Closing.{same_alike, still_alike, still_graph, still_ends}
 use Rattle.rbac_model.proofs.reaching.close_each.Goals as goal
 
