@@ -46,7 +46,7 @@ same_from_test n q Less e t = cc
 same_from_test n q Equal e t = same_names n q e
 same_from_test n q Greater e t = cc
 
--- what isn't less either way is the same
+-- of two names that differ, the one that is not greater is less
 less_from_both : (n q : Name) (o : Ordering) → name_cmp n q ≡ o → is_eq o ≡ false → name_cmp q n ≢ Less → name_cmp n q ≡ Less
 less_from_both n q Less e t h = e
 less_from_both n q Equal e t h = cc
