@@ -1,13 +1,9 @@
 #!/usr/bin/env bash
 # Measures the built program on inputs that are made to hurt, beside reading and dropping the same JSON alone: processor time
-# and the most memory of one run each. `make build` builds the program; the yardstick is built here.
+# and the most memory of one run each. `make build` builds the program.
 set -eu
 cd "$(dirname "$0")"
-audit=../crates/rbacaudit/out/rbacaudit
-room=$(mktemp -d)
-trap 'rm -rf "$room"' EXIT
-alone=$room/json_alone
-json_alone/build.sh "$alone"
+. ./common.sh
 cc -O2 generate_collisions.c -o "$room/collisions"
 input=$room/hostile.json
 

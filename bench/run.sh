@@ -1,13 +1,9 @@
 #!/usr/bin/env bash
 # Measures the built program on generated exports, beside reading and dropping the same JSON alone.
-# `make build` builds the program; the yardstick is built here.
+# `make build` builds the program.
 set -eu
 cd "$(dirname "$0")"
-audit=../crates/rbacaudit/out/rbacaudit
-room=$(mktemp -d)
-trap 'rm -rf "$room"' EXIT
-alone=$room/json_alone
-json_alone/build.sh "$alone"
+. ./common.sh
 
 # The least processor time of seven runs of a command, in milliseconds.
 least() {
