@@ -34,7 +34,8 @@ Examples:
   rbacaudit can-i --as alice --groups dev,ops -n dev --why get pods --subresource log *.json";
 
 const WHO_CAN_MORE: &str =
-    "Holders that are limited to object names are listed where TARGET names the object.
+    "The exit status is 0, also where nobody may; 2 is an error. Holders that are limited to object
+names are listed only where TARGET names the object.
 
 Examples:
   rbacaudit who-can -n dev delete secrets cluster.json namespaced.json
@@ -43,19 +44,27 @@ Examples:
 const MATRIX_MORE: &str =
     "A line has seven fields, joined by tabs: who (u:USER or g:GROUP), namespace, verb,
 API group, resource or URL, object name, and the first binding that grants it; - is an empty field.
-A Universe document says whom and what to ask.
+A Universe document says whom and what to ask. A list that it leaves out is made from the files:
+whom bindings name, the namespaces, verbs, object names and URLs that there are, and the resources
+of the API resource lists, or of the rules if there is no such list.
 
 The last line is end, or next and a TOKEN, joined by a tab, where --limit left rows out:
---after TOKEN goes on from there.
+--after TOKEN goes on from there. The exit status is 0; 2 is an error.
 
 Examples:
   rbacaudit matrix cluster.json namespaced.json universe.json
   rbacaudit matrix --limit 1000 --after TOKEN cluster.json namespaced.json";
 
 const LINT_MORE: &str =
-    "A line has five fields, joined by tabs: code, word, object, place, and the other; - is an empty field.
-  L1  dangling-role              a binding names a role that is not there
-  L2  unused-role                no binding names the role, nor an aggregated role that gathers it
+    "A line has five fields, joined by tabs; - is an empty field:
+  CODE    L1 to L7
+  NAME    what the code stands for, as below
+  OBJECT  the role or other object, as KIND/NAME or KIND/NAMESPACE/NAME
+  PLACE   the number of the rule or subject in it, from 1
+  OTHER   what it collides with or lacks: a role, a rule's number, a verb, an account, a count
+
+  L1  dangling-role              a binding refers to a role that is not there
+  L2  unused-role                no binding refers to the role, or to a role that aggregates it
   L3  redundant-rule             another rule of the role allows all that this rule does
   L4  escalation                 a rule lets its holders escalate or bind roles
   L5  account-without-namespace  a ClusterRoleBinding has a service account without a namespace
@@ -244,7 +253,7 @@ fn can_i<'a>(alloc: Global) -> Result<Command<'a>, AllocError>
     let command = named(
         alloc,
         "can-i",
-        "Check whether USER may VERB TARGET: yes (exit status 0) or no (1); 2 is a fault",
+        "Check whether USER may VERB TARGET: yes (exit status 0) or no (1); 2 is an error",
         CAN_I_MORE,
     );
     let command = with_asker(alloc, command)?;
@@ -261,7 +270,7 @@ fn who_can<'a>(alloc: Global) -> Result<Command<'a>, AllocError>
     let command = named(
         alloc,
         "who-can",
-        "List who may VERB TARGET: each u:USER or g:GROUP, and the first binding that lets them",
+        "List who may VERB TARGET: each u:USER or g:GROUP, and the first binding that grants it",
         WHO_CAN_MORE,
     );
     let command = with_scope(alloc, command)?;
@@ -290,7 +299,7 @@ fn lint<'a>(alloc: Global) -> Result<Command<'a>, AllocError>
     let command = named(
         alloc,
         "lint",
-        "List what is wrong with the roles: exit status 1 where something is, else 0; 2 is a fault",
+        "List what is wrong with the roles: status 1 where something is, else 0; 2 is an error",
         LINT_MORE,
     );
     with(command, files_arg(alloc))
