@@ -8,10 +8,16 @@ pub mod GrantNumbers
 pub mod Granted
 pub mod Kept
 pub mod LastNamed
+pub mod LabelAdding
+pub mod LabelMarks
+pub mod LabelPlaces
+pub mod LabelSets
+pub mod LabelSteps
 pub mod Listed
 pub mod Lookups
 pub mod Marked
 pub mod MarkedNames
+pub mod Masked
 pub mod NamePlaces
 pub mod OneKept
 pub mod OneList

@@ -47,7 +47,7 @@ exact_lists R exact (x ∷ xs) (y ∷ ys) e =
     let heads : x ≡ y = exact x y parts.0 in
     let tails : xs ≡ ys = exact_lists R exact xs ys parts.1 in cc
 
-exact_names : (a b : List Text) → slice_cmp text_cmp a b ≡ Equal → a ≡ b
+pub exact_names : (a b : List Text) → slice_cmp text_cmp a b ≡ Equal → a ≡ b
 exact_names = exact_lists text_cmp (exact_lists nat_cmp exact_unsigned)
 
 module _ {X : Type 0} (name : X → List Text) where

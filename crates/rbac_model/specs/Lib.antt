@@ -1,6 +1,7 @@
 pub mod Graphs
 pub mod Holders
 pub mod Kept
+pub mod Labelled
 pub mod Lists
 pub mod Places
 pub mod Policies

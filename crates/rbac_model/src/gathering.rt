@@ -1,17 +1,18 @@
 //! What aggregated roles gather from.
 
-ghost use Rattle.std.specs.Prelude.{◌≡◌, ◌≢◌, ◌+◌, ◌*◌, ◌/◌, ◌<◌, ◌≤◌, ◌↔◌, IsTrue, IfOk, OnOk, IsOkAnd, Contains, Any, [], length, min};
-ghost use Rattle.rbac_model.specs.Policies.{Gathers, AreReachedNames};
+ghost use Rattle.std.specs.Prelude.{◌≡◌, ◌≢◌, ◌+◌, ◌*◌, ◌/◌, ◌<◌, ◌≤◌, ◌↔◌, IsTrue, IfOk, OnOk, IsOkAnd, Contains, Any, Some, [], length, min, slice_get};
+ghost use Rattle.rbac_model.specs.Policies.{IsHeld, AreReachedNames};
 ghost use Rattle.rbac_model.specs.Graphs.{IsMarked};
 ghost use Rattle.rbac_model.specs.Lists.{IsUpTo};
 ghost use Rattle.rbac_terms.specs.declared.granting.ClusterRole.{ClusterRole};
 ghost use Rattle.rbac_model.specs.Places.{IsRowOf, AreSteps, IsReachedAt, AreReaches, AreSourcesAt, IsPlainAt, AreMarkedNames};
 
 use crate::holding::Objects;
+use crate::labelled::Labelled;
 use crate::marking::Marks;
 use crate::reaching::close;
 use crate::resolving::cluster_role_place;
-use rbac_terms::{ClusterRole, Word, Words, selects};
+use rbac_terms::{ClusterRole, Word, Words};
 use std::alloc::{AllocError, Global};
 
 // For each cluster role the places of those that it reaches.
@@ -28,44 +29,35 @@ fn steps_of(alloc: Global, objects: &Objects) -> Result<Vec<Marks>, AllocError>
     ensures { IfOk result (λ rows. AreSteps objects.now rows.items) }
 {
     let roles = objects.cluster_roles();
+    let labelled = Labelled::new(alloc, roles)?;
     let mut rows = Vec::with_capacity(alloc, roles.len())?;
-    for role in roles {
-        rows.push(steps_from(alloc, objects, role)?)?;
+    for (at, role) in roles.iter().enumerate() {
+        rows.push(steps_from(alloc, objects, &labelled, role, at)?)?;
     }
     Ok(rows)
 }
 
-fn steps_from(alloc: Global, objects: &Objects, role: &ClusterRole) -> Result<Marks, AllocError>
+// The places of those that one step leads to from the cluster role at this place.
+fn steps_from(
+    alloc: Global,
+    objects: &Objects,
+    labelled: &Labelled,
+    role: &ClusterRole,
+    at: usize,
+) -> Result<Marks, AllocError>
+    requires held { IsHeld objects.now }
+    requires labelled { labelled.now ≡ objects.now.cluster_roles }
+    requires at { slice_get objects.now.cluster_roles at ≡ Some role.now }
     ensures { IfOk result (IsRowOf objects.now role.now) }
 {
-    let mut row = Marks::new(alloc);
-    if role.aggregation.is_none() {
-        return Ok(row);
-    }
-    for (at, other) in objects.cluster_roles().iter().enumerate() {
-        if is_step(role, other) {
-            row.set(at)?;
-        }
-    }
+    let Some(selectors) = &role.aggregation else {
+        return Ok(Marks::new(alloc));
+    };
+    let mut row = labelled.gathered(alloc, selectors)?;
+    let mut own = Marks::new(alloc);
+    own.set(at)?;
+    row.remove(&own);
     Ok(row)
-}
-
-fn is_step(role: &ClusterRole, other: &ClusterRole) -> bool
-    ensures { IsTrue result ↔ ((role.now.name ≢ other.now.name) × Gathers role.now.aggregation other.now) }
-{
-    role.name != other.name && gathers(role, other)
-}
-
-fn gathers(role: &ClusterRole, other: &ClusterRole) -> bool
-    ensures { IsTrue result ↔ Gathers role.now.aggregation other.now }
-{
-    match &role.aggregation {
-        Some(selectors) => selectors
-            .as_slice()
-            .iter()
-            .any(|selector| selects(selector, &other.labels)),
-        None => false,
-    }
 }
 
 // The places of the cluster roles whose written rules the one at this place has. They are read out

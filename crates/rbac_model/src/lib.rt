@@ -7,6 +7,7 @@ mod fault;
 mod gathering;
 mod holding;
 mod keeping;
+mod labelled;
 mod laws;
 mod listing;
 mod marking;

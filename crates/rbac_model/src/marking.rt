@@ -1,6 +1,7 @@
 //! Sets of places, with a bit for each: a place is in the set where its bit is 1, its mark.
 
-ghost use Rattle.std.specs.Prelude.{◌≡◌, ◌+◌, ◌/◌, ◌<◌, ◌≤◌, ◌⊎◌, ◌↔◌, ℕ, IsTrue, false, OnOk, MatchOption, length, vec_len, slice_index_or, []};
+ghost use Rattle.std.specs.Prelude.{◌≡◌, ◌+◌, ◌/◌, ◌%◌, ◌<◌, ◌≤◌, ◌⊎◌, ◌↔◌, ℕ, IsTrue, false, IfOk, OnOk, MatchOption, length, vec_len, slice_index_or, []};
+ghost use Rattle.std.specs.Int.{bit_at};
 ghost use Rattle.rbac_model.specs.Graphs.{IsMarked};
 
 use std::alloc::{AllocError, Global};
@@ -111,6 +112,17 @@ impl Marks {
         None
     }
 
+    // Marks on all places below this one.
+    pub(crate) fn up_to(alloc: Global, count: usize) -> Result<Self, AllocError>
+        ensures { IfOk result (λ marks. (k : ℕ) → IsMarked marks k ↔ (k < count)) }
+    {
+        let mut marks = Marks::new(alloc);
+        for place in 0..count {
+            marks.set(place)?;
+        }
+        Ok(marks)
+    }
+
     // Marks this place.
     pub(crate) fn set(&mut self, place: usize) -> Result<(), AllocError>
         ensures { OnOk result ((k : ℕ) → IsMarked self.new k ↔ (IsMarked self.old k ⊎ (k ≡ place))) }
@@ -119,6 +131,35 @@ impl Marks {
         widen(&mut self.words, at + 1)?;
         self.words[at] |= 1 << (place % 64);
         Ok(())
+    }
+
+    // Marks, in the word of this place, those whose bit is 1.
+    pub(crate) fn put(&mut self, place: usize, bits: u64) -> Result<(), AllocError>
+        ensures { OnOk result ((k : ℕ) → IsMarked self.new k ↔ (IsMarked self.old k ⊎ ((k / 64 ≡ place / 64) × (bit_at bits (k % 64) ≡ 1)))) }
+    {
+        let at = place / 64;
+        widen(&mut self.words, at + 1)?;
+        self.words[at] |= bits;
+        Ok(())
+    }
+
+    // Keeps the marks that are there too.
+    pub(crate) fn keep(&mut self, other: &Marks)
+        ensures { (k : ℕ) → IsMarked self.new k ↔ (IsMarked self.old k × IsMarked other.now k) }
+    {
+        self.words.truncate(other.words.len());
+        for at in 0..self.words.len() {
+            self.words[at] &= other.word(at);
+        }
+    }
+
+    // Takes the marks away that are there.
+    pub(crate) fn remove(&mut self, other: &Marks)
+        ensures { (k : ℕ) → IsMarked self.new k ↔ (IsMarked self.old k × (¬ IsMarked other.now k)) }
+    {
+        for at in 0..self.words.len() {
+            self.words[at] &= !other.word(at);
+        }
     }
 
     // Marks each place that has a mark there.

@@ -29,8 +29,8 @@ impl Labels {
         Labels { labels }
     }
 
-    // The labels by key and value, in order.
-    fn as_slice(&self) -> &[(Word, Word)]
+    /// The labels by key and value, in order. Takes no memory.
+    pub fn as_slice(&self) -> &[(Word, Word)]
         ensures { result.now ≡ self.now }
     {
         self.labels.as_slice()
@@ -110,8 +110,8 @@ impl Requirements {
         Requirements { requirements }
     }
 
-    // The requirements, in order.
-    fn as_slice(&self) -> &[Requirement]
+    /// The requirements, in order. Takes no memory.
+    pub fn as_slice(&self) -> &[Requirement]
         ensures { result.now ≡ self.now }
     {
         self.requirements.as_slice()

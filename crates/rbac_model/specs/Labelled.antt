@@ -1,0 +1,45 @@
+use Rattle.std.specs.Prelude.{◌≡◌, ◌↔◌, ◌⊎◌, ℕ, ◌/◌, ◌%◌, List, [], ◌∷◌, Option, Some, None, Any, slice_get}
+use Rattle.std.specs.Int.{bit_at}
+use Rattle.std.specs.List.Sorted.{IsSorted}
+use Rattle.rbac_terms.specs.Text.{Text}
+use Rattle.rbac_terms.specs.Selecting.{LabelTexts, HasLabel, HasKey}
+use Rattle.rbac_terms.specs.declared.granting.ClusterRole.{ClusterRole}
+use Rattle.rbac_model.specs.Graphs.{IsMarked}
+use Rattle.rbac_model.specs.Lists.{by_name}
+
+-- the role at a place has labels with the property
+abbrev pub IsWithAt : (LabelTexts → Type 0) → List ClusterRole → ℕ → Type 0
+IsWithAt P roles k = (r : ClusterRole) × (slice_get roles k ≡ Some r) × P r.labels
+
+-- the set of the places of all such roles
+abbrev pub AreWith : (LabelTexts → Type 0) → List ClusterRole → List ℕ → Type 0
+AreWith P roles marks = (k : ℕ) → IsMarked marks k ↔ IsWithAt P roles k
+
+-- a label by its texts: its key and its value, or its key alone
+abbrev pub label_texts : Text → Option Text → List Text
+label_texts key None = key ∷ []
+label_texts key (Some value) = key ∷ value ∷ []
+
+-- some label has the key and the value, or, where no value is asked for, the key
+abbrev pub HasSome : LabelTexts → Text → Option Text → Type 0
+HasSome labels key None = HasKey labels key
+HasSome labels key (Some value) = HasLabel labels key value
+
+-- a label, and which places have it among the 64 of one word: those whose bit is 1
+pub record Entry : Type 0 where
+  pub label : List Text
+  pub place : ℕ
+  pub bits : ℕ
+
+-- an entry says that the place has the label
+abbrev pub Says : Entry → List Text → ℕ → Type 0
+Says e label k = (e.label ≡ label) × (k / 64 ≡ e.place / 64) × (bit_at e.bits (k % 64) ≡ 1)
+
+-- entries in order of labels, which say of each label exactly which roles have it
+pub record AreLabels (roles : List ClusterRole) (entries : List Entry) : Type 0 where
+  pub sorted : IsSorted (by_name (λ e. e.label)) entries
+  pub exact : (key : Text) (value : Option Text) (k : ℕ) → Any (λ e. Says e (label_texts key value) k) entries ↔ IsWithAt (λ labels. HasSome labels key value) roles k
+
+-- to what old says, new adds the labels of the role at a place
+abbrev pub Adds : List Entry → List Entry → LabelTexts → ℕ → Type 0
+Adds old new labels place = (key : Text) (value : Option Text) (k : ℕ) → Any (λ e. Says e (label_texts key value) k) new ↔ (Any (λ e. Says e (label_texts key value) k) old ⊎ ((k ≡ place) × HasSome labels key value))
