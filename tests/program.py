@@ -12,7 +12,7 @@ import sys
 import tempfile
 
 from common import PODS, PROGRAM, TOP, V1, export, tested, told
-from transcripts import loop_of_pages, transcripts
+from transcripts import example_cluster, loop_of_pages, transcripts
 
 MOST_BYTES = 67_108_864
 LEAST = b'{"apiVersion":"v1","kind":"List"}'
@@ -266,4 +266,4 @@ def ring():
 
 if __name__ == '__main__':
     sys.exit(tested(streams, help_and_usage, full_disk, little_memory, rows, matrix_streams, lint_streams, limits,
-                    universe_limits, ring, transcripts, loop_of_pages))
+                    universe_limits, ring, transcripts, loop_of_pages, example_cluster))

@@ -8,6 +8,7 @@ import os
 import re
 import shutil
 import subprocess
+import sys
 import tempfile
 import textwrap
 
@@ -54,3 +55,23 @@ def loop_of_pages():
     """README.md shows the loop of examples/pages.sh."""
     loop = re.search(r'^after=\n.*^done\n', text_of('examples', 'pages.sh'), re.S | re.M)[0]
     told('the loop of examples/pages.sh', textwrap.indent(loop, '    ') in text_of('README.md'))
+
+
+def example_cluster():
+    """examples/cluster/ has what examples/make_cluster.py writes, and nothing else."""
+    with tempfile.TemporaryDirectory() as room:
+        subprocess.run([sys.executable, os.path.join(EXAMPLES, 'make_cluster.py'), room], check=True, timeout=60)
+        made, kept = contents(room), contents(os.path.join(EXAMPLES, 'cluster'))
+    differ = sorted(name for name in made.keys() | kept.keys() if made.get(name) != kept.get(name))
+    told('examples/cluster is what make_cluster.py writes', not differ, 'not so: ' + ', '.join(differ))
+
+
+def contents(folder):
+    """Each file below the folder by its name, with its bytes."""
+    found = {}
+    for place, _, names in os.walk(folder):
+        for name in names:
+            path = os.path.join(place, name)
+            with open(path, 'rb') as file:
+                found[os.path.relpath(path, folder)] = file.read()
+    return found
