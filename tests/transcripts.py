@@ -1,7 +1,8 @@
 """What the documents show: each `console` block is run by the built program, and what follows a command is what it must print.
 
 A command begins with `$ `, and lines with `> ` right below carry it on; so what is printed never begins with these. The commands
-of a document run in order, in a copy of examples/ of its own. A command with sqlite3 is skipped where that isn't installed.
+of a document run in order, in a copy of examples/ of its own: those of docs/RECIPES.md in cluster/, all others at the top. A
+command with sqlite3 is skipped where that isn't installed.
 """
 
 import os
@@ -15,6 +16,7 @@ import textwrap
 from common import PROGRAM, TOP, told
 
 EXAMPLES = os.path.join(TOP, 'examples')
+FOLDERS = {'RECIPES.md': 'cluster'}
 
 
 def text_of(*path):
@@ -37,7 +39,7 @@ def transcripts():
             examples = shutil.copytree(EXAMPLES, os.path.join(room, 'examples'))
             name = os.path.basename(path)
             for command, wanted in steps(text_of(path)):
-                shown(name, command, wanted, examples)
+                shown(name, command, wanted, os.path.join(examples, FOLDERS.get(name, '')))
 
 
 def shown(name, command, wanted, folder):
