@@ -1,20 +1,18 @@
 """Tests of the built program: what only a process can show.
 
 Texts and statuses on the real streams, files that can't be read, full disks, inputs at the limits, and every
-`console` block of the documents: a line `$ COMMAND` is run in examples/, and what follows is what it must print.
-The last line is `N passed, M failed`.
+`console` block of the documents (transcripts.py). The last line is `N passed, M failed`.
 """
 
 import json
 import os
-import re
 import resource
 import subprocess
 import sys
 import tempfile
-import textwrap
 
 from common import PODS, PROGRAM, TOP, V1, export, tested, told
+from transcripts import example_cluster, loop_of_pages, transcripts
 
 MOST_BYTES = 67_108_864
 LEAST = b'{"apiVersion":"v1","kind":"List"}'
@@ -266,30 +264,6 @@ def ring():
     expect('their written rules', ['who-can', '-A', 'delete', 'pods'], 0, given=export(*items))
 
 
-def transcripts():
-    """Each console block of the documents."""
-    documents = [os.path.join(TOP, 'README.md')]
-    documents += sorted(os.path.join(TOP, 'docs', name) for name in os.listdir(os.path.join(TOP, 'docs')))
-    environment = dict(os.environ, PATH=os.path.dirname(PROGRAM) + os.pathsep + os.environ['PATH'])
-    for path in documents:
-        with open(path, encoding='utf-8') as file:
-            blocks = re.findall(r'^```console\n(.*?)^```', file.read(), re.S | re.M)
-        for block in blocks:
-            for part in re.split(r'^\$ ', block, flags=re.M)[1:]:
-                command, _, wanted = part.partition('\n')
-                ended = subprocess.run(['bash', '-c', command], cwd=os.path.join(TOP, 'examples'), env=environment,
-                                       stdout=subprocess.PIPE, stderr=subprocess.STDOUT, timeout=60)
-                told('%s: %s' % (os.path.basename(path), command), ended.stdout.decode() == wanted,
-                     'got %r' % ended.stdout.decode())
-
-
-def loop_of_pages():
-    """README.md shows the loop of examples/pages.sh."""
-    with open(os.path.join(TOP, 'README.md'), encoding='utf-8') as readme, open(os.path.join(TOP, 'examples', 'pages.sh')) as script:
-        loop = re.search(r'^after=\n.*^done\n', script.read(), re.S | re.M)[0]
-        told('the loop of examples/pages.sh', textwrap.indent(loop, '    ') in readme.read())
-
-
 if __name__ == '__main__':
     sys.exit(tested(streams, help_and_usage, full_disk, little_memory, rows, matrix_streams, lint_streams, limits,
-                    universe_limits, ring, transcripts, loop_of_pages))
+                    universe_limits, ring, transcripts, loop_of_pages, example_cluster))

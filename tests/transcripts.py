@@ -1,0 +1,79 @@
+"""What the documents show: each `console` block is run by the built program, and what follows a command is what it must print.
+
+A command begins with `$ `, and lines with `> ` right below carry it on; so what is printed never begins with these. The commands
+of a document run in order, in a copy of examples/ of its own: those of docs/RECIPES.md in cluster/, all others at the top. A
+command with sqlite3 is skipped where that isn't installed.
+"""
+
+import os
+import re
+import shutil
+import subprocess
+import sys
+import tempfile
+import textwrap
+
+from common import PROGRAM, TOP, told
+
+EXAMPLES = os.path.join(TOP, 'examples')
+FOLDERS = {'RECIPES.md': 'cluster'}
+
+
+def text_of(*path):
+    with open(os.path.join(TOP, *path), encoding='utf-8') as file:
+        return file.read()
+
+
+def steps(text):
+    """Each command of a document's console blocks, and what it must print."""
+    for block in re.findall(r'^```console\n(.*?)^```', text, re.S | re.M):
+        for part in re.split(r'^\$ ', block, flags=re.M)[1:]:
+            command, more, wanted = re.fullmatch(r'([^\n]*\n)((?:> [^\n]*\n)*)(.*)', part, re.S).groups()
+            yield (command + re.sub('^> ', '', more, flags=re.M)).rstrip('\n'), wanted
+
+
+def transcripts():
+    """Each console block of README.md and of docs/."""
+    for path in ['README.md', *sorted(os.path.join('docs', name) for name in os.listdir(os.path.join(TOP, 'docs')))]:
+        with tempfile.TemporaryDirectory() as room:
+            examples = shutil.copytree(EXAMPLES, os.path.join(room, 'examples'))
+            name = os.path.basename(path)
+            for command, wanted in steps(text_of(path)):
+                shown(name, command, wanted, os.path.join(examples, FOLDERS.get(name, '')))
+
+
+def shown(name, command, wanted, folder):
+    """Whether the command prints in this folder what the document shows."""
+    if re.search(r'\bsqlite3\b', command) and not shutil.which('sqlite3'):
+        print('skip %s: %s: no sqlite3' % (name, command))
+        return
+    environment = dict(os.environ, PATH=os.path.dirname(PROGRAM) + os.pathsep + os.environ['PATH'])
+    ended = subprocess.run(['bash', '-c', command], cwd=folder, env=environment, stdout=subprocess.PIPE, stderr=subprocess.STDOUT,
+                           timeout=60)
+    told('%s: %s' % (name, command), ended.stdout.decode() == wanted, 'got %r' % ended.stdout.decode())
+
+
+def loop_of_pages():
+    """README.md shows the loop of examples/pages.sh."""
+    loop = re.search(r'^after=\n.*^done\n', text_of('examples', 'pages.sh'), re.S | re.M)[0]
+    told('the loop of examples/pages.sh', textwrap.indent(loop, '    ') in text_of('README.md'))
+
+
+def example_cluster():
+    """examples/cluster/ has what examples/make_cluster.py writes, and nothing else."""
+    with tempfile.TemporaryDirectory() as room:
+        subprocess.run([sys.executable, os.path.join(EXAMPLES, 'make_cluster.py'), room], check=True, timeout=60)
+        made, kept = contents(room), contents(os.path.join(EXAMPLES, 'cluster'))
+    differ = sorted(name for name in made.keys() | kept.keys() if made.get(name) != kept.get(name))
+    told('examples/cluster is what make_cluster.py writes', not differ, 'not so: ' + ', '.join(differ))
+
+
+def contents(folder):
+    """Each file below the folder by its name, with its bytes."""
+    found = {}
+    for place, _, names in os.walk(folder):
+        for name in names:
+            path = os.path.join(place, name)
+            with open(path, 'rb') as file:
+                found[os.path.relpath(path, folder)] = file.read()
+    return found
