@@ -37,7 +37,7 @@ _rbacaudit() {
     esac
 
     COMPREPLY=()
-    if [[ $waits || $cur == --*=* ]]; then
+    if [[ $waits ]]; then
         return # a value is free text
     elif [[ $cur == -* && $given != *' -- '* ]]; then
         # An option is given once. The short one may stand among others, as in -Aq; what follows an n is its value.
