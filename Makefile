@@ -34,6 +34,14 @@ wrong-bodies:
 build:
 	@python3 tools/build.py
 
+# The completions and the man page go where each shell and man look.
+SHARE = $(DESTDIR)$(PREFIX)/share
+
 install: build
-	install -d $(DESTDIR)$(PREFIX)/bin
+	install -d $(DESTDIR)$(PREFIX)/bin $(SHARE)/bash-completion/completions $(SHARE)/zsh/site-functions \
+	    $(SHARE)/fish/vendor_completions.d $(SHARE)/man/man1
 	install -m 755 $(PROGRAM) $(DESTDIR)$(PREFIX)/bin/rbacaudit
+	install -m 644 completions/rbacaudit.bash $(SHARE)/bash-completion/completions/rbacaudit
+	install -m 644 completions/_rbacaudit $(SHARE)/zsh/site-functions/_rbacaudit
+	install -m 644 completions/rbacaudit.fish $(SHARE)/fish/vendor_completions.d/rbacaudit.fish
+	install -m 644 man/rbacaudit.1 $(SHARE)/man/man1/rbacaudit.1

@@ -1,0 +1,58 @@
+# Completions of rbacaudit for bash 4.3 and later. Source this file, or let `make install` put it where bash-completion looks.
+
+_rbacaudit() {
+    local command='' options group word words=() given=' ' place=0 waits='' cur
+
+    # bash cuts words at : and =, as in system:serviceaccount:shop:ci; here they are whole.
+    for word in "${COMP_WORDS[@]:0:COMP_CWORD+1}"; do
+        if [[ ${#words[@]} -gt 0 && ($word == [:=]* || ${words[-1]} == *[:=]) ]]; then
+            words[-1]+=$word
+        else
+            words+=("$word")
+        fi
+    done
+    cur=${words[-1]}
+    [[ ${#words[@]} -gt 2 ]] && command=${words[1]}
+
+    # What stands before the word at the cursor: the options, how many other words, and whether the last option waits for its value.
+    for word in "${words[@]:2:${#words[@]}-3}"; do
+        if [[ $waits ]]; then
+            waits=''
+        elif [[ $word != -?* || $given == *' -- '* ]]; then
+            place=$((place + 1))
+        else
+            given+="$word "
+            [[ $word == --@(as|groups|namespace|subresource|after|limit) || $word == -*([!n-])n ]] && waits=yes
+        fi
+    done
+
+    # Two spellings of one option are joined by a comma.
+    case $command in
+        can-i) options='--as --groups -n,--namespace -A,--all-namespaces --subresource -q,--quiet --why -h,--help' ;;
+        who-can) options='-n,--namespace -A,--all-namespaces --subresource -h,--help' ;;
+        matrix) options='--after --limit -h,--help' ;;
+        lint) options='-h,--help' ;;
+        '') options='-h,--help -V,--version' ;;
+        *) return ;;
+    esac
+
+    COMPREPLY=()
+    if [[ $waits ]]; then
+        return # a value is free text
+    elif [[ $cur == -* && $given != *' -- '* ]]; then
+        # An option is given once. The short one may stand among others, as in -Aq; what follows an n is its value.
+        for group in $options; do
+            [[ $given == *" ${group#*,}"[\ =]* || $group == *,* && $given == *" -"*([!n -])"${group:1:1}"* ]] ||
+                mapfile -t -O "${#COMPREPLY[@]}" COMPREPLY < <(compgen -W "${group/,/ }" -- "$cur")
+        done
+    elif [[ ! $command ]]; then
+        mapfile -t COMPREPLY < <(compgen -W 'can-i who-can matrix lint' -- "$cur")
+    elif [[ $command == @(can-i|who-can) && $place -eq 0 ]]; then
+        mapfile -t COMPREPLY < <(compgen -W 'get list watch create update patch delete deletecollection
+            use bind escalate impersonate' -- "$cur")
+    elif [[ $command != @(can-i|who-can) || $place -gt 1 ]]; then
+        compopt -o default # a FILE, which readline knows best
+    fi
+}
+
+complete -F _rbacaudit rbacaudit

@@ -1,0 +1,53 @@
+# Completions of rbacaudit for fish. `make install` puts this file where fish looks.
+
+# Prints what stands before the word at the cursor: the command, how many words follow it, and a line for each option.
+function __rbacaudit_line
+    set -l words (commandline -opc)
+    # (an option that still waits for its value isn't given yet)
+    string match -qr -- '^(--(as|groups|namespace|subresource|after|limit)|-[^-n]*n)$' "$words[-1]"
+    and set -e words[-1]
+    argparse -i h/help V/version as= groups= n/namespace= A/all-namespaces subresource= q/quiet why after= limit= \
+        -- $words 2>/dev/null
+    or return
+    echo "$argv[2]"
+    count $argv[3..]
+    set --names --local | string replace -fr '^_flag_(..+)' '$1'
+end
+
+# Whether the line has one of these commands and lacks this option: __rbacaudit_lacks OPTION COMMAND..
+function __rbacaudit_lacks
+    set -l line (__rbacaudit_line)
+    contains -- "$line[1]" $argv[2..]
+    and not contains -- (string replace -a - _ $argv[1]) $line[3..]
+end
+
+# Whether one of these commands is there, with this many words after it: __rbacaudit_words -eq|-ge NUMBER COMMAND..
+function __rbacaudit_words
+    set -l line (__rbacaudit_line)
+    contains -- "$line[1]" $argv[3..]
+    and test $line[2] $argv[1] $argv[2]
+end
+
+complete -c rbacaudit -f
+
+complete -c rbacaudit -n '__rbacaudit_words -eq 0 ""' -a can-i -d 'Check whether USER may VERB TARGET'
+complete -c rbacaudit -n '__rbacaudit_words -eq 0 ""' -a who-can -d 'List who may VERB TARGET'
+complete -c rbacaudit -n '__rbacaudit_words -eq 0 ""' -a matrix -d 'List everything that anyone may do'
+complete -c rbacaudit -n '__rbacaudit_words -eq 0 ""' -a lint -d 'List what is wrong with the roles'
+
+complete -c rbacaudit -n '__rbacaudit_lacks as can-i' -l as -x -d 'User to check'
+complete -c rbacaudit -n '__rbacaudit_lacks groups can-i' -l groups -x -d 'Groups of the user beside the implied ones (default: none)'
+complete -c rbacaudit -n '__rbacaudit_lacks namespace can-i who-can' -s n -l namespace -x -d 'Namespace to check (default: default)'
+complete -c rbacaudit -n '__rbacaudit_lacks all-namespaces can-i who-can' -s A -l all-namespaces -d 'Check all namespaces at once'
+complete -c rbacaudit -n '__rbacaudit_lacks subresource can-i who-can' -l subresource -x -d 'Subresource to check (default: none)'
+complete -c rbacaudit -n '__rbacaudit_lacks quiet can-i' -s q -l quiet -d 'Print nothing'
+complete -c rbacaudit -n '__rbacaudit_lacks why can-i' -l why -d 'After yes, print why'
+complete -c rbacaudit -n '__rbacaudit_lacks after matrix' -l after -x -d 'List only the rows after this TOKEN of a next line (default: from the first)'
+complete -c rbacaudit -n '__rbacaudit_lacks limit matrix' -l limit -x -d 'List at most N rows, 1 to 1000000 (default: all)'
+complete -c rbacaudit -n '__rbacaudit_lacks help "" can-i who-can matrix lint' -s h -l help -d 'Print help'
+complete -c rbacaudit -n '__rbacaudit_lacks version ""' -s V -l version -d 'Print version'
+
+complete -c rbacaudit -n '__rbacaudit_words -eq 0 can-i who-can' -k -d 'Verb to check' \
+    -a 'get list watch create update patch delete deletecollection use bind escalate impersonate'
+complete -c rbacaudit -n '__rbacaudit_words -ge 2 can-i who-can' -k -a '(__fish_complete_suffix .json)'
+complete -c rbacaudit -n '__rbacaudit_words -ge 0 matrix lint' -k -a '(__fish_complete_suffix .json)'

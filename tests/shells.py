@@ -1,0 +1,417 @@
+"""The completions for bash, zsh and fish and the man page, against what the built program's help says, and at work.
+
+Each of the four files has every command, every option under its command and every default that help has, and no others.
+Each shell that the machine has completes lines. The man page renders without a warning, and its examples are run in
+examples/. `make install` puts the files where they are looked for. What the machine lacks is told and not counted.
+The last line is `N passed, M failed`.
+"""
+
+import fcntl
+import os
+import pty
+import re
+import select
+import shutil
+import signal
+import struct
+import subprocess
+import sys
+import tempfile
+import termios
+
+from common import PROGRAM, TOP, tested, told
+
+COMPLETIONS = os.path.join(TOP, 'completions')
+MAN = os.path.join(TOP, 'man', 'rbacaudit.1')
+VERBS = 'get list watch create update patch delete deletecollection use bind escalate impersonate'.split()
+DEFAULT = re.compile(r' \(default: (.*?)\)')
+# What a shell waits for is there at once; this long means never.
+PATIENCE = 120
+
+
+def contents(path):
+    with open(path, encoding='utf-8') as file:
+        return file.read()
+
+
+def path_with_program():
+    return os.path.dirname(PROGRAM) + os.pathsep + os.environ['PATH']
+
+
+def skipped(what):
+    print('skipped: this machine has no %s' % what, flush=True)
+
+
+# ---- help
+
+def help_of(*command):
+    return subprocess.run([PROGRAM, *command, '--help'], stdout=subprocess.PIPE, timeout=60).stdout.decode()
+
+
+def entries(text, title, pattern):
+    """The lines of a part of a help text, each taken apart."""
+    part = re.search(r'^%s:\n((?: .*\n)+)' % title, text, re.M)
+    return [re.fullmatch(pattern, line).groups('') for line in part[1].splitlines()] if part else []
+
+
+def commands():
+    """The commands and what each does."""
+    return dict(entries(help_of(), 'Commands', r'  (\S+) +(.*)'))
+
+
+def arguments(command):
+    """The words of a command that aren't options, and what each is."""
+    return dict(entries(help_of(command), 'Arguments', r'  [<\[](\w+)\S+ +(.*)'))
+
+
+def options(*command):
+    """The options of a command, or of the program: what value each has and what it means, under its spellings."""
+    found = entries(help_of(*command), 'Options', r' {2,6}(?:(-\w), )?(--[\w-]+)(?: <(\S+)>)? +(.*)')
+    return {spellings(short, long): (value, text) for short, long, value, text in found}
+
+
+def spellings(short, long):
+    return (short, long) if short else (long,)
+
+
+def default_of(text):
+    return ''.join(DEFAULT.findall(text))
+
+
+def is_short_for(short, text):
+    """Whether a description is help's own, perhaps without its details, and with its default."""
+    words = DEFAULT.sub('', short)
+    return text.startswith(words) and re.match(r'$|[,:;]| \(', text[len(words):]) and default_of(short) == default_of(text)
+
+
+# ---- what the files say
+
+def agrees(name, said, wanted, same=None):
+    """One check: these are the keys that are wanted, and what stands under each is the same."""
+    wrong = sorted(set(said) ^ set(wanted)) or [key for key in wanted if same and not same(said[key], wanted[key])]
+    told(name, not wrong, 'of %r: %r, wanted %r' % (wrong, said, wanted))
+
+
+def is_described(said, wanted):
+    return said[0] == wanted[0] and is_short_for(said[1], wanted[1])
+
+
+def bash_file():
+    text = contents(os.path.join(COMPLETIONS, 'rbacaudit.bash'))
+    with_value = re.search(r'--@\((.*?)\)', text)[1].split('|')
+    tables = dict(re.findall(r"^ +([\w-]+|'')\) options='(.*)' ;;$", text, re.M))
+    agrees('bash: the commands', ' '.join(re.findall(r"compgen -W '([\w -]+)'", text)).split(), commands())
+    agrees('bash: the commands that have options', tables, ["''", *commands()])
+    for command in ('', *commands()):
+        said = {tuple(group.split(',')): group.split('--')[-1] in with_value for group in tables[command or "''"].split()}
+        agrees('bash: the options of %s' % (command or 'the program'), said, options(*command.split()),
+               lambda has_value, wanted: has_value == bool(wanted[0]))
+
+
+def fish_file():
+    text = contents(os.path.join(COMPLETIONS, 'rbacaudit.fish'))
+    said = dict(re.findall(r"""^complete .* -a (\S+) -d '(.*)'$""", text, re.M))
+    agrees('fish: the commands', said, commands(), is_short_for)
+    found = re.findall(r"^complete -c rbacaudit -n '__rbacaudit_lacks (\S+) (.*)' (?:-s (\w) )?-l (\S+) (-x )?-d '(.*)'$", text, re.M)
+    told('fish: all options are told apart', len(found) == len(re.findall(r'^complete .*-l ', text, re.M)), repr(found))
+    for command in ('', *commands()):
+        wanted = options(*command.split())
+        said = {spellings(short and '-' + short, '--' + long): (value, text) for asked, where, short, long, value, text in found
+                if (command or '""') in where.split() and asked == long}
+        agrees('fish: the options of %s' % (command or 'the program'), said, wanted,
+               lambda said, wanted: bool(said[0]) == bool(wanted[0]) and is_short_for(said[1], wanted[1]))
+
+
+def zsh_file():
+    text = contents(os.path.join(COMPLETIONS, '_rbacaudit'))
+    arrays = dict(re.findall(r'^(\w+)=\(\n?(.*?)\)$', text, re.S | re.M))
+    agrees('zsh: the commands', dict(re.findall(r"'([\w-]+):(.*)'", arrays['commands'])), commands(), is_short_for)
+    calls = re.findall(r'^ *(?:([\w-]+)\) )?_arguments (.*) && ret=0', text, re.M)
+    agrees('zsh: the commands at work', [command for command, _ in calls], ['', *commands()])
+    for command, call in calls:
+        specs = re.sub(r'\$(\w+)', lambda name: arrays[name[1]], call)
+        found = re.findall(r"(?:'\([^)]*\)'\{(.*?)\}'|'(--[\w-]+=?))\[(.*?)\](?::(\S+): )?'", specs)
+        said = {tuple(re.findall(r'--?[\w-]+', names + name)): (value, text) for names, name, text, value in found}
+        agrees('zsh: the options of %s' % (command or 'the program'), said, options(*command.split()), is_described)
+
+
+# ---- the man page
+
+def plain(text):
+    """Text of the man page as it is read."""
+    text = re.sub(r'^\.[BI]R? ', '', re.sub(r'\\f.|\\%', '', text), flags=re.M)
+    return text.replace('\\-', '-').replace('\\~', ' ').replace('\\e', '\\').replace('\\(dq', '"')
+
+
+def part_of_man(title, kind='SH'):
+    """What stands in a section of the man page, or in a part of one (SS)."""
+    ends = r'^\.S[HS] ' if kind == 'SS' else r'^\.SH '
+    return re.search(r'^\.%s %s\n(.*?)(?=%s|\Z)' % (kind, re.escape(title.replace('-', '\\-')), ends), contents(MAN), re.S | re.M)[1]
+
+
+def tagged(part):
+    """The paragraphs that have a tag, as they are read."""
+    return {plain(tag): plain(text).replace('\n', ' ') for tag, text in re.findall(r'^\.TP\n(.*)\n((?:(?!\.TP|\.PP).*\n)+)', part, re.M)}
+
+
+def options_in(part):
+    """The options that a part of the man page describes: their values and descriptions, under their spellings."""
+    found = {}
+    for tag, text in tagged(part).items():
+        option = re.fullmatch(r'(?:(-\w)( \S+)?, )?(--[\w-]+)( \S+)?', tag)
+        # (a value follows each spelling)
+        if option and (not option[1] or option[2] == option[4]):
+            found[spellings(option[1], option[3])] = ((option[4] or '').strip(), text)
+    return found
+
+
+def has_default(said, wanted):
+    """Whether a description names the value, and the default as help does."""
+    return said[0] == wanted[0] and ''.join(re.findall(r'Default: (.*?)\.', said[1])) == default_of(wanted[1])
+
+
+def man_file():
+    """The options of the program itself are described once, for all commands."""
+    general = options()
+    agrees('man: the commands', re.findall(r'^\.SS (.*)$', contents(MAN).replace('\\-', '-'), re.M), [*commands()])
+    agrees('man: the options of the program', options_in(part_of_man('OPTIONS')), general, has_default)
+    words = {}
+    for command in commands():
+        wanted = {names: it for names, it in options(command).items() if names not in general}
+        agrees('man: the options of %s' % command, options_in(part_of_man(command, 'SS')), wanted, has_default)
+        words.update(arguments(command))
+    agrees('man: the arguments', tagged(part_of_man('ARGUMENTS')), words, lambda said, text: has_default(('', said), ('', text)))
+    known = {name for command in ('', *commands()) for names in options(*command.split()) for name in names} | {'--raw'}
+    strange = set(re.findall(r'(?<![\w-])--[a-z][a-z-]*', plain(contents(MAN)))) - known
+    told('man: no option that help has not', not strange, repr(strange))
+
+
+def man_facts():
+    """The version, the synopsis, the findings of lint and the limits are the program's and those of the documents."""
+    version = subprocess.run([PROGRAM, '--version'], stdout=subprocess.PIPE, timeout=60).stdout.decode().strip()
+    told('man: the version', re.match(r'.*\n.*\n\.TH RBACAUDIT 1 \S+ "%s"' % re.escape(version), contents(MAN)), version)
+    synopsis = [plain(re.sub(r'\.SY "(.*)"', r'\1', lines)).split() for lines in re.findall(r'(\.SY .*?)\n\.YS', contents(MAN), re.S)]
+    lines = re.findall(r'^`(rbacaudit .*?)\.*`$', contents(os.path.join(TOP, 'docs', 'BEHAVIOUR.md')), re.M)
+    agrees('man: the synopsis', [' '.join(words).rstrip('.') for words in synopsis], lines)
+    findings = [' '.join(it) for it in re.findall(r'^  (L\d)  (\S+)', help_of('lint'), re.M)]
+    agrees('man: the findings of lint', [*tagged(part_of_man('lint', 'SS'))], findings)
+    limits = contents(os.path.join(TOP, 'docs', 'FORMATS.md')).partition('## Limits\n')[2]
+    for limit in sorted(set(re.findall(r'\d[\d,]*\d', limits))):
+        told('man: the limit %s' % limit, re.search(r'\b%s\b' % limit, part_of_man('LIMITS')))
+
+
+def rendered():
+    """Each renderer that there is writes the page without a warning, and loses none of the options."""
+    names = {name for command in ('', *commands()) for names in options(*command.split()) for name in names}
+    renderers = {'man': ['man', '--warnings', '-l', MAN], 'groff': ['groff', '-man', '-ww', '-Tascii', '-P-c', MAN],
+                 'mandoc': ['mandoc', '-Tascii', MAN]}
+    for renderer, words in renderers.items():
+        if not shutil.which(renderer):
+            skipped(renderer)
+            continue
+        ended = subprocess.run(words, stdin=subprocess.DEVNULL, stdout=subprocess.PIPE, stderr=subprocess.PIPE, timeout=60,
+                               env=dict(os.environ, LC_ALL='C', MANWIDTH='80', MANPAGER='cat'))
+        text = re.sub(r'.\x08', '', ended.stdout.decode())
+        lost = [name for name in names if not re.search(r'(?<![\w-])%s(?![\w-])' % name, text)]
+        told('%s renders the page' % renderer, ended.returncode == 0 and not ended.stderr and not lost, '%r %r' % (lost, ended.stderr))
+    if shutil.which('mandoc'):
+        ended = subprocess.run(['mandoc', '-Tlint', MAN], stdout=subprocess.PIPE, stderr=subprocess.STDOUT, timeout=60)
+        told('mandoc -Tlint finds nothing', ended.returncode == 0 and not ended.stdout, ended.stdout.decode())
+
+
+def examples():
+    """Each example of the man page is run, and prints what the page shows."""
+    blocks = re.findall(r'^\.EX\n(.*?)^\.EE', part_of_man('EXAMPLES'), re.S | re.M)
+    for command, wanted in re.findall(r'^\$ ((?:.*\\\n)*.*\n)((?:(?!\$ ).*\n)*)', plain(''.join(blocks)), re.M):
+        ended = subprocess.run(['bash', '-c', command], cwd=os.path.join(TOP, 'examples'), env=dict(os.environ, PATH=path_with_program()),
+                               stdout=subprocess.PIPE, stderr=subprocess.STDOUT, timeout=60)
+        told('man: %s' % command.strip(), ended.stdout.decode() == wanted, 'got %r' % ended.stdout.decode())
+    for command in commands():
+        told('man: an example of %s' % command, '$ rbacaudit %s ' % command in plain(''.join(blocks)))
+
+
+# ---- the shells at work
+
+# The rc files of bash and zsh: rbacaudit prints its words, and ^Xa writes all that is offered into the line. The prompt and
+# the marks around the words are bytes that no shell writes otherwise.
+BASH = r"""
+PS1=$'\x1c'
+bind 'set enable-bracketed-paste off'
+bind '"\C-xa": insert-completions'
+source "$COMPLETIONS/rbacaudit.bash"
+rbacaudit() { printf '\x1e%s' "$@"; printf '\x1d'; }
+"""
+ZSH = r"""
+PS1=$'\x1c'
+unset zle_bracketed_paste
+fpath=("$COMPLETIONS" $fpath)
+autoload -U compinit
+compinit -D -u
+zle -C all-matches complete-word _generic
+bindkey '^Xa' all-matches
+zstyle ':completion:all-matches::::' completer _all_matches _complete
+zstyle ':completion:all-matches:*' insert true
+rbacaudit() { printf '\x1e%s' "$@"; printf '\x1d'; }
+"""
+FISH = r"""
+set fish_complete_path $COMPLETIONS
+for line in $argv
+    complete -C $line
+    printf '\x1d'
+end
+"""
+
+
+class Terminal:
+    """A shell with a terminal of its own."""
+
+    def __init__(self, words, home, folder):
+        self.process, self.terminal = pty.fork()
+        if not self.process:
+            os.chdir(folder)
+            os.execvpe(words[0], words, {**clean(home), 'TERM': 'dumb'})
+        # (wide enough for every line)
+        fcntl.ioctl(self.terminal, termios.TIOCSWINSZ, struct.pack('HHHH', 50, 2000, 0, 0))
+        self.read(rb'\x1c')
+
+    def read(self, pattern):
+        """What the shell writes until it has written this."""
+        got = b''
+        while not re.search(pattern, got):
+            if not select.select([self.terminal], [], [], PATIENCE)[0]:
+                raise TimeoutError('the shell wrote %r' % got)
+            got += os.read(self.terminal, 65536)
+        return got
+
+    def offered(self, line):
+        """What is offered for the last word of the line: the words that ^Xa puts in its place."""
+        os.write(self.terminal, line.encode() + b'\x18a\r')
+        got = self.read(rb'\x1d[^\x1c]*\x1c').partition(b'\x1d')[0].decode()
+        *before, last = line.split(' ')[1:]
+        found = got.split('\x1e')[1 + len(before):]
+        return [] if found == [last] else found
+
+    def end(self):
+        os.kill(self.process, signal.SIGKILL)
+        os.waitpid(self.process, 0)
+        os.close(self.terminal)
+
+
+def clean(home):
+    """An environment without anybody's settings, but with rbacaudit on the PATH: fish completes no command that isn't there."""
+    return {'PATH': path_with_program(), 'LC_ALL': 'C.UTF-8', 'HOME': home, 'ZDOTDIR': home, 'XDG_CONFIG_HOME': home,
+            'XDG_DATA_HOME': home, 'COMPLETIONS': COMPLETIONS, 'INPUTRC': '/dev/null', 'HISTFILE': ''}
+
+
+def in_terminal(words, lines, home, folder):
+    terminal = Terminal(words, home, folder)
+    try:
+        return [terminal.offered(line) for line in lines]
+    finally:
+        terminal.end()
+
+
+def in_fish(lines, home, folder):
+    ended = subprocess.run(['fish', '-c', FISH, *lines], cwd=folder, env=clean(home), stdin=subprocess.DEVNULL,
+                           stdout=subprocess.PIPE, stderr=subprocess.STDOUT, timeout=PATIENCE)
+    return [[found.partition('\t')[0] for found in lines.splitlines()] for lines in ended.stdout.decode().split('\x1d')[:-1]]
+
+
+def of_options():
+    """Lines that end in an option, each with all that is to be offered: no option twice, and no word for a value."""
+    for command in ('', *commands()):
+        here = options(*command.split())
+        line = ' '.join(['rbacaudit', *command.split(), ''])
+        yield line + '-', [name for names in here for name in names]
+        for names, (value, text) in here.items():
+            for name in names if text not in ('Print help', 'Print version') else ():
+                yield line + name + (' x' if value else '') + ' -', [other for others in here for other in others if others != names]
+                if value:
+                    yield line + name + ' ', []
+            if value:
+                yield line + names[-1] + '=', []
+                yield line + names[-1] + '=x --', [other for others in here for other in others if others != names and len(other) > 2]
+
+
+def of_words():
+    """Lines that end in another word, each with all that is to be offered."""
+    yield 'rbacaudit ', [*commands()]
+    yield 'rbacaudit m', ['matrix']
+    yield 'rbacaudit nothing ', []
+    for command in ('can-i', 'who-can'):
+        yield 'rbacaudit %s ' % command, VERBS
+        yield 'rbacaudit %s delete' % command, ['delete', 'deletecollection']
+        yield 'rbacaudit %s get ' % command, []
+        yield 'rbacaudit %s -n shop --subresource=log -A ' % command, VERBS
+        yield 'rbacaudit %s -nshop get ' % command, []
+        yield 'rbacaudit %s -An shop get ' % command, []
+    yield 'rbacaudit can-i --as system:serviceaccount:shop:ci ', VERBS
+    yield 'rbacaudit can-i --as=system:serviceaccount:shop:ci -q get ', []
+    yield 'rbacaudit can-i -Aqn shop --', ['--as', '--groups', '--subresource', '--why', '--help']
+    yield 'rbacaudit who-can -- -', []
+
+
+# Lines that end in a FILE, where the folder has these. Only JSON files need be offered, and the folders that may have some.
+FILES = ['a.json', 'b.json', 'notes.txt', 'sub/c.json']
+OF_FILES = {
+    'rbacaudit can-i get pods ': {'a.json', 'b.json', 'sub'},
+    'rbacaudit who-can --subresource log get pods a.json ': {'a.json', 'b.json', 'sub'},
+    'rbacaudit who-can get pods a': {'a.json'},
+    'rbacaudit matrix ': {'a.json', 'b.json', 'sub'},
+    'rbacaudit matrix --limit 3 a.json b': {'b.json'},
+    'rbacaudit lint ': {'a.json', 'b.json', 'sub'},
+    'rbacaudit lint sub/': {'sub/c.json'},
+    'rbacaudit lint -- a': {'a.json'},
+}
+
+
+def write(folder, files):
+    for name, text in files.items():
+        path = os.path.join(folder, name)
+        os.makedirs(os.path.dirname(path), exist_ok=True)
+        with open(path, 'w', encoding='utf-8') as file:
+            file.write(text)
+
+
+def at_work(shell, offered):
+    """What the shell offers, by a function of lines, a home and a folder."""
+    if not shutil.which(shell):
+        skipped(shell)
+        return
+    wanted = {**dict(of_options()), **dict(of_words())}
+    with tempfile.TemporaryDirectory() as home, tempfile.TemporaryDirectory() as folder:
+        write(home, {'.bashrc': BASH, '.zshrc': ZSH})
+        write(folder, dict.fromkeys(FILES, '{}'))
+        try:
+            got = dict(zip([*wanted, *OF_FILES], offered([*wanted, *OF_FILES], home, folder)))
+        except OSError as fault:
+            told('%s completes lines' % shell, False, repr(fault))
+            return
+    for line, words in wanted.items():
+        told('%s: %s' % (shell, line), sorted(got[line]) == sorted(words), 'got %r' % got[line])
+    for line, names in OF_FILES.items():
+        told('%s: %s' % (shell, line), names <= {name.rstrip('/') for name in got[line]} <= names | {'notes.txt'}, 'got %r' % got[line])
+
+
+def shells():
+    at_work('bash', lambda lines, home, folder: in_terminal(['bash', '--rcfile', home + '/.bashrc', '-i'], lines, home, folder))
+    at_work('zsh', lambda lines, home, folder: in_terminal(['zsh', '-d', '-i'], lines, home, folder))
+    at_work('fish', in_fish)
+
+
+def installed():
+    """`make install` puts each file where it is looked for, and the program beside them."""
+    places = {'completions/rbacaudit.bash': 'bash-completion/completions/rbacaudit',
+              'completions/_rbacaudit': 'zsh/site-functions/_rbacaudit',
+              'completions/rbacaudit.fish': 'fish/vendor_completions.d/rbacaudit.fish', 'man/rbacaudit.1': 'man/man1/rbacaudit.1'}
+    with tempfile.TemporaryDirectory() as folder:
+        # (the program is built, and isn't to be proved once more)
+        subprocess.run(['make', '-s', '-o', 'build', 'install', 'DESTDIR=' + folder, 'PREFIX=/usr'], cwd=TOP, timeout=60)
+        told('make install: bin/rbacaudit', os.access(os.path.join(folder, 'usr/bin/rbacaudit'), os.X_OK))
+        for name, place in places.items():
+            path = os.path.join(folder, 'usr/share', place)
+            told('make install: share/%s' % place, os.path.isfile(path) and contents(path) == contents(os.path.join(TOP, name)))
+
+
+if __name__ == '__main__':
+    sys.exit(tested(bash_file, fish_file, zsh_file, man_file, man_facts, rendered, examples, shells, installed))
