@@ -41,6 +41,7 @@ install: build
 	install -d $(DESTDIR)$(PREFIX)/bin $(SHARE)/bash-completion/completions $(SHARE)/zsh/site-functions \
 	    $(SHARE)/fish/vendor_completions.d $(SHARE)/man/man1
 	install -m 755 $(PROGRAM) $(DESTDIR)$(PREFIX)/bin/rbacaudit
+	install -m 755 plugin/kubectl-rbacaudit $(DESTDIR)$(PREFIX)/bin/kubectl-rbacaudit
 	install -m 644 completions/rbacaudit.bash $(SHARE)/bash-completion/completions/rbacaudit
 	install -m 644 completions/_rbacaudit $(SHARE)/zsh/site-functions/_rbacaudit
 	install -m 644 completions/rbacaudit.fish $(SHARE)/fish/vendor_completions.d/rbacaudit.fish

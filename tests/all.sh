@@ -1,7 +1,7 @@
 #!/usr/bin/env bash
-# The whole gate: each edit still fits, every proof, must-fail edit and test by `rt ci`, then what only a process can show,
-# completions and man page, random matrices, bad documents, and refused memory, reads and writes. The last line counts all
-# seven, as `N passed, M failed`.
+# The whole gate: each edit still fits, every proof, must-fail edit and test by `rt ci`, then what only a process can show, the
+# kubectl plugin, completions and man page, random matrices, bad documents, and refused memory, reads and writes. The last line
+# counts all eight, as `N passed, M failed`.
 set -u
 cd "$(dirname "$0")/.."
 log=$(mktemp)
@@ -23,6 +23,7 @@ counted() {
 counted python3 tests/edits.py
 counted rt ci
 counted python3 tests/program.py
+counted python3 tests/plugin.py
 counted python3 tests/shells.py
 counted python3 tests/pages.py
 counted python3 tests/refusals.py

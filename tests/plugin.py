@@ -1,0 +1,630 @@
+"""The kubectl plugin, under dash and under bash, with a stand-in for kubectl and the built program.
+
+The stand-in is a script that serves files made from examples/: it writes down each call, knows no call but those that
+read, and refuses, fails, dies or hangs where a check tells it to. The last line is `N passed, M failed`.
+"""
+
+import contextlib
+import json
+import os
+import resource
+import shutil
+import signal
+import stat
+import subprocess
+import sys
+import tempfile
+import time
+
+from common import PROGRAM, TOP, V1, tested, told
+
+PLUGIN = os.path.join(TOP, 'plugin', 'kubectl-rbacaudit')
+SHELLS = ['dash' if shutil.which('dash') else 'sh', 'bash']
+
+# A call is one line of words, each with a | before it; one that isn't a reading call of the plugin is written to `strange`.
+# TROUBLE lists, joined by commas, kinds of trouble, each with the file that it befalls.
+STAND_IN = r'''#!/bin/sh
+line=
+for word do
+    case $word in
+        --context=*|--kubeconfig=*) printf '%s\n' "$word" >> "$ROOM/targets" ;;
+        *) line="$line|$word" ;;
+    esac
+done
+printf '%s\n' "$line" >> "$ROOM/calls"
+rbac=rbac.authorization.k8s.io
+case $line in
+    "|get|--raw|/apis") file=apis ;;
+    "|get|--raw|/api/v1") file=api-v1 ;;
+    "|get|--raw|/apis/"*) file=api-$(printf '%s' "${line#"|get|--raw|/apis/"}" | tr / -) ;;
+    "|get|clusterroles.$rbac,clusterrolebindings.$rbac|-o|json") file=cluster ;;
+    "|get|roles.$rbac,rolebindings.$rbac|--all-namespaces|-o|json") file=namespaced ;;
+    "|get|namespaces|-o|json") file=namespaces ;;
+    "|get|serviceaccounts|--all-namespaces|-o|json") file=accounts ;;
+    *) printf '%s\n' "$line" >> "$ROOM/strange"; exit 97 ;;
+esac
+case ,$TROUBLE, in
+    *",warn $file,"*) echo "Warning: $file is old" >&2 ;;
+    *",forbid $file,"*) echo "Error from server (Forbidden): $file is forbidden" >&2; exit 1 ;;
+    *",half-forbid $file,"*) cat "$ROOM/served/$file"; echo "Error from server (Forbidden): half of $file" >&2; exit 1 ;;
+    *",down $file,"*) echo 'Error from server (ServiceUnavailable): try later' >&2; exit 1 ;;
+    *",die $file,"*) head -c 40 "$ROOM/served/$file"; kill -9 $$ ;;
+    *",empty $file,"*) exit 0 ;;
+    *",hang $file,"*) echo $$ > "$ROOM/hangs"; head -c 40 "$ROOM/served/$file"; exec sleep 300 ;;
+esac
+exec cat "$ROOM/served/$file"
+'''
+FIXED = ['cluster.json', 'namespaced.json', 'namespaces.json', 'accounts.json']
+WHOLE = sorted(FIXED + ['api-v1.json', 'api-apps-v1.json', 'api-metrics.k8s.io-v1beta1.json', 'api-rbac.authorization.k8s.io-v1.json'])
+KIM = ['--as', 'kim@example.com', '--groups', 'shop-developers', '-n', 'shop']
+CI = ['--as', 'system:serviceaccount:shop:ci', '-n', 'shop']
+FINDINGS = ''.join('%s\n' % line for line in (
+    'L2\tunused-role\tClusterRole/odd\t-\t-', 'L4\tescalation\tClusterRole/cluster-admin\t1\tbind',
+    'L4\tescalation\tClusterRole/cluster-admin\t1\tescalate', 'L4\tescalation\tRole/shop-staging/owner\t1\tbind',
+    'L4\tescalation\tRole/shop-staging/owner\t1\tescalate'))
+
+
+# ---- what the stand-in serves
+
+def example(name):
+    with open(os.path.join(TOP, 'examples', name), encoding='utf-8') as file:
+        return json.load(file)
+
+
+def of_kinds(items, *kinds):
+    return {'apiVersion': 'v1', 'kind': 'List', 'items': [item for item in items if item['kind'] in kinds]}
+
+
+# Types that rules name, and the API lists don't: a subresource of a cluster-scoped type, one of a namespaced type, a type with
+# every kind of text that JSON has to escape, a group without a list; and words that are no types.
+ODD = 'a"b\\c\td/é\x7f\\x2d'
+ODD_ROLE = {'apiVersion': V1, 'kind': 'ClusterRole', 'metadata': {'name': 'odd'}, 'rules': [
+    {'verbs': ['get'], 'apiGroups': [''], 'resources': ['nodes/metrics', 'pods/odd', '*/scale', '*', 'pods', '-']},
+    {'verbs': ['get'], 'apiGroups': ['odd"group'], 'resources': [ODD, 'deployments']}]}
+METRICS = {'kind': 'APIResourceList', 'apiVersion': 'v1', 'groupVersion': 'metrics.k8s.io/v1beta1', 'resources': [
+    {'name': 'nodes', 'singularName': '', 'namespaced': False, 'verbs': ['get', 'list']},
+    {'name': 'pods', 'singularName': '', 'namespaced': True, 'verbs': ['get', 'list']}]}
+RBAC = {'kind': 'APIResourceList', 'apiVersion': 'v1', 'groupVersion': V1, 'resources': [
+    {'name': 'roles', 'singularName': 'role', 'namespaced': True, 'verbs': ['get', 'list']}]}
+
+
+def api_groups():
+    """What the server says of /apis; a name and another field look like a groupVersion, and aren't to be taken for one."""
+    groups = [{'name': 'apps', 'versions': [{'groupVersion': 'apps/v1', 'version': 'v1'}]},
+              {'name': 'rbac.authorization.k8s.io', 'versions': [{'groupVersion': V1, 'version': 'v1'}]},
+              {'name': 'x"groupVersion":"wrong/v1', 'versions': [{'groupVersion': 'metrics.k8s.io/v1beta1', 'version': 'v1beta1'}]}]
+    for group in groups:
+        group['preferredVersion'] = group['versions'][0]
+    return {'kind': 'APIGroupList', 'apiVersion': 'v1', 'groups': groups, 'groupVersionHash': 'wrong/v2'}
+
+
+def served():
+    """Each file that the stand-in serves, by its name."""
+    items = example('shop.json')['items'] + [ODD_ROLE]
+    core, apps = example('shop-api.json')['items']
+    return {'cluster': of_kinds(items, 'ClusterRole', 'ClusterRoleBinding'), 'namespaced': of_kinds(items, 'Role', 'RoleBinding'),
+            'namespaces': of_kinds(items, 'Namespace'), 'accounts': of_kinds(items, 'ServiceAccount'), 'apis': api_groups(),
+            'api-v1': core, 'api-apps-v1': apps, 'api-metrics.k8s.io-v1beta1': METRICS, 'api-rbac.authorization.k8s.io-v1': RBAC}
+
+
+# ---- a room: a stand-in for kubectl, the program, a folder for temporary files, and a folder to work in
+
+class Room:
+    def __init__(self, path, shell):
+        self.path, self.shell = path, shell
+        self.work, self.temporary, self.bin = self.at('work'), self.at('temp orary'), self.at('bin')
+        for folder in (self.work, self.temporary, self.bin, self.at('served')):
+            os.mkdir(folder)
+        with open(os.path.join(self.bin, 'kubectl'), 'w', encoding='utf-8') as file:
+            file.write(STAND_IN)
+        os.chmod(os.path.join(self.bin, 'kubectl'), 0o755)
+        os.symlink(PROGRAM, os.path.join(self.bin, 'rbacaudit'))
+        self.serve(served())
+
+    def at(self, name):
+        return os.path.join(self.path, name)
+
+    def serve(self, files, **how):
+        for name, value in files.items():
+            with open(os.path.join(self.at('served'), name), 'w', encoding='utf-8') as file:
+                json.dump(value, file, **how)
+
+    def environment(self, trouble=()):
+        return dict(os.environ, PATH=self.bin + os.pathsep + os.environ['PATH'], ROOM=self.path, TMPDIR=self.temporary,
+                    TROUBLE=','.join(trouble))
+
+    def run(self, *words, trouble=(), environment=None, **how):
+        """Status, standard output and standard error of a call of the plugin."""
+        how = {'stdin': subprocess.DEVNULL, 'cwd': self.work, 'timeout': 120, **how}
+        ended = subprocess.run([self.shell, PLUGIN, *words], env=environment or self.environment(trouble),
+                               stdout=subprocess.PIPE, stderr=subprocess.PIPE, **how)
+        return ended.returncode, ended.stdout.decode(), ended.stderr.decode()
+
+    def told(self, name, well, got):
+        told('%s: %s' % (self.shell, name), well, 'got %r' % (got,))
+
+    def expect(self, name, words, status, out='', err='', **how):
+        got = self.run(*words, **how)
+        self.told(name, got == (status, out, err), got)
+
+    def lines(self, name):
+        """The lines of a file of the room, which is then gone."""
+        if not os.path.exists(self.at(name)):
+            return []
+        with open(self.at(name), encoding='utf-8') as file:
+            lines = file.read().splitlines()
+        os.remove(self.at(name))
+        return lines
+
+    def files(self, folder):
+        """The names in a folder, or none if it isn't there."""
+        with contextlib.suppress(FileNotFoundError):
+            return sorted(os.listdir(os.path.join(self.work, folder)))
+        return []
+
+    def read(self, *names):
+        """The text of a file, or nothing if there is none."""
+        with contextlib.suppress(FileNotFoundError), open(os.path.join(self.work, *names), encoding='utf-8') as file:
+            return file.read()
+        return ''
+
+    def write(self, text, *names):
+        with open(os.path.join(self.work, *names), 'w', encoding='utf-8') as file:
+            file.write(text)
+
+    def left(self):
+        """Temporary files and processes' traces that a run has left."""
+        return os.listdir(self.temporary) + [path for path, _, _ in os.walk(self.work) if '.rbacaudit' in path]
+
+
+def document(text):
+    """The JSON value of a text, or nothing if it is none."""
+    with contextlib.suppress(ValueError):
+        return json.loads(text)
+    return None
+
+
+@contextlib.contextmanager
+def room(shell):
+    with tempfile.TemporaryDirectory() as path:
+        yield Room(path, shell)
+
+
+def in_each_shell(check):
+    """The same check under each shell; after it nothing may be left over, and kubectl may only have been asked to read."""
+    def checks():
+        for shell in SHELLS:
+            with room(shell) as it:
+                check(it)
+                it.told('%s leaves nothing behind' % check.__name__, not it.left(), it.left())
+                strange = it.lines('strange')
+                it.told('%s only reads' % check.__name__, not strange, strange)
+    checks.__doc__ = check.__doc__
+    return checks
+
+
+# ---- exports
+
+@in_each_shell
+def whole_export(it):
+    """All files, as they were served; in folders with odd names; by the context and kubeconfig that are named."""
+    for folder in ('prod', 'a folder/with  spaces', './-x', "it's $HOME"):
+        it.expect('export to "%s"' % folder, ['export', folder], 0, 'The export in %s is whole: 8 files.\n' % folder)
+        it.told('its files', it.files(folder) == WHOLE, it.files(folder))
+    for name, value in served().items():
+        if name != 'apis':
+            it.told('%s is as it was served' % name, document(it.read('prod', name + '.json')) == value, it.read('prod', name + '.json'))
+    it.told('no target is named', not it.lines('targets'), 'a target')
+    for target in (['--context', 'a b', '--kubeconfig=k=1'], ['--context=a b', '--kubeconfig', 'k=1']):
+        it.run('export', '--force', *target, 'prod')
+        targets = it.lines('targets')
+        it.told('%s reaches kubectl' % target, targets == ['--context=a b', '--kubeconfig=k=1'] * 9, targets)
+    alike = api_groups()
+    alike['groups'] += [{'versions': [{'groupVersion': 'apps/v1-v2'}]}, {'versions': [{'groupVersion': 'apps-v1/v2'}]}]
+    it.serve({'apis': alike, 'api-apps-v1-v2': METRICS}, indent=2)
+    it.expect('an index with blanks, and versions of one name', ['export', 'spaced'], 0, 'The export in spaced is whole: 10 files.\n')
+    it.told('each has a file', it.files('spaced') == sorted([*WHOLE, 'api-apps-v1-v2.json', 'api-apps-v1-v2_.json']), it.files('spaced'))
+
+
+@in_each_shell
+def export_faults(it):
+    """What can't be read is told and noted; the other files are whole."""
+    for number, (trouble, missing, said, why) in enumerate([
+            ('forbid accounts', 'accounts.json', 'Error from server (Forbidden): accounts is forbidden\n', 'ended with status 1'),
+            ('half-forbid cluster', 'cluster.json', 'Error from server (Forbidden): half of cluster\n', 'ended with status 1'),
+            ('down api-metrics.k8s.io-v1beta1', 'api-metrics.k8s.io-v1beta1.json',
+             'Error from server (ServiceUnavailable): try later\n', 'ended with status 1'),
+            ('die namespaced', 'namespaced.json', None, 'ended with status 137'),
+            ('empty api-apps-v1', 'api-apps-v1.json', '', 'printed nothing')]):
+        folder = 'faulty%d' % number
+        status, out, err = got = it.run('export', folder, trouble=[trouble])
+        it.told('%s: status 1' % trouble, (status, out) == (1, ''), got)
+        line = next((line for line in err.splitlines() if line.startswith("kubectl-rbacaudit: %s can't be had: " % missing)), '')
+        it.told('%s is told' % trouble, line.endswith(why) and (said is None or err.startswith(said)), err)
+        it.told('%s: the other files are there' % trouble,
+                it.files(folder) == sorted({*WHOLE, 'incomplete.txt'} - {missing}), it.files(folder))
+        noted = it.read(folder, 'incomplete.txt')
+        it.told('%s is noted' % trouble, noted.startswith(missing + ': kubectl get ') and noted.endswith(why + '\n'), noted)
+    both = ['forbid accounts', 'down api-v1']
+    it.run('export', 'two', trouble=both)
+    it.told('two faults are noted', it.read('two', 'incomplete.txt').count('\n') == 2, it.read('two', 'incomplete.txt'))
+    it.expect("kubectl's warnings", ['export', 'warned'], 0, 'The export in warned is whole: 8 files.\n',
+              'Warning: cluster is old\nWarning: api-v1 is old\n', trouble=['warn cluster', 'warn api-v1'])
+
+
+@in_each_shell
+def no_export(it):
+    """Where nothing can be read or written, there is no export and no folder."""
+    nothing = ['forbid ' + name for name in served() if name != 'apis']
+    for name, trouble, said in (('no group list', ['down apis'], 'kubectl get --raw /apis ended with status 1; so nothing is read'),
+                                ('an empty group list', ['empty apis'], 'kubectl get --raw /apis printed none; so nothing is read'),
+                                ('nothing may be read', nothing, 'nothing could be read')):
+        status, out, err = got = it.run('export', 'none', trouble=trouble)
+        it.told(name, (status, out) == (2, '') and err.endswith(said + '\n'), got)
+        it.told('%s: no folder' % name, not os.path.exists(os.path.join(it.work, 'none')), 'a folder')
+    it.write('', 'file')
+    for folder in ('file', 'file/below'):
+        calls = it.lines('calls')
+        status, out, err = got = it.run('export', folder)
+        it.told('a folder that can\'t be made: %s' % folder,
+                (status, out) == (2, '') and err.endswith("kubectl-rbacaudit: can't make the folder %s\n" % folder), got)
+        calls = it.lines('calls')
+        it.told('kubectl isn\'t asked for it', not calls, calls)
+    for words, said in ((['export'], 'export needs a folder'), (['export', ''], 'the name of the folder is empty'),
+                        (['export', 'a', 'b'], 'export writes one folder'), (['export', '--partial', 'a'], 'export has no --partial'),
+                        (['export', 'a', '--context'], '--context needs a value'), (['export', '--context=', 'a'], '--context needs a value'),
+                        (['export', '--kubeconfig', '--force', 'a'], '--kubeconfig needs a value')):
+        status, out, err = got = it.run(*words)
+        it.told('refused: %s' % ' '.join(words), (status, out) == (2, '') and err.startswith('kubectl-rbacaudit: ' + said), got)
+    it.told('nothing was read for a refused line', not it.lines('calls'), 'a call')
+
+
+def nobody():
+    """What a process needs to be a user whom permissions bind: root is made nobody."""
+    return {'user': 65534, 'group': 65534, 'extra_groups': []} if os.getuid() == 0 else {}
+
+
+@in_each_shell
+def closed_folder(it):
+    """A folder that may be read but not written, and a file that can't grow: told, and nothing half."""
+    os.chmod(it.path, 0o755)
+    for path, folders, names in os.walk(it.path):
+        for name in folders:
+            os.chmod(os.path.join(path, name), 0o777)
+    shutil.copy(PLUGIN, it.at('plugin'))
+    os.mkdir(os.path.join(it.work, 'closed'), 0o555)
+    ended = subprocess.run([it.shell, it.at('plugin'), 'export', os.path.join(it.work, 'closed')], cwd=it.work, stdin=subprocess.DEVNULL,
+                           env=it.environment(), stdout=subprocess.PIPE, stderr=subprocess.PIPE, timeout=60, **nobody())
+    it.told('a folder that may not be written', ended.returncode == 2 and not ended.stdout and
+            ended.stderr.endswith(b"can't make a temporary folder in %s\n" % os.path.join(it.work, 'closed').encode()), ended)
+    it.told('it stays empty', not it.files('closed'), it.files('closed'))
+
+    def small():
+        resource.setrlimit(resource.RLIMIT_FSIZE, (1024, 1024))
+
+    status, out, err = got = it.run('export', 'small', preexec_fn=small)
+    it.told('files that can\'t grow', (status, out) == (1, '') and "cluster.json can't be had" in err, got)
+    it.told('they are absent', 'cluster.json' not in it.files('small') and 'accounts.json' in it.files('small'), it.files('small'))
+    it.told('and no file is cut', all(len(it.read('small', name)) < 1024 and (name == 'incomplete.txt' or document(it.read('small', name)))
+                                     for name in it.files('small')), it.files('small'))
+
+
+@in_each_shell
+def old_exports(it):
+    """An export is replaced only with --force, and then wholly; other files stay."""
+    it.run('export', 'prod')
+    it.write('mine', 'prod', 'universe.json')
+    it.write('old', 'prod', 'cluster.json')
+    it.write('old', 'prod', 'api-gone-v1.json')
+    it.lines('calls')
+    it.expect('an old export', ['export', 'prod'], 2, '',
+              'kubectl-rbacaudit: prod already holds an export (cluster.json); --force puts a new one in its place\n')
+    it.told('it stays', it.read('prod', 'cluster.json') == 'old' and not it.lines('calls'), it.read('prod', 'cluster.json'))
+    for name in ('api-v1.json', 'incomplete.txt', 'accounts.json'):
+        os.makedirs(os.path.join(it.work, 'only', name))
+        status, _, err = got = it.run('export', 'only')
+        it.told('%s is an export' % name, status == 2 and '(%s)' % name in err, got)
+        shutil.rmtree(os.path.join(it.work, 'only'))
+    status, _, _ = got = it.run('export', '--force', 'prod', trouble=['down apis'])
+    it.told('--force and no answer: the old export stays', status == 2 and it.read('prod', 'cluster.json') == 'old', got)
+    it.run('export', 'prod', '--force', trouble=['forbid accounts'])
+    it.told('--force: the files of the new export alone, and mine',
+            it.files('prod') == sorted({*WHOLE, 'incomplete.txt', 'universe.json'} - {'accounts.json'}), it.files('prod'))
+    it.told('--force: they are new', document(it.read('prod', 'cluster.json')) == served()['cluster'], it.read('prod', 'cluster.json'))
+    it.expect('--force: a whole one after it', ['export', '--force', 'prod'], 0, 'The export in prod is whole: 8 files.\n')
+    it.told('--force: nothing is noted any more', it.files('prod') == sorted([*WHOLE, 'universe.json']), it.files('prod'))
+    it.told('mine stays', it.read('prod', 'universe.json') == 'mine', it.read('prod', 'universe.json'))
+
+
+# ---- questions
+
+@in_each_shell
+def questions(it):
+    """Fresh exports and exports in a folder give rbacaudit's own answers and statuses, with all options and words."""
+    it.run('export', 'my export')
+    granted = 'yes\nRoleBinding/shop/developers-view\tClusterRole/shop-view\tClusterRole/shop-view-workloads\t1\t1\n'
+    for place in ([], ['--export', 'my export'], ['--export=my export']):
+        it.expect('yes %s' % place, ['can-i', *place, *KIM, '--why', 'list', 'pods'], 0, granted)
+        it.expect('no %s' % place, ['can-i', *KIM, 'delete', *place, 'pods'], 1, 'no\n')
+        it.expect('a quiet no %s' % place, ['can-i', *place, '-qA', *KIM, '--', 'list', 'pods'], 1)
+        it.expect('a short type and a subresource %s' % place, ['can-i', *KIM, 'get', 'po', '--subresource=log', *place], 0, 'yes\n')
+        it.expect('holders %s' % place, ['who-can', '-nshop', 'update', 'deploy', *place], 0,
+                  'u:dana@example.com\tClusterRoleBinding/admins\nu:system:serviceaccount:shop:ci\tRoleBinding/shop/ci-deploys\n')
+        it.expect('a URL %s' % place, ['can-i', '--as', 'system:serviceaccount:monitoring:prometheus', *place, 'get', '/metrics'], 0, 'yes\n')
+        it.expect('findings %s' % place, ['lint', *place], 1, FINDINGS)
+    os.remove(os.path.join(it.work, 'my export', 'namespaces.json'))
+    it.expect('a part that the command doesn\'t read', ['can-i', *KIM, '--export', 'my export', 'delete', 'pods'], 1, 'no\n')
+    it.lines('calls')
+    it.expect('lint of a fresh export', ['lint'], 1, FINDINGS)
+    it.told('lint reads roles and bindings alone', len(it.lines('calls')) == 2, 'other calls')
+    it.run('who-can', 'get', 'pods', '--context', 'far')
+    it.told('a question passes its context on', set(it.lines('targets')) == {'--context=far'}, 'another')
+
+
+@in_each_shell
+def words(it):
+    """Words that rbacaudit refuses end before a call to a cluster; what looks like an option may be a value."""
+    for line, said in ((['can-i', 'get', 'pods'], '--as'), (['can-i', *KIM, 'list'], '<TARGET>'), (['who-can', 'get'], '<TARGET>'),
+                       (['can-i', *KIM, '--wy', 'list', 'pods'], '--wy'), (['matrix', '--limit', '0'], '--limit'),
+                       (['matrix', '--after', 'x'], 'U4 bad token'), (['can-i', '--as', '', 'get', 'pods'], 'U2 empty word'),
+                       (['can-i', '--as', '--partial', 'get', 'pods'], '--as'), (['lint', '--limit', '1'], '--limit'),
+                       (['lint', '--export'], '--export needs a value'), (['lint', '--export='], '--export needs a value'),
+                       (['lint', '--export', ''], '--export needs a value'), (['lint', '--context', ''], '--context needs a value'),
+                       (['lint', '--export', '--partial'], '--export needs a value'),
+                       (['lint', '--export', 'x', '--context', 'y'], 'an export answers without a cluster'),
+                       (['lint', '--export', 'x'], 'there is no folder x'), (['universe', 'x'], 'universe has no x'),
+                       (['who-knows'], 'there is no command who-knows'), ([], 'a command is missing')):
+        status, out, err = got = it.run(*line)
+        it.told('refused: %s' % ' '.join(line), (status, out) == (2, '') and said in err, got)
+    it.told('no line was refused after a call', not it.lines('calls'), 'a call')
+    it.run('export', 'prod')
+    it.run('export', './-x')
+    it.expect('a folder that looks like an option', ['can-i', '--export=-x', *KIM, 'list', 'pods'], 0, 'yes\n')
+    it.expect('a user that looks like a command', ['can-i', '--export', 'prod', '--as', 'export', 'list', 'pods'], 1, 'no\n')
+    it.expect('an option after -- is a word', ['can-i', '--export', 'prod', *KIM, '--', 'list', 'pods', '--export'], 2, '',
+              'rbacaudit: file 1: I1 read fault\nkubectl-rbacaudit: file 1 is --export\n')
+
+
+@in_each_shell
+def files(it):
+    """Files that the user names stand before those of the export; a matrix reads all, a fault's file is named."""
+    it.run('export', 'prod')
+    with open(os.path.join(TOP, 'examples', 'shop-universe.json'), encoding='utf-8') as file:
+        it.write(file.read(), 'my universe.json')
+    whole = subprocess.run([PROGRAM, 'matrix', 'my universe.json'] + [os.path.join('prod', name) for name in WHOLE], cwd=it.work,
+                           stdout=subprocess.PIPE, timeout=60, check=True).stdout.decode()
+    it.told('the matrix has rows', whole.count('\n') > 5 and whole.endswith('\nend\n'), whole)
+    it.expect('a matrix of all files', ['matrix', 'my universe.json', '--export', 'prod'], 0, whole)
+    it.expect('a matrix of a fresh export', ['matrix', 'my universe.json'], 0, whole)
+    page = it.run('matrix', '--export', 'prod', '--limit', '2', 'my universe.json')[1]
+    it.told('a page', page.startswith(''.join(whole.splitlines(True)[:2])) and '\nnext\t' in page, page)
+    it.expect('the page after it', ['matrix', 'my universe.json', '--after', page.split('\t')[-1][:-1], '--export', 'prod'], 0,
+              ''.join(whole.splitlines(True)[2:]))
+    it.write(json.dumps({'apiVersion': V1, 'kind': 'Role', 'metadata': {}}), 'bad.json')
+    bad = 'rbacaudit: file %d: M4 bad metadata\nkubectl-rbacaudit: file %d is %s\n'
+    it.expect('a bad file among others', ['matrix', 'my universe.json', '--limit', '5', 'bad.json', '--export', 'prod'], 2, '',
+              bad % (2, 2, 'bad.json'))
+    it.expect('a bad file of a question', ['can-i', *KIM, 'list', 'pods', 'bad.json', '--export', 'prod'], 2, '', bad % (1, 1, 'bad.json'))
+    it.write(json.dumps({'apiVersion': 'v1', 'kind': 'List', 'items': [{'apiVersion': V1, 'kind': 'Role'}]}), 'prod', 'namespaced.json')
+    it.expect('a bad file of the export', ['lint', '--export', 'prod', 'my universe.json'], 2, '',
+              'rbacaudit: file 3 item 1: M4 bad metadata\nkubectl-rbacaudit: file 3 is prod/namespaced.json\n')
+    it.write('', 'prod', 'api-v1.json')
+    status, out, err = got = it.run('can-i', *KIM, 'list', 'pods', '--export', 'prod')
+    it.told('a bad API list', (status, out) == (2, '') and err.endswith(' is prod/api-v1.json\n'), got)
+    it.serve({'accounts': {'apiVersion': 'v1', 'kind': 'List', 'items': [5]}})
+    it.expect('a bad file of a fresh export', ['matrix'], 2, '', 'rbacaudit: file 4 item 1: M2 not an object\nkubectl-rbacaudit: '
+              'file 4 is accounts.json of the fresh export; kubectl rbacaudit export DIR would keep it\n')
+
+
+REFUSAL = 'kubectl-rbacaudit: a part of the export is missing, so nothing is answered; with --partial, what is there answers\n'
+CAUTION = 'kubectl-rbacaudit: a part of the export is missing: this answer knows only what is there\n'
+
+
+UPDATE = ['can-i', *CI, 'update', 'deployments.apps']
+DOWN = ['down api-metrics.k8s.io-v1beta1']
+
+
+@in_each_shell
+def parts(it):
+    """A fresh export with a part missing answers with --partial alone, and says so."""
+    down = "Error from server (ServiceUnavailable): try later\nkubectl-rbacaudit: api-metrics.k8s.io-v1beta1.json can't be had: " \
+           "kubectl get --raw /apis/metrics.k8s.io/v1beta1 ended with status 1\n"
+    it.expect('a group is down', UPDATE, 2, '', down + REFUSAL, trouble=DOWN)
+    it.expect('a group is down, --partial', [*UPDATE, '--partial'], 0, 'yes\n', down + CAUTION, trouble=DOWN)
+    it.expect('a universe of what isn\'t whole', ['universe'], 2, '', down + REFUSAL, trouble=DOWN)
+    it.expect('what lint doesn\'t read may be down', ['lint'], 1, FINDINGS, trouble=DOWN)
+    it.expect('accounts matter to a matrix alone', UPDATE, 0, 'yes\n', trouble=['forbid accounts'])
+    status, out, err = got = it.run('matrix', trouble=['forbid accounts'])
+    it.told('and there they matter', (status, out) == (2, '') and err.endswith(REFUSAL), got)
+    status, out, err = got = it.run(*UPDATE, '--partial', trouble=['forbid cluster', 'forbid namespaced'])
+    it.told('without roles nothing answers', (status, out) == (2, '') and 'nothing can be answered' in err, got)
+
+
+@in_each_shell
+def gaps(it):
+    """The same of an export in a folder, by what is noted and by what is there."""
+    it.run('export', 'prod', trouble=DOWN)
+    noted = 'kubectl-rbacaudit: ' + it.read('prod', 'incomplete.txt')
+    it.expect('an export that lacks a group', [*UPDATE, '--export', 'prod'], 2, '', noted + REFUSAL)
+    it.expect('an export that lacks a group, --partial', [*UPDATE, '--partial', '--export', 'prod'], 0, 'yes\n', noted + CAUTION)
+    it.write(json.dumps(METRICS), 'prod', 'api-metrics.k8s.io-v1beta1.json')
+    it.expect('a group that was fetched by hand', [*UPDATE, '--export', 'prod'], 0, 'yes\n')
+    os.remove(os.path.join(it.work, 'prod', 'api-metrics.k8s.io-v1beta1.json'))
+    it.expect('an export that lacks what lint doesn\'t read', ['lint', '--export', 'prod'], 1, FINDINGS)
+    it.write('export: it was interrupted\n', 'prod', 'incomplete.txt')
+    it.expect('an export that was interrupted', ['lint', '--export', 'prod'], 2, '',
+              'kubectl-rbacaudit: export: it was interrupted\n' + REFUSAL)
+    it.run('export', '--force', 'prod')
+    os.remove(os.path.join(it.work, 'prod', 'cluster.json'))
+    missing = 'kubectl-rbacaudit: there is no cluster.json in prod\n'
+    it.expect('a file that is gone', [*UPDATE, '--export', 'prod'], 2, '', missing + REFUSAL)
+    it.expect('a file that is gone, --partial', [*UPDATE, '--export', 'prod', '--partial'], 0, 'yes\n', missing + CAUTION)
+    for name in it.files('prod'):
+        if name.startswith('api-'):
+            os.remove(os.path.join(it.work, 'prod', name))
+    missing += 'kubectl-rbacaudit: there is no api-*.json in prod\n'
+    it.expect('no API lists', [*UPDATE, '--export', 'prod'], 2, '', missing + REFUSAL)
+    it.expect('no API lists, --partial', [*UPDATE, '--export', 'prod', '--partial'], 0, 'yes\n', missing + CAUTION +
+              'kubectl-rbacaudit: the export has no API lists, so the type deployments.apps is taken as written\n')
+    os.remove(os.path.join(it.work, 'prod', 'namespaced.json'))
+    status, out, err = got = it.run(*UPDATE, '--partial', '--export', 'prod')
+    it.told('an export without roles never answers', (status, out) == (2, '') and 'nothing can be answered' in err, got)
+
+
+@in_each_shell
+def types(it):
+    """A type that the API lists don't have is told, and the question answered; a label or another text is no type."""
+    core = served()['api-v1']
+    core['resources'].append({'name': 'services', 'singularName': 'fooled', 'namespaced': True, 'verbs': ['"widgets"'], 'shortNames': ['svc', '']})
+    it.serve({'api-v1': core})
+    it.run('export', 'prod')
+    slip = "kubectl-rbacaudit: the API lists of the export don't have the type %s: look for a slip\n"
+    for type_ in ('pods', 'pod', 'po', 'po/web', 'deployments', 'deploy', 'deploy.apps', 'deployment.apps/web', 'nodes.metrics.k8s.io',
+                  'role', 'svc', 'fooled', 'pods.', '/metrics'):
+        it.expect('known: ' + type_, ['who-can', '--export', 'prod', '-n', 'nowhere', 'drain', type_], 0,
+                  'u:dana@example.com\tClusterRoleBinding/admins\n')
+    for type_ in ('secert', 'Pods', 'widgets', '"widgets"', 'deployments.app', 'pods.apps', 'po.apps', 'apps', 'v1', 'pod*', '*',
+                  'deployments.v1.apps', 'a\\x2d', 'list', '-'):
+        it.expect('unknown: ' + type_, ['who-can', '--export', 'prod', '-n', 'nowhere', 'drain', type_], 0,
+                  'u:dana@example.com\tClusterRoleBinding/admins\n', slip % type_)
+    it.expect('unknown: secert/x, of a fresh export', ['can-i', *KIM, 'get', 'secert/x'], 1, 'no\n', slip % 'secert')
+    it.expect('known beside a subresource', ['can-i', '--export', 'prod', *KIM, '--subresource', 'log', 'get', 'pods'], 0, 'yes\n')
+    it.expect('unknown: a word with a dash before it', ['can-i', '--export', 'prod', *KIM, 'get', '--', '-q'], 1, 'no\n', slip % '-q')
+
+
+@in_each_shell
+def universes(it):
+    """A universe has the types of the API lists, and those that only rules name, each as rbacaudit takes it."""
+    it.run('export', 'prod')
+    resources = [('', 'nodes', False), ('', 'pods', True), ('', 'pods/log', True), ('apps', 'deployments', True),
+                 ('metrics.k8s.io', 'nodes', False), ('metrics.k8s.io', 'pods', True), ('rbac.authorization.k8s.io', 'roles', True),
+                 ('', '-', True), ('', 'configmaps', True), ('', 'nodes/metrics', False), ('', 'pods/odd', True), ('', 'services', True),
+                 ('apps', 'deployments/scale', True), ('odd"group', ODD, True), ('odd"group', 'deployments', True)]
+    wanted = {'apiVersion': 'rbacaudit/v1', 'kind': 'Universe', 'names': [''], 'resources': [
+        {'group': group, 'resource': name, 'namespaced': namespaced} for group, name, namespaced in resources]}
+    for place in (['--export', 'prod'], []):
+        status, out, err = got = it.run('universe', *place)
+        it.told('a universe %s' % place, (status, err) == (0, '') and document(out) == wanted, got)
+    it.write(out, 'universe.json')
+    status, rows, err = got = it.run('matrix', '--export', 'prod', 'universe.json')
+    row = 'u:dana@example.com\t%s\tget\t%s\t%s\t-\tClusterRoleBinding/admins\n'
+    it.told('matrix takes it', (status, err) == (0, '') and rows.endswith('\nend\n'), got)
+    for place in ('-', 'shop'):
+        printed = 'a"b\\\\c\\x09d/é\\x7f\\\\x2d'
+        it.told('its matrix has %s in %s' % (printed, place), row % (place, 'odd"group', printed) in rows, rows)
+        it.told('and nodes/metrics in the cluster alone: %s' % place, (row % (place, '-', 'nodes/metrics') in rows) == (place == '-'), rows)
+    for name in it.files('prod'):
+        if name.startswith('api-'):
+            os.remove(os.path.join(it.work, 'prod', name))
+    status, out, err = got = it.run('universe', '--export', 'prod', '--partial')
+    named = ['{"group": "", "resource": "%s", "namespaced": true}' % name in out for name in ('nodes/metrics', 'nodes')]
+    it.told('without API lists, the types of rules', status == 0 and named == [True, False], got)
+    it.serve({'cluster': of_kinds([]), 'namespaced': of_kinds([]), **{name: {**value, 'resources': []} for name, value in served().items()
+                                                                         if name.startswith('api-')}})
+    status, out, err = got = it.run('universe')
+    it.told('a universe of nothing is a document too', status == 0 and document(out) == {**wanted, 'resources': []}, got)
+
+
+# ---- interruptions, tools, texts
+
+def ended_by(it, number, words):
+    """Status and seconds of a run that a signal ends while kubectl hangs; whether that kubectl is gone."""
+    process = subprocess.Popen([it.shell, PLUGIN, *words], cwd=it.work, env=it.environment(['hang namespaced']), stdin=subprocess.DEVNULL,
+                               stdout=subprocess.PIPE, stderr=subprocess.PIPE,
+                               preexec_fn=lambda: signal.signal(signal.SIGINT, signal.SIG_DFL))
+    until = time.monotonic() + 60
+    while not it.read(it.at('hangs')) and time.monotonic() < until:
+        time.sleep(0.02)
+    before, began = it.left(), time.monotonic()
+    process.send_signal(number)
+    out = process.communicate(timeout=100)[0]
+    kubectl = int(it.lines('hangs')[0])
+    with contextlib.suppress(ProcessLookupError):
+        os.kill(kubectl, 0)
+        os.kill(kubectl, signal.SIGKILL)
+        return process.returncode, out, time.monotonic() - began, before, False
+    return process.returncode, out, time.monotonic() - began, before, True
+
+
+@in_each_shell
+def interruptions(it):
+    """A signal ends a run at once, with its kubectl and its temporary folder; an old export stays whole."""
+    it.run('export', 'old')
+    for number in (signal.SIGINT, signal.SIGTERM, signal.SIGHUP):
+        for words_ in (['lint'], ['export', 'new'], ['export', '--force', 'old']):
+            status, out, took, before, gone = got = ended_by(it, number, words_)
+            name = '%s during %s' % (number.name, ' '.join(words_))
+            it.told(name, (status, out) == (128 + number, b'') and took < 30, got)
+            it.told(name + ': there was something to remove, and it is gone', before and not it.left(), (before, it.left()))
+            it.told(name + ': kubectl is gone', gone, got)
+            it.told(name + ': no half export', not os.path.exists(os.path.join(it.work, 'new')) and it.files('old') == WHOLE, it.files('.'))
+
+
+@in_each_shell
+def publishing(it):
+    """An export that is cut off while its files are put in place says so, and doesn't answer."""
+    it.run('export', 'prod')
+    with open(os.path.join(it.bin, 'mv'), 'w', encoding='utf-8') as file:
+        file.write('#!/bin/sh\ncase "$*" in *prod/) kill -9 $PPID ;; *) exec %s "$@" ;; esac\n' % shutil.which('mv'))
+    os.chmod(os.path.join(it.bin, 'mv'), 0o755)
+    status, _, _ = got = it.run('export', '--force', 'prod')
+    os.remove(os.path.join(it.bin, 'mv'))
+    it.told('it is killed', status == -signal.SIGKILL, got)
+    for name in os.listdir(os.path.join(it.work, 'prod')):
+        if name.startswith('.rbacaudit'):
+            shutil.rmtree(os.path.join(it.work, 'prod', name))
+    it.told('the old files are gone, and it is noted', it.files('prod') == ['incomplete.txt'], it.files('prod'))
+    status, out, err = got = it.run('lint', '--export', 'prod', '--partial')
+    it.told('it says so', (status, out) == (2, '') and 'it was interrupted while its files were put in place' in err, got)
+
+
+@in_each_shell
+def tools(it):
+    """What is missing is told with what to do; versions and help."""
+    bare = it.at('bare')
+    os.mkdir(bare)
+    for name in (it.shell, 'awk', 'sed', 'mktemp', 'mkdir', 'mv', 'rm', 'rmdir', 'cat', 'tr'):
+        os.symlink(shutil.which(name), os.path.join(bare, name))
+    environment = dict(it.environment(), PATH=bare)
+    for line, said in ((['lint'], 'there is no rbacaudit on the PATH'), (['universe'], 'there is no rbacaudit on the PATH'),
+                       (['export', 'x'], 'there is no kubectl on the PATH')):
+        status, out, err = got = it.run(*line, environment=environment)
+        it.told('%s: %s' % (line[0], said), (status, out) == (2, '') and said in err, got)
+    status, out, err = got = it.run('--version', environment=environment)
+    it.told('the version of the plugin alone', (status, out) == (2, 'kubectl-rbacaudit 0.1.0\n') and 'make install' in err, got)
+    it.run('export', 'prod')
+    os.symlink(PROGRAM, os.path.join(bare, 'rbacaudit'))
+    it.expect('an export needs no kubectl', ['can-i', '--export', 'prod', *KIM, 'list', 'pods'], 0, 'yes\n', environment=environment)
+    status, out, err = got = it.run('lint', environment=environment)
+    it.told('a fresh one does', (status, out) == (2, '') and 'there is no kubectl on the PATH' in err, got)
+    it.expect('versions', ['--version'], 0, 'kubectl-rbacaudit 0.1.0\nrbacaudit 0.1.0\n')
+    for line, said in ((['--help'], 'kubectl rbacaudit who-can'), (['-h'], '--partial'), (['export', '--help'], 'incomplete.txt'),
+                       (['universe', '-h'], 'Universe document'), (['can-i', '--help'], '--why'),
+                       (['who-can', '-Ah'], 'with kubectl rbacaudit who-can'), (['matrix', '-h'], '--after'), (['lint', '--help'], 'dangling-role')):
+        status, out, err = got = it.run(*line)
+        it.told('help: %s' % ' '.join(line), (status, err) == (0, '') and said.lower() in out.lower(), got)
+    for line in (['--help'], ['export', '--help']):
+        out = it.run(*line)[1]
+        it.told('%s fits a screen' % line, out.count('\n') <= 40 and max(map(len, out.splitlines())) <= 120, out)
+    calls = it.lines('calls')
+    it.told('help asks no cluster', calls.count('|get|--raw|/apis') == 1, calls)
+    status, out, err = got = it.run('can-i', *KIM, 'list', 'pods', preexec_fn=lambda: os.close(0))
+    it.told('with standard input closed', (status, out) == (0, 'yes\n'), got)
+
+
+def script():
+    """The script itself: shellcheck, and make install."""
+    if shutil.which('shellcheck'):
+        ended = subprocess.run(['shellcheck', PLUGIN], stdout=subprocess.PIPE, stderr=subprocess.STDOUT, timeout=120)
+        told('shellcheck', ended.returncode == 0, ended.stdout.decode())
+    else:
+        print('skipped: shellcheck, which this machine lacks')
+    told('the plugin may be run', os.stat(PLUGIN).st_mode & 0o111 == 0o111, stat.filemode(os.stat(PLUGIN).st_mode))
+    with open(os.path.join(TOP, 'Makefile'), encoding='utf-8') as file:
+        lines = file.read().splitlines()
+    told('make install installs it', '\tinstall -m 755 plugin/kubectl-rbacaudit $(DESTDIR)$(PREFIX)/bin/kubectl-rbacaudit' in lines, 'no such line')
+
+
+if __name__ == '__main__':
+    sys.exit(tested(whole_export, export_faults, no_export, closed_folder, old_exports, questions, words, files, parts, gaps, types, universes,
+                    interruptions, publishing, tools, script))
