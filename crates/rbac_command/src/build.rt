@@ -55,8 +55,7 @@ Examples:
   rbacaudit matrix cluster.json namespaced.json universe.json
   rbacaudit matrix --limit 1000 --after TOKEN cluster.json namespaced.json";
 
-const LINT_MORE: &str =
-    "A line has five fields, joined by tabs; - is an empty field:
+const LINT_MORE: &str = "A line has five fields, joined by tabs; - is an empty field:
   CODE    L1 to L7
   NAME    what the code stands for, as below
   OBJECT  the role or other object, as KIND/NAME or KIND/NAMESPACE/NAME
