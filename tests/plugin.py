@@ -527,11 +527,17 @@ def universes(it):
 
 # ---- interruptions, tools, texts
 
+def hear_signals():
+    """A shell can't trap a signal that was ignored when it began, as SIGINT is in the background and SIGHUP under nohup."""
+    for number in (signal.SIGINT, signal.SIGTERM, signal.SIGHUP):
+        signal.signal(number, signal.SIG_DFL)
+
+
 def ended_by(it, number, words):
     """Status and seconds of a run that a signal ends while kubectl hangs; whether that kubectl is gone."""
     process = subprocess.Popen([it.shell, PLUGIN, *words], cwd=it.work, env=it.environment(['hang namespaced']), stdin=subprocess.DEVNULL,
                                stdout=subprocess.PIPE, stderr=subprocess.PIPE,
-                               preexec_fn=lambda: signal.signal(signal.SIGINT, signal.SIG_DFL))
+                               preexec_fn=hear_signals)
     until = time.monotonic() + 60
     while not it.read(it.at('hangs')) and time.monotonic() < until:
         time.sleep(0.02)
