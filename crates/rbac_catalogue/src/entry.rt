@@ -2,8 +2,7 @@
 
 ghost use Rattle.std.specs.Prelude.{◌≡◌};
 
-use rbac_terms::{Word, Words};
-use std::marker::Model;
+use rbac_terms::{Items, Word, Words};
 
 /// An entry of an API resource list (Kubernetes API, APIResource). Several entries of one group
 /// and name, of several versions of the group, are about one resource.
@@ -24,39 +23,4 @@ pub struct Entry {
 }
 
 /// The entries of an API resource list, in the order given.
-#[derive(Drop)]
-pub struct Entries {
-    entries: Vec<Entry>,
-}
-
-impl Model for Entries {
-    ghost use Rattle.std.specs.Prelude.{List};
-    ghost use Rattle.rbac_catalogue.specs.declared.entry.Entry.{Entry};
-
-    ghost Value = { List Entry };
-
-    ghost view = { λ es. es.entries.items };
-}
-
-impl Entries {
-    /// These entries; takes no memory.
-    pub fn from_vec(entries: Vec<Entry>) -> Self
-        ensures { result ≡ entries.items }
-    {
-        Entries { entries }
-    }
-
-    /// The entries in the order given. Takes no memory.
-    pub fn as_slice(&self) -> &[Entry]
-        ensures { result.now ≡ self.now }
-    {
-        self.entries.as_slice()
-    }
-
-    // The same, to be taken over.
-    pub(crate) fn into_vec(self) -> Vec<Entry>
-        ensures { result.items ≡ self }
-    {
-        self.entries
-    }
-}
+pub type Entries = Items<Entry>;

@@ -4,12 +4,12 @@ ghost use Rattle.std.specs.Prelude.{◌≡◌, IsTrue, ◌↔◌, IfOk, MatchOpt
 ghost use Rattle.rbac_terms.specs.Text.{Text};
 ghost use Rattle.rbac_terms.specs.Granting.{Names, IsSubjectKey};
 
+use crate::items::Items;
 use crate::matching::Rules;
 use crate::request::{Principal, account_user, member_key, user_key};
 use crate::selecting::{Labels, Selectors};
 use crate::text::Word;
 use std::alloc::{AllocError, Global};
-use std::marker::Model;
 
 /// A role of one namespace (Using RBAC Authorization, "Role and ClusterRole").
 #[derive(Drop)]
@@ -63,35 +63,7 @@ pub enum Subject {
 }
 
 /// The subjects of a binding in their written order: as many as memory holds.
-#[derive(Drop)]
-pub struct Subjects {
-    subjects: Vec<Subject>,
-}
-
-impl Model for Subjects {
-    ghost use Rattle.std.specs.Prelude.{List};
-    ghost use Rattle.rbac_terms.specs.declared.granting.Subject.{Subject};
-
-    ghost Value = { List Subject };
-
-    ghost view = { λ ss. ss.subjects.items };
-}
-
-impl Subjects {
-    /// The list of these subjects. Takes no memory.
-    pub fn from_vec(subjects: Vec<Subject>) -> Self
-        ensures { result ≡ subjects.items }
-    {
-        Subjects { subjects }
-    }
-
-    /// The subjects, in order.
-    pub fn as_slice(&self) -> &[Subject]
-        ensures { result.now ≡ self.now }
-    {
-        self.subjects.as_slice()
-    }
-}
+pub type Subjects = Items<Subject>;
 
 /// A binding of a role to subjects (Using RBAC Authorization, "RoleBinding and ClusterRoleBinding").
 #[derive(Drop)]

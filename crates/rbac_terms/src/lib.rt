@@ -4,6 +4,7 @@
 
 mod fault;
 mod granting;
+mod items;
 mod keys;
 mod matching;
 mod request;
@@ -12,6 +13,7 @@ mod text;
 
 pub use fault::ModelFault;
 pub use granting::{Binding, ClusterRole, Role, RoleRef, Subject, Subjects, names, subject_key};
+pub use items::Items;
 pub use keys::Key;
 pub use matching::{
     Rule, Rules, group_matches, name_matches, resource_matches, rule_allows, target_matches,

@@ -5,9 +5,9 @@ ghost use Rattle.rbac_terms.specs.Text.{star};
 ghost use Rattle.rbac_terms.specs.Matching.{WordMatches, ResourceWordMatches, FollowsFirstSlash, NameMatches, UrlWordMatches, EndsInStar, TargetOk, RuleAllows};
 ghost use Rattle.rbac_terms.specs.Targets.{Resource};
 
+use crate::items::Items;
 use crate::request::Target;
 use crate::text::{Word, Words, cut_at_first};
-use std::marker::Model;
 
 /// A rule of a role: which verbs may be used on which resources or URLs (Using RBAC Authorization,
 /// "API objects"). Any lists of words are accepted here; what a manifest may hold is the loader's
@@ -27,35 +27,7 @@ pub struct Rule {
 }
 
 /// The rules of a role in their written order: as many as memory holds.
-#[derive(Drop)]
-pub struct Rules {
-    rules: Vec<Rule>,
-}
-
-impl Model for Rules {
-    ghost use Rattle.std.specs.Prelude.{List};
-    ghost use Rattle.rbac_terms.specs.declared.matching.Rule.{Rule};
-
-    ghost Value = { List Rule };
-
-    ghost view = { λ rs. rs.rules.items };
-}
-
-impl Rules {
-    /// The list of these rules. Takes no memory.
-    pub fn from_vec(rules: Vec<Rule>) -> Self
-        ensures { result ≡ rules.items }
-    {
-        Rules { rules }
-    }
-
-    /// The rules, in order.
-    pub fn as_slice(&self) -> &[Rule]
-        ensures { result.now ≡ self.now }
-    {
-        self.rules.as_slice()
-    }
-}
+pub type Rules = Items<Rule>;
 
 /// Whether a word of the rule matches this verb: it is `*` or the verb itself (rbac/v1 evaluation
 /// helpers, VerbMatches). Takes no memory.

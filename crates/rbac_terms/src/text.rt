@@ -3,8 +3,9 @@
 ghost use Rattle.std.specs.Prelude.{◌≡◌, ◌++◌, ◌∷◌, [], ℕ, length, IfOk, IfErr, OnOk, OnErr, IsTrue, ◌↔◌, Contains, MatchOption, ◌<◌, ◌≢◌, slice_index};
 ghost use Rattle.rbac_terms.specs.Text.{IsCutAtFirst, BeginsWith};
 
+use crate::items::Items;
 use smallvec::SmallVec;
-use std::alloc::{AllocError, AllocFailed, Global};
+use std::alloc::{AllocError, Global};
 use std::cmp::Ordering;
 use std::hash::{Hash, Hasher};
 use std::marker::Model;
@@ -148,69 +149,9 @@ impl Hash for Word {
 }
 
 /// A list of texts, in order, with repeats: as many as memory holds.
-#[derive(Clone, Drop)]
-pub struct Words {
-    words: Vec<Word>,
-}
+pub type Words = Items<Word>;
 
-impl Model for Words {
-    ghost use Rattle.std.specs.Prelude.{ℕ, List};
-
-    ghost Value = { List (List ℕ) };
-
-    ghost view = { λ ws. ws.words.items };
-}
-
-impl Words {
-    /// The empty list. Takes no memory.
-    pub fn new(alloc: Global) -> Self
-        ensures { result ≡ [] }
-    {
-        Words {
-            words: Vec::new(alloc),
-        }
-    }
-
-    /// The list of these texts. Takes no memory.
-    pub fn from_vec(words: Vec<Word>) -> Self
-        ensures { result ≡ words.items }
-    {
-        Words { words }
-    }
-
-    /// The texts, in order.
-    pub fn as_slice(&self) -> &[Word]
-        ensures { result.now ≡ self.now }
-    {
-        self.words.as_slice()
-    }
-
-    /// Whether there are no texts.
-    pub fn is_empty(&self) -> bool
-        ensures { IsTrue result ↔ (self.now ≡ []) }
-    {
-        self.words.is_empty()
-    }
-
-    /// Adds a text at the end. Fails only where memory is refused: the text then comes back in the
-    /// error, and the list is as before.
-    pub fn push(&mut self, word: Word) -> Result<(), AllocFailed<Word>>
-        ensures ok { OnOk result (self.new ≡ self.old ++ word ∷ []) }
-        ensures err { OnErr result (self.new ≡ self.old) }
-        ensures returned { IfErr result (λ e. e.value ≡ word) }
-    {
-        self.words.push(word)
-    }
-
-    // Adds all of these at the end, in order. Fails only where memory is refused, and the list is
-    // then as before.
-    pub(crate) fn append(&mut self, mut more: Words) -> Result<(), AllocError>
-        ensures ok { OnOk result (self.new ≡ self.old ++ more) }
-        ensures err { OnErr result (self.new ≡ self.old) }
-    {
-        self.words.append(&mut more.words)
-    }
-
+impl Items<Word> {
     /// Whether this text is among them.
     pub fn contains(&self, word: &Word) -> bool
         ensures { IsTrue result ↔ Contains self.now word.now }

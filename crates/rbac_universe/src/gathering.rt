@@ -38,7 +38,7 @@ impl Gathered {
     {
         let stems = stems_of(alloc, lists)?;
         Ok(Gathered {
-            principals: united(alloc, lists.principals.copied()?)?,
+            principals: united(alloc, lists.principals.clone()?.into_vec())?,
             namespaces: once_each(alloc, &lists.namespaces)?,
             verbs: once_each(alloc, &lists.verbs)?,
             stems: united(alloc, stems)?,

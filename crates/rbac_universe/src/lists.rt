@@ -2,9 +2,7 @@
 
 ghost use Rattle.std.specs.Prelude.{◌≡◌, IfOk};
 
-use rbac_terms::{Principal, Word, Words};
-use std::alloc::AllocError;
-use std::marker::Model;
+use rbac_terms::{Items, Principal, Word, Words};
 
 /// What a universe is made of: who asks, where, to do what, for which resources by which object
 /// names, and for which URLs (own).
@@ -25,42 +23,7 @@ pub struct UniverseLists {
 }
 
 /// A list of principals.
-#[derive(Clone, Drop)]
-pub struct Principals {
-    principals: Vec<Principal>,
-}
-
-impl Model for Principals {
-    ghost use Rattle.std.specs.Prelude.{List};
-    ghost use Rattle.rbac_terms.specs.Principals.{Who};
-
-    ghost Value = { List Who };
-
-    ghost view = { λ ps. ps.principals.items };
-}
-
-impl Principals {
-    /// These principals; takes no memory.
-    pub fn from_vec(principals: Vec<Principal>) -> Self
-        ensures { result ≡ principals.items }
-    {
-        Principals { principals }
-    }
-
-    /// The principals in the order listed.
-    pub fn as_slice(&self) -> &[Principal]
-        ensures { result.now ≡ self.now }
-    {
-        self.principals.as_slice()
-    }
-
-    // A copy of them.
-    pub(crate) fn copied(&self) -> Result<Vec<Principal>, AllocError>
-        ensures { IfOk result (λ copy. copy.items ≡ self.now) }
-    {
-        self.principals.clone()
-    }
-}
+pub type Principals = Items<Principal>;
 
 /// A resource as it is listed.
 #[derive(Clone, Drop)]
@@ -74,39 +37,4 @@ pub struct ListedResource {
 }
 
 /// A list of resources.
-#[derive(Clone, Drop)]
-pub struct ListedResources {
-    resources: Vec<ListedResource>,
-}
-
-impl Model for ListedResources {
-    ghost use Rattle.std.specs.Prelude.{List};
-    ghost use Rattle.rbac_universe.specs.declared.lists.ListedResource.{ListedResource};
-
-    ghost Value = { List ListedResource };
-
-    ghost view = { λ rs. rs.resources.items };
-}
-
-impl ListedResources {
-    /// These resources; takes no memory.
-    pub fn from_vec(resources: Vec<ListedResource>) -> Self
-        ensures { result ≡ resources.items }
-    {
-        ListedResources { resources }
-    }
-
-    /// The resources in the order listed.
-    pub fn as_slice(&self) -> &[ListedResource]
-        ensures { result.now ≡ self.now }
-    {
-        self.resources.as_slice()
-    }
-
-    // A copy of them.
-    pub(crate) fn copied(&self) -> Result<Vec<ListedResource>, AllocError>
-        ensures { IfOk result (λ copy. copy.items ≡ self.now) }
-    {
-        self.resources.clone()
-    }
-}
+pub type ListedResources = Items<ListedResource>;

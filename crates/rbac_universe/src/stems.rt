@@ -49,7 +49,7 @@ pub(crate) fn stems_of(
 ) -> Result<Vec<ListedResource>, AllocError>
     ensures { IfOk result (λ stems. stems.items ≡ stems_of lists.now) }
 {
-    let mut stems = lists.resources.copied()?;
+    let mut stems = lists.resources.clone()?.into_vec();
     for path in lists.urls.as_slice() {
         stems.push(url_stem(alloc, path)?)?;
     }
