@@ -6,7 +6,6 @@ use Rattle.std.proofs.lemmas.List.{get_or-set_same, get_or-set_other, length-set
 use Rattle.std.proofs.lemmas.List.Elements.{All-weaker, All-contains_itself, Contains-append_left, Contains-push, Contains-push_cases}
 use Rattle.std.proofs.lemmas.Option.{same_Some, slice_get_within}
 use Rattle.rbac_terms.specs.declared.matching.Rule.{Rule}
-use Rattle.rbac_terms.specs.declared.matching.Rules.{Rules}
 use Rattle.rbac_model.specs.Policies.{PolicyView}
 use Rattle.rbac_index.specs.Indexed.{IsRun, AreRuns}
 use Rattle.rbac_index.proofs.ReadLemmas.{read_now, read_some}
@@ -59,9 +58,9 @@ pub runs_below : (p : PolicyView) (rows : List (List Rule)) (n row : ℕ) (rs : 
 runs_below p rows n row rs runs at some are = All-weaker (Contains (get_or runs row [])) (λ m. m < n) (λ m w. omega (arith, some, (are.sound row m rs at w).0)) (get_or runs row []) (All-contains_itself (get_or runs row []))
 
 -- the rules to which a row leads
-module _ (rows : List (Bor Rules)) (all : List (List Rule)) (are : map (λ r. r.now) rows ≡ all) (row : ℕ) (rs : List Rule) (there : slice_get all row ≡ Some rs) where
+module _ (rows : List (Bor (List Rule))) (all : List (List Rule)) (are : map (λ r. r.now) rows ≡ all) (row : ℕ) (rs : List Rule) (there : slice_get all row ≡ Some rs) where
   pub row_within : row < length rows
-  row_within = omega (arith, slice_get_within all row rs there, ap length are, length-map {A = Bor Rules} {B = List Rule} rows (λ r. r.now))
+  row_within = omega (arith, slice_get_within all row rs there, ap length are, length-map {A = Bor (List Rule)} {B = List Rule} rows (λ r. r.now))
 
-  pub row_read : (r : Bor Rules) → r ≡ get_or rows row r → r.now ≡ rs
+  pub row_read : (r : Bor (List Rule)) → r ≡ get_or rows row r → r.now ≡ rs
   row_read r is = same_Some r.now rs (sym (read_now rows row r row_within is) ∙ ap (λ (l : List (List Rule)). slice_get l row) are ∙ there)

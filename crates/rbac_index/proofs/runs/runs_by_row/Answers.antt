@@ -2,7 +2,6 @@ use Rattle.std.proofs.Common.{◌≡◌, rules, ◌∙◌, refl, ap, ℕ, ◌<�
 use Rattle.std.proofs.lemmas.List.{length-map, get_or_default}
 use Rattle.std.proofs.lemmas.Option.{slice_get_within}
 use Rattle.rbac_terms.specs.declared.matching.Rule.{Rule}
-use Rattle.rbac_terms.specs.declared.matching.Rules.{Rules}
 use Rattle.rbac_model.specs.Policies.{Held}
 use Rattle.rbac_index.specs.Written.{written_rules, row_of}
 use Rattle.rbac_index.proofs.RunLemmas.{run_at, first_begins}
@@ -12,7 +11,7 @@ use Rattle.rbac_index.proofs.runs.runs_by_row.Goals as goal
 pub loop-no-init : goal.loop-no-init
 loop-no-init c =
     let rows : List (List Rule) = written_rules c.args.policy.now.held in
-    let len : length c.args.rows.now ≡ length rows = omega (arith, ap length c.requires, length-map {A = Bor Rules} {B = List Rule} c.args.rows.now (λ r. r.now)) in
+    let len : length c.args.rows.now ≡ length rows = omega (arith, ap length c.requires, length-map {A = Bor (List Rule)} {B = List Rule} c.args.rows.now (λ r. r.now)) in
     record {
       runs = rw (c.in_ok-runs.ensures, len) (runs_none c.args.policy.now rows);
       begins = first_begins c.args.policy.now c.objects.ensures.policy;
