@@ -11,4 +11,5 @@ pub mod StaleRules
 pub mod AllFound
 pub mod OneLines
 pub mod Listed
+pub mod Linked
 pub mod Looked

@@ -1,6 +1,6 @@
 -- places of rules, as they are listed under words
 use Rattle.std.proofs.Common.{◌≡◌, ◌≢◌, ℕ, ◌+◌, ◌<◌, ◌≤◌, ◌⊎◌, inl, inr, List, [], ◌∷◌, ◌++◌, get_or, length, take, sym, ap, ◌∙◌, refl, subst, arith, zero, suc, cond, Bool, true, false}
-use Rattle.std.specs.Prelude.{Option, Some, Contains, All, slice_get, unwrap_or}
+use Rattle.std.specs.Prelude.{Option, Some, None, Contains, slice_get, unwrap_or, is_some}
 use Rattle.std.specs.BTreeMap.{get}
 use Rattle.std.specs.Ordering.{is_eq}
 use Rattle.std.specs.declared.cmp.Ordering.{Ordering}
@@ -8,7 +8,7 @@ use Rattle.std.specs.declared.cmp.Ordering.TheVariants.{Less, Equal, Greater}
 use Rattle.std.proofs.lemmas.Bool.{cases_lt}
 use Rattle.std.proofs.lemmas.Cmp.{tied_itself, nat_list_cmp_total}
 use Rattle.std.proofs.lemmas.List.{take_more}
-use Rattle.std.proofs.lemmas.List.Elements.{All-cons, All-nil, All-more, All-weaker, Contains-append_left, Contains-push, Contains-push_cases}
+use Rattle.std.proofs.lemmas.List.Elements.{Contains-append_left, Contains-push, Contains-push_cases}
 use Rattle.std.proofs.lemmas.Map.Lookups.{exact_bytes}
 use Rattle.std.proofs.lemmas.Option.{slice_get_within, get_or_from_slice_get, same_Some}
 use Rattle.rbac_terms.specs.Text.{Text, text_cmp}
@@ -16,7 +16,7 @@ use Rattle.rbac_terms.proofs.Texts.{same_front}
 use Rattle.rbac_terms.specs.declared.matching.Rule.{Rule}
 use Rattle.rbac_lint.specs.declared.listing.Field.{Field}
 use Rattle.rbac_lint.specs.declared.listing.Field.TheVariants.{Verbs, Groups, Resources, Names, Urls, Fronts}
-use Rattle.rbac_lint.specs.Listing.{Lists, listed, words_in, IsAscending, IsFront, IsKey, TakesIn, ListsPlace, ListsAll, HasLength, HasLengths, Lengthens, AreListed}
+use Rattle.rbac_lint.specs.Listing.{Lists, listed, words_in, IsAscending, IsFront, IsKey, TakesIn, ListsPlace, ListsAll, IsListedAsBefore, AreListed}
 use Rattle.rbac_lint.proofs.Exact.{all_pairs_append}
 
 pub contains_at : {X : Type 0} (xs : List X) (k : ℕ) (x : X) → slice_get xs k ≡ Some x → Contains xs x
@@ -123,20 +123,35 @@ lists_one old new field word key place l at = record {
 
 -- ---- the words of a rule
 
-lists_same : (m : Lists) (field : Field) (words : List Text) (place : ℕ) → ((w key : Text) → Contains words w → IsKey field w key → ⊥) → ListsAll m m field words place
-lists_same m field words place none = record {
+pub lists_none : (m : Lists) (field : Field) (place : ℕ) → ListsAll m m field [] place
+lists_none m field place = record {
   kept = λ w n c. c;
-  has = λ w key c is. absurd (none w key c is);
+  has = λ w key c is. absurd (omega (arith, c.1));
   only = λ w n c. inl c;
   ascending = λ up below. up;
 }
 
-pub lists_none : (m : Lists) (field : Field) (place : ℕ) → ListsAll m m field [] place
-lists_none m field place = lists_same m field [] place (λ w key c is. absurd (omega (arith, c.1)))
+pub lists_skipped : (old new : Lists) (field : Field) (word : Text) (place : ℕ) → ((key : Text) → IsKey field word key → ⊥) → IsListedAsBefore old new → ListsAll old new field (word ∷ []) place
+lists_skipped old new field word place none same = record {
+  kept = λ w n c. subst (λ (xs : List ℕ). Contains xs n) (sym (same w)) c;
+  has = λ w key c is. absurd (none key (subst (λ (x : Text). IsKey field x key) (sym (only_word word w c.0 c.1 c.2)) is));
+  only = λ w n c. inl (subst (λ (xs : List ℕ). Contains xs n) (same w) c);
+  ascending = λ up below w. subst IsAscending (sym (same w)) (up w);
+}
 
-pub lists_skipped : (m : Lists) (field : Field) (word : Text) (place : ℕ) → ((key : Text) → IsKey field word key → ⊥) → ListsAll m m field (word ∷ []) place
-lists_skipped m field word place none =
-    lists_same m field (word ∷ []) place (λ w key c is. none key (subst (λ (x : Text). IsKey field x key) (sym (only_word word w c.0 c.1 c.2)) is))
+none_or : (o : Option (List ℕ)) → is_some o ≡ false → [] ≡ unwrap_or o []
+none_or None e = refl
+none_or (Some xs) e = cc
+
+-- a new word without places changes no list
+pub put_in_same : (old new : Lists) (word : Text) → is_some (get text_cmp old word) ≡ false
+    → ((q : Text) → get text_cmp new q ≡ cond (is_eq (text_cmp word q)) (Some []) (get text_cmp old q)) → IsListedAsBefore old new
+put_in_same old new word absent reads w = elim (same_or_not w word) [
+  | inl e ↦
+      subst (λ (x : Text). listed new x ≡ listed old x) (sym e)
+      (ap (λ (o : Option (List ℕ)). unwrap_or o []) (reads word ∙ ap (λ (b : Bool). cond b (Some []) (get text_cmp old word)) (tied word)) ∙ none_or (get text_cmp old word) absent)
+  | inr ne ↦ ap (λ (o : Option (List ℕ)). unwrap_or o []) (reads w ∙ ap (λ (b : Bool). cond b (Some []) (get text_cmp old w)) (not_tied word w ne))
+]
 
 at_most : (m new : Lists) (place : ℕ) → ((w : Text) (n : ℕ) → Contains (listed new w) n → Contains (listed m w) n ⊎ (n ≡ place))
     → ((w : Text) (n : ℕ) → Contains (listed m w) n → n ≤ place) → (w : Text) (n : ℕ) → Contains (listed new w) n → n ≤ place
@@ -175,35 +190,3 @@ listed_more field rules i r words old new at same was is = record {
   below = λ w n c. elim (is.only w n c) [ inl a ↦ let l = was.below w n a in omega (arith, l) | inr e ↦ omega (arith, e) ];
   ascending = is.ascending was.ascending (λ w n c. let l = was.below w n c in omega (arith, l));
 }
-
--- ---- how long fronts are
-
-pub lengthens_front : (old new : List ℕ) (w front : Text) → IsFront w front → new ≡ old ++ length front ∷ [] → Lengthens old new (w ∷ [])
-lengthens_front old new w front is e =
-    let has : HasLength new w = λ other f. subst (λ (l : List ℕ). Contains l (length other)) (sym e)
-    (subst (λ (x : Text). Contains (old ++ length front ∷ []) (length x)) (front_one w front other is f) (Contains-push old (length front))) in
-    (λ n c. subst (λ (l : List ℕ). Contains l n) (sym e) (Contains-append_left old (length front ∷ []) n c), All-cons (HasLength new) w [] has (All-nil (HasLength new)))
-
-pub lengthens_none : (old : List ℕ) (w : Text) → ((front : Text) → IsFront w front → ⊥) → Lengthens old old (w ∷ [])
-lengthens_none old w none = (λ n c. c, All-cons (HasLength old) w [] (λ front f. absurd (none front f)) (All-nil (HasLength old)))
-
-pub lengthens_start : (old : List ℕ) → Lengthens old old []
-lengthens_start old = (λ n c. c, All-nil (HasLength old))
-
-lengths_kept : (old new : List ℕ) → ((n : ℕ) → Contains old n → Contains new n) → (words : List Text) → All (HasLength old) words → All (HasLength new) words
-lengths_kept old new kept = All-weaker (HasLength old) (HasLength new) (λ w has front is. kept (length front) (has front is))
-
-pub lengthens_more : (old mid new : List ℕ) (words : List Text) (i : ℕ) (word : Text) → i < length words → word ≡ get_or words i word
-    → Lengthens old mid (take i words) → Lengthens mid new (word ∷ []) → Lengthens old new (take (i + 1) words)
-lengthens_more old mid new words i word lt at before step = (
-  λ n c. step.0 n (before.0 n c),
-  All-more (HasLength new) words i word lt (lengths_kept mid new step.0 (take i words) before.1) (subst (HasLength new) at (step.1 0 word (omega arith))),
-)
-
-pub lengths_else : (old new : List ℕ) (rules : List Rule) → ((n : ℕ) → Contains old n → Contains new n) → All (HasLengths old) rules → All (HasLengths new) rules
-lengths_else old new rules kept = All-weaker (HasLengths old) (HasLengths new) (λ r has. lengths_kept old new kept r.urls has) rules
-
-pub lengths_more : (old new : List ℕ) (rules : List Rule) (i : ℕ) (r : Rule) → i < length rules → r ≡ get_or rules i r
-    → All (HasLengths old) (take i rules) → Lengthens old new r.urls → All (HasLengths new) (take (i + 1) rules)
-lengths_more old new rules i r lt at before step =
-    All-more (HasLengths new) rules i r lt (lengths_else old new (take i rules) step.0 before) (subst (HasLengths new) at step.1)

@@ -1,14 +1,13 @@
 -- whatever covers a rule is listed under a word that matches one of its own
-use Rattle.std.proofs.Common.{◌≡◌, ℕ, ◌+◌, ◌<◌, ◌≤◌, ◌⊎◌, ◌↔◌, inl, inr, List, [], ◌∷◌, ◌++◌, get_or, take, length, sym, ap, ◌∙◌, refl, subst, arith, Bor, All}
-use Rattle.std.specs.Prelude.{Option, Some, None, Contains, slice_get, codes, IfSome, min}
+use Rattle.std.proofs.Common.{◌≡◌, ℕ, ◌+◌, ◌<◌, ◌≤◌, ◌⊎◌, ◌↔◌, inl, inr, List, [], ◌∷◌, ◌++◌, get_or, length, sym, ap, ◌∙◌, refl, subst, arith, Bor, All}
+use Rattle.std.specs.Prelude.{Option, Some, None, Contains, slice_get, codes, IfSome}
 use Rattle.std.proofs.lemmas.Bool.{cases_lt}
-use Rattle.std.proofs.Math.Seq.{take-append_seam}
-use Rattle.std.proofs.lemmas.List.{take_more, length-append}
+use Rattle.std.proofs.lemmas.List.{get_or_append_left, get_or_push, length-append}
 use Rattle.std.proofs.lemmas.List.Elements.{All-contains, All-nil, All-push, Contains-append_left, Contains-push, Contains-push_cases}
 use Rattle.std.proofs.lemmas.Option.{slice_get_within, get_or_from_slice_get, same_Some, slice_get-get_or}
 use Rattle.rbac_terms.specs.Text.{Text, slash, IsCutAtFirst, BeginsWith}
 use Rattle.rbac_terms.proofs.Texts.{IsCutAtFirst-one}
-use Rattle.rbac_terms.specs.Matching.{ResourceWordMatches}
+use Rattle.rbac_terms.specs.Matching.{ResourceWordMatches, EndsInStar}
 use Rattle.rbac_terms.specs.declared.matching.Rule.{Rule}
 use Rattle.rbac_model.specs.Universes.{Covers}
 use Rattle.rbac_lint.specs.Covering.{AllowsVerbs, AllowsVerb, AllowsGroups, AllowsGroup, AllowsResources, AllowsResource, AllowsNames, AllowsName, AllowsUrls, AllowsUrl, HasResource, HasUrl, GivesPath}
@@ -17,10 +16,13 @@ use Rattle.rbac_lint.specs.declared.listing.Field.{Field}
 use Rattle.rbac_lint.specs.declared.listing.Field.TheVariants.{Verbs, Groups, Resources, Names, Urls, Fronts}
 use Rattle.rbac_lint.specs.declared.listing.Listing.{Listing}
 use Rattle.rbac_lint.specs.declared.candidates.Candidates.{Candidates}
-use Rattle.rbac_lint.specs.Listing.{Lists, listed, lists_in, words_in, names_or_star, IsAscending, AreAscending, IsFront, HasLength, HasLengths, IsListingOf}
-use Rattle.rbac_lint.specs.Candidates.{IsAsked, Binds, IsFound, StandsIn, IsAmong, Ascend, Finds, AddsUnder, IsOfEach, IsFrontOf, AreMatching, CoversAt, AreCandidates, IsLeastCoverIfAny, IsRedundantBy, IsRedundantIn, AnswersLeast, sooner}
+use Rattle.rbac_lint.specs.Listing.{Lists, listed, lists_in, words_in, names_or_star, IsAscending, AreAscending, IsFront, IsStem, IsListingOf}
+use Rattle.rbac_lint.specs.Candidates.{IsAsked, Binds, IsFound, StandsIn, IsAmong, Ascend, Finds, AddsUnder, AddsFronts, IsOfEach, AreMatching, CoversAt, AreCandidates, IsLeastCoverIfAny, IsRedundantBy, IsSoonest}
+use Rattle.rbac_lint.specs.declared.fronts.Front.{Front}
+use Rattle.rbac_lint.specs.Fronts.{IsOnWay, LeadsTo, AreFronts}
 use Rattle.rbac_lint.proofs.Samples.{samples_from_Covers, resources_from_samples, urls_from_samples}
-use Rattle.rbac_lint.proofs.Urls.{GivesPath-path, UrlWordMatches-begins}
+use Rattle.rbac_lint.proofs.Urls.{GivesPath-path, UrlWordMatches-begins, below_stars}
+use Rattle.rbac_lint.proofs.Linked.{front_listed, places_ascend, here_or_on, shorter_within}
 
 -- ---- the words that match
 
@@ -58,9 +60,9 @@ found_url : (rules : List Rule) (l : Listing) (w u : Text) (n : ℕ) (a : Rule) 
     → (u ≡ w) ⊎ ((front : Text) × IsFront u front × BeginsWith w front) → IsFound Urls l w n
 found_url rules l w u n a is at has (inl e) = inl (is.urls.complete n a u w (slice_get_within rules n a at) at has e)
 found_url rules l w u n a is at has (inr f) =
-    let lt : n < length rules = slice_get_within rules n a at in
-    let known : HasLengths l.lengths.items a = All-contains (HasLengths l.lengths.items) rules a is.lengths (n, lt, get_or_from_slice_get rules n a a at) in
-    inr (f.0, f.2, All-contains (HasLength l.lengths.items) a.urls u known has f.0 f.1, is.fronts.complete n a u f.0 lt at has f.1)
+    let m = is.fronts.0 in
+    let there = front_listed m is.fronts.2.0 l.fronts.items is.fronts.2.1 f.0 n (is.fronts.1.complete n a u f.0 (slice_get_within rules n a at) at has f.1) in
+    inr (there.0, there.1, there.2, subst (BeginsWith w) (sym there.3) f.2, subst (λ (t : Text). EndsInStar t → ⊥) (sym there.3) f.1.2, there.4)
 
 -- what covers a rule is found for each of its words that is asked
 pub found : (field : Field) (rules : List Rule) (l : Listing) (b : Rule) (w : Text) (n : ℕ) → IsListingOf rules l → Binds field b → IsAsked field w → Contains (words_in field b) w
@@ -149,68 +151,70 @@ matching_found Groups rules l w c other is m = (m.0 is.groups.ascending, λ n s.
 matching_found Resources rules l w c other is m = (m.0 is.resources.ascending, λ n s. m.1 s.0 n s.1 s.2)
 matching_found Names rules l w c other is m = (m.0 is.names.ascending, λ n s. m.1 s.0 n s.1 s.2)
 matching_found Urls rules l w c other is m = absurd (other refl)
-matching_found Fronts rules l w c other is m = (m.0 is.fronts.ascending, λ n s. m.1 s.0 n s.1 s.2)
+matching_found Fronts rules l w c other is m = (m.0 is.urls.ascending, λ n s. m.1 s.0 n s.1 s.2)
 
--- those under the fronts of a URL
-begins : (w front : Text) → BeginsWith w front → take (length front) w ≡ front
-begins w front b = ap (λ (t : Text). take (length front) t) b.1 ∙ take-append_seam front b.0
-
-shorter : (w front : Text) → BeginsWith w front → length front ≤ length w
-shorter w front b = omega (arith, ap length b.1, length-append front b.0)
-
-pub record HasFronts (l : Listing) (w : Text) (lengths : List ℕ) (c : Candidates) : Type 0 where
-  pub own : (n : ℕ) → Contains (listed l.urls w) n → IsAmong c n
-  pub fronts : (len n : ℕ) (u : Text) → Contains lengths len → IsFrontOf w len u → Contains (listed l.fronts u) n → IsAmong c n
-  pub ascending : AreAscending l.urls → AreAscending l.fronts → Ascend c
-
-pub fronts_start : (l : Listing) (w : Text) (none c : Candidates) → none.lists.items ≡ [] → AddsUnder l.urls (λ u. u ≡ w) none c → HasFronts l w [] c
-fronts_start l w none c e a = record {
-  own = λ n s. a.has w n refl s;
-  fronts = λ len n u k is s. absurd (omega (arith, k.1));
-  ascending = λ up more. a.ascending up (subst (λ (ls : List (Bor (List ℕ))). All (λ x. IsAscending x.now) ls) (sym e) (All-nil (λ x. IsAscending x.now)));
-}
-
-pub fronts_more : (l : Listing) (w : Text) (lengths : List ℕ) (i : ℕ) (old new : Candidates) → i < length lengths
-    → HasFronts l w (take i lengths) old → AddsUnder l.fronts (IsFrontOf w (get_or lengths i 0)) old new → HasFronts l w (take (i + 1) lengths) new
-fronts_more l w lengths i old new lt was a =
-    let more : take (i + 1) lengths ≡ take i lengths ++ get_or lengths i 0 ∷ [] = take_more lengths i 0 lt in
-    record {
-      own = λ n s. a.kept n (was.own n s);
-      fronts = λ k n u h is s. elim (Contains-push_cases (take i lengths) (get_or lengths i 0) k (subst (λ (ls : List ℕ). Contains ls k) more h)) [
-        | inl before ↦ a.kept n (was.fronts k n u before is s)
-        | inr same ↦ a.has u n (subst (λ (x : ℕ). IsFrontOf w x u) (sym same) is) s
-      ];
-      ascending = λ up more. a.ascending more (was.ascending up more);
-    }
-
-pub fronts_found : (rules : List Rule) (l : Listing) (w : Text) (c : Candidates) → IsListingOf rules l → HasFronts l w l.lengths.items c → Finds Urls l w c
-fronts_found rules l w c is has = (
-  has.ascending is.urls.ascending is.fronts.ascending,
+-- those of a URL, and of the fronts with which it begins
+pub fronts_found : (rules : List Rule) (l : Listing) (w stem : Text) (none own c : Candidates) → IsListingOf rules l → none.lists.items ≡ [] → IsStem w stem
+    → AddsUnder l.urls (λ u. u ≡ w) none own → AddsFronts l.fronts.items stem own c → Finds Urls l w c
+fronts_found rules l w stem none own c is e of a b = (
+  b.ascending (places_ascend is.fronts.0 is.fronts.2.0 l.fronts.items is.fronts.2.1 is.fronts.1.ascending)
+      (a.ascending is.urls.ascending (subst (λ (ls : List (Bor (List ℕ))). All (λ x. IsAscending x.now) ls) (sym e) (All-nil (λ x. IsAscending x.now)))),
   λ n s. elim s [
-    | inl own ↦ has.own n own
-    | inr f ↦ has.fronts (length f.0) n f.0 f.2 (shorter w f.0 f.1, sym (begins w f.0 f.1)) f.3
+    | inl here ↦ b.kept n (a.has w n refl here)
+    | inr f ↦ b.has f.0 f.1 n f.2 (below_stars stem f.1.text f.3.0 of.0 f.4 (sym of.1 ∙ f.3.1)) f.5
   ],
 )
 
+-- what is added of fronts: all of the text's that aren't on the way yet
+pub record HasFronts (fronts : List Front) (text : Text) (old new : Candidates) (way : Option ℕ) : Type 0 where
+  pub kept : (n : ℕ) → IsAmong old n → IsAmong new n
+  pub has : (j : ℕ) (g : Front) (n : ℕ) → slice_get fronts j ≡ Some g → BeginsWith text g.text → Contains g.places n → IsAmong new n ⊎ IsOnWay fronts way j g.text
+  pub ascending : All (λ f. IsAscending f.places) fronts → Ascend old → Ascend new
+  pub within : IfSome way (λ i. i < length fronts)
+
+pub fronts_start : (fronts : List Front) (text : Text) (old : Candidates) (way : Option ℕ) → LeadsTo fronts (length fronts) text way → IfSome way (λ i. i < length fronts)
+    → HasFronts fronts text old old way
+fronts_start fronts text old way leads lt = record {
+  kept = λ n s. s;
+  has = λ j g n at begins c. inr (leads j g (slice_get_within fronts j g at) at begins);
+  ascending = λ all up. up;
+  within = lt;
+}
+
+pub fronts_more : (fronts : List Front) (text : Text) (first old new : Candidates) (p : ℕ) (f : Front) (places : Bor (List ℕ)) → AreFronts fronts → slice_get fronts p ≡ Some f
+    → places.now ≡ f.places → new.lists.items ≡ old.lists.items ++ places ∷ [] → HasFronts fronts text first old (Some p) → HasFronts fronts text first new f.shorter
+fronts_more fronts text first old new p f places are here same e was =
+    let there : (P : List (Bor (List ℕ)) → Type 0) → P (old.lists.items ++ places ∷ []) → P new.lists.items = λ P h. subst P (sym e) h in
+    let own : (n : ℕ) → Contains f.places n → IsAmong new n =
+    λ n c. there (λ ls. StandsIn ls n) (stands_push old.lists.items places n (subst (λ (ns : List ℕ). Contains ns n) (sym same) c)) in
+    let kept : (n : ℕ) → IsAmong old n → IsAmong new n = λ n s. there (λ ls. StandsIn ls n) (stands_kept old.lists.items (places ∷ []) n s) in
+    let lt = slice_get_within fronts p f here in
+    record {
+      kept = λ n s. kept n (was.kept n s);
+      has = λ j g n at begins c. elim (was.has j g n at begins c) [
+        | inl s ↦ inl (kept n s)
+        | inr way ↦ elim (here_or_on fronts p f j g are.linked here at way) [
+          | inl one ↦ inl (own n (subst (λ (x : Front). Contains x.places n) one c))
+          | inr on ↦ inr on
+        ]
+      ];
+      ascending = λ all up. there (λ ls. All (λ x. IsAscending x.now) ls)
+          (All-push (λ x. IsAscending x.now) old.lists.items places (was.ascending all up)
+          (subst IsAscending (sym same) (subst (λ (x : Front). IsAscending x.places) (get_or_from_slice_get fronts p f f here) (all p f lt))));
+      within = shorter_within fronts p f are.linked here;
+    }
+
+pub fronts_all : (fronts : List Front) (text : Text) (old new : Candidates) (way : Option ℕ) → way ≡ None → HasFronts fronts text old new way → AddsFronts fronts text old new
+fronts_all fronts text old new way end was = record {
+  kept = was.kept;
+  has = λ j f n at begins c. elim (was.has j f n at begins c) [
+    | inl s ↦ s
+    | inr on ↦ absurd (subst (λ (o : Option ℕ). IsOnWay fronts o j f.text) end on)
+  ];
+  ascending = was.ascending;
+}
+
 -- ---- the least of places
-
-least_min : (P Q : ℕ → Type 0) (i j : ℕ) → AnswersLeast P (Some i) → AnswersLeast Q (Some j) → AnswersLeast (λ n. P n ⊎ Q n) (Some (min i j))
-least_min P Q i j p q = elim (cases_lt i j) [
-  | inl lt ↦ let same : min i j ≡ i = omega (arith, lt) in
-      subst (λ (k : ℕ). AnswersLeast (λ n. P n ⊎ Q n) (Some k)) (sym same) (inl p.0, λ k s. elim s [ inl a ↦ p.1 k a | inr b ↦ omega (arith, lt, q.1 k b) ])
-  | inr le ↦ let same : min i j ≡ j = omega (arith, le) in
-      subst (λ (k : ℕ). AnswersLeast (λ n. P n ⊎ Q n) (Some k)) (sym same) (inr q.0, λ k s. elim s [ inl a ↦ omega (arith, le, p.1 k a) | inr b ↦ q.1 k b ])
-]
-
-least_of_two : (P Q : ℕ → Type 0) (a b : Option ℕ) → AnswersLeast P a → AnswersLeast Q b → AnswersLeast (λ n. P n ⊎ Q n) (sooner a b)
-least_of_two P Q None None p q = λ n s. elim s [ inl a ↦ p n a | inr b ↦ q n b ]
-least_of_two P Q None (Some j) p q = (inr q.0, λ k s. elim s [ inl a ↦ absurd (p k a) | inr b ↦ q.1 k b ])
-least_of_two P Q (Some i) None p q = (inl p.0, λ k s. elim s [ inl a ↦ p.1 k a | inr b ↦ absurd (q k b) ])
-least_of_two P Q (Some i) (Some j) p q = least_min P Q i j p q
-
-least_same : (P Q : ℕ → Type 0) (o : Option ℕ) → ((n : ℕ) → P n ↔ Q n) → AnswersLeast P o → AnswersLeast Q o
-least_same P Q None same none = λ n q. none n ((same n).1 q)
-least_same P Q (Some i) same least = ((same i).0 least.0, λ k q. least.1 k ((same k).1 q))
 
 -- what makes a rule redundant covers it
 covers_at : (rules : List Rule) (i j : ℕ) (b : Rule) → slice_get rules i ≡ Some b → MakesRedundant rules i j → CoversAt rules b j
@@ -219,35 +223,61 @@ covers_at rules i j b here m =
     let same : m.0 ≡ b = same_Some m.0 b (sym m.2 ∙ here) in
     (m.1, m.3, subst (λ (x : Rule). Covers m.1 x) same m.4.1)
 
-pub least_cover : (rules : List Rule) (i : ℕ) (b : Rule) (c : Candidates) (o : Option ℕ) → slice_get rules i ≡ Some b → AreCandidates rules b c
-    → AnswersLeast (IsRedundantIn rules i c.lists.items) o → IsLeastCoverIfAny rules i o
+-- the least so far is below all but those of the lists that are left
+pub record Narrows (rules : List Rule) (i : ℕ) (lists : List (Bor (List ℕ))) (first : ℕ) : Type 0 where
+  pub holds : (first ≡ length rules) ⊎ MakesRedundant rules i first
+  pub least : (n : ℕ) → MakesRedundant rules i n → StandsIn lists n ⊎ (first ≤ n)
+  pub ascending : All (λ places. IsAscending places.now) lists
+
+pub narrows_start : (rules : List Rule) (i : ℕ) (b : Rule) (c : Candidates) → slice_get rules i ≡ Some b → AreCandidates rules b c → Narrows rules i c.lists.items (length rules)
 unfolding AreCandidates
-least_cover rules i b c o here are =
-    least_same (IsRedundantIn rules i c.lists.items) (MakesRedundant rules i) o (λ n. (λ x. x.0, λ m. (m, are.1 n (covers_at rules i n b here m))))
+narrows_start rules i b c here are = record {
+  holds = inl refl;
+  least = λ n m. inl (are.1 n (covers_at rules i n b here m));
+  ascending = are.0;
+}
 
--- the least of more lists
-pub least_start : (rules : List Rule) (i : ℕ) → AnswersLeast (IsRedundantIn rules i []) None
-least_start rules i = λ n x. omega (arith, x.1.2)
+pub last_ascends : (rules : List Rule) (i : ℕ) (lists : List (Bor (List ℕ))) (p : Bor (List ℕ)) (first : ℕ) → Narrows rules i (lists ++ p ∷ []) first → IsAscending p.now
+last_ascends rules i lists p first was =
+    subst (λ (x : Bor (List ℕ)). IsAscending x.now) (get_or_push lists p p (length lists) refl) (was.ascending (length lists) p (omega (arith, length-append lists (p ∷ []))))
 
-more_lists : (rules : List Rule) (i : ℕ) (lists : List (Bor (List ℕ))) (p : Bor (List ℕ)) (n : ℕ)
-    → (IsRedundantIn rules i lists n ⊎ IsRedundantBy rules i p.now n) ↔ IsRedundantIn rules i (lists ++ p ∷ []) n
-more_lists rules i lists p n = (
-  λ s. elim s [ inl x ↦ (x.0, stands_kept lists (p ∷ []) n x.1) | inr x ↦ (x.0, stands_push lists p n x.1) ],
-  λ x. elim (stands_cases lists p n x.1) [ inl y ↦ inl (x.0, y) | inr y ↦ inr (x.0, y) ],
+pub narrows_more : (rules : List Rule) (i : ℕ) (lists : List (Bor (List ℕ))) (p : Bor (List ℕ)) (first next : ℕ) → Narrows rules i (lists ++ p ∷ []) first
+    → IsSoonest rules i p.now first next → Narrows rules i lists next
+narrows_more rules i lists p first next was is = record {
+  holds = elim is.holds [
+    | inl e ↦ subst (λ (n : ℕ). (n ≡ length rules) ⊎ MakesRedundant rules i n) (sym e) was.holds
+    | inr m ↦ inr m
+  ];
+  least = λ n m. elim (was.least n m) [
+    | inl s ↦ elim (stands_cases lists p n s) [
+      | inl left ↦ inl left
+      | inr c ↦ inr (is.least n (m, c))
+    ]
+    | inr le ↦ let below = is.below in inr (omega (arith, le, below))
+  ];
+  ascending = λ k d lt.
+      subst (λ (x : Bor (List ℕ)). IsAscending x.now) (get_or_append_left lists (p ∷ []) d k lt) (was.ascending k d (omega (arith, lt, length-append lists (p ∷ []))));
+}
+
+none_left : (rules : List Rule) (i first : ℕ) (lists : List (Bor (List ℕ))) → length lists ≡ 0 → Narrows rules i lists first → (n : ℕ) → MakesRedundant rules i n → first ≤ n
+none_left rules i first lists none was n m = elim (was.least n m) [
+  | inl s ↦ absurd (omega (arith, s.2, none))
+  | inr le ↦ le
+]
+
+pub narrowed : (rules : List Rule) (i first : ℕ) (lists : List (Bor (List ℕ))) → length lists ≡ 0 → Narrows rules i lists first → first < length rules
+    → IsLeastCoverIfAny rules i (Some first)
+narrowed rules i first lists none was lt = (
+  elim was.holds [ inl e ↦ absurd (omega (arith, e, lt)) | inr m ↦ m ],
+  none_left rules i first lists none was,
 )
 
-pub least_more : (rules : List Rule) (i : ℕ) (lists : List (Bor (List ℕ))) (k : ℕ) (d : Bor (List ℕ)) (a b o : Option ℕ) → k < length lists
-    → AnswersLeast (IsRedundantIn rules i (take k lists)) a → AnswersLeast (IsRedundantBy rules i (get_or lists k d).now) b → o ≡ sooner a b → AnswersLeast (IsRedundantIn rules i (take (k + 1) lists)) o
-least_more rules i lists k d a b o lt before here e =
-    let p : Bor (List ℕ) = get_or lists k d in
-    subst (λ (ls : List (Bor (List ℕ))). AnswersLeast (IsRedundantIn rules i ls) o) (sym (take_more lists k d lt))
-    (subst (λ (x : Option ℕ). AnswersLeast (IsRedundantIn rules i (take k lists ++ p ∷ [])) x) (sym e)
-    (least_same (λ n. IsRedundantIn rules i (take k lists) n ⊎ IsRedundantBy rules i p.now n) (IsRedundantIn rules i (take k lists ++ p ∷ [])) (sooner a b) (more_lists rules i (take k lists) p)
-    (least_of_two (IsRedundantIn rules i (take k lists)) (IsRedundantBy rules i p.now) a b before here)))
-
-pub least_within : (rules : List Rule) (i : ℕ) (o : Option ℕ) → IsLeastCoverIfAny rules i o → IfSome o (λ j. j < length rules)
-least_within rules i None h = tt
-least_within rules i (Some j) h = slice_get_within rules j h.0.1 h.0.3
+pub narrowed_none : (rules : List Rule) (i first : ℕ) (lists : List (Bor (List ℕ))) → length lists ≡ 0 → Narrows rules i lists first → length rules ≤ first
+    → IsLeastCoverIfAny rules i None
+narrowed_none rules i first lists none was ge n m =
+    let le = none_left rules i first lists none was n m in
+    let lt = slice_get_within rules n m.1 m.3 in
+    omega (arith, ge, le, lt)
 
 -- ---- the first of places
 
@@ -270,9 +300,9 @@ pub first_none : (rules : List Rule) (i : ℕ) (listed : List ℕ) (count : ℕ)
 first_none rules i listed count all before n r =
     before r.1.0 n (omega (arith, all, r.1.1)) (slice_get-get_or listed r.1.0 n r.1.1 ∙ ap (λ (x : ℕ). Some x) r.1.2) r.0
 
-pub first_least : (rules : List Rule) (i : ℕ) (listed : List ℕ) (count n : ℕ) → IsAscending listed → slice_get listed count ≡ Some n → MakesRedundant rules i n → NoneFirst rules i listed count
+pub first_least : (rules : List Rule) (i : ℕ) (listed : List ℕ) (count n : ℕ) → IsAscending listed → slice_get listed count ≡ Some n → NoneFirst rules i listed count
     → (k : ℕ) → IsRedundantBy rules i listed k → n ≤ k
-first_least rules i listed count n up at holds before k r =
+first_least rules i listed count n up at before k r =
     let there : slice_get listed r.1.0 ≡ Some k = slice_get-get_or listed r.1.0 k r.1.1 ∙ ap (λ (x : ℕ). Some x) r.1.2 in
     elim (cases_lt r.1.0 count) [
       | inl lt ↦ absurd (before r.1.0 k lt there r.0)
@@ -287,6 +317,29 @@ first_least rules i listed count n up at holds before k r =
             omega (arith, same)
       ]
     ]
+
+pub soonest_here : (rules : List Rule) (i : ℕ) (listed : List ℕ) (count n limit : ℕ) → IsAscending listed → slice_get listed count ≡ Some n → n < limit → MakesRedundant rules i n
+    → NoneFirst rules i listed count → IsSoonest rules i listed limit n
+soonest_here rules i listed count n limit up at lt holds before = record {
+  below = omega (arith, lt);
+  holds = inr holds;
+  least = first_least rules i listed count n up at before;
+}
+
+pub soonest_limit : (rules : List Rule) (i : ℕ) (listed : List ℕ) (count n limit : ℕ) → IsAscending listed → slice_get listed count ≡ Some n → limit ≤ n
+    → NoneFirst rules i listed count → IsSoonest rules i listed limit limit
+soonest_limit rules i listed count n limit up at le before = record {
+  below = omega arith;
+  holds = inl refl;
+  least = λ k r. let far = first_least rules i listed count n up at before k r in omega (arith, le, far);
+}
+
+pub soonest_none : (rules : List Rule) (i : ℕ) (listed : List ℕ) (count limit : ℕ) → count ≡ length listed → NoneFirst rules i listed count → IsSoonest rules i listed limit limit
+soonest_none rules i listed count limit all before = record {
+  below = omega arith;
+  holds = inl refl;
+  least = λ k r. absurd (first_none rules i listed count all before k r);
+}
 
 -- ---- the fewest places
 

@@ -26,7 +26,7 @@ below_star : (f q rest : Text) → (EndsInStar q → ⊥) → f ++ star ∷ [] �
 below_star f q [] none e = absurd (none (f, sym (append-nil q) ∙ sym e))
 below_star f q (c ∷ rest) none e = within_front f q (c ∷ rest) (star ∷ []) (omega (arith, ap length e, length-append f (star ∷ []), length-append q (c ∷ rest))) e
 
-below_stars : (f q rest : Text) (k : ℕ) → (EndsInStar q → ⊥) → f ++ replicate k star ≡ q ++ rest → BeginsWith f q
+pub below_stars : (f q rest : Text) (k : ℕ) → (EndsInStar q → ⊥) → f ++ replicate k star ≡ q ++ rest → BeginsWith f q
 below_stars f q rest zero none e = (rest, sym (append-nil f) ∙ e)
 below_stars f q rest (suc k) none e =
     let b : BeginsWith (f ++ replicate k star) q = below_star (f ++ replicate k star) q rest none (sym (one_more_star f k) ∙ e) in

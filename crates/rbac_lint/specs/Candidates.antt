@@ -1,13 +1,14 @@
 -- Where to look for the rules that cover a rule: in the lists of the words that match one of its own.
-use Rattle.std.specs.Prelude.{◌≡◌, ℕ, ◌≤◌, ◌⊎◌, ◌++◌, List, Option, Some, None, min, MatchOption, All, Any, Contains, codes, length, slice_get, take}
+use Rattle.std.specs.Prelude.{◌≡◌, ℕ, ◌≤◌, ◌⊎◌, ◌++◌, List, Option, Some, MatchOption, All, Any, Contains, codes, slice_get}
 use Rattle.std.proofs.Common.{Bor}
 use Rattle.rbac_terms.specs.Text.{Text, BeginsWith}
-use Rattle.rbac_terms.specs.Matching.{ResourceWordMatches, FollowsFirstSlash}
+use Rattle.rbac_terms.specs.Matching.{ResourceWordMatches, FollowsFirstSlash, EndsInStar}
 use Rattle.rbac_terms.specs.declared.matching.Rule.{Rule}
 use Rattle.rbac_model.specs.Universes.{Covers}
 use Rattle.rbac_lint.specs.Covering.{IsResourceText, IsPath, HasResource, HasUrl}
 use Rattle.rbac_lint.specs.Findings.{MakesRedundant}
 use Rattle.rbac_lint.specs.Listing.{Lists, listed, lists_in, IsAscending, AreAscending}
+use Rattle.rbac_lint.specs.declared.fronts.Front.{Front}
 use Rattle.rbac_lint.specs.declared.listing.Field.{Field}
 use Rattle.rbac_lint.specs.declared.listing.Field.TheVariants.{Verbs, Groups, Resources, Names, Urls, Fronts}
 use Rattle.rbac_lint.specs.declared.listing.Listing.{Listing}
@@ -31,7 +32,7 @@ IsAsked field w = Unit {0}
 -- a place is listed under a word that matches this one: it is `*`, the word itself, or `*/` and what follows the word's first slash; for a URL it is the word, or a front of it
 abbrev pub IsFound : Field → Listing → Text → ℕ → Type 0
 IsFound Urls l w n = Contains (listed l.urls w) n
-    ⊎ ((front : Text) × BeginsWith w front × Contains l.lengths.items (length front) × Contains (listed l.fronts front) n)
+    ⊎ ((j : ℕ) × (f : Front) × (slice_get l.fronts.items j ≡ Some f) × BeginsWith w f.text × (¬ EndsInStar f.text) × Contains f.places n)
 IsFound field l w n = (u : Text) × ResourceWordMatches u w × Contains (listed (lists_in field l) u) n
 
 -- a place stands in one of these lists
@@ -54,12 +55,15 @@ pub record AddsUnder (m : Lists) (P : Text → Type 0) (old new : Candidates) : 
   pub has : (u : Text) (n : ℕ) → P u → Contains (listed m u) n → IsAmong new n
   pub ascending : AreAscending m → Ascend old → Ascend new
 
--- the words that match this one: each resource's with its subresource; and of a URL the front of that length, if it is as long
+-- new has old's places, and those of the fronts with which the text begins
+pub record AddsFronts (fronts : List Front) (text : Text) (old new : Candidates) : Type 0 where
+  pub kept : (n : ℕ) → IsAmong old n → IsAmong new n
+  pub has : (j : ℕ) (f : Front) (n : ℕ) → slice_get fronts j ≡ Some f → BeginsWith text f.text → Contains f.places n → IsAmong new n
+  pub ascending : All (λ f. IsAscending f.places) fronts → Ascend old → Ascend new
+
+-- the words that match this one: each resource's with its subresource
 abbrev pub IsOfEach : Text → Text → Type 0
 IsOfEach w u = (s : Text) × (u ≡ codes "*/" ++ s) × FollowsFirstSlash w s
-
-abbrev pub IsFrontOf : Text → ℕ → Text → Type 0
-IsFrontOf w len u = (len ≤ length w) × (u ≡ take len w)
 
 -- the places under the words that match a resource text, in ascending lists
 abbrev pub AreMatching : Lists → Text → Candidates → Type 0
@@ -81,15 +85,12 @@ AnswersLeast P o = MatchOption o ((n : ℕ) → ¬ P n) (λ n. P n × ((k : ℕ)
 abbrev pub IsLeastCoverIfAny : List Rule → ℕ → Option ℕ → Type 0
 IsLeastCoverIfAny rules i o = AnswersLeast (MakesRedundant rules i) o
 
--- a place of the list, or of one of the lists, whose rule makes the one at a place redundant
+-- a place of the list whose rule makes the one at a place redundant
 abbrev pub IsRedundantBy : List Rule → ℕ → List ℕ → ℕ → Type 0
 IsRedundantBy rules place places n = MakesRedundant rules place n × Contains places n
 
-abbrev pub IsRedundantIn : List Rule → ℕ → List (Bor (List ℕ)) → ℕ → Type 0
-IsRedundantIn rules place lists n = MakesRedundant rules place n × StandsIn lists n
-
--- the lesser of two numbers, if there is one
-abbrev pub sooner : Option ℕ → Option ℕ → Option ℕ
-sooner None b = b
-sooner (Some a) None = Some a
-sooner (Some a) (Some b) = Some (min a b)
+-- the least such place, if it is below the limit, or else the limit
+pub record IsSoonest (rules : List Rule) (place : ℕ) (places : List ℕ) (limit n : ℕ) : Type 0 where
+  pub below : n ≤ limit
+  pub holds : (n ≡ limit) ⊎ MakesRedundant rules place n
+  pub least : (k : ℕ) → IsRedundantBy rules place places k → n ≤ k

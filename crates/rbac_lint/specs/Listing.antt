@@ -4,6 +4,8 @@ use Rattle.std.specs.BTreeMap.{BTreeMap, get}
 use Rattle.rbac_terms.specs.Text.{Text, star, text_cmp}
 use Rattle.rbac_terms.specs.Matching.{EndsInStar}
 use Rattle.rbac_terms.specs.declared.matching.Rule.{Rule}
+use Rattle.rbac_lint.specs.declared.fronts.Front.{Front}
+use Rattle.rbac_lint.specs.Fronts.{AreEntriesOf, AreFronts}
 use Rattle.rbac_lint.specs.declared.listing.Field.{Field}
 use Rattle.rbac_lint.specs.declared.listing.Field.TheVariants.{Verbs, Groups, Resources, Names, Urls, Fronts}
 use Rattle.rbac_lint.specs.declared.listing.Listing.{Listing}
@@ -40,6 +42,10 @@ words_in Fronts r = r.urls
 abbrev pub IsFront : Text → Text → Type 0
 IsFront w front = (k : ℕ) × (w ≡ front ++ replicate (k + 1) star) × (¬ EndsInStar front)
 
+-- a word without the stars at its end, if it has some
+abbrev pub IsStem : Text → Text → Type 0
+IsStem w stem = (k : ℕ) × (w ≡ stem ++ replicate k star)
+
 -- under what a word is listed: itself, or its front
 abbrev pub IsKey : Field → Text → Text → Type 0
 IsKey Fronts w key = IsFront w key
@@ -58,6 +64,10 @@ pub record TakesIn (old new : List ℕ) (place : ℕ) : Type 0 where
 abbrev pub ListsPlace : Lists → Lists → Text → ℕ → Type 0
 ListsPlace old new word place = TakesIn (listed old word) (listed new word) place × ((w : Text) → w ≢ word → listed new w ≡ listed old w)
 
+-- under each word the same is listed
+abbrev pub IsListedAsBefore : Lists → Lists → Type 0
+IsListedAsBefore old new = (w : Text) → listed new w ≡ listed old w
+
 -- the place is listed for each of the words, and nothing else is
 pub record ListsAll (old new : Lists) (field : Field) (words : List Text) (place : ℕ) : Type 0 where
   pub kept : (w : Text) (n : ℕ) → Contains (listed old w) n → Contains (listed new w) n
@@ -71,15 +81,9 @@ pub record AreListed (field : Field) (rules : List Rule) (count : ℕ) (m : List
   pub below : (w : Text) (n : ℕ) → Contains (listed m w) n → n < count
   pub ascending : AreAscending m
 
--- how long the front of the word is, if it has one, is among these; and so for words, and for a rule's URLs
-abbrev pub HasLength : List ℕ → Text → Type 0
-HasLength lengths w = (front : Text) → IsFront w front → Contains lengths (length front)
-
-abbrev pub Lengthens : List ℕ → List ℕ → List Text → Type 0
-Lengthens old new words = ((n : ℕ) → Contains old n → Contains new n) × All (HasLength new) words
-
-abbrev pub HasLengths : List ℕ → Rule → Type 0
-HasLengths lengths r = All (HasLength lengths) r.urls
+-- rules are listed under their fronts, which stand in order
+abbrev pub AreListedAsFronts : List Rule → List Front → Type 0
+AreListedAsFronts rules fronts = (m : Lists) × AreListed Fronts rules (length rules) m × AreEntriesOf m fronts
 
 -- all rules are listed for all their words
 pub record IsListingOf (rules : List Rule) (l : Listing) : Type 0 where
@@ -89,14 +93,14 @@ pub record IsListingOf (rules : List Rule) (l : Listing) : Type 0 where
   pub resources : AreListed Resources rules (length rules) l.resources
   pub names : AreListed Names rules (length rules) l.names
   pub urls : AreListed Urls rules (length rules) l.urls
-  pub fronts : AreListed Fronts rules (length rules) l.fronts
-  pub lengths : All (HasLengths l.lengths.items) rules
+  pub fronts : AreListedAsFronts rules l.fronts.items
+  pub linked : AreFronts l.fronts.items
 
--- the lists under the words of one of a rule's lists
+-- the lists under the words of one of a rule's lists; fronts stand apart, beside their URLs
 abbrev pub lists_in : Field → Listing → Lists
 lists_in Verbs l = l.verbs
 lists_in Groups l = l.groups
 lists_in Resources l = l.resources
 lists_in Names l = l.names
 lists_in Urls l = l.urls
-lists_in Fronts l = l.fronts
+lists_in Fronts l = l.urls

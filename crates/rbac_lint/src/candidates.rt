@@ -6,10 +6,12 @@ ghost use Rattle.std.specs.Prelude.{◌≡◌, ◌++◌, ◌∷◌, [], ◌⊎�
 ghost use Rattle.rbac_terms.specs.declared.matching.Rule.{Rule as RuleView};
 ghost use Rattle.rbac_lint.specs.declared.listing.Field.TheVariants.{Urls};
 ghost use Rattle.rbac_lint.specs.Listing.{IsListingOf};
-ghost use Rattle.rbac_lint.specs.Candidates.{IsAsked, Binds, Finds, AddsUnder, IsOfEach, IsFrontOf, AreMatching, AreCandidates};
+ghost use Rattle.rbac_lint.specs.Fronts.{AreFronts};
+ghost use Rattle.rbac_lint.specs.Candidates.{IsAsked, Binds, Finds, AddsUnder, AddsFronts, IsOfEach, AreMatching, AreCandidates};
 
 use crate::covering::{has_resource, has_url, is_path, is_resource_text};
-use crate::listing::{Field, Listing, Places, under, words_in};
+use crate::fronts::{Front, last_up_to};
+use crate::listing::{Field, Listing, Places, stem_of, under, words_in};
 use rbac_terms::{Rule, Word, cut_at_first};
 use std::alloc::{AllocError, Global};
 use std::collections::BTreeMap;
@@ -59,6 +61,7 @@ pub(crate) fn fewest_for<'a>(
     listing: &'a Listing,
     rule: &'a Rule,
 ) -> Result<Option<Candidates<'a>>, AllocError>
+    requires { AreFronts listing.now.fronts.items }
     ensures { IfOk result (λ o. (rules : List RuleView) → IsListingOf rules listing.now → IfSome o (AreCandidates rules rule.now)) }
 {
     if has_resource(rule) {
@@ -82,6 +85,7 @@ fn fewest_in<'a>(
     field: Field,
     best: Option<Candidates<'a>>,
 ) -> Result<Option<Candidates<'a>>, AllocError>
+    requires { AreFronts listing.now.fronts.items }
     ensures { IfOk result (λ o. (rules : List RuleView) → IsListingOf rules listing.now → Binds field rule.now → IfSome best.entry (AreCandidates rules rule.now) → IfSome o (AreCandidates rules rule.now)) }
 {
     let mut fewest = best;
@@ -121,6 +125,7 @@ fn candidates_for<'a>(
     field: Field,
     word: &Word,
 ) -> Result<Candidates<'a>, AllocError>
+    requires { AreFronts listing.now.fronts.items }
     ensures { IfOk result (λ c. (rules : List RuleView) → IsListingOf rules listing.now → Finds field listing.now word.now c) }
 {
     match field {
@@ -168,30 +173,30 @@ fn starting<'a>(
     listing: &'a Listing,
     word: &Word,
 ) -> Result<Candidates<'a>, AllocError>
+    requires { AreFronts listing.now.fronts.items }
     ensures { IfOk result (λ c. (rules : List RuleView) → IsListingOf rules listing.now → Finds Urls listing.now word.now c) }
 {
-    let fronts = listing.lists(Field::Fronts);
     let mut candidates = Candidates::new(alloc);
     candidates.add_under(listing.lists(Field::Urls), word)?;
-    for length in listing.lengths.as_slice() {
-        add_front(alloc, &mut candidates, fronts, word.as_bytes(), *length)?;
-    }
+    let stem = stem_of(word.as_bytes());
+    add_fronts(&mut candidates, listing.fronts.as_slice(), stem)?;
     Ok(candidates)
 }
 
-// Adds the places under the front of this length, if the word has one.
-fn add_front<'a>(
-    alloc: Global,
+// Adds the places of the fronts with which a text begins, and few others: the shortest come last.
+fn add_fronts<'a>(
     candidates: &mut Candidates<'a>,
-    fronts: &'a BTreeMap<Word, Places>,
-    word: &[u8],
-    length: usize,
+    fronts: &'a [Front],
+    text: &[u8],
 ) -> Result<(), AllocError>
-    ensures { OnOk result (AddsUnder fronts.now (IsFrontOf word.now length) candidates.old candidates.new) }
+    requires { AreFronts fronts.now }
+    ensures { OnOk result (AddsFronts fronts.now text.now candidates.old candidates.new) }
 {
-    if word.len() < length {
-        return Ok(());
+    let mut next = last_up_to(fronts, text);
+    while let Some(place) = next {
+        let front = &fronts[place];
+        candidates.add(front.places.as_slice())?;
+        next = front.shorter;
     }
-    let front = Word::from_slice(alloc, &word[..length])?;
-    candidates.add_under(fronts, &front)
+    Ok(())
 }

@@ -8,6 +8,7 @@ mod dangling;
 mod escalation;
 mod fault;
 mod finding;
+mod fronts;
 mod laws;
 mod linting;
 mod listing;

@@ -1,10 +1,11 @@
 //! The places of a role's rules, listed under the words that they hold.
 
-ghost use Rattle.std.specs.Prelude.{◌≡◌, ◌++◌, ◌∷◌, [], Contains, All, IfOk, OnOk, IsTrue, MatchOption, codes, length};
+ghost use Rattle.std.specs.Prelude.{◌≡◌, ◌++◌, ◌∷◌, [], Contains, IfOk, OnOk, IsTrue, MatchOption, codes, length};
 ghost use Rattle.rbac_terms.specs.Text.{Text, star};
 ghost use Rattle.rbac_terms.specs.Matching.{EndsInStar};
-ghost use Rattle.rbac_lint.specs.Listing.{listed, lists_in, words_in, IsFront, IsKey, TakesIn, ListsPlace, ListsAll, HasLengths, Lengthens, AreListed, IsListingOf};
+ghost use Rattle.rbac_lint.specs.Listing.{listed, lists_in, words_in, IsFront, IsKey, IsStem, TakesIn, ListsPlace, ListsAll, IsListedAsBefore, AreListed, IsListingOf};
 
+use crate::fronts::{Front, fronts_of};
 use rbac_terms::{Rule, Word};
 use std::alloc::{AllocError, Global};
 use std::collections::BTreeMap;
@@ -35,7 +36,7 @@ impl Places {
         }
     }
 
-    fn as_slice(&self) -> &[usize]
+    pub(crate) fn as_slice(&self) -> &[usize]
         ensures { result.now ≡ self.now }
     {
         self.items.as_slice()
@@ -80,9 +81,7 @@ pub(crate) struct Listing {
     resources: BTreeMap<Word, Places>,
     names: BTreeMap<Word, Places>,
     urls: BTreeMap<Word, Places>,
-    fronts: BTreeMap<Word, Places>,
-    // How long the fronts are, each length once.
-    pub(crate) lengths: Vec<usize>,
+    pub(crate) fronts: Vec<Front>,
 }
 
 // Lists these rules.
@@ -95,8 +94,7 @@ pub(crate) fn listing_of(alloc: Global, rules: &[Rule]) -> Result<Listing, Alloc
     let resources = lists_of(alloc, rules, &star, Field::Resources)?;
     let names = lists_of(alloc, rules, &star, Field::Names)?;
     let urls = lists_of(alloc, rules, &star, Field::Urls)?;
-    let fronts = lists_of(alloc, rules, &star, Field::Fronts)?;
-    let lengths = lengths_of(alloc, rules)?;
+    let fronts = fronts_of(alloc, lists_of(alloc, rules, &star, Field::Fronts)?)?;
     Ok(Listing {
         star,
         verbs,
@@ -105,7 +103,6 @@ pub(crate) fn listing_of(alloc: Global, rules: &[Rule]) -> Result<Listing, Alloc
         names,
         urls,
         fronts,
-        lengths,
     })
 }
 
@@ -161,7 +158,7 @@ fn list_all(
     Ok(())
 }
 
-// Lists a place for one word.
+// Lists a place for one word. One that has no front is put among the fronts, with no place.
 fn list_for(
     alloc: Global,
     lists: &mut BTreeMap<Word, Places>,
@@ -172,7 +169,7 @@ fn list_for(
     ensures { OnOk result (ListsAll lists.old lists.new field (word.now ∷ []) place) }
 {
     let Some(key) = key_of(field, word.as_bytes()) else {
-        return Ok(());
+        return put_in(alloc, lists, word);
     };
     list_under(alloc, lists, Word::from_slice(alloc, key)?, place)
 }
@@ -201,6 +198,16 @@ fn front_of(word: &[u8]) -> Option<&[u8]>
     Some(front)
 }
 
+// A word without the stars at its end, if it has some.
+pub(crate) fn stem_of(word: &[u8]) -> &[u8]
+    ensures { IsStem word.now result.now }
+{
+    match front_of(word) {
+        Some(stem) => stem,
+        None => word,
+    }
+}
+
 fn without_star(text: &[u8]) -> Option<&[u8]>
     ensures { MatchOption result (¬ EndsInStar text.now) (λ before. text.now ≡ before.now ++ star ∷ []) }
 {
@@ -227,35 +234,15 @@ fn list_under(
     Ok(())
 }
 
-// How long the fronts of these rules are, each length once.
-fn lengths_of(alloc: Global, rules: &[Rule]) -> Result<Vec<usize>, AllocError>
-    ensures { IfOk result (λ v. All (HasLengths v.items) rules.now) }
+// Puts a word among those that have places, with none of its own if it is new.
+fn put_in(alloc: Global, lists: &mut BTreeMap<Word, Places>, word: &Word) -> Result<(), AllocError>
+    ensures { OnOk result (IsListedAsBefore lists.old lists.new) }
 {
-    let mut lengths = Vec::new(alloc);
-    for rule in rules {
-        push_lengths(&mut lengths, rule.urls.as_slice())?;
+    if lists.contains_key(word) {
+        return Ok(());
     }
-    lengths.sort_unstable();
-    lengths.dedup();
-    Ok(lengths)
-}
-
-// Adds how long the fronts of these words are.
-fn push_lengths(lengths: &mut Vec<usize>, words: &[Word]) -> Result<(), AllocError>
-    ensures { OnOk result (Lengthens lengths.old.items lengths.new.items words.now) }
-{
-    for word in words {
-        push_length(lengths, word.as_bytes())?;
-    }
-    Ok(())
-}
-
-fn push_length(lengths: &mut Vec<usize>, word: &[u8]) -> Result<(), AllocError>
-    ensures { OnOk result (Lengthens lengths.old.items lengths.new.items (word.now ∷ [])) }
-{
-    if let Some(front) = front_of(word) {
-        lengths.push(front.len())?;
-    }
+    let key = Word::from_slice(alloc, word.as_bytes())?;
+    lists.insert(key, Places::new(alloc))?;
     Ok(())
 }
 
@@ -270,7 +257,7 @@ pub(crate) fn under<'a>(lists: &'a BTreeMap<Word, Places>, word: &Word) -> &'a [
 }
 
 impl Listing {
-    // The places under the words of one list.
+    // The places under the words of one list; fronts stand apart, beside their URLs.
     pub(crate) fn lists(&self, field: Field) -> &BTreeMap<Word, Places>
         ensures { result.now ≡ lists_in field self.now }
     {
@@ -279,8 +266,7 @@ impl Listing {
             Field::Groups => &self.groups,
             Field::Resources => &self.resources,
             Field::Names => &self.names,
-            Field::Urls => &self.urls,
-            Field::Fronts => &self.fronts,
+            Field::Urls | Field::Fronts => &self.urls,
         }
     }
 }

@@ -6,7 +6,8 @@ ghost use Rattle.rbac_model.specs.Sources.{source_of};
 ghost use Rattle.rbac_terms.specs.declared.matching.Rule.{Rule as RuleView};
 ghost use Rattle.rbac_lint.specs.Lines.{Adds, OfEach};
 ghost use Rattle.rbac_lint.specs.Listing.{IsAscending, IsListingOf};
-ghost use Rattle.rbac_lint.specs.Candidates.{AreCandidates, IsRedundantBy, IsLeastCoverIfAny, AnswersLeast, sooner as sooner_of};
+ghost use Rattle.rbac_lint.specs.Fronts.{AreFronts};
+ghost use Rattle.rbac_lint.specs.Candidates.{AreCandidates, IsLeastCoverIfAny, IsSoonest};
 ghost use Rattle.rbac_lint.specs.Findings.{CoversAll, MakesRedundantAt, MakesRedundant, IsRedundantAt, IsRedundantOf, IsRedundant};
 
 use crate::candidates::{Candidates, fewest_for};
@@ -112,7 +113,7 @@ fn covering_rule(
     ensures within { IfOk result (λ o. IfSome o (λ j. j < length rules.now)) }
 {
     match candidates_if_listed(alloc, listing, rule)? {
-        Some(candidates) => Ok(first_of(rules, &candidates, place, rule)),
+        Some(candidates) => Ok(first_of(rules, candidates, place, rule)),
         None => Ok(first_of_all(rules, place, rule)),
     }
 }
@@ -122,6 +123,7 @@ fn candidates_if_listed<'a>(
     listing: Option<&'a Listing>,
     rule: &'a Rule,
 ) -> Result<Option<Candidates<'a>>, AllocError>
+    requires { ForSome listing (λ l. AreFronts l.now.fronts.items) }
     ensures { IfOk result (λ o. (rules : List RuleView) → ForSome listing.entry (λ l. IsListingOf rules l.now) → IfSome o (AreCandidates rules rule.now)) }
 {
     match listing {
@@ -130,43 +132,45 @@ fn candidates_if_listed<'a>(
     }
 }
 
-// The same among candidates.
-fn first_of(rules: &[Rule], candidates: &Candidates<'_>, place: usize, rule: &Rule) -> Option<usize>
+// The same among candidates. The last lists come first: they are of the shortest fronts, which cover
+// the most, and a list needs no look from the place on that is found already.
+fn first_of(
+    rules: &[Rule],
+    mut candidates: Candidates<'_>,
+    place: usize,
+    rule: &Rule,
+) -> Option<usize>
     requires here { slice_get rules.now place ≡ Some rule.now }
-    requires complete { AreCandidates rules.now rule.now candidates.now }
+    requires complete { AreCandidates rules.now rule.now candidates }
     ensures least { IsLeastCoverIfAny rules.now place result }
     ensures within { IfSome result (λ j. j < length rules.now) }
 {
-    let mut first = None;
-    for listed in candidates.lists.as_slice() {
-        first = sooner(first, first_listed(rules, listed, place, rule));
+    let mut first = rules.len();
+    while let Some(listed) = candidates.lists.pop() {
+        first = first_listed(rules, listed, first, place, rule);
     }
-    first
-}
-
-// The lesser place.
-fn sooner(a: Option<usize>, b: Option<usize>) -> Option<usize>
-    ensures { result ≡ sooner_of a b }
-{
-    match (a, b) {
-        (Some(a), Some(b)) => Some(a.min(b)),
-        (Some(a), None) => Some(a),
-        (None, b) => b,
+    if first < rules.len() {
+        Some(first)
+    } else {
+        None
     }
 }
 
-// The least of these places whose rule makes this one redundant.
-fn first_listed(rules: &[Rule], listed: &[usize], place: usize, rule: &Rule) -> Option<usize>
+// The least of these places, below the limit, whose rule makes this one redundant, or the limit.
+fn first_listed(rules: &[Rule], listed: &[usize], limit: usize, place: usize, rule: &Rule) -> usize
     requires here { slice_get rules.now place ≡ Some rule.now }
     requires ascending { IsAscending listed.now }
-    ensures { AnswersLeast (IsRedundantBy rules.now place listed.now) result }
+    ensures { IsSoonest rules.now place listed.now limit result }
 {
     for other in listed {
+        if limit <= *other {
+            return limit;
+        }
         if is_redundant_by(rules, place, rule, *other) {
-            return Some(*other);
+            return *other;
         }
     }
-    None
+    limit
 }
 
 // Whether the rule at the other place makes this one redundant.

@@ -7,8 +7,10 @@ use Rattle.rbac_lint.proofs.listing.list_for.Goals as goal
 
 pub returns-in_default : goal.returns-in_default
 returns-in_default c =
-    lists_skipped c.args.lists.now c.args.field c.args.word.now c.args.place
-    (subst (λ (x : Text). (key : Text) → IsKey c.args.field x key → ⊥) c.as_bytes.ensures c.in_default.ensures)
+    on_ok c.put_in.result _ _
+    (λ same. lists_skipped c.args.lists.now c.put_in.new.lists c.args.field c.args.word.now c.args.place
+    (subst (λ (x : Text). (key : Text) → IsKey c.args.field x key → ⊥) c.as_bytes.ensures c.in_default.ensures) same)
+    c.put_in.ensures
 
 pub returns : goal.returns
 returns c =
