@@ -38,7 +38,7 @@ impl Gathered {
     {
         let stems = stems_of(alloc, lists)?;
         Ok(Gathered {
-            principals: united(alloc, lists.principals.clone()?.into_vec())?,
+            principals: united(alloc, principals_of(lists)?)?,
             namespaces: once_each(alloc, &lists.namespaces)?,
             verbs: once_each(alloc, &lists.verbs)?,
             stems: united(alloc, stems)?,
@@ -66,6 +66,13 @@ impl Gathered {
     {
         count_targets(self.stems.as_slice(), self.names.as_slice()) <= MOST_TARGETS
     }
+}
+
+// A copy of the principals, in the order listed.
+fn principals_of(lists: &UniverseLists) -> Result<Vec<Principal>, AllocError>
+    ensures { IfOk result (λ copy. copy.items ≡ lists.now.principals) }
+{
+    Ok(lists.principals.clone()?.into_vec())
 }
 
 // The texts once each, in order.

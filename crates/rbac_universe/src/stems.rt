@@ -49,11 +49,18 @@ pub(crate) fn stems_of(
 ) -> Result<Vec<ListedResource>, AllocError>
     ensures { IfOk result (λ stems. stems.items ≡ stems_of lists.now) }
 {
-    let mut stems = lists.resources.clone()?.into_vec();
+    let mut stems = resources_of(lists)?;
     for path in lists.urls.as_slice() {
         stems.push(url_stem(alloc, path)?)?;
     }
     Ok(stems)
+}
+
+// A copy of the resources, in the order listed.
+fn resources_of(lists: &UniverseLists) -> Result<Vec<ListedResource>, AllocError>
+    ensures { IfOk result (λ copy. copy.items ≡ lists.now.resources) }
+{
+    Ok(lists.resources.clone()?.into_vec())
 }
 
 fn url_stem(alloc: Global, path: &Word) -> Result<ListedResource, AllocError>

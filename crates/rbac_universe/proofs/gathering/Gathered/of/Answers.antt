@@ -9,7 +9,7 @@ returns c =
     let names = c.in_ok-once_each-3.field-0.items in
     record {
       sets = record {
-        principals = principals_united lists.principals c.in_ok-united.field-0.items (rw c.in_ok-copied.ensures at c.in_ok-united.ensures);
+        principals = principals_united lists.principals c.in_ok-united.field-0.items (rw c.in_ok-principals_of.ensures at c.in_ok-united.ensures);
         namespaces = c.in_ok-once_each.ensures;
         verbs = c.in_ok-once_each-2.ensures;
         ordered = ordered lists c.requires stems names (rw c.in_ok-stems.ensures at c.in_ok-united-2.ensures) c.in_ok-once_each-3.ensures;
