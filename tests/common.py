@@ -6,12 +6,18 @@ import os
 TOP = os.path.dirname(os.path.dirname(os.path.abspath(__file__)))
 PROGRAM = os.path.join(TOP, 'crates/rbacaudit/out/rbacaudit')
 V1 = 'rbac.authorization.k8s.io/v1'
+V1BETA1 = V1 + 'beta1'
 PODS = {'verbs': ['get'], 'apiGroups': [''], 'resources': ['pods']}
 results = []
 
 
 def export(*items):
     return json.dumps({'apiVersion': 'v1', 'kind': 'List', 'items': items}).encode()
+
+
+def bare(document):
+    """A document as an item of the list that implies its kind and version."""
+    return {field: value for field, value in document.items() if field not in ('apiVersion', 'kind')}
 
 
 def told(name, well, said=''):

@@ -21,9 +21,10 @@ import sys
 import tempfile
 import time
 
-from common import PROGRAM, TOP, V1
+from common import PROGRAM, TOP, V1, V1BETA1, bare
 
 RBAC = 'rbac.authorization.k8s.io'
+RBAC_VERSIONS = V1, V1BETA1
 DEEPEST = 127
 
 
@@ -151,11 +152,14 @@ M7 = first_refused('M7 bad subject %d', 'subjects', is_subject)
 M8 = refused('M8 bad selector', may(is_aggregation), 'aggregationRule')
 M9 = refused('M9 bad API resource list', is_catalogue)
 M10 = refused('M10 bad universe', is_universe)
+RBAC_KINDS = {
+    'Role': (M4, M5_ROLE),
+    'ClusterRole': (M4, M5_CLUSTER_ROLE, M8),
+    'RoleBinding': (M4, M6, M7),
+    'ClusterRoleBinding': (M4, M6_CLUSTER, M7),
+}
 TABLE = {
-    (V1, 'Role'): (M4, M5_ROLE),
-    (V1, 'ClusterRole'): (M4, M5_CLUSTER_ROLE, M8),
-    (V1, 'RoleBinding'): (M4, M6, M7),
-    (V1, 'ClusterRoleBinding'): (M4, M6_CLUSTER, M7),
+    **{(version, kind): rows for version in RBAC_VERSIONS for kind, rows in RBAC_KINDS.items()},
     ('v1', 'Namespace'): (M4,),
     ('v1', 'ServiceAccount'): (M4,),
     ('v1', 'APIResourceList'): (M9,),
@@ -164,8 +168,7 @@ TABLE = {
 }
 # Each list, and which kind its items have that don't say theirs.
 LISTS = {('v1', 'List'): None, ('v1', 'NamespaceList'): 'Namespace', ('v1', 'ServiceAccountList'): 'ServiceAccount',
-         (V1, 'RoleList'): 'Role', (V1, 'ClusterRoleList'): 'ClusterRole',
-         (V1, 'RoleBindingList'): 'RoleBinding', (V1, 'ClusterRoleBindingList'): 'ClusterRoleBinding'}
+         **{(version, kind + 'List'): kind for version in RBAC_VERSIONS for kind in RBAC_KINDS}}
 NEED_A_VERSION = {kind for _, kind in [*TABLE, *LISTS]} - {'APIResourceList'}
 
 
@@ -179,7 +182,7 @@ def document_fault(document, list_version=None, list_kind=None):
         return M2
     if version is None and kind in NEED_A_VERSION or not may(is_text)(version):
         return M3
-    if version and version.startswith(RBAC + '/') and version != V1:
+    if version and version.startswith(RBAC + '/') and version not in RBAC_VERSIONS:
         return M3
     return next(filter(None, (row(document) for row in TABLE.get((version, kind), ()))), None)
 
@@ -266,10 +269,6 @@ ALONE = [
 ]
 
 
-def bare(document):
-    return {field: value for field, value in document.items() if field not in ('apiVersion', 'kind')}
-
-
 def listed(version, kind):
     """A list whose items tell their kinds, and before them, where the list implies it, the same without."""
     implied = LISTS[version, kind]
@@ -291,7 +290,8 @@ MISSING = Raw()
 SHAPES = [MISSING, None, True, 5, '', 'x', [], [None], ['x'], [[]], [['x']], [{}], {}, {'x': None}, {'x': 'y'}]
 # What a field may be mistaken for, by its name.
 WORDS = {
-    'apiVersion': ['v1', 'v2', V1, V1 + 'beta1', RBAC + '/', RBAC, 'rbacaudit/v1', 'Rbac.authorization.k8s.io/v2', ' v1'],
+    'apiVersion': ['v1', 'v2', V1, V1BETA1, V1 + 'alpha1', V1 + 'beta', V1BETA1 + '0', V1BETA1 + ' ', 'v1beta1', RBAC + '/', RBAC,
+                   'rbacaudit/v1', 'Rbac.authorization.k8s.io/v2', ' v1'],
     'kind': [*sorted(NEED_A_VERSION), 'APIResourceList', 'User', 'Group', 'user', 'Gadget', 'APIVersions'],
     'operator': ['In', 'NotIn', 'Exists', 'DoesNotExist', 'in', 'Gt'],
     'groupVersion': ['v1', 'apps/v1', 'a/b/c', '/', '//', '/v1', 'apps/'],

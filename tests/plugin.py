@@ -16,7 +16,7 @@ import sys
 import tempfile
 import time
 
-from common import PROGRAM, TOP, V1, tested, told
+from common import PROGRAM, TOP, V1, V1BETA1, tested, told
 
 PLUGIN = os.path.join(TOP, 'plugin', 'kubectl-rbacaudit')
 SHELLS = ['dash' if shutil.which('dash') else 'sh', 'bash']
@@ -359,6 +359,10 @@ def questions(it):
     it.told('lint reads roles and bindings alone', len(it.lines('calls')) == 2, 'other calls')
     it.run('who-can', 'get', 'pods', '--context', 'far')
     it.told('a question passes its context on', set(it.lines('targets')) == {'--context=far'}, 'another')
+    it.serve({name: {**value, 'items': [{**item, 'apiVersion': V1BETA1} for item in value['items']]}
+              for name, value in served().items() if name in ('cluster', 'namespaced')})
+    it.expect('a question to a cluster that serves v1beta1', ['can-i', *KIM, '--why', 'list', 'pods'], 0, granted)
+    it.expect('lint of such a cluster', ['lint'], 1, FINDINGS)
 
 
 @in_each_shell

@@ -11,7 +11,7 @@ import subprocess
 import sys
 import tempfile
 
-from common import PODS, PROGRAM, TOP, V1, export, tested, told
+from common import PODS, PROGRAM, TOP, V1, V1BETA1, bare, export, tested, told
 from transcripts import example_cluster, loop_of_pages, transcripts
 
 MOST_BYTES = 67_108_864
@@ -45,6 +45,10 @@ def binding(kind, name, role_kind, role_name, namespace=None):
             'roleRef': {'kind': role_kind, 'name': role_name}, 'subjects': [{'kind': 'User', 'name': 'alice'}]}
 
 
+def listed(version, kind, *items):
+    return json.dumps({'apiVersion': version, 'kind': kind, 'items': items}).encode()
+
+
 ALICE_GETS_PODS = ['can-i', '--as', 'alice', 'get', 'pods']
 BOUND = binding('RoleBinding', 'b', 'Role', 'r', 'default')
 GRANTED = export(role('default', 'r', [PODS]), BOUND)
@@ -67,11 +71,14 @@ def streams():
                 file.write(text)
             return path
 
-        roles = put('roles.json', json.dumps({'apiVersion': V1, 'kind': 'RoleList', 'items': [
-            {'metadata': {'name': 'r'}, 'rules': [PODS]}]}).encode())
+        roles = put('roles.json', listed(V1, 'RoleList', {'metadata': {'name': 'r'}, 'rules': [PODS]}))
         bindings = put('bindings.json', export(BOUND))
         missing = os.path.join(room, 'missing.json')
         expect('two files are one export', ALICE_GETS_PODS + [roles, bindings], 0, b'yes\n')
+        older = put('older.json', listed(V1BETA1, 'RoleBindingList', bare(BOUND)))
+        expect('lists of both versions are one export', ALICE_GETS_PODS + [roles, older], 0, b'yes\n')
+        expect('a list of one version replaces objects of the other', ['lint', older, roles, bindings], 1,
+               b'L7\treplaced-object\tRoleBinding/default/b\t-\t1\n')
         expect('a missing file', ALICE_GETS_PODS + [missing], 2, err=b'rbacaudit: file 1: I1 read fault\n')
         expect('the first fault of the files stands', ALICE_GETS_PODS + [roles, missing, missing], 2,
                err=b'rbacaudit: file 2: I1 read fault\n')
@@ -205,8 +212,9 @@ def matrix_streams():
 
 def lint_streams():
     """Lint of an input that is a list of its own kind, of a bad document, on a full disk, and its help."""
-    expect('lint of a RoleList', ['lint'], 1, b'L2\tunused-role\tRole/dev/r\t-\t-\n', given=json.dumps(
-        {'apiVersion': V1, 'kind': 'RoleList', 'items': [{'metadata': {'name': 'r', 'namespace': 'dev'}, 'rules': None}]}).encode())
+    for version in (V1, V1BETA1):
+        expect('lint of a RoleList of %s' % version, ['lint'], 1, b'L2\tunused-role\tRole/dev/r\t-\t-\n', given=listed(
+            version, 'RoleList', {'metadata': {'name': 'r', 'namespace': 'dev'}, 'rules': None}))
     expect('lint of a bad document', ['lint'], 2, err=b'rbacaudit: file 1: M2 not an object\n', given=b'[]')
     with open('/dev/full', 'wb') as full:
         ended = run(['lint'], export(role('dev', 'r', [PODS])), stdout=full)

@@ -22,7 +22,7 @@ import sys
 import tempfile
 import threading
 
-from common import PODS, PROGRAM, TOP, V1, export, tested, told
+from common import PODS, PROGRAM, TOP, V1, V1BETA1, export, tested, told
 
 NO_MEMORY = b'rbacaudit: out of memory\n'
 READ_FAULT = b'rbacaudit: file 1: I1 read fault\n'
@@ -53,12 +53,12 @@ LONG = 'readers-of-everything-in-all-shops'
 AGGREGATED = {'clusterRoleSelectors': [
     {'matchLabels': {'for': 'admins'}, 'matchExpressions': [{'key': 'tier', 'operator': 'NotIn', 'values': ['gone']}]}]}
 
-# Each kind of document, each kind of subject, an aggregated role, and names of both lengths.
+# Each kind of document, both versions, each kind of subject, an aggregated role, and names of both lengths.
 WORKED = [
     item('ClusterRole', {'name': LONG, 'labels': {'for': 'admins'}}, rules=[
         PODS, {'verbs': ['get'], 'nonResourceURLs': ['/healthz*']}]),
     item('ClusterRole', {'name': 'admin'}, aggregationRule=AGGREGATED, rules=[]),
-    item('Role', {'namespace': 'dev', 'name': 'r'}, rules=[
+    item('Role', {'namespace': 'dev', 'name': 'r'}, V1BETA1, rules=[
         {'verbs': ['delete'], 'apiGroups': [''], 'resources': ['pods'], 'resourceNames': ['a']}]),
     item('ClusterRoleBinding', {'name': 'a'}, roleRef=role_ref('ClusterRole', 'admin'),
          subjects=[{'kind': 'Group', 'name': 'dev'}, *users('alice')]),

@@ -1,19 +1,31 @@
 -- Kind and version of a document, which a list may imply for its items.
-use Rattle.std.specs.Prelude.{ℕ, ◌&&◌, Bool, true, false, not, nat_eq, List, [], ◌∷◌, codes, Option, Some, None, option_map, unwrap_or, if◌then◌else◌}
+use Rattle.std.specs.Prelude.{ℕ, ◌&&◌, ◌||◌, Bool, true, false, not, nat_eq, List, [], ◌∷◌, codes, Option, Some, None, option_map, unwrap_or, if◌then◌else◌}
 use Rattle.std.specs.Str.{bytes_eq}
 use Rattle.std.specs.List.{starts_with, list_any, find}
 use Rattle.serde_json.specs.Data.{Data}
 use Rattle.serde_json.specs.Find.{as_str}
-use Rattle.rbac_manifest.specs.Fields.{field}
+use Rattle.rbac_manifest.specs.Fields.{◌>>=◌, field}
 use Rattle.rbac_manifest.specs.declared.kind.Kind.{Kind}
 use Rattle.rbac_manifest.specs.declared.kind.Kind.TheVariants as kinds
 use Rattle.rbac_manifest.specs.declared.kind.Implied.{Implied}
 use Rattle.rbac_manifest.specs.declared.kind.Row.{Row}
 use Rattle.rbac_manifest.specs.declared.kind.Implied.TheVariants as lists
 
--- the version of the RBAC group that is read
+-- the version of the RBAC group that the table names
 abbrev pub rbac_v1 : List ℕ
 rbac_v1 = codes "rbac.authorization.k8s.io/v1"
+
+-- the older version of the group: the same fields, defaults and lists (Kubernetes API)
+abbrev pub rbac_v1beta1 : List ℕ
+rbac_v1beta1 = codes "rbac.authorization.k8s.io/v1beta1"
+
+-- a version of the group as it is read: both of these as the table's, and no other
+abbrev pub rbac_version : List ℕ → Option (List ℕ)
+rbac_version v = if bytes_eq v rbac_v1 || bytes_eq v rbac_v1beta1 then Some rbac_v1 else None
+
+-- a version as it is read, unless it is one of the RBAC group that isn't
+unfoldable pub version_read : List ℕ → Option (List ℕ)
+version_read v = if starts_with nat_eq v (codes "rbac.authorization.k8s.io/") then rbac_version v else Some v
 
 -- the kind that a list implies for its items
 abbrev pub implied_kind : Implied → Option (List ℕ)
@@ -50,7 +62,7 @@ pub record Reading : Type 0 where
   pub kind : List ℕ
   pub means : Kind
 
--- the table of the pairs that are read; a list of objects implies the kind of its items (Kubernetes API, own for Universe)
+-- the table of the pairs that are read, with versions as they are read; a list of objects implies the kind of its items (Kubernetes API, own for Universe)
 abbrev pub kinds_read : List Reading
 kinds_read =
     record { version = rbac_v1; kind = codes "Role"; means = kinds.Role }
@@ -83,15 +95,6 @@ asks_version kind row = bytes_eq kind row.kind && not (is_api_list row.means)
 unfoldable pub needs_version : List ℕ → Bool
 needs_version kind = list_any (asks_version kind) kinds_read
 
--- a version of the RBAC group that isn't read
-unfoldable pub is_unread_version : List ℕ → Bool
-is_unread_version v = starts_with nat_eq v (codes "rbac.authorization.k8s.io/") && not (bytes_eq v rbac_v1)
-
--- a version that may stand there
-abbrev pub version_read : Option (List ℕ) → Option (List ℕ)
-version_read None = None
-version_read (Some v) = if is_unread_version v then None else Some v
-
 -- the implied version, or where the kind needs none `v1`, which an API resource list is of (own)
 abbrev pub version_implied : Bool → Option (List ℕ) → Option (List ℕ)
 version_implied needed None = if needed then None else Some (codes "v1")
@@ -100,9 +103,9 @@ version_implied needed (Some v) = Some v
 -- a field's own version, or where the field is missing the implied one
 abbrev pub version_or : Bool → Option (List ℕ) → Option Data → Option (List ℕ)
 version_or needed implied None = version_implied needed implied
-version_or needed implied (Some d) = version_read (as_str d)
+version_or needed implied (Some d) = as_str d >>= version_read
 
--- the version of a document of this kind, unless it is bad
+-- the version of a document of this kind as it is read, unless it is bad
 unfoldable pub version_at : Implied → List ℕ → Data → Option (List ℕ)
 version_at implied kind d = version_or (needs_version kind) (implied_version implied) (field (codes "apiVersion") d)
 

@@ -3,7 +3,7 @@
 ghost use Rattle.std.specs.Prelude.{◌≡◌, ◌≢◌, IfErr, map, option_map};
 ghost use Rattle.std.specs.List.{list_any};
 ghost use Rattle.serde_json.specs.View.{view};
-ghost use Rattle.rbac_manifest.specs.Kinds.{as_reading, is_row, meaning_in, implied_kind, implied_version, kind_at, asks_version, needs_version, is_unread_version, version_at, kind_named, kind_of};
+ghost use Rattle.rbac_manifest.specs.Kinds.{as_reading, is_row, meaning_in, implied_kind, implied_version, kind_at, asks_version, needs_version, version_read, version_at, kind_named, kind_of};
 ghost use Rattle.rbac_manifest.specs.Walk.{bad_header};
 ghost use Rattle.rbac_manifest.specs.Reads.{Loads};
 ghost use Rattle.rbac_manifest.specs.declared.fault.Cause.TheVariants.{NoMemory};
@@ -21,7 +21,10 @@ macro_rules! rbac_group {
 
 pub(crate) const RBAC_GROUP: &str = rbac_group!("");
 
+// The version of the group that the table names, and the older one, which is read as it.
 const RBAC_V1: &str = rbac_group!("/v1");
+
+const RBAC_V1BETA1: &str = rbac_group!("/v1beta1");
 
 const RBAC_FRONT: &str = rbac_group!("/");
 
@@ -33,7 +36,7 @@ struct Row {
     means: Kind,
 }
 
-// The pairs that are read.
+// The pairs that are read, with versions as they are read.
 const KINDS_READ: [Row; 15] = [
     Row {
         version: RBAC_V1,
@@ -210,23 +213,29 @@ fn asks_version(row: &Row, kind: &str) -> bool
     row.kind == kind && !matches!(row.means, Kind::ApiList)
 }
 
-// Whether this is a version of the RBAC group that is not read.
-#[tactic(auto, unfolding(crate::specs::Kinds::is_unread_version))]
-fn is_unread_version(version: &str) -> bool
-    ensures { result ≡ is_unread_version version.now }
+// A version as it is read: v1beta1 of the RBAC group as its v1, and none where it is another one of that group.
+#[tactic(auto, unfolding(crate::specs::Kinds::version_read))]
+fn version_read(version: &str) -> Option<&str>
+    ensures { option_map (λ s. s.now) result ≡ version_read version.now }
 {
-    version.as_bytes().starts_with(RBAC_FRONT.as_bytes()) && version != RBAC_V1
+    if !version.as_bytes().starts_with(RBAC_FRONT.as_bytes()) {
+        return Some(version);
+    }
+    if version == RBAC_V1 || version == RBAC_V1BETA1 {
+        return Some(RBAC_V1);
+    }
+    None
 }
 
-// The text of a document's version, its own or the implied one; `v1` where the kind needs none.
+// The text of a document's version as it is read, its own or the implied one; `v1` where the kind needs none.
 #[tactic(auto, unfolding(crate::specs::Kinds::version_at))]
 fn version_text<'v>(document: &'v Value, implied: Implied, kind: &str) -> Option<&'v str>
     ensures { option_map (λ s. s.now) result ≡ version_at implied kind.now (view document.now) }
 {
     match field(document, "apiVersion") {
         Some(version) => match version.as_str() {
-            Some(version) if !is_unread_version(version) => Some(version),
-            _ => None,
+            Some(version) => version_read(version),
+            None => None,
         },
         None => match implied.version() {
             Some(version) => Some(version),

@@ -186,7 +186,8 @@ fn unresolved(fault: ResolveFault) -> LoadFault
 
 /// Reads inputs, in order, to what they give: the policy of their objects, of each kind, namespace
 /// and name the last (own), the catalogue of their API resource lists, what the lists of a universe
-/// are made of, and which objects were replaced. Documents of other kinds are passed over.
+/// are made of, and which objects were replaced. Version v1beta1 of the RBAC group is read as v1
+/// (Kubernetes API). Documents of other kinds are passed over.
 ///
 /// # Errors
 ///
