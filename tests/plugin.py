@@ -524,6 +524,13 @@ def subresources(it):
     it.expect('unknown: pods/exce of a fresh export', ['can-i', *KIM, '--subresource', 'exce', 'get', 'pods'], 1, 'no\n',
               SLIP % 'subresource pods/exce')
     it.expect('a name is no subresource', ['can-i', '--export', 'prod', *KIM, 'get', 'pods/exce'], 0, 'yes\n')
+    named = 'kubectl-rbacaudit: %s/log is taken for an object named log: to ask about the subresource, write %s --subresource log\n'
+    for type_ in ('pods', 'po'):
+        dana_alone(it, 'a name that is one: %s/log' % type_, ['drain', type_ + '/log'], named % (type_, type_))
+    for given in (['pods/log', '--subresource', 'log'], ['pods/'], ['pods/log/x'], ['no/log'], ['pods.metrics.k8s.io/log']):
+        dana_alone(it, 'a name that is none: %s' % ' '.join(given), ['drain', *given])
+    dana_alone(it, 'nor is a name of an unknown type', ['drain', 'machines.consoles.example.com/console'],
+               SLIP % 'type machines.consoles.example.com')
     it.expect('a subresource of a URL ends before', ['who-can', '--export', 'prod', '--subresource', 'exce', 'get', '/metrics'], 2, '',
               'rbacaudit: U3 subresource with a URL\n')
 
