@@ -527,7 +527,7 @@ def subresources(it):
     named = 'kubectl-rbacaudit: %s/log is taken for an object named log: to ask about the subresource, write %s --subresource log\n'
     for type_ in ('pods', 'po'):
         dana_alone(it, 'a name that is one: %s/log' % type_, ['drain', type_ + '/log'], named % (type_, type_))
-    for given in (['pods/log', '--subresource', 'log'], ['pods/'], ['pods/log/x'], ['no/log'], ['pods.metrics.k8s.io/log']):
+    for given in (['pods/log', '--subresource', 'log'], ['pods/'], ['pods/log/x'], ['pods/x/log'], ['no/log'], ['pods.metrics.k8s.io/log']):
         dana_alone(it, 'a name that is none: %s' % ' '.join(given), ['drain', *given])
     dana_alone(it, 'nor is a name of an unknown type', ['drain', 'machines.consoles.example.com/console'],
                SLIP % 'type machines.consoles.example.com')
