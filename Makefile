@@ -14,7 +14,7 @@ run:
 	@if [ -x $(PROGRAM) ] && [ -z "$$(find $(SOURCES) -newer $(PROGRAM) | head -n 1)" ]; then \
 	    $(PROGRAM) $(QUESTION) examples/shop.json; \
 	else \
-	    echo 'make run: this answer is not of a proved build, and takes a minute or two; make build makes one' >&2; \
+	    echo 'make run: this answer is not of a proved build, and takes a few minutes; make build makes one' >&2; \
 	    cd crates/rbacaudit && rt try --data shop.json=../../examples/shop.json -- $(QUESTION) shop.json; \
 	fi
 

@@ -7,6 +7,7 @@ read, and refuses, fails, dies or hangs where a check tells it to. The last line
 import contextlib
 import json
 import os
+import re
 import resource
 import shutil
 import signal
@@ -470,9 +471,19 @@ def gaps(it):
     it.expect('no API lists', [*UPDATE, '--export', 'prod'], 2, '', missing + REFUSAL)
     it.expect('no API lists, --partial', [*UPDATE, '--export', 'prod', '--partial'], 0, 'yes\n', missing + CAUTION +
               'kubectl-rbacaudit: the export has no API lists, so the type deployments.apps is taken as written\n')
+    it.expect('no API lists tell of no subresource', [*UPDATE, '--subresource', 'exce', '--export', 'prod', '--partial'], 1, 'no\n', missing +
+              CAUTION + 'kubectl-rbacaudit: the export has no API lists, so the type deployments.apps is taken as written\n')
     os.remove(os.path.join(it.work, 'prod', 'namespaced.json'))
     status, out, err = got = it.run(*UPDATE, '--partial', '--export', 'prod')
     it.told('an export without roles never answers', (status, out) == (2, '') and 'nothing can be answered' in err, got)
+
+
+SLIP = "kubectl-rbacaudit: the API lists of the export don't have the %s: look for a slip\n"
+
+
+def dana_alone(it, name, words_, said=''):
+    """One check of a question that names no namespace with bindings: its answer, and what is told before it."""
+    it.expect(name, ['who-can', '--export', 'prod', '-n', 'nowhere', *words_], 0, 'u:dana@example.com\tClusterRoleBinding/admins\n', said)
 
 
 @in_each_shell
@@ -482,18 +493,50 @@ def types(it):
     core['resources'].append({'name': 'services', 'singularName': 'fooled', 'namespaced': True, 'verbs': ['"widgets"'], 'shortNames': ['svc', '']})
     it.serve({'api-v1': core})
     it.run('export', 'prod')
-    slip = "kubectl-rbacaudit: the API lists of the export don't have the type %s: look for a slip\n"
     for type_ in ('pods', 'pod', 'po', 'po/web', 'deployments', 'deploy', 'deploy.apps', 'deployment.apps/web', 'nodes.metrics.k8s.io',
                   'role', 'svc', 'fooled', 'pods.', '/metrics'):
-        it.expect('known: ' + type_, ['who-can', '--export', 'prod', '-n', 'nowhere', 'drain', type_], 0,
-                  'u:dana@example.com\tClusterRoleBinding/admins\n')
+        dana_alone(it, 'known: ' + type_, ['drain', type_])
     for type_ in ('secert', 'Pods', 'widgets', '"widgets"', 'deployments.app', 'pods.apps', 'po.apps', 'apps', 'v1', 'pod*', '*',
                   'deployments.v1.apps', 'a\\x2d', 'list', '-'):
-        it.expect('unknown: ' + type_, ['who-can', '--export', 'prod', '-n', 'nowhere', 'drain', type_], 0,
-                  'u:dana@example.com\tClusterRoleBinding/admins\n', slip % type_)
-    it.expect('unknown: secert/x, of a fresh export', ['can-i', *KIM, 'get', 'secert/x'], 1, 'no\n', slip % 'secert')
-    it.expect('known beside a subresource', ['can-i', '--export', 'prod', *KIM, '--subresource', 'log', 'get', 'pods'], 0, 'yes\n')
-    it.expect('unknown: a word with a dash before it', ['can-i', '--export', 'prod', *KIM, 'get', '--', '-q'], 1, 'no\n', slip % '-q')
+        dana_alone(it, 'unknown: ' + type_, ['drain', type_], SLIP % ('type ' + type_))
+    it.expect('unknown: secert/x, of a fresh export', ['can-i', *KIM, 'get', 'secert/x'], 1, 'no\n', SLIP % 'type secert')
+    it.expect('unknown: a word with a dash before it', ['can-i', '--export', 'prod', *KIM, 'get', '--', '-q'], 1, 'no\n', SLIP % 'type -q')
+
+
+# A list of subresources alone, as there are: their type is in no list, and yet they aren't unknown.
+CONSOLES = {'kind': 'APIResourceList', 'apiVersion': 'v1', 'groupVersion': 'consoles.example.com/v1', 'resources': [
+    {'name': 'machines/console', 'singularName': '', 'namespaced': True, 'verbs': ['get']}]}
+
+
+@in_each_shell
+def subresources(it):
+    """So is a subresource that the API lists don't have of a type that they have; what is no subresource is none of them."""
+    it.run('export', 'prod')
+    it.write(json.dumps(CONSOLES), 'prod', 'api-consoles.example.com-v1.json')
+    for type_, subresource in (('pods', 'log'), ('pod', 'log'), ('po/web', 'log'), ('pods', ''), ('po/web', ''),
+                               ('machines.consoles.example.com', 'console')):
+        for given in (['--subresource', subresource], ['--subresource=' + subresource]):
+            dana_alone(it, 'known: %s %s' % (type_, given), [*given, 'drain', type_])
+    for type_, subresource, said in (
+            ('pods', 'exce', 'subresource pods/exce'), ('po/web', 'exce', 'subresource po/exce'), ('pods', 'Log', 'subresource pods/Log'),
+            ('pods', 'log/x', 'subresource pods/log/x'), ('pods', 'pods/log', 'subresource pods/pods/log'), ('pods', '*', 'subresource pods/*'),
+            ('pods', 'odd', 'subresource pods/odd'), ('no', 'log', 'subresource no/log'), ('deploy.apps', 'log', 'subresource deploy.apps/log'),
+            ('pods.metrics.k8s.io', 'log', 'subresource pods.metrics.k8s.io/log'), ('secert', 'log', 'type secert'),
+            ('machines', 'console', 'type machines'), ('machines.consoles.example.com', 'log', 'type machines.consoles.example.com')):
+        for given in (['--subresource', subresource, 'drain', type_], ['drain', type_, '--subresource=' + subresource]):
+            dana_alone(it, 'unknown: %s' % ' '.join(given), given, SLIP % said)
+    it.expect('unknown: pods/exce of a fresh export', ['can-i', *KIM, '--subresource', 'exce', 'get', 'pods'], 1, 'no\n',
+              SLIP % 'subresource pods/exce')
+    it.expect('a name is no subresource', ['can-i', '--export', 'prod', *KIM, 'get', 'pods/exce'], 0, 'yes\n')
+    named = 'kubectl-rbacaudit: %s/log is taken for an object named log: to ask about the subresource, write %s --subresource log\n'
+    for type_ in ('pods', 'po'):
+        dana_alone(it, 'a name that is one: %s/log' % type_, ['drain', type_ + '/log'], named % (type_, type_))
+    for given in (['pods/log', '--subresource', 'log'], ['pods/'], ['pods/log/x'], ['pods/x/log'], ['no/log'], ['pods.metrics.k8s.io/log']):
+        dana_alone(it, 'a name that is none: %s' % ' '.join(given), ['drain', *given])
+    dana_alone(it, 'nor is a name of an unknown type', ['drain', 'machines.consoles.example.com/console'],
+               SLIP % 'type machines.consoles.example.com')
+    it.expect('a subresource of a URL ends before', ['who-can', '--export', 'prod', '--subresource', 'exce', 'get', '/metrics'], 2, '',
+              'rbacaudit: U3 subresource with a URL\n')
 
 
 @in_each_shell
@@ -613,9 +656,11 @@ def tools(it):
                        (['who-can', '-Ah'], 'with kubectl rbacaudit who-can'), (['matrix', '-h'], '--after'), (['lint', '--help'], 'dangling-role')):
         status, out, err = got = it.run(*line)
         it.told('help: %s' % ' '.join(line), (status, err) == (0, '') and said.lower() in out.lower(), got)
-    for line in (['--help'], ['export', '--help']):
+    for line, options in ((['--help'], ['--export', '--partial', '--context', '--kubeconfig', '--version']),
+                          (['export', '--help'], ['--force', '--context', '--kubeconfig'])):
         out = it.run(*line)[1]
         it.told('%s fits a screen' % line, out.count('\n') <= 40 and max(map(len, out.splitlines())) <= 120, out)
+        it.told('%s has all options' % line, all(re.search(option + r'\b', out) for option in options), out)
     calls = it.lines('calls')
     it.told('help asks no cluster', calls.count('|get|--raw|/apis') == 1, calls)
     status, out, err = got = it.run('can-i', *KIM, 'list', 'pods', preexec_fn=lambda: os.close(0))
@@ -636,5 +681,5 @@ def script():
 
 
 if __name__ == '__main__':
-    sys.exit(tested(whole_export, export_faults, no_export, closed_folder, old_exports, questions, words, files, parts, gaps, types, universes,
-                    interruptions, publishing, tools, script))
+    sys.exit(tested(whole_export, export_faults, no_export, closed_folder, old_exports, questions, words, files, parts, gaps, types, subresources,
+                    universes, interruptions, publishing, tools, script))
