@@ -1,6 +1,6 @@
 -- Texts read from their fields, one by one.
 use Rattle.std.proofs.Common.{◌≡◌, ◌≢◌, ℕ, ◌+◌, ◌/◌, ◌%◌, ◌<◌, [], ◌∷◌, ◌++◌, sym, ap, ◌∙◌, refl, subst, arith, inl, inr, Bool, true, false, nat_lt, Bor, List, length, map, take, get_or, All, codes}
-use Rattle.std.specs.Prelude.{◌==◌, Some, slice_get, if◌then◌else◌}
+use Rattle.std.specs.Prelude.{◌==◌, Option, Some, None, slice_get, if◌then◌else◌}
 use Rattle.std.specs.List.{flat_map, slice_split}
 use Rattle.std.proofs.lemmas.Bool.{cases_eq, ne_eqb}
 use Rattle.std.proofs.lemmas.Grind.{flat_map-append}
@@ -12,7 +12,9 @@ use Rattle.rbac_terms.specs.Text.{Text}
 use Rattle.rbac_terms.specs.Keys.{KeyTexts, texts}
 use Rattle.rbac_text.specs.Field.{byte_text, code_text, field_text, hex_digit, is_control}
 use Rattle.rbac_text.specs.Row.{tab}
-use Rattle.rbac_token.specs.Token.{printed_key}
+use Rattle.rbac_token.specs.Marks.{name_texts, printed_mark, version_of}
+use Rattle.rbac_token.specs.Token.{after_tab}
+use Rattle.rbac_token.specs.declared.mark.BindingName.{BindingName}
 
 -- a text more is read
 pub one_more : (fields : List (Bor (List ℕ))) (texts : List Text) (i : ℕ) (d : Bor (List ℕ)) (read : Text) → map (λ f. f.now) fields ≡ map field_text texts
@@ -24,24 +26,16 @@ one_more fields texts i d read same within reads =
     ap (λ t. take i texts ++ t ∷ []) (reads (get_or texts i []) shown) ∙ sym (take_more texts i [] (omega (arith, long, within)))
 
 -- a field more is printed, after its tab
-pub one_field_more : (ts : List Text) (i : ℕ) (t : Text) → slice_get ts i ≡ Some t
-    → flat_map (λ u. tab ∷ field_text u) (take (i + 1) ts) ≡ flat_map (λ u. tab ∷ field_text u) (take i ts) ++ tab ∷ field_text t
-one_field_more ts i t e =
+pub fields_more : (base printed put : Text) (ts : List Text) (i : ℕ) (t : Text) → printed ≡ base ++ flat_map after_tab (take i ts)
+    → put ≡ printed ++ after_tab t → slice_get ts i ≡ Some t → put ≡ base ++ flat_map after_tab (take (i + 1) ts)
+fields_more base printed put ts i t before puts e =
     let last : take (i + 1) ts ≡ take i ts ++ t ∷ [] =
     take_more ts i t (slice_get_within ts i t e) ∙ ap (λ u. take i ts ++ u ∷ []) (get_or_from_slice_get ts i t t e) in
-    ap (λ l. flat_map (λ u. tab ∷ field_text u) l) last
-    ∙ flat_map-append (λ u. tab ∷ field_text u) (take i ts) (t ∷ [])
-    ∙ ap (λ l. flat_map (λ u. tab ∷ field_text u) (take i ts) ++ tab ∷ l) (append-nil (field_text t))
-
-pub printed_more : (printed pushed put : Text) (ts : List Text) (i : ℕ) (t : Text) → printed ≡ 49 ∷ flat_map (λ u. tab ∷ field_text u) (take i ts)
-    → pushed ≡ printed ++ tab ∷ [] → put ≡ pushed ++ field_text t → slice_get ts i ≡ Some t
-    → put ≡ 49 ∷ flat_map (λ u. tab ∷ field_text u) (take (i + 1) ts)
-printed_more printed pushed put ts i t before pushes puts e =
-    let front = 49 ∷ flat_map (λ u. tab ∷ field_text u) (take i ts) in
-    puts
-    ∙ ap (λ l. l ++ field_text t) (pushes ∙ ap (λ l. l ++ tab ∷ []) before)
-    ∙ append_assoc front (tab ∷ []) (field_text t)
-    ∙ ap (λ l. 49 ∷ l) (sym (one_field_more ts i t e))
+    let more : flat_map after_tab (take (i + 1) ts) ≡ flat_map after_tab (take i ts) ++ after_tab t =
+    ap (λ l. flat_map after_tab l) last
+    ∙ flat_map-append after_tab (take i ts) (t ∷ [])
+    ∙ ap (λ l. flat_map after_tab (take i ts) ++ l) (append-nil (after_tab t)) in
+    puts ∙ ap (λ l. l ++ after_tab t) before ∙ append_assoc base (flat_map after_tab (take i ts)) (after_tab t) ∙ ap (λ l. base ++ l) (sym more)
 
 -- one of several texts that stand in a list
 pub text_at : {X : Type 0} (items : List (Bor X)) (all : List X) (i : ℕ) (d : Bor X) (e : X) → map (λ t. t.now) items ≡ all → i < length all
@@ -104,6 +98,8 @@ fields_between t (u ∷ us) =
     slice_split_at (λ b. b == tab) (field_text t) tab (field_text u ++ flat_map (λ v. tab ∷ field_text v) us) (field_has_no_tab t) refl
     ∙ ap (λ l. field_text t ∷ l) (fields_between u us)
 
--- a printed key has the version and the key's texts between its tabs
-pub key_between : (k : KeyTexts) → slice_split (λ b. b == tab) (printed_key k) ≡ map field_text (codes "1" ∷ texts k)
-key_between k = fields_between (codes "1") (texts k)
+-- a printed mark has the version, the key's texts and those of the binding's name between its tabs
+pub mark_between : (k : KeyTexts) (b : Option BindingName)
+    → slice_split (λ c. c == tab) (printed_mark k b) ≡ map field_text (version_of b ∷ texts k ++ name_texts b)
+mark_between k None = fields_between (codes "1") (texts k)
+mark_between k (Some name) = fields_between (codes "2") (texts k ++ name_texts (Some name))

@@ -3,17 +3,26 @@ use Rattle.rbac_terms.specs.Text.{Text}
 use Rattle.rbac_terms.specs.Keys.{KeyTexts}
 use Rattle.rbac_terms.specs.declared.fault.ModelFault.{ModelFault}
 use Rattle.rbac_terms.specs.declared.fault.ModelFault.TheVariants as model
-use Rattle.rbac_token.specs.Token.{Encodes, HasVersion, IsTokenOf}
+use Rattle.rbac_token.specs.Marks.{HasMarkVersion, IsTokenOfMark}
+use Rattle.rbac_token.specs.Token.{Encodes, HasKeyVersion, IsTokenOf}
+use Rattle.rbac_token.specs.declared.mark.Mark.{Mark}
 use Rattle.rbac_token.specs.declared.fault.TokenFault.{TokenFault}
 use Rattle.rbac_token.specs.declared.fault.TokenFault.TheVariants.{NotBase64, BadVersion, NotCanonical, NoMemory}
 
--- which refusal a token comes to (own): it is no such base64; else its version is another; else no key is printed so; memory may be refused at any time
+-- which refusal a token comes to (own): it is no such base64; else its version is another; else nothing is printed so; memory may be refused at any time
+abbrev pub IsRefusal : (Text → Type 0) → Type 0 → Text → TokenFault → Type 0
+IsRefusal IsVersion none token NotBase64 = (bytes : Text) → ¬ Encodes token bytes
+IsRefusal IsVersion none token BadVersion = (bytes : Text) × Encodes token bytes × (¬ IsVersion bytes)
+IsRefusal IsVersion none token NotCanonical = (bytes : Text) × Encodes token bytes × IsVersion bytes × none
+IsRefusal IsVersion none token NoMemory = Unit {0}
+
+-- why a token stands for no key: the version is not `1`, or no key is printed so
 abbrev pub IsTokenFault : Text → TokenFault → Type 0
-IsTokenFault token NotBase64 = (bytes : Text) → ¬ Encodes token bytes
-IsTokenFault token BadVersion = (bytes : Text) × Encodes token bytes × (¬ HasVersion bytes)
-IsTokenFault token NotCanonical =
-    (bytes : Text) × Encodes token bytes × HasVersion bytes × ((k : KeyTexts) → ¬ IsTokenOf token k)
-IsTokenFault token NoMemory = Unit {0}
+IsTokenFault token fault = IsRefusal HasKeyVersion ((k : KeyTexts) → ¬ IsTokenOf token k) token fault
+
+-- why it stands for no mark: the version is neither `1` nor `2`, or no mark is printed so
+abbrev pub IsMarkFault : Text → TokenFault → Type 0
+IsMarkFault token fault = IsRefusal HasMarkVersion ((m : Mark) → ¬ IsTokenOfMark token m) token fault
 
 -- a principal or a target that can't be made has no token
 abbrev pub token_fault : ModelFault → TokenFault

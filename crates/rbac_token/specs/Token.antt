@@ -10,9 +10,13 @@ use Rattle.rbac_terms.specs.Targets.{What, IsProper}
 use Rattle.rbac_text.specs.Field.{field_text}
 use Rattle.rbac_text.specs.Row.{tab}
 
+-- a text as a field, after a tab
+abbrev pub after_tab : Text → Text
+after_tab t = tab ∷ field_text t
+
 -- the version and the six printed fields of a key, joined by tabs
 abbrev pub printed_key : KeyTexts → Text
-printed_key k = codes "1" ++ flat_map (λ t. tab ∷ field_text t) (texts k)
+printed_key k = codes "1" ++ flat_map after_tab (texts k)
 
 -- the token of a key: unpadded URL-safe base64 of its printed fields after the version
 abbrev pub token_text : KeyTexts → Text
@@ -48,6 +52,10 @@ IsPrintedAs bytes k = IsKey k × (bytes ≡ printed_key k)
 abbrev pub IsTokenOf : Text → KeyTexts → Type 0
 IsTokenOf token k = IsKey k × Encodes token (printed_key k)
 
--- what stands before the first tab, or all where there is none, is the version `1`
-abbrev pub HasVersion : Text → Type 0
-HasVersion bytes = (bytes ≡ codes "1") ⊎ BeginsWith bytes (codes "1" ++ tab ∷ [])
+-- what stands before the first tab, or all where there is none, is that version
+abbrev pub HasVersion : Text → Text → Type 0
+HasVersion version bytes = (bytes ≡ version) ⊎ BeginsWith bytes (version ++ tab ∷ [])
+
+-- it is the version `1`, which the token of a key has
+abbrev pub HasKeyVersion : Text → Type 0
+HasKeyVersion bytes = HasVersion (codes "1") bytes

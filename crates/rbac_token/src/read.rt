@@ -1,6 +1,6 @@
-//! Keys read back from their printed fields.
+//! Marks read back from their printed fields.
 
-ghost use Rattle.std.specs.Prelude.{◌≡◌, ◌==◌, List, [], ◌∷◌, map, IfOk, IfErr, IsSomeAnd, MatchResult};
+ghost use Rattle.std.specs.Prelude.{◌≡◌, ◌==◌, List, [], ◌∷◌, ◌++◌, Option, Some, map, IfOk, IfErr, IsSomeAnd, MatchResult};
 ghost use Rattle.std.specs.List.{slice_split};
 ghost use Rattle.rbac_terms.specs.Text.{Text};
 ghost use Rattle.rbac_terms.specs.Keys.{KeyTexts, texts as texts_of};
@@ -9,40 +9,77 @@ ghost use Rattle.rbac_terms.specs.Targets.{What, IsProper, group_of, text_of, na
 ghost use Rattle.rbac_text.specs.Field.{field_text};
 ghost use Rattle.rbac_text.specs.Row.{tab};
 ghost use Rattle.rbac_token.specs.Faults.{RefusesIf, IsReadFault};
-ghost use Rattle.rbac_token.specs.Token.{IsKey, IsWhoKey, HasName, printed_key};
+ghost use Rattle.rbac_token.specs.Marks.{name_texts, printed_mark};
+ghost use Rattle.rbac_token.specs.Token.{IsKey, IsWhoKey, HasName};
+ghost use Rattle.rbac_token.specs.declared.mark.BindingName.{BindingName};
+ghost use Rattle.rbac_token.specs.declared.mark.Mark.{Mark};
 
 use crate::fault::TokenFault;
 use crate::field::read_field;
+use crate::mark::{BindingName, Mark};
+use crate::print::ROLE_BINDING;
 use rbac_terms::{Key, ModelFault, Principal, Target, Word, Words};
 use std::alloc::{AllocError, Global};
 
-// The key that is printed so. What no key is printed as gives any key, or K3.
-pub(crate) fn read_key(alloc: Global, bytes: &[u8]) -> Result<Key, TokenFault>
-    ensures whole { (k : KeyTexts) → IsKey k → bytes.now ≡ printed_key k
-        → MatchResult result (λ read. read ≡ k) (λ e. e ≡ TokenFault.NoMemory) }
-    ensures key { IfOk result IsKey }
+// The mark that is printed so. What no mark is printed as gives any mark, or K3.
+pub(crate) fn read_mark(alloc: Global, bytes: &[u8]) -> Result<Mark, TokenFault>
+    ensures whole { (m : Mark) → IsKey m.key → bytes.now ≡ printed_mark m.key m.binding
+        → MatchResult result (λ read. read ≡ m) (λ e. e ≡ TokenFault.NoMemory) }
+    ensures key { IfOk result (λ read. IsKey read.key) }
     ensures refused { IfErr result IsReadFault }
 {
     let texts = texts_of(alloc, bytes)?;
-    let Some((principal, namespace, verb, group, text, name)) = after_version(texts.as_slice())
-    else {
+    let Some((principal, namespace, verb, group, text, name, rest)) = after_version(
+        texts.as_slice(),
+    ) else {
         return Err(TokenFault::NotCanonical);
     };
-    key_of_texts(alloc, [principal, namespace, verb, group, text, name])
+    let binding = binding_of_texts(rest)?;
+    let key = key_of_texts(alloc, [principal, namespace, verb, group, text, name])?;
+    Ok(Mark { key, binding })
 }
 
-// The six texts after the version.
-fn after_version(texts: &[Word]) -> Option<(&Word, &Word, &Word, &Word, &Word, &Word)>
-    ensures { (version : Text) (k : KeyTexts) → texts.now ≡ version ∷ texts_of k
-        → IsSomeAnd result (λ six. (six.0.now ∷ six.1.now ∷ six.2.now ∷ six.3.now ∷ six.4.now
-        ∷ six.5.now ∷ []) ≡ texts_of k) }
+// The six texts of a key after the version, and those after them.
+fn after_version(texts: &[Word]) -> Option<(&Word, &Word, &Word, &Word, &Word, &Word, &[Word])>
+    ensures { (version : Text) (k : KeyTexts) (others : List Text) → texts.now ≡ version ∷ texts_of k ++ others
+        → IsSomeAnd result (λ found. ((found.0.now ∷ found.1.now ∷ found.2.now ∷ found.3.now ∷ found.4.now
+        ∷ found.5.now ∷ []) ≡ texts_of k) × (found.6.now ≡ others)) }
 {
     match texts {
-        [_, principal, namespace, verb, group, text, name] => {
-            Some((principal, namespace, verb, group, text, name))
+        [_, principal, namespace, verb, group, text, name, rest @ ..] => {
+            Some((principal, namespace, verb, group, text, name, rest))
         }
         _ => None,
     }
+}
+
+// The name of a binding that these texts are; none where there are none.
+fn binding_of_texts(texts: &[Word]) -> Result<Option<BindingName>, TokenFault>
+    ensures whole { (b : Option BindingName) → texts.now ≡ name_texts b
+        → MatchResult result (λ read. read ≡ b) (λ e. e ≡ TokenFault.NoMemory) }
+    ensures refused { IfErr result IsReadFault }
+{
+    match texts {
+        [] => Ok(None),
+        [kind, namespace, name] => Ok(Some(name_of(kind, namespace, name)?)),
+        _ => Err(TokenFault::NotCanonical),
+    }
+}
+
+// The name of a binding of this kind. Another kind word is taken for a ClusterRoleBinding's, and
+// the namespace of one is passed over: to print it again shows both.
+fn name_of(kind: &Word, namespace: &Word, name: &Word) -> Result<BindingName, AllocError>
+    ensures { (b : BindingName) → kind.now ∷ namespace.now ∷ name.now ∷ [] ≡ name_texts (Some b) → IfOk result (λ read. read ≡ b) }
+{
+    let namespace = if kind.as_bytes() == ROLE_BINDING {
+        Some(namespace.clone()?)
+    } else {
+        None
+    };
+    Ok(BindingName {
+        namespace,
+        name: name.clone()?,
+    })
 }
 
 // The key of these texts.

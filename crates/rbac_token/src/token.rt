@@ -1,20 +1,22 @@
-//! Tokens of keys.
+//! Tokens of keys and of marks.
 
-ghost use Rattle.std.specs.Prelude.{◌≡◌, ◌⊎◌, ◌↔◌, IsTrue, IfOk, IfErr, MatchResult};
+ghost use Rattle.std.specs.Prelude.{◌≡◌, ◌⊎◌, ◌↔◌, ◌∷◌, [], IsTrue, IfOk, IfErr, MatchResult, None};
+ghost use Rattle.base64.specs.Engines.{url_safe_no_pad};
+ghost use Rattle.base64.specs.GeneralPurpose.{encode_of};
 ghost use Rattle.rbac_terms.specs.Keys.{KeyTexts};
-ghost use Rattle.rbac_token.specs.Faults.{IsTokenFault, RefusesIf};
-ghost use Rattle.rbac_token.specs.Token.{printed_key, token_text, Encodes, HasVersion, IsPrintedAs, IsTokenOf};
+ghost use Rattle.rbac_token.specs.Faults.{IsMarkFault, IsTokenFault, RefusesIf};
+ghost use Rattle.rbac_token.specs.Marks.{HasMarkVersion, IsMarkPrintedAs, IsTokenOfMark, mark_text};
+ghost use Rattle.rbac_token.specs.Token.{Encodes, HasVersion, IsTokenOf, token_text};
+ghost use Rattle.rbac_token.specs.declared.mark.Mark.{Mark};
 
 use crate::fault::TokenFault;
-use crate::read::read_key;
+use crate::mark::Mark;
+use crate::print::print_mark;
+use crate::read::read_mark;
 use base64::DecodeAllocError;
 use base64::engine::general_purpose::URL_SAFE_NO_PAD;
 use rbac_terms::{Key, Word};
-use rbac_text::put_field;
 use std::alloc::{AllocError, Global};
-
-// How many texts a key has.
-const TEXTS: usize = 6;
 
 /// The token of a key (own): unpadded URL-safe base64 of the version `1` and the key's six texts,
 /// each printed as a field, joined by tabs. Fails with K4 NoMemory, and only where memory is refused.
@@ -22,9 +24,20 @@ pub fn token_of(alloc: Global, key: &Key) -> Result<Word, TokenFault>
     ensures ok { IfOk result (λ token. token ≡ token_text key.now) }
     ensures only_memory { IfErr result (λ e. e ≡ TokenFault.NoMemory) }
 {
-    let printed = print_key(alloc, key)?;
-    let token = URL_SAFE_NO_PAD.encode(alloc, printed.as_slice())?;
-    Ok(Word::from_slice(alloc, token.as_bytes())?)
+    let printed = print_mark(alloc, key, None)?;
+    Ok(encoded(alloc, printed.as_slice())?)
+}
+
+/// The token of a mark (own): that of its key, where it has no binding. With one it is unpadded
+/// URL-safe base64 of the version `2`, the key's six texts and the binding's kind word, namespace
+/// and name, each printed as a field, joined by tabs; a ClusterRoleBinding has the empty namespace.
+/// Fails with K4 NoMemory, and only where memory is refused.
+pub fn token_of_mark(alloc: Global, mark: &Mark) -> Result<Word, TokenFault>
+    ensures ok { IfOk result (λ token. token ≡ mark_text mark.now) }
+    ensures only_memory { IfErr result (λ e. e ≡ TokenFault.NoMemory) }
+{
+    let printed = print_mark(alloc, &mark.key, mark.binding.as_ref())?;
+    Ok(encoded(alloc, printed.as_slice())?)
 }
 
 /// The key whose token this is (own). K1 NotBase64 where it isn't unpadded URL-safe base64, of which
@@ -38,41 +51,56 @@ pub fn key_of_token(alloc: Global, token: &Word) -> Result<Key, TokenFault>
     ensures one { IfOk result (λ k. (other : KeyTexts) → IsTokenOf token.now other → other ≡ k) }
 {
     let bytes = bytes_of(alloc, token)?;
-    if !has_version(&bytes) {
+    if !has_version(&bytes, b'1') {
         return Err(TokenFault::BadVersion);
     }
-    key_printed_as(alloc, &bytes)
+    Ok(mark_printed_as(alloc, &bytes)?.key)
 }
 
-// The key that is printed so, and no other spelling of it.
-fn key_printed_as(alloc: Global, bytes: &[u8]) -> Result<Key, TokenFault>
-    ensures key { MatchResult result (IsPrintedAs bytes.now)
-        (RefusesIf ((k : KeyTexts) → ¬ IsPrintedAs bytes.now k)) }
-    ensures one { IfOk result (λ k. (other : KeyTexts) → IsPrintedAs bytes.now other → other ≡ k) }
+/// The mark whose token this is (own), that of a key or that of a key and a binding. K1 NotBase64
+/// as for a key; else K2 BadVersion where what stands before the first tab of its bytes, or all of
+/// them where there is none, is neither `1` nor `2`; else K3 NotCanonical where it is the token of no
+/// mark: so also with another kind word, or with a ClusterRoleBinding in a namespace. K4 NoMemory
+/// only where memory is refused.
+pub fn mark_of_token(alloc: Global, token: &Word) -> Result<Mark, TokenFault>
+    ensures mark { MatchResult result (IsTokenOfMark token.now) (IsMarkFault token.now) }
+    ensures no_mark { IfErr result (λ e. (e ≡ TokenFault.NoMemory)
+        ⊎ ((m : Mark) → ¬ IsTokenOfMark token.now m)) }
+    ensures one { IfOk result (λ m. (other : Mark) → IsTokenOfMark token.now other → other ≡ m) }
 {
-    let key = read_key(alloc, bytes)?;
-    if print_key(alloc, &key)?.as_slice() != bytes {
+    let bytes = bytes_of(alloc, token)?;
+    if !has_mark_version(&bytes) {
+        return Err(TokenFault::BadVersion);
+    }
+    mark_printed_as(alloc, &bytes)
+}
+
+// The mark that is printed so, and no other spelling of it.
+fn mark_printed_as(alloc: Global, bytes: &[u8]) -> Result<Mark, TokenFault>
+    ensures mark { MatchResult result (IsMarkPrintedAs bytes.now)
+        (RefusesIf ((m : Mark) → ¬ IsMarkPrintedAs bytes.now m)) }
+    ensures one { IfOk result (λ m. (other : Mark) → IsMarkPrintedAs bytes.now other → other ≡ m) }
+{
+    let mark = read_mark(alloc, bytes)?;
+    let again = print_mark(alloc, &mark.key, mark.binding.as_ref())?;
+    if again.as_slice() != bytes {
         return Err(TokenFault::NotCanonical);
     }
-    Ok(key)
+    Ok(mark)
 }
 
-// The version and the printed fields of a key.
-fn print_key(alloc: Global, key: &Key) -> Result<Vec<u8>, AllocError>
-    ensures { IfOk result (λ v. v.items ≡ printed_key key.now) }
+// The token that encodes these bytes.
+fn encoded(alloc: Global, bytes: &[u8]) -> Result<Word, AllocError>
+    ensures { IfOk result (λ token. token ≡ encode_of url_safe_no_pad bytes.now) }
 {
-    let mut printed = Vec::new(alloc);
-    printed.push(b'1')?;
-    for place in 0..TEXTS {
-        printed.push(b'\t')?;
-        put_field(&mut printed, key.field(place).as_bytes())?;
-    }
-    Ok(printed)
+    let token = URL_SAFE_NO_PAD.encode(alloc, bytes)?;
+    Word::from_slice(alloc, token.as_bytes())
 }
 
 // The bytes that a token encodes.
 fn bytes_of(alloc: Global, token: &Word) -> Result<Vec<u8>, TokenFault>
-    ensures { MatchResult result (λ v. Encodes token.now v.items) (IsTokenFault token.now) }
+    ensures key { MatchResult result (λ v. Encodes token.now v.items) (IsTokenFault token.now) }
+    ensures mark { IfErr result (IsMarkFault token.now) }
 {
     match URL_SAFE_NO_PAD.decode(alloc, token.as_bytes()) {
         Ok(bytes) => Ok(bytes),
@@ -81,8 +109,17 @@ fn bytes_of(alloc: Global, token: &Word) -> Result<Vec<u8>, TokenFault>
     }
 }
 
-fn has_version(bytes: &[u8]) -> bool
-    ensures { IsTrue result ↔ HasVersion bytes.now }
+fn has_mark_version(bytes: &[u8]) -> bool
+    ensures { IsTrue result ↔ HasMarkVersion bytes.now }
 {
-    bytes == b"1".as_slice() || bytes.starts_with(b"1\t".as_slice())
+    has_version(bytes, b'1') || has_version(bytes, b'2')
+}
+
+// Whether this version stands before the first tab, or alone.
+fn has_version(bytes: &[u8], version: u8) -> bool
+    ensures { IsTrue result ↔ HasVersion (version ∷ []) bytes.now }
+{
+    let alone = [version];
+    let followed = [version, b'\t'];
+    bytes == alone.as_slice() || bytes.starts_with(followed.as_slice())
 }
