@@ -28,7 +28,7 @@ Decided P = P ⊎ (¬ P)
 
 -- ---- what is made of decided parts
 
-both : {P Q : Type 0} → Decided P → Decided Q → Decided (P × Q)
+pub both : {P Q : Type 0} → Decided P → Decided Q → Decided (P × Q)
 both (inl p) (inl q) = inl (p, q)
 both (inl p) (inr q) = inr (λ w. q w.1)
 both (inr p) q = inr (λ w. p w.0)
@@ -244,7 +244,7 @@ module _ (h : Held) (held : IsHeld h) (who : Who) (namespace verb : Text) (t : W
     | inr n ↦ inr (λ w. n (subst (λ (rs : List SourcedRule). Any (λ r. RuleAllows r.rule verb t) rs) (one_rules_for h b w.0 rules held w.1 are) w.2))
   ]
 
-  grants : (b : Binding) (rules : List SourcedRule) → AreRulesFor h b rules → Decided (Grants h b who namespace verb t)
+  pub grants : (b : Binding) (rules : List SourcedRule) → AreRulesFor h b rules → Decided (Grants h b who namespace verb t)
   grants b rules are =
       all_three (live b.namespace namespace t) (any (λ s. Names s b.namespace who) (λ s. names s b.namespace who) b.subjects) (brings b rules are)
 

@@ -1,57 +1,34 @@
--- pages of rows in order of their keys join
-use Rattle.std.proofs.Common.{◌≡◌, ◌≢◌, ℕ, zero, suc, ◌<◌, Bool, true, false, List, [], ◌∷◌, ◌++◌, length, drop, take, refl, ap, ◌∙◌, sym, arith, Contains, ◌⊎◌, inl, inr, Less, Greater, subst}
-use Rattle.std.specs.Prelude.{Some, None, filter, nat_lt, ◌↔◌, AllPairs}
-use Rattle.std.specs.Ordering.{is_gt, ordering_reverse}
+-- pages of rows in order join
+use Rattle.std.proofs.Common.{◌≡◌, ◌≢◌, ℕ, zero, suc, ◌<◌, Bool, true, false, List, [], ◌∷◌, ◌++◌, length, drop, take, refl, ap, ◌∙◌, sym, arith, Contains, ◌⊎◌, inl, inr, Less, Equal, Greater, Ordering, subst}
+use Rattle.std.specs.Prelude.{Option, Some, None, filter, nat_lt, ◌↔◌}
+use Rattle.std.specs.Ordering.{is_gt, ordering_reverse, ordering_then}
+use Rattle.std.specs.Cmp.Lexicographic.{slice_cmp}
 use Rattle.std.proofs.lemmas.Bool.{false≢true}
 use Rattle.std.proofs.lemmas.Bool.Decides.{nat_tests}
 use Rattle.std.proofs.lemmas.Cmp.{tied_itself}
 use Rattle.std.proofs.lemmas.List.{take-append-drop}
 use Rattle.std.proofs.lemmas.List.Kept.{AllPairs-filter}
 use Rattle.std.proofs.lemmas.List.Elements.{filter_passes}
-use Rattle.rbac_terms.specs.Keys.{KeyTexts, key_cmp}
-use Rattle.rbac_terms.specs.KeyOrder.{key_cmp_total}
-use Rattle.rbac_model.specs.Universes.{RowView, cell_key, rows_after}
+use Rattle.rbac_terms.specs.Text.{Text, text_cmp}
+use Rattle.rbac_terms.specs.Keys.{KeyTexts, key_cmp, texts}
+use Rattle.rbac_model.specs.Lists.{by_name, IsAscendingBy}
+use Rattle.rbac_model.specs.Universes.{RowView, cell_key}
+use Rattle.rbac_model.specs.Policies.{binding_name}
+use Rattle.rbac_model.proofs.NamePlaces.{exact_names, total}
+use Rattle.rbac_token.specs.Marks.{name_texts}
+use Rattle.rbac_token.specs.declared.mark.BindingName.{BindingName}
+use Rattle.rbac_token.specs.declared.mark.Mark.{Mark}
+use Rattle.rbac_matrix.specs.Every.{EveryPagesJoin, comes_after, every_name, mark_of}
 use Rattle.rbac_matrix.specs.Paging.{PagesJoin}
 use Rattle.rbac_universe.proofs.Flattened.{there}
 use Rattle.rbac_matrix.proofs.OneMatrix.{by_keys, key_name}
-use Rattle.rbac_matrix.proofs.Orders.{greater}
+use Rattle.rbac_matrix.proofs.Orders.{cmp_append, greater}
 use Rattle.rbac_matrix.proofs.RowLemmas.{head_below, tail_ascends}
 use Rattle.rbac_matrix.proofs.StartLemmas.{filter_all}
-
-abbrev key : RowView → KeyTexts
-key row = cell_key row.cell
-
-abbrev is_after : KeyTexts → RowView → Bool
-is_after k row = is_gt (key_cmp (key row) k)
-
-abbrev Ascends : List RowView → Type 0
-Ascends rows = AllPairs (λ a b. key_cmp (key a) (key b) ≡ Less) rows
 
 bool_cases : (b : Bool) → (b ≡ true) ⊎ (b ≡ false)
 bool_cases true = inl refl
 bool_cases false = inr refl
-
-turned : (a b : KeyTexts) → key_cmp a b ≡ Less → key_cmp b a ≡ Greater
-turned a b e = key_cmp_total.antisymm b a ∙ ap ordering_reverse e
-
-turned_back : (a b : KeyTexts) → key_cmp a b ≡ Greater → key_cmp b a ≡ Less
-turned_back a b e = key_cmp_total.antisymm b a ∙ ap ordering_reverse e
-
-later : (a b : RowView) → key_cmp (key a) (key b) ≡ Less → is_after (key a) b ≡ true
-later a b e = ap is_gt (turned (key a) (key b) e)
-
-earlier : (a b : RowView) → key_cmp (key a) (key b) ≡ Less → is_after (key b) a ≡ false
-earlier a b e = ap is_gt e
-
-not_after_itself : (a : RowView) → is_after (key a) a ≡ false
-not_after_itself a = ap is_gt (tied_itself key_cmp_total (key a))
-
--- what is after a greater key is after a smaller one
-still_after : (k j : KeyTexts) (row : RowView) → is_gt (key_cmp j k) ≡ true → is_after j row ≡ true → is_after k row ≡ true
-still_after k j row e f =
-    let below = turned_back j k (greater (key_cmp j k) e) in
-    let above = turned_back (key row) j (greater (key_cmp (key row) j) f) in
-    ap is_gt (turned k (key row) (key_cmp_total.trans k j (key row) below above))
 
 in_taken : (n : ℕ) (rows before : List RowView) (last : RowView) → take n rows ≡ before ++ last ∷ [] → Contains rows last
 in_taken zero rows [] last e = cc
@@ -61,37 +38,6 @@ in_taken (suc n) [] (b ∷ before) last e = cc
 in_taken (suc n) (row ∷ rows) [] last e = let same : row ≡ last = cc in (0, omega arith, same)
 in_taken (suc n) (row ∷ rows) (b ∷ before) last e =
     let rest : take n rows ≡ before ++ last ∷ [] = cc in there row rows last (in_taken n rows before last rest)
-
--- after the last row of a page come the rows that follow the page
-filter-last : (n : ℕ) (rows before : List RowView) (last : RowView) → Ascends rows → take n rows ≡ before ++ last ∷ [] → filter (is_after (key last)) rows ≡ drop n rows
-filter-last zero rows [] last up e = cc
-filter-last zero rows (b ∷ before) last up e = cc
-filter-last (suc n) [] [] last up e = cc
-filter-last (suc n) [] (b ∷ before) last up e = cc
-filter-last (suc n) (row ∷ rows) [] last up e =
-    let same : row ≡ last = cc in
-    let none : take n rows ≡ [] = cc in
-    let left : drop n rows ≡ rows = ap (λ (taken : List RowView). taken ++ drop n rows) (sym none) ∙ take-append-drop n rows in
-    let all : filter (is_after (key row)) (row ∷ rows) ≡ rows =
-    rw (not_after_itself row) (filter_all (is_after (key row)) rows (λ other w. later row other (head_below key_name row rows other up w))) in
-    subst (λ (x : RowView). filter (is_after (key x)) (row ∷ rows) ≡ drop n rows) same (all ∙ sym left)
-filter-last (suc n) (row ∷ rows) (b ∷ before) last up e =
-    let rest : take n rows ≡ before ++ last ∷ [] = cc in
-    let first = earlier row last (head_below key_name row rows last up (in_taken n rows before last rest)) in
-    rw first (filter-last n rows before last (tail_ascends key_name row rows up) rest)
-
-filter-filter : (k j : KeyTexts) (rows : List RowView) → is_gt (key_cmp j k) ≡ true → filter (is_after j) (filter (is_after k) rows) ≡ filter (is_after j) rows
-filter-filter k j [] e = refl
-filter-filter k j (row ∷ rows) e = elim (bool_cases (is_after k row)) [
-  | inl yes_k ↦ rw yes_k (elim (bool_cases (is_after j row)) [
-    | inl yes_j ↦ rw yes_j (ap (λ (rest : List RowView). row ∷ rest) (filter-filter k j rows e))
-    | inr no_j ↦ rw no_j (filter-filter k j rows e)
-  ])
-  | inr no_k ↦ elim (bool_cases (is_after j row)) [
-    | inl yes_j ↦ absurd (false≢true (sym no_k ∙ still_after k j row e yes_j))
-    | inr no_j ↦ rw (no_k, no_j) (filter-filter k j rows e)
-  ]
-]
 
 some_left : (n : ℕ) (rows : List RowView) → n < length rows → drop n rows ≢ []
 some_left zero [] l e = absurd (omega (arith, l))
@@ -121,12 +67,122 @@ joins n kept rest e = (
   ),
 )
 
+-- rows in order of their names, and those that come after something: what is of a row itself comes before the rows past it
+module _ {M : Type 0} (name : RowView → List Text) (own : RowView → M) (is_after : M → RowView → Bool)
+    (of_own : (a b : RowView) → is_after (own a) b ≡ is_gt (by_name name b a))
+    (still : (m : M) (last row : RowView) → is_after m last ≡ true → by_name name last row ≡ Less → is_after m row ≡ true) where
+  turned : (a b : RowView) → by_name name a b ≡ Less → by_name name b a ≡ Greater
+  turned a b e = (total name).antisymm b a ∙ ap ordering_reverse e
+
+  turned_back : (a b : RowView) → by_name name a b ≡ Greater → by_name name b a ≡ Less
+  turned_back a b e = (total name).antisymm b a ∙ ap ordering_reverse e
+
+  later : (a b : RowView) → by_name name a b ≡ Less → is_after (own a) b ≡ true
+  later a b e = of_own a b ∙ ap is_gt (turned a b e)
+
+  earlier : (a b : RowView) → by_name name a b ≡ Less → is_after (own b) a ≡ false
+  earlier a b e = of_own b a ∙ ap is_gt e
+
+  not_after_itself : (a : RowView) → is_after (own a) a ≡ false
+  not_after_itself a = of_own a a ∙ ap is_gt (tied_itself (total name) a)
+
+  -- what is after a row that is after something is after it too
+  still_after : (m : M) (last row : RowView) → is_after m last ≡ true → is_after (own last) row ≡ true → is_after m row ≡ true
+  still_after m last row e f = still m last row e (turned_back row last (greater (by_name name row last) (sym (of_own last row) ∙ f)))
+
+  -- after the last row of a page come the rows that follow the page
+  filter-last : (n : ℕ) (rows before : List RowView) (last : RowView) → IsAscendingBy name rows → take n rows ≡ before ++ last ∷ [] → filter (is_after (own last)) rows ≡ drop n rows
+  filter-last zero rows [] last up e = cc
+  filter-last zero rows (b ∷ before) last up e = cc
+  filter-last (suc n) [] [] last up e = cc
+  filter-last (suc n) [] (b ∷ before) last up e = cc
+  filter-last (suc n) (row ∷ rows) [] last up e =
+      let same : row ≡ last = cc in
+      let none : take n rows ≡ [] = cc in
+      let left : drop n rows ≡ rows = ap (λ (taken : List RowView). taken ++ drop n rows) (sym none) ∙ take-append-drop n rows in
+      let all : filter (is_after (own row)) (row ∷ rows) ≡ rows =
+      rw (not_after_itself row) (filter_all (is_after (own row)) rows (λ other w. later row other (head_below name row rows other up w))) in
+      subst (λ (x : RowView). filter (is_after (own x)) (row ∷ rows) ≡ drop n rows) same (all ∙ sym left)
+  filter-last (suc n) (row ∷ rows) (b ∷ before) last up e =
+      let rest : take n rows ≡ before ++ last ∷ [] = cc in
+      let first = earlier row last (head_below name row rows last up (in_taken n rows before last rest)) in
+      rw first (filter-last n rows before last (tail_ascends name row rows up) rest)
+
+  filter-filter : (m : M) (last : RowView) (rows : List RowView) → is_after m last ≡ true → filter (is_after (own last)) (filter (is_after m) rows) ≡ filter (is_after (own last)) rows
+  filter-filter m last [] e = refl
+  filter-filter m last (row ∷ rows) e = elim (bool_cases (is_after m row)) [
+    | inl here ↦ rw here (elim (bool_cases (is_after (own last) row)) [
+      | inl also ↦ rw also (ap (λ (rest : List RowView). row ∷ rest) (filter-filter m last rows e))
+      | inr past ↦ rw past (filter-filter m last rows e)
+    ])
+    | inr none ↦ elim (bool_cases (is_after (own last) row)) [
+      | inl also ↦ absurd (false≢true (sym none ∙ still_after m last row e also))
+      | inr past ↦ rw (none, past) (filter-filter m last rows e)
+    ]
+  ]
+
+  join_all : (n : ℕ) (rows before : List RowView) (last : RowView) → IsAscendingBy name rows → take n rows ≡ before ++ last ∷ []
+      → (rows ≡ take n rows ++ filter (is_after (own last)) rows) × ((nat_lt n (length rows) ≡ true) ↔ (filter (is_after (own last)) rows ≢ []))
+  join_all n rows before last up e = joins n rows (filter (is_after (own last)) rows) (filter-last n rows before last up e)
+
+  join_after : (m : M) (n : ℕ) (rows before : List RowView) (last : RowView) → IsAscendingBy name rows → take n (filter (is_after m) rows) ≡ before ++ last ∷ []
+      → (filter (is_after m) rows ≡ take n (filter (is_after m) rows) ++ filter (is_after (own last)) rows) × ((nat_lt n (length (filter (is_after m) rows)) ≡ true) ↔ (filter (is_after (own last)) rows ≢ []))
+  join_after m n rows before last ascend e =
+      let kept = filter (is_after m) rows in
+      let up : IsAscendingBy name kept = AllPairs-filter (λ (a b : RowView). by_name name a b ≡ Less) (is_after m) rows ascend in
+      let w = in_taken n kept before last e in
+      let after : is_after m last ≡ true = rw w.2 at (filter_passes (is_after m) rows w.0 last w.1) in
+      joins n kept (filter (is_after (own last)) rows) (sym (filter-filter m last rows after) ∙ filter-last n kept before last up e)
+
+-- lists of texts: what is past what is past a third is past it
+greater_then : (a b c : List Text) → slice_cmp text_cmp b a ≡ Less → slice_cmp text_cmp b c ≡ Greater → slice_cmp text_cmp a c ≡ Greater
+greater_then a b c less more =
+    let order = total (λ (t : List Text). t) in
+    let below : slice_cmp text_cmp c b ≡ Less = order.antisymm c b ∙ ap ordering_reverse more in
+    order.antisymm a c ∙ ap ordering_reverse (order.trans c b a below less)
+
+front_less : (o p : Ordering) → ordering_then o p ≡ Less → (o ≡ Less) ⊎ (o ≡ Equal)
+front_less Less p e = inl refl
+front_less Equal p e = inr refl
+front_less Greater p e = cc
+
+-- ---- by keys
+
+abbrev key : RowView → KeyTexts
+key row = cell_key row.cell
+
+abbrev past_key : KeyTexts → RowView → Bool
+past_key k row = is_gt (key_cmp (key row) k)
+
+key_still : (k : KeyTexts) (last row : RowView) → past_key k last ≡ true → by_name key_name last row ≡ Less → past_key k row ≡ true
+key_still k last row e less = ap is_gt (greater_then (texts (key row)) (texts (key last)) (texts k) less (greater (key_cmp (key last) k) e))
+
 pub pages_join : PagesJoin
-pages_join held u rows m None n before last e =
-    joins n rows (rows_after (Some (key last)) rows) (filter-last n rows before last (by_keys held u rows m) e)
-pages_join held u rows m (Some k) n before last e =
-    let kept = filter (is_after k) rows in
-    let up : Ascends kept = AllPairs-filter (λ (a b : RowView). key_cmp (key a) (key b) ≡ Less) (is_after k) rows (by_keys held u rows m) in
-    let w = in_taken n kept before last e in
-    let after : is_after k last ≡ true = rw w.2 at (filter_passes (is_after k) rows w.0 last w.1) in
-    joins n kept (rows_after (Some (key last)) rows) (sym (filter-filter k (key last) rows after) ∙ filter-last n kept before last up e)
+pages_join held u rows m None n before last e = join_all key_name key past_key (λ a b. refl) key_still n rows before last (by_keys held u rows m) e
+pages_join held u rows m (Some k) n before last e = join_after key_name key past_key (λ a b. refl) key_still k n rows before last (by_keys held u rows m) e
+
+-- ---- by marks
+
+abbrev past_mark : Mark → RowView → Bool
+past_mark m row = comes_after m.key m.binding row
+
+-- what is past a row has no lesser key
+key_onward : (k : KeyTexts) (last row : RowView) → past_key k last ≡ true → by_name every_name last row ≡ Less → past_key k row ≡ true
+key_onward k last row e less =
+    let whole = sym (cmp_append (texts (key last)) (texts (key row)) refl (binding_name last.binding) (binding_name row.binding)) ∙ less in
+    elim (front_less (key_cmp (key last) (key row)) (slice_cmp text_cmp (binding_name last.binding) (binding_name row.binding)) whole) [
+      | inl below ↦ key_still k last row e below
+      | inr tied ↦ let same : texts (key last) ≡ texts (key row) = exact_names (texts (key last)) (texts (key row)) tied in ap (λ (t : List Text). is_gt (slice_cmp text_cmp t (texts k))) (sym same) ∙ e
+    ]
+
+mark_still : (k : KeyTexts) (b : Option BindingName) (last row : RowView) → comes_after k b last ≡ true → by_name every_name last row ≡ Less → comes_after k b row ≡ true
+mark_still k None last row e less = key_onward k last row e less
+mark_still k (Some b) last row e less =
+    let mark = texts k ++ name_texts (Some b) in
+    ap is_gt (greater_then (every_name row) (every_name last) mark less (greater (slice_cmp text_cmp (every_name last) mark) e))
+
+pub every_pages_join : EveryPagesJoin
+every_pages_join held u rows every None n before last e =
+    join_all every_name mark_of past_mark (λ a b. refl) (λ m. mark_still m.key m.binding) n rows before last every.ordered e
+every_pages_join held u rows every (Some m) n before last e =
+    join_after every_name mark_of past_mark (λ a b. refl) (λ j. mark_still j.key j.binding) m n rows before last every.ordered e

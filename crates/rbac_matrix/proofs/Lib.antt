@@ -7,6 +7,7 @@ pub mod JoinLemmas
 pub mod LineLemmas
 pub mod LinesLemmas
 pub mod LoopLemmas
+pub mod OneEvery
 pub mod OneMatrix
 pub mod Orders
 pub mod PageLemmas
@@ -18,6 +19,7 @@ pub mod SeatLemmas
 pub mod SeekLemmas
 pub mod SomeMatrix
 pub mod StartLemmas
+pub mod ThoseLemmas
 pub mod TouchLemmas
 pub mod WalkLemmas
 pub mod Within

@@ -1,6 +1,7 @@
 -- orders of texts, text by text
-use Rattle.std.proofs.Common.{◌≡◌, true, [], ◌∷◌, Less, Equal, Greater, Ordering, refl}
+use Rattle.std.proofs.Common.{◌≡◌, true, List, [], ◌∷◌, ◌++◌, length, Less, Equal, Greater, Ordering, refl, ap, ◌∙◌, arith}
 use Rattle.std.specs.Ordering.{is_gt, ordering_then}
+use Rattle.std.specs.Cmp.Lexicographic.{slice_cmp}
 use Rattle.rbac_terms.specs.Text.{Text, text_cmp}
 use Rattle.rbac_model.proofs.NamePlaces.{same_name}
 
@@ -36,3 +37,16 @@ single Greater e = cc
 
 pub same_text : (x y : Text) → text_cmp x y ≡ Equal → x ≡ y
 same_text x y e = let same : x ∷ [] ≡ y ∷ [] = same_name (λ (t : Text). t ∷ []) x y (first_tied (text_cmp x y) Equal e) in cc
+
+then_assoc : (o p q : Ordering) → ordering_then o (ordering_then p q) ≡ ordering_then (ordering_then o p) q
+then_assoc Less p q = refl
+then_assoc Equal p q = refl
+then_assoc Greater p q = refl
+
+-- lists with fronts of one length are compared by these, then by what follows
+pub cmp_append : (xs ys : List Text) → length xs ≡ length ys → (zs ws : List Text) → slice_cmp text_cmp (xs ++ zs) (ys ++ ws) ≡ ordering_then (slice_cmp text_cmp xs ys) (slice_cmp text_cmp zs ws)
+cmp_append [] [] e zs ws = refl
+cmp_append [] (y ∷ ys) e zs ws = absurd (omega (arith, e))
+cmp_append (x ∷ xs) [] e zs ws = absurd (omega (arith, e))
+cmp_append (x ∷ xs) (y ∷ ys) e zs ws =
+    ap (ordering_then (text_cmp x y)) (cmp_append xs ys (omega (arith, e)) zs ws) ∙ then_assoc (text_cmp x y) (slice_cmp text_cmp xs ys) (slice_cmp text_cmp zs ws)

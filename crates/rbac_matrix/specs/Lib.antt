@@ -1,11 +1,13 @@
 pub mod Cells
 pub mod Cursors
 pub mod Enumeration
+pub mod Every
 pub mod Lent
 pub mod Lines
 pub mod Metering
 pub mod Pages
 pub mod Paging
+pub mod Pairs
 pub mod Passing
 pub mod Printed
 pub mod RowTexts

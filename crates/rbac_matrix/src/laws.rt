@@ -3,6 +3,7 @@
 ghost use Rattle.std.specs.Prelude.{◌≡◌, List};
 ghost use Rattle.rbac_model.specs.Policies.{Held, PolicyView, IsPolicy};
 ghost use Rattle.rbac_model.specs.Universes.{UniverseView, RowView, IsUniverse, IsMatrix};
+ghost use Rattle.rbac_matrix.specs.Every.{EveryPagesJoin, IsEvery};
 ghost use Rattle.rbac_matrix.specs.Paging.{PagesJoin};
 
 /// The matrix of held objects over a universe is one list of rows (own).
@@ -21,4 +22,21 @@ pub fn a_matrix_is_there()
 /// tokens join to all that comes after the first token (own).
 pub fn pages_join()
     ensures { PagesJoin }
+{}
+
+/// The rows of every granting binding, of held objects over a universe, are one list (own).
+pub fn every_rows_are_one()
+    ensures { (held : Held) (u : UniverseView) (rows others : List RowView) → IsEvery held u rows → IsEvery held u others → rows ≡ others }
+{}
+
+/// There is a list of the rows of every granting binding, of a policy over a universe (own).
+pub fn every_rows_are_there()
+    ensures { (p : PolicyView) (u : UniverseView) → IsPolicy p → IsUniverse u → (rows : List RowView) × IsEvery p.held u rows }
+{}
+
+/// Each page of the rows of every granting binding that isn't empty, at any limit, is followed by
+/// what comes after the mark of its last row, and says that more follows exactly where something
+/// does: so pages taken by their own tokens join to all that comes after the first token (own).
+pub fn every_pages_join()
+    ensures { EveryPagesJoin }
 {}

@@ -17,7 +17,10 @@ mod walk;
 
 pub use enumeration::Rows;
 pub use fault::MatrixFault;
-pub use laws::{a_matrix_is_there, pages_join, the_matrix_is_one};
+pub use laws::{
+    a_matrix_is_there, every_pages_join, every_rows_are_one, every_rows_are_there, pages_join,
+    the_matrix_is_one,
+};
 pub use matrix::Matrix;
 pub use pages::print_page;
 pub use row::Row;
