@@ -209,8 +209,9 @@ def in_each_shell(check):
 @in_each_shell
 def whole_export(it):
     """All files, as they were served; in folders with odd names; by the context and kubeconfig that are named."""
-    for folder in ('prod', 'a folder/with  spaces', './-x', "it's $HOME"):
-        it.expect('export to "%s"' % folder, ['export', folder], 0, 'The export in %s is whole: 8 files.\n' % folder)
+    for folder in ('prod', 'a folder/with  spaces', './-x', "it's $HOME", 'x y*[z]\\q', 'two\nlines', 'region=eu'):
+        told_as = './' * ('=' in folder) + folder
+        it.expect('export to "%s"' % folder, ['export', folder], 0, 'The export in %s is whole: 8 files.\n' % told_as)
         it.told('its files', it.files(folder) == WHOLE, it.files(folder))
     for name, value in served().items():
         if name != 'apis':
@@ -376,6 +377,9 @@ def words(it):
                        (['lint', '--export'], '--export needs a value'), (['lint', '--export='], '--export needs a value'),
                        (['lint', '--export', ''], '--export needs a value'), (['lint', '--context', ''], '--context needs a value'),
                        (['lint', '--export', '--partial'], '--export needs a value'),
+                       (['lint', '--export', 'x', '--export=y'], '--export is given twice'),
+                       (['lint', '--context', 'x', '--context', 'y'], '--context is given twice'),
+                       (['lint', '--kubeconfig=x', '--kubeconfig', 'y'], '--kubeconfig is given twice'),
                        (['lint', '--export', 'x', '--context', 'y'], 'an export answers without a cluster'),
                        (['lint', '--export', 'x'], 'there is no folder x'), (['universe', 'x'], 'universe has no x'),
                        (['who-knows'], 'there is no command who-knows'), ([], 'a command is missing')):
@@ -456,9 +460,15 @@ def gaps(it):
     it.expect('a group that was fetched by hand', [*UPDATE, '--export', 'prod'], 0, 'yes\n')
     os.remove(os.path.join(it.work, 'prod', 'api-metrics.k8s.io-v1beta1.json'))
     it.expect('an export that lacks what lint doesn\'t read', ['lint', '--export', 'prod'], 1, FINDINGS)
-    it.write('export: it was interrupted\n', 'prod', 'incomplete.txt')
-    it.expect('an export that was interrupted', ['lint', '--export', 'prod'], 2, '',
-              'kubectl-rbacaudit: export: it was interrupted\n' + REFUSAL)
+    for noted, said in (('export: it was interrupted\n', 'export: it was interrupted'), ('export: cut', 'export: cut'),
+                        ('export: \x1b[2J\x07\x7f\u00e9\n', 'export: ?[2J??\u00e9')):
+        it.write(noted, 'prod', 'incomplete.txt')
+        it.expect('an export that says %r' % noted, ['lint', '--export', 'prod'], 2, '', 'kubectl-rbacaudit: %s\n' % said + REFUSAL)
+    os.remove(os.path.join(it.work, 'prod', 'incomplete.txt'))
+    os.mkfifo(os.path.join(it.work, 'prod', 'incomplete.txt'))
+    it.expect('a pipe in place of what is noted', ['lint', '--export', 'prod'], 2, '',
+              "kubectl-rbacaudit: can't read prod/incomplete.txt\n")
+    os.remove(os.path.join(it.work, 'prod', 'incomplete.txt'))
     it.run('export', '--force', 'prod')
     os.remove(os.path.join(it.work, 'prod', 'cluster.json'))
     missing = 'kubectl-rbacaudit: there is no cluster.json in prod\n'
@@ -549,9 +559,10 @@ def universes(it):
                  ('apps', 'deployments/scale', True), ('odd"group', ODD, True), ('odd"group', 'deployments', True)]
     wanted = {'apiVersion': 'rbacaudit/v1', 'kind': 'Universe', 'names': [''], 'resources': [
         {'group': group, 'resource': name, 'namespaced': namespaced} for group, name, namespaced in resources]}
-    for place in (['--export', 'prod'], []):
-        status, out, err = got = it.run('universe', *place)
-        it.told('a universe %s' % place, (status, err) == (0, '') and document(out) == wanted, got)
+    os.mkdir(os.path.join(it.work, 't=u'))
+    for place, temporary in ((['--export', 'prod'], it.temporary), ([], it.temporary), ([], 't=u')):
+        status, out, err = got = it.run('universe', *place, environment={**it.environment(), 'TMPDIR': temporary})
+        it.told('a universe %s, by way of %s' % (place, temporary), (status, err) == (0, '') and document(out) == wanted, got)
     it.write(out, 'universe.json')
     status, rows, err = got = it.run('matrix', '--export', 'prod', 'universe.json')
     row = 'u:dana@example.com\t%s\tget\t%s\t%s\t-\tClusterRoleBinding/admins\n'
@@ -574,9 +585,12 @@ def universes(it):
 
 # ---- interruptions, tools, texts
 
+ENDING = (signal.SIGINT, signal.SIGQUIT, signal.SIGTERM, signal.SIGHUP)
+
+
 def hear_signals():
-    """A shell can't trap a signal that was ignored when it began, as SIGINT is in the background and SIGHUP under nohup."""
-    for number in (signal.SIGINT, signal.SIGTERM, signal.SIGHUP):
+    """A shell can't trap a signal that was ignored when it began, as SIGINT and SIGQUIT are in the background and SIGHUP under nohup."""
+    for number in ENDING:
         signal.signal(number, signal.SIG_DFL)
 
 
@@ -603,7 +617,7 @@ def ended_by(it, number, words):
 def interruptions(it):
     """A signal ends a run at once, with its kubectl and its temporary folder; an old export stays whole."""
     it.run('export', 'old')
-    for number in (signal.SIGINT, signal.SIGTERM, signal.SIGHUP):
+    for number in ENDING:
         for words_ in (['lint'], ['export', 'new'], ['export', '--force', 'old']):
             status, out, took, before, gone = got = ended_by(it, number, words_)
             name = '%s during %s' % (number.name, ' '.join(words_))
