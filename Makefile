@@ -30,7 +30,7 @@ fuzz:
 wrong-bodies:
 	python3 tools/wrong_bodies.py $(CRATE)
 
-# The program, proved and compiled: from nothing some 20 minutes of four cores; with nothing changed a moment.
+# The program, proved and compiled: from nothing 20 to 40 minutes of four cores; with nothing changed a moment.
 build:
 	@python3 tools/build.py
 

@@ -87,8 +87,8 @@ def main():
     stale = sorted((it for it in crates if it.makes_rlib() and not it.is_built()), key=lambda it: len(it.below()))
     progress = Progress(len(stale) + 1)
     if stale:
-        print('%d of %d crates are to be proved, and the program built. From nothing this takes some 20 minutes of four'
-              ' cores,\nor 50 of one; what was proved before and is unchanged is kept.' % (len(stale) + 1, len(crates)),
+        print('%d of %d crates are to be proved, and the program built. From nothing this takes 20 to 40 minutes of four'
+              ' cores,\nor 50 to 80 of one; what was proved before and is unchanged is kept.' % (len(stale) + 1, len(crates)),
               flush=True)
     well = libraries(rt, stale, progress)
     for it in held:
