@@ -7,7 +7,7 @@ writes to the file OUT a cluster role of COUNT rules. By KIND they are for
     equal          one resource
     subresources   `*/SUB` each
     urls           a URL each that ends in a star
-    fronts         URLs that end in a star, each of which begins like a shorter one, of up to 2,000 lengths
+    prefixes         URLs that end in a star, each of which begins like a shorter one, of up to 2,000 lengths
 """
 
 import json
@@ -20,7 +20,7 @@ def asked(kind, number):
     """The resources or URLs of a rule."""
     if kind == 'urls':
         return {'nonResourceURLs': ['/a/%07d*' % number]}
-    if kind == 'fronts':
+    if kind == 'prefixes':
         return {'nonResourceURLs': ['/%s*' % ('a' * (number % LENGTHS))]}
     return {'apiGroups': [''], 'resources': [{'different': 'r%d', 'equal': 'r%.0s', 'subresources': '*/r%d'}[kind] % number]}
 

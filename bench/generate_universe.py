@@ -3,7 +3,7 @@
     python3 generate_universe.py EXPORT N_PRINCIPALS N_NAMESPACES OUT
 
 writes to the file OUT a Universe document of so many of the users and namespaces of an export that
-generate_export.py wrote, four verbs and all resources of its API lists, and tells on standard output
+generate_export.py wrote, four verbs and all resources of its API lists, and prints on standard output
 how many of its requests fit.
 """
 

@@ -86,7 +86,7 @@ for size in "1000 4000 100" "5000 20000 300" "10000 40000 500"; do
     python3 generate_export.py $size 1 "$room/export.json" > /dev/null
     measure_lint "lint, $size roles, bindings, namespaces" "$room/export.json"
 done
-for kind in different equal subresources urls fronts; do
+for kind in different equal subresources urls prefixes; do
     python3 generate_rules.py "$kind" 20000 "$room/rules.json"
     measure_lint "lint, one role of 20000 rules: $kind" "$room/rules.json"
 done

@@ -20,14 +20,14 @@ def bare(document):
     return {field: value for field, value in document.items() if field not in ('apiVersion', 'kind')}
 
 
-def told(name, well, said=''):
+def checked(name, well, said=''):
     results.append(bool(well))
     print(('ok   ' if well else 'FAIL ') + name + ('' if well else ': ' + said), flush=True)
 
 
 def tested(*parts):
     """Runs each part over the built program and prints the last line; the status to end with."""
-    told('the program is built', os.path.isfile(PROGRAM), 'no file %s' % os.path.relpath(PROGRAM, TOP))
+    checked('the program is built', os.path.isfile(PROGRAM), 'no file %s' % os.path.relpath(PROGRAM, TOP))
     for part in parts if all(results) else ():
         part()
     print('%d passed, %d failed' % (results.count(True), results.count(False)))

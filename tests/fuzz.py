@@ -1,7 +1,7 @@
 """Bad documents, drawn by a seed, through the built program, against the table of refusals written down once more.
 
 First every field of a good document of each kind is in turn missing, null and of each other shape. Then come COUNT random
-documents: several fields altered, alone or in lists, spelled in odd ways, cut and damaged. What has to be told of each
+documents: several fields altered, alone or in lists, spelled in odd ways, cut and damaged. What has to be reported of each
 input is worked out here from its bytes alone, as docs/FORMATS.md says it. `fuzz.py SEED COUNT` tries others; without them
 the seed is a new one, and the count 20,000. The last line is `N passed, M failed`.
 """
@@ -128,12 +128,12 @@ is_universe = has(principals=may(are(is_principal)), resources=may(are(is_listed
 # ---- then what is refused, and in which documents
 
 def refused(message, is_right, field=None):
-    """A row of the table: what is told of a document, or of its field, if it isn't right."""
+    """A row of the table: what is reported of a document, or of its field, if it isn't right."""
     return lambda document: None if is_right(document.get(field) if field else document) else message
 
 
 def first_refused(message, field, is_right):
-    """A row of the table that tells the first bad item of a list, or 1 if there is no list."""
+    """A row of the table that names the first bad item of a list, or 1 if there is no list."""
     def told(document):
         items = document.get(field)
         if not may(is_list)(items):
@@ -188,7 +188,7 @@ def document_fault(document, list_version=None, list_kind=None):
 
 
 def fault_of(text):
-    """What is told of an input after its file's number, or nothing if it is accepted."""
+    """What is reported of an input after its file's number, or nothing if it is accepted."""
     try:
         value = value_of(text)
     except ValueError:
@@ -270,7 +270,7 @@ ALONE = [
 
 
 def listed(version, kind):
-    """A list whose items tell their kinds, and before them, where the list implies it, the same without."""
+    """A list whose items say their kinds, and before them, where the list implies it, the same without."""
     implied = LISTS[version, kind]
     items = [document for document in ALONE if document['kind'] in ([implied] if implied else ['Role', 'Namespace', 'APIResourceList'])]
     return of_kind(version, kind, {'items': [*map(bare, items), *items] if implied else items})
@@ -517,7 +517,7 @@ def tried(texts):
     """A share of the inputs: which refusals they met, and those that were answered wrongly.
 
     A run ends at its first bad document. So the accepted ones stand before the next bad one in one run, and the bad one of
-    the run before follows, which must not be told.
+    the run before follows, which must not be reported.
     """
     met, wrong, waiting, last = collections.Counter(), [], [], []
     for text in texts:

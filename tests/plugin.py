@@ -1,7 +1,7 @@
 """The kubectl plugin, under dash and under bash, with a stand-in for kubectl and the built program.
 
 The stand-in is a script that serves files made from examples/: it writes down each call, knows no call but those that
-read, and refuses, fails, dies or hangs where a check tells it to. The last line is `N passed, M failed`.
+read, and refuses, fails, dies or hangs where a check makes it. The last line is `N passed, M failed`.
 """
 
 import contextlib
@@ -17,7 +17,7 @@ import sys
 import tempfile
 import time
 
-from common import PROGRAM, TOP, V1, V1BETA1, tested, told
+from common import PROGRAM, TOP, V1, V1BETA1, checked, tested
 
 PLUGIN = os.path.join(TOP, 'plugin', 'kubectl-rbacaudit')
 SHELLS = ['dash' if shutil.which('dash') else 'sh', 'bash']
@@ -141,12 +141,12 @@ class Room:
                                stdout=subprocess.PIPE, stderr=subprocess.PIPE, **how)
         return ended.returncode, ended.stdout.decode(), ended.stderr.decode()
 
-    def told(self, name, well, got):
-        told('%s: %s' % (self.shell, name), well, 'got %r' % (got,))
+    def checked(self, name, well, got):
+        checked('%s: %s' % (self.shell, name), well, 'got %r' % (got,))
 
     def expect(self, name, words, status, out='', err='', **how):
         got = self.run(*words, **how)
-        self.told(name, got == (status, out, err), got)
+        self.checked(name, got == (status, out, err), got)
 
     def lines(self, name):
         """The lines of a file of the room, which is then gone."""
@@ -197,9 +197,9 @@ def in_each_shell(check):
         for shell in SHELLS:
             with room(shell) as it:
                 check(it)
-                it.told('%s leaves nothing behind' % check.__name__, not it.left(), it.left())
+                it.checked('%s leaves nothing behind' % check.__name__, not it.left(), it.left())
                 strange = it.lines('strange')
-                it.told('%s only reads' % check.__name__, not strange, strange)
+                it.checked('%s only reads' % check.__name__, not strange, strange)
     checks.__doc__ = check.__doc__
     return checks
 
@@ -212,25 +212,25 @@ def whole_export(it):
     for folder in ('prod', 'a folder/with  spaces', './-x', "it's $HOME", 'x y*[z]\\q', 'two\nlines', 'region=eu'):
         told_as = './' * ('=' in folder) + folder
         it.expect('export to "%s"' % folder, ['export', folder], 0, 'The export in %s is whole: 8 files.\n' % told_as)
-        it.told('its files', it.files(folder) == WHOLE, it.files(folder))
+        it.checked('its files', it.files(folder) == WHOLE, it.files(folder))
     for name, value in served().items():
         if name != 'apis':
-            it.told('%s is as it was served' % name, document(it.read('prod', name + '.json')) == value, it.read('prod', name + '.json'))
-    it.told('no target is named', not it.lines('targets'), 'a target')
+            it.checked('%s is as it was served' % name, document(it.read('prod', name + '.json')) == value, it.read('prod', name + '.json'))
+    it.checked('no target is named', not it.lines('targets'), 'a target')
     for target in (['--context', 'a b', '--kubeconfig=k=1'], ['--context=a b', '--kubeconfig', 'k=1']):
         it.run('export', '--force', *target, 'prod')
         targets = it.lines('targets')
-        it.told('%s reaches kubectl' % target, targets == ['--context=a b', '--kubeconfig=k=1'] * 9, targets)
+        it.checked('%s reaches kubectl' % target, targets == ['--context=a b', '--kubeconfig=k=1'] * 9, targets)
     alike = api_groups()
     alike['groups'] += [{'versions': [{'groupVersion': 'apps/v1-v2'}]}, {'versions': [{'groupVersion': 'apps-v1/v2'}]}]
     it.serve({'apis': alike, 'api-apps-v1-v2': METRICS}, indent=2)
     it.expect('an index with blanks, and versions of one name', ['export', 'spaced'], 0, 'The export in spaced is whole: 10 files.\n')
-    it.told('each has a file', it.files('spaced') == sorted([*WHOLE, 'api-apps-v1-v2.json', 'api-apps-v1-v2_.json']), it.files('spaced'))
+    it.checked('each has a file', it.files('spaced') == sorted([*WHOLE, 'api-apps-v1-v2.json', 'api-apps-v1-v2_.json']), it.files('spaced'))
 
 
 @in_each_shell
 def export_faults(it):
-    """What can't be read is told and noted; the other files are whole."""
+    """What can't be read is reported and noted; the other files are whole."""
     for number, (trouble, missing, said, why) in enumerate([
             ('forbid accounts', 'accounts.json', 'Error from server (Forbidden): accounts is forbidden\n', 'ended with status 1'),
             ('half-forbid cluster', 'cluster.json', 'Error from server (Forbidden): half of cluster\n', 'ended with status 1'),
@@ -240,16 +240,16 @@ def export_faults(it):
             ('empty api-apps-v1', 'api-apps-v1.json', '', 'printed nothing')]):
         folder = 'faulty%d' % number
         status, out, err = got = it.run('export', folder, trouble=[trouble])
-        it.told('%s: status 1' % trouble, (status, out) == (1, ''), got)
+        it.checked('%s: status 1' % trouble, (status, out) == (1, ''), got)
         line = next((line for line in err.splitlines() if line.startswith("kubectl-rbacaudit: %s can't be had: " % missing)), '')
-        it.told('%s is told' % trouble, line.endswith(why) and (said is None or err.startswith(said)), err)
-        it.told('%s: the other files are there' % trouble,
+        it.checked('%s is reported' % trouble, line.endswith(why) and (said is None or err.startswith(said)), err)
+        it.checked('%s: the other files are there' % trouble,
                 it.files(folder) == sorted({*WHOLE, 'incomplete.txt'} - {missing}), it.files(folder))
         noted = it.read(folder, 'incomplete.txt')
-        it.told('%s is noted' % trouble, noted.startswith(missing + ': kubectl get ') and noted.endswith(why + '\n'), noted)
+        it.checked('%s is noted' % trouble, noted.startswith(missing + ': kubectl get ') and noted.endswith(why + '\n'), noted)
     both = ['forbid accounts', 'down api-v1']
     it.run('export', 'two', trouble=both)
-    it.told('two faults are noted', it.read('two', 'incomplete.txt').count('\n') == 2, it.read('two', 'incomplete.txt'))
+    it.checked('two faults are noted', it.read('two', 'incomplete.txt').count('\n') == 2, it.read('two', 'incomplete.txt'))
     it.expect("kubectl's warnings", ['export', 'warned'], 0, 'The export in warned is whole: 8 files.\n',
               'Warning: cluster is old\nWarning: api-v1 is old\n', trouble=['warn cluster', 'warn api-v1'])
 
@@ -262,23 +262,23 @@ def no_export(it):
                                 ('an empty group list', ['empty apis'], 'kubectl get --raw /apis printed none; so nothing is read'),
                                 ('nothing may be read', nothing, 'nothing could be read')):
         status, out, err = got = it.run('export', 'none', trouble=trouble)
-        it.told(name, (status, out) == (2, '') and err.endswith(said + '\n'), got)
-        it.told('%s: no folder' % name, not os.path.exists(os.path.join(it.work, 'none')), 'a folder')
+        it.checked(name, (status, out) == (2, '') and err.endswith(said + '\n'), got)
+        it.checked('%s: no folder' % name, not os.path.exists(os.path.join(it.work, 'none')), 'a folder')
     it.write('', 'file')
     for folder in ('file', 'file/below'):
         calls = it.lines('calls')
         status, out, err = got = it.run('export', folder)
-        it.told('a folder that can\'t be made: %s' % folder,
+        it.checked('a folder that can\'t be made: %s' % folder,
                 (status, out) == (2, '') and err.endswith("kubectl-rbacaudit: can't make the folder %s\n" % folder), got)
         calls = it.lines('calls')
-        it.told('kubectl isn\'t asked for it', not calls, calls)
+        it.checked('kubectl isn\'t asked for it', not calls, calls)
     for words, said in ((['export'], 'export needs a folder'), (['export', ''], 'the name of the folder is empty'),
                         (['export', 'a', 'b'], 'export writes one folder'), (['export', '--partial', 'a'], 'export has no --partial'),
                         (['export', 'a', '--context'], '--context needs a value'), (['export', '--context=', 'a'], '--context needs a value'),
                         (['export', '--kubeconfig', '--force', 'a'], '--kubeconfig needs a value')):
         status, out, err = got = it.run(*words)
-        it.told('refused: %s' % ' '.join(words), (status, out) == (2, '') and err.startswith('kubectl-rbacaudit: ' + said), got)
-    it.told('nothing was read for a refused line', not it.lines('calls'), 'a call')
+        it.checked('refused: %s' % ' '.join(words), (status, out) == (2, '') and err.startswith('kubectl-rbacaudit: ' + said), got)
+    it.checked('nothing was read for a refused line', not it.lines('calls'), 'a call')
 
 
 def nobody():
@@ -288,7 +288,7 @@ def nobody():
 
 @in_each_shell
 def closed_folder(it):
-    """A folder that may be read but not written, and a file that can't grow: told, and nothing half."""
+    """A folder that may be read but not written, and a file that can't grow: reported, and nothing half."""
     os.chmod(it.path, 0o755)
     for path, folders, names in os.walk(it.path):
         for name in folders:
@@ -297,17 +297,17 @@ def closed_folder(it):
     os.mkdir(os.path.join(it.work, 'closed'), 0o555)
     ended = subprocess.run([it.shell, it.at('plugin'), 'export', os.path.join(it.work, 'closed')], cwd=it.work, stdin=subprocess.DEVNULL,
                            env=it.environment(), stdout=subprocess.PIPE, stderr=subprocess.PIPE, timeout=60, **nobody())
-    it.told('a folder that may not be written', ended.returncode == 2 and not ended.stdout and
+    it.checked('a folder that may not be written', ended.returncode == 2 and not ended.stdout and
             ended.stderr.endswith(b"can't make a temporary folder in %s\n" % os.path.join(it.work, 'closed').encode()), ended)
-    it.told('it stays empty', not it.files('closed'), it.files('closed'))
+    it.checked('it stays empty', not it.files('closed'), it.files('closed'))
 
     def small():
         resource.setrlimit(resource.RLIMIT_FSIZE, (1024, 1024))
 
     status, out, err = got = it.run('export', 'small', preexec_fn=small)
-    it.told('files that can\'t grow', (status, out) == (1, '') and "cluster.json can't be had" in err, got)
-    it.told('they are absent', 'cluster.json' not in it.files('small') and 'accounts.json' in it.files('small'), it.files('small'))
-    it.told('and no file is cut', all(len(it.read('small', name)) < 1024 and (name == 'incomplete.txt' or document(it.read('small', name)))
+    it.checked('files that can\'t grow', (status, out) == (1, '') and "cluster.json can't be had" in err, got)
+    it.checked('they are absent', 'cluster.json' not in it.files('small') and 'accounts.json' in it.files('small'), it.files('small'))
+    it.checked('and no file is cut', all(len(it.read('small', name)) < 1024 and (name == 'incomplete.txt' or document(it.read('small', name)))
                                      for name in it.files('small')), it.files('small'))
 
 
@@ -321,21 +321,21 @@ def old_exports(it):
     it.lines('calls')
     it.expect('an old export', ['export', 'prod'], 2, '',
               'kubectl-rbacaudit: prod already holds an export (cluster.json); --force puts a new one in its place\n')
-    it.told('it stays', it.read('prod', 'cluster.json') == 'old' and not it.lines('calls'), it.read('prod', 'cluster.json'))
+    it.checked('it stays', it.read('prod', 'cluster.json') == 'old' and not it.lines('calls'), it.read('prod', 'cluster.json'))
     for name in ('api-v1.json', 'incomplete.txt', 'accounts.json'):
         os.makedirs(os.path.join(it.work, 'only', name))
         status, _, err = got = it.run('export', 'only')
-        it.told('%s is an export' % name, status == 2 and '(%s)' % name in err, got)
+        it.checked('%s is an export' % name, status == 2 and '(%s)' % name in err, got)
         shutil.rmtree(os.path.join(it.work, 'only'))
     status, _, _ = got = it.run('export', '--force', 'prod', trouble=['down apis'])
-    it.told('--force and no answer: the old export stays', status == 2 and it.read('prod', 'cluster.json') == 'old', got)
+    it.checked('--force and no answer: the old export stays', status == 2 and it.read('prod', 'cluster.json') == 'old', got)
     it.run('export', 'prod', '--force', trouble=['forbid accounts'])
-    it.told('--force: the files of the new export alone, and mine',
+    it.checked('--force: the files of the new export alone, and mine',
             it.files('prod') == sorted({*WHOLE, 'incomplete.txt', 'universe.json'} - {'accounts.json'}), it.files('prod'))
-    it.told('--force: they are new', document(it.read('prod', 'cluster.json')) == served()['cluster'], it.read('prod', 'cluster.json'))
+    it.checked('--force: they are new', document(it.read('prod', 'cluster.json')) == served()['cluster'], it.read('prod', 'cluster.json'))
     it.expect('--force: a whole one after it', ['export', '--force', 'prod'], 0, 'The export in prod is whole: 8 files.\n')
-    it.told('--force: nothing is noted any more', it.files('prod') == sorted([*WHOLE, 'universe.json']), it.files('prod'))
-    it.told('mine stays', it.read('prod', 'universe.json') == 'mine', it.read('prod', 'universe.json'))
+    it.checked('--force: nothing is noted any more', it.files('prod') == sorted([*WHOLE, 'universe.json']), it.files('prod'))
+    it.checked('mine stays', it.read('prod', 'universe.json') == 'mine', it.read('prod', 'universe.json'))
 
 
 # ---- questions
@@ -358,9 +358,9 @@ def questions(it):
     it.expect('a part that the command doesn\'t read', ['can-i', *KIM, '--export', 'my export', 'delete', 'pods'], 1, 'no\n')
     it.lines('calls')
     it.expect('lint of a fresh export', ['lint'], 1, FINDINGS)
-    it.told('lint reads roles and bindings alone', len(it.lines('calls')) == 2, 'other calls')
+    it.checked('lint reads roles and bindings alone', len(it.lines('calls')) == 2, 'other calls')
     it.run('who-can', 'get', 'pods', '--context', 'far')
-    it.told('a question passes its context on', set(it.lines('targets')) == {'--context=far'}, 'another')
+    it.checked('a question passes its context on', set(it.lines('targets')) == {'--context=far'}, 'another')
     it.serve({name: {**value, 'items': [{**item, 'apiVersion': V1BETA1} for item in value['items']]}
               for name, value in served().items() if name in ('cluster', 'namespaced')})
     it.expect('a question to a cluster that serves v1beta1', ['can-i', *KIM, '--why', 'list', 'pods'], 0, granted)
@@ -384,8 +384,8 @@ def words(it):
                        (['lint', '--export', 'x'], 'there is no folder x'), (['universe', 'x'], 'universe has no x'),
                        (['who-knows'], 'there is no command who-knows'), ([], 'a command is missing')):
         status, out, err = got = it.run(*line)
-        it.told('refused: %s' % ' '.join(line), (status, out) == (2, '') and said in err, got)
-    it.told('no line was refused after a call', not it.lines('calls'), 'a call')
+        it.checked('refused: %s' % ' '.join(line), (status, out) == (2, '') and said in err, got)
+    it.checked('no line was refused after a call', not it.lines('calls'), 'a call')
     it.run('export', 'prod')
     it.run('export', './-x')
     it.expect('a folder that looks like an option', ['can-i', '--export=-x', *KIM, 'list', 'pods'], 0, 'yes\n')
@@ -402,11 +402,11 @@ def files(it):
         it.write(file.read(), 'my universe.json')
     whole = subprocess.run([PROGRAM, 'matrix', 'my universe.json'] + [os.path.join('prod', name) for name in WHOLE], cwd=it.work,
                            stdout=subprocess.PIPE, timeout=60, check=True).stdout.decode()
-    it.told('the matrix has rows', whole.count('\n') > 5 and whole.endswith('\nend\n'), whole)
+    it.checked('the matrix has rows', whole.count('\n') > 5 and whole.endswith('\nend\n'), whole)
     it.expect('a matrix of all files', ['matrix', 'my universe.json', '--export', 'prod'], 0, whole)
     it.expect('a matrix of a fresh export', ['matrix', 'my universe.json'], 0, whole)
     page = it.run('matrix', '--export', 'prod', '--limit', '2', 'my universe.json')[1]
-    it.told('a page', page.startswith(''.join(whole.splitlines(True)[:2])) and '\nnext\t' in page, page)
+    it.checked('a page', page.startswith(''.join(whole.splitlines(True)[:2])) and '\nnext\t' in page, page)
     it.expect('the page after it', ['matrix', 'my universe.json', '--after', page.split('\t')[-1][:-1], '--export', 'prod'], 0,
               ''.join(whole.splitlines(True)[2:]))
     it.write(json.dumps({'apiVersion': V1, 'kind': 'Role', 'metadata': {}}), 'bad.json')
@@ -419,7 +419,7 @@ def files(it):
               'rbacaudit: file 3 item 1: M4 bad metadata\nkubectl-rbacaudit: file 3 is prod/namespaced.json\n')
     it.write('', 'prod', 'api-v1.json')
     status, out, err = got = it.run('can-i', *KIM, 'list', 'pods', '--export', 'prod')
-    it.told('a bad API list', (status, out) == (2, '') and err.endswith(' is prod/api-v1.json\n'), got)
+    it.checked('a bad API list', (status, out) == (2, '') and err.endswith(' is prod/api-v1.json\n'), got)
     it.serve({'accounts': {'apiVersion': 'v1', 'kind': 'List', 'items': [5]}})
     it.expect('a bad file of a fresh export', ['matrix'], 2, '', 'rbacaudit: file 4 item 1: M2 not an object\nkubectl-rbacaudit: '
               'file 4 is accounts.json of the fresh export; kubectl rbacaudit export DIR would keep it\n')
@@ -444,9 +444,9 @@ def parts(it):
     it.expect('what lint doesn\'t read may be down', ['lint'], 1, FINDINGS, trouble=DOWN)
     it.expect('accounts matter to a matrix alone', UPDATE, 0, 'yes\n', trouble=['forbid accounts'])
     status, out, err = got = it.run('matrix', trouble=['forbid accounts'])
-    it.told('and there they matter', (status, out) == (2, '') and err.endswith(REFUSAL), got)
+    it.checked('and there they matter', (status, out) == (2, '') and err.endswith(REFUSAL), got)
     status, out, err = got = it.run(*UPDATE, '--partial', trouble=['forbid cluster', 'forbid namespaced'])
-    it.told('without roles nothing answers', (status, out) == (2, '') and 'nothing can be answered' in err, got)
+    it.checked('without roles nothing answers', (status, out) == (2, '') and 'nothing can be answered' in err, got)
 
 
 @in_each_shell
@@ -481,24 +481,24 @@ def gaps(it):
     it.expect('no API lists', [*UPDATE, '--export', 'prod'], 2, '', missing + REFUSAL)
     it.expect('no API lists, --partial', [*UPDATE, '--export', 'prod', '--partial'], 0, 'yes\n', missing + CAUTION +
               'kubectl-rbacaudit: the export has no API lists, so the type deployments.apps is taken as written\n')
-    it.expect('no API lists tell of no subresource', [*UPDATE, '--subresource', 'exce', '--export', 'prod', '--partial'], 1, 'no\n', missing +
+    it.expect('no API lists know no subresource', [*UPDATE, '--subresource', 'exce', '--export', 'prod', '--partial'], 1, 'no\n', missing +
               CAUTION + 'kubectl-rbacaudit: the export has no API lists, so the type deployments.apps is taken as written\n')
     os.remove(os.path.join(it.work, 'prod', 'namespaced.json'))
     status, out, err = got = it.run(*UPDATE, '--partial', '--export', 'prod')
-    it.told('an export without roles never answers', (status, out) == (2, '') and 'nothing can be answered' in err, got)
+    it.checked('an export without roles never answers', (status, out) == (2, '') and 'nothing can be answered' in err, got)
 
 
 SLIP = "kubectl-rbacaudit: the API lists of the export don't have the %s: look for a slip\n"
 
 
 def dana_alone(it, name, words_, said=''):
-    """One check of a question that names no namespace with bindings: its answer, and what is told before it."""
+    """One check of a question that names no namespace with bindings: its answer, and what is reported before it."""
     it.expect(name, ['who-can', '--export', 'prod', '-n', 'nowhere', *words_], 0, 'u:dana@example.com\tClusterRoleBinding/admins\n', said)
 
 
 @in_each_shell
 def types(it):
-    """A type that the API lists don't have is told, and the question answered; a label or another text is no type."""
+    """A type that the API lists don't have is reported, and the question answered; a label or another text is no type."""
     core = served()['api-v1']
     core['resources'].append({'name': 'services', 'singularName': 'fooled', 'namespaced': True, 'verbs': ['"widgets"'], 'shortNames': ['svc', '']})
     it.serve({'api-v1': core})
@@ -562,25 +562,25 @@ def universes(it):
     os.mkdir(os.path.join(it.work, 't=u'))
     for place, temporary in ((['--export', 'prod'], it.temporary), ([], it.temporary), ([], 't=u')):
         status, out, err = got = it.run('universe', *place, environment={**it.environment(), 'TMPDIR': temporary})
-        it.told('a universe %s, by way of %s' % (place, temporary), (status, err) == (0, '') and document(out) == wanted, got)
+        it.checked('a universe %s, by way of %s' % (place, temporary), (status, err) == (0, '') and document(out) == wanted, got)
     it.write(out, 'universe.json')
     status, rows, err = got = it.run('matrix', '--export', 'prod', 'universe.json')
     row = 'u:dana@example.com\t%s\tget\t%s\t%s\t-\tClusterRoleBinding/admins\n'
-    it.told('matrix takes it', (status, err) == (0, '') and rows.endswith('\nend\n'), got)
+    it.checked('matrix takes it', (status, err) == (0, '') and rows.endswith('\nend\n'), got)
     for place in ('-', 'shop'):
         printed = 'a"b\\\\c\\x09d/é\\x7f\\\\x2d'
-        it.told('its matrix has %s in %s' % (printed, place), row % (place, 'odd"group', printed) in rows, rows)
-        it.told('and nodes/metrics in the cluster alone: %s' % place, (row % (place, '-', 'nodes/metrics') in rows) == (place == '-'), rows)
+        it.checked('its matrix has %s in %s' % (printed, place), row % (place, 'odd"group', printed) in rows, rows)
+        it.checked('and nodes/metrics in the cluster alone: %s' % place, (row % (place, '-', 'nodes/metrics') in rows) == (place == '-'), rows)
     for name in it.files('prod'):
         if name.startswith('api-'):
             os.remove(os.path.join(it.work, 'prod', name))
     status, out, err = got = it.run('universe', '--export', 'prod', '--partial')
     named = ['{"group": "", "resource": "%s", "namespaced": true}' % name in out for name in ('nodes/metrics', 'nodes')]
-    it.told('without API lists, the types of rules', status == 0 and named == [True, False], got)
+    it.checked('without API lists, the types of rules', status == 0 and named == [True, False], got)
     it.serve({'cluster': of_kinds([]), 'namespaced': of_kinds([]), **{name: {**value, 'resources': []} for name, value in served().items()
                                                                          if name.startswith('api-')}})
     status, out, err = got = it.run('universe')
-    it.told('a universe of nothing is a document too', status == 0 and document(out) == {**wanted, 'resources': []}, got)
+    it.checked('a universe of nothing is a document too', status == 0 and document(out) == {**wanted, 'resources': []}, got)
 
 
 # ---- interruptions, tools, texts
@@ -621,10 +621,10 @@ def interruptions(it):
         for words_ in (['lint'], ['export', 'new'], ['export', '--force', 'old']):
             status, out, took, before, gone = got = ended_by(it, number, words_)
             name = '%s during %s' % (number.name, ' '.join(words_))
-            it.told(name, (status, out) == (128 + number, b'') and took < 30, got)
-            it.told(name + ': there was something to remove, and it is gone', before and not it.left(), (before, it.left()))
-            it.told(name + ': kubectl is gone', gone, got)
-            it.told(name + ': no half export', not os.path.exists(os.path.join(it.work, 'new')) and it.files('old') == WHOLE, it.files('.'))
+            it.checked(name, (status, out) == (128 + number, b'') and took < 30, got)
+            it.checked(name + ': there was something to remove, and it is gone', before and not it.left(), (before, it.left()))
+            it.checked(name + ': kubectl is gone', gone, got)
+            it.checked(name + ': no half export', not os.path.exists(os.path.join(it.work, 'new')) and it.files('old') == WHOLE, it.files('.'))
 
 
 @in_each_shell
@@ -636,18 +636,18 @@ def publishing(it):
     os.chmod(os.path.join(it.bin, 'mv'), 0o755)
     status, _, _ = got = it.run('export', '--force', 'prod')
     os.remove(os.path.join(it.bin, 'mv'))
-    it.told('it is killed', status == -signal.SIGKILL, got)
+    it.checked('it is killed', status == -signal.SIGKILL, got)
     for name in os.listdir(os.path.join(it.work, 'prod')):
         if name.startswith('.rbacaudit'):
             shutil.rmtree(os.path.join(it.work, 'prod', name))
-    it.told('the old files are gone, and it is noted', it.files('prod') == ['incomplete.txt'], it.files('prod'))
+    it.checked('the old files are gone, and it is noted', it.files('prod') == ['incomplete.txt'], it.files('prod'))
     status, out, err = got = it.run('lint', '--export', 'prod', '--partial')
-    it.told('it says so', (status, out) == (2, '') and 'it was interrupted while its files were put in place' in err, got)
+    it.checked('it says so', (status, out) == (2, '') and 'it was interrupted while its files were put in place' in err, got)
 
 
 @in_each_shell
 def tools(it):
-    """What is missing is told with what to do; versions and help."""
+    """What is missing is reported with what to do; versions and help."""
     bare = it.at('bare')
     os.mkdir(bare)
     for name in (it.shell, 'awk', 'sed', 'mktemp', 'mkdir', 'mv', 'rm', 'rmdir', 'cat', 'tr'):
@@ -656,42 +656,42 @@ def tools(it):
     for line, said in ((['lint'], 'there is no rbacaudit on the PATH'), (['universe'], 'there is no rbacaudit on the PATH'),
                        (['export', 'x'], 'there is no kubectl on the PATH')):
         status, out, err = got = it.run(*line, environment=environment)
-        it.told('%s: %s' % (line[0], said), (status, out) == (2, '') and said in err, got)
+        it.checked('%s: %s' % (line[0], said), (status, out) == (2, '') and said in err, got)
     status, out, err = got = it.run('--version', environment=environment)
-    it.told('the version of the plugin alone', (status, out) == (2, 'kubectl-rbacaudit 0.1.0\n') and 'make install' in err, got)
+    it.checked('the version of the plugin alone', (status, out) == (2, 'kubectl-rbacaudit 0.1.0\n') and 'make install' in err, got)
     it.run('export', 'prod')
     os.symlink(PROGRAM, os.path.join(bare, 'rbacaudit'))
     it.expect('an export needs no kubectl', ['can-i', '--export', 'prod', *KIM, 'list', 'pods'], 0, 'yes\n', environment=environment)
     status, out, err = got = it.run('lint', environment=environment)
-    it.told('a fresh one does', (status, out) == (2, '') and 'there is no kubectl on the PATH' in err, got)
+    it.checked('a fresh one does', (status, out) == (2, '') and 'there is no kubectl on the PATH' in err, got)
     it.expect('versions', ['--version'], 0, 'kubectl-rbacaudit 0.1.0\nrbacaudit 0.1.0\n')
     for line, said in ((['--help'], 'kubectl rbacaudit who-can'), (['-h'], '--partial'), (['export', '--help'], 'incomplete.txt'),
                        (['universe', '-h'], 'Universe document'), (['can-i', '--help'], '--why'),
                        (['who-can', '-Ah'], 'with kubectl rbacaudit who-can'), (['matrix', '-h'], '--after'), (['lint', '--help'], 'dangling-role')):
         status, out, err = got = it.run(*line)
-        it.told('help: %s' % ' '.join(line), (status, err) == (0, '') and said.lower() in out.lower(), got)
+        it.checked('help: %s' % ' '.join(line), (status, err) == (0, '') and said.lower() in out.lower(), got)
     for line, options in ((['--help'], ['--export', '--partial', '--context', '--kubeconfig', '--version']),
                           (['export', '--help'], ['--force', '--context', '--kubeconfig'])):
         out = it.run(*line)[1]
-        it.told('%s fits a screen' % line, out.count('\n') <= 40 and max(map(len, out.splitlines())) <= 120, out)
-        it.told('%s has all options' % line, all(re.search(option + r'\b', out) for option in options), out)
+        it.checked('%s fits a screen' % line, out.count('\n') <= 40 and max(map(len, out.splitlines())) <= 120, out)
+        it.checked('%s has all options' % line, all(re.search(option + r'\b', out) for option in options), out)
     calls = it.lines('calls')
-    it.told('help asks no cluster', calls.count('|get|--raw|/apis') == 1, calls)
+    it.checked('help asks no cluster', calls.count('|get|--raw|/apis') == 1, calls)
     status, out, err = got = it.run('can-i', *KIM, 'list', 'pods', preexec_fn=lambda: os.close(0))
-    it.told('with standard input closed', (status, out) == (0, 'yes\n'), got)
+    it.checked('with standard input closed', (status, out) == (0, 'yes\n'), got)
 
 
 def script():
     """The script itself: shellcheck, and make install."""
     if shutil.which('shellcheck'):
         ended = subprocess.run(['shellcheck', PLUGIN], stdout=subprocess.PIPE, stderr=subprocess.STDOUT, timeout=120)
-        told('shellcheck', ended.returncode == 0, ended.stdout.decode())
+        checked('shellcheck', ended.returncode == 0, ended.stdout.decode())
     else:
         print('skipped: shellcheck, which this machine lacks')
-    told('the plugin may be run', os.stat(PLUGIN).st_mode & 0o111 == 0o111, stat.filemode(os.stat(PLUGIN).st_mode))
+    checked('the plugin may be run', os.stat(PLUGIN).st_mode & 0o111 == 0o111, stat.filemode(os.stat(PLUGIN).st_mode))
     with open(os.path.join(TOP, 'Makefile'), encoding='utf-8') as file:
         lines = file.read().splitlines()
-    told('make install installs it', '\tinstall -m 755 plugin/kubectl-rbacaudit $(DESTDIR)$(PREFIX)/bin/kubectl-rbacaudit' in lines, 'no such line')
+    checked('make install installs it', '\tinstall -m 755 plugin/kubectl-rbacaudit $(DESTDIR)$(PREFIX)/bin/kubectl-rbacaudit' in lines, 'no such line')
 
 
 if __name__ == '__main__':

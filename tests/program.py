@@ -11,7 +11,7 @@ import subprocess
 import sys
 import tempfile
 
-from common import PODS, PROGRAM, TOP, V1, V1BETA1, bare, export, tested, told
+from common import PODS, PROGRAM, TOP, V1, V1BETA1, bare, checked, export, tested
 from transcripts import example_cluster, loop_of_pages, transcripts
 
 MOST_BYTES = 67_108_864
@@ -26,7 +26,7 @@ def run(words, given=b'', **how):
 def expect(name, words, status, out=b'', err=b'', given=b''):
     ended = run(words, given)
     got = (ended.returncode, ended.stdout, ended.stderr)
-    told(name, got == (status, out, err), 'got %r' % (got,))
+    checked(name, got == (status, out, err), 'got %r' % (got,))
 
 
 def role(namespace, name, rules):
@@ -99,22 +99,22 @@ def help_and_usage():
     """Help on standard output with status 0; a refused line on standard error with status 2."""
     for words in (['--help'], ['can-i', '--help'], ['who-can', '--help'], ['matrix', '--help'], ['lint', '--help'], ['-h'], ['lint', '-h']):
         ended = run(words)
-        told('%s is on standard output' % ' '.join(words),
+        checked('%s is on standard output' % ' '.join(words),
              ended.returncode == 0 and b'Usage' in ended.stdout and not ended.stderr, repr(ended))
     commands = run(['--help']).stdout
     for command in (b'can-i', b'who-can', b'matrix', b'lint'):
-        told('help names %s' % command.decode(), command in commands, repr(commands))
+        checked('help names %s' % command.decode(), command in commands, repr(commands))
     options = run(['can-i', '--help']).stdout
     for option in (b'--as', b'--groups', b'-n, --namespace', b'-A, --all-namespaces', b'--subresource', b'-q, --quiet',
                    b'--why', b'VERB', b'TARGET', b'FILE'):
-        told('help names %s' % option.decode(), option in options, repr(options))
+        checked('help names %s' % option.decode(), option in options, repr(options))
     for line in (b'Namespace to check (default: default)', b'five fields, joined by tabs', b'rbacaudit can-i --as alice -n dev get pods'):
-        told('help of can-i says "%s"' % line.decode(), line in options, repr(options))
+        checked('help of can-i says "%s"' % line.decode(), line in options, repr(options))
     for command in ('who-can', 'matrix', 'lint'):
         text = run([command, '--help']).stdout
-        told('help of %s names FILE and has an example' % command, b'FILE' in text and b'rbacaudit %s ' % command.encode() in text, repr(text))
+        checked('help of %s names FILE and has an example' % command, b'FILE' in text and b'rbacaudit %s ' % command.encode() in text, repr(text))
     for option in (b'--after <TOKEN>', b'--limit <N>'):
-        told('help names %s' % option.decode(), option in run(['matrix', '--help']).stdout)
+        checked('help names %s' % option.decode(), option in run(['matrix', '--help']).stdout)
     for token in ('', 'MQ==', 'M', 'OQ', 'MQ', 'MQlnOmEJLQktCS0JeAkt='):
         expect('"%s" is no token' % token, ['matrix', '--after', token], 2, err=b'rbacaudit: U4 bad token\n')
     expect('--version prints name and version', ['--version'], 0, b'rbacaudit 0.1.0\n')
@@ -127,17 +127,17 @@ def help_and_usage():
                   ['matrix', '--limit', '1', '--limit', '1'], ['matrix', '--after', 'MQ', '--after', 'MQ'], ['matrix', '-n', 'dev'],
                   ['lint', '--limit', '1'], ['lint', '-n', 'dev'], ['help']):
         ended = run(words)
-        told('refused: %s' % (' '.join(words) or 'no words'),
+        checked('refused: %s' % (' '.join(words) or 'no words'),
              ended.returncode == 2 and not ended.stdout and b'Usage' in ended.stderr, repr(ended))
     for limit in ('0', '1000001', '4294967297', '-1', '1.5', 'x', ''):
         ended = run(['matrix', '--limit=' + limit])
-        told('refused: matrix --limit=%s' % limit, ended.returncode == 2 and not ended.stdout and b'--limit <N>' in ended.stderr, repr(ended))
+        checked('refused: matrix --limit=%s' % limit, ended.returncode == 2 and not ended.stdout and b'--limit <N>' in ended.stderr, repr(ended))
 
 
 def full_disk():
     with open('/dev/full', 'wb') as full:
         ended = run(ALICE_GETS_PODS, GRANTED, stdout=full)
-    told('a full disk', (ended.returncode, ended.stderr) == (2, b'rbacaudit: write failed after 0 bytes\n'), repr(ended))
+    checked('a full disk', (ended.returncode, ended.stderr) == (2, b'rbacaudit: write failed after 0 bytes\n'), repr(ended))
 
 
 def little_memory():
@@ -150,7 +150,7 @@ def little_memory():
         ended = subprocess.run([PROGRAM, *ALICE_GETS_PODS], input=given, stdout=subprocess.PIPE, stderr=subprocess.PIPE, timeout=120,
                                preexec_fn=little)
         got = (ended.returncode, ended.stdout, ended.stderr)
-        told('out of memory in %s' % name, got == (2, b'', b'rbacaudit: out of memory\n'), repr(got))
+        checked('out of memory in %s' % name, got == (2, b'', b'rbacaudit: out of memory\n'), repr(got))
 
 
 def rows():
@@ -207,7 +207,7 @@ def matrix_streams():
            given=b'{"kind":"APIVersions","versions":["v1"]}')
     with open('/dev/full', 'wb') as full:
         ended = run(['matrix'], export(), stdout=full)
-    told('a matrix on a full disk', (ended.returncode, ended.stderr) == (2, b'rbacaudit: write failed after 0 bytes\n'), repr(ended))
+    checked('a matrix on a full disk', (ended.returncode, ended.stderr) == (2, b'rbacaudit: write failed after 0 bytes\n'), repr(ended))
 
 
 def lint_streams():
@@ -218,10 +218,10 @@ def lint_streams():
     expect('lint of a bad document', ['lint'], 2, err=b'rbacaudit: file 1: M2 not an object\n', given=b'[]')
     with open('/dev/full', 'wb') as full:
         ended = run(['lint'], export(role('dev', 'r', [PODS])), stdout=full)
-    told('lint on a full disk', (ended.returncode, ended.stderr) == (2, b'rbacaudit: write failed after 0 bytes\n'), repr(ended))
+    checked('lint on a full disk', (ended.returncode, ended.stderr) == (2, b'rbacaudit: write failed after 0 bytes\n'), repr(ended))
     text = run(['lint', '--help']).stdout
     for code in range(1, 8):
-        told('help of lint names L%d' % code, b'L%d  ' % code in text, repr(text))
+        checked('help of lint names L%d' % code, b'L%d  ' % code in text, repr(text))
 
 
 def universe(**lists):

@@ -1,8 +1,8 @@
 """What the built program does where memory, a read or a write is refused.
 
 tests/refuse.c, preloaded, makes the Nth call of a kind fail: only that one, or every one from there on. A sweep counts N
-upwards until a run meets no refusal. For want of memory a run has either its whole answer, or a front of its text, status 2
-and one line that says so; a failed read is I1, and after a failed write the line tells how many bytes went out. Each sweep
+upwards until a run meets no refusal. Out of memory, a run has either its whole answer, or a prefix of its text, status 2
+and one line that says so; a failed read is I1, and after a failed write the line says how many bytes went out. Each sweep
 says how many refusals it met, and fails if it met none. Then come streams that fail by themselves: closed, full, cut off
 or without end. The last line is `N passed, M failed`.
 """
@@ -22,7 +22,7 @@ import sys
 import tempfile
 import threading
 
-from common import PODS, PROGRAM, TOP, V1, V1BETA1, export, tested, told
+from common import PODS, PROGRAM, TOP, V1, V1BETA1, checked, export, tested
 
 NO_MEMORY = b'rbacaudit: out of memory\n'
 READ_FAULT = b'rbacaudit: file 1: I1 read fault\n'
@@ -106,7 +106,7 @@ class Case:
 
 
 def long_matrix():
-    """A page that is handed on in several pieces and ends in a token."""
+    """A page that is written in several pieces and ends in a token."""
     names = {letter: [letter + str(i) for i in range(count)] for letter, count in (('u', 10), ('n', 8), ('v', 6), ('r', 8))}
     rule = {'verbs': ['*'], 'apiGroups': ['*'], 'resources': ['*']}
     given = export(
@@ -120,7 +120,7 @@ def long_matrix():
 
 
 def long_holders():
-    """Holders with ever longer names, so that memory is taken after a piece was handed on."""
+    """Holders with ever longer names, so that memory is taken after a piece was written."""
     names = [letter * size for letter, size in (('a', 40_000), ('b', 40_000), ('c', 150_000), ('d', 600_000))]
     given = export(
         item('ClusterRole', {'name': 'r'}, rules=[PODS]),
@@ -167,7 +167,7 @@ class Met:
             self.wrong.append((first, got[0], got[1][-80:], got[2]))
 
     def says(self):
-        return '%d runs met %d refusals; %d told all, %d stopped within the text' % (self.runs, self.refusals, self.whole, self.cut)
+        return '%d runs met %d refusals; %d gave all, %d stopped within the text' % (self.runs, self.refusals, self.whole, self.cut)
 
 
 def refused(shim, log, given, case, kind, first, last, error, piece=0):
@@ -186,7 +186,7 @@ def refused(shim, log, given, case, kind, first, last, error, piece=0):
 
 
 def sweep(shim, case, kind, is_right, error, from_there_on=False, piece=0):
-    """Refuses call after call until a run meets no refusal; that run has to tell all."""
+    """Refuses call after call until a run meets no refusal; that run has to give all."""
     met = Met()
     with tempfile.TemporaryFile() as log, tempfile.TemporaryFile() as given:
         given.write(case.given)
@@ -199,7 +199,7 @@ def sweep(shim, case, kind, is_right, error, from_there_on=False, piece=0):
 
 
 def is_short_of_memory(whole, got):
-    """All of the answer, or a front of its text and the line that says why there is no more."""
+    """All of the answer, or a prefix of its text and the line that says why there is no more."""
     return got == whole or got[0] == 2 and got[2] == NO_MEMORY and whole[1].startswith(got[1])
 
 
@@ -208,12 +208,12 @@ def is_read_fault(_whole, got):
 
 
 def is_write_fault(whole, got):
-    """A front of the text, and the line that tells how long it is."""
+    """A prefix of the text, and the line that says how long it is."""
     return got[0] == 2 and got[2] == b'rbacaudit: write failed after %d bytes\n' % len(got[1]) and whole[1].startswith(got[1])
 
 
 def tell_sweep(name, met, must_cut=False, once=False):
-    """A sweep is well where no run went wrong and it shows something: refusals, runs that told less than all, texts that were
+    """A sweep is well where no run went wrong and it shows something: refusals, runs that gave less than all, texts that were
     cut where some must be, and, where calls fail from one on, that none was made after the first that failed."""
     if met.wrong:
         said = 'wrong are (N, status, text, message) = %s' % ', '.join(map(repr, met.wrong[:5]))
@@ -223,7 +223,7 @@ def tell_sweep(name, met, must_cut=False, once=False):
         said = 'it shows nothing'
     else:
         said = ''
-    told('%s: %s' % (name, met.says()), not said, said)
+    checked('%s: %s' % (name, met.says()), not said, said)
 
 
 def which(from_there_on):
@@ -273,7 +273,7 @@ def faults(room):
 
 
 def parser_texts():
-    """Help and a refused line, whose texts program.py looks at: here they are what a run tells that meets no refusal."""
+    """Help and a refused line, whose texts program.py looks at: here they are what a run prints that meets no refusal."""
     for name, words in (('--help', ['--help']), ('U1', ['who'])):
         case = Case(name, words, b'')
         ended = subprocess.run([PROGRAM, *words], input=b'', stdout=subprocess.PIPE, stderr=subprocess.PIPE, timeout=30)
@@ -303,7 +303,7 @@ def failed_reads(shim):
 
 
 def failed_writes(shim):
-    """Each write in turn: of a long text as it is handed on, and of a short one of which each write takes a byte."""
+    """Each write in turn: of a long text as it is written in pieces, and of a short one of which each write takes a byte."""
     who, listing = few_holders(), long_matrix()
     for (case, piece), error in itertools.product(((who, 1), (listing, 0), (listing, 10_000)), (errno.ENOSPC, errno.EINTR, 0)):
         for mode in (False, True):
@@ -320,7 +320,7 @@ def redirected(name, redirection, words, status, err=b'', out=b'', given=None):
     ended = subprocess.run(['sh', '-c', 'exec "$0" "$@" ' + redirection, PROGRAM, *words], input=given,
                            stdout=subprocess.PIPE, stderr=subprocess.PIPE, timeout=30)
     got = ended.returncode, ended.stdout, ended.stderr
-    told(name, got == (status, out, err), 'got %r' % (got,))
+    checked(name, got == (status, out, err), 'got %r' % (got,))
 
 
 def closed_streams(room):
@@ -351,7 +351,7 @@ def pipes():
     os.close(reader)
     ended = subprocess.run([PROGRAM, *words], input=given, stdout=writer, stderr=subprocess.PIPE, timeout=30)
     os.close(writer)
-    told('a closed pipe', (ended.returncode, ended.stderr) == (2, b'rbacaudit: write failed after 0 bytes\n'), repr(ended))
+    checked('a closed pipe', (ended.returncode, ended.stderr) == (2, b'rbacaudit: write failed after 0 bytes\n'), repr(ended))
 
     with tempfile.TemporaryFile() as source:
         source.write(given)
@@ -363,7 +363,7 @@ def pipes():
         lister.stderr.close()
         status = lister.wait(30)
     count = re.fullmatch(rb'rbacaudit: write failed after (\d+) bytes\n', said)
-    told('head -n 1 reads a line, and the pipe closes', status == 2 and head.stdout == text[:text.index(b'\n') + 1]
+    checked('head -n 1 reads a line, and the pipe closes', status == 2 and head.stdout == text[:text.index(b'\n') + 1]
          and count and len(head.stdout) <= int(count[1]) < len(text), repr((status, head.stdout, said)))
 
     reader, writer = os.pipe2(os.O_NONBLOCK)
@@ -372,21 +372,21 @@ def pipes():
     os.close(writer)
     with os.fdopen(reader, 'rb') as pipe:
         taken = pipe.read()
-    told('a pipe that takes a part of a write and then no more', len(taken) == room
+    checked('a pipe that takes a part of a write and then no more', len(taken) == room
          and is_write_fault(listing.whole, (ended.returncode, taken, ended.stderr)), repr((len(taken), ended)))
 
 
 def disks_with_room():
-    """A disk with room for so many bytes: it gets them, and the line tells their number."""
+    """A disk with room for so many bytes: it gets them, and the line says how many."""
     listing = long_matrix()
     rooms = [(case, size) for case in (can_i(), few_holders()) for size in range(len(case.whole[1]) + 1)]
     rooms += [(listing, size) for size in (FULL - 1, FULL, FULL + 1, 2 * FULL, len(listing.whole[1]) - 1)]
     wrong = [(case.name, size) for case, size in rooms if not fills(case, size)]
-    told('disks with room for %d sizes' % len(rooms), not wrong, repr(wrong[:10]))
+    checked('disks with room for %d sizes' % len(rooms), not wrong, repr(wrong[:10]))
 
 
 def fills(case, size):
-    """Whether the program fills a disk of this size with the front of its text, and tells what is missing."""
+    """Whether the program fills a disk of this size with a prefix of its text, and says what is missing."""
     def little():
         signal.signal(signal.SIGXFSZ, signal.SIG_IGN)
         resource.setrlimit(resource.RLIMIT_FSIZE, (size, size))
@@ -413,7 +413,7 @@ def bad_files(room):
     for name, path in (('a link to itself', around), ('a name below a file', os.path.join(beside, 'x')), ('an empty name', ''),
                        ('a name that is too long', 'x' * 5000), ('a file that opens and is not read', '/proc/self/mem')):
         got = asked_of(path)
-        told(name, got == (2, b'', READ_FAULT), 'got %r' % (got,))
+        checked(name, got == (2, b'', READ_FAULT), 'got %r' % (got,))
 
 
 def unreadable(room):
@@ -428,11 +428,11 @@ def unreadable(room):
     for mode, wanted in ((0o444, (0, b'yes\n', b'')), (0, (2, b'', READ_FAULT))):
         os.chmod(path, mode)
         got = asked_of(path, **how)
-        told('a file of mode %03o' % mode, got == wanted, 'got %r' % (got,))
+        checked('a file of mode %03o' % mode, got == wanted, 'got %r' % (got,))
 
 
 def fifos(room):
-    """A FIFO is read to its end, in however many pieces it comes; where its writer goes too early, the front isn't JSON."""
+    """A FIFO is read to its end, in however many pieces it comes; where its writer goes too early, the prefix isn't JSON."""
     whole = export(*WORKED)
     path = os.path.join(room, 'fifo')
     os.mkfifo(path)
@@ -449,7 +449,7 @@ def fifos(room):
         giver.start()
         got = asked_of(path)
         giver.join(30)
-        told('a FIFO %s' % name, got == wanted, 'got %r' % (got,))
+        checked('a FIFO %s' % name, got == wanted, 'got %r' % (got,))
 
 
 # ---- what refuses
@@ -460,7 +460,7 @@ def is_met():
               'readv', 'fread', 'pwrite', 'pwrite64', 'writev', 'fwrite', 'printf', 'puts', 'fputs', 'sendfile', 'splice', 'syscall'}
     named = subprocess.run(['nm', '-D', '--undefined-only', PROGRAM], stdout=subprocess.PIPE, timeout=30).stdout.decode()
     called = {line.split()[-1].partition('@')[0] for line in named.splitlines()}
-    told('all memory, reads and writes are had by calls that can be refused', {'malloc', 'read', 'write'} <= called and not called & others,
+    checked('all memory, reads and writes are had by calls that can be refused', {'malloc', 'read', 'write'} <= called and not called & others,
          repr(sorted(called & others) or sorted(called)))
 
 
@@ -468,7 +468,7 @@ def main():
     with tempfile.TemporaryDirectory() as room:
         shim = os.path.join(room, 'refuse.so')
         built = subprocess.run(['cc', '-O2', '-Wall', '-Werror', '-shared', '-fPIC', '-o', shim, os.path.join(TOP, 'tests', 'refuse.c')])
-        told('what refuses is built', built.returncode == 0)
+        checked('what refuses is built', built.returncode == 0)
         is_met()
         refused_memory(shim, room)
         failed_reads(shim)

@@ -93,7 +93,7 @@ ssize_t read(int file, void *bytes, size_t count)
     return syscall(SYS_read, file, bytes, piece(count));
 }
 
-/* Standard error stays as it is, so that a fault can be told. */
+/* Standard error stays as it is, so that a fault can be reported. */
 ssize_t write(int file, const void *bytes, size_t count)
 {
     if (file != STDOUT_FILENO)

@@ -2,7 +2,7 @@
 
 Each of the four files has every command, every option under its command and every default that help has, and no others.
 Each shell that the machine has completes lines. The man page renders without a warning, and its examples are run in
-examples/. `make install` puts the files where they are looked for. What the machine lacks is told and not counted.
+examples/. `make install` puts the files where they are looked for. What the machine lacks is reported and not counted.
 The last line is `N passed, M failed`.
 """
 
@@ -19,7 +19,7 @@ import sys
 import tempfile
 import termios
 
-from common import PROGRAM, TOP, tested, told
+from common import PROGRAM, TOP, checked, tested
 
 COMPLETIONS = os.path.join(TOP, 'completions')
 MAN = os.path.join(TOP, 'man', 'rbacaudit.1')
@@ -89,7 +89,7 @@ def is_short_for(short, text):
 def agrees(name, said, wanted, same=None):
     """One check: these are the keys that are wanted, and what stands under each is the same."""
     wrong = sorted(set(said) ^ set(wanted)) or [key for key in wanted if same and not same(said[key], wanted[key])]
-    told(name, not wrong, 'of %r: %r, wanted %r' % (wrong, said, wanted))
+    checked(name, not wrong, 'of %r: %r, wanted %r' % (wrong, said, wanted))
 
 
 def is_described(said, wanted):
@@ -113,7 +113,7 @@ def fish_file():
     said = dict(re.findall(r"""^complete .* -a (\S+) -d '(.*)'$""", text, re.M))
     agrees('fish: the commands', said, commands(), is_short_for)
     found = re.findall(r"^complete -c rbacaudit -n '__rbacaudit_lacks (\S+) (.*)' (?:-s (\w) )?-l (\S+) (-x )?-d '(.*)'$", text, re.M)
-    told('fish: all options are told apart', len(found) == len(re.findall(r'^complete .*-l ', text, re.M)), repr(found))
+    checked('fish: all options are told apart', len(found) == len(re.findall(r'^complete .*-l ', text, re.M)), repr(found))
     for command in ('', *commands()):
         wanted = options(*command.split())
         said = {spellings(short and '-' + short, '--' + long): (value, text) for asked, where, short, long, value, text in found
@@ -183,13 +183,13 @@ def man_file():
     agrees('man: the arguments', tagged(part_of_man('ARGUMENTS')), words, lambda said, text: has_default(('', said), ('', text)))
     known = {name for command in ('', *commands()) for names in options(*command.split()) for name in names} | {'--raw'}
     strange = set(re.findall(r'(?<![\w-])--[a-z][a-z-]*', plain(contents(MAN)))) - known
-    told('man: no option that help has not', not strange, repr(strange))
+    checked('man: no option that help has not', not strange, repr(strange))
 
 
 def man_facts():
     """The version, the synopsis, the findings of lint and the limits are the program's and those of the documents."""
     version = subprocess.run([PROGRAM, '--version'], stdout=subprocess.PIPE, timeout=60).stdout.decode().strip()
-    told('man: the version', re.match(r'.*\n.*\n\.TH RBACAUDIT 1 \S+ "%s"' % re.escape(version), contents(MAN)), version)
+    checked('man: the version', re.match(r'.*\n.*\n\.TH RBACAUDIT 1 \S+ "%s"' % re.escape(version), contents(MAN)), version)
     synopsis = [plain(re.sub(r'\.SY "(.*)"', r'\1', lines)).split() for lines in re.findall(r'(\.SY .*?)\n\.YS', contents(MAN), re.S)]
     lines = re.findall(r'^`(rbacaudit .*?)\.*`$', contents(os.path.join(TOP, 'docs', 'BEHAVIOUR.md')), re.M)
     agrees('man: the synopsis', [' '.join(words).rstrip('.') for words in synopsis], lines)
@@ -197,7 +197,7 @@ def man_facts():
     agrees('man: the findings of lint', [*tagged(part_of_man('lint', 'SS'))], findings)
     limits = contents(os.path.join(TOP, 'docs', 'FORMATS.md')).partition('## Limits\n')[2]
     for limit in sorted(set(re.findall(r'\d[\d,]*\d', limits))):
-        told('man: the limit %s' % limit, re.search(r'\b%s\b' % limit, part_of_man('LIMITS')))
+        checked('man: the limit %s' % limit, re.search(r'\b%s\b' % limit, part_of_man('LIMITS')))
 
 
 def rendered():
@@ -213,10 +213,10 @@ def rendered():
                                env=dict(os.environ, LC_ALL='C', MANWIDTH='80', MANPAGER='cat'))
         text = re.sub(r'.\x08', '', ended.stdout.decode())
         lost = [name for name in names if not re.search(r'(?<![\w-])%s(?![\w-])' % name, text)]
-        told('%s renders the page' % renderer, ended.returncode == 0 and not ended.stderr and not lost, '%r %r' % (lost, ended.stderr))
+        checked('%s renders the page' % renderer, ended.returncode == 0 and not ended.stderr and not lost, '%r %r' % (lost, ended.stderr))
     if shutil.which('mandoc'):
         ended = subprocess.run(['mandoc', '-Tlint', MAN], stdout=subprocess.PIPE, stderr=subprocess.STDOUT, timeout=60)
-        told('mandoc -Tlint finds nothing', ended.returncode == 0 and not ended.stdout, ended.stdout.decode())
+        checked('mandoc -Tlint finds nothing', ended.returncode == 0 and not ended.stdout, ended.stdout.decode())
 
 
 def examples():
@@ -225,9 +225,9 @@ def examples():
     for command, wanted in re.findall(r'^\$ ((?:.*\\\n)*.*\n)((?:(?!\$ ).*\n)*)', plain(''.join(blocks)), re.M):
         ended = subprocess.run(['bash', '-c', command], cwd=os.path.join(TOP, 'examples'), env=dict(os.environ, PATH=path_with_program()),
                                stdout=subprocess.PIPE, stderr=subprocess.STDOUT, timeout=60)
-        told('man: %s' % command.strip(), ended.stdout.decode() == wanted, 'got %r' % ended.stdout.decode())
+        checked('man: %s' % command.strip(), ended.stdout.decode() == wanted, 'got %r' % ended.stdout.decode())
     for command in commands():
-        told('man: an example of %s' % command, '$ rbacaudit %s ' % command in plain(''.join(blocks)))
+        checked('man: an example of %s' % command, '$ rbacaudit %s ' % command in plain(''.join(blocks)))
 
 
 # ---- the shells at work
@@ -385,12 +385,12 @@ def at_work(shell, offered):
         try:
             got = dict(zip([*wanted, *OF_FILES], offered([*wanted, *OF_FILES], home, folder)))
         except OSError as fault:
-            told('%s completes lines' % shell, False, repr(fault))
+            checked('%s completes lines' % shell, False, repr(fault))
             return
     for line, words in wanted.items():
-        told('%s: %s' % (shell, line), sorted(got[line]) == sorted(words), 'got %r' % got[line])
+        checked('%s: %s' % (shell, line), sorted(got[line]) == sorted(words), 'got %r' % got[line])
     for line, names in OF_FILES.items():
-        told('%s: %s' % (shell, line), names <= {name.rstrip('/') for name in got[line]} <= names | {'notes.txt'}, 'got %r' % got[line])
+        checked('%s: %s' % (shell, line), names <= {name.rstrip('/') for name in got[line]} <= names | {'notes.txt'}, 'got %r' % got[line])
 
 
 def shells():
@@ -407,10 +407,10 @@ def installed():
     with tempfile.TemporaryDirectory() as folder:
         # (the program is built, and isn't to be proved once more)
         subprocess.run(['make', '-s', '-o', 'build', 'install', 'DESTDIR=' + folder, 'PREFIX=/usr'], cwd=TOP, timeout=60)
-        told('make install: bin/rbacaudit', os.access(os.path.join(folder, 'usr/bin/rbacaudit'), os.X_OK))
+        checked('make install: bin/rbacaudit', os.access(os.path.join(folder, 'usr/bin/rbacaudit'), os.X_OK))
         for name, place in places.items():
             path = os.path.join(folder, 'usr/share', place)
-            told('make install: share/%s' % place, os.path.isfile(path) and contents(path) == contents(os.path.join(TOP, name)))
+            checked('make install: share/%s' % place, os.path.isfile(path) and contents(path) == contents(os.path.join(TOP, name)))
 
 
 if __name__ == '__main__':

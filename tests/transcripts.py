@@ -13,7 +13,7 @@ import sys
 import tempfile
 import textwrap
 
-from common import PROGRAM, TOP, told
+from common import PROGRAM, TOP, checked
 
 EXAMPLES = os.path.join(TOP, 'examples')
 FOLDERS = {'RECIPES.md': 'cluster'}
@@ -50,13 +50,13 @@ def shown(name, command, wanted, folder):
     environment = dict(os.environ, PATH=os.path.dirname(PROGRAM) + os.pathsep + os.environ['PATH'])
     ended = subprocess.run(['bash', '-c', command], cwd=folder, env=environment, stdout=subprocess.PIPE, stderr=subprocess.STDOUT,
                            timeout=60)
-    told('%s: %s' % (name, command), ended.stdout.decode() == wanted, 'got %r' % ended.stdout.decode())
+    checked('%s: %s' % (name, command), ended.stdout.decode() == wanted, 'got %r' % ended.stdout.decode())
 
 
 def loop_of_pages():
     """README.md shows the loop of examples/pages.sh."""
     loop = re.search(r'^after=\n.*^done\n', text_of('examples', 'pages.sh'), re.S | re.M)[0]
-    told('the loop of examples/pages.sh', textwrap.indent(loop, '    ') in text_of('README.md'))
+    checked('the loop of examples/pages.sh', textwrap.indent(loop, '    ') in text_of('README.md'))
 
 
 def example_cluster():
@@ -65,7 +65,7 @@ def example_cluster():
         subprocess.run([sys.executable, os.path.join(EXAMPLES, 'make_cluster.py'), room], check=True, timeout=60)
         made, kept = contents(room), contents(os.path.join(EXAMPLES, 'cluster'))
     differ = sorted(name for name in made.keys() | kept.keys() if made.get(name) != kept.get(name))
-    told('examples/cluster is what make_cluster.py writes', not differ, 'not so: ' + ', '.join(differ))
+    checked('examples/cluster is what make_cluster.py writes', not differ, 'not so: ' + ', '.join(differ))
 
 
 def contents(folder):

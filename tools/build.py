@@ -1,4 +1,4 @@
-"""Proves and builds the program, and tells how far it is.
+"""Proves and builds the program, and says how far it is.
 
 The libraries are proved side by side, as many as processors and memory allow (RT_JOBS=N: N at once), by what `rt lib`
 does; then `rt run` proves, compiles and links the program, over proved libraries alone. What was proved before and
@@ -20,7 +20,7 @@ PROGRAM = os.path.join(TOP, 'crates', 'rbacaudit')
 
 
 class Progress:
-    """Tells each library as its proof ends."""
+    """Reports each library as its proof ends."""
 
     def __init__(self, count):
         self.count, self.done, self.begun, self.lock = count, 0, time.monotonic(), threading.Lock()
@@ -28,7 +28,7 @@ class Progress:
     def minutes(self):
         return '%.1f minutes' % ((time.monotonic() - self.begun) / 60)
 
-    def tell(self, crate, status, said):
+    def report(self, crate, status, said):
         with self.lock:
             self.done += 1
             if status:
@@ -45,7 +45,7 @@ def proved(crate, jobs, progress):
         except SystemExit as stopped:
             status = stopped.code or 1
         crate.out.seek(0)
-        progress.tell(crate, status, crate.out.read())
+        progress.report(crate, status, crate.out.read())
     return not status
 
 
@@ -64,7 +64,7 @@ def libraries(rt, crates, progress):
 
 
 def program(progress, begun):
-    """Has the program proved, compiled and linked, and told of."""
+    """Has the program proved, compiled and linked, and reported."""
     ended = subprocess.run(['rt', 'run', '--', '--help'], cwd=PROGRAM, stdin=subprocess.DEVNULL,
                            stdout=subprocess.DEVNULL, stderr=subprocess.PIPE, text=True, errors='replace')
     if ended.returncode:

@@ -107,14 +107,14 @@ class Bench:
 
     def mended(self):
         """Tries again from nothing what was tried over a copy in which the crate itself is no more proved."""
-        told = []
+        reports = []
         for copy in self.idle:
             if self.rt.checked(self.crate, {}, FLAGS, copy).returncode:
                 for edit in self.over[copy]:
                     self.results[edit] = self.rt.must_fail(self.crate, edit, FLAGS)
-                    told.append(self.results[edit][1])
+                    reports.append(self.results[edit][1])
         shutil.rmtree(os.path.join(self.room, 'kept', self.crate.name), ignore_errors=True)
-        return told
+        return reports
 
 
 def tasks_of(benches, progress):
@@ -130,7 +130,7 @@ def tasks_of(benches, progress):
     return tasks
 
 
-def tell(said):
+def report(said):
     """One line of progress, without the kit's name for the other folder."""
     print(said.replace('must-fail ', '', 1), flush=True)
 
@@ -153,12 +153,12 @@ def work(names, room):
         refused, said = bench.tried(edit)
         with printing:
             done.append(edit)
-            tell('[%d of %d, %d s] %s' % (len(done), count, time.monotonic() - begun, said))
+            report('[%d of %d, %d s] %s' % (len(done), count, time.monotonic() - begun, said))
 
     given = rt.in_lanes(tasks_of(benches, progress))
     for bench in benches:
         for said in given[bench.crate.name, 'edits']:
-            tell('again, from nothing: %s' % said)
+            report('again, from nothing: %s' % said)
     for crate in tried:
         if crate not in proved:
             print('FAIL %s: not proved, so its wrong bodies were not tried' % crate.name)
@@ -169,7 +169,7 @@ def summed(results, count):
     """Prints what wasn't refused, the cost and the last line."""
     for refused, said in results:
         if not refused:
-            tell('FAIL %s' % said)
+            report('FAIL %s' % said)
     used = resource.getrusage(resource.RUSAGE_CHILDREN)
     print('processor time: %d minutes' % ((used.ru_utime + used.ru_stime) / 60))
     passed = sum(refused for refused, _ in results)

@@ -1,24 +1,12 @@
 -- the least of some entries, as more are looked at
-use Rattle.std.proofs.Common.{◌≡◌, ◌⊎◌, inl, inr, List, [], ◌∷◌, ◌++◌, length, Any, sym, ◌∙◌, refl, subst, arith, MatchOption, Less}
+use Rattle.std.proofs.Common.{◌≡◌, inl, inr, List, [], ◌∷◌, ◌++◌, Any, refl, MatchOption, Less}
 use Rattle.std.specs.Prelude.{Option, Some, None, ⊤}
 use Rattle.std.specs.Cmp.{IsTotalOrder}
 use Rattle.std.proofs.lemmas.Cmp.{nat_list_cmp_total, then_total, on_total, tied_itself}
-use Rattle.std.proofs.lemmas.Bool.{cases_lt}
-use Rattle.std.proofs.lemmas.List.{get_or_append_left, get_or_push, length_push}
 use Rattle.std.proofs.lemmas.List.Quantifiers.{Any-push}
+use Rattle.rbac_terms.proofs.Reading.{any_pushed, any_kept}
 use Rattle.rbac_catalogue.specs.declared.entry.Entry.{Entry}
 use Rattle.rbac_catalogue.specs.Lookups.{resource_of, resource_cmp, IsLeastOf}
-
--- some element of a list that one more was added to is that one or an earlier one
-any_pushed : {X : Type 0} (P : X → Type 0) (xs : List X) (x : X) → Any P (xs ++ x ∷ []) → Any P xs ⊎ P x
-any_pushed P xs x (k, y, l, at, h) =
-    elim (cases_lt k (length xs)) [
-      | inl lt ↦ inl (k, y, lt, sym (get_or_append_left xs (x ∷ []) y k lt) ∙ at, h)
-      | inr ge ↦ let e : length xs ≡ k = omega (arith, length_push xs x) in let same : x ≡ y = sym (get_or_push xs x y k e) ∙ at in inr (subst P (sym same) h)
-    ]
-
-any_kept : {X : Type 0} (P : X → Type 0) (xs : List X) (x : X) → Any P xs → Any P (xs ++ x ∷ [])
-any_kept P xs x (k, y, l, at, h) = (k, y, omega (arith, length_push xs x), get_or_append_left xs (x ∷ []) y k l ∙ at, h)
 
 pub resource_cmp_total : IsTotalOrder resource_cmp
 resource_cmp_total = then_total (on_total (λ f. f.group) nat_list_cmp_total) (on_total (λ f. f.resource) nat_list_cmp_total)

@@ -1,25 +1,21 @@
 -- a type word means one resource
-use Rattle.std.proofs.Common.{◌≡◌, inl, inr, List, Any, sym, ap, subst, refl, ◌∙◌, Less, Equal, Greater, Ordering}
+use Rattle.std.proofs.Common.{◌≡◌, inl, inr, List, Any, sym, ap, subst, refl, ◌∙◌, Less, Equal}
 use Rattle.std.specs.Prelude.{Option, Some, None, Result, Ok, Err, IfOk}
 use Rattle.std.specs.Ordering.{ordering_reverse}
 use Rattle.std.specs.declared.alloc.AllocError.{AllocError}
 use Rattle.std.proofs.lemmas.Map.Lookups.{exact_bytes, exact_pairs}
 use Rattle.rbac_terms.specs.Text.{Text, text_cmp}
-use Rattle.rbac_terms.proofs.Texts.{IsCutAtFirst-one, IsCutAtFirst-front, IsCutAtFirst-contains}
+use Rattle.rbac_terms.proofs.Texts.{IsCutAtFirst-one, IsCutAtFirst-prefix, IsCutAtFirst-contains}
+use Rattle.rbac_terms.proofs.Cases.{by_ordering}
 use Rattle.rbac_catalogue.specs.declared.entry.Entry.{Entry}
 use Rattle.rbac_catalogue.specs.declared.lookup.Found.{Found}
-use Rattle.rbac_catalogue.specs.Lookups.{dot, resource_cmp, IsNamedIn, IsLeastOf, IsMeant, IsWordAndGroup, IsFound, IsOnlyFound}
+use Rattle.rbac_catalogue.specs.Lookups.{dot, resource_cmp, IsNamedIn, IsLeastOf, IsMeantIn, IsWordAndGroup, IsFound, IsOnlyFound}
 use Rattle.rbac_catalogue.proofs.Least.{resource_cmp_total}
 
 exact_resources : (f g : Found) → resource_cmp f g ≡ Equal → f ≡ g
 exact_resources f g e =
     let make : Text × Text → Found = λ p. record { group = p.0; resource = p.1 } in
     ap make (exact_pairs text_cmp text_cmp exact_bytes exact_bytes (f.group, f.resource) (g.group, g.resource) e)
-
-by_ordering : {G : Type 0} (o : Ordering) → (o ≡ Less → G) → (o ≡ Equal → G) → (o ≡ Greater → G) → G
-by_ordering Less f g h = f refl
-by_ordering Equal f g h = g refl
-by_ordering Greater f g h = h refl
 
 module _ (entries : List Entry) where
   not_before : (P : Entry → Type 0) (f g : Found) → IsLeastOf P entries f → IsLeastOf P entries g → ¬ (resource_cmp f g ≡ Less)
@@ -35,7 +31,7 @@ module _ (entries : List Entry) where
   some_named : (P : Entry → Type 0) (f : Found) → IsLeastOf P entries f → Any P entries
   some_named P f l = let (k, e, lt, at, here) = l.listed in (k, e, lt, at, here.0)
 
-  meant_one : (group : Option Text) (word : Text) (f g : Found) → IsMeant entries group word f → IsMeant entries group word g → f ≡ g
+  meant_one : (group : Option Text) (word : Text) (f g : Found) → IsMeantIn entries group word f → IsMeantIn entries group word g → f ≡ g
   meant_one group word f g (inl l) (inl m) = least_one (IsNamedIn group word) f g l m
   meant_one group word f g (inl l) (inr m) = absurd (m.0 (some_named (IsNamedIn group word) f l))
   meant_one group word f g (inr l) (inl m) = absurd (l.0 (some_named (IsNamedIn group word) g m))
@@ -45,13 +41,13 @@ module _ (entries : List Entry) where
   same_parts typed v w None None a b = (sym a.0 ∙ b.0, refl)
   same_parts typed v w None (Some h) a b = absurd (a.1 (IsCutAtFirst-contains typed w h dot b))
   same_parts typed v w (Some g) None a b = absurd (b.1 (IsCutAtFirst-contains typed v g dot a))
-  same_parts typed v w (Some g) (Some h) a b = (IsCutAtFirst-front typed v w g h dot a b, ap (λ t. Some t) (IsCutAtFirst-one typed v w g h dot a b))
+  same_parts typed v w (Some g) (Some h) a b = (IsCutAtFirst-prefix typed v w g h dot a b, ap (λ t. Some t) (IsCutAtFirst-one typed v w g h dot a b))
 
   pub found_one : (typed : Text) (f : Found) → IsFound entries typed f → IsOnlyFound entries typed f
   unfolding IsFound
   found_one typed f (word, group, reads, means) other (w, g, r, m) =
       let same = same_parts typed w word g group r reads in
-      meant_one group word other f (subst (λ x. IsMeant entries x word other) same.1 (subst (λ x. IsMeant entries g x other) same.0 m)) means
+      meant_one group word other f (subst (λ x. IsMeantIn entries x word other) same.1 (subst (λ x. IsMeantIn entries g x other) same.0 m)) means
 
   pub only_one : (typed : Text) (r : Result Found AllocError) → IfOk r (IsFound entries typed) → IfOk r (IsOnlyFound entries typed)
   only_one typed (Ok f) h = found_one typed f h

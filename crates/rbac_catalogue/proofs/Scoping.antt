@@ -1,7 +1,7 @@
 -- a resource text that isn't listed is as what stands before its first slash
 use Rattle.std.proofs.Common.{◌↔◌, inl, inr, List, Contains, subst}
 use Rattle.rbac_terms.specs.Text.{Text, slash, IsCutAtFirst}
-use Rattle.rbac_terms.proofs.Texts.{IsCutAtFirst-front, IsCutAtFirst-contains}
+use Rattle.rbac_terms.proofs.Texts.{IsCutAtFirst-prefix, IsCutAtFirst-contains}
 use Rattle.rbac_catalogue.specs.declared.entry.Entry.{Entry}
 use Rattle.rbac_catalogue.specs.Catalogue.{IsListed, IsClusterScoped, IsClusterOnly}
 
@@ -12,7 +12,7 @@ module _ (entries : List Entry) (group text : Text) (unlisted : ¬ IsListed entr
     λ w. inr (unlisted, (resource, subresource, cut, w)),
     λ w. elim w [
       | inl v ↦ absurd (unlisted v.0)
-      | inr v ↦ subst (IsClusterScoped entries group) (IsCutAtFirst-front text v.1.0 resource v.1.1 subresource slash v.1.2 cut) v.1.3
+      | inr v ↦ subst (IsClusterScoped entries group) (IsCutAtFirst-prefix text v.1.0 resource v.1.1 subresource slash v.1.2 cut) v.1.3
     ],
   )
 

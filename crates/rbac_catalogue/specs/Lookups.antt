@@ -42,8 +42,8 @@ pub record IsLeastOf (P : Entry → Type 0) (entries : List Entry) (found : Foun
   pub none_before : ¬ Any (λ e. P e × (resource_cmp (resource_of e) found ≡ Less)) entries
 
 -- what a word means in that group, or in any: the least resource that it names there; where it names none it stands as written in that group, or in the core group, the empty one (own)
-abbrev pub IsMeant : List Entry → Option Text → Text → Found → Type 0
-IsMeant entries group word found =
+abbrev pub IsMeantIn : List Entry → Option Text → Text → Found → Type 0
+IsMeantIn entries group word found =
     IsLeastOf (IsNamedIn group word) entries found
     ⊎ ((¬ Any (IsNamedIn group word) entries) × (found ≡ record { group = unwrap_or group []; resource = word }))
 
@@ -55,7 +55,7 @@ IsWordAndGroup typed word (Some group) = IsCutAtFirst typed dot word group
 -- what a type word means over these entries
 unfoldable pub IsFound : List Entry → Text → Found → Type 0
 IsFound entries typed found =
-    (word : Text) × (group : Option Text) × IsWordAndGroup typed word group × IsMeant entries group word found
+    (word : Text) × (group : Option Text) × IsWordAndGroup typed word group × IsMeantIn entries group word found
 
 -- it means nothing else
 abbrev pub IsOnlyFound : List Entry → Text → Found → Type 0

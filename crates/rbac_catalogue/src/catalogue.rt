@@ -11,7 +11,7 @@ use rbac_terms::Word;
 use std::alloc::{AllocError, Global};
 use std::marker::Model;
 
-/// What all API resource lists together tell of the resources of a cluster. Entries of one group
+/// What all API resource lists together say about the resources of a cluster. Entries of one group
 /// and name, of several versions, are taken as one resource.
 #[derive(Drop)]
 pub struct Catalogue {
@@ -69,8 +69,8 @@ impl Catalogue {
     /// looked up in that group alone, as `deploy` in `deploy.apps`. Where no resource is named so,
     /// the word stands as written, without a dot in the core group.
     ///
-    /// Subresources and entries without a name have no type words, and the empty word names nothing.
-    /// Takes memory for the result alone.
+    /// Subresources and entries without a name have no type words, and the empty word names
+    /// nothing. Takes memory for the result alone.
     pub fn resolve_word(&self, alloc: Global, word: &Word) -> Result<Found, AllocError>
         ensures found { IfOk result (IsFound self.now.entries word.now) }
         ensures only { IfOk result (IsOnlyFound self.now.entries word.now) }
@@ -79,8 +79,8 @@ impl Catalogue {
     }
 
     /// Whether the resource of that group and full text is known to be outside all namespaces
-    /// (own): it is listed, and namespaced in none of its versions. A subresource that isn't listed,
-    /// as `pods/log`, is asked by its resource, `pods`. Takes no memory.
+    /// (own): it is listed, and namespaced in none of its versions. A subresource that isn't
+    /// listed, as `pods/log`, is asked by its resource, `pods`. Takes no memory.
     pub fn cluster_only(&self, group: &Word, text: &Word) -> bool
         ensures { IsTrue result ↔ IsClusterOnly self.now.entries group.now text.now }
     {

@@ -1,7 +1,5 @@
 //! Entries of API resource lists.
 
-ghost use Rattle.std.specs.Prelude.{◌≡◌};
-
 use rbac_terms::{Items, Word, Words};
 
 /// An entry of an API resource list (Kubernetes API, APIResource). Several entries of one group

@@ -1,4 +1,4 @@
-//! The catalogue of API resources: what API resource lists tell of groups, names and scopes, and
+//! The catalogue of API resources: what API resource lists say about groups, names and scopes, and
 //! which resource a type word such as `po`, `deploy` or `deployments.apps` means.
 #![tactic(auto)]
 

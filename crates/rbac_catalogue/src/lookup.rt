@@ -3,7 +3,7 @@
 ghost use Rattle.std.specs.Prelude.{◌≡◌, IsTrue, ◌↔◌, IfOk, MatchOption, Any, ⊤};
 ghost use Rattle.std.specs.Option.{option_copied};
 ghost use Rattle.std.specs.declared.cmp.Ordering.TheVariants.{Less};
-ghost use Rattle.rbac_catalogue.specs.Lookups.{IsCalled, HasWords, IsNamed, IsNamedIn, resource_of, resource_cmp, IsLeastOf, IsMeant, IsFound};
+ghost use Rattle.rbac_catalogue.specs.Lookups.{IsCalled, HasWords, IsNamed, IsNamedIn, resource_of, resource_cmp, IsLeastOf, IsMeantIn, IsFound};
 
 use crate::entry::Entry;
 use rbac_terms::{Word, cut_at_first};
@@ -87,7 +87,7 @@ fn least_named<'a>(entries: &'a [Entry], group: Option<&[u8]>, word: &[u8]) -> O
 }
 
 // A copy of these texts.
-fn copied(alloc: Global, group: &[u8], resource: &[u8]) -> Result<Found, AllocError>
+fn found_from(alloc: Global, group: &[u8], resource: &[u8]) -> Result<Found, AllocError>
     ensures { IfOk result (λ f. f ≡ record { group = group.now; resource = resource.now }) }
 {
     Ok(Found {
@@ -103,11 +103,11 @@ fn meant(
     group: Option<&[u8]>,
     word: &[u8],
 ) -> Result<Found, AllocError>
-    ensures { IfOk result (IsMeant entries.now (option_copied group.entry) word.now) }
+    ensures { IfOk result (IsMeantIn entries.now (option_copied group.entry) word.now) }
 {
     match least_named(entries, group, word) {
-        Some(entry) => copied(alloc, entry.group.as_bytes(), entry.name.as_bytes()),
-        None => copied(alloc, group.unwrap_or(&[]), word),
+        Some(entry) => found_from(alloc, entry.group.as_bytes(), entry.name.as_bytes()),
+        None => found_from(alloc, group.unwrap_or(&[]), word),
     }
 }
 

@@ -28,12 +28,12 @@ module _ {X W : Type 0} (text_of : X → List ℕ) (contents : W → Option (Lis
         ∙ ap (λ (l : List ℕ). l ++ texts (drop (i + 1) xs)) one_more
         ∙ append_assoc (texts (take i xs)) (text_of x) (texts (drop (i + 1) xs))
 
-    module _ (s t u : SinkView W) (p q r : PageView) (front : Prints contents s p t q (texts (take i xs))) where
+    module _ (s t u : SinkView W) (p q r : PageView) (prefix : Prints contents s p t q (texts (take i xs))) where
       pub line_printed : Prints contents t q u r (text_of x) → Prints contents s p u r (texts (take (i + 1) xs))
       line_printed h = subst (λ (text : List ℕ). Prints contents s p u r text) (sym one_more)
-          (Prints-trans contents s t u p q r (texts (take i xs)) (text_of x) front h)
+          (Prints-trans contents s t u p q r (texts (take i xs)) (text_of x) prefix h)
 
       pub line_stopped : StopsIn contents t q u r (text_of x) → StopsIn contents s p u r (texts xs)
       line_stopped h = subst (λ (text : List ℕ). StopsIn contents s p u r text) (sym whole)
-          (Stops-after contents s t u p q r (texts (take i xs)) (text_of x ++ texts (drop (i + 1) xs)) front
+          (Stops-after contents s t u p q r (texts (take i xs)) (text_of x ++ texts (drop (i + 1) xs)) prefix
           (Stops-more contents t u q r (text_of x) (texts (drop (i + 1) xs)) h))

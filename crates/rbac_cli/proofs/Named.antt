@@ -7,7 +7,7 @@ use Rattle.rbac_terms.specs.Targets.{IsProper, Resource}
 use Rattle.rbac_question.specs.Asked.{IsTypeWord}
 use Rattle.rbac_catalogue.specs.declared.entry.Entry.{Entry}
 use Rattle.rbac_catalogue.specs.declared.lookup.Found.{Found}
-use Rattle.rbac_catalogue.specs.Lookups.{dot, HasWords, IsNamedIn, IsMeant, IsWordAndGroup, IsFound}
+use Rattle.rbac_catalogue.specs.Lookups.{dot, HasWords, IsNamedIn, IsMeantIn, IsWordAndGroup, IsFound}
 use Rattle.rbac_cli.specs.Meant.{with_subresource}
 
 -- a word, without a slash
@@ -26,7 +26,7 @@ has_words : (group : Option Text) (word : Text) (e : Entry) → IsNamedIn group 
 has_words None word e h = h.1
 has_words (Some group) word e h = h.1.1
 
-meant_plain : (entries : List Entry) (group : Option Text) (word : Text) (f : Found) → IsPlain word → IsMeant entries group word f → IsPlain f.resource
+meant_plain : (entries : List Entry) (group : Option Text) (word : Text) (f : Found) → IsPlain word → IsMeantIn entries group word f → IsPlain f.resource
 meant_plain entries group word f plain (inl l) = let (k, e, lt, at, here) = l.listed in
     subst IsPlain (ap (λ (r : Found). r.resource) here.1) (has_words group word e here.0)
 meant_plain entries group word f plain (inr m) = subst IsPlain (sym (ap (λ (r : Found). r.resource) m.1)) plain

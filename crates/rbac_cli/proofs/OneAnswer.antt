@@ -1,15 +1,16 @@
 -- What an action means is one text and one status.
-use Rattle.std.proofs.Common.{◌≡◌, ◌∙◌, ◌↔◌, ℕ, List, [], ◌∷◌, ◌++◌, map, inl, inr, Contains, get_or, Less, arith, ap, sym, subst, refl, codes}
+use Rattle.std.proofs.Common.{◌≡◌, ◌∙◌, ◌↔◌, ℕ, List, [], ◌∷◌, ◌++◌, map, inl, inr, Contains, Less, ap, sym, subst, refl, codes}
 use Rattle.std.specs.Prelude.{Option, Some, None}
 use Rattle.std.proofs.lemmas.List.{append_cancel_left}
 use Rattle.rbac_terms.specs.Text.{Text}
 use Rattle.rbac_terms.specs.Keys.{KeyTexts, texts}
 use Rattle.rbac_terms.specs.Targets.{What}
-use Rattle.rbac_terms.specs.Principals.{Who, AsUser, AsMember, key_of, given_of, IsInGroup, IsUserNamed, IsSignInGroup, IsImpliedGroup, account_user}
+use Rattle.rbac_terms.specs.Principals.{Who, AsUser, AsMember, who_key, given_of, IsInGroup, IsUserNamed, IsSignInGroup, IsImpliedGroup, account_user}
 use Rattle.rbac_terms.specs.Granting.{Names}
 use Rattle.rbac_terms.specs.declared.granting.Binding.{Binding}
 use Rattle.rbac_terms.specs.declared.granting.Subject.{Subject}
 use Rattle.rbac_terms.specs.declared.granting.Subject.TheVariants.{User, Group, Account}
+use Rattle.rbac_terms.proofs.Groups.{apart}
 use Rattle.rbac_model.specs.Lists.{by_name, IsAscendingBy}
 use Rattle.rbac_model.specs.Policies.{Held, Grants, Allows, IsFirst}
 use Rattle.rbac_model.specs.Unions.{AreUnited, who_name}
@@ -29,7 +30,7 @@ use Rattle.rbac_question.specs.declared.command.Action.{Action}
 use Rattle.rbac_question.specs.declared.command.Action.TheVariants.{CanI, WhoCan, Matrix, Lint}
 use Rattle.rbac_question.specs.declared.command.Question.{Question}
 use Rattle.rbac_cli.specs.Out.{Answers, IsAllowed, IsDenied, AreHoldersMeant, holders_text, findings_text, findings_status, line_unless}
-use Rattle.rbac_cli.specs.declared.ending.Status.{Status}
+use Rattle.rbac_cli.specs.declared.outcome.Status.{Status}
 use Rattle.rbac_matrix.proofs.OneMatrix.{key_name, by_keys}
 use Rattle.rbac_cli.proofs.OneListing.{Line, line_of, one_listing}
 use Rattle.rbac_cli.proofs.OneMeant.{one_meant}
@@ -38,7 +39,7 @@ use Rattle.rbac_cli.proofs.OneReason.{one_reason}
 -- ---- two of one key with the same groups are named alike
 
 record AreAlike (p q : Who) : Type 0 where
-  pub key : key_of p ≡ key_of q
+  pub key : who_key p ≡ who_key q
   pub given : (g : Text) → Contains (given_of p) g ↔ Contains (given_of q) g
 
 alike_back : (p q : Who) → AreAlike p q → AreAlike q p
@@ -49,9 +50,6 @@ same_user m n gs hs a = append_cancel_left (codes "u:") m n a.key
 
 same_member : (m n : Text) → AreAlike (AsMember m) (AsMember n) → m ≡ n
 same_member m n a = append_cancel_left (codes "g:") m n a.key
-
-mixed : (m n : Text) → codes "u:" ++ m ≡ codes "g:" ++ n → ⊥
-mixed m n e = let bad : 117 ≡ 103 = ap (λ (t : Text). get_or t 0 0) e in omega (arith, bad)
 
 signed_in : (user : Text) (gs hs : List Text) (g : Text) → (Contains hs (codes "system:unauthenticated") → Contains gs (codes "system:unauthenticated"))
     → IsSignInGroup user gs g → IsSignInGroup user hs g
@@ -66,13 +64,13 @@ in_group (AsUser m gs) (AsUser n hs) g a h = let same = same_user m n gs hs a in
     | inr s ↦ inr (signed_in m gs hs g (a.given (codes "system:unauthenticated")).1 s)
   ]))
 ]
-in_group (AsUser m gs) (AsMember n) g a h = absurd (mixed m n a.key)
-in_group (AsMember m) (AsUser n hs) g a h = absurd (mixed n m (sym a.key))
+in_group (AsUser m gs) (AsMember n) g a h = absurd (apart m n a.key)
+in_group (AsMember m) (AsUser n hs) g a h = absurd (apart n m (sym a.key))
 in_group (AsMember m) (AsMember n) g a h = h ∙ same_member m n a
 
 user_named : (p q : Who) (name : Text) → AreAlike p q → IsUserNamed p name → IsUserNamed q name
 user_named (AsUser m gs) (AsUser n hs) name a h = sym (same_user m n gs hs a) ∙ h
-user_named (AsUser m gs) (AsMember n) name a h = absurd (mixed m n a.key)
+user_named (AsUser m gs) (AsMember n) name a h = absurd (apart m n a.key)
 user_named (AsMember m) q name a h = absurd h
 
 names : (s : Subject) (namespace : Option Text) (p q : Who) → AreAlike p q → Names s namespace p → Names s namespace q
@@ -99,14 +97,14 @@ first held p q namespace verb t b a (i, f) = (
 -- ---- united lists of one list have such principals
 
 module _ (listed ps qs : List Who) (m : AreUnited listed ps) (n : AreUnited listed qs) where
-  given_there : (p q : Who) → Contains ps p → Contains qs q → key_of p ≡ key_of q → (g : Text) → Contains (given_of p) g → Contains (given_of q) g
+  given_there : (p q : Who) → Contains ps p → Contains qs q → who_key p ≡ who_key q → (g : Text) → Contains (given_of p) g → Contains (given_of q) g
   given_there p q inp inq e g w =
-      let (k, other, lt, at, has) = (n.given (key_of p) g).1 ((m.given (key_of p) g).0 (as_any (λ x. (key_of x ≡ key_of p) × Contains (given_of x) g) ps p inp (refl, w))) in
+      let (k, other, lt, at, has) = (n.given (who_key p) g).1 ((m.given (who_key p) g).0 (as_any (λ x. (who_key x ≡ who_key p) × Contains (given_of x) g) ps p inp (refl, w))) in
       let same : other ≡ q = one_of_name who_name qs other q n.ordered (k, lt, at) inq (ap (λ (x : Text). x ∷ []) (has.0 ∙ e)) in
       subst (λ x. Contains (given_of x) g) same has.1
 
-  there : (p : Who) → Contains ps p → (q : Who) × Contains qs q × (key_of q ≡ key_of p)
-  there p inp = let (k, q, lt, at, e) = (n.keys (key_of p)).1 ((m.keys (key_of p)).0 (as_any (λ x. key_of x ≡ key_of p) ps p inp refl)) in
+  there : (p : Who) → Contains ps p → (q : Who) × Contains qs q × (who_key q ≡ who_key p)
+  there p inp = let (k, q, lt, at, e) = (n.keys (who_key p)).1 ((m.keys (who_key p)).0 (as_any (λ x. who_key x ≡ who_key p) ps p inp refl)) in
       (q, (k, lt, at), e)
 
 alike_there : (listed ps qs : List Who) → AreUnited listed ps → AreUnited listed qs → (p : Who) → Contains ps p → (q : Who) × Contains qs q × AreAlike p q
@@ -124,7 +122,7 @@ alike_there listed ps qs m n p inp = let (q, inq, e) = there listed ps qs m n p 
 abbrev line_name : Line → List Text
 line_name l = texts l.0
 
-same_key : (p q : Who) (c : Cell) → key_of p ≡ key_of q → cell_key (record c { who = p }) ≡ cell_key (record c { who = q })
+same_key : (p q : Who) (c : Cell) → who_key p ≡ who_key q → cell_key (record c { who = p }) ≡ cell_key (record c { who = q })
 same_key p q c e = cc
 
 module _ (held : Held) (lists : UniverseLists) (u v : UniverseView) (m : AreSets lists u) (n : AreSets lists v) where

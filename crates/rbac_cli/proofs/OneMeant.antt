@@ -5,14 +5,15 @@ use Rattle.rbac_terms.specs.Targets.{What, Resource}
 use Rattle.rbac_catalogue.specs.declared.entry.Entry.{Entry}
 use Rattle.rbac_catalogue.specs.declared.lookup.Found.{Found}
 use Rattle.rbac_catalogue.proofs.Meaning.{found_one}
-use Rattle.rbac_question.specs.Asked.{AskedFor, ForUrl, ForType}
+use Rattle.rbac_question.specs.declared.asked.AskedFor.{AskedFor}
+use Rattle.rbac_question.specs.declared.asked.AskedFor.TheVariants.{Url as ForUrl, Resource as ForResource}
 use Rattle.rbac_question.specs.declared.command.Question.{Question}
 use Rattle.rbac_cli.specs.Meant.{with_subresource, IsTargetMeant, IsNamespaceMeant, IsMeant}
 use Rattle.rbac_cli.proofs.Verdicts.{one_namespace}
 
 one_target : (entries : List Entry) (asked : AskedFor) (t u : What) → IsTargetMeant entries asked t → IsTargetMeant entries asked u → t ≡ u
 one_target entries (ForUrl path) t u m n = m ∙ sym n
-one_target entries (ForType word subresource name) t u (f, is, e) (g, are, d) =
+one_target entries (ForResource word subresource name) t u (f, is, e) (g, are, d) =
     e ∙ ap (λ (found : Found). Resource found.group (with_subresource found.resource subresource) name) (sym (found_one entries word f is g are)) ∙ sym d
 
 pub one_meant : (entries : List Entry) (q : Question) (t u : What) (n m : Text) → IsMeant entries q t n → IsMeant entries q u m → (t ≡ u) × (n ≡ m)

@@ -3,7 +3,7 @@ use Rattle.std.proofs.Common.{◌≡◌, ◌≢◌, ℕ, List, [], Result, Ok, E
 use Rattle.rbac_universe.specs.declared.lists.UniverseLists.{UniverseLists}
 use Rattle.rbac_universe.specs.declared.fault.UniverseFault.{UniverseFault}
 use Rattle.rbac_universe.specs.declared.fault.UniverseFault.TheVariants as universe
-use Rattle.rbac_universe.specs.Sets.{IsUniverseOf, HasFault as HasUniverseFault}
+use Rattle.rbac_universe.specs.Sets.{IsUniverseOf, HasUniverseFault}
 use Rattle.rbac_model.specs.Universes.{UniverseView}
 use Rattle.rbac_manifest.specs.declared.fault.LoadFault.{LoadFault}
 use Rattle.rbac_manifest.specs.Load.{LoadedView, IsLoaded, HasFault}
@@ -12,9 +12,9 @@ use Rattle.rbac_question.specs.declared.command.Action.TheVariants.{CanI, WhoCan
 use Rattle.rbac_question.specs.declared.command.Command.{Command}
 use Rattle.rbac_cli.specs.Out.{Answers}
 use Rattle.rbac_cli.specs.Ends.{Ends, LacksUniverse, IsUnstopped}
-use Rattle.rbac_cli.specs.declared.ending.Status.{Status}
-use Rattle.rbac_cli.specs.declared.ending.RunFault.{RunFault}
-use Rattle.rbac_cli.specs.declared.ending.RunFault.TheVariants.{Load, Universe, Memory, Write}
+use Rattle.rbac_cli.specs.declared.outcome.Status.{Status}
+use Rattle.rbac_cli.specs.declared.outcome.RunFault.{RunFault}
+use Rattle.rbac_cli.specs.declared.outcome.RunFault.TheVariants.{Load, Universe, Memory, Write}
 use Rattle.rbac_cli.proofs.OneAnswer.{one_answer}
 
 -- what is known of loading and of universes

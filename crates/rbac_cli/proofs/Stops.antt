@@ -13,27 +13,27 @@ use Rattle.rbac_manifest.specs.Load.{LoadedView}
 use Rattle.rbac_question.specs.declared.command.Action.{Action}
 use Rattle.rbac_question.specs.declared.command.Action.TheVariants.{CanI, WhoCan, Matrix, Lint}
 use Rattle.rbac_cli.specs.Out.{Answers, listing_text}
-use Rattle.rbac_cli.specs.declared.ending.Status.{Status}
-use Rattle.rbac_cli.specs.declared.ending.RunFault.{RunFault}
-use Rattle.rbac_cli.specs.declared.ending.RunFault.TheVariants.{Load, Universe, Memory, Write}
-use Rattle.rbac_cli.specs.Ends.{WritesFront}
+use Rattle.rbac_cli.specs.declared.outcome.Status.{Status}
+use Rattle.rbac_cli.specs.declared.outcome.RunFault.{RunFault}
+use Rattle.rbac_cli.specs.declared.outcome.RunFault.TheVariants.{Load, Universe, Memory, Write}
+use Rattle.rbac_cli.specs.Ends.{WritesPrefix}
 use Rattle.rbac_cli.specs.Printing.{StopsInAnswer, StopsPrinting, StopsWith, IsUntouched, fault_at}
-use Rattle.rbac_cli.proofs.Matrices.{front_of_text}
+use Rattle.rbac_cli.proofs.Matrices.{prefix_of_text}
 
 -- the page of the matrix
 abbrev pub IsListing : Option KeyTexts → Option ℕ → Held → UniverseView → List ℕ → Type 0
 IsListing k limit held u text = (rows : List RowView) × IsMatrix held u rows × (text ≡ listing_text k limit rows)
 
 module _ {W : Type 0} (contents : W → Option (List ℕ)) where
-  as_front : (s t : SinkView W) (p : PageView) (l : LoadedView) (action : Action) (text : List ℕ) (status : Status) (n : ℕ) → n ≡ p.written
-      → Answers l action text status → Stopped contents s t p text → WritesFront (Took contents s t) l action n
-  as_front s t p l action text status n e a h = (h.front, front_of_text l action text h.front status a (h.rest, h.whole), h.took, e ∙ h.written)
+  as_prefix : (s t : SinkView W) (p : PageView) (l : LoadedView) (action : Action) (text : List ℕ) (status : Status) (n : ℕ) → n ≡ p.written
+      → Answers l action text status → Stopped contents s t p text → WritesPrefix (Took contents s t) l action n
+  as_prefix s t p l action text status n e a h = (h.prefix, prefix_of_text l action text h.prefix status a (h.rest, h.whole), h.took, e ∙ h.written)
 
   -- stopped in a text that is meant, once it was printed
   pub stopped_at : (s t : SinkView W) (p : PageView) (l : LoadedView) (action : Action) (text : List ℕ) (status : Status) (fault : PrintFault)
       → Answers l action text status → Stopped contents s t p text → StopsWith (Took contents s t) l action (fault_at p fault)
-  stopped_at s t p l action text status SinkFailed a h = as_front s t p l action text status p.written refl a h
-  stopped_at s t p l action text status NoMemory a h = inr (as_front s t p l action text status p.written refl a h)
+  stopped_at s t p l action text status SinkFailed a h = as_prefix s t p l action text status p.written refl a h
+  stopped_at s t p l action text status NoMemory a h = inr (as_prefix s t p l action text status p.written refl a h)
 
   -- stopped while a text that is meant was printed
   pub stops_in_text : (s t : SinkView W) (p q : PageView) (l : LoadedView) (action : Action) (text : List ℕ) (status : Status)
@@ -54,15 +54,15 @@ module _ {W : Type 0} (contents : W → Option (List ℕ)) where
   stops_within s t p q l action SinkFailed h = (refl, h)
   stops_within s t p q l action NoMemory h = (refl, inr h)
 
-  -- since the page was empty it took a front of what is meant
+  -- since the page was empty it took a prefix of what is meant
   within : (s t : SinkView W) (p q : PageView) (l : LoadedView) (action : Action) (n : ℕ) → Printed contents s s p [] → n ≡ q.written
-      → StopsInAnswer contents s p t q l action → WritesFront (Took contents s t) l action n
+      → StopsInAnswer contents s p t q l action → WritesPrefix (Took contents s t) l action n
   within s t p q l (CanI who quiet why question) n printed e (text, status, a, f) =
-      as_front s t q l (CanI who quiet why question) text status n e a (f s [] printed)
-  within s t p q l (WhoCan question) n printed e (text, status, a, f) = as_front s t q l (WhoCan question) text status n e a (f s [] printed)
-  within s t p q l Lint n printed e (text, status, a, f) = as_front s t q l Lint text status n e a (f s [] printed)
+      as_prefix s t q l (CanI who quiet why question) text status n e a (f s [] printed)
+  within s t p q l (WhoCan question) n printed e (text, status, a, f) = as_prefix s t q l (WhoCan question) text status n e a (f s [] printed)
+  within s t p q l Lint n printed e (text, status, a, f) = as_prefix s t q l Lint text status n e a (f s [] printed)
   within s t p q l (Matrix k limit) n printed e (u, is_universe, f) = let stop = f s [] printed in (
-    stop.front,
+    stop.prefix,
     (u, is_universe, λ rows matrix. stop.begins (listing_text k limit rows) (rows, matrix, refl)),
     stop.took,
     e ∙ stop.written,

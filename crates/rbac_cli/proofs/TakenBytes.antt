@@ -2,9 +2,9 @@
 use Rattle.std.proofs.Common.{ℕ, List, [], Result, Ok, Err, inl, inr}
 use Rattle.rbac_question.specs.declared.command.Command.{Command}
 use Rattle.rbac_cli.specs.Ends.{Ends}
-use Rattle.rbac_cli.specs.declared.ending.Status.{Status}
-use Rattle.rbac_cli.specs.declared.ending.RunFault.{RunFault}
-use Rattle.rbac_cli.specs.declared.ending.RunFault.TheVariants.{Load, Universe, Memory, Write}
+use Rattle.rbac_cli.specs.declared.outcome.Status.{Status}
+use Rattle.rbac_cli.specs.declared.outcome.RunFault.{RunFault}
+use Rattle.rbac_cli.specs.declared.outcome.RunFault.TheVariants.{Load, Universe, Memory, Write}
 
 pub ends_as : (took gained : List ℕ → Type 0) → ((bytes : List ℕ) → took bytes → gained bytes) → (command : Command) (inputs : List (List ℕ)) (ended : Result Status RunFault)
     → Ends took command inputs ended → Ends gained command inputs ended
@@ -12,5 +12,5 @@ ends_as took gained f command inputs (Ok status) (l, is, (text, a, t)) = (l, is,
 ends_as took gained f command inputs (Err (Load fault)) a = (a.0, f [] a.1)
 ends_as took gained f command inputs (Err (Universe fault)) a = (a.0, f [] a.1)
 ends_as took gained f command inputs (Err (Memory n)) (inl a) = inl (f [] a.0, a.1)
-ends_as took gained f command inputs (Err (Memory n)) (inr (l, is, (front, begins, t, e))) = inr (l, is, (front, begins, f front t, e))
-ends_as took gained f command inputs (Err (Write n)) (l, is, (front, begins, t, e)) = (l, is, (front, begins, f front t, e))
+ends_as took gained f command inputs (Err (Memory n)) (inr (l, is, (prefix, begins, t, e))) = inr (l, is, (prefix, begins, f prefix t, e))
+ends_as took gained f command inputs (Err (Write n)) (l, is, (prefix, begins, t, e)) = (l, is, (prefix, begins, f prefix t, e))

@@ -15,7 +15,7 @@ use Rattle.rbac_question.specs.declared.command.Action.TheVariants.{CanI}
 use Rattle.rbac_question.specs.declared.command.Question.{Question}
 use Rattle.rbac_cli.specs.Meant.{IsNamespaceMeant, IsMeant}
 use Rattle.rbac_cli.specs.Out.{Answers, IsWhyText, line}
-use Rattle.rbac_cli.specs.Telling.{verdict_text, verdict_status, found_text}
+use Rattle.rbac_cli.specs.Verdicts.{verdict_text, verdict_status, found_text}
 
 pub one_namespace : (entries : List Entry) (target : What) (given n m : Text) → IsNamespaceMeant entries target given n → IsNamespaceMeant entries target given m → n ≡ m
 one_namespace entries target given n m (inl a) (inl b) = a.1 ∙ sym b.1
@@ -31,14 +31,14 @@ module _ (l : LoadedView) (who : Who) (q : Question) (target : What) (namespace 
   why_line : (found : Why) → IsWhyShown l.policy who namespace q.verb target found → IsWhyText l.policy l.catalogue.entries who q (found_text found)
   why_line found (g, is_why, shows) = (target, namespace, meant, (g, found.subject_place, is_why, rw (shows.0, shows.1, shows.2) refl))
 
-  pub told : (quiet why : Bool) (found : Option Why)
+  pub verdict : (quiet why : Bool) (found : Option Why)
       → MatchOption found (¬ Allows l.policy.held who namespace q.verb target) (IsWhyShown l.policy who namespace q.verb target)
       → IfSome found (λ f. IsFirst l.policy.held who namespace q.verb target f.binding.now)
       → Answers l (CanI who quiet why q) (verdict_text quiet why found) (verdict_status found)
-  told true why None none first = inr ((target, namespace, meant, none), refl, refl)
-  told false why None none first = inr ((target, namespace, meant, none), refl, refl)
-  told true why (Some found) shown first = inl ((target, namespace, meant, allows_first l.policy.held who namespace q.verb target found.binding.now first), ([], refl, refl), refl)
-  told false true (Some found) shown first =
+  verdict true why None none first = inr ((target, namespace, meant, none), refl, refl)
+  verdict false why None none first = inr ((target, namespace, meant, none), refl, refl)
+  verdict true why (Some found) shown first = inl ((target, namespace, meant, allows_first l.policy.held who namespace q.verb target found.binding.now first), ([], refl, refl), refl)
+  verdict false true (Some found) shown first =
       inl ((target, namespace, meant, allows_first l.policy.held who namespace q.verb target found.binding.now first), (found_text found, why_line found shown, refl), refl)
-  told false false (Some found) shown first =
+  verdict false false (Some found) shown first =
       inl ((target, namespace, meant, allows_first l.policy.held who namespace q.verb target found.binding.now first), ([], refl, sym (append-nil (line (codes "yes")))), refl)

@@ -1,31 +1,31 @@
 -- How a run ends. `took` says of some bytes that the writer took exactly these in the run.
 use Rattle.std.specs.Prelude.{◌≡◌, ◌≢◌, ℕ, ◌⊎◌, Bool, true, false, List, [], length, Result, Ok, Err, MatchResult}
 use Rattle.rbac_streams.specs.Taken.{counted}
-use Rattle.rbac_universe.specs.Sets.{HasFault as HasUniverseFault}
+use Rattle.rbac_universe.specs.Sets.{HasUniverseFault}
 use Rattle.rbac_universe.specs.declared.fault.UniverseFault.{UniverseFault}
 use Rattle.rbac_universe.specs.declared.fault.UniverseFault.TheVariants as universe
 use Rattle.rbac_manifest.specs.Load.{LoadedView, IsLoaded, HasFault}
 use Rattle.rbac_question.specs.declared.command.Action.{Action}
 use Rattle.rbac_question.specs.declared.command.Action.TheVariants.{CanI, WhoCan, Matrix, Lint}
 use Rattle.rbac_question.specs.declared.command.Command.{Command}
-use Rattle.rbac_cli.specs.Out.{Answers, IsFrontOfAnswer}
-use Rattle.rbac_cli.specs.declared.ending.Status.{Status}
-use Rattle.rbac_cli.specs.declared.ending.RunFault.{RunFault}
-use Rattle.rbac_cli.specs.declared.ending.RunFault.TheVariants.{Load, Universe, Memory, Write}
+use Rattle.rbac_cli.specs.Out.{Answers, IsPrefixOfAnswer}
+use Rattle.rbac_cli.specs.declared.outcome.Status.{Status}
+use Rattle.rbac_cli.specs.declared.outcome.RunFault.{RunFault}
+use Rattle.rbac_cli.specs.declared.outcome.RunFault.TheVariants.{Load, Universe, Memory, Write}
 
 -- the writer took a text that the action means over what was loaded
 abbrev pub Writes : (List ℕ → Type 0) → LoadedView → Action → Status → Type 0
 Writes took l action status = (text : List ℕ) × Answers l action text status × took text
 
--- it took a front of what the action means, and n is how many bytes that is
-abbrev pub WritesFront : (List ℕ → Type 0) → LoadedView → Action → ℕ → Type 0
-WritesFront took l action n = (front : List ℕ) × IsFrontOfAnswer l action front × took front × (n ≡ counted 0 (length front))
+-- it took a prefix of what the action means, and n is how many bytes that is
+abbrev pub WritesPrefix : (List ℕ → Type 0) → LoadedView → Action → ℕ → Type 0
+WritesPrefix took l action n = (prefix : List ℕ) × IsPrefixOfAnswer l action prefix × took prefix × (n ≡ counted 0 (length prefix))
 
 -- the writer took nothing, and n is 0
 abbrev pub WritesNothing : (List ℕ → Type 0) → ℕ → Type 0
 WritesNothing took n = took [] × (n ≡ 0)
 
--- the action is `matrix`, and the lists make no universe, for this fault; want of memory is told by itself
+-- the action is `matrix`, and the lists make no universe, for this fault; out of memory is a fault of its own
 abbrev pub LacksUniverse : LoadedView → Action → UniverseFault → Type 0
 LacksUniverse l (CanI who quiet why q) fault = ⊥
 LacksUniverse l (WhoCan q) fault = ⊥
@@ -38,7 +38,7 @@ Succeeds took command inputs status = (l : LoadedView) × IsLoaded inputs l × W
 
 -- the inputs are loaded, and writing stopped within what the command means
 abbrev pub StopsShort : (List ℕ → Type 0) → Command → List (List ℕ) → ℕ → Type 0
-StopsShort took command inputs n = (l : LoadedView) × IsLoaded inputs l × WritesFront took l command.action n
+StopsShort took command inputs n = (l : LoadedView) × IsLoaded inputs l × WritesPrefix took l command.action n
 
 -- the inputs are refused, for the fault that they have, or they are loaded and make no universe for a matrix, and nothing is written; or
 -- memory was refused; or a write failed
@@ -60,7 +60,7 @@ is_write_fault (Err (Universe fault)) = false
 is_write_fault (Err (Memory n)) = false
 is_write_fault (Err (Write n)) = true
 
--- neither want of memory nor a failed write stopped the run
+-- the run neither ran out of memory nor failed to write
 abbrev pub IsUnstopped : Result Status RunFault → Type 0
 IsUnstopped (Ok status) = Unit {0}
 IsUnstopped (Err (Load fault)) = Unit {0}

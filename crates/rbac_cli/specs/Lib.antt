@@ -3,4 +3,4 @@ pub mod Meant
 pub mod Out
 pub mod Printing
 pub mod RunTexts
-pub mod Telling
+pub mod Verdicts

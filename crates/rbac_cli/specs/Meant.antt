@@ -6,7 +6,8 @@ use Rattle.rbac_catalogue.specs.declared.entry.Entry.{Entry}
 use Rattle.rbac_catalogue.specs.declared.lookup.Found.{Found}
 use Rattle.rbac_catalogue.specs.Lookups.{IsFound}
 use Rattle.rbac_catalogue.specs.Catalogue.{IsClusterOnly}
-use Rattle.rbac_question.specs.Asked.{AskedFor, ForUrl, ForType}
+use Rattle.rbac_question.specs.declared.asked.AskedFor.{AskedFor}
+use Rattle.rbac_question.specs.declared.asked.AskedFor.TheVariants.{Url as ForUrl, Resource as ForResource}
 use Rattle.rbac_question.specs.declared.command.Question.{Question}
 
 -- a subresource is written after a slash (Using RBAC Authorization, Referring to resources); an empty one is as none (own)
@@ -17,7 +18,7 @@ with_subresource resource (b ∷ bs) = resource ++ slash ∷ b ∷ bs
 -- what is asked for: a URL as it is written, or the resource that the type word means (own)
 abbrev pub IsTargetMeant : List Entry → AskedFor → What → Type 0
 IsTargetMeant entries (ForUrl path) target = target ≡ Url path
-IsTargetMeant entries (ForType word subresource name) target =
+IsTargetMeant entries (ForResource word subresource name) target =
     (found : Found) × IsFound entries word found × (target ≡ Resource found.group (with_subresource found.resource subresource) name)
 
 -- where it is asked for: a target that is known to be outside all namespaces in none, any other in the one given (own)

@@ -21,8 +21,8 @@ use Rattle.rbac_question.specs.declared.command.Action.{Action}
 use Rattle.rbac_question.specs.declared.command.Action.TheVariants.{CanI, WhoCan, Matrix, Lint}
 use Rattle.rbac_question.specs.declared.command.Question.{Question}
 use Rattle.rbac_cli.specs.Meant.{IsMeant}
-use Rattle.rbac_cli.specs.declared.ending.Status.{Status}
-use Rattle.rbac_cli.specs.declared.ending.Status.TheVariants.{Zero, One}
+use Rattle.rbac_cli.specs.declared.outcome.Status.{Status}
+use Rattle.rbac_cli.specs.declared.outcome.Status.TheVariants.{Zero, One}
 
 -- a word on a line of its own
 abbrev pub line : List ℕ → List ℕ
@@ -43,7 +43,7 @@ abbrev pub IsDenied : Held → List Entry → Who → Question → Type 0
 IsDenied held entries who q =
     (target : What) × (namespace : Text) × IsMeant entries q target namespace × (¬ Allows held who namespace q.verb target)
 
--- the line that tells why: the least grant that allows it, and the least subject there that names who asks
+-- the line that explains a yes: the least grant that allows it, and the least subject there that names who asks
 abbrev pub IsWhyText : PolicyView → List Entry → Who → Question → Text → Type 0
 IsWhyText p entries who q text =
     (target : What) × (namespace : Text) × IsMeant entries q target namespace
@@ -96,12 +96,12 @@ Answers l (Matrix after limit) text status =
 Answers l Lint text status =
     (found : List Finding) × AreFindings l.policy.held l.replaced found × (text ≡ findings_text found) × (status ≡ findings_status found)
 
--- a front of the text that the action means: of a verdict's, of the holders', of the findings', or, for a universe of the lists, of whichever rows are its matrix
-abbrev pub IsFrontOfAnswer : LoadedView → Action → List ℕ → Type 0
-IsFrontOfAnswer l (CanI who quiet why q) front =
-    (text : List ℕ) × (status : Status) × Answers l (CanI who quiet why q) text status × BeginsWith text front
-IsFrontOfAnswer l (WhoCan q) front = (text : List ℕ) × (status : Status) × Answers l (WhoCan q) text status × BeginsWith text front
-IsFrontOfAnswer l (Matrix after limit) front =
+-- a prefix of the text that the action means: of a verdict's, of the holders', of the findings', or, for a universe of the lists, of whichever rows are its matrix
+abbrev pub IsPrefixOfAnswer : LoadedView → Action → List ℕ → Type 0
+IsPrefixOfAnswer l (CanI who quiet why q) prefix =
+    (text : List ℕ) × (status : Status) × Answers l (CanI who quiet why q) text status × BeginsWith text prefix
+IsPrefixOfAnswer l (WhoCan q) prefix = (text : List ℕ) × (status : Status) × Answers l (WhoCan q) text status × BeginsWith text prefix
+IsPrefixOfAnswer l (Matrix after limit) prefix =
     (u : UniverseView) × IsUniverseOf l.lists u
-    × ((rows : List RowView) → IsMatrix l.policy.held u rows → BeginsWith (listing_text after limit rows) front)
-IsFrontOfAnswer l Lint front = (text : List ℕ) × (status : Status) × Answers l Lint text status × BeginsWith text front
+    × ((rows : List RowView) → IsMatrix l.policy.held u rows → BeginsWith (listing_text after limit rows) prefix)
+IsPrefixOfAnswer l Lint prefix = (text : List ℕ) × (status : Status) × Answers l Lint text status × BeginsWith text prefix

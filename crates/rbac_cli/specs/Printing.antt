@@ -13,10 +13,10 @@ use Rattle.rbac_manifest.specs.Load.{LoadedView}
 use Rattle.rbac_question.specs.declared.command.Action.{Action}
 use Rattle.rbac_question.specs.declared.command.Action.TheVariants.{CanI, WhoCan, Matrix, Lint}
 use Rattle.rbac_cli.specs.Out.{Answers, listing_text}
-use Rattle.rbac_cli.specs.Ends.{WritesFront, WritesNothing, LacksUniverse}
-use Rattle.rbac_cli.specs.declared.ending.Status.{Status}
-use Rattle.rbac_cli.specs.declared.ending.RunFault.{RunFault}
-use Rattle.rbac_cli.specs.declared.ending.RunFault.TheVariants.{Load, Universe, Memory, Write}
+use Rattle.rbac_cli.specs.Ends.{WritesPrefix, WritesNothing, LacksUniverse}
+use Rattle.rbac_cli.specs.declared.outcome.Status.{Status}
+use Rattle.rbac_cli.specs.declared.outcome.RunFault.{RunFault}
+use Rattle.rbac_cli.specs.declared.outcome.RunFault.TheVariants.{Load, Universe, Memory, Write}
 
 -- a page of the matrix was printed: what comes after the key, cut at the limit, and the last line
 abbrev pub PrintsListing : {W : Type 0} → (W → Option (List ℕ)) → SinkView W → PageView → SinkView W → PageView → Option KeyTexts → Option ℕ → Held → UniverseView → Type 0
@@ -53,7 +53,7 @@ abbrev pub fault_at : PageView → PrintFault → RunFault
 fault_at page SinkFailed = Write page.written
 fault_at page NoMemory = Memory page.written
 
--- how printing an answer stops: for want of a universe or of memory before any of it, or within it
+-- how printing an answer stops: without a universe or out of memory before any of it, or within it
 abbrev pub StopsPrinting : {W : Type 0} → (W → Option (List ℕ)) → SinkView W → PageView → SinkView W → PageView → LoadedView → Action → RunFault → Type 0
 StopsPrinting contents old page new after l action (Load fault) = ⊥
 StopsPrinting contents old page new after l action (Universe fault) = LacksUniverse l action fault × IsUntouched old page new after
@@ -65,8 +65,8 @@ StopsPrinting contents old page new after l action (Write n) = (n ≡ after.writ
 abbrev pub StopsWith : (List ℕ → Type 0) → LoadedView → Action → RunFault → Type 0
 StopsWith took l action (Load fault) = ⊥
 StopsWith took l action (Universe fault) = LacksUniverse l action fault × took []
-StopsWith took l action (Memory n) = WritesNothing took n ⊎ WritesFront took l action n
-StopsWith took l action (Write n) = WritesFront took l action n
+StopsWith took l action (Memory n) = WritesNothing took n ⊎ WritesPrefix took l action n
+StopsWith took l action (Write n) = WritesPrefix took l action n
 
 -- the sink failed
 abbrev pub is_sink_fault : {T : Type 0} → Result T PrintFault → Bool

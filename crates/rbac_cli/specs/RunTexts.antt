@@ -2,8 +2,8 @@
 use Rattle.std.specs.Prelude.{ℕ, List, ◌++◌, codes, Option, Some, None}
 use Rattle.std.specs.Fmt.{decimal}
 use Rattle.rbac_manifest.specs.FaultTexts.{fault_text}
-use Rattle.rbac_cli.specs.declared.ending.RunFault.{RunFault}
-use Rattle.rbac_cli.specs.declared.ending.RunFault.TheVariants.{Load, Universe, Memory, Write}
+use Rattle.rbac_cli.specs.declared.outcome.RunFault.{RunFault}
+use Rattle.rbac_cli.specs.declared.outcome.RunFault.TheVariants.{Load, Universe, Memory, Write}
 
 -- the text of a refusal, or what was refused; that of a universe fault is its own
 abbrev pub run_fault_text : RunFault → Option (List ℕ)

@@ -7,10 +7,10 @@ ghost use Rattle.rbac_question.specs.declared.command.Action.TheVariants.{CanI};
 ghost use Rattle.rbac_cli.specs.Out.{Answers};
 ghost use Rattle.rbac_cli.specs.Ends.{is_write_fault};
 ghost use Rattle.rbac_cli.specs.Printing.{PrintsAnswer, StopsPrinting};
-ghost use Rattle.rbac_cli.specs.Telling.{verdict_text, verdict_status};
+ghost use Rattle.rbac_cli.specs.Verdicts.{verdict_text, verdict_status};
 
-use crate::asking::meant_by;
-use crate::ending::{RunFault, Status, fault_of};
+use crate::meaning::meant_by;
+use crate::outcome::{RunFault, Status, fault_of};
 use rbac_index::{Why, why_allowed};
 use rbac_manifest::Loaded;
 use rbac_question::Question;
@@ -20,24 +20,24 @@ use rbac_text::put_why;
 use std::alloc::{AllocError, Global};
 use std::io::Write;
 
-// What is told of a verdict: the whole text and the status.
+// A verdict: its whole text and its status.
 #[derive(Drop)]
-pub(crate) struct Told {
+pub(crate) struct Verdict {
     text: Vec<u8>,
     status: Status,
 }
 
-/// What is told of whether the principal is allowed what the question asks: with `quiet` nothing but
-/// the status, and with `why` a second line that tells why, after yes.
-pub(crate) fn told_of(
+/// The verdict on whether the principal is allowed what the question asks: with `quiet` nothing but
+/// the status, and with `why` a second line that explains it, after yes.
+pub(crate) fn verdict_of(
     alloc: Global,
     loaded: &Loaded,
     principal: &Principal,
     quiet: bool,
     why: bool,
     question: &Question,
-) -> Result<Told, AllocError>
-    ensures { IfOk result (λ told. Answers loaded.now (CanI principal.now quiet why question.now) told.text.items told.status) }
+) -> Result<Verdict, AllocError>
+    ensures { IfOk result (λ verdict. Answers loaded.now (CanI principal.now quiet why question.now) verdict.text.items verdict.status) }
 {
     let meant = meant_by(alloc, loaded.catalogue(), question)?;
     let found = why_allowed(
@@ -48,7 +48,7 @@ pub(crate) fn told_of(
         &meant.target,
     );
     let text = text_of(alloc, quiet, why, &found)?;
-    Ok(Told {
+    Ok(Verdict {
         text,
         status: status_of(&found),
     })
@@ -95,25 +95,25 @@ fn status_of(found: &Option<Why>) -> Status
     }
 }
 
-/// Prints what is told of a verdict.
-pub(crate) fn print_told<W: Write + Drop>(
-    told: Result<Told, AllocError>,
+/// Prints a verdict.
+pub(crate) fn print_verdict<W: Write + Drop>(
+    verdict: Result<Verdict, AllocError>,
     sink: &mut Sink<W>,
     page: &mut Page,
 ) -> Result<Status, RunFault>
     requires { sink.old.has_failed ≡ false }
-    ensures ok { (l : LoadedView) (action : Action) → IfOk told (λ t. Answers l action t.text.items t.status)
+    ensures ok { (l : LoadedView) (action : Action) → IfOk verdict (λ t. Answers l action t.text.items t.status)
         → IfOk result (PrintsAnswer W.contents sink.old page.old sink.new page.new l action) }
-    ensures err { (l : LoadedView) (action : Action) → IfOk told (λ t. Answers l action t.text.items t.status)
+    ensures err { (l : LoadedView) (action : Action) → IfOk verdict (λ t. Answers l action t.text.items t.status)
         → IfErr result (StopsPrinting W.contents sink.old page.old sink.new page.new l action) }
     ensures failed { sink.new.has_failed ≡ is_write_fault result }
 {
-    let told = match told {
-        Ok(told) => told,
+    let verdict = match verdict {
+        Ok(verdict) => verdict,
         Err(_) => return Err(fault_of(page, PrintFault::NoMemory)),
     };
-    match page.print(sink, told.text.as_slice()) {
-        Ok(()) => Ok(told.status),
+    match page.print(sink, verdict.text.as_slice()) {
+        Ok(()) => Ok(verdict.status),
         Err(fault) => Err(fault_of(page, fault)),
     }
 }

@@ -9,8 +9,8 @@ ghost use Rattle.rbac_question.specs.declared.command.Action.{Action};
 ghost use Rattle.rbac_cli.specs.Out.{Answers};
 ghost use Rattle.rbac_question.specs.declared.command.Command.{Command};
 ghost use Rattle.rbac_cli.specs.Ends.{Ends, IsUnstopped};
-ghost use Rattle.rbac_cli.specs.declared.ending.Status.{Status};
-ghost use Rattle.rbac_cli.specs.declared.ending.RunFault.{RunFault};
+ghost use Rattle.rbac_cli.specs.declared.outcome.Status.{Status};
+ghost use Rattle.rbac_cli.specs.declared.outcome.RunFault.{RunFault};
 
 use rbac_manifest::{load_faults_are_one, loaded_inputs_are_one, loaded_inputs_have_no_fault};
 use rbac_universe::universes_have_no_fault;
@@ -24,7 +24,7 @@ pub fn answers_are_one()
 {}
 
 /// Two runs of one command over the same inputs end alike, and their writers took one text, where
-/// neither want of memory nor a failed write stopped them: it is the same answer with the same
+/// neither ran out of memory nor failed to write: it is the same answer with the same
 /// status, or the same refusal and no text. So an answer and a refusal exclude each other (own).
 pub fn runs_are_one<V: Write, W: Write>()
     ensures { (start end : SinkView V) (old new : SinkView W) (command : Command) (inputs : List (List ℕ)) (ended other : Result Status RunFault)

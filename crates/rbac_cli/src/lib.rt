@@ -3,21 +3,21 @@
 //! from here too.
 #![tactic(auto)]
 
-mod answering;
-mod asking;
+mod answer;
 mod can_i;
-mod ending;
 mod laws;
 mod lint;
 mod matrix;
+mod meaning;
+mod outcome;
 mod running;
 mod who_can;
 
-pub use ending::{RunFault, Status};
 pub use laws::{answers_are_one, runs_are_one};
+pub use outcome::{RunFault, Status};
 pub use rbac_command::{UsageFault, command_of};
 pub use rbac_manifest::{At, Cause, LoadFault};
-pub use rbac_question::{Action, Asked, Command, Question};
+pub use rbac_question::{Action, Asked, AskedFor, Command, Question};
 pub use rbac_streams::{
     Failed, Input, InputFault, Sink, Source, read_file, read_input, read_slice,
 };

@@ -8,7 +8,7 @@ ghost use Rattle.rbac_cli.specs.Out.{findings_text, findings_status};
 ghost use Rattle.rbac_cli.specs.Ends.{is_write_fault};
 ghost use Rattle.rbac_cli.specs.Printing.{PrintsAnswer, StopsPrinting, is_sink_fault};
 
-use crate::ending::{RunFault, Status, fault_of};
+use crate::outcome::{RunFault, Status, fault_of};
 use rbac_lint::{Finding, lint};
 use rbac_manifest::Loaded;
 use rbac_streams::{Page, PrintFault, Sink};

@@ -2,13 +2,13 @@
 
 ghost use Rattle.std.specs.Prelude.{◌≡◌, ◌≢◌, length, false, IfOk, IfErr, OnOk, OnErr, MatchResult};
 ghost use Rattle.std.specs.Option.{option_copied};
-ghost use Rattle.rbac_universe.specs.Sets.{IsUniverseOf, HasFault};
+ghost use Rattle.rbac_universe.specs.Sets.{IsUniverseOf, HasUniverseFault};
 ghost use Rattle.rbac_index.specs.Reaches.{AreReaches};
 ghost use Rattle.rbac_question.specs.declared.command.Action.TheVariants.{Matrix as ListsMatrix};
 ghost use Rattle.rbac_cli.specs.Ends.{is_write_fault};
 ghost use Rattle.rbac_cli.specs.Printing.{PrintsAnswer, StopsPrinting, PrintsListing, StopsInListing, fault_at, is_sink_fault};
 
-use crate::ending::{RunFault, Status, fault_of};
+use crate::outcome::{RunFault, Status, fault_of};
 use rbac_index::{Index, IndexFault, Reach, reaches_of};
 use rbac_manifest::Loaded;
 use rbac_matrix::{Matrix, Seat, a_matrix_is_there, print_page};
@@ -48,7 +48,7 @@ pub(crate) fn print_listing<W: Write + Drop>(
     }
 }
 
-// Why printing stops whose lists make no universe. Want of memory is told as such.
+// Why printing stops whose lists make no universe. Out of memory is a fault of its own.
 fn unmade(page: &Page, fault: UniverseFault) -> RunFault
     ensures refused { fault ≢ UniverseFault.NoMemory → result ≡ RunFault.Universe fault }
     ensures memory { fault ≡ UniverseFault.NoMemory → result ≡ fault_at page.now PrintFault.NoMemory }
@@ -69,7 +69,7 @@ struct Lent<'p> {
 
 // What the matrix of what was loaded borrows.
 fn lent_by(alloc: Global, loaded: &Loaded) -> Result<Lent<'_>, UniverseFault>
-    ensures universe { MatchResult result (λ lent. IsUniverseOf loaded.now.lists lent.universe) (HasFault loaded.now.lists) }
+    ensures universe { MatchResult result (λ lent. IsUniverseOf loaded.now.lists lent.universe) (HasUniverseFault loaded.now.lists) }
     ensures index { IfOk result (λ lent. lent.index ≡ loaded.now.policy) }
     ensures reaches { IfOk result (λ lent. AreReaches lent.index lent.universe lent.reaches.items) }
 {

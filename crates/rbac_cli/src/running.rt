@@ -5,8 +5,8 @@ ghost use Rattle.rbac_streams.specs.Taken.{Took, Printed};
 ghost use Rattle.rbac_cli.specs.Ends.{Ends, Writes, is_write_fault};
 ghost use Rattle.rbac_cli.specs.Printing.{StopsWith};
 
-use crate::answering::print_answer;
-use crate::ending::{RunFault, Status, fault_of};
+use crate::answer::print_answer;
+use crate::outcome::{RunFault, Status, fault_of};
 use rbac_manifest::{Cause, LoadFault, Loaded, load};
 use rbac_question::{Action, Command};
 use rbac_streams::{Input, Page, Sink};
@@ -20,8 +20,8 @@ use std::io::Write;
 /// it, cut at the limit, and last a line that says whether more follow.
 ///
 /// Refused are inputs that [`load`] refuses, and for a matrix those whose lists make no universe;
-/// nothing is written then. Where memory was refused or a write failed, what was written is a front
-/// of the answer, and the fault tells its length.
+/// nothing is written then. Where memory was refused or a write failed, what was written is a
+/// prefix of the answer, and the fault says how long it is.
 pub fn run<W: Write + Drop>(
     alloc: Global,
     command: &Command,
@@ -40,10 +40,10 @@ pub fn run<W: Write + Drop>(
     write_answer(alloc, &loaded, &command.action, sink, &mut page)
 }
 
-/// As [`run`], with a writer that tells its bytes, a vector: by the contract of `run` alone.
+/// As [`run`], with a writer that shows its bytes, a vector: by the contract of `run` alone.
 ///
-/// Here it is plain which bytes a run writes. Standard output doesn't tell, and for it the same holds
-/// as far as its calls take the bytes that they say they took.
+/// Here it is plain which bytes a run writes. Standard output doesn't show them, and for it the
+/// same holds as far as its calls take the bytes that they say they took.
 pub fn run_into(
     alloc: Global,
     command: &Command,
@@ -57,7 +57,7 @@ pub fn run_into(
     run(alloc, command, inputs, sink)
 }
 
-// Why a run stops whose inputs aren't loaded. Want of memory is told as such.
+// Why a run stops whose inputs aren't loaded. Out of memory is a fault of its own.
 fn unloaded(fault: LoadFault) -> RunFault
     ensures refused { fault.cause ≢ Cause.NoMemory → result ≡ RunFault.Load fault }
     ensures memory { fault.cause ≡ Cause.NoMemory → result ≡ RunFault.Memory 0 }

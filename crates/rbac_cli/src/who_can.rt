@@ -8,8 +8,8 @@ ghost use Rattle.rbac_cli.specs.Out.{AreHoldersMeant, holders_text};
 ghost use Rattle.rbac_cli.specs.Ends.{is_write_fault};
 ghost use Rattle.rbac_cli.specs.Printing.{PrintsAnswer, StopsPrinting, is_sink_fault};
 
-use crate::asking::meant_by;
-use crate::ending::{RunFault, Status, fault_of};
+use crate::meaning::meant_by;
+use crate::outcome::{RunFault, Status, fault_of};
 use rbac_index::{Holder, Holders, Index, IndexFault};
 use rbac_manifest::Loaded;
 use rbac_question::Question;

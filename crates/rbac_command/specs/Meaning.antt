@@ -90,7 +90,7 @@ Means (Some p) c = MeansRows p.0 p.1 c
 
 -- ---- refusals
 
--- the refusal of a subcommand's matches: U4 is of `matrix` alone, which has no other but want of memory, as `lint` has; that may come at any time
+-- the refusal of a subcommand's matches: U4 is of `matrix` alone, which has no other but out of memory, as `lint` has; that may come at any time
 abbrev pub RefusesAction : Text → List Row → QuestionFault → Type 0
 RefusesAction name rows question.NoMemory = Unit {0}
 RefusesAction name rows question.BadToken = (name ≡ codes "matrix") × HasBadToken (first_of (codes "after") rows)

@@ -16,11 +16,12 @@ const VERSION: &str = "0.1.0";
 const MORE: &str = "Get the files:
   kubectl get clusterroles,clusterrolebindings -o json > cluster.json
   kubectl get roles,rolebindings --all-namespaces -o json > namespaced.json
+or, with the plugin, all that there is to read: kubectl rbacaudit export DIR
 
 Then ask:
   rbacaudit can-i --as alice -n dev get pods cluster.json namespaced.json
 
-rbacaudit COMMAND --help tells the options of a command.";
+rbacaudit COMMAND --help lists the options of a command.";
 
 const CAN_I_MORE: &str = "The line of --why has five fields, joined by tabs:
   BINDING  the first binding that allows it
@@ -45,8 +46,8 @@ const MATRIX_MORE: &str =
     "A line has seven fields, joined by tabs: who (u:USER or g:GROUP), namespace, verb,
 API group, resource or URL, object name, and the first binding that grants it; - is an empty field.
 A Universe document says whom and what to ask. A list that it leaves out is made from the files:
-whom bindings name, the namespaces, verbs, object names and URLs that there are, and the resources
-of the API resource lists, or of the rules if there is no such list.
+whom bindings name and every service account, the namespaces, verbs, object names and URLs that
+there are, and the resources of the API resource lists, or of the rules if there is no such list.
 
 The last line is end, or next and a TOKEN, joined by a tab, where --limit left rows out:
 --after TOKEN goes on from there. The exit status is 0; 2 is an error.

@@ -10,7 +10,7 @@ use std::fmt;
 /// Why a command line is refused (own).
 #[derive(Debug, Drop)]
 pub enum UsageFault {
-    /// U1: by `clap`, or help was asked. Its `Display` is `clap`'s text, and `use_stderr` tells
+    /// U1: by `clap`, or help was asked. Its `Display` is `clap`'s text, and `use_stderr` says
     /// which of the two it is.
     Refused(clap::Error),
     /// U2: USER, VERB or TARGET is empty, or nothing stands before the dot of a type word.

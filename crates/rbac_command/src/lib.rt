@@ -1,4 +1,4 @@
-//! The command line of `rbacaudit`, read with `clap`. Hands on the names of `rbac_question`.
+//! The command line of `rbacaudit`, read with `clap`. Re-exports the names of `rbac_question`.
 #![tactic(auto)]
 
 mod build;
@@ -6,5 +6,5 @@ mod fault;
 mod read;
 
 pub use fault::UsageFault;
-pub use rbac_question::{Action, Asked, Command, Question};
+pub use rbac_question::{Action, Asked, AskedFor, Command, Question};
 pub use read::command_of;

@@ -1,4 +1,5 @@
-//! Type words that no command hands on: one with a slash, and those that are empty before their dot.
+//! Type words that no command passes on: one with a slash, and those that are empty before their
+//! dot.
 
 use crate::exports::loaded;
 use crate::words::{is, word};

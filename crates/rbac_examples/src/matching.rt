@@ -36,7 +36,7 @@ fn rule(alloc: Global, part: Part, listed: Words) -> Rule {
     rule
 }
 
-fn told(alloc: Global, part: Part, listed: &[&str], text: &str) -> Result<bool, AllocError> {
+fn matches(alloc: Global, part: Part, listed: &[&str], text: &str) -> Result<bool, AllocError> {
     let rule = rule(alloc, part, words(alloc, listed)?);
     let text = word(alloc, text)?;
     Ok(match part {
@@ -99,7 +99,10 @@ const ROWS: &[Row<'static>] = &[
 #[test]
 fn words_of_a_rule_match_what_they_stand_for(rt: HostRuntime) -> Result<(), Fail> {
     for (part, listed, text, wanted) in ROWS {
-        assert!(rt; told(rt.alloc(), *part, listed, text)? == *wanted, "{text}");
+        assert!(rt;
+            matches(rt.alloc(), *part, listed, text)? == *wanted,
+            "{text}"
+        );
     }
     Ok(())
 }

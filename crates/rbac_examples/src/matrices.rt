@@ -27,12 +27,12 @@ fn gives(rows: &mut Rows<'_, '_>, wanted: Step<'_>) -> bool
     ensures { IsGoing rows.new }
 {
     let (text, least, most) = wanted;
-    let told = match (rows.next(), text) {
+    let got = match (rows.next(), text) {
         (Some(row), Some(text)) => is(row.resource, text),
         (None, None) => true,
         _ => false,
     };
-    told && read_within(rows.meter(), least, most)
+    got && read_within(rows.meter(), least, most)
 }
 
 // What a matrix borrows beside its seats.
@@ -137,8 +137,8 @@ fn add_numbered(
 
 fn wide(alloc: Global) -> Result<String, AllocError> {
     let mut text = String::from_str(alloc, ONE_REQUEST)?;
-    for (front, before, after, end) in LISTS {
-        text.push_str(front)?;
+    for (prefix, before, after, end) in LISTS {
+        text.push_str(prefix)?;
         add_numbered(alloc, &mut text, before, after, *end)?;
     }
     Ok(text)

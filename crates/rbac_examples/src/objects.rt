@@ -2,6 +2,7 @@
 
 use crate::exports::{loaded, universe};
 use crate::words::{is, word, words};
+use rbac_index::why_allowed;
 use rbac_model::{Object, Objects, Policy};
 use rbac_terms::{
     Binding, ClusterRole, Labels, ModelFault, Principal, Role, RoleRef, Rule, Rules, Subject,
@@ -205,8 +206,8 @@ fn counted(universe: &Universe, policy: &Policy, asker: &Principal, verb: &Word)
     let mut count = 0u32;
     for namespace in universe.namespaces() {
         for target in universe.targets() {
-            let allowed = policy.allows(asker, namespace, verb, target);
-            count = count.saturating_add(u32::from(allowed));
+            let why = why_allowed(policy, asker, namespace, verb, target);
+            count = count.saturating_add(u32::from(why.is_some()));
         }
     }
     count

@@ -9,8 +9,8 @@ use std::process::Abort;
 use std::test::Fail;
 
 // Whether these are the wanted texts, in this order.
-fn are(told: &[Word], wanted: &[&str]) -> bool {
-    told.len() == wanted.len() && told.iter().zip(wanted).all(|(word, text)| is(word, text))
+fn are(got: &[Word], wanted: &[&str]) -> bool {
+    got.len() == wanted.len() && got.iter().zip(wanted).all(|(word, text)| is(word, text))
 }
 
 fn reached(alloc: Global, policy: &Policy, name: &str) -> Result<Words, Fail> {
@@ -46,8 +46,8 @@ const REACHED: &[(&str, &[&str])] = &[
 
 fn all_reach(rt: &impl Abort, alloc: Global, policy: &Policy) -> Result<(), Fail> {
     for (name, wanted) in REACHED {
-        let told = reached(alloc, policy, name)?;
-        assert!(rt; are(told.as_slice(), wanted), "{name}");
+        let got = reached(alloc, policy, name)?;
+        assert!(rt; are(got.as_slice(), wanted), "{name}");
     }
     Ok(())
 }
@@ -88,8 +88,8 @@ fn ring_name(alloc: Global, number: u32) -> Result<String, AllocError> {
 }
 
 // Whether these are the names of the ring's roles.
-fn are_ring(rt: &impl Abort, alloc: Global, told: &[Word]) -> Result<(), AllocError> {
-    for (number, word) in (0..RING).zip(told) {
+fn are_ring(rt: &impl Abort, alloc: Global, got: &[Word]) -> Result<(), AllocError> {
+    for (number, word) in (0..RING).zip(got) {
         let name = ring_name(alloc, number)?;
         assert!(rt; is(word, name.as_str()));
     }
@@ -105,7 +105,7 @@ fn reached_in_ring(alloc: Global) -> Result<Words, Fail> {
 
 #[test]
 fn two_hundred_roles_in_a_ring_reach_all_of_them(rt: HostRuntime) -> Result<(), Fail> {
-    let told = reached_in_ring(rt.alloc())?;
-    assert!(rt; told.as_slice().len() == 201 && is(&told.as_slice()[0], "plain"));
-    Ok(are_ring(&rt, rt.alloc(), &told.as_slice()[1..])?)
+    let got = reached_in_ring(rt.alloc())?;
+    assert!(rt; got.as_slice().len() == 201 && is(&got.as_slice()[0], "plain"));
+    Ok(are_ring(&rt, rt.alloc(), &got.as_slice()[1..])?)
 }

@@ -132,7 +132,7 @@ const PAIRS: &str = r#"{"apiVersion":"rbacaudit/v1","kind":"Universe",
                {"group":"a","resource":"b"},{"group":"a","resource":"a"}],
   "names":["\u00e9","b","aa","a","Z"]}"#;
 
-// The names in order, so that each field of a key tells where its request stands.
+// The names in order, so that each field of a key shows where its request stands.
 const NAMES: &[&str] = &["Z", "a", "aa", "b", "é"];
 
 fn is_less(key: &Key, next: &Key) -> bool {

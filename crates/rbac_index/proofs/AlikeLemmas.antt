@@ -10,8 +10,8 @@ use Rattle.rbac_model.specs.Universes.{UniverseView, Listed}
 use Rattle.rbac_model.specs.declared.places.GrantPlace.{GrantPlace}
 use Rattle.rbac_model.specs.declared.places.RolePlace.{RolePlace}
 use Rattle.rbac_index.specs.Reaches.{AreAlike, IsReach, IsReachAt, AreReachesBelow}
-use Rattle.rbac_index.proofs.ReadLemmas.{read_some}
 use Rattle.std.specs.Prelude.{map}
+use Rattle.rbac_terms.proofs.Reading.{read_some}
 
 rule_from : (ob : Option Binding) (or : Option SourcedRule) (g : GrantView) → option_and_then (λ b. option_map (λ (rule : SourcedRule). record { binding = b; rule = rule }) or) ob ≡ Some g → or ≡ Some g.rule
 rule_from None or g e = cc

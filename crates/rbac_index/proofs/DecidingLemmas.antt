@@ -19,13 +19,6 @@ use Rattle.rbac_index.specs.Deciding.{IsWhyShown, AllowsOf, NoneAllowing, IsFirs
 use Rattle.rbac_index.specs.declared.deciding.Why.{Why}
 
 module _ (p : PolicyView) (who : Who) (verb : Text) (t : What) where
-  -- whom the binding at a place names
-  naming_of : (at n : ℕ) (b : Binding) → slice_get p.held.bindings at ≡ Some b → GrantsOf p who verb t at n → BindingNames b who
-  naming_of at n b there g =
-      let same : g.0.binding ≡ b = same_Some g.0.binding b (sym g.2 ∙ there) in
-      let P : Binding → Type 0 = λ x. BindingNames x who in
-      subst P same g.3
-
   allows_of : (at n : ℕ) → GrantsOf p who verb t at n → AllowsOf p verb t at n
   allows_of at n g = ((g.0, g.1, g.2), (g.0, g.1, g.4))
 

@@ -1,5 +1,5 @@
 -- the keys of the holders that were seen
-use Rattle.std.proofs.Common.{◌≡◌, List, [], ◌∷◌, ◌++◌, ap, sym, ◌∙◌, refl, Bool, true, false, cond, inl, inr, ◌⊎◌}
+use Rattle.std.proofs.Common.{◌≡◌, List, [], ◌∷◌, ◌++◌, ap, sym, ◌∙◌, Bool, true, inl, inr}
 use Rattle.std.specs.Ordering.{is_eq}
 use Rattle.std.specs.Cmp.{Equal-is}
 use Rattle.std.specs.BTreeSet.{BTreeSet, contains, Updates}
@@ -8,17 +8,9 @@ use Rattle.std.proofs.lemmas.List.Elements.{Contains-append_left, Contains-push_
 use Rattle.std.proofs.lemmas.List.Quantifiers.{Any-push}
 use Rattle.std.proofs.lemmas.Map.Lookups.{exact_bytes}
 use Rattle.rbac_terms.specs.Text.{Text, text_cmp}
+use Rattle.rbac_terms.proofs.Cases.{either_true, true_either}
 use Rattle.rbac_model.specs.Holders.{HolderView}
 use Rattle.rbac_index.specs.HolderViews.{AreKeysOf}
-
-either_true : (b c : Bool) → cond b true c ≡ true → (b ≡ true) ⊎ (c ≡ true)
-either_true true c h = inl refl
-either_true false c h = inr h
-
-true_either : (b c : Bool) → (b ≡ true) ⊎ (c ≡ true) → cond b true c ≡ true
-true_either true c h = refl
-true_either false c (inl h) = cc
-true_either false c (inr h) = h
 
 -- one more holder, whose key is put among them
 pub keys_more : (old new : BTreeSet Text) (xs : List HolderView) (y : HolderView) → AreKeysOf old xs → Updates text_cmp old new y.key true → AreKeysOf new (xs ++ y ∷ [])

@@ -1,5 +1,5 @@
 -- a request is allowed exactly where some holder is who asks, or one of its groups
-use Rattle.std.proofs.Common.{◌≡◌, ℕ, ◌+◌, ◌<◌, List, [], ◌∷◌, ◌++◌, length, ap, sym, ◌∙◌, refl, subst, suc, zero, Bool, true, false, ◌⊎◌, inl, inr, arith, get_or}
+use Rattle.std.proofs.Common.{◌≡◌, ℕ, ◌+◌, ◌<◌, List, [], ◌∷◌, ◌++◌, length, ap, sym, ◌∙◌, refl, subst, suc, zero, false, ◌⊎◌, inl, inr, arith, get_or}
 use Rattle.std.specs.Prelude.{Option, Some, None, Any, codes}
 use Rattle.std.specs.Str.{bytes_eq}
 use Rattle.std.proofs.lemmas.Bool.{cases_order, cases_eq, both_ways}
@@ -8,34 +8,29 @@ use Rattle.std.proofs.lemmas.Option.{slice_get-get_or, slice_get_within, get_or_
 use Rattle.std.proofs.lemmas.Slice.Eq.{bytes_eq-Decides}
 use Rattle.rbac_terms.specs.Text.{Text}
 use Rattle.rbac_terms.specs.Targets.{What}
-use Rattle.rbac_terms.specs.Principals.{Who, AsUser, AsMember, key_of, account_user, IsInGroup, IsUserNamed}
+use Rattle.rbac_terms.specs.Principals.{Who, AsUser, AsMember, who_key, account_user, IsInGroup, IsUserNamed}
 use Rattle.rbac_terms.specs.Granting.{Names}
 use Rattle.rbac_model.specs.Policies.{Held}
 use Rattle.rbac_terms.specs.Granting.{IsSubjectKey}
-use Rattle.rbac_model.specs.Holders.{HolderView, HoldsAt, IsHolder, AreHolders}
+use Rattle.rbac_model.specs.Holders.{HolderView, IsHolderAt, IsHolder, AreHolders}
 use Rattle.rbac_terms.specs.declared.granting.Subject.{Subject}
 use Rattle.rbac_terms.specs.declared.granting.Subject.TheVariants.{User, Group, Account}
+use Rattle.rbac_terms.proofs.Cases.{by_bool}
+use Rattle.rbac_terms.proofs.Groups.{apart}
 use Rattle.rbac_index.specs.Holding.{IsKeyFor, AllowsByHolders}
 
-by_bool : {G : Type 0} (b : Bool) → (b ≡ true → G) → (b ≡ false → G) → G
-by_bool true f g = f refl
-by_bool false f g = g refl
-
-apart : (m n : Text) → codes "u:" ++ m ≡ codes "g:" ++ n → ⊥
-apart m n e = omega (arith, ap (λ (t : Text). get_or t 0 0) e)
-
 -- the user of a name
-user_key : (who : Who) (name : Text) → IsUserNamed who name → key_of (AsUser name []) ≡ key_of who
+user_key : (who : Who) (name : Text) → IsUserNamed who name → who_key (AsUser name []) ≡ who_key who
 user_key (AsUser n given) name e = ap (λ (t : Text). codes "u:" ++ t) (sym e)
 user_key (AsMember g) name e = absurd e
 
-user_named : (who : Who) (name : Text) → IsKeyFor who (key_of (AsUser name [])) → IsUserNamed who name
+user_named : (who : Who) (name : Text) → IsKeyFor who (who_key (AsUser name [])) → IsUserNamed who name
 user_named (AsUser n given) name (inl e) = sym (append_cancel_left (codes "u:") name n e)
 user_named (AsUser n given) name (inr g) = absurd (apart name g.0 g.2)
 user_named (AsMember g) name (inl e) = absurd (apart name g e)
 user_named (AsMember g) name (inr f) = absurd (apart name f.0 f.2)
 
-group_named : (who : Who) (name : Text) → IsKeyFor who (key_of (AsMember name)) → IsInGroup who name
+group_named : (who : Who) (name : Text) → IsKeyFor who (who_key (AsMember name)) → IsInGroup who name
 group_named (AsUser n given) name (inl e) = absurd (apart n name (sym e))
 group_named (AsUser n given) name (inr g) = subst (λ (t : Text). IsInGroup (AsUser n given) t) (sym (append_cancel_left (codes "g:") name g.0 g.2)) g.1
 group_named (AsMember g) name (inl e) = append_cancel_left (codes "g:") name g e
@@ -43,10 +38,10 @@ group_named (AsMember g) name (inr f) = subst (λ (t : Text). IsInGroup (AsMembe
 
 -- a subject that names who asks has such a key
 pub naming_key : (s : Subject) (namespace : Option Text) (who : Who) → Names s namespace who → (key : Text) × IsSubjectKey s namespace key × IsKeyFor who key
-naming_key (User name) namespace who n = (key_of (AsUser name []), refl, inl (user_key who name n))
-naming_key (Group name) namespace who n = (key_of (AsMember name), refl, inr (name, n, refl))
-naming_key (Account (Some m) name) namespace who n = (key_of (AsUser (account_user m name) []), refl, inl (user_key who (account_user m name) n))
-naming_key (Account None name) (Some m) who n = (key_of (AsUser (account_user m name) []), refl, inl (user_key who (account_user m name) n))
+naming_key (User name) namespace who n = (who_key (AsUser name []), refl, inl (user_key who name n))
+naming_key (Group name) namespace who n = (who_key (AsMember name), refl, inr (name, n, refl))
+naming_key (Account (Some m) name) namespace who n = (who_key (AsUser (account_user m name) []), refl, inl (user_key who (account_user m name) n))
+naming_key (Account None name) (Some m) who n = (who_key (AsUser (account_user m name) []), refl, inl (user_key who (account_user m name) n))
 naming_key (Account None name) None who n = absurd n
 
 -- a subject with such a key names who asks
@@ -78,15 +73,15 @@ among (x ∷ xs) key =
 module _ (h : Held) (namespace verb : Text) (t : What) (xs : List HolderView) (are : AreHolders h namespace verb t xs) where
   module _ (key : Text) (none : Any (λ x. x.key ≡ key) xs → ⊥) where
     -- where nothing holds before, nothing holds here
-    first_fails : (i j : ℕ) → ((k l : ℕ) → k < i → HoldsAt h namespace verb t key k l → ⊥) → ((l : ℕ) → l < j → HoldsAt h namespace verb t key i l → ⊥) → HoldsAt h namespace verb t key i j → ⊥
+    first_fails : (i j : ℕ) → ((k l : ℕ) → k < i → IsHolderAt h namespace verb t key k l → ⊥) → ((l : ℕ) → l < j → IsHolderAt h namespace verb t key i l → ⊥) → IsHolderAt h namespace verb t key i j → ⊥
     first_fails i j before earlier a =
         let x : HolderView = record { key = key; binding = a.0; binding_place = i; subject_place = j } in
-        let least : (k l : ℕ) → HoldsAt h namespace verb t key k l → (i < k) ⊎ ((i ≡ k) × (j < l + 1)) = λ k l b. elim (cases_order i k) [
+        let least : (k l : ℕ) → IsHolderAt h namespace verb t key k l → (i < k) ⊎ ((i ≡ k) × (j < l + 1)) = λ k l b. elim (cases_order i k) [
           | inl e ↦ elim (cases_order j l) [
             | inl f ↦ inr (e, omega arith)
             | inr d ↦ elim d [
               | inl m ↦ inr (e, omega arith)
-              | inr m ↦ absurd (earlier l m (subst (λ (v : ℕ). HoldsAt h namespace verb t key v l) (sym e) b))
+              | inr m ↦ absurd (earlier l m (subst (λ (v : ℕ). IsHolderAt h namespace verb t key v l) (sym e) b))
             ]
           ]
           | inr d ↦ elim d [
@@ -98,22 +93,22 @@ module _ (h : Held) (namespace verb : Text) (t : What) (xs : List HolderView) (a
         let w = (are.exact x).1 holder in
         none (w.0, x, w.1, w.2, refl)
 
-    none_here : (i : ℕ) → ((k l : ℕ) → k < i → HoldsAt h namespace verb t key k l → ⊥) → (j l : ℕ) → l < j → HoldsAt h namespace verb t key i l → ⊥
+    none_here : (i : ℕ) → ((k l : ℕ) → k < i → IsHolderAt h namespace verb t key k l → ⊥) → (j l : ℕ) → l < j → IsHolderAt h namespace verb t key i l → ⊥
     none_here i before zero l m a = omega arith
     none_here i before (suc j) l m a = elim (cases_eq l j) [
-      | inl e ↦ first_fails i j before (λ n o b. none_here i before j n o b) (subst (λ (v : ℕ). HoldsAt h namespace verb t key i v) e a)
+      | inl e ↦ first_fails i j before (λ n o b. none_here i before j n o b) (subst (λ (v : ℕ). IsHolderAt h namespace verb t key i v) e a)
       | inr ne ↦ none_here i before j l (omega arith) a
     ]
 
-    none_before : (i k l : ℕ) → k < i → HoldsAt h namespace verb t key k l → ⊥
+    none_before : (i k l : ℕ) → k < i → IsHolderAt h namespace verb t key k l → ⊥
     none_before zero k l m a = omega arith
     none_before (suc i) k l m a = elim (cases_eq k i) [
-      | inl e ↦ none_here i (λ n o p b. none_before i n o p b) (l + 1) l (omega arith) (subst (λ (v : ℕ). HoldsAt h namespace verb t key v l) e a)
+      | inl e ↦ none_here i (λ n o p b. none_before i n o p b) (l + 1) l (omega arith) (subst (λ (v : ℕ). IsHolderAt h namespace verb t key v l) e a)
       | inr ne ↦ none_before i k l (omega arith) a
     ]
 
   -- what holds somewhere is a holder's key
-  has_holder : (key : Text) (i j : ℕ) → HoldsAt h namespace verb t key i j → Any (λ x. x.key ≡ key) xs
+  has_holder : (key : Text) (i j : ℕ) → IsHolderAt h namespace verb t key i j → Any (λ x. x.key ≡ key) xs
   has_holder key i j a = elim (among xs key) [
     | inl any ↦ any
     | inr none ↦ absurd (none_before key none (i + 1) i j (omega arith) a)
@@ -128,7 +123,7 @@ module _ (h : Held) (namespace verb : Text) (t : What) (xs : List HolderView) (a
         let names = grants.1 in
         let s = names.1 in
         let key = naming_key s b.namespace who names.4 in
-        let holds : HoldsAt h namespace verb t key.0 i names.0 = (b, s, slice_get-get_or h.bindings i b allows.2 ∙ ap Some allows.3, slice_get-get_or b.subjects names.0 s names.2 ∙ ap Some names.3, (grants.0, grants.2, key.1)) in
+        let holds : IsHolderAt h namespace verb t key.0 i names.0 = (b, s, slice_get-get_or h.bindings i b allows.2 ∙ ap Some allows.3, slice_get-get_or b.subjects names.0 s names.2 ∙ ap Some names.3, (grants.0, grants.2, key.1)) in
         let any = has_holder key.0 i names.0 holds in
         (any.0, any.1, any.2, any.3, subst (IsKeyFor who) (sym any.4) key.2),
     λ any.

@@ -12,9 +12,9 @@ use Rattle.rbac_terms.specs.Matching.{RuleAllows, ResourceWordMatches}
 use Rattle.rbac_terms.specs.declared.matching.Rule.{Rule}
 use Rattle.rbac_model.specs.Policies.{PolicyView, GrantView}
 use Rattle.rbac_index.specs.declared.listing.Listing.{Listing}
-use Rattle.rbac_index.specs.declared.written.Written.{Written}
+use Rattle.rbac_index.specs.declared.rule_rows.Written.{Written}
 use Rattle.rbac_index.specs.Listing.{listed}
-use Rattle.rbac_index.specs.Written.{written_rules, rules_of}
+use Rattle.rbac_index.specs.Written.{written_rules, bare_rules}
 use Rattle.rbac_index.specs.Indexed.{AreCandidates, IsIndexOf, HaveNumbers, numbers_by, AllowsRule, IsAllowedBy}
 use Rattle.rbac_index.proofs.WrittenLemmas.{written_at, rule_read}
 
@@ -55,7 +55,7 @@ module _ (p : PolicyView) (ws : List Written) (l : Listing) (runs : List (List �
       ))
 
   module _ (verb : Text) where
-    candidates_by : (t : What) (places ns : List ℕ) → ((at : ℕ) → AllowsRule (rules_of ws) verb t at → Contains places at) → IsStrictlyIncreasing ns → ((n : ℕ) → Contains ns n ↔ IsAllowedBy ws runs places verb t n) → AreCandidates p verb t ns
+    candidates_by : (t : What) (places ns : List ℕ) → ((at : ℕ) → AllowsRule (bare_rules ws) verb t at → Contains places at) → IsStrictlyIncreasing ns → ((n : ℕ) → Contains ns n ↔ IsAllowedBy ws runs places verb t n) → AreCandidates p verb t ns
     candidates_by t places ns all up exact = record {
       ascending = up;
       exact = λ n. (
@@ -92,27 +92,27 @@ module _ (p : PolicyView) (ws : List Written) (l : Listing) (runs : List (List �
     pub found_within : (text : Text) (found : List ℕ) → ((n : ℕ) → Contains found n ↔ ((w : Text) × ResourceWordMatches w text × Contains (listed l.by_word w) n)) → All (λ at. at < length ws) found
     found_within text found are = all_from found (λ n c. let f = (are n).0 c in ((index.listed.words f.0 n).0 f.2).0)
 
-    within : (t : What) (at : ℕ) → AllowsRule (rules_of ws) verb t at → at < length ws
-    within t at allows = omega (arith, slice_get_within (rules_of ws) at allows.0 allows.1, length-map {A = Written} {B = Rule} ws (λ w. w.rule.now))
+    within : (t : What) (at : ℕ) → AllowsRule (bare_rules ws) verb t at → at < length ws
+    within t at allows = omega (arith, slice_get_within (bare_rules ws) at allows.0 allows.1, length-map {A = Written} {B = Rule} ws (λ w. w.rule.now))
 
-    url_listed : (path : Text) (at : ℕ) → AllowsRule (rules_of ws) verb (Url path) at → Contains l.with_urls at
+    url_listed : (path : Text) (at : ℕ) → AllowsRule (bare_rules ws) verb (Url path) at → Contains l.with_urls at
     url_listed path at allows =
         let some : allows.0.urls ≢ [] = λ e. omega (arith, allows.2.1.2, ap length e) in
         (index.listed.urls at).1 (within (Url path) at allows, (allows.0, allows.1, some))
 
     pub candidates_urls : (t : What) (ns : List ℕ) → IsUrl t → IsStrictlyIncreasing ns → ((n : ℕ) → Contains ns n ↔ IsAllowedBy ws runs l.with_urls verb t n) → AreCandidates p verb t ns
     candidates_urls t ns is up exact =
-        let P : What → Type 0 = λ x. (at : ℕ) → AllowsRule (rules_of ws) verb x at → Contains l.with_urls at in
+        let P : What → Type 0 = λ x. (at : ℕ) → AllowsRule (bare_rules ws) verb x at → Contains l.with_urls at in
         candidates_by t l.with_urls ns (subst P (sym is) (url_listed (text_of t))) up exact
 
-    resource_listed : (group text name : Text) (found : List ℕ) → ((n : ℕ) → Contains found n ↔ ((w : Text) × ResourceWordMatches w text × Contains (listed l.by_word w) n)) → (at : ℕ) → AllowsRule (rules_of ws) verb (Resource group text name) at → Contains found at
+    resource_listed : (group text name : Text) (found : List ℕ) → ((n : ℕ) → Contains found n ↔ ((w : Text) × ResourceWordMatches w text × Contains (listed l.by_word w) n)) → (at : ℕ) → AllowsRule (bare_rules ws) verb (Resource group text name) at → Contains found at
     resource_listed group text name found are at allows =
         let word = allows.2.1.1 in
         (are at).1 (word.1, word.4, (index.listed.words word.1 at).1 (within (Resource group text name) at allows, (allows.0, allows.1, (word.0, word.2, word.3))))
 
     pub candidates_listed : (t : What) (found ns : List ℕ) → IsResource t → ((n : ℕ) → Contains found n ↔ ((w : Text) × ResourceWordMatches w (text_of t) × Contains (listed l.by_word w) n)) → IsStrictlyIncreasing ns → ((n : ℕ) → Contains ns n ↔ IsAllowedBy ws runs found verb t n) → AreCandidates p verb t ns
     candidates_listed t found ns is are up exact =
-        let P : What → Type 0 = λ x. (at : ℕ) → AllowsRule (rules_of ws) verb x at → Contains found at in
+        let P : What → Type 0 = λ x. (at : ℕ) → AllowsRule (bare_rules ws) verb x at → Contains found at in
         candidates_by t found ns (subst P (sym is) (resource_listed (group_of t) (text_of t) (name_of t) found are)) up exact
 
 -- one place more of a rule, which allows or doesn't

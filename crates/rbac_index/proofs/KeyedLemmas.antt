@@ -13,13 +13,13 @@ use Rattle.std.proofs.lemmas.List.Elements.{Contains-append_left, Contains-push,
 use Rattle.std.proofs.lemmas.List.Sorted.{searchable_from_sorted, sorted_far, ranks_by}
 use Rattle.std.proofs.lemmas.Map.Lookups.{exact_bytes}
 use Rattle.rbac_terms.specs.Text.{Text, text_cmp}
-use Rattle.rbac_terms.specs.Principals.{Who, key_of, given_of, IsAccountIn, SignsInAs}
-use Rattle.rbac_index.specs.declared.keyed.Keyed.{Keyed}
-use Rattle.rbac_index.specs.declared.living.Live.{Live}
+use Rattle.rbac_terms.specs.Principals.{Who, who_key, given_of, IsAccountIn, SignsInAs}
+use Rattle.rbac_index.specs.declared.subject_keys.Keyed.{Keyed}
+use Rattle.rbac_index.specs.declared.live_bindings.Live.{Live}
 use Rattle.rbac_index.specs.Holding.{IsKeyFor}
 use Rattle.rbac_index.specs.Keyed.{keyed, keyed_cmp, IsLiveAt, IsNextOf, AnswersNext, IsLiveUnder, IsLiveUnderAny, IsGivenKey, IsAccountKey, IsSignInKey, sooner}
 use Rattle.rbac_index.proofs.KeysOf.{keys_sorted}
-use Rattle.rbac_index.proofs.LivingLemmas.{lt_back}
+use Rattle.rbac_terms.proofs.Orderings.{lt_back}
 
 then_assoc : (a b c : Ordering) → ordering_then (ordering_then a b) c ≡ ordering_then a (ordering_then b c)
 then_assoc Less b c = refl
@@ -27,7 +27,7 @@ then_assoc Equal b c = refl
 then_assoc Greater b c = refl
 
 -- a text stands to one in two parts as its head to the first, and then as its tail to the second
-pub joined_cmp : (head tail front rest : Text) → (length head ≡ length front) ⊎ ((length tail ≡ 0) × (length head < length front)) → ordering_then (text_cmp head front) (text_cmp tail rest) ≡ text_cmp (head ++ tail) (front ++ rest)
+pub joined_cmp : (head tail prefix rest : Text) → (length head ≡ length prefix) ⊎ ((length tail ≡ 0) × (length head < length prefix)) → ordering_then (text_cmp head prefix) (text_cmp tail rest) ≡ text_cmp (head ++ tail) (prefix ++ rest)
 joined_cmp [] tail [] rest d = refl
 joined_cmp [] tail (f ∷ fs) rest (inl e) = absurd (omega (arith, e))
 joined_cmp [] [] (f ∷ fs) rest (inr e) = refl
@@ -205,7 +205,7 @@ module _ (xs : List Keyed) (live : Live) (from : ℕ) where
         ],
       )) (sooner_next P Q from a b f g)
 
-  -- the group that tells whether a user has signed in
+  -- the group that says whether a user has signed in
   pub signed_in_next : (who : Who) (own : Text) (a : Option ℕ) → ((g : Text) → SignsInAs who g ↔ (g ≡ own)) → AnswersNext (IsLiveUnder xs live (codes "g:" ++ own)) from a → AnswersNext (IsLiveUnderAny xs live (IsSignInKey who)) from a
   signed_in_next who own a is f =
       next_same (IsLiveUnder xs live (codes "g:" ++ own)) (IsLiveUnderAny xs live (IsSignInKey who)) from a (λ n. (
@@ -214,7 +214,7 @@ module _ (xs : List Keyed) (live : Live) (from : ℕ) where
       )) f
 
   -- all keys
-  pub all_next : (who : Who) (own : Text) (a b c d : Option ℕ) → own ≡ key_of who → AnswersNext (IsLiveUnder xs live own) from a → AnswersNext (IsLiveUnderAny xs live (IsGivenKey (given_of who))) from b → AnswersNext (IsLiveUnderAny xs live (IsAccountKey who)) from c → AnswersNext (IsLiveUnderAny xs live (IsSignInKey who)) from d → AnswersNext (IsLiveUnderAny xs live (IsKeyFor who)) from (sooner (sooner a b) (sooner c d))
+  pub all_next : (who : Who) (own : Text) (a b c d : Option ℕ) → own ≡ who_key who → AnswersNext (IsLiveUnder xs live own) from a → AnswersNext (IsLiveUnderAny xs live (IsGivenKey (given_of who))) from b → AnswersNext (IsLiveUnderAny xs live (IsAccountKey who)) from c → AnswersNext (IsLiveUnderAny xs live (IsSignInKey who)) from d → AnswersNext (IsLiveUnderAny xs live (IsKeyFor who)) from (sooner (sooner a b) (sooner c d))
   all_next who own a b c d is f g h k =
       let P : ℕ → Type 0 = IsLiveUnder xs live own in
       let Q : ℕ → Type 0 = IsLiveUnderAny xs live (IsGivenKey (given_of who)) in

@@ -12,7 +12,7 @@ use Rattle.rbac_terms.specs.declared.granting.Binding.{Binding}
 use Rattle.rbac_terms.specs.declared.granting.Subject.{Subject}
 use Rattle.rbac_model.specs.Policies.{PolicyView, IsPolicy, IsOfBinding}
 use Rattle.rbac_model.proofs.BindingPlaces.{of_some_binding}
-use Rattle.rbac_index.specs.declared.keyed.Keyed.{Keyed}
+use Rattle.rbac_index.specs.declared.subject_keys.Keyed.{Keyed}
 use Rattle.rbac_index.specs.Keyed.{keyed, keyed_cmp, IsKeyIn, IsKeyedAt, HasGrants, HasKeysOf, AreKeyed}
 
 -- one of so many first subjects of the binding has the key
@@ -26,9 +26,6 @@ HasKeysBelow old new b place count = (x : Keyed) → Contains new x ↔ (Contain
 -- exactly the keys of the subjects of those of so many first bindings that have grants
 abbrev pub AreKeyedBelow : PolicyView → ℕ → List Keyed → Type 0
 AreKeyedBelow p count xs = (x : Keyed) → Contains xs x ↔ ((x.place < count) × HasGrants p x.place × IsKeyedAt p.held.bindings x.key x.place)
-
-pub keys_none : (xs : List Keyed) (b : Binding) (place : ℕ) → HasKeysBelow xs xs b place 0
-keys_none xs b place x = (λ c. inl c, λ d. elim d [ inl c ↦ c | inr w ↦ absurd (omega (arith, w.1.2)) ])
 
 module _ (old mid : List Keyed) (b : Binding) (place n : ℕ) (s : Subject) (there : slice_get b.subjects n ≡ Some s) (has : HasKeysBelow old mid b place n) where
   last_key : (key : Text) → IsKeyAmong b (n + 1) key → IsKeyAmong b n key ⊎ IsSubjectKey s b.namespace key

@@ -2,13 +2,13 @@
 use Rattle.std.proofs.Common.{◌≡◌, ◌++◌, ap, ◌∙◌, refl, inl, inr, ◌⊎◌, ◌↔◌, Contains, [], arith}
 use Rattle.std.specs.Prelude.{codes}
 use Rattle.rbac_terms.specs.Text.{Text}
-use Rattle.rbac_terms.specs.Principals.{Who, AsUser, AsMember, key_of, given_of}
+use Rattle.rbac_terms.specs.Principals.{Who, AsUser, AsMember, who_key, given_of}
 use Rattle.rbac_index.specs.Holding.{IsKeyFor}
 use Rattle.rbac_index.specs.Keyed.{IsGivenKey, IsAccountKey, IsSignInKey}
 
 -- a key of one of the four kinds
 abbrev pub IsSomeKey : Who → Text → Type 0
-IsSomeKey who key = ((key ≡ key_of who) ⊎ IsGivenKey (given_of who) key) ⊎ (IsAccountKey who key ⊎ IsSignInKey who key)
+IsSomeKey who key = ((key ≡ who_key who) ⊎ IsGivenKey (given_of who) key) ⊎ (IsAccountKey who key ⊎ IsSignInKey who key)
 
 sorted_key : (who : Who) (key : Text) → IsKeyFor who key → IsSomeKey who key
 sorted_key who key (inl e) = inl (inl e)

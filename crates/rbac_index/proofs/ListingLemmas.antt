@@ -1,10 +1,8 @@
 -- lists under words, as they grow and as they are read
-use Rattle.std.proofs.Common.{◌≡◌, ◌≢◌, ℕ, ◌<◌, ◌+◌, List, [], ◌∷◌, ◌++◌, length, take, refl, sym, ap, ◌∙◌, subst, eqb, Bool, true, false, cond, Contains, Vec, Global, ◌⊎◌, ◌↔◌, inl, inr, arith, get_or, slice_get}
+use Rattle.std.proofs.Common.{◌≡◌, ◌≢◌, ℕ, ◌<◌, ◌+◌, List, [], ◌∷◌, ◌++◌, length, take, refl, sym, ap, ◌∙◌, subst, eqb, Bool, true, cond, Contains, Vec, Global, ◌⊎◌, ◌↔◌, inl, inr, arith, get_or, slice_get}
 use Rattle.std.specs.Prelude.{Option, Some, unwrap_or, codes, Result, Ok, Err, IfOk}
 use Rattle.std.specs.BTreeMap.{get}
 use Rattle.std.specs.Ordering.{is_eq}
-use Rattle.std.specs.declared.cmp.Ordering.{Ordering}
-use Rattle.std.specs.declared.cmp.Ordering.TheVariants.{Less, Equal, Greater}
 use Rattle.std.proofs.lemmas.Bool.{eqb-true}
 use Rattle.std.proofs.lemmas.Cmp.{tied_itself, nat_list_cmp_total}
 use Rattle.std.proofs.lemmas.List.{nil_from_length, take_more}
@@ -16,20 +14,13 @@ use Rattle.rbac_terms.specs.Matching.{ResourceWordMatches, FollowsFirstSlash}
 use Rattle.std.proofs.lemmas.Bool.{cases_eq}
 use Rattle.std.proofs.lemmas.Option.{same_Some}
 use Rattle.rbac_terms.specs.declared.matching.Rule.{Rule}
+use Rattle.rbac_terms.proofs.Cases.{by_bool}
+use Rattle.rbac_terms.proofs.Orderings.{equal_from_test}
 use Rattle.rbac_index.specs.declared.listing.Listing.{Listing}
 use Rattle.rbac_index.specs.Listing.{Lists, listed, ListsMore, ListsUnder, ListsRule, AreListed}
 
-by_bool : {G : Type 0} (b : Bool) → (b ≡ true → G) → (b ≡ false → G) → G
-by_bool true f g = f refl
-by_bool false f g = g refl
-
 pub nil_from_test : (s : Text) (b : Bool) → b ≡ eqb (length s) 0 → b ≡ true → s ≡ []
 nil_from_test s b e h = nil_from_length s (eqb-true (length s) 0 (sym e ∙ h))
-
-equal_from_test : (o : Ordering) → is_eq o ≡ true → o ≡ Equal
-equal_from_test Less h = cc
-equal_from_test Equal h = refl
-equal_from_test Greater h = cc
 
 -- one word's list has the number added, and no other list has changed
 pub lists_more : (old new : Lists) (word : Text) (added : ℕ) (xs : List ℕ) → ((q : Text) → get text_cmp new q ≡ cond (is_eq (text_cmp word q)) (Some xs) (get text_cmp old q)) → ((n : ℕ) → Contains xs n ↔ (Contains (listed old word) n ⊎ (n ≡ added))) → ListsMore old new word added

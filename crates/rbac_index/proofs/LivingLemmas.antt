@@ -1,8 +1,8 @@
 -- bindings are in order of namespaces, the ClusterRoleBindings first
-use Rattle.std.proofs.Common.{◌≡◌, ℕ, ◌<◌, ◌≤◌, List, [], ◌∷◌, length, get_or, ap, sym, ◌∙◌, refl, inl, inr, arith, ◌⊎◌, ◌↔◌, Bool, true, false}
+use Rattle.std.proofs.Common.{◌≡◌, ℕ, ◌<◌, ◌≤◌, List, [], ◌∷◌, length, get_or, ap, sym, ◌∙◌, refl, inl, inr, arith, ◌↔◌, Bool, true, false}
 use Rattle.std.specs.Prelude.{Option, Some, None, slice_get, is_none}
 use Rattle.std.specs.Cmp.Lexicographic.{slice_cmp}
-use Rattle.std.specs.Ordering.{ordering_index, is_lt, is_le, ordering_then}
+use Rattle.std.specs.Ordering.{ordering_index, is_lt, is_le}
 use Rattle.std.specs.List.Sorted.{IsPartitionedBy, IsPartitionPoint}
 use Rattle.std.specs.declared.cmp.Ordering.{Ordering}
 use Rattle.std.specs.declared.cmp.Ordering.TheVariants.{Less, Equal, Greater}
@@ -12,9 +12,10 @@ use Rattle.std.proofs.lemmas.Map.Lookups.{exact_bytes}
 use Rattle.std.proofs.lemmas.Option.{slice_get_within, get_or_from_slice_get}
 use Rattle.rbac_terms.specs.Text.{Text, text_cmp}
 use Rattle.rbac_terms.specs.declared.granting.Binding.{Binding}
+use Rattle.rbac_terms.proofs.Cases.{by_ordering}
+use Rattle.rbac_terms.proofs.Orderings.{then_less, lt_back, le_back, between_is}
 use Rattle.rbac_model.specs.Lists.{IsAscendingBy}
 use Rattle.rbac_model.specs.Policies.{binding_name, binding_name_at}
-use Rattle.rbac_model.proofs.NamePlaces.{by_ordering}
 use Rattle.rbac_index.specs.Living.{namespace_cmp}
 
 -- before a ClusterRoleBinding stand ClusterRoleBindings alone
@@ -36,11 +37,6 @@ index_rises x y z l =
     (λ e. let p : ordering_index (text_cmp x z) ≡ 0 = ap ordering_index (sym (alike_right nat_list_cmp_total y z x e) ∙ l) in omega arith)
     (λ e. let p : ordering_index (text_cmp y z) ≡ 2 = ap ordering_index e in omega (arith, index_at_most (text_cmp x z)))
 
-then_less : (o p : Ordering) → ordering_then o p ≡ Less → (o ≡ Less) ⊎ (o ≡ Equal)
-then_less Less p e = inl refl
-then_less Equal p e = inr refl
-then_less Greater p e = cc
-
 namespaces_rise : (m n : Option Text) (a b asked : Text) → slice_cmp text_cmp (binding_name_at m a) (binding_name_at n b) ≡ Less → ordering_index (namespace_cmp m asked) ≤ ordering_index (namespace_cmp n asked)
 namespaces_rise None n a b asked l = omega arith
 namespaces_rise (Some x) None a b asked l = cc
@@ -48,27 +44,6 @@ namespaces_rise (Some x) (Some y) a b asked l = elim (then_less (text_cmp x y) (
   | inl e ↦ index_rises x y asked e
   | inr e ↦ let same : x ≡ y = exact_bytes x y e in rw same (omega arith)
 ]
-
-pub lt_back : (o p : Ordering) → ordering_index o ≤ ordering_index p → is_lt p ≡ true → is_lt o ≡ true
-lt_back Less p le e = refl
-lt_back Equal Less le e = absurd (omega arith)
-lt_back Equal Equal le e = cc
-lt_back Equal Greater le e = cc
-lt_back Greater Less le e = absurd (omega arith)
-lt_back Greater Equal le e = cc
-lt_back Greater Greater le e = cc
-
-le_back : (o p : Ordering) → ordering_index o ≤ ordering_index p → is_le p ≡ true → is_le o ≡ true
-le_back Less p le e = refl
-le_back Equal p le e = refl
-le_back Greater Less le e = absurd (omega arith)
-le_back Greater Equal le e = absurd (omega arith)
-le_back Greater Greater le e = cc
-
-between_is : (o : Ordering) → is_lt o ≡ false → is_le o ≡ true → o ≡ Equal
-between_is Less e f = cc
-between_is Equal e f = refl
-between_is Greater e f = cc
 
 is_asked : (m : Option Text) (asked : Text) → namespace_cmp m asked ≡ Equal → m ≡ Some asked
 is_asked None asked e = cc

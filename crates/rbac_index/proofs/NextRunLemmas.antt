@@ -9,8 +9,8 @@ use Rattle.rbac_terms.specs.declared.granting.Binding.{Binding}
 use Rattle.rbac_model.specs.Policies.{PolicyView, GrantView, IsPolicy, IsOfBinding, BindingNames}
 use Rattle.rbac_model.specs.Universes.{LiveForSome}
 use Rattle.rbac_model.proofs.BindingPlaces.{of_some_binding, places_rise}
-use Rattle.rbac_index.specs.declared.keyed.Keyed.{Keyed}
-use Rattle.rbac_index.specs.declared.living.Live.{Live}
+use Rattle.rbac_index.specs.declared.subject_keys.Keyed.{Keyed}
+use Rattle.rbac_index.specs.declared.live_bindings.Live.{Live}
 use Rattle.rbac_index.specs.Bound.{IsNamedBy, IsBoundTo, IsNextRun}
 use Rattle.rbac_index.specs.Holding.{IsKeyFor}
 use Rattle.rbac_index.specs.Keyed.{keyed, HasGrants, AreKeyed, IsLiveAt, IsNextOf, AnswersNext, IsLiveUnderAny}

@@ -1,4 +1,4 @@
--- the holders are one list: a list in an order without ties is told by its elements
+-- the holders are one list: a list in an order without ties is determined by its elements
 use Rattle.std.proofs.Common.{◌≡◌, ◌∙◌, ℕ, List, [], ◌∷◌, Contains, AllPairs, ◌⊎◌, inl, inr, sym, ap₂, subst, refl, arith, zero, suc}
 use Rattle.rbac_terms.specs.Text.{Text}
 use Rattle.rbac_terms.specs.Targets.{What}

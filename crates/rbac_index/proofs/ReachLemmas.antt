@@ -1,5 +1,5 @@
--- a reach that is told target by target
-use Rattle.std.proofs.Common.{◌≡◌, ℕ, suc, zero, ◌+◌, ◌-◌, ◌<◌, ◌≤◌, List, [], ◌∷◌, ◌++◌, length, get_or, slice_get, arith, inl, inr, subst, sym, ◌∙◌, ap, Contains, append_assoc, append-nil, Result, Ok, Err, OnOk}
+-- a reach, target by target
+use Rattle.std.proofs.Common.{◌≡◌, ℕ, suc, zero, ◌+◌, ◌-◌, ◌<◌, ◌≤◌, List, [], ◌∷◌, ◌++◌, length, get_or, slice_get, arith, inl, inr, subst, sym, ◌∙◌, ap, Contains, append_assoc, append-nil}
 use Rattle.std.specs.Prelude.{Some}
 use Rattle.std.specs.List.Sorted.{IsStrictlyIncreasing}
 use Rattle.std.proofs.lemmas.Bool.{cases_lt}
@@ -10,18 +10,8 @@ use Rattle.std.proofs.lemmas.Option.{same_Some, slice_get_within, slice_get-get_
 use Rattle.rbac_terms.specs.Targets.{What}
 use Rattle.rbac_terms.specs.Matching.{TargetOk}
 use Rattle.rbac_terms.specs.declared.matching.Rule.{Rule}
-use Rattle.rbac_model.specs.Policies.{PolicyView}
-use Rattle.rbac_model.specs.Universes.{UniverseView}
-use Rattle.rbac_index.specs.Reaches.{MatchesAt, IsReach, IsReachBelow, IsReachAt, AreReachesBelow}
+use Rattle.rbac_index.specs.Reaches.{MatchesAt, IsReach, IsReachBelow}
 use Rattle.rbac_index.specs.Spans.{places_from}
-use Rattle.rbac_index.proofs.ReadLemmas.{read_left, read_right}
-
-pub reach_none : (r : Rule) (ts : List What) → IsReachBelow r ts 0 []
-reach_none r ts = record {
-  ascending = λ k lt. absurd (omega arith);
-  exact = λ n. (λ (k, lt, e). absurd (omega arith), λ w. absurd (omega (arith, w.0)));
-  short = omega arith;
-}
 
 ascending_push : (places : List ℕ) (n : ℕ) → IsStrictlyIncreasing places → ((u : ℕ) → Contains places u → u < n) → IsStrictlyIncreasing (places ++ n ∷ [])
 ascending_push places n up below k lt = elim (cases_lt (k + 1) (length places)) [
@@ -44,22 +34,6 @@ module _ (r : Rule) (ts : List What) (count : ℕ) (places : List ℕ) (t : What
       ],
     );
     short = omega (arith, h.short, length-append places (count ∷ []));
-  }
-
-  pub reach_passed : ¬ TargetOk r t → IsReachBelow r ts (count + 1) places
-  reach_passed bad = record {
-    ascending = h.ascending;
-    exact = λ n. (
-      λ has. let w = (h.exact n).0 has in (omega (arith, w.0), w.1),
-      λ w. elim (cases_lt n count) [
-        | inl old ↦ (h.exact n).1 (old, w.1)
-        | inr new ↦
-            let same : n ≡ count = omega (arith, w.0) in
-            let here : w.1.0 ≡ t = same_Some w.1.0 t (sym w.1.1 ∙ ap (slice_get ts) same ∙ there) in
-            absurd (bad (subst (TargetOk r) here w.1.2))
-      ],
-    );
-    short = omega (arith, h.short);
   }
 
 -- places where nothing matches are passed over
@@ -101,22 +75,6 @@ reach_all r ts count places all h = record {
   exact = λ n. (λ has. ((h.exact n).0 has).1, λ w. (h.exact n).1 (omega (arith, all, slice_get_within ts n w.0 w.1), w));
 }
 
-pub reaches_none : (p : PolicyView) (u : UniverseView) → AreReachesBelow p u 0 []
-reaches_none p u = record { len = omega arith; each = λ n places read. absurd (omega (arith, slice_get_within [] n places read)) }
-
-pub reaches_more : (p : PolicyView) (u : UniverseView) (count : ℕ) (rs : List (List ℕ)) (places : List ℕ) → IsReachAt p u count places → AreReachesBelow p u count rs → AreReachesBelow p u (count + 1) (rs ++ places ∷ [])
-reaches_more p u count rs places at below = record {
-  len = omega (arith, below.len, length-append rs (places ∷ []));
-  each = λ n other read. elim (cases_lt n (length rs)) [
-    | inl old ↦ below.each n other (sym (read_left rs (places ∷ []) n old) ∙ read)
-    | inr new ↦
-        let here : n ≡ length rs = omega (arith, slice_get_within (rs ++ places ∷ []) n other read, length-append rs (places ∷ [])) in
-        let same : other ≡ places = same_Some other places (sym read ∙ read_right rs (places ∷ []) n 0 (omega (arith, here))) in
-        let number : count ≡ n = omega (arith, here, below.len) in
-        subst (λ (m : ℕ). IsReachAt p u m other) number (subst (IsReachAt p u count) (sym same) at)
-  ];
-}
-
 module _ (r : Rule) (ts : List What) (at : ℕ) (t : What) (within : at < length ts) (is : t ≡ get_or ts at t) where
   there : slice_get ts at ≡ Some t
   there = slice_get-get_or ts at t within ∙ ap (λ (x : What). Some x) (sym is)
@@ -126,7 +84,3 @@ module _ (r : Rule) (ts : List What) (at : ℕ) (t : What) (within : at < length
 
   pub fails_here : ¬ TargetOk r t → MatchesAt r ts at → ⊥
   fails_here bad m = bad (subst (TargetOk r) (same_Some m.0 t (sym m.1 ∙ there)) m.2)
-
-pub on_ok : {T E : Type 0} {P Q : Type 0} (o : Result T E) → (P → Q) → OnOk o P → OnOk o Q
-on_ok (Ok x) f p = f p
-on_ok (Err e) f p = tt

@@ -6,9 +6,10 @@ use Rattle.std.proofs.lemmas.List.{get_or-set_same, get_or-set_other, length-set
 use Rattle.std.proofs.lemmas.List.Elements.{All-weaker, All-contains_itself, Contains-append_left, Contains-push, Contains-push_cases}
 use Rattle.std.proofs.lemmas.Option.{same_Some, slice_get_within}
 use Rattle.rbac_terms.specs.declared.matching.Rule.{Rule}
+use Rattle.rbac_terms.proofs.Reading.{read_some}
 use Rattle.rbac_model.specs.Policies.{PolicyView}
 use Rattle.rbac_index.specs.Indexed.{IsRun, AreRuns}
-use Rattle.rbac_index.proofs.ReadLemmas.{read_now, read_some}
+use Rattle.rbac_index.proofs.ReadLemmas.{read_now}
 
 nothing_in : (count at n : ℕ) → Contains (get_or (replicate count []) at []) n → ⊥
 nothing_in zero at n w = omega (arith, w.1)

@@ -10,6 +10,7 @@ use Rattle.rbac_terms.specs.declared.matching.Rule.{Rule}
 use Rattle.rbac_terms.specs.declared.granting.Role.{Role}
 use Rattle.rbac_terms.specs.declared.granting.ClusterRole.{ClusterRole}
 use Rattle.rbac_terms.specs.declared.granting.Binding.{Binding}
+use Rattle.rbac_terms.proofs.Reading.{read_left, read_right, read_some}
 use Rattle.rbac_model.specs.Policies.{Held, PolicyView, IsPolicy, GrantView, AreGrantsOf, AreRulesFor, AreRulesOf, Source, InRole, InClusterRole, SourcedRule, written_from, rule_at, sourced_at, grant_at}
 use Rattle.rbac_model.specs.declared.places.GrantPlace.{GrantPlace}
 use Rattle.rbac_model.specs.declared.places.RolePlace.{RolePlace}
@@ -17,7 +18,6 @@ use Rattle.rbac_model.specs.declared.places.RolePlace.TheVariants.{RoleAt, Clust
 use Rattle.rbac_model.specs.Places.{rules_of, granted_by}
 use Rattle.rbac_index.specs.Written.{written_rules, row_of}
 use Rattle.rbac_index.specs.Indexed.{IsRun}
-use Rattle.rbac_index.proofs.ReadLemmas.{read_left, read_right, read_some}
 
 -- the grants of a binding by the rules of a role
 abbrev pub run_of : Binding × Source → List GrantView

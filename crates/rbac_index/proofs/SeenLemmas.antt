@@ -12,7 +12,7 @@ use Rattle.rbac_model.specs.Policies.{Held, Live, AreRulesFor, SourcedRule}
 use Rattle.rbac_terms.specs.Matching.{RuleAllows}
 use Rattle.std.proofs.lemmas.Option.{same_Some}
 use Rattle.rbac_terms.specs.Granting.{IsSubjectKey}
-use Rattle.rbac_model.specs.Holders.{HolderView, HoldsAt, IsHolder, AreHolders, IsBefore}
+use Rattle.rbac_model.specs.Holders.{HolderView, IsHolderAt, IsHolder, AreHolders, IsBefore}
 use Rattle.rbac_terms.specs.declared.granting.Binding.{Binding}
 use Rattle.rbac_terms.specs.declared.granting.Subject.{Subject}
 use Rattle.rbac_index.specs.Holding.{BringsAt, BringsRuleAt, AreSeen, IsSeenMore}
@@ -73,7 +73,7 @@ same_holder key b i j x e f g k =
     ap (λ (u : Text). holder_by u b i j) e ∙ ap (λ (u : Binding). holder_by x.key u i j) f ∙ ap (λ (u : ℕ). holder_by x.key x.binding u j) g ∙ ap (λ (u : ℕ). holder_by x.key x.binding x.binding_place u) k
 
 module _ (h : Held) (namespace verb : Text) (t : What) where
-  pub brings : (key : Text) (i j : ℕ) → HoldsAt h namespace verb t key i j → BringsAt h namespace verb t i
+  pub brings : (key : Text) (i j : ℕ) → IsHolderAt h namespace verb t key i j → BringsAt h namespace verb t i
   brings key i j (b, s, at, there, by) = (b, at, by.0, by.1)
 
   pub seen_none : AreSeen h namespace verb t 0 0 []
@@ -84,7 +84,7 @@ module _ (h : Held) (namespace verb : Text) (t : What) where
   }
 
   -- nothing holds between the two pairs
-  pub seen_moved : (i j k l : ℕ) (xs : List HolderView) → ((m n : ℕ) → IsBefore m n i j → IsBefore m n k l) → ((key : Text) (m n : ℕ) → HoldsAt h namespace verb t key m n → IsBefore m n k l → IsBefore m n i j) → AreSeen h namespace verb t i j xs → AreSeen h namespace verb t k l xs
+  pub seen_moved : (i j k l : ℕ) (xs : List HolderView) → ((m n : ℕ) → IsBefore m n i j → IsBefore m n k l) → ((key : Text) (m n : ℕ) → IsHolderAt h namespace verb t key m n → IsBefore m n k l → IsBefore m n i j) → AreSeen h namespace verb t i j xs → AreSeen h namespace verb t k l xs
   seen_moved i j k l xs on back seen = record {
     ordered = seen.ordered;
     exact = λ x. (
@@ -95,7 +95,7 @@ module _ (h : Held) (namespace verb : Text) (t : What) where
   }
 
   -- the one more that holds has a key that was seen
-  pub seen_kept : (i j : ℕ) (xs : List HolderView) (key : Text) → ((other : Text) → HoldsAt h namespace verb t other i j → other ≡ key) → Any (λ x. x.key ≡ key) xs → AreSeen h namespace verb t i j xs → AreSeen h namespace verb t i (j + 1) xs
+  pub seen_kept : (i j : ℕ) (xs : List HolderView) (key : Text) → ((other : Text) → IsHolderAt h namespace verb t other i j → other ≡ key) → Any (λ x. x.key ≡ key) xs → AreSeen h namespace verb t i j xs → AreSeen h namespace verb t i (j + 1) xs
   seen_kept i j xs key only any seen =
       let y = any.1 in
       let inside : Contains xs y = (any.0, any.2, any.3) in
@@ -106,9 +106,9 @@ module _ (h : Held) (namespace verb : Text) (t : What) where
           λ b. elim (lex_last x.binding_place x.subject_place i j b.1) [
             | inl l ↦ (seen.exact x).1 (b.0, l)
             | inr e ↦
-                let at : HoldsAt h namespace verb t x.key i j = subst (λ (m : ℕ). HoldsAt h namespace verb t x.key m j) e.0 (subst (λ (n : ℕ). HoldsAt h namespace verb t x.key x.binding_place n) e.1 b.0.1) in
+                let at : IsHolderAt h namespace verb t x.key i j = subst (λ (m : ℕ). IsHolderAt h namespace verb t x.key m j) e.0 (subst (λ (n : ℕ). IsHolderAt h namespace verb t x.key x.binding_place n) e.1 b.0.1) in
                 let same : x.key ≡ y.key = only x.key at ∙ sym any.4 in
-                let least = b.0.2 y.binding_place y.subject_place (subst (λ (k : Text). HoldsAt h namespace verb t k y.binding_place y.subject_place) (sym same) earlier.0.1) in
+                let least = b.0.2 y.binding_place y.subject_place (subst (λ (k : Text). IsHolderAt h namespace verb t k y.binding_place y.subject_place) (sym same) earlier.0.1) in
                 let here : (i < y.binding_place) ⊎ ((i ≡ y.binding_place) × (j < y.subject_place + 1)) = subst (λ (m : ℕ). (m < y.binding_place) ⊎ ((m ≡ y.binding_place) × (j < y.subject_place + 1))) e.0 (subst (λ (n : ℕ). (x.binding_place < y.binding_place) ⊎ ((x.binding_place ≡ y.binding_place) × (n < y.subject_place + 1))) e.1 least) in
                 absurd (lex_not_both y.binding_place y.subject_place i j earlier.1 here)
           ],
@@ -116,17 +116,17 @@ module _ (h : Held) (namespace verb : Text) (t : What) where
         complete = λ other m n a b. elim (lex_last m n i j b) [
           | inl l ↦ seen.complete other m n a l
           | inr e ↦
-              let at : HoldsAt h namespace verb t other i j = subst (λ (u : ℕ). HoldsAt h namespace verb t other u j) e.0 (subst (λ (v : ℕ). HoldsAt h namespace verb t other m v) e.1 a) in
+              let at : IsHolderAt h namespace verb t other i j = subst (λ (u : ℕ). IsHolderAt h namespace verb t other u j) e.0 (subst (λ (v : ℕ). IsHolderAt h namespace verb t other m v) e.1 a) in
               (y, inside, any.4 ∙ sym (only other at))
         ];
       }
 
   -- the one more that holds has a new key
-  pub seen_added : (i j : ℕ) (xs : List HolderView) (key : Text) (b : Binding) → slice_get h.bindings i ≡ Some b → HoldsAt h namespace verb t key i j → ((other : Text) → HoldsAt h namespace verb t other i j → other ≡ key) → (Any (λ x. x.key ≡ key) xs → ⊥) → AreSeen h namespace verb t i j xs
+  pub seen_added : (i j : ℕ) (xs : List HolderView) (key : Text) (b : Binding) → slice_get h.bindings i ≡ Some b → IsHolderAt h namespace verb t key i j → ((other : Text) → IsHolderAt h namespace verb t other i j → other ≡ key) → (Any (λ x. x.key ≡ key) xs → ⊥) → AreSeen h namespace verb t i j xs
       → AreSeen h namespace verb t i (j + 1) (xs ++ record { key = key; binding = b; binding_place = i; subject_place = j } ∷ [])
   seen_added i j xs key b there holds only new seen =
       let y : HolderView = record { key = key; binding = b; binding_place = i; subject_place = j } in
-      let least : (m n : ℕ) → HoldsAt h namespace verb t key m n → (i < m) ⊎ ((i ≡ m) × (j < n + 1)) = λ m n a. elim (lex_cases m n i j) [
+      let least : (m n : ℕ) → IsHolderAt h namespace verb t key m n → (i < m) ⊎ ((i ≡ m) × (j < n + 1)) = λ m n a. elim (lex_cases m n i j) [
         | inl l ↦ let z = seen.complete key m n a l in absurd (new (z.1.0, z.0, z.1.1, z.1.2, z.2))
         | inr c ↦ elim c [
           | inl l ↦ elim l [
@@ -146,7 +146,7 @@ module _ (h : Held) (namespace verb : Text) (t : What) where
           λ c. elim (lex_last x.binding_place x.subject_place i j c.1) [
             | inl l ↦ Contains-append_left xs (y ∷ []) x ((seen.exact x).1 (c.0, l))
             | inr e ↦
-                let at : HoldsAt h namespace verb t x.key i j = subst (λ (m : ℕ). HoldsAt h namespace verb t x.key m j) e.0 (subst (λ (n : ℕ). HoldsAt h namespace verb t x.key x.binding_place n) e.1 c.0.1) in
+                let at : IsHolderAt h namespace verb t x.key i j = subst (λ (m : ℕ). IsHolderAt h namespace verb t x.key m j) e.0 (subst (λ (n : ℕ). IsHolderAt h namespace verb t x.key x.binding_place n) e.1 c.0.1) in
                 let same_binding : x.binding ≡ b = ap (λ (o : Option Binding). unwrap_or o b) (sym c.0.0 ∙ ap (slice_get h.bindings) e.0 ∙ there) in
                 let same : y ≡ x = same_holder key b i j x (sym (only x.key at)) (sym same_binding) (sym e.0) (sym e.1) in
                 subst (Contains (xs ++ y ∷ [])) same (Contains-push xs y)
@@ -155,13 +155,13 @@ module _ (h : Held) (namespace verb : Text) (t : What) where
         complete = λ other m n a c. elim (lex_last m n i j c) [
           | inl l ↦ let z = seen.complete other m n a l in (z.0, Contains-append_left xs (y ∷ []) z.0 z.1, z.2)
           | inr e ↦
-              let at : HoldsAt h namespace verb t other i j = subst (λ (u : ℕ). HoldsAt h namespace verb t other u j) e.0 (subst (λ (v : ℕ). HoldsAt h namespace verb t other m v) e.1 a) in
+              let at : IsHolderAt h namespace verb t other i j = subst (λ (u : ℕ). IsHolderAt h namespace verb t other u j) e.0 (subst (λ (v : ℕ). IsHolderAt h namespace verb t other m v) e.1 a) in
               (y, Contains-push xs y, sym (only other at))
         ];
       }
 
   -- all that holds is seen
-  pub seen_all : (i j : ℕ) (xs : List HolderView) → ((key : Text) (m n : ℕ) → HoldsAt h namespace verb t key m n → IsBefore m n i j) → AreSeen h namespace verb t i j xs → AreHolders h namespace verb t xs
+  pub seen_all : (i j : ℕ) (xs : List HolderView) → ((key : Text) (m n : ℕ) → IsHolderAt h namespace verb t key m n → IsBefore m n i j) → AreSeen h namespace verb t i j xs → AreHolders h namespace verb t xs
   seen_all i j xs before seen = record {
     ordered = seen.ordered;
     exact = λ x. (λ w. ((seen.exact x).0 w).0, λ b. (seen.exact x).1 (b, before x.key x.binding_place x.subject_place b.1));
@@ -169,7 +169,7 @@ module _ (h : Held) (namespace verb : Text) (t : What) where
 
 module _ (h : Held) (namespace verb : Text) (t : What) (i j : ℕ) (b : Binding) (s : Subject) (at : slice_get h.bindings i ≡ Some b) (there : slice_get b.subjects j ≡ Some s) where
   -- what holds at a pair of places is a key of the subject there
-  key_at : (key : Text) → HoldsAt h namespace verb t key i j → IsSubjectKey s b.namespace key
+  key_at : (key : Text) → IsHolderAt h namespace verb t key i j → IsSubjectKey s b.namespace key
   key_at key (c, u, read, reads, by) =
       let same : c ≡ b = same_Some c b (sym read ∙ at) in
       let subject : u ≡ s = same_Some u s (sym reads ∙ ap (λ (x : Binding). slice_get x.subjects j) same ∙ there) in
@@ -181,7 +181,7 @@ module _ (h : Held) (namespace verb : Text) (t : What) (i j : ℕ) (b : Binding)
       seen_moved h namespace verb t i j i (j + 1) xs (λ m n l. lex_next m n i j l)
       (λ key m n a l. elim (lex_last m n i j l) [
         | inl e ↦ e
-        | inr e ↦ absurd (none key (key_at key (subst (λ (u : ℕ). HoldsAt h namespace verb t key u j) e.0 (subst (λ (v : ℕ). HoldsAt h namespace verb t key m v) e.1 a))))
+        | inr e ↦ absurd (none key (key_at key (subst (λ (u : ℕ). IsHolderAt h namespace verb t key u j) e.0 (subst (λ (v : ℕ). IsHolderAt h namespace verb t key m v) e.1 a))))
       ])
       seen
 
@@ -189,7 +189,7 @@ module _ (h : Held) (namespace verb : Text) (t : What) (i j : ℕ) (b : Binding)
   pub seen_keyed : (key : Text) (xs new : List HolderView) → BringsAt h namespace verb t i → ((k : Text) → IsSubjectKey s b.namespace k ↔ (k ≡ key)) → IsSeenMore xs new (holder_by key b i j) → AreSeen h namespace verb t i j xs → AreSeen h namespace verb t i (j + 1) new
   seen_keyed key xs new brings is more seen =
       let same : brings.0 ≡ b = same_Some brings.0 b (sym brings.1 ∙ at) in
-      let holds : HoldsAt h namespace verb t key i j = (
+      let holds : IsHolderAt h namespace verb t key i j = (
         b,
         s,
         at,
@@ -200,7 +200,7 @@ module _ (h : Held) (namespace verb : Text) (t : What) (i j : ℕ) (b : Binding)
           (is key).1 refl,
         ),
       ) in
-      let only : (other : Text) → HoldsAt h namespace verb t other i j → other ≡ key = λ other a. (is other).0 (key_at other a) in
+      let only : (other : Text) → IsHolderAt h namespace verb t other i j → other ≡ key = λ other a. (is other).0 (key_at other a) in
       elim more [
         | inl e ↦ subst (AreSeen h namespace verb t i (j + 1)) (sym e.0) (seen_kept h namespace verb t i j xs key only e.1 seen)
         | inr e ↦ subst (AreSeen h namespace verb t i (j + 1)) (sym e.0) (seen_added h namespace verb t i j xs key b at holds only e.1 seen)

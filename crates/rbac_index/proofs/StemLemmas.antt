@@ -7,7 +7,7 @@ use Rattle.std.specs.declared.cmp.Ordering.{Ordering}
 use Rattle.std.specs.declared.cmp.Ordering.TheVariants.{Less, Equal, Greater}
 use Rattle.std.proofs.lemmas.Bool.{cases_eq}
 use Rattle.std.proofs.lemmas.Cmp.{nat_list_cmp_total, tied_itself}
-use Rattle.std.proofs.lemmas.List.{get_or-map, length-map, take_more, drop_more, drop_all}
+use Rattle.std.proofs.lemmas.List.{get_or-map, length-map, take_more, drop_all}
 use Rattle.std.proofs.lemmas.List.Elements.{Contains-push_cases}
 use Rattle.std.proofs.lemmas.Map.Lookups.{exact_bytes}
 use Rattle.std.proofs.lemmas.Option.{slice_get_within, get_or_from_slice_get, same_Some}
@@ -15,11 +15,12 @@ use Rattle.rbac_terms.specs.Text.{Text, text_cmp}
 use Rattle.rbac_terms.specs.Targets.{What, Resource, Url, group_of, text_of, name_of, IsResource, IsUrl}
 use Rattle.rbac_terms.specs.Matching.{TargetOk, WordMatches, ResourceWordMatches}
 use Rattle.rbac_terms.specs.declared.matching.Rule.{Rule}
+use Rattle.rbac_terms.proofs.Orderings.{less_alone}
+use Rattle.rbac_terms.proofs.Reading.{read_some}
 use Rattle.rbac_model.specs.Lists.{IsAscendingBy}
 use Rattle.rbac_model.specs.Universes.{Listed, target_texts}
 use Rattle.rbac_index.specs.Matched.{what_texts, IsBetween, IsLaterOfStem, AreOfStem, AreStems, IsStem, IsWhole, StemOk}
 use Rattle.rbac_index.specs.Reaches.{MatchesAt}
-use Rattle.rbac_index.proofs.ReadLemmas.{read_some}
 
 -- the targets of a universe are in order
 pub targets_ordered : (us : List Listed) → IsAscendingBy target_texts us → IsAscendingBy what_texts (map (λ t. t.0) us)
@@ -38,11 +39,6 @@ pinched : (a b : Text) (p q : Ordering) → ordering_then (text_cmp a b) p ≡ L
 pinched a b p q e f =
     let both = pinched_then (text_cmp a b) p q e (subst (λ (o : Ordering). ordering_then o q ≡ Less) (nat_list_cmp_total.antisymm b a) f) in
     (sym (exact_bytes a b both.0), both.1, both.2)
-
-less_alone : (o : Ordering) → ordering_then o Equal ≡ Less → o ≡ Less
-less_alone Less e = refl
-less_alone Equal e = cc
-less_alone Greater e = cc
 
 before_too : (before : Option Text) (x y : Text) → text_cmp x y ≡ Less → IfSome before (λ m. text_cmp y m ≡ Less) → IfSome before (λ m. text_cmp x m ≡ Less)
 before_too None x y l is = tt
@@ -158,10 +154,6 @@ module _ (r : Rule) (ts : List What) (start end : ℕ) (t : What) (there : slice
 pub stems_push : (ts : List What) (from at end : ℕ) (ends : List ℕ) → AreStems ts from at ends → IsStem ts at end → AreStems ts from end (ends ++ end ∷ [])
 stems_push ts from at end [] are is = (subst (λ (n : ℕ). IsStem ts n end) (sym are) is, refl)
 stems_push ts from at end (e ∷ ends) are is = (are.0, stems_push ts e at end ends are.1 is)
-
--- and asked one after the other
-pub stems_next : (ts : List What) (from to i : ℕ) (ends : List ℕ) (x : ℕ) → i < length ends → x ≡ get_or ends i x → AreStems ts from to (drop i ends) → IsStem ts from x × AreStems ts x to (drop (i + 1) ends)
-stems_next ts from to i ends x lt is are = subst (AreStems ts from to) (drop_more ends i x lt ∙ ap (λ (y : ℕ). y ∷ drop (i + 1) ends) (sym is)) are
 
 pub stems_end : (ts : List What) (from to i : ℕ) (ends : List ℕ) → length ends ≤ i → AreStems ts from to (drop i ends) → from ≡ to
 stems_end ts from to i ends le are = subst (AreStems ts from to) (drop_all i ends le) are

@@ -1,10 +1,10 @@
 use Rattle.std.specs.Prelude.{◌≡◌, ℕ, ◌<◌, ◌≤◌, ◌+◌, ◌⊎◌, ◌↔◌, List, [], ◌∷◌, ◌++◌, Any, AllPairs, Contains, length, slice_get, slice_index, Some}
 use Rattle.rbac_terms.specs.Text.{Text}
 use Rattle.rbac_terms.specs.Targets.{What}
-use Rattle.rbac_terms.specs.Principals.{Who, AsMember, key_of, IsInGroup}
+use Rattle.rbac_terms.specs.Principals.{Who, AsMember, who_key, IsInGroup}
 use Rattle.rbac_terms.specs.declared.granting.Binding.{Binding}
 use Rattle.rbac_model.specs.Policies.{Held, PolicyView, IsOfBinding, Live, Allows, Brings}
-use Rattle.rbac_model.specs.Holders.{IsBefore, HolderView, HoldsAt, IsHolder}
+use Rattle.rbac_model.specs.Holders.{IsBefore, HolderView, IsHolderAt, IsHolder}
 
 -- the binding at that place brings a rule that allows
 abbrev pub BringsRuleAt : Held → Text → What → ℕ → Type 0
@@ -20,7 +20,7 @@ BringsAt h namespace verb t i =
 pub record AreSeen (h : Held) (namespace verb : Text) (t : What) (i j : ℕ) (xs : List HolderView) : Type 0 where
   pub ordered : AllPairs (λ x y. IsBefore x.binding_place x.subject_place y.binding_place y.subject_place) xs
   pub exact : (x : HolderView) → Contains xs x ↔ (IsHolder h namespace verb t x × IsBefore x.binding_place x.subject_place i j)
-  pub complete : (key : Text) (k l : ℕ) → HoldsAt h namespace verb t key k l → IsBefore k l i j → (x : HolderView) × Contains xs x × (x.key ≡ key)
+  pub complete : (key : Text) (k l : ℕ) → IsHolderAt h namespace verb t key k l → IsBefore k l i j → (x : HolderView) × Contains xs x × (x.key ≡ key)
 
 -- the bindings of so many first numbers stand before the place, and those of the others no earlier than right before it
 pub record ArePassed (p : PolicyView) (ns : List ℕ) (count place : ℕ) : Type 0 where
@@ -33,7 +33,7 @@ IsSeenMore old new y = ((new ≡ old) × Any (λ x. x.key ≡ y.key) old) ⊎ ((
 
 -- the key is that of who asks, or of one of its groups
 abbrev pub IsKeyFor : Who → Text → Type 0
-IsKeyFor who key = (key ≡ key_of who) ⊎ ((group : Text) × IsInGroup who group × (key ≡ key_of (AsMember group)))
+IsKeyFor who key = (key ≡ who_key who) ⊎ ((group : Text) × IsInGroup who group × (key ≡ who_key (AsMember group)))
 
 -- a request is allowed exactly where some holder has such a key
 abbrev pub AllowsByHolders : Held → Text → Text → What → List HolderView → Type 0

@@ -6,9 +6,9 @@ use Rattle.rbac_terms.specs.Matching.{RuleAllows}
 use Rattle.rbac_terms.specs.declared.matching.Rule.{Rule}
 use Rattle.rbac_model.specs.Policies.{PolicyView, GrantView}
 use Rattle.rbac_index.specs.declared.listing.Listing.{Listing}
-use Rattle.rbac_index.specs.declared.written.Written.{Written}
+use Rattle.rbac_index.specs.declared.rule_rows.Written.{Written}
 use Rattle.rbac_index.specs.Listing.{AreListed}
-use Rattle.rbac_index.specs.Written.{written_rules, IsRuleAt, AreWritten, rules_of}
+use Rattle.rbac_index.specs.Written.{written_rules, IsRuleAt, AreWritten, bare_rules}
 
 -- the rule of the grant of that number allows the verb on the target
 abbrev pub AllowsAt : PolicyView → Text → What → ℕ → Type 0
@@ -33,10 +33,10 @@ pub record AreRuns (p : PolicyView) (rows : List (List Rule)) (count : ℕ) (run
   pub sound : (row start : ℕ) (rs : List Rule) → slice_get rows row ≡ Some rs → Contains (slice_index_or runs row []) start → (start + length rs ≤ count) × IsRun p rs start
   pub complete : (n : ℕ) → n < count → (row start place : ℕ) × (r : Rule) × IsRuleAt rows row place r × Contains (slice_index_or runs row []) start × (n ≡ start + place)
 
--- the rules are told and listed by their words, and the grants are told by runs
+-- the rules are there and listed by their words, and the grants are listed by runs
 pub record IsIndexOf (p : PolicyView) (ws : List Written) (l : Listing) (runs : List (List ℕ)) : Type 0 where
   pub written : AreWritten (written_rules p.held) ws
-  pub listed : AreListed (rules_of ws) (length ws) l
+  pub listed : AreListed (bare_rules ws) (length ws) l
   pub granted : AreRuns p (written_rules p.held) (length p.grants) runs
   pub few : length p.grants < 2 ^ 32
 

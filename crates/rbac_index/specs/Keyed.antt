@@ -8,8 +8,8 @@ use Rattle.rbac_terms.specs.Principals.{Who, IsAccountIn, SignsInAs}
 use Rattle.rbac_terms.specs.Granting.{IsSubjectKey}
 use Rattle.rbac_terms.specs.declared.granting.Binding.{Binding}
 use Rattle.rbac_model.specs.Policies.{PolicyView, IsOfBinding}
-use Rattle.rbac_index.specs.declared.keyed.Keyed.{Keyed}
-use Rattle.rbac_index.specs.declared.living.Live.{Live}
+use Rattle.rbac_index.specs.declared.subject_keys.Keyed.{Keyed}
+use Rattle.rbac_index.specs.declared.live_bindings.Live.{Live}
 
 -- some subject of the binding has the key
 abbrev pub IsKeyIn : Binding → Text → Type 0
@@ -80,6 +80,6 @@ IsAccountKeyOf namespace key = (key ≡ codes "g:system:serviceaccounts") ⊎ (k
 abbrev pub IsAccountKey : Who → Text → Type 0
 IsAccountKey who key = (namespace : Text) × IsAccountIn who namespace × IsAccountKeyOf namespace key
 
--- the key of the group that tells whether who asks has signed in
+-- the key of the group that says whether who asks has signed in
 abbrev pub IsSignInKey : Who → Text → Type 0
 IsSignInKey who key = (g : Text) × SignsInAs who g × (key ≡ codes "g:" ++ g)

@@ -37,7 +37,7 @@ pub record IsStem (ts : List What) (start end : ℕ) : Type 0 where
   pub alike : AreOfStem None ts start end
   pub alone : (t : What) → slice_get ts start ≡ Some t → IsUrl t → end ≡ start + 1
 
--- the targets from the first place up to the second are stems, one after the other, each told by where it ends
+-- the targets from the first place up to the second are stems, one after the other, each given by where it ends
 abbrev pub AreStems : List What → ℕ → ℕ → List ℕ → Type 0
 AreStems ts from to [] = from ≡ to
 AreStems ts from to (end ∷ ends) = IsStem ts from end × AreStems ts end to ends

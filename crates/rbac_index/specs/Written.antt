@@ -3,7 +3,7 @@ use Rattle.rbac_terms.specs.declared.matching.Rule.{Rule}
 use Rattle.rbac_model.specs.Policies.{Held}
 use Rattle.rbac_model.specs.declared.places.RolePlace.{RolePlace}
 use Rattle.rbac_model.specs.declared.places.RolePlace.TheVariants.{RoleAt, ClusterRoleAt}
-use Rattle.rbac_index.specs.declared.written.Written.{Written}
+use Rattle.rbac_index.specs.declared.rule_rows.Written.{Written}
 
 -- the rules of each role, then of each cluster role
 abbrev pub written_rules : Held → List (List Rule)
@@ -18,7 +18,7 @@ row_of roles (ClusterRoleAt at) = roles + at
 abbrev pub IsRuleAt : List (List Rule) → ℕ → ℕ → Rule → Type 0
 IsRuleAt rows row place r = (rs : List Rule) × (slice_get rows row ≡ Some rs) × (slice_get rs place ≡ Some r)
 
--- the rule is told with that row and that place
+-- the rule is listed with that row and that place
 abbrev pub HasWritten : List Written → ℕ → ℕ → Rule → Type 0
 HasWritten ws row place r = Any (λ w. (w.row ≡ row) × (w.place ≡ place) × (w.rule.now ≡ r)) ws
 
@@ -27,5 +27,5 @@ abbrev pub AreWritten : List (List Rule) → List Written → Type 0
 AreWritten rows ws = (row place : ℕ) (r : Rule) → HasWritten ws row place r ↔ IsRuleAt rows row place r
 
 -- the rules themselves
-abbrev pub rules_of : List Written → List Rule
-rules_of ws = map (λ w. w.rule.now) ws
+abbrev pub bare_rules : List Written → List Rule
+bare_rules ws = map (λ w. w.rule.now) ws

@@ -7,12 +7,12 @@ ghost use Rattle.rbac_model.specs.Lists.{IsFirstAt};
 ghost use Rattle.rbac_model.specs.Policies.{Allows, BindingNames, IsFirst, IsPolicy};
 ghost use Rattle.rbac_index.specs.Deciding.{IsWhyShown, NoneAmong, IsFirstAmong, IsFirstAllowing, NoneAllowing};
 
-use crate::living::{cluster_wide, live_role_bindings};
+use crate::live_bindings::{cluster_wide, live_role_bindings};
 use rbac_model::{Policy, SourceRole};
 use rbac_terms::{Binding, Principal, Target, Word, names, rule_allows};
 
-/// Why a request is allowed: the first grant that allows it, by its binding and by where its rule is
-/// written, and the first subject of the binding that names who asks.
+/// Why a request is allowed: the first grant that allows it, by its binding and by where its rule
+/// is written, and the first subject of the binding that names who asks.
 #[derive(Clone, Copy)]
 pub struct Why<'p> {
     /// The binding that grants.

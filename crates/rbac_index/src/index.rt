@@ -3,7 +3,7 @@
 ghost use Rattle.std.specs.Prelude.{◌≡◌, ◌<◌, ◌≤◌, ◌↔◌, ℕ, length, IsTrue, slice_get, Some, All, Any, Contains, IfOk, IfSome, MatchOption};
 ghost use Rattle.std.specs.List.Sorted.{IsStrictlyIncreasing};
 ghost use Rattle.rbac_model.specs.Sources.{grant_of};
-ghost use Rattle.rbac_model.specs.Policies.{Allows, IsFirst};
+ghost use Rattle.rbac_model.specs.Policies.{Allows, IsFirst, IsOfBinding};
 ghost use Rattle.rbac_model.specs.Holders.{AreHolders};
 ghost use Rattle.rbac_index.specs.Indexed.{AreCandidates, HaveNumbers, IsAllowedBy};
 ghost use Rattle.rbac_index.specs.Bound.{IsNamedBy, IsBoundTo, IsNextRun};
@@ -15,20 +15,20 @@ use crate::alike::earlier_alike;
 use crate::deciding::{Why, why_allowed};
 use crate::fault::IndexFault;
 use crate::holders::Holders;
-use crate::keyed::{Keyed, keyed_by, next_for};
 use crate::listing::{Listing, listing_of, matching};
-use crate::living::{Live, live_for_some};
-use crate::merging::{Numbers, merged};
+use crate::live_bindings::{Live, live_for_some};
+use crate::merge::{Numbers, merged};
 use crate::numbers::GrantNos;
+use crate::rule_rows::{Written, laid_out, rows_of};
 use crate::runs::runs_by_row;
-use crate::written::{Written, laid_out, rows_of};
+use crate::subject_keys::{Keyed, keyed_by, next_for};
 use rbac_model::{Grant, Policy};
 use rbac_terms::{Binding, Principal, Target, Word, rule_allows};
 use std::alloc::{AllocError, Global};
 use std::marker::Model;
 
-/// The rules of a policy's roles, each listed once under the words of its resources, and the runs of
-/// grants by each role's rules. A question looks at the rules that may match alone, and at the
+/// The rules of a policy's roles, each listed once under the words of its resources, and the runs
+/// of grants by each role's rules. A question looks at the rules that may match alone, and at the
 /// bindings that may be live.
 #[derive(Drop)]
 pub struct Index<'p> {
@@ -88,7 +88,8 @@ impl<'p> Index<'p> {
     /// The grant of this number, from 0.
     pub fn grant(&self, no: u32) -> Grant<'p>
         requires { no < length self.now.grants }
-        ensures { slice_get self.now.grants no ≡ Some (grant_of result) }
+        ensures grant { slice_get self.now.grants no ≡ Some (grant_of result) }
+        ensures binding { IsOfBinding self.now no result.binding_place }
     {
         let policy: &'p Policy = self.policy;
         policy.grant(no)
@@ -102,8 +103,8 @@ impl<'p> Index<'p> {
         earlier_alike(self.policy, self.runs.as_slice(), no)
     }
 
-    /// The numbers of the grants whose rule allows the verb on the target, ascending; where bindings
-    /// are live and whom they name is left aside. X1 NoMemory where memory is refused.
+    /// The numbers of the grants whose rule allows the verb on the target, ascending; where
+    /// bindings are live and whom they name is left aside. X1 NoMemory where memory is refused.
     pub fn candidates(
         &self,
         alloc: Global,
@@ -123,8 +124,8 @@ impl<'p> Index<'p> {
         }
     }
 
-    /// Why the principal may use the verb on the target in this namespace, as [`why_allowed`] tells
-    /// of the policy. Takes no memory.
+    /// Why the principal may use the verb on the target in this namespace, as [`why_allowed`]
+    /// answers for the policy. Takes no memory.
     pub fn can_i(
         &self,
         principal: &Principal,

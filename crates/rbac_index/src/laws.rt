@@ -1,4 +1,4 @@
-//! Laws of holders, each told by the contract of a function that does nothing.
+//! Laws of holders, each stated by the contract of a function that does nothing.
 
 ghost use Rattle.std.specs.Prelude.{◌≡◌, List};
 ghost use Rattle.rbac_terms.specs.Targets.{What};
@@ -14,8 +14,8 @@ pub fn holders_are_one()
         → AreHolders held namespace verb t others → xs ≡ others }
 {}
 
-/// Somebody is allowed a verb on a target in a namespace exactly if a holder is their own user key or
-/// one of their groups (own).
+/// Somebody is allowed a verb on a target in a namespace exactly if a holder is their own user key
+/// or one of their groups (own).
 pub fn holders_decide()
     ensures { (held : Held) (namespace verb : Text) (t : What) (xs : List HolderView) → AreHolders held namespace verb t xs
         → AllowsByHolders held namespace verb t xs }

@@ -1,5 +1,5 @@
-//! An index over a policy: which grants allow a verb on a target, whether someone may do it and why,
-//! and who may. Everything here is told of the policy alone; the index only makes it fast.
+//! An index over a policy: which grants allow a verb on a target, whether someone may do it and
+//! why, and who may. Contracts here speak of the policy alone; the index only makes it fast.
 #![tactic(auto)]
 
 mod alike;
@@ -7,19 +7,19 @@ mod deciding;
 mod fault;
 mod holders;
 mod index;
-mod keyed;
 mod laws;
 mod listing;
-mod living;
-mod matched;
-mod merging;
+mod live_bindings;
+mod matches;
+mod merge;
 mod meter;
 mod numbers;
 mod reach;
+mod rule_rows;
 mod runs;
 mod spans;
 mod stems;
-mod written;
+mod subject_keys;
 
 pub use deciding::{Why, why_allowed};
 pub use fault::IndexFault;

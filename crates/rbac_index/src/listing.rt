@@ -3,10 +3,10 @@
 ghost use Rattle.std.specs.Prelude.{◌≡◌, ◌≢◌, ◌++◌, ◌∷◌, [], ℕ, IfOk, OnOk, Contains, ◌↔◌, ◌⊎◌, MatchOption, codes, length};
 ghost use Rattle.rbac_terms.specs.Text.{Text};
 ghost use Rattle.rbac_terms.specs.Matching.{ResourceWordMatches, FollowsFirstSlash};
-ghost use Rattle.rbac_index.specs.Written.{rules_of};
+ghost use Rattle.rbac_index.specs.Written.{bare_rules};
 ghost use Rattle.rbac_index.specs.Listing.{listed, ListsMore, ListsUnder, ListsRule, AreListed};
 
-use crate::written::Written;
+use crate::rule_rows::Written;
 use rbac_terms::{Rule, Word, cut_at_first};
 use std::alloc::{AllocError, Global};
 use std::collections::BTreeMap;
@@ -61,7 +61,7 @@ pub(crate) struct Listing {
 
 // Lists these rules by their places.
 pub(crate) fn listing_of(alloc: Global, rules: &[Written<'_>]) -> Result<Listing, AllocError>
-    ensures { IfOk result (AreListed (rules_of rules.now) (length rules.now)) }
+    ensures { IfOk result (AreListed (bare_rules rules.now) (length rules.now)) }
 {
     let mut listing = Listing {
         by_word: BTreeMap::new(alloc),

@@ -4,10 +4,11 @@ ghost use Rattle.std.specs.Prelude.{◌≡◌, ◌<◌, ◌≤◌, IfOk, length,
 ghost use Rattle.std.specs.List.Sorted.{IsStrictlyIncreasing};
 ghost use Rattle.rbac_index.specs.Matched.{AreStemsOf};
 ghost use Rattle.rbac_index.specs.Reaches.{raised, IsReachAt, AreReachesBelow, AreReaches};
+ghost use Rattle.rbac_model.specs.Universes.{most_targets};
 
 use crate::fault::IndexFault;
 use crate::index::Index;
-use crate::matched::matched;
+use crate::matches::matched;
 use crate::meter::Meter;
 use crate::spans::Spans;
 use crate::stems::stems_of;
@@ -17,8 +18,8 @@ use std::marker::Model;
 use std::rc::Rc;
 
 /// The places, ascending, of the targets of a universe that a grant's rule matches, verbs aside: at
-/// most a million. Neighbours are kept as one run, and reaches of grants by one rule share what they
-/// hold.
+/// most a million. Neighbours are kept as one run, and reaches of grants by one rule share what
+/// they hold.
 #[derive(Drop)]
 pub struct Reach {
     places: Rc<Spans>,
@@ -78,7 +79,7 @@ impl Reach {
     /// How many places there are. Takes no memory.
     pub fn len(&self) -> usize
         ensures len { result ≡ length self.now }
-        ensures few { length self.now ≤ 1000000 }
+        ensures few { length self.now ≤ most_targets }
         ensures ascending { IsStrictlyIncreasing self.now }
     {
         self.places.len()

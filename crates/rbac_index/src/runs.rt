@@ -1,12 +1,12 @@
 //! The grants by the rules of each row, in runs. The grants of a binding by the rules of a role
-//! stand together, in order of the rules: so the number at which they begin tells them all.
+//! stand together, in order of the rules: so the number at which they begin determines them all.
 
 ghost use Rattle.std.specs.Prelude.{◌≡◌, ◌<◌, ◌^◌, [], IfOk, length, map, replicate};
 ghost use Rattle.rbac_index.specs.Written.{written_rules};
 ghost use Rattle.rbac_index.specs.Indexed.{AreRuns};
 
 use crate::numbers::GrantNos;
-use crate::written::row_at;
+use crate::rule_rows::row_at;
 use rbac_model::Policy;
 use rbac_terms::Rules;
 use std::alloc::{AllocError, Global};

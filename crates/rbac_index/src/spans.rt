@@ -3,6 +3,7 @@
 ghost use Rattle.std.specs.Prelude.{◌≡◌, ◌+◌, ◌-◌, ◌<◌, ◌≤◌, ◌++◌, [], OnErr, OnOk, length, slice_index};
 ghost use Rattle.std.specs.List.Sorted.{IsStrictlyIncreasing};
 ghost use Rattle.rbac_index.specs.Spans.{places_from, places_of, IsCounted, IsPut};
+ghost use Rattle.rbac_model.specs.Universes.{most_targets};
 
 use std::alloc::{AllocError, Global};
 use std::marker::Model;
@@ -48,9 +49,9 @@ impl Spans {
     // where it ends at the first.
     pub(crate) fn push(&mut self, start: u32, end: u32) -> Result<(), AllocError>
         requires some { start < end }
-        requires small { end ≤ 1000000 }
+        requires small { end ≤ most_targets }
         requires ascending { IsStrictlyIncreasing (self.old ++ places_from start (end - start)) }
-        requires few { length self.old + (end - start) ≤ 1000000 }
+        requires few { length self.old + (end - start) ≤ most_targets }
         ensures { OnOk result (self.new ≡ self.old ++ places_from start (end - start)) }
     {
         let before = self.len;
@@ -62,7 +63,7 @@ impl Spans {
     // How many places there are.
     pub(crate) fn len(&self) -> usize
         ensures len { result ≡ length self.now }
-        ensures few { length self.now ≤ 1000000 }
+        ensures few { length self.now ≤ most_targets }
         ensures ascending { IsStrictlyIncreasing self.now }
     {
         self.len as usize
@@ -81,7 +82,7 @@ impl Spans {
 fn put(spans: &mut Vec<Span>, span: Span) -> Result<(), AllocError>
     requires counted { IsCounted 0 spans.old.items span.before }
     requires some { span.start < span.end }
-    requires small { span.end ≤ 1000000 }
+    requires small { span.end ≤ most_targets }
     ensures put { OnOk result (IsPut spans.old.items span spans.new.items) }
     ensures kept { OnErr result (spans.new.items ≡ spans.old.items) }
 {

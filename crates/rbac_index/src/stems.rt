@@ -3,13 +3,14 @@
 ghost use Rattle.std.specs.Prelude.{◌≡◌, ◌+◌, ◌<◌, ◌≤◌, ◌↔◌, IfOk, IsTrue, length, option_copied};
 ghost use Rattle.rbac_model.specs.Lists.{IsAscendingBy};
 ghost use Rattle.rbac_index.specs.Matched.{what_texts, AreOfStem, AreStems, IsBetween, IsLaterOfStem, IsStem};
+ghost use Rattle.rbac_model.specs.Universes.{most_targets};
 
 use rbac_terms::{Target, Word};
 use std::alloc::{AllocError, Global};
 
 // Where the stems of the targets end, in order: the last at the targets' count.
 pub(crate) fn stems_of(alloc: Global, targets: &[Target]) -> Result<Vec<u32>, AllocError>
-    requires few { length targets.now ≤ 1000000 }
+    requires few { length targets.now ≤ most_targets }
     requires ordered { IsAscendingBy what_texts targets.now }
     ensures { IfOk result (λ v. AreStems targets.now 0 (length targets.now) v.items) }
 {
@@ -88,7 +89,8 @@ fn run_end_within(
     end
 }
 
-// Whether the run reaches so far: it does where its last target is of it, since targets are in order.
+// Whether the run reaches so far: it does where its last target is of it, since targets are in
+// order.
 fn is_run(targets: &[Target], at: usize, end: usize, before: Option<&Word>) -> bool
     requires past { at + 1 < end }
     requires ordered { IsAscendingBy what_texts targets.now }

@@ -1,6 +1,6 @@
 -- exact lists of lines, put together from pieces
 use Rattle.std.proofs.Common.{◌≡◌, ℕ, ◌+◌, ◌<◌, ◌⊎◌, inl, inr, List, [], ◌∷◌, ◌++◌, get_or, length, map, sym, ap, ◌∙◌, refl, subst, arith, zero, suc, append_assoc, ◌↔◌, All}
-use Rattle.std.specs.Prelude.{Some, Contains, AllPairs, slice_get, Result, Ok, Err, OnOk}
+use Rattle.std.specs.Prelude.{Some, Contains, AllPairs, slice_get}
 use Rattle.std.proofs.lemmas.Bool.{cases_lt}
 use Rattle.std.proofs.lemmas.List.{append-nil, map-append}
 use Rattle.std.proofs.lemmas.Option.{slice_get_within}
@@ -107,10 +107,6 @@ module _ {X : Type 0} (P : ℕ → X → Line → Type 0) (xs : List X) where
         λ h. (h.0, h.1, omega (arith, e, slice_get_within xs h.0 h.1 h.2), h.2, h.3),
         λ h. (h.0, h.1, h.3, h.4),
       ))
-
-pub on_ok : {T E : Type 0} (r : Result T E) (A B : Type 0) → (A → B) → OnOk r A → OnOk r B
-on_ok (Ok x) A B f a = f a
-on_ok (Err e) A B f a = a
 
 -- one code before all later ones
 pub Adds-code : (P Q : Line → Type 0) (n : ℕ) (old mid new : List Finding) → ((x : Line) → P x → x.code ≡ n) → ((x : Line) → Q x → n < x.code) → Adds P old mid → Adds Q mid new → Adds (λ x. P x ⊎ Q x) old new

@@ -1,8 +1,7 @@
 -- the least rule that makes another redundant
-use Rattle.std.proofs.Common.{◌≡◌, ℕ, ◌+◌, ◌<◌, inl, inr, List, [], ◌∷◌, ◌++◌, length, subst, arith, ap, ◌∙◌, refl}
+use Rattle.std.proofs.Common.{◌≡◌, ℕ, ◌+◌, ◌<◌, inl, inr, List, [], ◌∷◌, ◌++◌, subst, arith, ap, ◌∙◌, refl}
 use Rattle.std.specs.Prelude.{Some, slice_get, decimal}
 use Rattle.std.proofs.lemmas.Bool.{cases_lt}
-use Rattle.std.proofs.lemmas.Option.{slice_get_within}
 use Rattle.rbac_terms.specs.declared.matching.Rule.{Rule}
 use Rattle.rbac_lint.specs.Findings.{MakesRedundantAt, MakesRedundant, IsLeastCover, IsRedundantAt, role_line}
 use Rattle.rbac_model.specs.Policies.{Source}
@@ -39,9 +38,6 @@ module _ (rules : List Rule) (i : ℕ) (b : Rule) where
       | inr le ↦ le
     ],
   )
-
-  pub none_at_all : (n : ℕ) → n ≡ length rules → slice_get rules i ≡ Some b → NoneBelow rules i b n → (j : ℕ) → MakesRedundant rules i j → ⊥
-  none_at_all n e here below j r = below j r.1 (omega (arith, e, slice_get_within rules j r.1 r.3)) r.3 (at_rule j r.0 r.1 here r.2 r.4)
 
 -- what one rule adds
 least_one : (rules : List Rule) (i j k : ℕ) → IsLeastCover rules i j → IsLeastCover rules i k → j ≡ k

@@ -3,34 +3,23 @@ use Rattle.std.proofs.Common.{◌≡◌, ◌≢◌, ℕ, ◌+◌, ◌<◌, ◌�
 use Rattle.std.specs.Prelude.{Option, Some, None, Contains, slice_get, unwrap_or, is_some}
 use Rattle.std.specs.BTreeMap.{get}
 use Rattle.std.specs.Ordering.{is_eq}
-use Rattle.std.specs.declared.cmp.Ordering.{Ordering}
-use Rattle.std.specs.declared.cmp.Ordering.TheVariants.{Less, Equal, Greater}
 use Rattle.std.proofs.lemmas.Bool.{cases_lt}
 use Rattle.std.proofs.lemmas.Cmp.{tied_itself, nat_list_cmp_total}
 use Rattle.std.proofs.lemmas.List.{take_more}
 use Rattle.std.proofs.lemmas.List.Elements.{Contains-append_left, Contains-push, Contains-push_cases}
 use Rattle.std.proofs.lemmas.Map.Lookups.{exact_bytes}
-use Rattle.std.proofs.lemmas.Option.{slice_get_within, get_or_from_slice_get, same_Some}
+use Rattle.std.proofs.lemmas.Option.{same_Some}
 use Rattle.rbac_terms.specs.Text.{Text, text_cmp}
-use Rattle.rbac_terms.proofs.Texts.{same_front}
+use Rattle.rbac_terms.proofs.Texts.{same_prefix}
 use Rattle.rbac_terms.specs.declared.matching.Rule.{Rule}
+use Rattle.rbac_terms.proofs.Cases.{by_bool}
+use Rattle.rbac_terms.proofs.Orderings.{equal_from_test}
 use Rattle.rbac_lint.specs.declared.listing.Field.{Field}
-use Rattle.rbac_lint.specs.declared.listing.Field.TheVariants.{Verbs, Groups, Resources, Names, Urls, Fronts}
-use Rattle.rbac_lint.specs.Listing.{Lists, listed, words_in, IsAscending, IsFront, IsKey, TakesIn, ListsPlace, ListsAll, IsListedAsBefore, AreListed}
+use Rattle.rbac_lint.specs.declared.listing.Field.TheVariants.{Verbs, Groups, Resources, Names, Urls, Prefixes}
+use Rattle.rbac_lint.specs.Listing.{Lists, listed, words_in, IsAscending, IsPrefix, IsKey, TakesIn, ListsPlace, ListsAll, IsListedAsBefore, AreListed}
 use Rattle.rbac_lint.proofs.Exact.{all_pairs_append}
 
-pub contains_at : {X : Type 0} (xs : List X) (k : ℕ) (x : X) → slice_get xs k ≡ Some x → Contains xs x
-contains_at xs k x e = (k, slice_get_within xs k x e, get_or_from_slice_get xs k x x e)
-
 -- ---- one list
-
-pub takes_none : (old : List ℕ) (place : ℕ) → Contains old place → TakesIn old old place
-takes_none old place c = record {
-  kept = λ n h. h;
-  has = c;
-  only = λ n h. inl h;
-  ascending = λ up below. up;
-}
 
 one_below : (place : ℕ) → IsAscending (place ∷ [])
 one_below place i j d lt l = absurd (omega (arith, l, lt))
@@ -50,15 +39,6 @@ takes_push old new place e = record {
 }
 
 -- ---- the lists of a map
-
-by_bool : {G : Type 0} (b : Bool) → (b ≡ true → G) → (b ≡ false → G) → G
-by_bool true f g = f refl
-by_bool false f g = g refl
-
-equal_from_test : (o : Ordering) → is_eq o ≡ true → o ≡ Equal
-equal_from_test Less h = cc
-equal_from_test Equal h = refl
-equal_from_test Greater h = cc
 
 tied : (w : Text) → is_eq (text_cmp w w) ≡ true
 tied w = ap is_eq (tied_itself nat_list_cmp_total w)
@@ -84,9 +64,9 @@ only_word : (x y : Text) (k : ℕ) → k < 1 → get_or (x ∷ []) k y ≡ y →
 only_word x y zero l e = e
 only_word x y (suc k) l e = absurd (omega arith)
 
--- a word has one front, and one key
-pub front_one : (w p q : Text) → IsFront w p → IsFront w q → p ≡ q
-front_one w p q a b = same_front p q (a.0 + 1) (b.0 + 1) a.2 b.2 (sym a.1 ∙ b.1)
+-- a word has one prefix, and one key
+pub prefix_one : (w p q : Text) → IsPrefix w p → IsPrefix w q → p ≡ q
+prefix_one w p q a b = same_prefix p q (a.0 + 1) (b.0 + 1) a.2 b.2 (sym a.1 ∙ b.1)
 
 key_one : (field : Field) (w p q : Text) → IsKey field w p → IsKey field w q → p ≡ q
 key_one Verbs w p q a b = sym a ∙ b
@@ -94,7 +74,7 @@ key_one Groups w p q a b = sym a ∙ b
 key_one Resources w p q a b = sym a ∙ b
 key_one Names w p q a b = sym a ∙ b
 key_one Urls w p q a b = sym a ∙ b
-key_one Fronts w p q a b = front_one w p q a b
+key_one Prefixes w p q a b = prefix_one w p q a b
 
 -- a place listed under its key is listed for the word
 pub lists_one : (old new : Lists) (field : Field) (word key : Text) (place : ℕ) → ListsPlace old new key place → IsKey field word key

@@ -1,5 +1,5 @@
 -- whatever covers a rule is listed under a word that matches one of its own
-use Rattle.std.proofs.Common.{◌≡◌, ℕ, ◌+◌, ◌<◌, ◌≤◌, ◌⊎◌, ◌↔◌, inl, inr, List, [], ◌∷◌, ◌++◌, get_or, length, sym, ap, ◌∙◌, refl, subst, arith, Bor, All}
+use Rattle.std.proofs.Common.{◌≡◌, ℕ, ◌+◌, ◌<◌, ◌≤◌, ◌⊎◌, inl, inr, List, [], ◌∷◌, ◌++◌, get_or, length, sym, ap, ◌∙◌, refl, subst, arith, Bor, All}
 use Rattle.std.specs.Prelude.{Option, Some, None, Contains, slice_get, codes, IfSome}
 use Rattle.std.proofs.lemmas.Bool.{cases_lt}
 use Rattle.std.proofs.lemmas.List.{get_or_append_left, get_or_push, length-append}
@@ -13,16 +13,16 @@ use Rattle.rbac_model.specs.Universes.{Covers}
 use Rattle.rbac_lint.specs.Covering.{AllowsVerbs, AllowsVerb, AllowsGroups, AllowsGroup, AllowsResources, AllowsResource, AllowsNames, AllowsName, AllowsUrls, AllowsUrl, HasResource, HasUrl, GivesPath}
 use Rattle.rbac_lint.specs.Findings.{CoversAll, MakesRedundantAt, MakesRedundant}
 use Rattle.rbac_lint.specs.declared.listing.Field.{Field}
-use Rattle.rbac_lint.specs.declared.listing.Field.TheVariants.{Verbs, Groups, Resources, Names, Urls, Fronts}
+use Rattle.rbac_lint.specs.declared.listing.Field.TheVariants.{Verbs, Groups, Resources, Names, Urls, Prefixes}
 use Rattle.rbac_lint.specs.declared.listing.Listing.{Listing}
 use Rattle.rbac_lint.specs.declared.candidates.Candidates.{Candidates}
-use Rattle.rbac_lint.specs.Listing.{Lists, listed, lists_in, words_in, names_or_star, IsAscending, AreAscending, IsFront, IsStem, IsListingOf}
-use Rattle.rbac_lint.specs.Candidates.{IsAsked, Binds, IsFound, StandsIn, IsAmong, Ascend, Finds, AddsUnder, AddsFronts, IsOfEach, AreMatching, CoversAt, AreCandidates, IsLeastCoverIfAny, IsRedundantBy, IsSoonest}
-use Rattle.rbac_lint.specs.declared.fronts.Front.{Front}
-use Rattle.rbac_lint.specs.Fronts.{IsOnWay, LeadsTo, AreFronts}
+use Rattle.rbac_lint.specs.Listing.{Lists, listed, lists_in, words_in, names_or_star, IsAscending, IsPrefix, IsStem, IsListingOf}
+use Rattle.rbac_lint.specs.Candidates.{IsAsked, Binds, IsFound, StandsIn, IsAmong, Ascend, Finds, AddsUnder, AddsPrefixes, IsOfEach, AreMatching, CoversAt, AreCandidates, IsLeastCoverIfAny, IsRedundantBy, IsSoonest}
+use Rattle.rbac_lint.specs.declared.prefixes.Prefix.{Prefix}
+use Rattle.rbac_lint.specs.Prefixes.{IsOnWay, LeadsTo, ArePrefixes}
 use Rattle.rbac_lint.proofs.Samples.{samples_from_Covers, resources_from_samples, urls_from_samples}
 use Rattle.rbac_lint.proofs.Urls.{GivesPath-path, UrlWordMatches-begins, below_stars}
-use Rattle.rbac_lint.proofs.Linked.{front_listed, places_ascend, here_or_on, shorter_within}
+use Rattle.rbac_lint.proofs.Linked.{prefix_listed, places_ascend, here_or_on, shorter_within}
 
 -- ---- the words that match
 
@@ -57,11 +57,11 @@ verbs_of a b c (inl has) = (resources_from_samples a b (samples_from_Covers a b 
 verbs_of a b c (inr has) = (urls_from_samples a b (samples_from_Covers a b c) has).0
 
 found_url : (rules : List Rule) (l : Listing) (w u : Text) (n : ℕ) (a : Rule) → IsListingOf rules l → slice_get rules n ≡ Some a → Contains a.urls u
-    → (u ≡ w) ⊎ ((front : Text) × IsFront u front × BeginsWith w front) → IsFound Urls l w n
+    → (u ≡ w) ⊎ ((prefix : Text) × IsPrefix u prefix × BeginsWith w prefix) → IsFound Urls l w n
 found_url rules l w u n a is at has (inl e) = inl (is.urls.complete n a u w (slice_get_within rules n a at) at has e)
 found_url rules l w u n a is at has (inr f) =
-    let m = is.fronts.0 in
-    let there = front_listed m is.fronts.2.0 l.fronts.items is.fronts.2.1 f.0 n (is.fronts.1.complete n a u f.0 (slice_get_within rules n a at) at has f.1) in
+    let m = is.prefixes.0 in
+    let there = prefix_listed m is.prefixes.2.0 l.prefixes.items is.prefixes.2.1 f.0 n (is.prefixes.1.complete n a u f.0 (slice_get_within rules n a at) at has f.1) in
     inr (there.0, there.1, there.2, subst (BeginsWith w) (sym there.3) f.2, subst (λ (t : Text). EndsInStar t → ⊥) (sym there.3) f.1.2, there.4)
 
 -- what covers a rule is found for each of its words that is asked
@@ -84,7 +84,7 @@ found Urls rules l b w n is has asked at c =
     let sample = GivesPath-path w asked in
     let any = All-contains (AllowsUrl c.0) b.urls w (urls_from_samples c.0 b (samples_from_Covers c.0 b c.2) has).1 at sample.0 sample.1 sample.2 in
     found_url rules l w any.1 n c.0 is c.1 (any.0, any.2, any.3) (UrlWordMatches-begins any.1 w sample.0 asked sample.1 any.4)
-found Fronts rules l b w n is has asked at c = absurd has
+found Prefixes rules l b w n is has asked at c = absurd has
 
 pub are_candidates : (field : Field) (rules : List Rule) (l : Listing) (b : Rule) (w : Text) (c : Candidates) → IsListingOf rules l → Binds field b → IsAsked field w → Contains (words_in field b) w
     → Finds field l w c → AreCandidates rules b c
@@ -130,9 +130,9 @@ adds_fewer m P Q old new f a = record {
 }
 
 -- the word for each resource with a subresource is one
-pub of_each_one : (w front rest word : Text) → IsCutAtFirst w slash front rest → word ≡ codes "*/" ++ rest → (u : Text) → IsOfEach w u → u ≡ word
-of_each_one w front rest word cut is u of =
-    of.1 ∙ ap (λ (s : Text). codes "*/" ++ s) (IsCutAtFirst-one w of.2.0 front of.0 rest slash of.2.1 cut) ∙ sym is
+pub of_each_one : (w prefix rest word : Text) → IsCutAtFirst w slash prefix rest → word ≡ codes "*/" ++ rest → (u : Text) → IsOfEach w u → u ≡ word
+of_each_one w prefix rest word cut is u of =
+    of.1 ∙ ap (λ (s : Text). codes "*/" ++ s) (IsCutAtFirst-one w of.2.0 prefix of.0 rest slash of.2.1 cut) ∙ sym is
 
 -- those under the words that match a resource text
 pub all_matching : (m : Lists) (w : Text) (none own every c : Candidates) → none.lists.items ≡ [] → AddsUnder m (λ u. u ≡ w) none own → AddsUnder m (λ u. u ≡ codes "*") own every
@@ -151,13 +151,13 @@ matching_found Groups rules l w c other is m = (m.0 is.groups.ascending, λ n s.
 matching_found Resources rules l w c other is m = (m.0 is.resources.ascending, λ n s. m.1 s.0 n s.1 s.2)
 matching_found Names rules l w c other is m = (m.0 is.names.ascending, λ n s. m.1 s.0 n s.1 s.2)
 matching_found Urls rules l w c other is m = absurd (other refl)
-matching_found Fronts rules l w c other is m = (m.0 is.urls.ascending, λ n s. m.1 s.0 n s.1 s.2)
+matching_found Prefixes rules l w c other is m = (m.0 is.urls.ascending, λ n s. m.1 s.0 n s.1 s.2)
 
--- those of a URL, and of the fronts with which it begins
-pub fronts_found : (rules : List Rule) (l : Listing) (w stem : Text) (none own c : Candidates) → IsListingOf rules l → none.lists.items ≡ [] → IsStem w stem
-    → AddsUnder l.urls (λ u. u ≡ w) none own → AddsFronts l.fronts.items stem own c → Finds Urls l w c
-fronts_found rules l w stem none own c is e of a b = (
-  b.ascending (places_ascend is.fronts.0 is.fronts.2.0 l.fronts.items is.fronts.2.1 is.fronts.1.ascending)
+-- those of a URL, and of the prefixes with which it begins
+pub prefixes_found : (rules : List Rule) (l : Listing) (w stem : Text) (none own c : Candidates) → IsListingOf rules l → none.lists.items ≡ [] → IsStem w stem
+    → AddsUnder l.urls (λ u. u ≡ w) none own → AddsPrefixes l.prefixes.items stem own c → Finds Urls l w c
+prefixes_found rules l w stem none own c is e of a b = (
+  b.ascending (places_ascend is.prefixes.0 is.prefixes.2.0 l.prefixes.items is.prefixes.2.1 is.prefixes.1.ascending)
       (a.ascending is.urls.ascending (subst (λ (ls : List (Bor (List ℕ))). All (λ x. IsAscending x.now) ls) (sym e) (All-nil (λ x. IsAscending x.now)))),
   λ n s. elim s [
     | inl here ↦ b.kept n (a.has w n refl here)
@@ -165,51 +165,51 @@ fronts_found rules l w stem none own c is e of a b = (
   ],
 )
 
--- what is added of fronts: all of the text's that aren't on the way yet
-pub record HasFronts (fronts : List Front) (text : Text) (old new : Candidates) (way : Option ℕ) : Type 0 where
+-- what is added of prefixes: all of the text's that aren't on the way yet
+pub record HasPrefixes (prefixes : List Prefix) (text : Text) (old new : Candidates) (way : Option ℕ) : Type 0 where
   pub kept : (n : ℕ) → IsAmong old n → IsAmong new n
-  pub has : (j : ℕ) (g : Front) (n : ℕ) → slice_get fronts j ≡ Some g → BeginsWith text g.text → Contains g.places n → IsAmong new n ⊎ IsOnWay fronts way j g.text
-  pub ascending : All (λ f. IsAscending f.places) fronts → Ascend old → Ascend new
-  pub within : IfSome way (λ i. i < length fronts)
+  pub has : (j : ℕ) (g : Prefix) (n : ℕ) → slice_get prefixes j ≡ Some g → BeginsWith text g.text → Contains g.places n → IsAmong new n ⊎ IsOnWay prefixes way j g.text
+  pub ascending : All (λ f. IsAscending f.places) prefixes → Ascend old → Ascend new
+  pub within : IfSome way (λ i. i < length prefixes)
 
-pub fronts_start : (fronts : List Front) (text : Text) (old : Candidates) (way : Option ℕ) → LeadsTo fronts (length fronts) text way → IfSome way (λ i. i < length fronts)
-    → HasFronts fronts text old old way
-fronts_start fronts text old way leads lt = record {
+pub prefixes_start : (prefixes : List Prefix) (text : Text) (old : Candidates) (way : Option ℕ) → LeadsTo prefixes (length prefixes) text way → IfSome way (λ i. i < length prefixes)
+    → HasPrefixes prefixes text old old way
+prefixes_start prefixes text old way leads lt = record {
   kept = λ n s. s;
-  has = λ j g n at begins c. inr (leads j g (slice_get_within fronts j g at) at begins);
+  has = λ j g n at begins c. inr (leads j g (slice_get_within prefixes j g at) at begins);
   ascending = λ all up. up;
   within = lt;
 }
 
-pub fronts_more : (fronts : List Front) (text : Text) (first old new : Candidates) (p : ℕ) (f : Front) (places : Bor (List ℕ)) → AreFronts fronts → slice_get fronts p ≡ Some f
-    → places.now ≡ f.places → new.lists.items ≡ old.lists.items ++ places ∷ [] → HasFronts fronts text first old (Some p) → HasFronts fronts text first new f.shorter
-fronts_more fronts text first old new p f places are here same e was =
+pub prefixes_more : (prefixes : List Prefix) (text : Text) (first old new : Candidates) (p : ℕ) (f : Prefix) (places : Bor (List ℕ)) → ArePrefixes prefixes → slice_get prefixes p ≡ Some f
+    → places.now ≡ f.places → new.lists.items ≡ old.lists.items ++ places ∷ [] → HasPrefixes prefixes text first old (Some p) → HasPrefixes prefixes text first new f.shorter
+prefixes_more prefixes text first old new p f places are here same e was =
     let there : (P : List (Bor (List ℕ)) → Type 0) → P (old.lists.items ++ places ∷ []) → P new.lists.items = λ P h. subst P (sym e) h in
     let own : (n : ℕ) → Contains f.places n → IsAmong new n =
     λ n c. there (λ ls. StandsIn ls n) (stands_push old.lists.items places n (subst (λ (ns : List ℕ). Contains ns n) (sym same) c)) in
     let kept : (n : ℕ) → IsAmong old n → IsAmong new n = λ n s. there (λ ls. StandsIn ls n) (stands_kept old.lists.items (places ∷ []) n s) in
-    let lt = slice_get_within fronts p f here in
+    let lt = slice_get_within prefixes p f here in
     record {
       kept = λ n s. kept n (was.kept n s);
       has = λ j g n at begins c. elim (was.has j g n at begins c) [
         | inl s ↦ inl (kept n s)
-        | inr way ↦ elim (here_or_on fronts p f j g are.linked here at way) [
-          | inl one ↦ inl (own n (subst (λ (x : Front). Contains x.places n) one c))
+        | inr way ↦ elim (here_or_on prefixes p f j g are.linked here at way) [
+          | inl one ↦ inl (own n (subst (λ (x : Prefix). Contains x.places n) one c))
           | inr on ↦ inr on
         ]
       ];
       ascending = λ all up. there (λ ls. All (λ x. IsAscending x.now) ls)
           (All-push (λ x. IsAscending x.now) old.lists.items places (was.ascending all up)
-          (subst IsAscending (sym same) (subst (λ (x : Front). IsAscending x.places) (get_or_from_slice_get fronts p f f here) (all p f lt))));
-      within = shorter_within fronts p f are.linked here;
+          (subst IsAscending (sym same) (subst (λ (x : Prefix). IsAscending x.places) (get_or_from_slice_get prefixes p f f here) (all p f lt))));
+      within = shorter_within prefixes p f are.linked here;
     }
 
-pub fronts_all : (fronts : List Front) (text : Text) (old new : Candidates) (way : Option ℕ) → way ≡ None → HasFronts fronts text old new way → AddsFronts fronts text old new
-fronts_all fronts text old new way end was = record {
+pub prefixes_all : (prefixes : List Prefix) (text : Text) (old new : Candidates) (way : Option ℕ) → way ≡ None → HasPrefixes prefixes text old new way → AddsPrefixes prefixes text old new
+prefixes_all prefixes text old new way end was = record {
   kept = was.kept;
   has = λ j f n at begins c. elim (was.has j f n at begins c) [
     | inl s ↦ s
-    | inr on ↦ absurd (subst (λ (o : Option ℕ). IsOnWay fronts o j f.text) end on)
+    | inr on ↦ absurd (subst (λ (o : Option ℕ). IsOnWay prefixes o j f.text) end on)
   ];
   ascending = was.ascending;
 }
@@ -283,9 +283,6 @@ narrowed_none rules i first lists none was ge n m =
 
 abbrev pub NoneFirst : List Rule → ℕ → List ℕ → ℕ → Type 0
 NoneFirst rules i listed count = (k n : ℕ) → k < count → slice_get listed k ≡ Some n → MakesRedundant rules i n → ⊥
-
-pub first_start : (rules : List Rule) (i : ℕ) (listed : List ℕ) → NoneFirst rules i listed 0
-first_start rules i listed k n lt e m = omega (arith, lt)
 
 pub first_more : (rules : List Rule) (i : ℕ) (listed : List ℕ) (count n : ℕ) → slice_get listed count ≡ Some n → (MakesRedundant rules i n → ⊥) → NoneFirst rules i listed count → NoneFirst rules i listed (count + 1)
 first_more rules i listed count n at never before k m lt e r = elim (cases_lt k count) [

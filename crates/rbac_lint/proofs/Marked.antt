@@ -76,21 +76,9 @@ marked_ref h b p t old new held here ref len e = record {
   ];
 }
 
-pub marked_none : (h : Held) (b : Binding) (old : List Bool) → ((s : Source) → IsRefTo h b.namespace b.role s → ⊥) → AreMarkedWith h b old old
-marked_none h b old none = record {
-  len = refl;
-  exact = λ k s there. (λ v. inl v, λ w. elim w [ inl v ↦ v | inr r ↦ absurd (none s r) ]);
-}
-
 -- the roles that the first n bindings name
 abbrev pub IsNamedBy : Held → List Binding → ℕ → Source → Type 0
 IsNamedBy h bs n s = (j : ℕ) × (b : Binding) × (j < n) × (slice_get bs j ≡ Some b) × IsRefTo h b.namespace b.role s
-
-pub marks_start : (h : Held) (bs : List Binding) (marks : List Bool) → length marks ≡ length (roles_in h) → ((k : ℕ) → get_or marks k false ≡ false) → AreMarked h (IsNamedBy h bs 0) marks
-marks_start h bs marks len none = record {
-  len = len;
-  exact = λ k s there. (λ v. absurd (let never = none k in cc), λ w. absurd (omega (arith, w.2)));
-}
 
 pub marks_more : (h : Held) (bs : List Binding) (i : ℕ) (b : Binding) (old new : List Bool) → slice_get bs i ≡ Some b → AreMarked h (IsNamedBy h bs i) old → AreMarkedWith h b old new → AreMarked h (IsNamedBy h bs (i + 1)) new
 marks_more h bs i b old new here was is = record {
@@ -177,12 +165,6 @@ AreGatherersBelow h n places =
     ((k : ℕ) → Contains places k → (c : ClusterRole) × (slice_get h.cluster_roles k ≡ Some c) × IsNamed h (InClusterRole c))
     × ((k : ℕ) (c : ClusterRole) → k < n → slice_get h.cluster_roles k ≡ Some c → IsNamed h (InClusterRole c) → (IsPlain c → ⊥) → Contains places k)
 
-pub gatherers_start : (h : Held) (places : List ℕ) → places ≡ [] → AreGatherersBelow h 0 places
-gatherers_start h places e = (
-  λ k w. absurd (omega (arith, w.1, ap length e)),
-  λ k c lt at named gathers. absurd (omega (arith, lt)),
-)
-
 pub gatherers_more : (h : Held) (i : ℕ) (r : ClusterRole) (old new : List ℕ) → slice_get h.cluster_roles i ≡ Some r → IsNamed h (InClusterRole r) → new ≡ old ++ i ∷ [] → AreGatherersBelow h i old → AreGatherersBelow h (i + 1) new
 gatherers_more h i r old new here named e was = (
   λ k w. elim (Contains-push_cases old i k (subst (λ (ks : List ℕ). Contains ks k) e w)) [
@@ -214,10 +196,10 @@ gatherers_all h n places all was = record {
 }
 
 -- what the test says of the cluster role at a place
-abbrev pub TellsReaches : Held → ℕ → ℕ → Bool → Type 0
-TellsReaches h j k told = (r : ClusterRole) → slice_get h.cluster_roles j ≡ Some r → (IsTrue told ↔ IsReachedAt h r k)
+abbrev pub DecidesReach : Held → ℕ → ℕ → Bool → Type 0
+DecidesReach h j k told = (r : ClusterRole) → slice_get h.cluster_roles j ≡ Some r → (IsTrue told ↔ IsReachedAt h r k)
 
-pub reached_here : (h : Held) (places : List ℕ) (j k : ℕ) (told : Bool) → AreGatherers h places → Contains places j → TellsReaches h j k told → IsTrue told → IsReachedByNamedAt h k
+pub reached_here : (h : Held) (places : List ℕ) (j k : ℕ) (told : Bool) → AreGatherers h places → Contains places j → DecidesReach h j k told → IsTrue told → IsReachedByNamedAt h k
 unfolding IsReachedByNamedAt
 reached_here h places j k told are c tells so = let g = are.sound j c in (g.0, g.2, (tells g.0 g.1).0 so)
 

@@ -114,8 +114,5 @@ plain_none : (o : Option (List Selector)) (b : Bool) → b ≡ is_some o → b �
 plain_none None b e f = refl
 plain_none (Some x) b e f = cc
 
-pub not_plain : (r : ClusterRole) (b : Bool) → b ≡ is_some r.aggregation → b ≡ true → IsPlainRole (InClusterRole r) → ⊥
-not_plain r b e f p = aggregated_some r.aggregation b e f p
-
 pub plain : (r : ClusterRole) (b : Bool) → b ≡ is_some r.aggregation → b ≡ false → IsPlainRole (InClusterRole r)
 plain r b e f = plain_none r.aggregation b e f

@@ -1,5 +1,5 @@
 -- the rules that aggregated roles gather, compared with their written ones
-use Rattle.std.proofs.Common.{Bor, ◌≡◌, ℕ, ◌<◌, ◌+◌, ◌≢◌, ◌⊎◌, ◌↔◌, inl, inr, List, [], ◌∷◌, ◌++◌, length, take, sym, ap, ◌∙◌, refl, subst, arith, cond}
+use Rattle.std.proofs.Common.{Bor, ◌≡◌, ℕ, ◌<◌, ◌+◌, ◌≢◌, ◌↔◌, inl, inr, List, [], ◌∷◌, ◌++◌, length, take, sym, ap, ◌∙◌, refl, subst, arith, cond}
 use Rattle.std.specs.Prelude.{Option, Some, None, slice_get, Bool, true, false, IsTrue, Contains, All, not, get_or, is_some}
 use Rattle.std.proofs.lemmas.Bool.{cases_lt}
 use Rattle.std.proofs.lemmas.Option.{slice_get_within, slice_get-get_or, same_Some}
@@ -9,9 +9,8 @@ use Rattle.std.specs.BTreeSet.{BTreeSet, contains}
 use Rattle.std.specs.BTreeMap.{is_at}
 use Rattle.std.specs.Cmp.Lexicographic.{slice_cmp}
 use Rattle.std.specs.List.{list_any}
-use Rattle.std.specs.Ordering.{is_eq, ordering_then}
-use Rattle.std.specs.declared.cmp.Ordering.{Ordering}
-use Rattle.std.specs.declared.cmp.Ordering.TheVariants.{Less, Equal, Greater}
+use Rattle.std.specs.Ordering.{is_eq}
+use Rattle.std.specs.declared.cmp.Ordering.TheVariants.{Equal}
 use Rattle.std.proofs.lemmas.Cmp.{tied_itself}
 use Rattle.rbac_terms.specs.Text.{Text, text_cmp}
 use Rattle.rbac_model.proofs.NamePlaces.{same_name}
@@ -19,6 +18,8 @@ use Rattle.rbac_lint.specs.RuleSets.{rule_lists, lists_cmp, lists_cmp_total, IsI
 use Rattle.rbac_terms.specs.declared.matching.Rule.{Rule}
 use Rattle.rbac_terms.specs.declared.selecting.Selector.{Selector}
 use Rattle.rbac_terms.specs.declared.granting.ClusterRole.{ClusterRole}
+use Rattle.rbac_terms.proofs.Cases.{either_true, true_either}
+use Rattle.rbac_terms.proofs.Orderings.{equal_from_test, both_equal}
 use Rattle.rbac_model.specs.Places.{IsReachedAt}
 use Rattle.rbac_model.specs.Policies.{Held, IsPlain, Reaches, IsPath, Step}
 use Rattle.rbac_lint.specs.Findings.{IsGathered, IsStaleRole, HasSameRules}
@@ -30,10 +31,10 @@ gathered_start h place rules e = λ r here rule. (
   λ g. absurd (omega (arith, g.2)),
 )
 
-abbrev pub TellsReaches : Held → ℕ → ℕ → Bool → Type 0
-TellsReaches h j k told = (r : ClusterRole) → slice_get h.cluster_roles j ≡ Some r → (IsTrue told ↔ IsReachedAt h r k)
+abbrev pub DecidesReach : Held → ℕ → ℕ → Bool → Type 0
+DecidesReach h j k told = (r : ClusterRole) → slice_get h.cluster_roles j ≡ Some r → (IsTrue told ↔ IsReachedAt h r k)
 
-pub gathered_more : (h : Held) (place i : ℕ) (s : ClusterRole) (told : Bool) (old new : List Rule) → slice_get h.cluster_roles i ≡ Some s → IsPlain s → TellsReaches h place i told → IsTrue told → AreGatheredBy h place i old → new ≡ old ++ s.rules → AreGatheredBy h place (i + 1) new
+pub gathered_more : (h : Held) (place i : ℕ) (s : ClusterRole) (told : Bool) (old new : List Rule) → slice_get h.cluster_roles i ≡ Some s → IsPlain s → DecidesReach h place i told → IsTrue told → AreGatheredBy h place i old → new ≡ old ++ s.rules → AreGatheredBy h place (i + 1) new
 gathered_more h place i s told old new at plain tells so was e = λ r here rule. (
   λ w. (let P : List Rule → Type 0 = λ rs. Contains rs rule in
       elim (Contains-append_cases old s.rules rule (subst P e w)) [
@@ -124,11 +125,6 @@ same_rules_written ws gs these p s = in_each gs (rules_at ws) these p (λ rule w
 
 -- ---- a set grows
 
-both_equal : (o p : Ordering) → ordering_then o p ≡ Equal → (o ≡ Equal) × (p ≡ Equal)
-both_equal Less p e = cc
-both_equal Equal p e = (refl, e)
-both_equal Greater p e = cc
-
 exact_lists : (xs ys : List (List Text)) → lists_cmp xs ys ≡ Equal → xs ≡ ys
 exact_lists [] [] e = refl
 exact_lists [] (y ∷ ys) e = cc
@@ -154,22 +150,8 @@ same_rule a b e =
     ∙ ap (λ (ws : List Text). rule_of b.verbs b.groups b.resources ws a.urls) names
     ∙ ap (λ (ws : List Text). rule_of b.verbs b.groups b.resources b.resource_names ws) urls
 
-by_test : (o : Ordering) → is_eq o ≡ true → o ≡ Equal
-by_test Less h = cc
-by_test Equal h = refl
-by_test Greater h = cc
-
 tied_rule : (a b : Rule) → a ≡ b → is_eq (lists_cmp (rule_lists a) (rule_lists b)) ≡ true
 tied_rule a b e = ap (λ (v : Rule). is_eq (lists_cmp (rule_lists a) (rule_lists v))) (sym e) ∙ ap is_eq (tied_itself lists_cmp_total (rule_lists a))
-
-either_true : (b c : Bool) → cond b true c ≡ true → (b ≡ true) ⊎ (c ≡ true)
-either_true true c h = inl refl
-either_true false c h = inr h
-
-true_either : (b c : Bool) → (b ≡ true) ⊎ (c ≡ true) → cond b true c ≡ true
-true_either true c h = refl
-true_either false c (inl h) = cc
-true_either false c (inr h) = h
 
 pub set_start : (set : BTreeSet (List (List Text))) → set.keys ≡ [] → IsSetOf [] set
 unfolding IsSetOf IsIn
@@ -185,7 +167,7 @@ set_more rules a old new is was rule =
     let now = is (rule_lists rule) in (
       λ t. elim (either_true (is_eq (lists_cmp (rule_lists a) (rule_lists rule))) (contains lists_cmp old (rule_lists rule)) (sym now ∙ t)) [
         | inl e ↦
-            let same : a ≡ rule = same_rule a rule (exact_lists (rule_lists a) (rule_lists rule) (by_test (lists_cmp (rule_lists a) (rule_lists rule)) e)) in
+            let same : a ≡ rule = same_rule a rule (exact_lists (rule_lists a) (rule_lists rule) (equal_from_test (lists_cmp (rule_lists a) (rule_lists rule)) e)) in
             subst (λ (v : Rule). Contains (rules ++ a ∷ []) v) same (Contains-push rules a)
         | inr o ↦ Contains-append_left rules (a ∷ []) rule ((was rule).0 o)
       ],

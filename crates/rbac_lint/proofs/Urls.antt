@@ -7,24 +7,24 @@ use Rattle.std.proofs.lemmas.List.Elements.{All-cons, All-nil}
 use Rattle.std.proofs.Math.Seq.{take-append_seam}
 use Rattle.rbac_terms.specs.Text.{Text, star, slash, BeginsWith}
 use Rattle.rbac_terms.specs.Matching.{UrlWordMatches, EndsInStar}
-use Rattle.rbac_terms.proofs.Texts.{one_more_star, same_front}
+use Rattle.rbac_terms.proofs.Texts.{one_more_star, same_prefix, shorter}
 use Rattle.rbac_terms.specs.declared.matching.Rule.{Rule}
-use Rattle.rbac_lint.specs.Covering.{IsPath, IsStars, IsUrlSample, sample_front, AllowsUrl, GivesPath, MatchesEachPath}
-use Rattle.rbac_lint.specs.Listing.{IsFront}
+use Rattle.rbac_lint.specs.Covering.{IsPath, IsStars, IsUrlSample, sample_prefix, AllowsUrl, GivesPath, MatchesEachPath}
+use Rattle.rbac_lint.specs.Listing.{IsPrefix}
 
 pub BeginsWith-through : (x f q : Text) → BeginsWith x f → BeginsWith f q → BeginsWith x q
 BeginsWith-through x f q a b = (b.0 ++ a.0, a.1 ∙ ap (λ t. t ++ a.0) b.1 ∙ append_assoc q b.0 a.0)
 
--- what begins with a text that is no longer than a front of it
-within_front : (f q rest back : Text) → length q ≤ length f → f ++ back ≡ q ++ rest → BeginsWith f q
-within_front f q rest back l e =
+-- what begins with a text that is no longer than a prefix of it
+within_prefix : (f q rest back : Text) → length q ≤ length f → f ++ back ≡ q ++ rest → BeginsWith f q
+within_prefix f q rest back l e =
     let cut : take (length q) f ≡ q = sym (take-append-le (length q) f back l) ∙ ap (λ t. take (length q) t) e ∙ take-append_seam q rest in
     (drop (length q) f, sym (take-append-drop (length q) f) ∙ ap (λ t. t ++ drop (length q) f) cut)
 
 -- a text that ends in no star and begins f and a star, begins f; and so with more stars
 below_star : (f q rest : Text) → (EndsInStar q → ⊥) → f ++ star ∷ [] ≡ q ++ rest → BeginsWith f q
 below_star f q [] none e = absurd (none (f, sym (append-nil q) ∙ sym e))
-below_star f q (c ∷ rest) none e = within_front f q (c ∷ rest) (star ∷ []) (omega (arith, ap length e, length-append f (star ∷ []), length-append q (c ∷ rest))) e
+below_star f q (c ∷ rest) none e = within_prefix f q (c ∷ rest) (star ∷ []) (omega (arith, ap length e, length-append f (star ∷ []), length-append q (c ∷ rest))) e
 
 pub below_stars : (f q rest : Text) (k : ℕ) → (EndsInStar q → ⊥) → f ++ replicate k star ≡ q ++ rest → BeginsWith f q
 below_stars f q rest zero none e = (rest, sym (append-nil f) ∙ e)
@@ -32,9 +32,9 @@ below_stars f q rest (suc k) none e =
     let b : BeginsWith (f ++ replicate k star) q = below_star (f ++ replicate k star) q rest none (sym (one_more_star f k) ∙ e) in
     below_stars f q b.0 k none b.1
 
--- a word ends in stars, and the front begins with what stands before them
+-- a word ends in stars, and the prefix begins with what stands before them
 abbrev pub ReachesBelow : Text → Text → Type 0
-ReachesBelow w front = (q : Text) × (k : ℕ) × (w ≡ q ++ replicate (k + 1) star) × (EndsInStar q → ⊥) × BeginsWith front q
+ReachesBelow w prefix = (q : Text) × (k : ℕ) × (w ≡ q ++ replicate (k + 1) star) × (EndsInStar q → ⊥) × BeginsWith prefix q
 
 reaches_matches : (w f rest : Text) → ReachesBelow w f → UrlWordMatches w (f ++ rest)
 reaches_matches w f rest b = inr (b.0, b.1, b.2, b.3, BeginsWith-through (f ++ rest) f b.0 (rest, refl) b.4)
@@ -43,17 +43,17 @@ matches_reaches : (w f : Text) (k : ℕ) → (EndsInStar f → ⊥) → UrlWordM
 matches_reaches w f k none (inl e) = (f, k, e ∙ ap (λ n. f ++ replicate n star) (sym (add-one k)), none, ([], sym (append-nil f)))
 matches_reaches w f k none (inr b) = (b.0, b.1, b.2, b.3, below_stars f b.0 b.4.0 (suc k) b.3 b.4.1)
 
--- a word that allows a front with a star allows all that begins with the front
+-- a word that allows a prefix with a star allows all that begins with the prefix
 UrlWordMatches-below : (u f x : Text) → (EndsInStar f → ⊥) → UrlWordMatches u (f ++ star ∷ []) → BeginsWith x f → UrlWordMatches u x
 UrlWordMatches-below u f x none m b =
     let r : ReachesBelow u f = matches_reaches u f 0 none m in
     inr (r.0, r.1, r.2, r.3, BeginsWith-through x f r.0 b r.4)
 
--- what matches the sample of a path is the path itself, or has a front with which it begins
-begins_with : (u w q : Text) → ReachesBelow u q → BeginsWith w q → (front : Text) × IsFront u front × BeginsWith w front
+-- what matches the sample of a path is the path itself, or has a prefix with which it begins
+begins_with : (u w q : Text) → ReachesBelow u q → BeginsWith w q → (prefix : Text) × IsPrefix u prefix × BeginsWith w prefix
 begins_with u w q r b = (r.0, (r.1, r.2, r.3), BeginsWith-through w q r.0 b r.4)
 
-pub UrlWordMatches-begins : (u w x : Text) → IsPath w → IsUrlSample w x → UrlWordMatches u x → (u ≡ w) ⊎ ((front : Text) × IsFront u front × BeginsWith w front)
+pub UrlWordMatches-begins : (u w x : Text) → IsPath w → IsUrlSample w x → UrlWordMatches u x → (u ≡ w) ⊎ ((prefix : Text) × IsPrefix u prefix × BeginsWith w prefix)
 UrlWordMatches-begins u w x path (inl a) (inl e) = inl (e ∙ a.1)
 UrlWordMatches-begins u w x path (inl a) (inr b) = inr (b.0, (b.1, b.2, b.3), subst (λ (t : Text). BeginsWith t b.0) a.1 b.4)
 UrlWordMatches-begins u w x path (inr ([], k, e, none, same)) m =
@@ -62,22 +62,22 @@ UrlWordMatches-begins u w x path (inr (c ∷ q, k, e, none, same)) m =
     let reaches = matches_reaches u (c ∷ q) 0 none (subst (λ (t : Text). UrlWordMatches u t) same m) in
     inr (begins_with u w (c ∷ q) reaches (replicate (k + 1) star, e))
 
--- the front of a sample ends in no star, and is a path where what begins with the word's front is one
+-- the prefix of a sample ends in no star, and is a path where what begins with the word's prefix is one
 one_byte : (c : ℕ) → c ≢ star → EndsInStar (c ∷ []) → ⊥
 one_byte c ne b = ne (same_from_push [] b.0 c star b.1).1
 
 slash_no_star : EndsInStar (codes "/") → ⊥
 slash_no_star b = one_byte slash (omega arith) b
 
-sample_front-none : (q : Text) → (EndsInStar q → ⊥) → EndsInStar (sample_front q) → ⊥
-sample_front-none [] none b = slash_no_star b
-sample_front-none (c ∷ q) none b = none b
+sample_prefix-none : (q : Text) → (EndsInStar q → ⊥) → EndsInStar (sample_prefix q) → ⊥
+sample_prefix-none [] none b = slash_no_star b
+sample_prefix-none (c ∷ q) none b = none b
 
-sample_front-begins : (q x : Text) → IsPath x → BeginsWith x q → BeginsWith x (sample_front q)
-sample_front-begins [] x p b = p
-sample_front-begins (c ∷ q) x p b = b
+sample_prefix-begins : (q x : Text) → IsPath x → BeginsWith x q → BeginsWith x (sample_prefix q)
+sample_prefix-begins [] x p b = p
+sample_prefix-begins (c ∷ q) x p b = b
 
-path_from : (q x : Text) → IsPath x → BeginsWith x q → IsPath (sample_front q)
+path_from : (q x : Text) → IsPath x → BeginsWith x q → IsPath (sample_prefix q)
 path_from [] x p b = ([], refl)
 path_from (c ∷ q) x p b = let same : c ≡ slash = cc (p.1, b.1) in (q, ap (λ d. d ∷ q) same)
 
@@ -100,10 +100,10 @@ IsUrlSample-one w x y (inl a) (inl b) = a.1 ∙ sym b.1
 IsUrlSample-one w x y (inl a) (inr b) = absurd (a.0 (ends w b.0 b.1 b.2))
 IsUrlSample-one w x y (inr a) (inl b) = absurd (b.0 (ends w a.0 a.1 a.2))
 IsUrlSample-one w x y (inr a) (inr b) =
-    a.4 ∙ ap (λ q. sample_front q ++ star ∷ []) (same_front a.0 b.0 (a.1 + 1) (b.1 + 1) a.3 b.3 (sym a.2 ∙ b.2)) ∙ sym b.4
+    a.4 ∙ ap (λ q. sample_prefix q ++ star ∷ []) (same_prefix a.0 b.0 (a.1 + 1) (b.1 + 1) a.3 b.3 (sym a.2 ∙ b.2)) ∙ sym b.4
 
 -- a word allows its sample
-begins_itself : (q : Text) → BeginsWith (sample_front q ++ star ∷ []) q
+begins_itself : (q : Text) → BeginsWith (sample_prefix q ++ star ∷ []) q
 begins_itself [] = (codes "/" ++ star ∷ [], refl)
 begins_itself (c ∷ q) = (star ∷ [], refl)
 
@@ -111,31 +111,27 @@ pub UrlWordMatches-own : (w x : Text) → IsUrlSample w x → UrlWordMatches w x
 UrlWordMatches-own w x (inl a) = inl (sym a.1)
 UrlWordMatches-own w x (inr a) = let P : Text → Type 0 = λ t. BeginsWith t a.0 in inr (a.0, a.1, a.2, a.3, subst P (sym a.4) (begins_itself a.0))
 
--- each word is a front and stars
+-- each word is a prefix and stars
 record Unstarred (w : Text) : Type 0 where
-  front : Text
+  prefix : Text
   stars : ℕ
-  is : w ≡ front ++ replicate stars star
-  none : EndsInStar front → ⊥
-
-shorter : (c d : ℕ) (q r : Text) → c ∷ d ∷ q ≡ r ++ star ∷ [] → EndsInStar (d ∷ q)
-shorter c d q [] e = cc
-shorter c d q (x ∷ r) e = let rest : d ∷ q ≡ r ++ star ∷ [] = cc in (r, rest)
+  is : w ≡ prefix ++ replicate stars star
+  none : EndsInStar prefix → ⊥
 
 longer : (c d : ℕ) (q : Text) → EndsInStar (c ∷ d ∷ q) → EndsInStar (d ∷ q)
 longer c d q b = shorter c d q b.0 b.1
 
 grown : (c : ℕ) (w q : Text) (k : ℕ) → w ≡ q ++ replicate k star → (EndsInStar q → ⊥) → Unstarred (c ∷ w)
-grown c w (d ∷ q) k e none = record { front = c ∷ d ∷ q; stars = k; is = ap (λ t. c ∷ t) e; none = λ b. none (longer c d q b) }
+grown c w (d ∷ q) k e none = record { prefix = c ∷ d ∷ q; stars = k; is = ap (λ t. c ∷ t) e; none = λ b. none (longer c d q b) }
 grown c w [] k e none =
     elim (cases_eq c star) [
-      | inl same ↦ record { front = []; stars = suc k; is = ap (λ t. c ∷ t) e ∙ ap (λ d. d ∷ replicate k star) same; none = none }
-      | inr other ↦ record { front = c ∷ []; stars = k; is = ap (λ t. c ∷ t) e; none = one_byte c other }
+      | inl same ↦ record { prefix = []; stars = suc k; is = ap (λ t. c ∷ t) e ∙ ap (λ d. d ∷ replicate k star) same; none = none }
+      | inr other ↦ record { prefix = c ∷ []; stars = k; is = ap (λ t. c ∷ t) e; none = one_byte c other }
     ]
 
 unstarred : (w : Text) → Unstarred w
-unstarred [] = record { front = []; stars = 0; is = refl; none = λ b. absurd (omega (arith, ap length b.1, length-append b.0 (star ∷ []))) }
-unstarred (c ∷ w) = let u : Unstarred w = unstarred w in grown c w u.front u.stars u.is u.none
+unstarred [] = record { prefix = []; stars = 0; is = refl; none = λ b. absurd (omega (arith, ap length b.1, length-append b.0 (star ∷ []))) }
+unstarred (c ∷ w) = let u : Unstarred w = unstarred w in grown c w u.prefix u.stars u.is u.none
 
 -- a word that matches a path has a sample that is one, and what allows the sample allows the path
 pub record Through (w x : Text) : Type 0 where
@@ -144,10 +140,10 @@ pub record Through (w x : Text) : Type 0 where
   pub path : IsPath sample
   pub through : (u : Text) → UrlWordMatches u sample → UrlWordMatches u x
 
-front_of_match : (w x q : Text) (k : ℕ) → w ≡ q ++ replicate (suc k) star → (EndsInStar q → ⊥) → UrlWordMatches w x → BeginsWith x q
-front_of_match w x q k e none (inl m) = (replicate (suc k) star, sym m ∙ e)
-front_of_match w x q k e none (inr b) =
-    let same : b.0 ≡ q = same_front b.0 q (b.1 + 1) (suc k) b.3 none (sym b.2 ∙ e) in
+prefix_of_match : (w x q : Text) (k : ℕ) → w ≡ q ++ replicate (suc k) star → (EndsInStar q → ⊥) → UrlWordMatches w x → BeginsWith x q
+prefix_of_match w x q k e none (inl m) = (replicate (suc k) star, sym m ∙ e)
+prefix_of_match w x q k e none (inr b) =
+    let same : b.0 ≡ q = same_prefix b.0 q (b.1 + 1) (suc k) b.3 none (sym b.2 ∙ e) in
     let P : Text → Type 0 = λ t. BeginsWith x t in subst P same b.4
 
 plain_match : (w x : Text) → (EndsInStar w → ⊥) → UrlWordMatches w x → w ≡ x
@@ -158,7 +154,7 @@ plain_match w x none (inr b) = absurd (none (ends w b.0 b.1 b.2))
 plain_sample : (w p : Text) → w ≡ p ++ replicate 0 star → (EndsInStar p → ⊥) → IsUrlSample w w
 plain_sample w p e none = let P : Text → Type 0 = λ t. EndsInStar t → ⊥ in inl (subst P (sym (no_stars w p e)) none, refl)
 
-starred_sample : (w p : Text) (k : ℕ) → w ≡ p ++ replicate (suc k) star → (EndsInStar p → ⊥) → IsUrlSample w (sample_front p ++ star ∷ [])
+starred_sample : (w p : Text) (k : ℕ) → w ≡ p ++ replicate (suc k) star → (EndsInStar p → ⊥) → IsUrlSample w (sample_prefix p ++ star ∷ [])
 starred_sample w p k e none = inr (p, k, e ∙ ap (λ n. p ++ replicate n star) (sym (add-one k)), none, refl)
 
 through_from : (w x q : Text) (k : ℕ) → w ≡ q ++ replicate k star → (EndsInStar q → ⊥) → IsPath x → UrlWordMatches w x → Through w x
@@ -168,16 +164,16 @@ through_from w x q zero e none p m =
     let same : w ≡ x = plain_match w x (subst P (sym (no_stars w q e)) none) m in
     record { sample = w; is = still; path = subst IsPath (sym same) p; through = λ u h. (let Q : Text → Type 0 = λ t. UrlWordMatches u t in subst Q same h) }
 through_from w x q (suc k) e none p m =
-    let b : BeginsWith x q = front_of_match w x q k e none m in
+    let b : BeginsWith x q = prefix_of_match w x q k e none m in
     record {
-      sample = sample_front q ++ star ∷ [];
+      sample = sample_prefix q ++ star ∷ [];
       is = starred_sample w q k e none;
-      path = IsPath-more (sample_front q) (star ∷ []) (path_from q x p b);
-      through = λ u h. UrlWordMatches-below u (sample_front q) x (sample_front-none q none) h (sample_front-begins q x p b);
+      path = IsPath-more (sample_prefix q) (star ∷ []) (path_from q x p b);
+      through = λ u h. UrlWordMatches-below u (sample_prefix q) x (sample_prefix-none q none) h (sample_prefix-begins q x p b);
     }
 
 pub sample-through : (w x : Text) → IsPath x → UrlWordMatches w x → Through w x
-sample-through w x p m = let u : Unstarred w = unstarred w in through_from w x u.front u.stars u.is u.none p m
+sample-through w x p m = let u : Unstarred w = unstarred w in through_from w x u.prefix u.stars u.is u.none p m
 
 -- ---- what the tests say
 
@@ -224,7 +220,7 @@ gives_path w x (inr (c ∷ q, k, e, none, same)) p =
     inl (subst IsPath (sym e) (IsPath-more (c ∷ q) (replicate (k + 1) star) (IsPath-less c q (star ∷ []) (subst IsPath same p))))
 
 pub GivesPath-path : (w : Text) → IsPath w → GivesPath w
-GivesPath-path w h = let u : Unstarred w = unstarred w in path_gives w u.front u.stars u.is u.none h
+GivesPath-path w h = let u : Unstarred w = unstarred w in path_gives w u.prefix u.stars u.is u.none h
 
 pub GivesPath-stars : (w : Text) → IsStars w → GivesPath w
 unfolding GivesPath
@@ -269,7 +265,7 @@ path_allowed a w (c ∷ p) (suc k) e none h =
     )
 
 pub AllowsUrl-path : (a : Rule) (w : Text) → IsPath w → (Any (λ u. UrlWordMatches u w) a.urls ↔ AllowsUrl a w)
-AllowsUrl-path a w h = let u : Unstarred w = unstarred w in path_allowed a w u.front u.stars u.is u.none h
+AllowsUrl-path a w h = let u : Unstarred w = unstarred w in path_allowed a w u.prefix u.stars u.is u.none h
 
 -- a word matches each path where it is stars, or stars behind a slash
 slash_stars : (rest : Text) → IsStars rest → UrlWordMatches (slash ∷ rest) (codes "/*")
@@ -308,10 +304,10 @@ MatchesEachPath-else w path = (
   ],
 )
 
-pub after_slash_is : (text front : Text) (r : Option (Bor Text)) → front ≡ codes "/" → MatchOption r ((rest : Text) → text ≢ front ++ rest) (λ x. text ≡ front ++ x.now) → MatchOption r (IsPath text → ⊥) (λ x. text ≡ codes "/" ++ x.now)
-after_slash_is text front None e h = λ b. h b.0 (b.1 ∙ ap (λ t. t ++ b.0) (sym e))
-after_slash_is text front (Some x) e h = h ∙ ap (λ t. t ++ x.now) e
+pub after_slash_is : (text prefix : Text) (r : Option (Bor Text)) → prefix ≡ codes "/" → MatchOption r ((rest : Text) → text ≢ prefix ++ rest) (λ x. text ≡ prefix ++ x.now) → MatchOption r (IsPath text → ⊥) (λ x. text ≡ codes "/" ++ x.now)
+after_slash_is text prefix None e h = λ b. h b.0 (b.1 ∙ ap (λ t. t ++ b.0) (sym e))
+after_slash_is text prefix (Some x) e h = h ∙ ap (λ t. t ++ x.now) e
 
-pub without_star_is : (text back : Text) (r : Option (Bor Text)) → back ≡ star ∷ [] → MatchOption r ((front : Text) → text ≢ front ++ back) (λ x. text ≡ x.now ++ back) → MatchOption r (EndsInStar text → ⊥) (λ x. text ≡ x.now ++ star ∷ [])
+pub without_star_is : (text back : Text) (r : Option (Bor Text)) → back ≡ star ∷ [] → MatchOption r ((prefix : Text) → text ≢ prefix ++ back) (λ x. text ≡ x.now ++ back) → MatchOption r (EndsInStar text → ⊥) (λ x. text ≡ x.now ++ star ∷ [])
 without_star_is text back None e h = λ b. h b.0 (b.1 ∙ ap (λ t. b.0 ++ t) (sym e))
 without_star_is text back (Some x) e h = h ∙ ap (λ t. x.now ++ t) e

@@ -8,20 +8,20 @@ use Rattle.rbac_model.specs.Universes.{Covers}
 use Rattle.rbac_lint.specs.Covering.{IsResourceText, IsPath, HasResource, HasUrl}
 use Rattle.rbac_lint.specs.Findings.{MakesRedundant}
 use Rattle.rbac_lint.specs.Listing.{Lists, listed, lists_in, IsAscending, AreAscending}
-use Rattle.rbac_lint.specs.declared.fronts.Front.{Front}
+use Rattle.rbac_lint.specs.declared.prefixes.Prefix.{Prefix}
 use Rattle.rbac_lint.specs.declared.listing.Field.{Field}
-use Rattle.rbac_lint.specs.declared.listing.Field.TheVariants.{Verbs, Groups, Resources, Names, Urls, Fronts}
+use Rattle.rbac_lint.specs.declared.listing.Field.TheVariants.{Verbs, Groups, Resources, Names, Urls, Prefixes}
 use Rattle.rbac_lint.specs.declared.listing.Listing.{Listing}
 use Rattle.rbac_lint.specs.declared.candidates.Candidates.{Candidates}
 
--- whatever covers the rule allows its words in that list; no front is asked for
+-- whatever covers the rule allows its words in that list; no prefix is asked for
 abbrev pub Binds : Field → Rule → Type 0
 Binds Verbs b = HasResource b ⊎ HasUrl b
 Binds Groups b = HasResource b
 Binds Resources b = HasResource b
 Binds Names b = HasResource b
 Binds Urls b = HasUrl b
-Binds Fronts b = ⊥
+Binds Prefixes b = ⊥
 
 -- the word gives a target, where it is one of a target's
 abbrev pub IsAsked : Field → Text → Type 0
@@ -29,10 +29,10 @@ IsAsked Resources w = IsResourceText w
 IsAsked Urls w = IsPath w
 IsAsked field w = Unit {0}
 
--- a place is listed under a word that matches this one: it is `*`, the word itself, or `*/` and what follows the word's first slash; for a URL it is the word, or a front of it
+-- a place is listed under a word that matches this one: it is `*`, the word itself, or `*/` and what follows the word's first slash; for a URL it is the word, or a prefix of it
 abbrev pub IsFound : Field → Listing → Text → ℕ → Type 0
 IsFound Urls l w n = Contains (listed l.urls w) n
-    ⊎ ((j : ℕ) × (f : Front) × (slice_get l.fronts.items j ≡ Some f) × BeginsWith w f.text × (¬ EndsInStar f.text) × Contains f.places n)
+    ⊎ ((j : ℕ) × (f : Prefix) × (slice_get l.prefixes.items j ≡ Some f) × BeginsWith w f.text × (¬ EndsInStar f.text) × Contains f.places n)
 IsFound field l w n = (u : Text) × ResourceWordMatches u w × Contains (listed (lists_in field l) u) n
 
 -- a place stands in one of these lists
@@ -55,11 +55,11 @@ pub record AddsUnder (m : Lists) (P : Text → Type 0) (old new : Candidates) : 
   pub has : (u : Text) (n : ℕ) → P u → Contains (listed m u) n → IsAmong new n
   pub ascending : AreAscending m → Ascend old → Ascend new
 
--- new has old's places, and those of the fronts with which the text begins
-pub record AddsFronts (fronts : List Front) (text : Text) (old new : Candidates) : Type 0 where
+-- new has old's places, and those of the prefixes with which the text begins
+pub record AddsPrefixes (prefixes : List Prefix) (text : Text) (old new : Candidates) : Type 0 where
   pub kept : (n : ℕ) → IsAmong old n → IsAmong new n
-  pub has : (j : ℕ) (f : Front) (n : ℕ) → slice_get fronts j ≡ Some f → BeginsWith text f.text → Contains f.places n → IsAmong new n
-  pub ascending : All (λ f. IsAscending f.places) fronts → Ascend old → Ascend new
+  pub has : (j : ℕ) (f : Prefix) (n : ℕ) → slice_get prefixes j ≡ Some f → BeginsWith text f.text → Contains f.places n → IsAmong new n
+  pub ascending : All (λ f. IsAscending f.places) prefixes → Ascend old → Ascend new
 
 -- the words that match this one: each resource's with its subresource
 abbrev pub IsOfEach : Text → Text → Type 0

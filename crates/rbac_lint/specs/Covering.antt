@@ -13,14 +13,14 @@ abbrev pub IsPath : Text → Type 0
 IsPath path = BeginsWith path (codes "/")
 
 -- what stands before the star of a URL sample: the word without its stars, or `/`
-abbrev pub sample_front : Text → Text
-sample_front [] = codes "/"
-sample_front (c ∷ q) = c ∷ q
+abbrev pub sample_prefix : Text → Text
+sample_prefix [] = codes "/"
+sample_prefix (c ∷ q) = c ∷ q
 
 -- a URL word taken as a text: itself, or with one star where it ends in stars; `/*` where it is but stars (own)
 abbrev pub IsUrlSample : Text → Text → Type 0
 IsUrlSample w x = ((¬ EndsInStar w) × (x ≡ w))
-    ⊎ ((q : Text) × (k : ℕ) × (w ≡ q ++ replicate (k + 1) star) × (¬ EndsInStar q) × (x ≡ sample_front q ++ star ∷ []))
+    ⊎ ((q : Text) × (k : ℕ) × (w ≡ q ++ replicate (k + 1) star) × (¬ EndsInStar q) × (x ≡ sample_prefix q ++ star ∷ []))
 
 -- longer than each of the names
 abbrev pub IsLongerThanAll : Text → List Text → Type 0

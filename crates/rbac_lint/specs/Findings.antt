@@ -11,7 +11,7 @@ use Rattle.rbac_model.specs.Policies.{Held, Source, InRole, InClusterRole, IsPla
 use Rattle.rbac_model.specs.Universes.{Covers}
 use Rattle.rbac_lint.specs.declared.finding.Finding.{Finding}
 use Rattle.rbac_lint.specs.Lines.{Line, OfEach, object_text, AreShown}
-use Rattle.rbac_manifest.specs.declared.replaced.Replaced.{Replaced}
+use Rattle.rbac_manifest.specs.declared.replacement.Replaced.{Replaced}
 use Rattle.rbac_lint.specs.Replaced.{IsReplaced}
 use Rattle.rbac_model.specs.Places.{rules_of}
 use Rattle.rbac_lint.specs.Roles.{roles_in, IsPlainRole, source_object, binding_object, named_object}

@@ -1,7 +1,7 @@
 pub mod Candidates
 pub mod Covering
 pub mod Findings
-pub mod Fronts
+pub mod Prefixes
 pub mod Gathering
 pub mod Lines
 pub mod Listing

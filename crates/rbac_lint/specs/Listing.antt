@@ -1,13 +1,13 @@
 -- The places of a role's rules, listed under the words that they hold.
-use Rattle.std.specs.Prelude.{◌≡◌, ◌≢◌, ℕ, ◌+◌, ◌<◌, ◌≤◌, ◌⊎◌, List, [], ◌∷◌, ◌++◌, All, AllPairs, Contains, codes, length, replicate, unwrap_or, slice_get, Some}
+use Rattle.std.specs.Prelude.{◌≡◌, ◌≢◌, ℕ, ◌+◌, ◌<◌, ◌≤◌, ◌⊎◌, List, [], ◌∷◌, ◌++◌, AllPairs, Contains, codes, length, replicate, unwrap_or, slice_get, Some}
 use Rattle.std.specs.BTreeMap.{BTreeMap, get}
 use Rattle.rbac_terms.specs.Text.{Text, star, text_cmp}
 use Rattle.rbac_terms.specs.Matching.{EndsInStar}
 use Rattle.rbac_terms.specs.declared.matching.Rule.{Rule}
-use Rattle.rbac_lint.specs.declared.fronts.Front.{Front}
-use Rattle.rbac_lint.specs.Fronts.{AreEntriesOf, AreFronts}
+use Rattle.rbac_lint.specs.declared.prefixes.Prefix.{Prefix}
+use Rattle.rbac_lint.specs.Prefixes.{AreEntriesOf, ArePrefixes}
 use Rattle.rbac_lint.specs.declared.listing.Field.{Field}
-use Rattle.rbac_lint.specs.declared.listing.Field.TheVariants.{Verbs, Groups, Resources, Names, Urls, Fronts}
+use Rattle.rbac_lint.specs.declared.listing.Field.TheVariants.{Verbs, Groups, Resources, Names, Urls, Prefixes}
 use Rattle.rbac_lint.specs.declared.listing.Listing.{Listing}
 
 -- lists of places under words
@@ -29,26 +29,26 @@ abbrev pub names_or_star : List Text → List Text
 names_or_star [] = codes "*" ∷ []
 names_or_star (n ∷ ns) = n ∷ ns
 
--- the words of a rule in one of its lists; its fronts are those of its URLs
+-- the words of a rule in one of its lists; its prefixes are those of its URLs
 abbrev pub words_in : Field → Rule → List Text
 words_in Verbs r = r.verbs
 words_in Groups r = r.groups
 words_in Resources r = r.resources
 words_in Names r = names_or_star r.resource_names
 words_in Urls r = r.urls
-words_in Fronts r = r.urls
+words_in Prefixes r = r.urls
 
--- the front of a word that ends in stars: what stands before all of them
-abbrev pub IsFront : Text → Text → Type 0
-IsFront w front = (k : ℕ) × (w ≡ front ++ replicate (k + 1) star) × (¬ EndsInStar front)
+-- the prefix of a word that ends in stars: what stands before all of them
+abbrev pub IsPrefix : Text → Text → Type 0
+IsPrefix w prefix = (k : ℕ) × (w ≡ prefix ++ replicate (k + 1) star) × (¬ EndsInStar prefix)
 
 -- a word without the stars at its end, if it has some
 abbrev pub IsStem : Text → Text → Type 0
 IsStem w stem = (k : ℕ) × (w ≡ stem ++ replicate k star)
 
--- under what a word is listed: itself, or its front
+-- under what a word is listed: itself, or its prefix
 abbrev pub IsKey : Field → Text → Text → Type 0
-IsKey Fronts w key = IsFront w key
+IsKey Prefixes w key = IsPrefix w key
 IsKey field w key = w ≡ key
 
 -- ---- while places are listed
@@ -81,9 +81,9 @@ pub record AreListed (field : Field) (rules : List Rule) (count : ℕ) (m : List
   pub below : (w : Text) (n : ℕ) → Contains (listed m w) n → n < count
   pub ascending : AreAscending m
 
--- rules are listed under their fronts, which stand in order
-abbrev pub AreListedAsFronts : List Rule → List Front → Type 0
-AreListedAsFronts rules fronts = (m : Lists) × AreListed Fronts rules (length rules) m × AreEntriesOf m fronts
+-- rules are listed under their prefixes, which stand in order
+abbrev pub AreListedAsPrefixes : List Rule → List Prefix → Type 0
+AreListedAsPrefixes rules prefixes = (m : Lists) × AreListed Prefixes rules (length rules) m × AreEntriesOf m prefixes
 
 -- all rules are listed for all their words
 pub record IsListingOf (rules : List Rule) (l : Listing) : Type 0 where
@@ -93,14 +93,14 @@ pub record IsListingOf (rules : List Rule) (l : Listing) : Type 0 where
   pub resources : AreListed Resources rules (length rules) l.resources
   pub names : AreListed Names rules (length rules) l.names
   pub urls : AreListed Urls rules (length rules) l.urls
-  pub fronts : AreListedAsFronts rules l.fronts.items
-  pub linked : AreFronts l.fronts.items
+  pub prefixes : AreListedAsPrefixes rules l.prefixes.items
+  pub linked : ArePrefixes l.prefixes.items
 
--- the lists under the words of one of a rule's lists; fronts stand apart, beside their URLs
+-- the lists under the words of one of a rule's lists; prefixes stand apart, beside their URLs
 abbrev pub lists_in : Field → Listing → Lists
 lists_in Verbs l = l.verbs
 lists_in Groups l = l.groups
 lists_in Resources l = l.resources
 lists_in Names l = l.names
 lists_in Urls l = l.urls
-lists_in Fronts l = l.urls
+lists_in Prefixes l = l.urls

@@ -1,7 +1,7 @@
 -- L7: what lint finds of replaced documents.
 use Rattle.std.specs.Prelude.{◌≡◌, List, [], ◌∷◌, Option, Some, None, decimal}
 use Rattle.rbac_terms.specs.Text.{Text}
-use Rattle.rbac_manifest.specs.declared.replaced.Replaced.{Replaced}
+use Rattle.rbac_manifest.specs.declared.replacement.Replaced.{Replaced}
 use Rattle.rbac_lint.specs.Lines.{Line, ObjectName, OfEach}
 
 -- the namespace of an object; a cluster-scoped one has none
@@ -12,7 +12,7 @@ scope_of (c ∷ namespace) = Some (c ∷ namespace)
 abbrev pub replaced_object : Replaced → ObjectName
 replaced_object r = record { kind = r.kind; namespace = scope_of r.namespace; name = r.name }
 
--- the object was given by several documents; how many earlier ones the last replaced is told (own)
+-- the object was given by several documents; the line says how many earlier ones the last replaced (own)
 unfoldable pub IsReplacedOf : Replaced → Line → Type 0
 IsReplacedOf r x = x ≡ record { code = 7; object = replaced_object r; place = None; other = decimal r.earlier }
 

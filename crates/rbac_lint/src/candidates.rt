@@ -6,12 +6,12 @@ ghost use Rattle.std.specs.Prelude.{◌≡◌, ◌++◌, ◌∷◌, [], ◌⊎�
 ghost use Rattle.rbac_terms.specs.declared.matching.Rule.{Rule as RuleView};
 ghost use Rattle.rbac_lint.specs.declared.listing.Field.TheVariants.{Urls};
 ghost use Rattle.rbac_lint.specs.Listing.{IsListingOf};
-ghost use Rattle.rbac_lint.specs.Fronts.{AreFronts};
-ghost use Rattle.rbac_lint.specs.Candidates.{IsAsked, Binds, Finds, AddsUnder, AddsFronts, IsOfEach, AreMatching, AreCandidates};
+ghost use Rattle.rbac_lint.specs.Prefixes.{ArePrefixes};
+ghost use Rattle.rbac_lint.specs.Candidates.{IsAsked, Binds, Finds, AddsUnder, AddsPrefixes, IsOfEach, AreMatching, AreCandidates};
 
-use crate::covering::{has_resource, has_url, is_path, is_resource_text};
-use crate::fronts::{Front, last_up_to};
+use crate::coverage::{has_resource, has_url, is_path, is_resource_text};
 use crate::listing::{Field, Listing, Places, stem_of, under, words_in};
+use crate::prefixes::{Prefix, last_up_to};
 use rbac_terms::{Rule, Word, cut_at_first};
 use std::alloc::{AllocError, Global};
 use std::collections::BTreeMap;
@@ -61,7 +61,7 @@ pub(crate) fn fewest_for<'a>(
     listing: &'a Listing,
     rule: &'a Rule,
 ) -> Result<Option<Candidates<'a>>, AllocError>
-    requires { AreFronts listing.now.fronts.items }
+    requires { ArePrefixes listing.now.prefixes.items }
     ensures { IfOk result (λ o. (rules : List RuleView) → IsListingOf rules listing.now → IfSome o (AreCandidates rules rule.now)) }
 {
     if has_resource(rule) {
@@ -85,7 +85,7 @@ fn fewest_in<'a>(
     field: Field,
     best: Option<Candidates<'a>>,
 ) -> Result<Option<Candidates<'a>>, AllocError>
-    requires { AreFronts listing.now.fronts.items }
+    requires { ArePrefixes listing.now.prefixes.items }
     ensures { IfOk result (λ o. (rules : List RuleView) → IsListingOf rules listing.now → Binds field rule.now → IfSome best.entry (AreCandidates rules rule.now) → IfSome o (AreCandidates rules rule.now)) }
 {
     let mut fewest = best;
@@ -125,7 +125,7 @@ fn candidates_for<'a>(
     field: Field,
     word: &Word,
 ) -> Result<Candidates<'a>, AllocError>
-    requires { AreFronts listing.now.fronts.items }
+    requires { ArePrefixes listing.now.prefixes.items }
     ensures { IfOk result (λ c. (rules : List RuleView) → IsListingOf rules listing.now → Finds field listing.now word.now c) }
 {
     match field {
@@ -167,36 +167,36 @@ fn add_of_each<'a>(
     candidates.add_under(lists, &of_each)
 }
 
-// The places under a URL word, and under the fronts with which it begins.
+// The places under a URL word, and under the prefixes with which it begins.
 fn starting<'a>(
     alloc: Global,
     listing: &'a Listing,
     word: &Word,
 ) -> Result<Candidates<'a>, AllocError>
-    requires { AreFronts listing.now.fronts.items }
+    requires { ArePrefixes listing.now.prefixes.items }
     ensures { IfOk result (λ c. (rules : List RuleView) → IsListingOf rules listing.now → Finds Urls listing.now word.now c) }
 {
     let mut candidates = Candidates::new(alloc);
     candidates.add_under(listing.lists(Field::Urls), word)?;
     let stem = stem_of(word.as_bytes());
-    add_fronts(&mut candidates, listing.fronts.as_slice(), stem)?;
+    add_prefixes(&mut candidates, listing.prefixes.as_slice(), stem)?;
     Ok(candidates)
 }
 
-// Adds the places of the fronts with which a text begins, and few others: the shortest come last.
-fn add_fronts<'a>(
+// Adds the places of the prefixes with which a text begins, and few others: the shortest come last.
+fn add_prefixes<'a>(
     candidates: &mut Candidates<'a>,
-    fronts: &'a [Front],
+    prefixes: &'a [Prefix],
     text: &[u8],
 ) -> Result<(), AllocError>
-    requires { AreFronts fronts.now }
-    ensures { OnOk result (AddsFronts fronts.now text.now candidates.old candidates.new) }
+    requires { ArePrefixes prefixes.now }
+    ensures { OnOk result (AddsPrefixes prefixes.now text.now candidates.old candidates.new) }
 {
-    let mut next = last_up_to(fronts, text);
+    let mut next = last_up_to(prefixes, text);
     while let Some(place) = next {
-        let front = &fronts[place];
-        candidates.add(front.places.as_slice())?;
-        next = front.shorter;
+        let prefix = &prefixes[place];
+        candidates.add(prefix.places.as_slice())?;
+        next = prefix.shorter;
     }
     Ok(())
 }

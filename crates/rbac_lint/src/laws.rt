@@ -4,7 +4,7 @@
 ghost use Rattle.std.specs.Prelude.{◌≡◌, List};
 ghost use Rattle.rbac_lint.specs.declared.finding.Finding.{Finding as FindingView};
 ghost use Rattle.rbac_lint.specs.Findings.{AreFindings};
-ghost use Rattle.rbac_manifest.specs.declared.replaced.Replaced.{Replaced};
+ghost use Rattle.rbac_manifest.specs.declared.replacement.Replaced.{Replaced};
 ghost use Rattle.rbac_model.specs.Policies.{Held};
 
 /// What lint finds of objects is one list (own).

@@ -3,23 +3,23 @@
 
 mod accounts;
 mod candidates;
-mod covering;
-mod dangling;
+mod coverage;
+mod dangling_role;
 mod escalation;
 mod fault;
 mod finding;
-mod fronts;
 mod laws;
 mod linting;
 mod listing;
-mod redundant;
-mod replaced;
+mod prefixes;
+mod redundant_rule;
+mod replaced_object;
 mod roles;
 mod rule_set;
-mod stale;
-mod unused;
+mod stale_aggregate;
+mod unused_role;
 
-pub use covering::covers;
+pub use coverage::covers;
 pub use fault::LintFault;
 pub use finding::{Finding, Findings};
 pub use laws::findings_are_one_list;

@@ -4,14 +4,14 @@ ghost use Rattle.std.specs.Prelude.{◌≡◌, IfOk, IfErr};
 ghost use Rattle.rbac_lint.specs.Findings.{AreFindings};
 
 use crate::accounts::find_accounts;
-use crate::dangling::find_dangling;
+use crate::dangling_role::find_dangling;
 use crate::escalation::find_escalations;
 use crate::fault::LintFault;
 use crate::finding::Findings;
-use crate::redundant::find_redundant;
-use crate::replaced::find_replaced;
-use crate::stale::find_stale;
-use crate::unused::find_unused;
+use crate::redundant_rule::find_redundant;
+use crate::replaced_object::find_replaced;
+use crate::stale_aggregate::find_stale;
+use crate::unused_role::find_unused;
 use rbac_manifest::Loaded;
 use std::alloc::Global;
 
@@ -19,7 +19,7 @@ use std::alloc::Global;
 /// no binding leads to, rules that another rule of their role covers, rules that let a subject
 /// grant more than it has, accounts without a namespace, aggregated roles whose written rules
 /// aren't those that they gather, and objects that were given more than once. In order of these
-/// codes, then of objects by kind, namespace and name, then of places, then of what else is told.
+/// codes, then of objects by kind, namespace and name, then of places, then of the last field.
 ///
 /// # Errors
 ///

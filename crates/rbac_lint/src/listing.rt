@@ -3,9 +3,9 @@
 ghost use Rattle.std.specs.Prelude.{◌≡◌, ◌++◌, ◌∷◌, [], Contains, IfOk, OnOk, IsTrue, MatchOption, codes, length};
 ghost use Rattle.rbac_terms.specs.Text.{Text, star};
 ghost use Rattle.rbac_terms.specs.Matching.{EndsInStar};
-ghost use Rattle.rbac_lint.specs.Listing.{listed, lists_in, words_in, IsFront, IsKey, IsStem, TakesIn, ListsPlace, ListsAll, IsListedAsBefore, AreListed, IsListingOf};
+ghost use Rattle.rbac_lint.specs.Listing.{listed, lists_in, words_in, IsPrefix, IsKey, IsStem, TakesIn, ListsPlace, ListsAll, IsListedAsBefore, AreListed, IsListingOf};
 
-use crate::fronts::{Front, fronts_of};
+use crate::prefixes::{Prefix, prefixes_of};
 use rbac_terms::{Rule, Word};
 use std::alloc::{AllocError, Global};
 use std::collections::BTreeMap;
@@ -69,7 +69,7 @@ pub(crate) enum Field {
     Resources,
     Names,
     Urls,
-    Fronts,
+    Prefixes,
 }
 
 // The places of a role's rules under the words of each of their lists.
@@ -81,7 +81,7 @@ pub(crate) struct Listing {
     resources: BTreeMap<Word, Places>,
     names: BTreeMap<Word, Places>,
     urls: BTreeMap<Word, Places>,
-    pub(crate) fronts: Vec<Front>,
+    pub(crate) prefixes: Vec<Prefix>,
 }
 
 // Lists these rules.
@@ -94,7 +94,7 @@ pub(crate) fn listing_of(alloc: Global, rules: &[Rule]) -> Result<Listing, Alloc
     let resources = lists_of(alloc, rules, &star, Field::Resources)?;
     let names = lists_of(alloc, rules, &star, Field::Names)?;
     let urls = lists_of(alloc, rules, &star, Field::Urls)?;
-    let fronts = fronts_of(alloc, lists_of(alloc, rules, &star, Field::Fronts)?)?;
+    let prefixes = prefixes_of(alloc, lists_of(alloc, rules, &star, Field::Prefixes)?)?;
     Ok(Listing {
         star,
         verbs,
@@ -102,7 +102,7 @@ pub(crate) fn listing_of(alloc: Global, rules: &[Rule]) -> Result<Listing, Alloc
         resources,
         names,
         urls,
-        fronts,
+        prefixes,
     })
 }
 
@@ -138,7 +138,7 @@ pub(crate) fn words_in<'a>(field: Field, rule: &'a Rule, star: &'a Word) -> &'a 
                 rule.resource_names.as_slice()
             }
         }
-        Field::Urls | Field::Fronts => rule.urls.as_slice(),
+        Field::Urls | Field::Prefixes => rule.urls.as_slice(),
     }
 }
 
@@ -158,7 +158,7 @@ fn list_all(
     Ok(())
 }
 
-// Lists a place for one word. One that has no front is put among the fronts, with no place.
+// Lists a place for one word. One that has no prefix is put among the prefixes, with no place.
 fn list_for(
     alloc: Global,
     lists: &mut BTreeMap<Word, Places>,
@@ -179,30 +179,30 @@ fn key_of(field: Field, word: &[u8]) -> Option<&[u8]>
     ensures { MatchOption result ((key : Text) → ¬ IsKey field word.now key) (λ key. IsKey field word.now key.now) }
 {
     match field {
-        Field::Fronts => front_of(word),
+        Field::Prefixes => prefix_of(word),
         _ => Some(word),
     }
 }
 
 // What stands before the stars at the end of a word, if there are some.
-fn front_of(word: &[u8]) -> Option<&[u8]>
-    ensures { MatchOption result ((front : Text) → ¬ IsFront word.now front) (λ front. IsFront word.now front.now) }
+fn prefix_of(word: &[u8]) -> Option<&[u8]>
+    ensures { MatchOption result ((prefix : Text) → ¬ IsPrefix word.now prefix) (λ prefix. IsPrefix word.now prefix.now) }
 {
     let Some(last) = without_star(word) else {
         return None;
     };
-    let mut front = last;
-    while let Some(before) = without_star(front) {
-        front = before;
+    let mut prefix = last;
+    while let Some(before) = without_star(prefix) {
+        prefix = before;
     }
-    Some(front)
+    Some(prefix)
 }
 
 // A word without the stars at its end, if it has some.
 pub(crate) fn stem_of(word: &[u8]) -> &[u8]
     ensures { IsStem word.now result.now }
 {
-    match front_of(word) {
+    match prefix_of(word) {
         Some(stem) => stem,
         None => word,
     }
@@ -257,7 +257,7 @@ pub(crate) fn under<'a>(lists: &'a BTreeMap<Word, Places>, word: &Word) -> &'a [
 }
 
 impl Listing {
-    // The places under the words of one list; fronts stand apart, beside their URLs.
+    // The places under the words of one list; prefixes stand apart, beside their URLs.
     pub(crate) fn lists(&self, field: Field) -> &BTreeMap<Word, Places>
         ensures { result.now ≡ lists_in field self.now }
     {
@@ -266,7 +266,7 @@ impl Listing {
             Field::Groups => &self.groups,
             Field::Resources => &self.resources,
             Field::Names => &self.names,
-            Field::Urls | Field::Fronts => &self.urls,
+            Field::Urls | Field::Prefixes => &self.urls,
         }
     }
 }

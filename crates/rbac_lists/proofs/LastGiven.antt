@@ -4,7 +4,7 @@ use Rattle.std.specs.List.{last_or, cons_option, filter_map}
 use Rattle.std.specs.Option.{option_or}
 use Rattle.std.proofs.lemmas.List.{append-nil, take_more}
 use Rattle.std.proofs.lemmas.List.Elements.{filter_map-append}
-use Rattle.rbac_lists.specs.declared.given.GivenLists.{GivenLists}
+use Rattle.rbac_lists.specs.declared.given_lists.GivenLists.{GivenLists}
 use Rattle.rbac_lists.specs.Meant.{last_given}
 
 last_pushed : {X : Type 0} (o : Option X) (xs : List X) (y : X) → last_or o (xs ++ y ∷ []) ≡ Some y

@@ -10,7 +10,7 @@ use Rattle.rbac_terms.specs.declared.granting.Subject.TheVariants.{User, Group, 
 use Rattle.rbac_model.specs.Policies.{Held}
 use Rattle.rbac_catalogue.specs.Catalogue.{CatalogueView}
 use Rattle.rbac_universe.specs.declared.lists.ListedResource.{ListedResource}
-use Rattle.rbac_lists.specs.declared.given.Account.{Account}
+use Rattle.rbac_lists.specs.declared.given_lists.Account.{Account}
 
 -- ---- principals
 
@@ -47,8 +47,8 @@ namespaces_of h names accounts =
 -- ---- rules, and their verbs
 
 -- the rules that are written in roles and in plain cluster roles; those in an aggregated one aren't looked at
-abbrev pub rules_of : Held → List Rule
-rules_of h = flat_map (λ r. r.rules) h.roles ++ flat_map (λ r. r.rules) (filter (λ r. is_none r.aggregation) h.cluster_roles)
+abbrev pub source_rules : Held → List Rule
+source_rules h = flat_map (λ r. r.rules) h.roles ++ flat_map (λ r. r.rules) (filter (λ r. is_none r.aggregation) h.cluster_roles)
 
 -- every verb but `*`
 abbrev pub is_verb : Text → Bool
@@ -56,7 +56,7 @@ is_verb verb = not (bytes_eq verb (codes "*"))
 
 -- the verbs of catalogue entries and of rules, other than `*`
 abbrev pub verbs_of : Held → CatalogueView → List Text
-verbs_of h c = filter is_verb (flat_map (λ e. e.verbs) c.entries ++ flat_map (λ r. r.verbs) (rules_of h))
+verbs_of h c = filter is_verb (flat_map (λ e. e.verbs) c.entries ++ flat_map (λ r. r.verbs) (source_rules h))
 
 -- ---- resources
 
@@ -87,13 +87,13 @@ rule_resources r = flat_map (group_resources r.resources) (filter (λ group. not
 -- the catalogue's resources, each with its own flag; where no API resource list was given, those of rules
 abbrev pub resources_of : Held → CatalogueView → List ListedResource
 resources_of h c =
-    if c.is_given then map (λ e. listed e.group e.name e.namespaced) c.entries else flat_map rule_resources (rules_of h)
+    if c.is_given then map (λ e. listed e.group e.name e.namespaced) c.entries else flat_map rule_resources (source_rules h)
 
 -- ---- names and URLs
 
 -- the empty name, and the object names of rules
 abbrev pub names_of : Held → List Text
-names_of h = [] ∷ flat_map (λ r. r.resource_names) (rules_of h)
+names_of h = [] ∷ flat_map (λ r. r.resource_names) (source_rules h)
 
 -- a text whose last byte is a `*`
 abbrev pub ends_in_star : Text → Bool
@@ -105,4 +105,4 @@ is_path_word word = begins_with_slash word && not (ends_in_star word)
 
 -- the URL words of rules that are paths
 abbrev pub urls_of : Held → List Text
-urls_of h = filter is_path_word (flat_map (λ r. r.urls) (rules_of h))
+urls_of h = filter is_path_word (flat_map (λ r. r.urls) (source_rules h))

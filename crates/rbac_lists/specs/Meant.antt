@@ -5,8 +5,8 @@ use Rattle.rbac_terms.specs.Text.{Text}
 use Rattle.rbac_model.specs.Policies.{Held}
 use Rattle.rbac_catalogue.specs.Catalogue.{CatalogueView}
 use Rattle.rbac_universe.specs.declared.lists.UniverseLists.{UniverseLists}
-use Rattle.rbac_lists.specs.declared.given.Account.{Account}
-use Rattle.rbac_lists.specs.declared.given.GivenLists.{GivenLists}
+use Rattle.rbac_lists.specs.declared.given_lists.Account.{Account}
+use Rattle.rbac_lists.specs.declared.given_lists.GivenLists.{GivenLists}
 use Rattle.rbac_lists.specs.Derived.{principals_of, namespaces_of, verbs_of, resources_of, names_of, urls_of}
 
 -- what the last of the documents that has a list gives

@@ -2,12 +2,12 @@
 //! catalogue, or given by Universe documents, list by list.
 #![tactic(auto)]
 
-mod derived;
-mod given;
-mod meant;
+mod derived_lists;
+mod given_lists;
 mod naming;
 mod principals;
 mod texts;
+mod universe_lists;
 
-pub use given::{Account, GivenLists};
-pub use meant::lists_of;
+pub use given_lists::{Account, GivenLists};
+pub use universe_lists::lists_of;

@@ -3,9 +3,9 @@
 ghost use Rattle.std.specs.Prelude.{◌≡◌, ◌++◌, List, OnOk, IfOk, filter, is_none};
 ghost use Rattle.std.specs.List.{flat_map};
 ghost use Rattle.rbac_terms.specs.declared.matching.Rule.{Rule};
-ghost use Rattle.rbac_lists.specs.Derived.{rules_of, rule_resources, group_resources, is_resource_text};
+ghost use Rattle.rbac_lists.specs.Derived.{source_rules, rule_resources, group_resources, is_resource_text};
 
-use crate::texts::{copied, has_star, is_resource_text, put_words};
+use crate::texts::{copy_of, has_star, is_resource_text, put_words};
 use rbac_model::Objects;
 use rbac_terms::{ClusterRole, Role, Rule, Word};
 use rbac_universe::ListedResource;
@@ -27,7 +27,7 @@ pub(crate) fn put_named<N: Naming>(
     objects: &Objects,
     list: &mut Vec<N::Item>,
 ) -> Result<(), AllocError>
-    ensures { OnOk result (list.new.items ≡ list.old.items ++ flat_map N.named (rules_of objects.now)) }
+    ensures { OnOk result (list.new.items ≡ list.old.items ++ flat_map N.named (source_rules objects.now)) }
 {
     put_of_roles::<N>(alloc, objects.roles(), list)?;
     put_of_cluster_roles::<N>(alloc, objects.cluster_roles(), list)?;
@@ -160,8 +160,8 @@ pub(crate) fn listed(
     ensures { IfOk result (λ r. r ≡ record { group = group.now; text = text.now; namespaced = namespaced }) }
 {
     Ok(ListedResource {
-        group: copied(alloc, group)?,
-        text: copied(alloc, text)?,
+        group: copy_of(alloc, group)?,
+        text: copy_of(alloc, text)?,
         namespaced,
     })
 }

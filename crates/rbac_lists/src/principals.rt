@@ -6,7 +6,7 @@ ghost use Rattle.std.specs.Option.{option_copied};
 ghost use Rattle.rbac_terms.specs.Principals.{AsUser, AsMember};
 ghost use Rattle.rbac_lists.specs.Derived.{named, subject_principal, account_principal};
 
-use crate::given::Account;
+use crate::given_lists::Account;
 use rbac_terms::{Binding, ModelFault, Principal, Subject, Word, Words, account_user};
 use std::alloc::{AllocError, Global};
 
@@ -20,7 +20,7 @@ pub(crate) fn put_subjects(
         ++ filter_map (subject_principal binding.now.namespace) binding.now.subjects) }
 {
     for subject in binding.subjects.as_slice() {
-        if let Some(principal) = principal_of(alloc, binding.namespace.as_ref(), subject)? {
+        if let Some(principal) = subject_principal(alloc, binding.namespace.as_ref(), subject)? {
             list.push(principal)?;
         }
     }
@@ -43,7 +43,7 @@ pub(crate) fn put_accounts(
 }
 
 // The principal of a subject of a binding in that namespace, or in none.
-fn principal_of(
+fn subject_principal(
     alloc: Global,
     binding_namespace: Option<&Word>,
     subject: &Subject,

@@ -6,8 +6,8 @@ ghost use Rattle.rbac_lists.specs.Derived.{is_verb, has_star, begins_with_slash,
 use rbac_terms::Word;
 use std::alloc::{AllocError, Global};
 
-// A derived clone tells callers of its parts, a copy made so only of its bytes.
-pub(crate) fn copied(alloc: Global, word: &Word) -> Result<Word, AllocError>
+// A copy whose contract speaks of its bytes alone; a derived clone's speaks of its parts.
+pub(crate) fn copy_of(alloc: Global, word: &Word) -> Result<Word, AllocError>
     ensures { IfOk result (λ copy. copy ≡ word.now) }
 {
     Word::from_slice(alloc, word.as_bytes())
@@ -22,7 +22,7 @@ pub(crate) fn put_words(
     ensures { OnOk result (list.new.items ≡ list.old.items ++ words.now) }
 {
     for word in words {
-        list.push(copied(alloc, word)?)?;
+        list.push(copy_of(alloc, word)?)?;
     }
     Ok(())
 }

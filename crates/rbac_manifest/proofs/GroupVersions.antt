@@ -23,9 +23,9 @@ parts-one [] lacks = refl
 parts-one (b ∷ t) lacks = rw (no_slash_first b t lacks, parts-one t (no_slash_behind b t lacks)) refl
 
 -- what stands before the first slash is the first part
-parts-cut : (front rest : Text) → ¬ Contains front slash → parts (front ++ slash ∷ rest) ≡ front ∷ parts rest
+parts-cut : (prefix rest : Text) → ¬ Contains prefix slash → parts (prefix ++ slash ∷ rest) ≡ prefix ∷ parts rest
 parts-cut [] rest lacks = refl
-parts-cut (b ∷ front) rest lacks = rw (no_slash_first b front lacks, parts-cut front rest (no_slash_behind b front lacks)) refl
+parts-cut (b ∷ prefix) rest lacks = rw (no_slash_first b prefix lacks, parts-cut prefix rest (no_slash_behind b prefix lacks)) refl
 
 -- there is always a part
 some_part : (t : Text) → (first : Text) × (others : List Text) × (parts t ≡ first ∷ others)

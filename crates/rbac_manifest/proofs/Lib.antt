@@ -1,7 +1,9 @@
+pub mod Beside
 pub mod Elements
 pub mod Faults
-pub mod Gathering
+pub mod ContentsLemmas
 pub mod GroupVersions
+pub mod ItemsAhead
 pub mod Json
 pub mod Members
 pub mod OneLoad

@@ -1,6 +1,6 @@
 -- what is loaded is one, and its fault is one; loaded inputs have none
 use Rattle.std.proofs.Common.{◌≡◌, ℕ, List, Option, Some, None, inl, inr, length, subst, ap, arith, sym, ◌∙◌}
-use Rattle.rbac_model.specs.declared.holding.Object.{Object}
+use Rattle.rbac_model.specs.declared.objects.Object.{Object}
 use Rattle.rbac_model.specs.Kept.{AreKept}
 use Rattle.rbac_model.specs.Policies.{Held, IsHeld, GrantView, AreGrantsOf, OneListOfGrants}
 use Rattle.rbac_catalogue.specs.Catalogue.{CatalogueView}
@@ -8,12 +8,12 @@ use Rattle.rbac_universe.specs.declared.lists.UniverseLists.{UniverseLists}
 use Rattle.rbac_lists.specs.Meant.{lists_meant}
 use Rattle.rbac_terms.specs.Text.{Text}
 use Rattle.rbac_model.proofs.OneList.{one_list}
-use Rattle.rbac_manifest.specs.declared.replaced.Replaced.{Replaced}
+use Rattle.rbac_manifest.specs.declared.replacement.Replaced.{Replaced}
 use Rattle.rbac_manifest.specs.Names.{names_given}
 use Rattle.rbac_manifest.specs.Replaced.{replaced_name, AreReplaced}
 use Rattle.rbac_manifest.specs.declared.fault.LoadFault.{LoadFault}
-use Rattle.rbac_manifest.specs.Load.{LoadedView, IsLoaded, HasFault, document_fault, given}
-use Rattle.rbac_manifest.specs.Gathered.{objects_in, namespaces_in, accounts_in, documents_in}
+use Rattle.rbac_manifest.specs.Load.{LoadedView, IsLoaded, HasFault, document_fault, all_contents}
+use Rattle.rbac_manifest.specs.Contents.{objects_in, namespaces_in, accounts_in, documents_in}
 
 abbrev pub KeptIsOne : Type 0
 KeptIsOne = (os : List Object) (held : Held) (others : Held) → AreKept os held → AreKept os others → held ≡ others
@@ -28,13 +28,13 @@ pub no_fault : KeptIsOne → GrantsAreOne → (inputs : List (List ℕ)) (l : Lo
 no_fault kept grants inputs l f loaded fault = elim fault [
   | inl e ↦ not_both (document_fault inputs) f loaded.accepted e
   | inr w ↦
-      let held : w.2.0 ≡ l.policy.held = kept (objects_in (given inputs)) w.2.0 l.policy.held w.2.1 loaded.kept in
+      let held : w.2.0 ≡ l.policy.held = kept (objects_in (all_contents inputs)) w.2.0 l.policy.held w.2.1 loaded.kept in
       let P : Held → Type 0 = λ h. AreGrantsOf h h.bindings w.2.2.0 in
       let same = grants l.policy.held loaded.policy.0 w.2.2.0 l.policy.grants (subst P held w.2.2.1) loaded.policy.1 in
       omega (arith, ap length same, w.2.2.2, loaded.few)
 ]
 
--- what is held, and its grants, tell a policy, and these with the catalogue, the lists and what was replaced what is loaded
+-- what is held, and its grants, determine a policy; these, with the catalogue, the lists and what was replaced, determine what is loaded
 loaded_of : Held → List GrantView → CatalogueView → UniverseLists → List Replaced → LoadedView
 loaded_of held grants catalogue lists replaced = record { policy = record { held = held; grants = grants }; catalogue = catalogue; lists = lists; replaced = replaced }
 
@@ -53,15 +53,15 @@ one_replaced names a b p q = one_list replaced_name a b p.ordered q.ordered (λ 
 
 pub one_load : KeptIsOne → GrantsAreOne → (inputs : List (List ℕ)) (l m : LoadedView) → IsLoaded inputs l → IsLoaded inputs m → l ≡ m
 one_load kept grants inputs l m a b =
-    let held : l.policy.held ≡ m.policy.held = kept (objects_in (given inputs)) l.policy.held m.policy.held a.kept b.kept in
+    let held : l.policy.held ≡ m.policy.held = kept (objects_in (all_contents inputs)) l.policy.held m.policy.held a.kept b.kept in
     let P : Held → Type 0 = λ h. AreGrantsOf h h.bindings l.policy.grants in
     let listed : l.policy.grants ≡ m.policy.grants = grants m.policy.held b.policy.0 l.policy.grants m.policy.grants (subst P held a.policy.1) b.policy.1 in
     let found : l.catalogue ≡ m.catalogue = a.catalogue ∙ sym b.catalogue in
     let meant : (h : Held) (c : CatalogueView) → UniverseLists =
-    λ h c. lists_meant h c (namespaces_in (given inputs)) (accounts_in (given inputs)) (documents_in (given inputs)) in
+    λ h c. lists_meant h c (namespaces_in (all_contents inputs)) (accounts_in (all_contents inputs)) (documents_in (all_contents inputs)) in
     same_loaded l m held listed found
     (a.lists ∙ ap (λ (h : Held). meant h l.catalogue) held ∙ ap (λ (c : CatalogueView). meant m.policy.held c) found ∙ sym b.lists)
-    (one_replaced (names_given (objects_in (given inputs)) (namespaces_in (given inputs)) (accounts_in (given inputs))) l.replaced m.replaced a.replaced b.replaced)
+    (one_replaced (names_given (objects_in (all_contents inputs)) (namespaces_in (all_contents inputs)) (accounts_in (all_contents inputs))) l.replaced m.replaced a.replaced b.replaced)
 
 same_fault : (o : Option LoadFault) (f g : LoadFault) → o ≡ Some f → o ≡ Some g → f ≡ g
 same_fault o f g a b = cc

@@ -17,10 +17,11 @@ use Rattle.std.proofs.lemmas.List.Sorted.{sorted_far, sum_by-IsPermutation}
 use Rattle.std.proofs.lemmas.List.Quantifiers.{all_pairs_push}
 use Rattle.std.proofs.lemmas.List.Elements.{Contains-append_cases, Contains-append_left, Contains-append_right, Contains-get_or}
 use Rattle.rbac_terms.specs.Text.{Text}
+use Rattle.rbac_terms.proofs.Cases.{by_ordering}
 use Rattle.rbac_model.specs.Lists.{IsCount, IsAscendingBy, by_name}
-use Rattle.rbac_model.proofs.NamePlaces.{same_name, equal_from_name, by_ordering, total}
+use Rattle.rbac_model.proofs.NamePlaces.{same_name, equal_from_name, total}
 use Rattle.rbac_model.proofs.LastNamed.{ranks}
-use Rattle.rbac_manifest.specs.declared.replaced.Replaced.{Replaced}
+use Rattle.rbac_manifest.specs.declared.replacement.Replaced.{Replaced}
 use Rattle.rbac_manifest.specs.Names.{name_cmp}
 use Rattle.rbac_manifest.specs.Replaced.{replaced_name, replaced_by, AreReplaced}
 
@@ -211,30 +212,30 @@ pairs_append xs (y ∷ z ∷ ys) l up cross = absurd (omega (arith, l))
 
 -- ---- run after run
 
--- of the names, all but the rest are told, and less than the rest
-record IsTold (names rest : List Name) (rs : List Replaced) : Type 0 where
+-- of the names, all but the rest are seen, and less than the rest
+record HasListed (names rest : List Name) (rs : List Replaced) : Type 0 where
   pub seen : List Name
   pub whole : names ≡ seen ++ rest
-  pub told : AreReplaced seen rs
+  pub listed : AreReplaced seen rs
   pub below : (x y : Name) → Contains seen x → Contains rest y → name_cmp x y ≡ Less
 
-none_told : (names : List Name) → IsTold names names []
-none_told names = record {
+none_listed : (names : List Name) → HasListed names names []
+none_listed names = record {
   seen = [];
   whole = refl;
-  told = record {
+  listed = record {
     ordered = λ i j d lt l. absurd (omega (arith, l));
     exact = λ r. (λ w. absurd (omega (arith, w.1)), λ w. absurd (omega (arith, w.1)));
   };
   below = λ x y w v. absurd (omega (arith, w.1));
 }
 
-all_told : (names rest : List Name) (rs : List Replaced) → length rest ≡ 0 → IsTold names rest rs → AreReplaced names rs
-all_told names [] rs l is = let P : List Name → Type 0 = λ ns. AreReplaced ns rs in subst P (sym (is.whole ∙ append-nil is.seen)) is.told
-all_told names (n ∷ rest) rs l is = absurd (omega (arith, l))
+all_listed : (names rest : List Name) (rs : List Replaced) → length rest ≡ 0 → HasListed names rest rs → AreReplaced names rs
+all_listed names [] rs l is = let P : List Name → Type 0 = λ ns. AreReplaced ns rs in subst P (sym (is.whole ∙ append-nil is.seen)) is.listed
+all_listed names (n ∷ rest) rs l is = absurd (omega (arith, l))
 
 -- one more run, of names that are k
-module _ (seen : List Name) (rs : List Replaced) (told : AreReplaced seen rs) (k : Name) (r : List Name) (same : (x : Name) → Contains (k ∷ r) x → x ≡ k) (below : (x : Name) → Contains seen x → name_cmp x k ≡ Less) where
+module _ (seen : List Name) (rs : List Replaced) (listed : AreReplaced seen rs) (k : Name) (r : List Name) (same : (x : Name) → Contains (k ∷ r) x → x ≡ k) (below : (x : Name) → Contains seen x → name_cmp x k ≡ Less) where
   abbrev run : List Name
   run = k ∷ r
 
@@ -247,12 +248,12 @@ module _ (seen : List Name) (rs : List Replaced) (told : AreReplaced seen rs) (k
   of_run : IsCount (λ t. t ≡ k) (seen ++ run) (length run)
   of_run = count_as k (seen ++ run) (0 + length run) (length run) (omega arith) (count_append k seen run 0 (length run) unseen (count_all k run same))
 
-  told_more : (x : Replaced) → Contains (rs ++ replaced_by run) x → (0 < x.earlier) × IsCount (λ n. n ≡ replaced_name x) (seen ++ run) (x.earlier + 1)
+  listed_more : (x : Replaced) → Contains (rs ++ replaced_by run) x → (0 < x.earlier) × IsCount (λ n. n ≡ replaced_name x) (seen ++ run) (x.earlier + 1)
   unfolding Gives
-  told_more x w = elim (Contains-append_cases rs (replaced_by run) x w) [
+  listed_more x w = elim (Contains-append_cases rs (replaced_by run) x w) [
     | inl was ↦
         let q : Name = replaced_name x in
-        let before = (told.exact x).0 was in
+        let before = (listed.exact x).0 was in
         let ne : q ≢ k = less_differs q k (below q (count_there q seen x.earlier before.1)) in
         (before.0, count_as q (seen ++ run) (x.earlier + 1 + 0) (x.earlier + 1) (omega arith) (count_append q seen run (x.earlier + 1) 0 before.1 (other_in_run q (λ e. ne (sym e)))))
     | inr new ↦
@@ -261,14 +262,14 @@ module _ (seen : List Name) (rs : List Replaced) (told : AreReplaced seen rs) (k
         (g.2, subst P g.0 (count_as k (seen ++ run) (length run) (x.earlier + 1) g.1 of_run))
   ]
 
-  more_told : (x : Replaced) → 0 < x.earlier → IsCount (λ n. n ≡ replaced_name x) (seen ++ run) (x.earlier + 1) → Contains (rs ++ replaced_by run) x
-  more_told x some count =
+  more_listed : (x : Replaced) → 0 < x.earlier → IsCount (λ n. n ≡ replaced_name x) (seen ++ run) (x.earlier + 1) → Contains (rs ++ replaced_by run) x
+  more_listed x some count =
       let q : Name = replaced_name x in
       let other : k ≢ q → Contains (rs ++ replaced_by run) x = λ ne. (
       let before = count_by (λ t. is_eq (name_cmp t q)) seen in
       let all = count_append q seen run before 0 (counted q seen) (other_in_run q ne) in
       let n : before ≡ x.earlier + 1 = omega (arith, one_count q (seen ++ run) (before + 0) (x.earlier + 1) all count) in
-      Contains-append_left rs (replaced_by run) x ((told.exact x).1 (some, count_as q seen before (x.earlier + 1) n (counted q seen)))) in
+      Contains-append_left rs (replaced_by run) x ((listed.exact x).1 (some, count_as q seen before (x.earlier + 1) n (counted q seen)))) in
       by_ordering (name_cmp k q)
       (λ e. other (less_differs k q e))
       (λ e.
@@ -279,21 +280,21 @@ module _ (seen : List Name) (rs : List Replaced) (told : AreReplaced seen rs) (k
       Contains-append_right rs (replaced_by run) x (subst Q (sym is) (has x r (omega (arith, n)) some)))
       (λ e. other (λ t. let tied = tied_names k q t in cc))
 
-  run_told : AreReplaced (seen ++ run) (rs ++ replaced_by run)
+  run_listed : AreReplaced (seen ++ run) (rs ++ replaced_by run)
   unfolding Gives
-  run_told = record {
-    ordered = pairs_append rs (replaced_by run) (at_most_one k r) told.ordered
+  run_listed = record {
+    ordered = pairs_append rs (replaced_by run) (at_most_one k r) listed.ordered
         (λ x y a b.
         let q : Name = replaced_name x in
         let g : Gives k (length run) y = gives k r y b in
-        let less = below q (count_there q seen x.earlier ((told.exact x).0 a).1) in
+        let less = below q (count_there q seen x.earlier ((listed.exact x).0 a).1) in
         ap (λ (n : Name). name_cmp q n) (sym g.0) ∙ less);
-    exact = λ x. (told_more x, λ w. more_told x w.0 w.1);
+    exact = λ x. (listed_more x, λ w. more_listed x w.0 w.1);
   }
 
 -- one more run
-step_to : (names rest more : List Name) (rs : List Replaced) (k : Name) (r : List Name) → NotFalling names → IsTold names rest rs → rest ≡ (k ∷ r) ++ more
-    → IsChunkByPrefix alike rest (length (k ∷ r)) → IsTold names more (rs ++ replaced_by (k ∷ r))
+step_to : (names rest more : List Name) (rs : List Replaced) (k : Name) (r : List Name) → NotFalling names → HasListed names rest rs → rest ≡ (k ∷ r) ++ more
+    → IsChunkByPrefix alike rest (length (k ∷ r)) → HasListed names more (rs ++ replaced_by (k ∷ r))
 step_to names rest more rs k r up is parts chunk =
     let P : List Name → Type 0 = λ ns. IsChunkByPrefix alike ns (length (k ∷ r)) in
     let run : List Name = k ∷ r in
@@ -307,37 +308,37 @@ step_to names rest more rs k r up is parts chunk =
     record {
       seen = is.seen ++ run;
       whole = whole ∙ sym (append_assoc is.seen run more);
-      told = run_told is.seen rs is.told k r same below;
+      listed = run_listed is.seen rs is.listed k r same below;
       below = λ x y w v. elim (Contains-append_cases is.seen run x w) [
         | inl before ↦ is.below x y before (there y (Contains-append_right run more y v))
         | inr now ↦ let Q : Name → Type 0 = λ n. name_cmp n y ≡ Less in subst Q (sym (same x now)) (later y v)
       ];
     }
 
-one_more_run : (names rest more run : List Name) (rs : List Replaced) → NotFalling names → IsTold names rest rs → rest ≡ run ++ more → 0 < length run
-    → IsChunkByPrefix alike rest (length run) → IsTold names more (rs ++ replaced_by run)
+one_more_run : (names rest more run : List Name) (rs : List Replaced) → NotFalling names → HasListed names rest rs → rest ≡ run ++ more → 0 < length run
+    → IsChunkByPrefix alike rest (length run) → HasListed names more (rs ++ replaced_by run)
 one_more_run names rest more [] rs up is parts some chunk = absurd (omega (arith, some))
 one_more_run names rest more (k ∷ r) rs up is parts some chunk = step_to names rest more rs k r up is parts chunk
 
 -- `chunk_by` cuts names into these runs
 module _ {F : Type 0} (g : Mut F (Bor Name × (Bor Name × Unit {0})) Bool) (names : List Name) (up : NotFalling names) where
-  each_run : (runs : List (Bor (List Name))) (rs : List Replaced) (s t : _) → ComputesOnPairs g alike (chunk_by_callee s) → IsTold names (chunk_by_rest s) rs → Yields (chunk_by_steps g) s runs t
-      → IsTold names (chunk_by_rest t) (rs ++ flat_map (λ run. replaced_by run.now) runs)
+  each_run : (runs : List (Bor (List Name))) (rs : List Replaced) (s t : _) → ComputesOnPairs g alike (chunk_by_callee s) → HasListed names (chunk_by_rest s) rs → Yields (chunk_by_steps g) s runs t
+      → HasListed names (chunk_by_rest t) (rs ++ flat_map (λ run. replaced_by run.now) runs)
   each_run [] rs s t tests is y =
-      let P : List Name → Type 0 = λ rest. IsTold names rest rs in
-      let Q : List Replaced → Type 0 = λ v. IsTold names (chunk_by_rest t) v in
+      let P : List Name → Type 0 = λ rest. HasListed names rest rs in
+      let Q : List Replaced → Type 0 = λ v. HasListed names (chunk_by_rest t) v in
       subst Q (sym (append-nil rs)) (subst P (ap chunk_by_rest y) is)
   each_run (run ∷ runs) rs s t tests is y =
       let cut = y.1.2 alike tests in
-      let told = one_more_run names (chunk_by_rest s) (chunk_by_rest y.0) run.now rs up is y.1.0 y.1.1 cut.1 in
-      let Q : List Replaced → Type 0 = λ v. IsTold names (chunk_by_rest t) v in
-      subst Q (append_assoc rs (replaced_by run.now) (flat_map (λ r. replaced_by r.now) runs)) (each_run runs (rs ++ replaced_by run.now) y.0 t cut.0 told y.2)
+      let listed = one_more_run names (chunk_by_rest s) (chunk_by_rest y.0) run.now rs up is y.1.0 y.1.1 cut.1 in
+      let Q : List Replaced → Type 0 = λ v. HasListed names (chunk_by_rest t) v in
+      subst Q (append_assoc rs (replaced_by run.now) (flat_map (λ r. replaced_by r.now) runs)) (each_run runs (rs ++ replaced_by run.now) y.0 t cut.0 listed y.2)
 
 pub all_runs : {F : Type 0} {g : Mut F (Bor Name × (Bor Name × Unit {0})) Bool} (names : List Name) (runs : List (Bor (List Name))) (s t : _) → Yields (chunk_by_steps g) s runs t → IsSorted name_cmp names
     → chunk_by_rest s ≡ names → ComputesOnPairs g alike (chunk_by_callee s) → length (chunk_by_rest t) ≡ 0 → AreReplaced names (flat_map (λ run. replaced_by run.now) runs)
 all_runs {F} {g} names runs s t y up e tests l =
-    let P : List Name → Type 0 = λ rest. IsTold names rest [] in
-    all_told names (chunk_by_rest t) (flat_map (λ run. replaced_by run.now) runs) l (each_run g names (not_falling names up) runs [] s t tests (subst P (sym e) (none_told names)) y)
+    let P : List Name → Type 0 = λ rest. HasListed names rest [] in
+    all_listed names (chunk_by_rest t) (flat_map (λ run. replaced_by run.now) runs) l (each_run g names (not_falling names up) runs [] s t tests (subst P (sym e) (none_listed names)) y)
 
 -- ---- sorted or not
 
@@ -351,8 +352,8 @@ as_often q names sorted n moved =
       λ c. count_as q sorted (sum_by f sorted) n (same ∙ one_count q names (sum_by f names) n in_names c) in_sorted,
     )
 
-pub sorted_told : (names sorted : List Name) (rs : List Replaced) → IsPermutation names sorted → AreReplaced sorted rs → AreReplaced names rs
-sorted_told names sorted rs moved are = record {
+pub sorted_listed : (names sorted : List Name) (rs : List Replaced) → IsPermutation names sorted → AreReplaced sorted rs → AreReplaced names rs
+sorted_listed names sorted rs moved are = record {
   ordered = are.ordered;
   exact = λ r.
       let often = as_often (replaced_name r) names sorted (r.earlier + 1) moved in (

@@ -7,8 +7,8 @@ use Rattle.rbac_manifest.specs.Fields.{all_texts, is_text, text_in}
 use Rattle.rbac_manifest.specs.Lists.{all_at, cons_if}
 
 -- what was read so far, before what the rest gives
-abbrev pub with_front : {A : Type 0} → List A → Option (List A) → Option (List A)
-with_front front rest = option_map (λ xs. front ++ xs) rest
+abbrev pub with_prefix : {A : Type 0} → List A → Option (List A) → Option (List A)
+with_prefix prefix rest = option_map (λ xs. prefix ++ xs) rest
 
 one_more : (o : Option (List ℕ)) (b : Bool) (ts : List (List ℕ))
     → cond (is_some o && b) (Some (unwrap_or o [] ∷ ts)) None ≡ cons_if o (cond b (Some ts) None)

@@ -1,7 +1,7 @@
 -- The table of a document's refusals, and what a document gives.
 use Rattle.std.specs.Prelude.{ℕ, ◌||◌, Bool, true, false, not, List, [], ◌∷◌, codes, Option, Some, None, option_map, option_and_then, unwrap_or, is_none, if◌then◌else◌}
 use Rattle.serde_json.specs.Data.{Data}
-use Rattle.rbac_model.specs.declared.holding.Object.TheVariants as object
+use Rattle.rbac_model.specs.declared.objects.Object.TheVariants as object
 use Rattle.rbac_terms.specs.declared.matching.Rule.{Rule}
 use Rattle.rbac_terms.specs.declared.selecting.Selector.{Selector}
 use Rattle.rbac_terms.specs.declared.granting.RoleRef.{RoleRef}
@@ -9,7 +9,7 @@ use Rattle.rbac_terms.specs.declared.granting.Role.{Role}
 use Rattle.rbac_terms.specs.declared.granting.ClusterRole.{ClusterRole}
 use Rattle.rbac_terms.specs.declared.granting.Binding.{Binding}
 use Rattle.rbac_terms.specs.declared.granting.Subject.{Subject}
-use Rattle.rbac_lists.specs.declared.given.Account.{Account}
+use Rattle.rbac_lists.specs.declared.given_lists.Account.{Account}
 use Rattle.rbac_manifest.specs.Fields.{is_object, is_empty}
 use Rattle.rbac_manifest.specs.Kinds.{kind_at, version_at, kind_of}
 use Rattle.rbac_manifest.specs.Role.{bad_rules, rules_in}
@@ -19,8 +19,8 @@ use Rattle.rbac_manifest.specs.Binding.{role_ref_at, bad_subjects, subjects_in}
 use Rattle.rbac_manifest.specs.ApiList.{entries_at}
 use Rattle.rbac_manifest.specs.UniverseDocument.{given_lists_at}
 use Rattle.rbac_manifest.specs.declared.metadata.Metadata.{Metadata}
-use Rattle.rbac_manifest.specs.declared.given.Given.{Given}
-use Rattle.rbac_manifest.specs.declared.given.Given.TheVariants as givens
+use Rattle.rbac_manifest.specs.declared.content.Content.{Content}
+use Rattle.rbac_manifest.specs.declared.content.Content.TheVariants as contents
 use Rattle.rbac_manifest.specs.declared.kind.Kind.{Kind}
 use Rattle.rbac_manifest.specs.declared.kind.Kind.TheVariants as kinds
 use Rattle.rbac_manifest.specs.declared.kind.Implied.{Implied}
@@ -153,18 +153,18 @@ abbrev pub account_from : Metadata → Account
 account_from m = record { namespace = namespace_or_default m.namespace; name = m.name }
 
 -- what a document of this kind gives; of a Namespace its name alone
-abbrev pub given_in : Kind → Data → Option Given
-given_in kinds.Role d = option_map (λ r. givens.Object (object.Role r)) (role_in d)
-given_in kinds.ClusterRole d = option_map (λ r. givens.Object (object.ClusterRole r)) (cluster_role_in d)
-given_in kinds.RoleBinding d = option_map (λ b. givens.Object (object.Binding b)) (binding_in true d)
-given_in kinds.ClusterRoleBinding d = option_map (λ b. givens.Object (object.Binding b)) (binding_in false d)
-given_in kinds.Namespace d = option_map (λ m. givens.Namespace m.name) (metadata_at d)
-given_in kinds.ServiceAccount d = option_map (λ m. givens.Account (account_from m)) (metadata_at d)
-given_in kinds.ApiList d = option_map givens.ApiList (entries_at d)
-given_in kinds.Universe d = option_map givens.Lists (given_lists_at d)
-given_in (kinds.List items) d = None
-given_in kinds.Other d = None
+abbrev pub content_in : Kind → Data → Option Content
+content_in kinds.Role d = option_map (λ r. contents.Object (object.Role r)) (role_in d)
+content_in kinds.ClusterRole d = option_map (λ r. contents.Object (object.ClusterRole r)) (cluster_role_in d)
+content_in kinds.RoleBinding d = option_map (λ b. contents.Object (object.Binding b)) (binding_in true d)
+content_in kinds.ClusterRoleBinding d = option_map (λ b. contents.Object (object.Binding b)) (binding_in false d)
+content_in kinds.Namespace d = option_map (λ m. contents.Namespace m.name) (metadata_at d)
+content_in kinds.ServiceAccount d = option_map (λ m. contents.Account (account_from m)) (metadata_at d)
+content_in kinds.ApiList d = option_map contents.ApiList (entries_at d)
+content_in kinds.Universe d = option_map contents.Lists (given_lists_at d)
+content_in (kinds.List items) d = None
+content_in kinds.Other d = None
 
 -- what a document gives, if it gives anything
-unfoldable pub stands : Implied → Data → Option Given
-stands implied d = given_in (kind_of implied d) d
+unfoldable pub stands : Implied → Data → Option Content
+stands implied d = content_in (kind_of implied d) d

@@ -3,7 +3,8 @@ pub mod Binding
 pub mod Document
 pub mod FaultTexts
 pub mod Fields
-pub mod Gathered
+pub mod Contents
+pub mod ItemsAhead
 pub mod Kinds
 pub mod Label
 pub mod Lists

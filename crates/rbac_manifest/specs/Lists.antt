@@ -46,7 +46,7 @@ abbrev pub trouble_with : ItemFault → Trouble
 trouble_with (Bad place) = Shape
 trouble_with WithoutMemory = Memory
 
--- All items were read, and so none is bad; or the first bad one is told; want of memory aside.
+-- All items were read, and so none is bad; or the first bad one is named; out of memory aside.
 abbrev pub ReadsAll : {X : Type 0} → Result (Vec X Global) ItemFault → (Data → Option X) → List Data → Type 0
 ReadsAll (Ok xs) read ds = (all_at read ds ≡ Some xs.items) × (bad_place read 0 ds ≡ None) × (given_by read ds ≡ xs.items)
 ReadsAll (Err (Bad place)) read ds = (all_at read ds ≡ None) × (bad_place read 0 ds ≡ Some place)

@@ -3,27 +3,29 @@ use Rattle.std.specs.Prelude.{◌≡◌, ◌⊎◌, ◌≤◌, ℕ, ◌+◌, Lis
 use Rattle.std.specs.Option.{option_to_list}
 use Rattle.std.specs.List.{flat_map}
 use Rattle.std.specs.Str.{is_utf8}
+use Rattle.json_list.specs.declared.fault.ReadFault.{ReadFault}
+use Rattle.json_list.specs.declared.fault.ReadFault.TheVariants as unread
 use Rattle.serde_json.specs.Data.{Data}
 use Rattle.serde_json.specs.Read.{read}
 use Rattle.rbac_manifest.specs.Fields.{list_field}
 use Rattle.rbac_manifest.specs.Kinds.{kind_of}
-use Rattle.rbac_manifest.specs.Document.{fault, stands, given_in}
-use Rattle.rbac_manifest.specs.Gathered.{objects_in, namespaces_in, accounts_in, catalogue_in, documents_in}
+use Rattle.rbac_manifest.specs.Document.{fault, stands, content_in}
+use Rattle.rbac_manifest.specs.Contents.{objects_in, namespaces_in, accounts_in, catalogue_in, documents_in}
 use Rattle.rbac_catalogue.specs.Catalogue.{CatalogueView}
 use Rattle.rbac_universe.specs.declared.lists.UniverseLists.{UniverseLists}
 use Rattle.rbac_lists.specs.Meant.{lists_meant}
 use Rattle.rbac_model.specs.Kept.{AreKept}
-use Rattle.rbac_model.specs.Policies.{Held, PolicyView, IsPolicy, HasTooMany}
+use Rattle.rbac_model.specs.Policies.{Held, PolicyView, IsPolicy, HasTooMany, most_grants}
 use Rattle.rbac_manifest.specs.Names.{names_given}
 use Rattle.rbac_manifest.specs.Replaced.{AreReplaced}
-use Rattle.rbac_manifest.specs.declared.replaced.Replaced.{Replaced}
-use Rattle.rbac_manifest.specs.declared.given.Given.{Given}
+use Rattle.rbac_manifest.specs.declared.replacement.Replaced.{Replaced}
+use Rattle.rbac_manifest.specs.declared.content.Content.{Content}
 use Rattle.rbac_manifest.specs.declared.kind.Kind.{Kind}
 use Rattle.rbac_manifest.specs.declared.kind.Kind.TheVariants as kinds
 use Rattle.rbac_manifest.specs.declared.kind.Implied.{Implied}
 use Rattle.rbac_manifest.specs.declared.kind.Implied.TheVariants as lists
 use Rattle.rbac_manifest.specs.declared.fault.Cause.{Cause}
-use Rattle.rbac_manifest.specs.declared.fault.Cause.TheVariants.{NotAnObject, NotJson, TooMany}
+use Rattle.rbac_manifest.specs.declared.fault.Cause.TheVariants.{NotAnObject, NotJson, TooMany, NoMemory}
 use Rattle.rbac_manifest.specs.declared.fault.Refusal.{Refusal}
 use Rattle.rbac_manifest.specs.declared.fault.LoadFault.{LoadFault}
 
@@ -48,8 +50,8 @@ first_refusal implied place [] = None
 first_refusal implied place (d ∷ ds) = item_or place (fault implied d) (first_refusal implied (place + 1) ds)
 
 -- what the items give
-abbrev pub given_by_items : Implied → List Data → List Given
-given_by_items implied ds = flat_map (λ d. option_to_list (stands implied d)) ds
+abbrev pub contents_of_items : Implied → List Data → List Content
+contents_of_items implied ds = flat_map (λ d. option_to_list (stands implied d)) ds
 
 -- why a list is refused: its items aren't a list (M2), or an item has a fault
 abbrev pub list_refusal : Implied → Option (List Data) → Option Refusal
@@ -57,9 +59,9 @@ list_refusal implied None = Some (as_whole NotAnObject)
 list_refusal implied (Some ds) = first_refusal implied 0 ds
 
 -- what a list gives
-abbrev pub given_by_list : Implied → Option (List Data) → List Given
-given_by_list implied None = []
-given_by_list implied (Some ds) = given_by_items implied ds
+abbrev pub contents_of_list : Implied → Option (List Data) → List Content
+contents_of_list implied None = []
+contents_of_list implied (Some ds) = contents_of_items implied ds
 
 -- why an input is refused for its items, where it is a list
 abbrev pub items_refusal : Kind → Data → Option Refusal
@@ -67,9 +69,9 @@ items_refusal (kinds.List implied) d = list_refusal implied (list_field (codes "
 items_refusal kind d = None
 
 -- what an input of this kind gives
-abbrev pub given_by_body : Kind → Data → List Given
-given_by_body (kinds.List implied) d = given_by_list implied (list_field (codes "items") d)
-given_by_body kind d = option_to_list (given_in kind d)
+abbrev pub contents_of_body : Kind → Data → List Content
+contents_of_body (kinds.List implied) d = contents_of_list implied (list_field (codes "items") d)
+contents_of_body kind d = option_to_list (content_in kind d)
 
 -- a fault of the whole input, or else of its items
 abbrev pub whole_or : Option Cause → Option Refusal → Option Refusal
@@ -81,8 +83,8 @@ unfoldable pub refusal_in : Data → Option Refusal
 refusal_in d = whole_or (fault lists.Nothing d) (items_refusal (kind_of lists.Nothing d) d)
 
 -- what an input gives
-unfoldable pub given_by_input : Data → List Given
-given_by_input d = given_by_body (kind_of lists.Nothing d) d
+unfoldable pub contents_of_input : Data → List Content
+contents_of_input d = contents_of_body (kind_of lists.Nothing d) d
 
 -- ---- all inputs
 
@@ -94,23 +96,28 @@ json_in bytes = if is_utf8 bytes then read bytes else None
 abbrev pub in_file : ℕ → Refusal → LoadFault
 in_file file r = record { at = Some (record { file = file; item = r.item }); cause = r.cause }
 
+-- why a text is refused that wasn't read
+abbrev pub unread_cause : ReadFault → Cause
+unread_cause unread.Refused = NotJson
+unread_cause unread.NoMemory = NoMemory
+
 -- why the value of a file is refused; bytes that spell none are M1
 abbrev pub refusal_of : Option Data → Option Refusal
 refusal_of None = Some (as_whole NotJson)
 refusal_of (Some d) = refusal_in d
 
 -- what the value of a file gives
-abbrev pub given_by_value : Option Data → List Given
-given_by_value None = []
-given_by_value (Some d) = given_by_input d
+abbrev pub contents_of_value : Option Data → List Content
+contents_of_value None = []
+contents_of_value (Some d) = contents_of_input d
 
 -- why a file is refused, if it is
 unfoldable pub file_refusal : List ℕ → Option Refusal
 file_refusal bytes = refusal_of (json_in bytes)
 
 -- what a file gives, in order
-unfoldable pub given_by_file : List ℕ → List Given
-given_by_file bytes = given_by_value (json_in bytes)
+unfoldable pub contents_of_file : List ℕ → List Content
+contents_of_file bytes = contents_of_value (json_in bytes)
 
 -- a fault of this file, or else what the later ones have
 abbrev pub file_or : ℕ → Option Refusal → Option LoadFault → Option LoadFault
@@ -127,8 +134,8 @@ abbrev pub document_fault : List (List ℕ) → Option LoadFault
 document_fault inputs = fault_from 0 inputs
 
 -- what all documents give, in order
-abbrev pub given : List (List ℕ) → List Given
-given inputs = flat_map given_by_file inputs
+abbrev pub all_contents : List (List ℕ) → List Content
+all_contents inputs = flat_map contents_of_file inputs
 
 -- ---- what is loaded
 
@@ -141,15 +148,15 @@ pub record LoadedView : Type 0 where
 
 -- every document is accepted, of each kind, namespace and name the last object is kept (own), the grants
 -- follow from what is kept and are no more than there may be, the catalogue is that of all API resource
--- lists, the lists are those that all of it means, and those objects are told as replaced of which several documents were given
+-- lists, the lists are those that all of it means, and those objects are listed as replaced of which several documents were given
 pub record IsLoaded (inputs : List (List ℕ)) (l : LoadedView) : Type 0 where
   pub accepted : document_fault inputs ≡ None
-  pub kept : AreKept (objects_in (given inputs)) l.policy.held
+  pub kept : AreKept (objects_in (all_contents inputs)) l.policy.held
   pub policy : IsPolicy l.policy
-  pub few : length l.policy.grants ≤ 1000000
-  pub catalogue : l.catalogue ≡ catalogue_in (given inputs)
-  pub lists : l.lists ≡ lists_meant l.policy.held l.catalogue (namespaces_in (given inputs)) (accounts_in (given inputs)) (documents_in (given inputs))
-  pub replaced : AreReplaced (names_given (objects_in (given inputs)) (namespaces_in (given inputs)) (accounts_in (given inputs))) l.replaced
+  pub few : length l.policy.grants ≤ most_grants
+  pub catalogue : l.catalogue ≡ catalogue_in (all_contents inputs)
+  pub lists : l.lists ≡ lists_meant l.policy.held l.catalogue (namespaces_in (all_contents inputs)) (accounts_in (all_contents inputs)) (documents_in (all_contents inputs))
+  pub replaced : AreReplaced (names_given (objects_in (all_contents inputs)) (namespaces_in (all_contents inputs)) (accounts_in (all_contents inputs))) l.replaced
 
 -- more grants than there may be, of all inputs together; this fault has no place
 abbrev pub too_many : LoadFault
@@ -159,4 +166,4 @@ too_many = record { at = None; cause = TooMany }
 abbrev pub HasFault : List (List ℕ) → LoadFault → Type 0
 HasFault inputs f =
     (document_fault inputs ≡ Some f)
-    ⊎ ((document_fault inputs ≡ None) × (f ≡ too_many) × ((held : Held) × AreKept (objects_in (given inputs)) held × HasTooMany held))
+    ⊎ ((document_fault inputs ≡ None) × (f ≡ too_many) × ((held : Held) × AreKept (objects_in (all_contents inputs)) held × HasTooMany held))

@@ -4,11 +4,11 @@ use Rattle.std.specs.declared.cmp.Ordering.{Ordering}
 use Rattle.std.specs.Cmp.Lexicographic.{slice_cmp}
 use Rattle.rbac_terms.specs.Text.{Text, text_cmp}
 use Rattle.rbac_model.specs.Policies.{role_name, cluster_role_name, binding_name}
-use Rattle.rbac_model.specs.declared.holding.Object.{Object}
-use Rattle.rbac_model.specs.declared.holding.Object.TheVariants.{Role as ARole, ClusterRole as AClusterRole, Binding as ABinding}
-use Rattle.rbac_lists.specs.declared.given.Account.{Account}
-use Rattle.rbac_manifest.specs.declared.replaced.ObjectKind.{ObjectKind}
-use Rattle.rbac_manifest.specs.declared.replaced.ObjectKind.TheVariants.{ClusterRole, ClusterRoleBinding, Namespace, Role, RoleBinding, ServiceAccount}
+use Rattle.rbac_model.specs.declared.objects.Object.{Object}
+use Rattle.rbac_model.specs.declared.objects.Object.TheVariants.{Role as ARole, ClusterRole as AClusterRole, Binding as ABinding}
+use Rattle.rbac_lists.specs.declared.given_lists.Account.{Account}
+use Rattle.rbac_manifest.specs.declared.replacement.ObjectKind.{ObjectKind}
+use Rattle.rbac_manifest.specs.declared.replacement.ObjectKind.TheVariants.{ClusterRole, ClusterRoleBinding, Namespace, Role, RoleBinding, ServiceAccount}
 
 -- the order of names: text by text, each by its bytes
 abbrev pub name_cmp : List Text → List Text → Ordering

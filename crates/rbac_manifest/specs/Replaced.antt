@@ -2,7 +2,7 @@
 use Rattle.std.specs.Prelude.{◌≡◌, ◌↔◌, ◌+◌, ◌<◌, List, [], ◌∷◌, Contains, length}
 use Rattle.rbac_terms.specs.Text.{Text}
 use Rattle.rbac_model.specs.Lists.{IsCount, IsAscendingBy}
-use Rattle.rbac_manifest.specs.declared.replaced.Replaced.{Replaced}
+use Rattle.rbac_manifest.specs.declared.replacement.Replaced.{Replaced}
 
 abbrev pub replaced_name : Replaced → List Text
 replaced_name r = r.kind ∷ r.namespace ∷ r.name ∷ []

@@ -11,9 +11,9 @@ use Rattle.rbac_terms.specs.Principals.{Who, AsUser, AsMember}
 use Rattle.rbac_terms.specs.declared.fault.ModelFault.{ModelFault}
 use Rattle.rbac_terms.specs.declared.fault.ModelFault.TheVariants.{EmptyName, BadTarget, NoMemory}
 use Rattle.rbac_universe.specs.declared.lists.ListedResource.{ListedResource}
-use Rattle.rbac_lists.specs.declared.given.GivenLists.{GivenLists}
+use Rattle.rbac_lists.specs.declared.given_lists.GivenLists.{GivenLists}
 
--- a principal is refused for its name, which is of the wrong shape, or for want of memory
+-- a principal is refused for its name, which is of the wrong shape, or because memory ran out
 abbrev pub trouble_of : ModelFault → Trouble
 trouble_of EmptyName = Shape
 trouble_of BadTarget = Shape

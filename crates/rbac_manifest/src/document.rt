@@ -2,7 +2,7 @@
 
 ghost use Rattle.std.specs.Prelude.{◌≡◌, Some, IfOk, option_map};
 ghost use Rattle.serde_json.specs.View.{view};
-ghost use Rattle.rbac_manifest.specs.Document.{namespace_or_default, role_in, cluster_role_in, binding_in, account_from, given_in, fault, stands, bad_metadata};
+ghost use Rattle.rbac_manifest.specs.Document.{namespace_or_default, role_in, cluster_role_in, binding_in, account_from, content_in, fault, stands, bad_metadata};
 ghost use Rattle.rbac_manifest.specs.Walk.{bad_role, bad_cluster_role, bad_binding, bad_header, bad_body};
 ghost use Rattle.rbac_manifest.specs.Metadata.{metadata_at};
 ghost use Rattle.rbac_manifest.specs.Reads.{Loads, Gives};
@@ -10,12 +10,12 @@ ghost use Rattle.rbac_manifest.specs.declared.fault.Cause.{Cause};
 
 use crate::api_list::entries_of;
 use crate::binding::role_ref_of;
+use crate::content::Content;
 use crate::fault::Cause;
 use crate::fields::word_of;
-use crate::given::Given;
 use crate::kind::{Implied, Kind, kind_of};
 use crate::metadata::{Metadata, metadata_of};
-use crate::rule::rules_of;
+use crate::rule::read_rules;
 use crate::selector::aggregation_of;
 use crate::subject::subjects_of;
 use crate::universe_document::given_lists_of;
@@ -47,7 +47,7 @@ fn role_of(alloc: Global, document: &Value) -> Result<Role, Cause>
         namespace,
         ..
     } = metadata_of(alloc, document)?;
-    let rules = rules_of(alloc, document, true)?;
+    let rules = read_rules(alloc, document, true)?;
     let namespace = namespace_or_default(alloc, namespace)?;
     Ok(Role {
         namespace,
@@ -62,7 +62,7 @@ fn cluster_role_of(alloc: Global, document: &Value) -> Result<ClusterRole, Cause
     ensures { Gives result (bad_cluster_role (view document.now)) (cluster_role_in (view document.now)) }
 {
     let Metadata { name, labels, .. } = metadata_of(alloc, document)?;
-    let rules = rules_of(alloc, document, false)?;
+    let rules = read_rules(alloc, document, false)?;
     let aggregation = aggregation_of(alloc, document).map_err(|trouble| trouble.cause(
         Cause::BadSelector,
     ))?;
@@ -128,38 +128,44 @@ fn account_of(alloc: Global, document: &Value) -> Result<Account, Cause>
 }
 
 // What a document of this kind gives.
-pub(crate) fn given_of(alloc: Global, kind: Kind, document: &Value) -> Result<Option<Given>, Cause>
-    ensures { Loads result (bad_body kind (view document.now)) (given_in kind (view document.now)) }
+pub(crate) fn content_of(
+    alloc: Global,
+    kind: Kind,
+    document: &Value,
+) -> Result<Option<Content>, Cause>
+    ensures { Loads result (bad_body kind (view document.now)) (content_in kind (view document.now)) }
 {
     Ok(Some(match kind {
-        Kind::Role => Given::Object(Object::Role(role_of(alloc, document)?)),
-        Kind::ClusterRole => Given::Object(Object::ClusterRole(cluster_role_of(alloc, document)?)),
-        Kind::RoleBinding => Given::Object(Object::Binding(binding_of(alloc, document, true)?)),
-        Kind::ClusterRoleBinding => Given::Object(Object::Binding(binding_of(
+        Kind::Role => Content::Object(Object::Role(role_of(alloc, document)?)),
+        Kind::ClusterRole => Content::Object(Object::ClusterRole(cluster_role_of(
+            alloc, document,
+        )?)),
+        Kind::RoleBinding => Content::Object(Object::Binding(binding_of(alloc, document, true)?)),
+        Kind::ClusterRoleBinding => Content::Object(Object::Binding(binding_of(
             alloc, document, false,
         )?)),
-        Kind::Namespace => Given::Namespace(namespace_of(alloc, document)?),
-        Kind::ServiceAccount => Given::Account(account_of(alloc, document)?),
-        Kind::ApiList => Given::ApiList(entries_of(alloc, document).map_err(|trouble| trouble.cause(
-            Cause::BadCatalogue,
-        ))?),
-        Kind::Universe => Given::Lists(given_lists_of(alloc, document).map_err(
+        Kind::Namespace => Content::Namespace(namespace_of(alloc, document)?),
+        Kind::ServiceAccount => Content::Account(account_of(alloc, document)?),
+        Kind::ApiList => Content::ApiList(entries_of(alloc, document).map_err(
+            |trouble| trouble.cause(Cause::BadCatalogue),
+        )?),
+        Kind::Universe => Content::Lists(given_lists_of(alloc, document).map_err(
             |trouble| trouble.cause(Cause::BadUniverse),
         )?),
         Kind::List(_) | Kind::Other => return Ok(None),
     }))
 }
 
-// What a document gives. A bad kind or version is told before any memory is asked for.
+// What a document gives. A bad kind or version is refused before any memory is asked for.
 #[tactic(auto, using(crate::proofs::Faults::fault_by_kind), unfolding(crate::specs::Document::stands))]
 pub(crate) fn document_of(
     alloc: Global,
     document: &Value,
     implied: Implied,
-) -> Result<Option<Given>, Cause>
+) -> Result<Option<Content>, Cause>
     ensures loads { Loads result (fault implied (view document.now)) (stands implied (view document.now)) }
     ensures header { (cause : Cause) → bad_header implied (view document.now) ≡ Some cause → result ≡ Err cause }
 {
     let kind = kind_of(document, implied)?;
-    given_of(alloc, kind, document)
+    content_of(alloc, kind, document)
 }

@@ -6,6 +6,7 @@ ghost use Rattle.rbac_manifest.specs.declared.fault.ItemFault.TheVariants.{Witho
 ghost use Rattle.rbac_manifest.specs.declared.fault.Cause.TheVariants.{NoMemory};
 ghost use Rattle.rbac_manifest.specs.Reads.{cause_of};
 
+use json_list::ReadFault;
 use std::alloc::{AllocError, AllocFailed};
 use std::error::Error;
 use std::fmt;
@@ -93,7 +94,7 @@ impl Trouble {
 pub enum Cause {
     /// M1: the bytes of the input aren't JSON.
     NotJson,
-    /// M2: the document isn't an object that tells its kind, or the items of a list aren't a list.
+    /// M2: the document isn't an object that says its kind, or the items of a list aren't a list.
     NotAnObject,
     /// M3: the version is missing, isn't a text, or is one of the RBAC group that isn't read.
     BadVersion,
@@ -200,6 +201,19 @@ impl From<AllocError> for Refusal {
     }
 }
 
+impl From<ReadFault> for Refusal {
+    ghost use Rattle.rbac_manifest.specs.Load.{as_whole, unread_cause};
+
+    ghost from_gives = { λ fault refusal. refusal ≡ as_whole (unread_cause fault) };
+
+    fn from(fault: ReadFault) -> Self {
+        match fault {
+            ReadFault::Refused => Refusal::whole(Cause::NotJson),
+            ReadFault::NoMemory => Refusal::whole(Cause::NoMemory),
+        }
+    }
+}
+
 /// The place of a document, from 0: its file, and its item where the file holds a list. A fault of
 /// the list itself has no item.
 #[derive(Clone, Copy, Debug, Drop, PartialEq, Eq)]
@@ -225,7 +239,7 @@ impl fmt::Display for At {
     }
 }
 
-/// Why inputs are refused: where, and for which cause. Too many grants and want of memory have no
+/// Why inputs are refused: where, and for which cause. Too many grants and out of memory have no
 /// place. It prints as `file F item I: CAUSE`, all numbers from 1.
 #[derive(Clone, Copy, Debug, Drop, PartialEq, Eq)]
 pub struct LoadFault {
@@ -239,7 +253,7 @@ impl LoadFault {
     ghost use Rattle.std.specs.Prelude.{◌≢◌, None};
     ghost use Rattle.rbac_manifest.specs.Load.{in_file, too_many};
 
-    // A refusal of the whole file, or of an item of it. Want of memory has no place.
+    // A refusal of the whole file, or of an item of it. Out of memory has no place.
     pub(crate) fn in_file(file: usize, refusal: Refusal) -> LoadFault
         ensures cause { result.cause ≡ refusal.cause }
         ensures place { refusal.cause ≢ NoMemory → result ≡ in_file file refusal }

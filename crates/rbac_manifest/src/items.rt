@@ -4,12 +4,12 @@ ghost use Rattle.std.specs.Prelude.{◌≡◌, ◌≢◌, map, option_map, codes
 ghost use Rattle.rbac_manifest.specs.Fields.{list_field, list_or_empty, present};
 ghost use Rattle.serde_json.specs.View.{view};
 ghost use Rattle.rbac_manifest.specs.declared.fault.Cause.TheVariants.{NoMemory};
-ghost use Rattle.rbac_manifest.specs.Gathered.{with_given};
-ghost use Rattle.rbac_manifest.specs.Load.{first_refusal, given_by_items, refusal_in, given_by_input};
+ghost use Rattle.rbac_manifest.specs.Contents.{with_contents};
+ghost use Rattle.rbac_manifest.specs.Load.{first_refusal, contents_of_items, refusal_in, contents_of_input};
 
-use crate::document::{document_of, given_of};
+use crate::contents::Contents;
+use crate::document::{content_of, document_of};
 use crate::fault::{Cause, Refusal};
-use crate::gathered::Gathered;
 use crate::kind::{Implied, Kind, kind_of};
 use serde_json::Value;
 use std::alloc::{AllocError, Global};
@@ -39,64 +39,64 @@ fn list_from(alloc: Global, value: Value) -> Option<Vec<Value>>
     }
 }
 
-// Takes over what the items of a list give. The first item with a fault decides. Each item is let go
-// once it is read, while it is still at hand.
-#[tactic(auto, using(crate::proofs::Gathering::given_more))]
+// Takes over what the items of a list give. The first item with a fault decides. Each item is let
+// go once it is read, while it is still at hand.
+#[tactic(auto, using(crate::proofs::ContentsLemmas::contents_more))]
 fn items_into(
     alloc: Global,
     items: Vec<Value>,
     implied: Implied,
-    gathered: &mut Gathered,
+    contents: &mut Contents,
 ) -> Result<(), Refusal>
     ensures sound { OnOk result (first_refusal implied 0 (map view items.items) ≡ None) }
-    ensures given { OnOk result
-        (gathered.new ≡ with_given gathered.old (given_by_items implied (map view items.items))) }
+    ensures contents { OnOk result
+        (contents.new ≡ with_contents contents.old (contents_of_items implied (map view items.items))) }
     ensures refusal { IfErr result
         (λ e. e.cause ≢ NoMemory → first_refusal implied 0 (map view items.items) ≡ Some e) }
 {
-    gathered.reserve(items.len())?;
+    contents.reserve(items.len())?;
     let mut place = 0;
     for item in items {
-        let given = document_of(alloc, &item, implied).map_err(|cause| Refusal::item(
+        let content = document_of(alloc, &item, implied).map_err(|cause| Refusal::item(
             place, cause,
         ))?;
-        gathered.take(given)?;
+        contents.take(content)?;
         join_freed(alloc)?;
         place += 1;
     }
     Ok(())
 }
 
-// Lets the allocator join what was freed. glibc keeps small freed pieces apart until a large piece, of
-// more than 1 KiB, is asked for. Joined now, while they are in the processor's cache, the pieces of an
-// item cost a quarter of what they cost when all items are read.
+// Lets the allocator join what was freed. glibc keeps small freed pieces apart until a large piece,
+// of more than 1 KiB, is asked for. Joined now, while they are in the processor's cache, the pieces
+// of an item cost a quarter of what they cost when all items are read.
 fn join_freed(alloc: Global) -> Result<(), AllocError> {
     let mut piece: Vec<u8> = Vec::new(alloc);
     piece.reserve(2048)
 }
 
 // Takes over what an input gives.
-#[tactic(auto, using(crate::proofs::Faults::fault_by_kind), unfolding(crate::specs::Load::refusal_in, crate::specs::Load::given_by_input))]
+#[tactic(auto, using(crate::proofs::Faults::fault_by_kind), unfolding(crate::specs::Load::refusal_in, crate::specs::Load::contents_of_input))]
 pub(crate) fn input_into(
     alloc: Global,
     mut document: Value,
-    gathered: &mut Gathered,
+    contents: &mut Contents,
 ) -> Result<(), Refusal>
     ensures sound { OnOk result (refusal_in (view document) ≡ None) }
-    ensures given { OnOk result
-        (gathered.new ≡ with_given gathered.old (given_by_input (view document))) }
+    ensures contents { OnOk result
+        (contents.new ≡ with_contents contents.old (contents_of_input (view document))) }
     ensures refusal { IfErr result
         (λ e. e.cause ≢ NoMemory → refusal_in (view document) ≡ Some e) }
 {
     let kind = kind_of(&document, Implied::Nothing).map_err(Refusal::whole)?;
     match kind {
         Kind::List(implied) => match take_items(alloc, &mut document) {
-            Some(items) => items_into(alloc, items, implied, gathered),
+            Some(items) => items_into(alloc, items, implied, contents),
             None => Err(Refusal::whole(Cause::NotAnObject)),
         },
         kind => {
-            let given = given_of(alloc, kind, &document).map_err(Refusal::whole)?;
-            gathered.take(given)?;
+            let content = content_of(alloc, kind, &document).map_err(Refusal::whole)?;
+            contents.take(content)?;
             Ok(())
         }
     }

@@ -26,7 +26,7 @@ const RBAC_V1: &str = rbac_group!("/v1");
 
 const RBAC_V1BETA1: &str = rbac_group!("/v1beta1");
 
-const RBAC_FRONT: &str = rbac_group!("/");
+const RBAC_PREFIX: &str = rbac_group!("/");
 
 // A pair of version and kind that is read, and what a document of it is.
 #[derive(Clone, Copy, Drop)]
@@ -213,12 +213,13 @@ fn asks_version(row: &Row, kind: &str) -> bool
     row.kind == kind && !matches!(row.means, Kind::ApiList)
 }
 
-// A version as it is read: v1beta1 of the RBAC group as its v1, and none where it is another one of that group.
+// A version as it is read: v1beta1 of the RBAC group as its v1, and none where it is another one of
+// that group.
 #[tactic(auto, unfolding(crate::specs::Kinds::version_read))]
 fn version_read(version: &str) -> Option<&str>
     ensures { option_map (λ s. s.now) result ≡ version_read version.now }
 {
-    if !version.as_bytes().starts_with(RBAC_FRONT.as_bytes()) {
+    if !version.as_bytes().starts_with(RBAC_PREFIX.as_bytes()) {
         return Some(version);
     }
     if version == RBAC_V1 || version == RBAC_V1BETA1 {
@@ -227,7 +228,8 @@ fn version_read(version: &str) -> Option<&str>
     None
 }
 
-// The text of a document's version as it is read, its own or the implied one; `v1` where the kind needs none.
+// The text of a document's version as it is read, its own or the implied one; `v1` where the kind
+// needs none.
 #[tactic(auto, unfolding(crate::specs::Kinds::version_at))]
 fn version_text<'v>(document: &'v Value, implied: Implied, kind: &str) -> Option<&'v str>
     ensures { option_map (λ s. s.now) result ≡ version_at implied kind.now (view document.now) }

@@ -1,20 +1,23 @@
 //! Inputs, read to what they give, and the policy that follows from it.
 
-ghost use Rattle.std.specs.Prelude.{◌≡◌, ◌≢◌, ◌≤◌, length, OnOk, IfOk, IfErr, None, Some};
+ghost use Rattle.std.specs.Prelude.{◌≡◌, ◌≢◌, ◌≤◌, length, OnOk, IfOk, IfErr, IsTrue, None, Some, false, if◌then◌else◌};
+ghost use Rattle.std.specs.Str.{IsUtf8};
+ghost use Rattle.json_list.specs.List.{IsList};
 ghost use Rattle.serde_json.specs.View.{view};
 ghost use Rattle.rbac_manifest.specs.declared.fault.Cause.TheVariants.{NotJson, NoMemory};
-ghost use Rattle.rbac_manifest.specs.Load.{json_in, in_file, file_refusal, given_by_file, document_fault, given, too_many, IsLoaded, HasFault};
-ghost use Rattle.rbac_manifest.specs.Gathered.{gathered, with_given};
+ghost use Rattle.rbac_manifest.specs.Load.{json_in, in_file, file_refusal, contents_of_file, document_fault, all_contents, too_many, IsLoaded, HasFault};
+ghost use Rattle.rbac_manifest.specs.Contents.{sorted_contents, with_contents};
 ghost use Rattle.rbac_manifest.specs.Names.{names_given};
 ghost use Rattle.rbac_manifest.specs.Replaced.{AreReplaced, replaced_name};
 ghost use Rattle.rbac_model.specs.Lists.{IsAscendingBy};
 ghost use Rattle.rbac_model.specs.Kept.{AreKept};
-ghost use Rattle.rbac_model.specs.Policies.{Held, IsPolicy, HasTooMany};
+ghost use Rattle.rbac_model.specs.Policies.{Held, IsPolicy, HasTooMany, most_grants};
 
+use crate::contents::Contents;
 use crate::fault::{Cause, LoadFault, Refusal};
-use crate::gathered::Gathered;
 use crate::items::input_into;
-use crate::replaced::{Replaced, replaced_of};
+use crate::list::list_into;
+use crate::replacement::{Replaced, replaced_of};
 use rbac_catalogue::Catalogue;
 use rbac_lists::{Account, GivenLists, lists_of};
 use rbac_model::{Object, Objects, Policy, ResolveFault};
@@ -22,6 +25,7 @@ use rbac_streams::Input;
 use rbac_terms::Word;
 use rbac_universe::UniverseLists;
 use serde_json::Value;
+use simdutf8::basic::from_utf8;
 use std::alloc::{AllocError, Global};
 use std::marker::Model;
 
@@ -77,8 +81,8 @@ impl Loaded {
         &self.catalogue
     }
 
-    /// The objects of which several documents were given, in order of kind, namespace and name, with
-    /// how many earlier ones the last replaced (own). Takes no memory.
+    /// The objects of which several documents were given, in order of kind, namespace and name,
+    /// with how many earlier ones the last replaced (own). Takes no memory.
     pub fn replaced(&self) -> &[Replaced]
         ensures replaced { result.now ≡ self.now.replaced }
         ensures ordered { IsAscendingBy replaced_name self.now.replaced }
@@ -87,8 +91,8 @@ impl Loaded {
     }
 
     /// The lists that a universe is made of (own): each as the last of the Universe documents that
-    /// has it gives it, and else as it is derived from the objects that are kept, the catalogue, and
-    /// Namespace and ServiceAccount objects. They are made when asked for.
+    /// has it gives it, and else as it is derived from the objects that are kept, the catalogue,
+    /// and Namespace and ServiceAccount objects. They are made when asked for.
     ///
     /// # Errors
     ///
@@ -120,32 +124,51 @@ fn parse(alloc: Global, bytes: &[u8]) -> Result<Value, Cause>
     }
 }
 
-// Takes over what one file gives, whose JSON value is let go at the end.
-#[tactic(auto, unfolding(crate::specs::Load::file_refusal, crate::specs::Load::given_by_file))]
-fn file_into(alloc: Global, bytes: &[u8], gathered: &mut Gathered) -> Result<(), Refusal>
-    ensures sound { OnOk result (file_refusal bytes.now ≡ None) }
-    ensures given { OnOk result (gathered.new ≡ with_given gathered.old (given_by_file bytes.now)) }
+// Takes over what a file gives, if it is an object with one list under `items`.
+#[tactic(auto, using(crate::proofs::Json::json_in_text), unfolding(crate::specs::Load::file_refusal, crate::specs::Load::contents_of_file))]
+fn list_in(alloc: Global, bytes: &[u8], contents: &mut Contents) -> Result<bool, Refusal>
+    ensures sound { IfOk result (λ is_list. IsTrue is_list → file_refusal bytes.now ≡ None) }
+    ensures contents { IfOk result (λ is_list. contents.new ≡ (if is_list
+        then with_contents contents.old (contents_of_file bytes.now) else contents.old)) }
+    ensures whole { IfOk result (λ is_list. is_list ≡ false → ¬ (IsUtf8 bytes.now × IsList bytes.now)) }
     ensures refusal { IfErr result (λ e. e.cause ≢ NoMemory → file_refusal bytes.now ≡ Some e) }
 {
+    match from_utf8(bytes) {
+        Ok(text) => list_into(alloc, text, contents),
+        Err(_) => Ok(false),
+    }
+}
+
+// Takes over what one file gives. What isn't an object with one list under `items` is read as a
+// whole.
+#[tactic(auto, unfolding(crate::specs::Load::file_refusal, crate::specs::Load::contents_of_file))]
+fn file_into(alloc: Global, bytes: &[u8], contents: &mut Contents) -> Result<(), Refusal>
+    ensures sound { OnOk result (file_refusal bytes.now ≡ None) }
+    ensures contents { OnOk result (contents.new ≡ with_contents contents.old (contents_of_file bytes.now)) }
+    ensures refusal { IfErr result (λ e. e.cause ≢ NoMemory → file_refusal bytes.now ≡ Some e) }
+{
+    if list_in(alloc, bytes, contents)? {
+        return Ok(());
+    }
     let value = parse(alloc, bytes).map_err(Refusal::whole)?;
-    input_into(alloc, value, gathered)
+    input_into(alloc, value, contents)
 }
 
 // What all inputs give, in order. The first document with a fault decides.
-#[tactic(auto, using(crate::proofs::Gathering::given_next))]
-fn gathered_of(alloc: Global, inputs: &[Input]) -> Result<Gathered, LoadFault>
+#[tactic(auto, using(crate::proofs::ContentsLemmas::contents_next))]
+fn contents_of(alloc: Global, inputs: &[Input]) -> Result<Contents, LoadFault>
     ensures sound { OnOk result (document_fault inputs.now ≡ None) }
-    ensures given { IfOk result (λ g. g ≡ gathered (given inputs.now)) }
+    ensures contents { IfOk result (λ g. g ≡ sorted_contents (all_contents inputs.now)) }
     ensures fault { IfErr result (λ e. e.cause ≢ NoMemory → document_fault inputs.now ≡ Some e) }
     ensures memory { IfErr result (λ e. e.cause ≡ NoMemory → e.at ≡ None) }
 {
-    let mut gathered = Gathered::new(alloc);
+    let mut contents = Contents::new(alloc);
     for (file, input) in inputs.iter().enumerate() {
-        file_into(alloc, input.as_bytes(), &mut gathered).map_err(|refusal| LoadFault::in_file(
+        file_into(alloc, input.as_bytes(), &mut contents).map_err(|refusal| LoadFault::in_file(
             file, refusal,
         ))?;
     }
-    Ok(gathered)
+    Ok(contents)
 }
 
 // The objects of which several of these documents were given.
@@ -165,7 +188,7 @@ fn replaced_among(
 fn policy_of(alloc: Global, objects: Vec<Object>) -> Result<Policy, LoadFault>
     ensures kept { IfOk result (λ p. AreKept objects.items p.held) }
     ensures policy { IfOk result (λ p. IsPolicy p) }
-    ensures few { IfOk result (λ p. length p.grants ≤ 1000000) }
+    ensures few { IfOk result (λ p. length p.grants ≤ most_grants) }
     ensures many { IfErr result (λ e. e.cause ≢ NoMemory → (e ≡ too_many) × ((held : Held) × AreKept objects.items held × HasTooMany held)) }
     ensures memory { IfErr result (λ e. e.cause ≡ NoMemory → e.at ≡ None) }
 {
@@ -198,13 +221,13 @@ pub fn load(alloc: Global, inputs: &[Input]) -> Result<Loaded, LoadFault>
     ensures fault { IfErr result (λ e. e.cause ≢ NoMemory → HasFault inputs.now e) }
     ensures memory { IfErr result (λ e. e.cause ≡ NoMemory → e.at ≡ None) }
 {
-    let Gathered {
+    let Contents {
         objects,
         namespaces,
         accounts,
         catalogue,
         documents,
-    } = gathered_of(alloc, inputs)?;
+    } = contents_of(alloc, inputs)?;
     let replaced = replaced_among(
         alloc,
         objects.as_slice(),

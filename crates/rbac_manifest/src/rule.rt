@@ -66,7 +66,7 @@ fn rules_from(alloc: Global, values: &[Value], in_role: bool) -> Result<Rules, C
 
 // The rules of a role.
 #[tactic(auto, unfolding(crate::specs::Role::bad_rules, crate::specs::Role::rules_in))]
-pub(crate) fn rules_of(alloc: Global, document: &Value, in_role: bool) -> Result<Rules, Cause>
+pub(crate) fn read_rules(alloc: Global, document: &Value, in_role: bool) -> Result<Rules, Cause>
     ensures { Loads result (bad_rules in_role (view document.now)) (rules_in in_role (view document.now)) }
 {
     match list_field(document, "rules") {

@@ -16,7 +16,7 @@ use rbac_universe::{ListedResource, ListedResources, Principals};
 use serde_json::Value;
 use std::alloc::Global;
 
-// A principal is refused for its name, which is of the wrong shape, or for want of memory.
+// A principal is refused for its name, which is of the wrong shape, or because memory ran out.
 fn trouble_of(fault: ModelFault) -> Trouble
     ensures { result ≡ trouble_of fault }
 {
@@ -47,7 +47,7 @@ fn member_of(alloc: Global, name: &Value) -> Result<Principal, Trouble>
 
 // The principal that an item gives.
 #[tactic(auto, unfolding(crate::specs::UniverseDocument::principal_at))]
-fn principal_of(alloc: Global, value: &Value) -> Result<Principal, Trouble>
+fn read_principal(alloc: Global, value: &Value) -> Result<Principal, Trouble>
     ensures { Reads result (principal_at (view value.now)) }
 {
     match (
@@ -66,7 +66,7 @@ fn principals_in(alloc: Global, list: &Value) -> Result<Principals, Trouble>
     ensures { Reads result (option_and_then (all_at principal_at) (as_list (view list.now))) }
 {
     let items = as_list(list).ok_or(Trouble::Shape)?;
-    let principals = all_read(alloc, items, |item| principal_of(alloc, item))?;
+    let principals = all_read(alloc, items, |item| read_principal(alloc, item))?;
     Ok(Principals::from_vec(principals))
 }
 

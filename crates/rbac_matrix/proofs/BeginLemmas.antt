@@ -10,7 +10,7 @@ use Rattle.rbac_matrix.specs.Lines.{IsSettled, LineView, lines_from}
 use Rattle.rbac_matrix.specs.Metering.{AreSought, IsReady}
 use Rattle.rbac_matrix.specs.declared.line.Place.{Place}
 use Rattle.rbac_matrix.specs.declared.seat.Seat.{Seat}
-use Rattle.rbac_matrix.specs.Seats.{AreEmpty, AreSeated, filled, seat_at, stand_of}
+use Rattle.rbac_matrix.specs.Seats.{AreSeated, filled, seat_at, stand_of}
 use Rattle.rbac_matrix.proofs.PassLemmas.{same_head, no_head}
 
 count_few : {X : Type 0} (P : X → Type 0) (f : Seat → ℕ) → ((s : Seat) → f s ≤ 1) → (gs : List X) (seats : List Seat) (n : ℕ) → length seats ≤ length gs
@@ -28,35 +28,24 @@ count_few P f one (g ∷ gs) (s ∷ seats) n le each (inr h) =
     ]
 
 -- no more seats are filled than a line has cursors
-pub filled_cursors : (p : PolicyView) (l : LineView) (rs : List (List ℕ)) (from : ℕ) (seats : List Seat) (n : ℕ) → AreSeated p l rs from seats → IsCount (IsCursor l.who l.namespace l.verb) p.grants n → filled seats ≤ n
+pub filled_cursors : (p : PolicyView) (l : LineView) (rs : List (List ℕ)) (from upto : ℕ) (seats : List Seat) (n : ℕ) → AreSeated p l rs from upto seats → IsCount (IsCursor l.who l.namespace l.verb) p.grants n → filled seats ≤ n
 unfolding filled
-filled_cursors p l rs from seats n seated h =
+filled_cursors p l rs from upto seats n seated h =
     count_few (IsCursor l.who l.namespace l.verb) (λ (s : Seat). min 1 (s.position + stand_of s)) (λ s. omega arith) p.grants seats n (omega (arith, seated.count))
     (λ k lt. elim (seated.each k lt) [
       | inl s ↦ inr (s.0.grant, s.0.at, s.0.is)
       | inr e ↦ inl (rw e.1 refl)
     ]) h
 
-module _ (p : PolicyView) (u : UniverseView) (rs : List (List ℕ)) (at : Place) (from : ℕ) (seats : List Seat) (settled : IsSettled u at) where
-  pub ready_line : (l : LineView) (ls : List LineView) → lines_from u at ≡ l ∷ ls → AreSeated p l rs from seats → IsReady p u rs at from seats
+module _ (p : PolicyView) (u : UniverseView) (rs : List (List ℕ)) (at : Place) (from upto : ℕ) (seats : List Seat) (settled : IsSettled u at) where
+  pub ready_line : (l : LineView) (ls : List LineView) → lines_from u at ≡ l ∷ ls → AreSeated p l rs from upto seats → IsReady p u rs at from upto seats
   ready_line l ls e s = record {
     settled = settled;
     count = s.count;
-    seated = λ m ms other. subst (λ (x : LineView). AreSeated p x rs from seats) (same_head l m ls ms (sym e ∙ other)) s;
+    seated = λ m ms other. subst (λ (x : LineView). AreSeated p x rs from upto seats) (same_head l m ls ms (sym e ∙ other)) s;
     ended = λ other. absurd (no_head l ls (sym e ∙ other));
   }
 
-  pub ready_end : lines_from u at ≡ [] → AreEmpty p seats → IsReady p u rs at from seats
-  ready_end e empty = record {
-    settled = settled;
-    count = empty.count;
-    seated = λ m ms other. absurd (no_head m ms (sym other ∙ e));
-    ended = λ _. empty;
-  }
-
-pub sought_none : (p : PolicyView) (u : UniverseView) (at : Place) → AreSought p u at 0
-sought_none p u at l ls n e h = omega arith
-
-pub sought_filled : (p : PolicyView) (u : UniverseView) (rs : List (List ℕ)) (at : Place) (from : ℕ) (seats : List Seat) (l : LineView) (ls : List LineView) → lines_from u at ≡ l ∷ ls → AreSeated p l rs from seats → AreSought p u at (filled seats)
-sought_filled p u rs at from seats l ls e s m ms n other h =
-    filled_cursors p l rs from seats n s (subst (λ (x : LineView). IsCount (IsCursor x.who x.namespace x.verb) p.grants n) (sym (same_head l m ls ms (sym e ∙ other))) h)
+pub sought_filled : (p : PolicyView) (u : UniverseView) (rs : List (List ℕ)) (at : Place) (from upto : ℕ) (seats : List Seat) (l : LineView) (ls : List LineView) → lines_from u at ≡ l ∷ ls → AreSeated p l rs from upto seats → AreSought p u at (filled seats)
+sought_filled p u rs at from upto seats l ls e s m ms n other h =
+    filled_cursors p l rs from upto seats n s (subst (λ (x : LineView). IsCount (IsCursor x.who x.namespace x.verb) p.grants n) (sym (same_head l m ls ms (sym e ∙ other))) h)

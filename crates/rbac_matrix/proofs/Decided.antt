@@ -15,7 +15,7 @@ use Rattle.rbac_terms.specs.declared.matching.Rule.{Rule}
 use Rattle.rbac_terms.specs.declared.granting.Binding.{Binding}
 use Rattle.rbac_terms.specs.declared.granting.Subject.{Subject}
 use Rattle.rbac_terms.specs.declared.granting.Subject.TheVariants.{User, Group, Account}
-use Rattle.rbac_terms.proofs.Texts.{IsCutAtFirst-one, IsCutAtFirst-contains, same_front, UrlWordMatches-none}
+use Rattle.rbac_terms.proofs.Texts.{IsCutAtFirst-one, IsCutAtFirst-contains, same_prefix, UrlWordMatches-none, shorter}
 use Rattle.rbac_terms.proofs.Accounts.{IsAccountOf-begins, IsAccountOf-colon, IsAccountOf-from, IsAccountOf-parts, IsAccountOf-one}
 use Rattle.rbac_model.specs.Lists.{IsFirstAt}
 use Rattle.rbac_model.specs.Policies.{Held, IsHeld, GrantView, SourcedRule, AreRulesFor, AreGrantsOf, Live, Brings, Grants}
@@ -136,11 +136,7 @@ lone : (c : ℕ) (r : Text) → c ∷ [] ≡ r ++ star ∷ [] → c ≡ star
 lone c [] e = heads c star [] [] e
 lone c (x ∷ r) e = let l = ap length e ∙ length-append (x ∷ r) (star ∷ []) in absurd (omega (arith, l))
 
-shorter : (c d : ℕ) (q r : Text) → c ∷ d ∷ q ≡ r ++ star ∷ [] → EndsInStar (d ∷ q)
-shorter c d q [] e = let l = ap length e in absurd (omega (arith, l))
-shorter c d q (x ∷ r) e = (r, tails c x (d ∷ q) (r ++ star ∷ []) e)
-
--- a text is a front that ends in no star, and stars
+-- a text is a prefix that ends in no star, and stars
 abbrev IsStripped : Text → Type 0
 IsStripped w = (q : Text) × (k : ℕ) × (w ≡ q ++ replicate k star) × (EndsInStar q → ⊥)
 
@@ -155,14 +151,14 @@ stripped : (w : Text) → IsStripped w
 stripped [] = ([], 0, refl, λ a. let l = ap length a.1 ∙ length-append a.0 (star ∷ []) in omega (arith, l))
 stripped (c ∷ w) = let s = stripped w in stripped_more c w s.0 s.1 s.2 s.3
 
-url_front : (w x q : Text) (k : ℕ) → w ≢ x → w ≡ q ++ replicate k star → (EndsInStar q → ⊥) → Decided (UrlWordMatches w x)
-url_front w x q zero ne e none = inr (UrlWordMatches-none w x q zero ne e none (let l = ap length (e ∙ append-nil q) in omega (arith, l)))
-url_front w x q (suc k) ne e none = elim (begins x q) [
+url_prefix : (w x q : Text) (k : ℕ) → w ≢ x → w ≡ q ++ replicate k star → (EndsInStar q → ⊥) → Decided (UrlWordMatches w x)
+url_prefix w x q zero ne e none = inr (UrlWordMatches-none w x q zero ne e none (let l = ap length (e ∙ append-nil q) in omega (arith, l)))
+url_prefix w x q (suc k) ne e none = elim (begins x q) [
   | inl b ↦ inl (inr (q, k, e ∙ ap (λ n. q ++ replicate n star) (sym (add-one k)), none, b))
   | inr n ↦ inr (λ m. elim m [
     | inl a ↦ ne a
     | inr b ↦
-        let same : b.0 ≡ q = same_front b.0 q (b.1 + 1) (suc k) b.3 none (sym b.2 ∙ e) in
+        let same : b.0 ≡ q = same_prefix b.0 q (b.1 + 1) (suc k) b.3 none (sym b.2 ∙ e) in
         n (b.4.0, b.4.1 ∙ ap (λ (t : Text). t ++ b.4.0) same)
   ])
 ]
@@ -170,7 +166,7 @@ url_front w x q (suc k) ne e none = elim (begins x q) [
 url : (w x : Text) → Decided (UrlWordMatches w x)
 url w x = elim (same_text w x) [
   | inl e ↦ inl (inl e)
-  | inr ne ↦ let s = stripped w in url_front w x s.0 s.1 ne s.2 s.3
+  | inr ne ↦ let s = stripped w in url_prefix w x s.0 s.1 ne s.2 s.3
 ]
 
 target : (r : Rule) (t : What) → Decided (TargetOk r t)

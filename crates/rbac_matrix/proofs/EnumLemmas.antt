@@ -11,14 +11,14 @@ use Rattle.rbac_matrix.specs.Cells.{AreRowsOf}
 use Rattle.rbac_matrix.specs.Lines.{LineView, cells_of_lines, line_cells_from, lines_from}
 use Rattle.rbac_index.specs.Reaches.{AreReaches}
 use Rattle.rbac_matrix.specs.Metering.{IsMetered, IsReady, Skips}
-use Rattle.rbac_matrix.specs.Passing.{EndsLine, FindsCell, FindsRow, Passes, cells_left}
+use Rattle.rbac_matrix.specs.Passing.{EndsAll, EndsLine, FindsCell, HasNoHit, Leads, Passes, cells_left, row_on}
 use Rattle.rbac_matrix.specs.declared.line.Place.{Place}
 use Rattle.rbac_matrix.specs.declared.seat.Seat.{Seat}
 use Rattle.rbac_matrix.specs.Seats.{AreEmpty, AreReal, AreSeated, Costs, empty_seat, filled, past_all, reach_at, seat_at, stand_of}
-use Rattle.rbac_matrix.proofs.BeginLemmas.{ready_line}
 use Rattle.rbac_matrix.proofs.IdleLemmas.{rowless_both}
 use Rattle.rbac_matrix.proofs.RowLemmas.{rows_append}
-use Rattle.rbac_matrix.proofs.PassLemmas.{passes_more, passes_rows, passes_then}
+use Rattle.rbac_matrix.proofs.HitLemmas.{next_passes, none_passes, rowless}
+use Rattle.rbac_matrix.proofs.PassLemmas.{no_head, passes_more, passes_none, passes_then}
 use Rattle.rbac_matrix.proofs.LineLemmas.{ends_line}
 use Rattle.rbac_matrix.proofs.LoopLemmas.{cursor_within}
 use Rattle.rbac_matrix.proofs.LinesLemmas.{onward_whole}
@@ -34,9 +34,9 @@ none_of f (s ∷ seats) (suc k) e lt = let sum = sum_by-cons f s seats in none_o
 seat_is : (s : Seat) → s.position ≡ 0 → s.place ≡ past_all → s ≡ empty_seat
 seat_is s e f = ap₂ (λ (a b : ℕ). record { position = a; place = b }) e f
 
-pub unfilled : (p : PolicyView) (l : LineView) (rs : List (List ℕ)) (from : ℕ) (seats : List Seat) → AreReal rs → AreSeated p l rs from seats → filled seats ≡ 0 → AreEmpty p seats
+pub unfilled : (p : PolicyView) (l : LineView) (rs : List (List ℕ)) (from upto : ℕ) (seats : List Seat) → AreReal rs → AreSeated p l rs from upto seats → filled seats ≡ 0 → AreEmpty p seats
 unfolding filled
-unfilled p l rs from seats real seated none = record {
+unfilled p l rs from upto seats real seated none = record {
   count = seated.count;
   each = λ k lt. elim (seated.each k lt) [
     | inl s ↦
@@ -100,27 +100,69 @@ module _ (h : Held) (u : UniverseView) where
 
 module _ (p : PolicyView) (u : UniverseView) (rs : List (List ℕ)) where
   -- a line whose cursors have no entries has no row
-  pub idle_line : (l : LineView) (seats : List Seat) → IsPolicy p → IsUniverse u → AreReaches p u rs → length u.targets ≤ 1000000 → AreReal rs → AreSeated p l rs 0 seats → filled seats ≡ 0 → AreRowsOf p.held (line_cells_from u 0 l) []
+  pub idle_line : (l : LineView) (seats : List Seat) → IsPolicy p → IsUniverse u → AreReaches p u rs → length u.targets ≤ 1000000 → AreReal rs → AreSeated p l rs 0 0 seats → filled seats ≡ 0 → AreRowsOf p.held (line_cells_from u 0 l) []
   idle_line l seats policy is reaches few real seated none =
-      let empty = unfilled p l rs 0 seats real seated none in
-      let ends : EndsLine p u rs l 0 seats = ends_line p u rs l policy is reaches 0 seats seated few (λ k c. rw (empty.each k (omega (arith, seated.count, cursor_within p l k c))) (omega arith)) in
-      passes_rows p.held (line_cells_from u 0 l) [] [] [] ends.passes refl
+      let empty = unfilled p l rs 0 0 seats real seated none in
+      let ends : EndsLine p u rs l 0 0 seats = ends_line p u rs l policy is reaches 0 0 seats seated few (λ k c. rw (empty.each k (omega (arith, seated.count, cursor_within p l k c))) (omega arith)) in
+      rowless p u l policy ends.none
 
-  -- the row of a line is that of what is left
-  pub finds_cell : (start at : Place) (first from : ℕ) (l : LineView) (ls : List LineView) (old seats : List Seat) (place number : ℕ) → lines_from u at ≡ l ∷ ls → IsReady p u rs at from old → Passes p.held (cells_left u start first) (cells_left u at from) [] → FindsRow p u rs l from seats place number → FindsCell p u rs start first at seats place number
-  finds_cell start at first from l ls old seats place number e ready before f = record {
-    line = l;
-    others = ls;
-    line_at = e;
-    found = f.found;
-    passes = passes_then p.held (cells_left u start first) (cells_left u at from) (cells_left u at (place + 1)) [] _ before (line_passes p.held u at from (place + 1) l ls _ e f.passes);
-    ready = ready_line p u rs at (place + 1) seats ready.settled l ls e f.seated;
-  }
+  -- past the last line all places are alike
+  pub ready_past : (at : Place) (from upto : ℕ) (seats : List Seat) → IsReady p u rs at from upto seats → lines_from u at ≡ [] → (left above : ℕ) → IsReady p u rs at left above seats
+  ready_past at from upto seats h e left above = record { settled = h.settled; count = h.count; seated = λ l ls line. absurd (no_head l ls (sym line ∙ e)); ended = h.ended }
+
+  -- the end of a line, and the lines that are skipped after it
+  pub leads_on : (policy : IsPolicy p) (start : Place) (first last : ℕ) (at next to : Place) (from upto : ℕ) (l : LineView) → Leads p u start first last at from upto → lines_from u at ≡ l ∷ lines_from u next → HasNoHit p u l from upto → Skips p.held u next to → Leads p u start first last to 0 0
+  leads_on policy start first last at next to from upto l (inl same) e none skips = inr (
+    refl,
+    refl,
+    record {
+      line = l;
+      next = next;
+      line_at = ap (lines_from u) (sym same.0) ∙ e;
+      none = rw (same.1, same.2) at none;
+      skips = skips;
+    },
+  )
+  leads_on policy start first last at next to from upto l (inr later) e none skips = inr (
+    refl,
+    refl,
+    record {
+      line = later.2.line;
+      next = later.2.next;
+      line_at = later.2.line_at;
+      none = later.2.none;
+      skips = skips_then p.held u later.2.next at to later.2.skips (skips_then p.held u at next to (skips_line p.held u at next l e (rowless p u l policy (rw (later.0, later.1) at none))) skips);
+    },
+  )
+
+  -- to a place on a line
+  pub leads_pass : (policy : IsPolicy p) (at : Place) (from : ℕ) (to : Place) (begin low : ℕ) → Leads p u at from 0 to begin low → (low ≡ 0) × Passes p.held (cells_left u at from) (cells_left u to begin) []
+  leads_pass policy at from to begin low (inl same) =
+      (same.2, rw (same.0, same.1) (passes_none p.held (cells_left u at from)))
+  leads_pass policy at from to begin low (inr later) = (
+    later.1,
+    rw later.0 (passes_then p.held (cells_left u at from) (cells_left u later.2.next 0) (cells_left u to 0) [] []
+        (line_ends p.held u at later.2.next from later.2.line later.2.line_at (none_passes p u later.2.line policy from later.2.none))
+        (skips_pass p.held u later.2.next to later.2.skips)),
+  )
+
+  -- the next one of a line gives the next row of what is left
+  pub cell_passes : (policy : IsPolicy p) (at : Place) (from : ℕ) (to : Place) (seats : List Seat) (place number : ℕ) (f : FindsCell p u rs at from 0 to seats place number) → Passes p.held (cells_left u at from) (cells_left u to (place + 1)) (row_on p u f.line place number f.found.next.hit ∷ [])
+  cell_passes policy at from to seats place number f =
+      let way = leads_pass policy at from to f.begin f.low f.leads in
+      passes_then p.held (cells_left u at from) (cells_left u to f.begin) (cells_left u to (place + 1)) [] _ way.1
+      (line_passes p.held u to f.begin (place + 1) f.line f.others _ f.line_at (next_passes p u f.line policy f.begin f.low place number f.found.next way.0))
+
+  -- the end of all of them
+  pub all_passes : (policy : IsPolicy p) (at : Place) (from : ℕ) (to : Place) (seats : List Seat) → EndsAll p u rs at from 0 to seats → Passes p.held (cells_left u at from) [] []
+  all_passes policy at from to seats e =
+      let way = leads_pass policy at from to e.begin e.low e.leads in
+      subst (λ (cs : List Cell). Passes p.held (cells_left u at from) cs []) (ap (cells_of_lines u e.begin) e.ended) way.1
 
   -- the account over the end of a line, and the lines that are skipped
-  pub metered_over : (start : Place) (sought given : ℕ) (at next to : Place) (l : LineView) (from : ℕ) (old ended empty seats : List Seat) (m m' m'' : ℕ) → IsPolicy p → IsUniverse u → AreReaches p u rs → lines_from u at ≡ l ∷ lines_from u next → EndsLine p u rs l from ended → AreEmpty p empty → Costs 0 0 old ended m m' → Costs 0 0 empty seats m' m'' → Skips p.held u next to → IsMetered p u start sought at old given m → IsMetered p u start sought to seats given m''
-  metered_over start sought given at next to l from old ended empty seats m m' m'' policy is reaches e ends none costs more skips h =
+  pub metered_over : (start : Place) (sought given : ℕ) (at next to : Place) (l : LineView) (from upto : ℕ) (old ended empty seats : List Seat) (m m' m'' : ℕ) → IsPolicy p → IsUniverse u → AreReaches p u rs → lines_from u at ≡ l ∷ lines_from u next → EndsLine p u rs l from upto ended → AreEmpty p empty → Costs 0 0 old ended m m' → Costs 0 0 empty seats m' m'' → Skips p.held u next to → IsMetered p u start sought at old given m → IsMetered p u start sought to seats given m''
+  metered_over start sought given at next to l from upto old ended empty seats m m' m'' policy is reaches e ends none costs more skips h =
       let read : IsMetered p u start sought at ended given m' = metered_on p u start sought at old ended given m m' h costs in
-      let over : IsMetered p u start sought next empty given m' = metered_end p u start sought rs at next l ends.reached ended empty given m' policy is reaches e ends.seated ends.past none read in
+      let over : IsMetered p u start sought next empty given m' = metered_end p u start sought rs at next l ends.reached ends.low ended empty given m' policy is reaches e ends.seated ends.past none read in
       let seated : IsMetered p u start sought next seats given m'' = metered_on p u start sought next empty seats given m' m'' over more in
       metered_skip p u start sought next to seats given m'' skips.between skips.whole seated

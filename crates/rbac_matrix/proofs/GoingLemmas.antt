@@ -11,14 +11,17 @@ use Rattle.rbac_matrix.specs.Cells.{AreRowsOf}
 use Rattle.rbac_matrix.specs.Lines.{LineView, cells_of_lines, lines_from}
 use Rattle.rbac_index.specs.Reaches.{AreReaches}
 use Rattle.rbac_matrix.specs.Metering.{AreTouched, IsMetered, IsReady}
-use Rattle.rbac_matrix.specs.Passing.{Passes, cell_of, cells_left}
+use Rattle.rbac_matrix.specs.Cursors.{IsCursorAt}
+use Rattle.rbac_matrix.specs.Passing.{FindsCell, Passes, cell_of, cells_left}
+use Rattle.rbac_matrix.specs.Seats.{AreSeated, Costs, seat_at}
 use Rattle.rbac_matrix.specs.Enumeration.{EntersLast}
 use Rattle.rbac_matrix.specs.declared.line.Place.{Place}
 use Rattle.rbac_matrix.specs.declared.seat.Seat.{Seat}
 use Rattle.rbac_matrix.proofs.SeatLemmas.{empty_passed, empty_standing}
 use Rattle.rbac_matrix.proofs.PassLemmas.{no_head, passes_left, passes_rows}
-use Rattle.rbac_matrix.proofs.TouchLemmas.{reads_few, touched_split}
-use Rattle.rbac_matrix.proofs.LineLemmas.{mapped_at}
+use Rattle.rbac_matrix.proofs.BeginLemmas.{ready_line}
+use Rattle.rbac_matrix.proofs.TouchLemmas.{metered_more, reads_few, touched_split}
+use Rattle.rbac_matrix.proofs.LineLemmas.{all_past, mapped_at}
 
 module _ (h : Held) (cs ds : List Cell) (row : RowView) (p : Passes h cs ds (row ∷ [])) where
   -- the row is the first of those that are left
@@ -40,15 +43,6 @@ module _ (h : Held) (cs ds : List Cell) (row : RowView) (p : Passes h cs ds (row
 pub none_given : (h : Held) (cs : List Cell) → Passes h cs [] [] → AreRowsOf h cs []
 none_given h cs p = passes_rows h cs [] [] [] p refl
 
--- past the last line all places are alike
-pub ready_any : (p : PolicyView) (u : UniverseView) (rs : List (List ℕ)) (at : Place) (left from : ℕ) (seats : List Seat) → lines_from u at ≡ [] → IsReady p u rs at left seats → IsReady p u rs at from seats
-ready_any p u rs at left from seats e r = record {
-  settled = r.settled;
-  count = r.count;
-  seated = λ l ls other. absurd (no_head l ls (sym other ∙ e));
-  ended = r.ended;
-}
-
 own_namespace : (u : UniverseView) → IsUniverse u → (l : LineView) (t : What) (b : Bool) → Contains u.targets (t, b) → Fits (cell_of l (t, b)) → namespace_at l.namespace t ≡ l.namespace
 own_namespace u is l (Resource group text name) b w fits = refl
 own_namespace u is l (Url path) true w fits = absurd (is.urls path w)
@@ -59,9 +53,37 @@ own_namespace u is l (Url path) false w (inr e) = sym e
 pub fits_namespace : (u : UniverseView) → IsUniverse u → (l : LineView) (place : ℕ) (t : Listed) → slice_get u.targets place ≡ Some t → Fits (cell_of l t) → namespace_at l.namespace t.0 ≡ l.namespace
 fits_namespace u is l place t at fits = own_namespace u is l t.0 t.1 (place, slice_get_within u.targets place t at, get_or_from_slice_get u.targets place t t at) fits
 
+-- ---- the seats after a row
+
+module _ (p : PolicyView) (u : UniverseView) (rs : List (List ℕ)) (at : Place) (from upto : ℕ) (to : Place) (old new : List Seat) (place number end : ℕ) (f : FindsCell p u rs at from upto to old place number) where
+  -- they are those of its line, past its place for the grants below a number
+  pub ready_after : AreSeated p f.line rs place end new → IsReady p u rs to place end new
+  ready_after seated = ready_line p u rs to place end new f.settled f.line f.others f.line_at seated
+
+  -- and one entry at least is passed
+  pub metered_after : (start : Place) (sought given m m' : ℕ) → IsMetered p u start sought to old given m → number < end
+      → ((k : ℕ) → IsCursorAt p f.line k → k < end → (seat_at old k).place ≡ place → Costs 0 1 old new m m') → IsMetered p u start sought to new (given + 1) m'
+  metered_after start sought given m m' h lt gains =
+      metered_more p u start sought to old new given 1 m m' h (gains number f.found.cursor lt f.found.stands)
+
+-- the same of a line that is this one
+pub gains_on : (p : PolicyView) (l m : LineView) (place end : ℕ) (old new : List Seat) (before after : ℕ) → l ≡ m
+    → ((k : ℕ) → IsCursorAt p l k → k < end → (seat_at old k).place ≡ place → Costs 0 1 old new before after)
+    → (k : ℕ) → IsCursorAt p m k → k < end → (seat_at old k).place ≡ place → Costs 0 1 old new before after
+gains_on p l m place end old new before after e gains k c = gains k (subst (λ (x : LineView). IsCursorAt p x k) (sym e) c)
+
+-- past a place for all grants is at the next one
+pub ready_next : (p : PolicyView) (u : UniverseView) (rs : List (List ℕ)) (at : Place) (place end : ℕ) (seats : List Seat) → end ≡ length p.grants → IsReady p u rs at place end seats → IsReady p u rs at (place + 1) 0 seats
+ready_next p u rs at place end seats all h = record {
+  settled = h.settled;
+  count = h.count;
+  seated = λ l ls e. all_past p l rs place end seats all (h.seated l ls e);
+  ended = h.ended;
+}
+
 -- ---- the meter
 
-module _ (p : PolicyView) (u : UniverseView) (rs : List (List ℕ)) (start : Place) (sought : ℕ) (at : Place) (from : ℕ) (seats : List Seat) (given count : ℕ) (policy : IsPolicy p) (is : IsUniverse u) (reaches : AreReaches p u rs) (ready : IsReady p u rs at from seats) (h : IsMetered p u start sought at seats given count) where
+module _ (p : PolicyView) (u : UniverseView) (rs : List (List ℕ)) (start : Place) (sought : ℕ) (at : Place) (from upto : ℕ) (seats : List Seat) (given count : ℕ) (policy : IsPolicy p) (is : IsUniverse u) (reaches : AreReaches p u rs) (ready : IsReady p u rs at from upto seats) (h : IsMetered p u start sought at seats given count) where
   entered_few : (ls behind entered : List LineView) (n : ℕ) → lines_from u at ≡ ls → lines_from u start ≡ behind ++ ls → EntersLast ls behind entered → AreTouched p u entered n → count ≤ 20 * sought + n
   entered_few [] behind entered n e whole last touched =
       let same : h.behind ≡ behind = append_cancel_right h.behind behind [] (sym (h.whole ∙ ap (λ (x : List LineView). h.behind ++ x) e) ∙ whole) in
@@ -74,7 +96,7 @@ module _ (p : PolicyView) (u : UniverseView) (rs : List (List ℕ)) (start : Pla
       let same : h.behind ≡ behind = append_cancel_right h.behind behind (l ∷ ls) (sym (h.whole ∙ ap (λ (x : List LineView). h.behind ++ x) e) ∙ whole) in
       let all : AreTouched p u (h.behind ++ l ∷ []) n = subst (λ (x : List LineView). AreTouched p u x n) (last ∙ ap (λ (x : List LineView). x ++ l ∷ []) (sym same)) touched in
       let split = touched_split p u h.behind (l ∷ []) n all in
-      let few = reads_few p u rs l policy is reaches from seats split.3.0 (ready.seated l ls e) split.3.2 in
+      let few = reads_few p u rs l policy is reaches from upto seats split.3.0 (ready.seated l ls e) split.3.2 in
       omega (arith, h.high split.0 split.2, split.4, split.3.4, h.meter)
 
   pub meter_few : (behind entered : List LineView) (n : ℕ) → lines_from u start ≡ behind ++ lines_from u at → EntersLast (lines_from u at) behind entered → AreTouched p u entered n → count ≤ 20 * sought + n

@@ -1,5 +1,5 @@
 -- pages of rows in order join
-use Rattle.std.proofs.Common.{◌≡◌, ◌≢◌, ℕ, zero, suc, ◌<◌, Bool, true, false, List, [], ◌∷◌, ◌++◌, length, drop, take, refl, ap, ◌∙◌, sym, arith, Contains, ◌⊎◌, inl, inr, Less, Equal, Greater, Ordering, subst}
+use Rattle.std.proofs.Common.{◌≡◌, ◌≢◌, ℕ, zero, suc, ◌<◌, Bool, true, false, List, [], ◌∷◌, ◌++◌, length, drop, take, refl, ap, ◌∙◌, sym, arith, Contains, ◌⊎◌, inl, inr, Less, Equal, Greater, Ordering, subst, get_or}
 use Rattle.std.specs.Prelude.{Option, Some, None, filter, nat_lt, ◌↔◌}
 use Rattle.std.specs.Ordering.{is_gt, ordering_reverse, ordering_then}
 use Rattle.std.specs.Cmp.Lexicographic.{slice_cmp}
@@ -11,6 +11,8 @@ use Rattle.std.proofs.lemmas.List.Kept.{AllPairs-filter}
 use Rattle.std.proofs.lemmas.List.Elements.{filter_passes}
 use Rattle.rbac_terms.specs.Text.{Text, text_cmp}
 use Rattle.rbac_terms.specs.Keys.{KeyTexts, key_cmp, texts}
+use Rattle.rbac_terms.specs.KeyOrder.{key_cmp_total}
+use Rattle.rbac_terms.proofs.Orderings.{then_less}
 use Rattle.rbac_model.specs.Lists.{by_name, IsAscendingBy}
 use Rattle.rbac_model.specs.Universes.{RowView, cell_key}
 use Rattle.rbac_model.specs.Policies.{binding_name}
@@ -18,11 +20,11 @@ use Rattle.rbac_model.proofs.NamePlaces.{exact_names, total}
 use Rattle.rbac_token.specs.Marks.{name_texts}
 use Rattle.rbac_token.specs.declared.mark.BindingName.{BindingName}
 use Rattle.rbac_token.specs.declared.mark.Mark.{Mark}
-use Rattle.rbac_matrix.specs.Every.{EveryPagesJoin, comes_after, every_name, mark_of}
+use Rattle.rbac_matrix.specs.Every.{EveryPagesJoin, StandsPast, comes_after, every_name, mark_of}
 use Rattle.rbac_matrix.specs.Paging.{PagesJoin}
 use Rattle.rbac_universe.proofs.Flattened.{there}
 use Rattle.rbac_matrix.proofs.OneMatrix.{by_keys, key_name}
-use Rattle.rbac_matrix.proofs.Orders.{cmp_append, greater}
+use Rattle.rbac_matrix.proofs.Orders.{cmp_append, first_greater, first_tied, greater}
 use Rattle.rbac_matrix.proofs.RowLemmas.{head_below, tail_ascends}
 use Rattle.rbac_matrix.proofs.StartLemmas.{filter_all}
 
@@ -141,11 +143,6 @@ greater_then a b c less more =
     let below : slice_cmp text_cmp c b ≡ Less = order.antisymm c b ∙ ap ordering_reverse more in
     order.antisymm a c ∙ ap ordering_reverse (order.trans c b a below less)
 
-front_less : (o p : Ordering) → ordering_then o p ≡ Less → (o ≡ Less) ⊎ (o ≡ Equal)
-front_less Less p e = inl refl
-front_less Equal p e = inr refl
-front_less Greater p e = cc
-
 -- ---- by keys
 
 abbrev key : RowView → KeyTexts
@@ -170,7 +167,7 @@ past_mark m row = comes_after m.key m.binding row
 key_onward : (k : KeyTexts) (last row : RowView) → past_key k last ≡ true → by_name every_name last row ≡ Less → past_key k row ≡ true
 key_onward k last row e less =
     let whole = sym (cmp_append (texts (key last)) (texts (key row)) refl (binding_name last.binding) (binding_name row.binding)) ∙ less in
-    elim (front_less (key_cmp (key last) (key row)) (slice_cmp text_cmp (binding_name last.binding) (binding_name row.binding)) whole) [
+    elim (then_less (key_cmp (key last) (key row)) (slice_cmp text_cmp (binding_name last.binding) (binding_name row.binding)) whole) [
       | inl below ↦ key_still k last row e below
       | inr tied ↦ let same : texts (key last) ≡ texts (key row) = exact_names (texts (key last)) (texts (key row)) tied in ap (λ (t : List Text). is_gt (slice_cmp text_cmp t (texts k))) (sym same) ∙ e
     ]
@@ -186,3 +183,39 @@ every_pages_join held u rows every None n before last e =
     join_all every_name mark_of past_mark (λ a b. refl) (λ m. mark_still m.key m.binding) n rows before last every.ordered e
 every_pages_join held u rows every (Some m) n before last e =
     join_after every_name mark_of past_mark (λ a b. refl) (λ j. mark_still j.key j.binding) m n rows before last every.ordered e
+
+-- ---- what comes after a mark with a binding, part by part
+
+-- keys with the same texts are one
+pub same_key : (a b : KeyTexts) → texts a ≡ texts b → a ≡ b
+same_key a b e =
+    let of : List Text → KeyTexts = λ ts. record {
+      principal = get_or ts 0 [];
+      namespace = get_or ts 1 [];
+      verb = get_or ts 2 [];
+      group = get_or ts 3 [];
+      resource = get_or ts 4 [];
+      name = get_or ts 5 [];
+    } in
+    ap of e
+
+greater_parts : (o p : Ordering) → ordering_then o p ≡ Greater → (o ≡ Greater) ⊎ ((o ≡ Equal) × (p ≡ Greater))
+greater_parts Less p e = cc
+greater_parts Equal p e = inr (refl, e)
+greater_parts Greater p e = inl refl
+
+pub stands_past : (k : KeyTexts) (b : BindingName) (row : RowView) → (comes_after k (Some b) row ≡ true) ↔ StandsPast k b row
+stands_past k b row =
+    let mark = texts k ++ name_texts (Some b) in
+    let by_key = key_cmp (key row) k in
+    let by_binding = slice_cmp text_cmp (binding_name row.binding) (name_texts (Some b)) in
+    let parts : slice_cmp text_cmp (every_name row) mark ≡ ordering_then by_key by_binding = cmp_append (texts (key row)) (texts k) refl (binding_name row.binding) (name_texts (Some b)) in (
+      λ after. elim (greater_parts by_key by_binding (sym parts ∙ greater (slice_cmp text_cmp (every_name row) mark) after)) [
+        | inl above ↦ inl above
+        | inr tied ↦ inr (same_key (key row) k (exact_names (texts (key row)) (texts k) tied.0), tied.1)
+      ],
+      λ past. ap is_gt (parts ∙ elim past [
+        | inl above ↦ first_greater by_key by_binding above
+        | inr tied ↦ first_tied by_key by_binding (ap (λ (j : KeyTexts). key_cmp j k) tied.0 ∙ tied_itself key_cmp_total k) ∙ tied.1
+      ]),
+    )

@@ -1,7 +1,10 @@
 pub mod BeginLemmas
 pub mod Decided
 pub mod EnumLemmas
+pub mod EveryLemmas
+pub mod EveryStartLemmas
 pub mod GoingLemmas
+pub mod HitLemmas
 pub mod IdleLemmas
 pub mod JoinLemmas
 pub mod LineLemmas
@@ -11,6 +14,7 @@ pub mod OneEvery
 pub mod OneMatrix
 pub mod Orders
 pub mod PageLemmas
+pub mod PairLemmas
 pub mod PassLemmas
 pub mod Product
 pub mod RowLemmas

@@ -1,5 +1,5 @@
 -- what seats say of the rows of a line
-use Rattle.std.proofs.Common.{refl, ◌≡◌, ℕ, zero, suc, ◌+◌, ◌-◌, ◌<◌, ◌≤◌, ◌⊎◌, List, [], ◌∷◌, length, get_or, map, ap, ◌∙◌, sym, arith, subst, inl, inr, Contains, Bool, true, false, IsTrue}
+use Rattle.std.proofs.Common.{◌≡◌, ℕ, zero, suc, ◌+◌, ◌<◌, ◌≤◌, ◌⊎◌, List, [], ◌∷◌, length, get_or, map, ap, ◌∙◌, sym, arith, subst, inl, inr, Contains, Bool, true, false, IsTrue}
 use Rattle.std.specs.Prelude.{Option, Some, None, slice_get}
 use Rattle.std.specs.List.Sorted.{IsStrictlyIncreasing}
 use Rattle.std.proofs.lemmas.Bool.{cases_lt}
@@ -9,21 +9,20 @@ use Rattle.std.proofs.lemmas.Option.{same_Some, slice_get-get_or, get_or_from_sl
 use Rattle.rbac_terms.specs.Text.{Text}
 use Rattle.rbac_terms.specs.Targets.{What, Resource, Url}
 use Rattle.rbac_terms.specs.Matching.{TargetOk}
-use Rattle.rbac_terms.specs.declared.granting.Binding.{Binding}
-use Rattle.rbac_model.specs.Policies.{PolicyView, IsPolicy, GrantView, Allows, Live}
-use Rattle.rbac_model.specs.Universes.{UniverseView, IsUniverse, Listed, Cell, Fits, LiveForSome}
-use Rattle.rbac_model.proofs.GrantNumbers.{some_grant, first_grant}
-use Rattle.rbac_matrix.specs.Cells.{AreRowsOf, HasRow}
+use Rattle.rbac_terms.proofs.Reading.{read_some}
+use Rattle.rbac_model.specs.Policies.{PolicyView, IsPolicy, GrantView, Live}
+use Rattle.rbac_model.specs.Universes.{UniverseView, IsUniverse, Listed, Fits, LiveForSome}
+use Rattle.rbac_matrix.specs.Cells.{AreRowsOf}
 use Rattle.rbac_matrix.specs.Lines.{LineView, line_cells_from}
 use Rattle.rbac_matrix.specs.Cursors.{IsCursorAt}
 use Rattle.rbac_index.specs.Reaches.{AreReaches, IsReachAt}
-use Rattle.rbac_matrix.specs.Passing.{EndsLine, FindsRow, Passes, cell_of}
+use Rattle.rbac_matrix.specs.Passing.{EndsLine, FindsRow, IsFrom, IsHit, cell_of}
 use Rattle.rbac_matrix.specs.declared.seat.Seat.{Seat}
-use Rattle.rbac_matrix.specs.Seats.{AreReal, AreSeated, IsLeastSeat, IsSeated, past_all, reach_at, seat_at}
+use Rattle.rbac_matrix.specs.Seats.{AreReal, AreSeated, AreSeatedAbout, ComesFirst, IsLeastSeat, IsSeated, past_all, reach_at, seat_at, start_at}
 use Rattle.rbac_matrix.proofs.SeekLemmas.{ascends}
 use Rattle.rbac_matrix.proofs.SeatLemmas.{stands_within}
 use Rattle.rbac_matrix.proofs.LoopLemmas.{cursor_within}
-use Rattle.rbac_matrix.proofs.PassLemmas.{passes_none, passes_rows, passes_then, passes_over, row_passes, no_row_passes, line_over, read_at}
+use Rattle.rbac_matrix.proofs.HitLemmas.{from_next, from_then, next_from, rowless}
 
 -- ---- where a binding lives, for requests that fit
 
@@ -73,27 +72,13 @@ flag_at (x ∷ ts) (suc place) t b e f = flag_at ts place t b e f
 length_map_targets : (ts : List Listed) → length (map (λ (x : Listed). x.0) ts) ≡ length ts
 length_map_targets ts = length-map ts (λ (x : Listed). x.0)
 
--- a row is brought by a cursor that matches its target
-pub row_cursor : (p : PolicyView) (l : LineView) → IsPolicy p → (t : Listed) (b : Binding) → HasRow p.held (cell_of l t) b → (k : ℕ) × (c : IsCursorAt p l k) × TargetOk c.grant.rule.rule t.0
-row_cursor p l policy t b has =
-    let first = has.1 in
-    let allows : Allows p.held l.who l.namespace l.verb t.0 = (first.0, b, slice_get_within p.held.bindings first.0 b first.1.here, get_or_from_slice_get p.held.bindings first.0 b b first.1.here, first.1.holds) in
-    let g = some_grant p.held p.grants l.who l.namespace l.verb t.0 policy.0 policy.1 allows in (
-      g.0,
-      record {
-        grant = g.1;
-        at = slice_get-get_or p.grants g.0 g.1 g.2 ∙ ap (λ (v : GrantView). Some v) g.3;
-        is = (g.4.2.0, g.4.1, live_for_some g.1.binding.namespace l.namespace t.0 g.4.0);
-      },
-      g.4.2.1,
-    )
+-- what is allowed is so by a cursor
+pub hit_cursor : (p : PolicyView) (u : UniverseView) (l : LineView) (place k : ℕ) → IsHit p u l place k → IsCursorAt p l k
+hit_cursor p u l place k h = record { grant = h.grant; at = h.grant_at; is = (h.allows.2.0, h.allows.1, live_for_some h.grant.binding.namespace l.namespace h.target.0 h.allows.0) }
 
 -- a line without cursors has no row
 pub no_cursors : (p : PolicyView) (u : UniverseView) (l : LineView) → IsPolicy p → ((k : ℕ) → IsCursorAt p l k → ⊥) → AreRowsOf p.held (line_cells_from u 0 l) []
-no_cursors p u l policy none =
-    passes_rows p.held (line_cells_from u 0 l) (line_cells_from u (0 + length u.targets) l) [] []
-    (passes_over u l p.held 0 (length u.targets) (omega arith) (λ at t low high read b has. let r = row_cursor p l policy t b has in none r.0 r.1))
-    (subst (λ (cs : List Cell). AreRowsOf p.held cs []) (sym (line_over u l (0 + length u.targets) (omega arith))) refl)
+no_cursors p u l policy none = rowless p u l policy (λ q k h from. none k (hit_cursor p u l q k h))
 
 module _ (p : PolicyView) (u : UniverseView) (rs : List (List ℕ)) (l : LineView) (policy : IsPolicy p) (is : IsUniverse u) (reaches : AreReaches p u rs) where
   reach_of : (k : ℕ) → IsCursorAt p l k → IsReachAt p u k (reach_at rs k)
@@ -142,48 +127,53 @@ module _ (p : PolicyView) (u : UniverseView) (rs : List (List ℕ)) (l : LineVie
       let lt = slice_get_within (map (λ (x : Listed). x.0) u.targets) place m.0 m.1 in
       omega (arith, length_map_targets u.targets)
 
-  -- no cursor has the place
-  pub no_row : (place : ℕ) (t : Listed) → slice_get u.targets place ≡ Some t → ((k : ℕ) → IsCursorAt p l k → Contains (reach_at rs k) place → ⊥) → (b : Binding) → HasRow p.held (cell_of l t) b → ⊥
-  no_row place t at none b has = let r = row_cursor p l policy t b has in none r.0 r.1 (matches_in r.0 place t r.1 at r.2)
+  -- what is allowed stands in the reach, and what stands there is allowed where the request fits
+  pub hit_in : (place k : ℕ) → IsHit p u l place k → Contains (reach_at rs k) place
+  unfolding hit_cursor
+  hit_in place k h = matches_in k place h.target (hit_cursor p u l place k h) h.target_at h.allows.2.1
 
-  -- the first cursor that has the place brings the row
-  pub has_row : (place : ℕ) (t : Listed) → slice_get u.targets place ≡ Some t → Fits (cell_of l t) → (k : ℕ) (c : IsCursorAt p l k) → Contains (reach_at rs k) place → ((j : ℕ) → j < k → IsCursorAt p l j → Contains (reach_at rs j) place → ⊥) → HasRow p.held (cell_of l t) c.grant.binding
-  has_row place t at fits k c w none =
-      let in_universe : Contains u.targets t = (place, slice_get_within u.targets place t at, get_or_from_slice_get u.targets place t t at) in (
-        fits,
-        first_grant p.held p.grants l.who l.namespace l.verb t.0 policy.0 policy.1 k c.grant (record {
-          here = c.at;
-          holds = (live_where_fits u is l c.grant.binding.namespace t.0 t.1 in_universe fits c.is.2, c.is.1, (c.is.0, in_matches k place t c at w));
-          none_before = λ j g lt read allows.
-              let d : IsCursorAt p l j = record { grant = g; at = read; is = (allows.2.0, allows.1, live_for_some g.binding.namespace l.namespace t.0 allows.0) } in
-              none j lt d (matches_in j place t d at allows.2.1);
-        }),
-      )
+  pub hit_of : (place k : ℕ) (t : Listed) (c : IsCursorAt p l k) → slice_get u.targets place ≡ Some t → Fits (cell_of l t) → Contains (reach_at rs k) place → IsHit p u l place k
+  hit_of place k t c at fits w =
+      let in_universe : Contains u.targets t = (place, slice_get_within u.targets place t at, get_or_from_slice_get u.targets place t t at) in
+      record {
+        target = t;
+        grant = c.grant;
+        target_at = at;
+        grant_at = c.at;
+        fits = fits;
+        allows = (live_where_fits u is l c.grant.binding.namespace t.0 t.1 in_universe fits c.is.2, c.is.1, (c.is.0, in_matches k place t c at w));
+      }
 
-  module _ (from : ℕ) (seats : List Seat) (seated : AreSeated p l rs from seats) where
-    pub seat_of : (k : ℕ) → IsCursorAt p l k → IsSeated (reach_at rs k) from (seat_at seats k)
+  module _ (from upto : ℕ) (seats : List Seat) (seated : AreSeated p l rs from upto seats) where
+    pub seat_of : (k : ℕ) → IsCursorAt p l k → IsSeated (reach_at rs k) (start_at from upto k) (seat_at seats k)
     seat_of k c = elim (seated.each k (omega (arith, cursor_within p l k c, seated.count))) [
       | inl s ↦ s.1
       | inr e ↦ absurd (e.0 c)
     ]
 
-    not_in : (k at : ℕ) → IsCursorAt p l k → from ≤ at → at < (seat_at seats k).place → Contains (reach_at rs k) at → ⊥
-    not_in k at c low high w = none_between (reach_at rs k) from at (seat_at seats k) (reach_up k c) (seat_of k c) low high w
+    -- where the entries of a grant are left
+    started : (q k : ℕ) → IsFrom q k from upto → start_at from upto k ≤ q
+    started q k (inl lt) = omega arith
+    started q k (inr same) = omega (arith, same.0, same.1)
 
-    -- where all seats stand further on there is no row
-    pub passes_to : (to : ℕ) → from ≤ to → to ≤ length u.targets → ((k : ℕ) → IsCursorAt p l k → to ≤ (seat_at seats k).place) → Passes p.held (line_cells_from u from l) (line_cells_from u to l) []
-    passes_to to low high before =
-        let e : from + (to - from) ≡ to = omega arith in
-        let all = passes_over u l p.held from (to - from) (omega arith) (λ at t ge lt read. no_row at t read (λ k c w. not_in k at c ge (omega (arith, before k c)) w)) in
-        rw e at all
+    -- the seat of a cursor stands no further than what is allowed by it
+    pub seat_first : (q k : ℕ) → IsHit p u l q k → IsFrom q k from upto → (seat_at seats k).place ≤ q
+    seat_first q k h f =
+        let c = hit_cursor p u l q k h in
+        elim (cases_lt q (seat_at seats k).place) [
+          | inl lt ↦ absurd (none_between (reach_at rs k) (start_at from upto k) q (seat_at seats k) (reach_up k c) (seat_of k c) (started q k f) lt (hit_in q k h))
+          | inr ge ↦ ge
+        ]
 
-    pub ends_line : length u.targets ≤ 1000000 → ((k : ℕ) → IsCursorAt p l k → past_all ≤ (seat_at seats k).place) → EndsLine p u rs l from seats
+    pub ends_line : length u.targets ≤ 1000000 → ((k : ℕ) → IsCursorAt p l k → past_all ≤ (seat_at seats k).place) → EndsLine p u rs l from upto seats
     ends_line few past = record {
-      passes = elim (cases_lt from (length u.targets)) [
-        | inl lt ↦ subst (λ (cs : List Cell). Passes p.held (line_cells_from u from l) cs []) (line_over u l (length u.targets) (omega arith)) (passes_to (length u.targets) (omega arith) (omega arith) (λ k c. omega (arith, past k c)))
-        | inr ge ↦ subst (λ (cs : List Cell). Passes p.held (line_cells_from u from l) cs []) (line_over u l from ge) (passes_none p.held (line_cells_from u from l))
-      ];
+      none = λ q k h f.
+          let low = seat_first q k h f in
+          let high = past k (hit_cursor p u l q k h) in
+          let within = slice_get_within u.targets q h.target h.target_at in
+          omega arith;
       reached = from;
+      low = upto;
       seated = seated;
       past = record {
         each = λ k lt. elim (seated.each k lt) [
@@ -195,78 +185,105 @@ module _ (p : PolicyView) (u : UniverseView) (rs : List (List ℕ)) (l : LineVie
 
     module _ (place number : ℕ) (least : IsLeastSeat p l seats place number) where
       in_reach : Contains (reach_at rs number) place
-      in_reach = subst (λ (x : ℕ). Contains (reach_at rs number) x) least.at (seat_place_in (reach_at rs number) from (seat_at seats number) (seat_of number least.cursor) (rw least.at least.real))
+      in_reach = subst (λ (x : ℕ). Contains (reach_at rs number) x) least.at (seat_place_in (reach_at rs number) (start_at from upto number) (seat_at seats number) (seat_of number least.cursor) (rw least.at least.real))
+
+      least_start : start_at from upto number ≤ place
+      least_start = let low = (seat_of number least.cursor).ahead in omega (arith, least.at)
 
       pub least_onward : from ≤ place
-      least_onward = let low = (seat_of number least.cursor).ahead in omega (arith, least.at)
+      least_onward = let low = least_start in omega arith
 
       pub least_within : place < length u.targets
       least_within = place_within number place least.cursor in_reach
 
-      first_there : (j : ℕ) → j < number → IsCursorAt p l j → Contains (reach_at rs j) place → ⊥
-      first_there j lt c w =
-          let order = least.least j c in
-          elim (cases_lt place (seat_at seats j).place) [
-            | inl further ↦ not_in j place c least_onward further w
-            | inr here ↦ absurd (let first = order.first here least.real in omega arith)
+      pub least_from : IsFrom place number from upto
+      least_from = let low = least_start in elim (cases_lt from place) [
+        | inl lt ↦ inl lt
+        | inr ge ↦ inr (omega arith, omega arith)
+      ]
+
+      -- nothing that is allowed comes before it
+      pub least_first : (q k : ℕ) → IsHit p u l q k → IsFrom q k from upto → IsFrom q k place number
+      least_first q k h f =
+          let order = least.least k (hit_cursor p u l q k h) in
+          let at = seat_first q k h f in
+          elim (cases_lt place q) [
+            | inl lt ↦ inl lt
+            | inr ge ↦ inr (omega (arith, order.least), order.first (omega (arith, order.least)) least.real)
           ]
 
-      -- the seats are also seated at the place
-      pub seated_at : AreSeated p l rs place seats
-      seated_at = record {
+      about_each : (end k : ℕ) → number < end → ComesFirst place number (seat_at seats k).place k → IsSeated (reach_at rs k) (start_at from upto k) (seat_at seats k)
+          → IsSeated (reach_at rs k) place (seat_at seats k) ⊎ ((k < end) × IsSeated (reach_at rs k) (place + 1) (seat_at seats k))
+      about_each end k lt order s = let low = least_start in elim (cases_lt place (start_at from upto k)) [
+        | inl past ↦
+            let e : start_at from upto k ≡ place + 1 = omega arith in
+            inr (omega arith, rw e at s)
+        | inr near ↦ inl (record {
+          within = s.within;
+          place = s.place;
+          passed = λ j before. omega (arith, s.passed j before);
+          ahead = order.least;
+        })
+      ]
+
+      -- the seats stand at the place, or past it
+      pub least_about : (end : ℕ) → number < end → AreSeatedAbout p l rs place end seats
+      least_about end lt = record {
         count = seated.count;
-        each = λ k lt. elim (seated.each k lt) [
-          | inl s ↦ inl (
-            s.0,
-            record {
-              within = s.1.within;
-              place = s.1.place;
-              passed = λ j before. omega (arith, s.1.passed j before, least_onward);
-              ahead = (least.least k s.0).least;
-            },
-          )
+        each = λ k within. elim (seated.each k within) [
+          | inl s ↦ inl (s.0, about_each end k lt (least.least k s.0) s.1)
           | inr e ↦ inr e
         ];
       }
 
-      to_place : Passes p.held (line_cells_from u from l) (line_cells_from u place l) []
-      to_place = passes_to place least_onward (omega (arith, least_within)) (λ k c. (least.least k c).least)
-
-      pub line_hit : (t : Listed) → slice_get u.targets place ≡ Some t → Fits (cell_of l t) → Passes p.held (line_cells_from u from l) (line_cells_from u (place + 1) l) (record { cell = cell_of l t; binding = least.cursor.grant.binding } ∷ [])
-      line_hit t at fits =
-          passes_then p.held (line_cells_from u from l) (line_cells_from u place l) (line_cells_from u (place + 1) l) [] _ to_place
-          (row_passes u l p.held place t least.cursor.grant.binding at (has_row place t at fits number least.cursor in_reach first_there))
-
-      pub line_pass : (t : Listed) → slice_get u.targets place ≡ Some t → (Fits (cell_of l t) → ⊥) → Passes p.held (line_cells_from u from l) (line_cells_from u (place + 1) l) []
-      line_pass t at unfit =
-          passes_then p.held (line_cells_from u from l) (line_cells_from u place l) (line_cells_from u (place + 1) l) [] [] to_place
-          (no_row_passes u l p.held place t at (λ b has. unfit has.0))
-
-      module _ (start : ℕ) (before : Passes p.held (line_cells_from u start l) (line_cells_from u from l) []) (b : Bool) (flag : slice_get (map (λ (x : Listed). x.1) u.targets) place ≡ Some b) where
-        pub finds_row : (new : List Seat) → (IsTrue b ⊎ (l.namespace ≡ [])) → AreSeated p l rs (place + 1) new → FindsRow p u rs l start new place number
-        finds_row new fits next =
-            let t = read_at u.targets place least_within in
+      module _ (first last : ℕ) (onward : IsFrom from upto first last) (before : (q k : ℕ) → IsHit p u l q k → IsFrom q k first last → IsFrom q k from upto) (b : Bool) (flag : slice_get (map (λ (x : Listed). x.1) u.targets) place ≡ Some b) where
+        pub finds_row : (IsTrue b ⊎ (l.namespace ≡ [])) → FindsRow p u rs l first last seats place number
+        finds_row fits =
+            let t = read_some u.targets place least_within in
             let fit : Fits (cell_of l t.0) = subst (λ (x : Bool). (IsTrue x) ⊎ (l.namespace ≡ [])) (sym (flag_at u.targets place t.0 b t.1 flag)) fits in
             record {
-              found = record { target = t.0; grant = least.cursor.grant; target_at = t.1; grant_at = least.cursor.at; fits = fit };
-              passes = passes_then p.held (line_cells_from u start l) (line_cells_from u from l) (line_cells_from u (place + 1) l) [] _ before (line_hit t.0 t.1 fit);
-              seated = next;
+              next = record {
+                hit = hit_of place number t.0 least.cursor t.1 fit in_reach;
+                onward = from_then place number from upto first last least_from onward;
+                first = λ q k h f. least_first q k h (before q k h f);
+              };
+              cursor = least.cursor;
+              stands = least.at;
+              about = least_about;
             }
 
-        pub passes_unfit : (IsTrue b ⊎ (l.namespace ≡ []) → ⊥) → Passes p.held (line_cells_from u start l) (line_cells_from u (place + 1) l) []
-        passes_unfit unfit =
-            let t = read_at u.targets place least_within in
-            passes_then p.held (line_cells_from u start l) (line_cells_from u from l) (line_cells_from u (place + 1) l) [] [] before
-            (line_pass t.0 t.1 (λ fit. unfit (subst (λ (x : Bool). (IsTrue x) ⊎ (l.namespace ≡ [])) (flag_at u.targets place t.0 b t.1 flag) fit)))
+        -- the request doesn't fit, and what is allowed comes after it
+        pub passes_unfit : (IsTrue b ⊎ (l.namespace ≡ []) → ⊥) → (q k : ℕ) → IsHit p u l q k → IsFrom q k first last → IsFrom q k (place + 1) 0
+        passes_unfit unfit q k h f = elim (least_first q k h (before q k h f)) [
+          | inl lt ↦ from_next q k place lt
+          | inr same ↦ absurd (unfit (subst (λ (x : Bool). (IsTrue x) ⊎ (l.namespace ≡ []))
+              (flag_at u.targets place h.target b (subst (λ (x : ℕ). slice_get u.targets x ≡ Some h.target) (sym same.0) h.target_at) flag) h.fits))
+        ]
+
+        pub unfit_onward : IsFrom (place + 1) 0 first last
+        unfit_onward = from_then (place + 1) 0 place number first last (next_from place number) (from_then place number from upto first last least_from onward)
+
+-- past a place for all grants is at the next one
+pub all_past : (p : PolicyView) (l : LineView) (rs : List (List ℕ)) (place end : ℕ) (seats : List Seat) → end ≡ length p.grants → AreSeated p l rs place end seats → AreSeated p l rs (place + 1) 0 seats
+all_past p l rs place end seats all h = record {
+  count = h.count;
+  each = λ k lt. elim (h.each k lt) [
+    | inl s ↦
+        let e : start_at place end k ≡ start_at (place + 1) 0 k = omega (arith, h.count) in
+        inl (s.0, subst (λ (x : ℕ). IsSeated (reach_at rs k) x (seat_at seats k)) e s.1)
+    | inr none ↦ inr none
+  ];
+}
+
+pub ends_from : (p : PolicyView) (u : UniverseView) (rs : List (List ℕ)) (l : LineView) (first last from upto : ℕ) (seats : List Seat) → ((q k : ℕ) → IsHit p u l q k → IsFrom q k first last → IsFrom q k from upto) → EndsLine p u rs l from upto seats → EndsLine p u rs l first last seats
+ends_from p u rs l first last from upto seats before h = record {
+  none = λ q k hit f. h.none q k hit (before q k hit f);
+  reached = h.reached;
+  low = h.low;
+  seated = h.seated;
+  past = h.past;
+}
 
 -- the entries of reaches over a million targets, at most, are real places
 pub are_real : (p : PolicyView) (u : UniverseView) (rs : List (List ℕ)) (l : LineView) → IsPolicy p → IsUniverse u → AreReaches p u rs → length u.targets ≤ 1000000 → AreReal rs
 are_real p u rs l policy is reaches few k i lt = omega (arith, entry_within p u rs l policy is reaches k i lt)
-
-pub ends_from : (p : PolicyView) (u : UniverseView) (rs : List (List ℕ)) (l : LineView) (start from : ℕ) (seats : List Seat) → Passes p.held (line_cells_from u start l) (line_cells_from u from l) [] → EndsLine p u rs l from seats → EndsLine p u rs l start seats
-ends_from p u rs l start from seats before h = record {
-  passes = passes_then p.held (line_cells_from u start l) (line_cells_from u from l) [] [] [] before h.passes;
-  reached = h.reached;
-  seated = h.seated;
-  past = h.past;
-}

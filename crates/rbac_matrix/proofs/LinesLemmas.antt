@@ -8,10 +8,10 @@ use Rattle.std.proofs.lemmas.Bool.{cases_lt}
 use Rattle.std.proofs.lemmas.Option.{get_or_from_slice_get, slice_get-get_or, slice_get_within}
 use Rattle.rbac_terms.specs.Text.{Text}
 use Rattle.rbac_terms.specs.Principals.{Who}
+use Rattle.rbac_terms.proofs.Reading.{read_some}
 use Rattle.rbac_model.specs.Universes.{UniverseView}
 use Rattle.rbac_matrix.specs.declared.line.Place.{Place}
 use Rattle.rbac_matrix.specs.Lines.{IsLineAt, IsSettled, LineView, line, lines_from, namespace_lines, next_verb, onward, place, verb_lines}
-use Rattle.rbac_matrix.proofs.PassLemmas.{read_at}
 
 pub drop_at : {A : Type 0} (xs : List A) (i : ℕ) (x : A) → slice_get xs i ≡ Some x → drop i xs ≡ x ∷ drop (i + 1) xs
 drop_at xs i x at =
@@ -77,8 +77,8 @@ module _ (u : UniverseView) where
   pub after_verbs_same : (p n v : ℕ) → n < length u.namespaces → length u.verbs ≤ v → lines_from u (place p (n + 1) 0) ≡ lines_from u (place p n v)
   after_verbs_same p n v lt over = elim (cases_lt p (length u.principals)) [
     | inl within ↦
-        let who = read_at u.principals p within in
-        let ns = read_at u.namespaces n lt in
+        let who = read_some u.principals p within in
+        let ns = read_some u.namespaces n lt in
         let now : namespace_lines u n v who.0 ≡ namespace_lines u (n + 1) 0 who.0 =
         namespaces_at who.0 n v ns.0 ns.1 ∙ ap (λ (l : List LineView). l ++ namespace_lines u (n + 1) 0 who.0) (verbs_over who.0 ns.0 v over) in
         lines_of_principal p (n + 1) 0 who.0 who.1 ∙ ap (λ (l : List LineView). l ++ lines_from u (place (p + 1) 0 0)) (sym now) ∙ sym (lines_of_principal p n v who.0 who.1)
@@ -87,7 +87,7 @@ module _ (u : UniverseView) where
 
   pub after_namespaces_same : (p n v : ℕ) → p < length u.principals → length u.namespaces ≤ n → lines_from u (place (p + 1) 0 0) ≡ lines_from u (place p n v)
   after_namespaces_same p n v lt over =
-      let who = read_at u.principals p lt in
+      let who = read_some u.principals p lt in
       sym (lines_of_principal p n v who.0 who.1 ∙ ap (λ (l : List LineView). l ++ lines_from u (place (p + 1) 0 0)) (namespaces_over who.0 n v over))
 
   -- without namespaces or verbs there are no lines

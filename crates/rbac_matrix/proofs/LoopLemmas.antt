@@ -8,15 +8,15 @@ use Rattle.rbac_matrix.specs.Lines.{LineView}
 use Rattle.rbac_matrix.specs.Cursors.{IsAhead, IsCursorAt}
 use Rattle.rbac_matrix.specs.declared.walk.Walk.{Walk}
 use Rattle.rbac_matrix.specs.declared.seat.Seat.{Seat}
-use Rattle.rbac_matrix.specs.Seats.{IsSeated, AreEmpty, AreSeated, ComesFirst, Costs, SeatCosts, empty_seat, filled, past_all, reach_at, seat_at, stand_of}
-use Rattle.rbac_matrix.proofs.SeatLemmas.{Costs-none, Costs-set, filled_set, seated_stays, set_each, empty_filled, filled_few}
+use Rattle.rbac_matrix.specs.Seats.{IsSeated, AreEmpty, AreSeated, AreSeatedAbout, ComesFirst, Costs, SeatCosts, empty_seat, filled, past_all, reach_at, seat_at, stand_of, start_at}
+use Rattle.rbac_matrix.proofs.SeatLemmas.{Costs-less, Costs-none, Costs-set, filled_set, seated_stays, set_each, empty_filled, filled_few}
 
 pub cursor_within : (p : PolicyView) (l : LineView) (k : ℕ) → IsCursorAt p l k → k < length p.grants
 cursor_within p l k c = slice_get_within p.grants k c.grant c.at
 
 -- a cursor's seat at `from`, or an empty one, to which the walk will come if it is a cursor's
 abbrev pub IsTakenAt : PolicyView → LineView → List (List ℕ) → ℕ → Walk → ℕ → Seat → Type 0
-IsTakenAt p l rs from w k s = (IsCursorAt p l k × IsSeated (reach_at rs k) from s) ⊎ ((s ≡ empty_seat) × (IsCursorAt p l k → IsAhead p l w k))
+IsTakenAt p l rs from w k s = (IsCursorAt p l k × IsSeated (reach_at rs k) (start_at from 0 k) s) ⊎ ((s ≡ empty_seat) × (IsCursorAt p l k → IsAhead p l w k))
 
 -- some of the cursors have seats at `from`, and the walk will come to the others
 pub record AreTaken (p : PolicyView) (l : LineView) (rs : List (List ℕ)) (from : ℕ) (w : Walk) (n : ℕ) (old seats : List Seat) (before after : ℕ) : Type 0 where
@@ -27,7 +27,10 @@ pub record AreTaken (p : PolicyView) (l : LineView) (rs : List (List ℕ)) (from
   pub started : from ≡ 0 → Costs 0 0 old seats before after
   pub sought : Costs (20 * n) 0 old seats before after
 
--- an empty seat is at the end of a reach without places
+-- with no grants below, all are at the place
+plain : (r : List ℕ) (from k : ℕ) (s : Seat) → IsSeated r from s → IsSeated r (start_at from 0 k) s
+plain r from k s h = let e : start_at from 0 k ≡ from = omega arith in rw e h
+
 no_places : (r : List ℕ) (from : ℕ) → length r ≤ 0 → from ≤ past_all → IsSeated r from empty_seat
 no_places [] from h top = record { within = omega arith; place = refl; passed = λ k lt. absurd (omega arith); ahead = top }
 no_places (x ∷ r) from h top = absurd (omega arith)
@@ -83,10 +86,10 @@ module _ (p : PolicyView) (l : LineView) (rs : List (List ℕ)) (from : ℕ) whe
               cursor,
               elim (h.each k taken_within) [
                 | inl s ↦ s.1
-                | inr empty ↦ rw (empty.0, ← is) (no_places r from (elim (cases_lt 0 (length r)) [
+                | inr empty ↦ plain (reach_at rs k) from k (seat_at seats k) (rw (empty.0, ← is) (no_places r from (elim (cases_lt 0 (length r)) [
                   | inl some ↦ absurd (kept (empty.0, some))
                   | inr none ↦ none
-                ]) top)
+                ]) top))
               ],
             ))
         | inr ne ↦ taken_other j ne (seat_at seats j) (h.each j lt)
@@ -107,76 +110,55 @@ module _ (p : PolicyView) (l : LineView) (rs : List (List ℕ)) (from : ℕ) whe
           each = set_each seats k s taken_within
               (λ j x. IsTakenAt p l rs from v j x)
               (λ j lt ne. taken_other j ne (seat_at seats j) (h.each j lt))
-              (inl (cursor, subst (λ (x : List ℕ). IsSeated x from s) is seated));
+              (inl (cursor, plain (reach_at rs k) from k s (subst (λ (x : List ℕ). IsSeated x from s) is seated)));
           is_filled = now;
           few = omega (arith, h.count, length-set seats k s);
           started = λ e. Costs-set seats k s taken_within old 0 0 0 0 before m m' (h.started e) (subst (λ (x : Seat). SeatCosts 0 0 x s m m') (sym empty.0) (started e));
           sought = record { total = both.total; meter = both.meter; low = both.low; high = omega (arith, both.high) };
         }
 
-  pub taken_end : (w : Walk) (n : ℕ) (old seats : List Seat) (before after : ℕ) → AreTaken p l rs from w n old seats before after → ((k : ℕ) → IsAhead p l w k → ⊥) → AreSeated p l rs from seats
-  taken_end w n old seats before after h none = record {
-    count = h.count;
-    each = λ k lt. elim (h.each k lt) [
-      | inl seated ↦ inl seated
-      | inr empty ↦ inr (λ c. none k (empty.1 c), empty.0)
-    ];
-  }
+-- a cursor's seat at the place, to which the walk will come, or from where its entries are left; or an empty one of no cursor
+abbrev pub IsAdvancedAt : PolicyView → LineView → List (List ℕ) → ℕ → ℕ → Walk → ℕ → Seat → Type 0
+IsAdvancedAt p l rs place end w k s =
+    (IsCursorAt p l k × ((IsSeated (reach_at rs k) place s × IsAhead p l w k) ⊎ IsSeated (reach_at rs k) (start_at place end k) s))
+    ⊎ ((IsCursorAt p l k → ⊥) × (s ≡ empty_seat))
 
--- a cursor's seat at the place, to which the walk will come, or past it; or an empty one of no cursor
-abbrev pub IsAdvancedAt : PolicyView → LineView → List (List ℕ) → ℕ → Walk → ℕ → Seat → Type 0
-IsAdvancedAt p l rs place w k s = (IsCursorAt p l k × ((IsSeated (reach_at rs k) place s × IsAhead p l w k) ⊎ IsSeated (reach_at rs k) (place + 1) s)) ⊎ ((IsCursorAt p l k → ⊥) × (s ≡ empty_seat))
-
--- the cursors that were visited stand past the place, and the walk will come to the others
-pub record AreAdvanced (p : PolicyView) (l : LineView) (rs : List (List ℕ)) (place : ℕ) (w : Walk) (old seats : List Seat) (before after : ℕ) : Type 0 where
+-- the cursors that were visited stand where their entries are left, and the walk will come to the others
+pub record AreAdvanced (p : PolicyView) (l : LineView) (rs : List (List ℕ)) (place end : ℕ) (w : Walk) (old seats : List Seat) (before after : ℕ) : Type 0 where
   pub count : length seats ≡ length p.grants
-  pub each : (k : ℕ) → k < length seats → IsAdvancedAt p l rs place w k (seat_at seats k)
+  pub each : (k : ℕ) → k < length seats → IsAdvancedAt p l rs place end w k (seat_at seats k)
   pub gain : ℕ
   pub costs : Costs 0 gain old seats before after
-  pub moved : (k : ℕ) → IsCursorAt p l k → (seat_at old k).place ≡ place → ((seat_at seats k).place ≡ place) ⊎ (0 < gain)
+  pub moved : (k : ℕ) → IsCursorAt p l k → k < end → (seat_at old k).place ≡ place → ((seat_at seats k).place ≡ place) ⊎ (0 < gain)
 
-module _ (p : PolicyView) (l : LineView) (rs : List (List ℕ)) (place : ℕ) where
-  pub advanced_start : (w : Walk) (seats : List Seat) (m : ℕ) → AreSeated p l rs place seats → ((k : ℕ) → IsCursorAt p l k → IsAhead p l w k) → AreAdvanced p l rs place w seats seats m m
-  advanced_start w seats m h ahead = record {
+-- a grant below `end` is past the place, and another at it
+pub start_past : (r : List ℕ) (place end k : ℕ) (s : Seat) → k < end → IsSeated r (place + 1) s → IsSeated r (start_at place end k) s
+start_past r place end k s lt h = let e : start_at place end k ≡ place + 1 = omega arith in rw e h
+
+pub start_here : (r : List ℕ) (place end k : ℕ) (s : Seat) → end ≤ k → IsSeated r place s → IsSeated r (start_at place end k) s
+start_here r place end k s le h = let e : start_at place end k ≡ place = omega arith in rw e h
+
+module _ (p : PolicyView) (l : LineView) (rs : List (List ℕ)) (place end : ℕ) where
+  -- before the walk
+  pub advanced_start : (w : Walk) (old : List Seat) (m : ℕ) → AreSeatedAbout p l rs place end old → ((k : ℕ) → IsCursorAt p l k → IsAhead p l w k) → AreAdvanced p l rs place end w old old m m
+  advanced_start w old m h ahead = record {
     count = h.count;
     each = λ k lt. elim (h.each k lt) [
-      | inl seated ↦ inl (seated.0, inl (seated.1, ahead k seated.0))
-      | inr empty ↦ inr empty
+      | inl s ↦ inl (
+        s.0,
+        elim s.1 [
+          | inl here ↦ inl (here, ahead k s.0)
+          | inr past ↦ inr (start_past (reach_at rs k) place end k (seat_at old k) past.0 past.1)
+        ],
+      )
+      | inr e ↦ inr e
     ];
     gain = 0;
-    costs = Costs-none seats m;
-    moved = λ k c at. inl at;
+    costs = Costs-none old m;
+    moved = λ k c lt at. inl at;
   }
 
-  advanced_each : (w : Walk) (seats : List Seat) (k : ℕ) → ((j : ℕ) → IsAhead p l w j → ⊥)
-      → IsAdvancedAt p l rs place w k (seat_at seats k)
-      → (IsCursorAt p l k × IsSeated (reach_at rs k) (place + 1) (seat_at seats k)) ⊎ ((IsCursorAt p l k → ⊥) × (seat_at seats k ≡ empty_seat))
-  advanced_each w seats k none (inl (c, inl (s, a))) = absurd (none k a)
-  advanced_each w seats k none (inl (c, inr s)) = inl (c, s)
-  advanced_each w seats k none (inr e) = inr e
-
-  pub advanced_end : (w : Walk) (old seats : List Seat) (before after : ℕ) → AreAdvanced p l rs place w old seats before after → ((k : ℕ) → IsAhead p l w k → ⊥) → AreSeated p l rs (place + 1) seats
-  advanced_end w old seats before after h none = record { count = h.count; each = λ k lt. advanced_each w seats k none (h.each k lt) }
-
-  -- a seat that stood at the place has moved
-  pub advanced_gain : (w : Walk) (old seats : List Seat) (before after : ℕ) → AreAdvanced p l rs place w old seats before after → ((k : ℕ) → IsAhead p l w k → ⊥) → (k : ℕ) → IsCursorAt p l k → (seat_at old k).place ≡ place → Costs 0 1 old seats before after
-  advanced_gain w old seats before after h none k c at =
-      let lt : k < length seats = omega (arith, cursor_within p l k c, h.count) in
-      let seated = (advanced_end w old seats before after h none).each k lt in
-      elim (h.moved k c at) [
-        | inl still ↦ elim seated [
-          | inl s ↦ let low = s.1.ahead in absurd (omega arith)
-          | inr e ↦ absurd (e.0 c)
-        ]
-        | inr gain ↦ record {
-          total = h.costs.total;
-          meter = h.costs.meter;
-          low = omega (arith, h.costs.low);
-          high = omega (arith, h.costs.high);
-        }
-      ]
-
-  module _ (w v : Walk) (old seats : List Seat) (before m : ℕ) (h : AreAdvanced p l rs place w old seats before m) (k : ℕ) (within : k < length seats) (on : (j : ℕ) → IsAhead p l w j → (j ≡ k) ⊎ IsAhead p l v j) where
+  module _ (w v : Walk) (old seats : List Seat) (before m : ℕ) (h : AreAdvanced p l rs place end w old seats before m) (k : ℕ) (within : k < length seats) (on : (j : ℕ) → IsAhead p l w j → (j ≡ k) ⊎ IsAhead p l v j) where
     -- a seat that stands at a place is a cursor's
     pub advanced_cursor : place < past_all → (seat_at seats k).place ≡ place → IsCursorAt p l k
     advanced_cursor real at = elim (h.each k within) [
@@ -185,8 +167,8 @@ module _ (p : PolicyView) (l : LineView) (rs : List (List ℕ)) (place : ℕ) wh
     ]
 
     other : (j : ℕ) → j ≢ k
-        → IsAdvancedAt p l rs place w j (seat_at seats j)
-        → IsAdvancedAt p l rs place v j (seat_at seats j)
+        → IsAdvancedAt p l rs place end w j (seat_at seats j)
+        → IsAdvancedAt p l rs place end v j (seat_at seats j)
     other j ne (inl (c, inl (s, a))) = elim (on j a) [
       | inl e ↦ absurd (ne e)
       | inr b ↦ inl (c, inl (s, b))
@@ -194,19 +176,25 @@ module _ (p : PolicyView) (l : LineView) (rs : List (List ℕ)) (place : ℕ) wh
     other j ne (inl (c, inr s)) = inl (c, inr s)
     other j ne (inr e) = inr e
 
-    here : (seat_at seats k).place ≢ place
-        → IsAdvancedAt p l rs place w k (seat_at seats k)
-        → IsAdvancedAt p l rs place v k (seat_at seats k)
-    here ne (inl (c, inl (s, a))) = inl (c, inr (seated_stays (reach_at rs k) place (seat_at seats k) s ne))
+    left_there : ((k < end) × ((seat_at seats k).place ≡ place) → ⊥) → IsSeated (reach_at rs k) place (seat_at seats k) → IsSeated (reach_at rs k) (start_at place end k) (seat_at seats k)
+    left_there ne s = elim (cases_lt k end) [
+      | inl lt ↦ start_past (reach_at rs k) place end k (seat_at seats k) lt (seated_stays (reach_at rs k) place (seat_at seats k) s (λ e. ne (lt, e)))
+      | inr ge ↦ start_here (reach_at rs k) place end k (seat_at seats k) ge s
+    ]
+
+    here : ((k < end) × ((seat_at seats k).place ≡ place) → ⊥)
+        → IsAdvancedAt p l rs place end w k (seat_at seats k)
+        → IsAdvancedAt p l rs place end v k (seat_at seats k)
+    here ne (inl (c, inl (s, a))) = inl (c, inr (left_there ne s))
     here ne (inl (c, inr s)) = inl (c, inr s)
     here ne (inr e) = inr e
 
-    -- the seat stood elsewhere
-    pub advanced_stay : (seat_at seats k).place ≢ place → AreAdvanced p l rs place v old seats before m
+    -- the seat stood elsewhere, or isn't to be moved
+    pub advanced_stay : ((k < end) × ((seat_at seats k).place ≡ place) → ⊥) → AreAdvanced p l rs place end v old seats before m
     advanced_stay ne = record {
       count = h.count;
       each = λ j lt. elim (cases_eq j k) [
-        | inl e ↦ subst (λ (i : ℕ). IsAdvancedAt p l rs place v i (seat_at seats i)) (sym e) (here ne (h.each k within))
+        | inl e ↦ subst (λ (i : ℕ). IsAdvancedAt p l rs place end v i (seat_at seats i)) (sym e) (here ne (h.each k within))
         | inr other_one ↦ other j other_one (h.each j lt)
       ];
       gain = h.gain;
@@ -215,17 +203,46 @@ module _ (p : PolicyView) (l : LineView) (rs : List (List ℕ)) (place : ℕ) wh
     }
 
     -- the seat stood there, and moved on
-    pub advanced_move : (r : List ℕ) (s : Seat) (m' : ℕ) → IsCursorAt p l k → r ≡ reach_at rs k → (seat_at seats k).place ≡ place → IsSeated r ((seat_at seats k).place + 1) s → SeatCosts 0 1 (seat_at seats k) s m m' → AreAdvanced p l rs place v old (set seats k s) before m'
-    advanced_move r s m' cursor is at seated costs = record {
+    pub advanced_move : (r : List ℕ) (s : Seat) (m' : ℕ) → IsCursorAt p l k → k < end → r ≡ reach_at rs k → (seat_at seats k).place ≡ place → IsSeated r ((seat_at seats k).place + 1) s → SeatCosts 0 1 (seat_at seats k) s m m' → AreAdvanced p l rs place end v old (set seats k s) before m'
+    advanced_move r s m' cursor lt is at seated costs = record {
       count = length-set seats k s ∙ h.count;
       each = set_each seats k s within
-          (λ j x. IsAdvancedAt p l rs place v j x)
-          (λ j lt ne. other j ne (h.each j lt))
-          (inl (cursor, inr (rw (is, at) at seated)));
+          (λ j x. IsAdvancedAt p l rs place end v j x)
+          (λ j l' ne. other j ne (h.each j l'))
+          (inl (cursor, inr (start_past (reach_at rs k) place end k s lt (rw (is, at) at seated))));
       gain = h.gain + 1;
       costs = Costs-set seats k s within old 0 h.gain 0 1 before m m' h.costs costs;
-      moved = λ j c there. inr (omega arith);
+      moved = λ j c l' there. inr (omega arith);
     }
+
+  -- after the walk
+  module _ (w : Walk) (old seats : List Seat) (before m : ℕ) (h : AreAdvanced p l rs place end w old seats before m) (none : (k : ℕ) → IsAhead p l w k → ⊥) where
+    pub advanced_end : AreSeated p l rs place end seats
+    advanced_end = record {
+      count = h.count;
+      each = λ k lt. elim (h.each k lt) [
+        | inl s ↦ elim s.1 [
+          | inl a ↦ absurd (none k a.1)
+          | inr there ↦ inl (s.0, there)
+        ]
+        | inr e ↦ inr e
+      ];
+    }
+
+    advanced_past : (k : ℕ) → k < end → (seat_at seats k).place ≡ place → place < past_all → k < length seats → ⊥
+    advanced_past k lt at real within = elim (advanced_end.each k within) [
+      | inl s ↦ let ahead = s.1.ahead in omega arith
+      | inr e ↦ let empty : (seat_at seats k).place ≡ past_all = rw e.1 refl in omega arith
+    ]
+
+    pub advanced_gain : (k : ℕ) → place < past_all → IsCursorAt p l k → k < end → (seat_at old k).place ≡ place → Costs 0 1 old seats before m
+    advanced_gain k real c lt at = elim (h.moved k c lt at) [
+      | inl stays ↦ absurd (advanced_past k lt stays real (omega (arith, cursor_within p l k c, h.count)))
+      | inr some ↦ record { total = h.costs.total; meter = h.costs.meter; low = omega (arith, h.costs.low); high = h.costs.high }
+    ]
+
+    pub advanced_costs : Costs 0 0 old seats before m
+    advanced_costs = Costs-less 0 h.gain old seats before m h.costs
 
 -- a seat that has a place is a cursor's
 pub cursor_of_seat : (p : PolicyView) (l : LineView) (seats : List Seat) (k place : ℕ) → IsCursorAt p l k ⊎ (seat_at seats k ≡ empty_seat) → place ≡ (seat_at seats k).place → place < past_all → IsCursorAt p l k

@@ -1,5 +1,5 @@
 -- the rows of every granting binding are the granted pairs of requests and bindings; they are there, and are one list
-use Rattle.std.proofs.Common.{◌≡◌, ℕ, ◌<◌, List, [], ◌∷◌, ◌++◌, length, get_or, Contains, Less, sym, ap, ap₂, ◌∙◌, refl, arith, subst, inl, inr}
+use Rattle.std.proofs.Common.{◌≡◌, ℕ, ◌<◌, List, [], ◌∷◌, ◌++◌, length, get_or, Contains, Less, ap, ap₂, ◌∙◌, refl, arith, subst, inl, inr}
 use Rattle.std.specs.Ordering.{ordering_then}
 use Rattle.std.specs.Cmp.Lexicographic.{slice_cmp}
 use Rattle.std.proofs.lemmas.Cmp.{tied_itself}
@@ -19,7 +19,7 @@ use Rattle.rbac_matrix.specs.Starting.{cell_name}
 use Rattle.rbac_matrix.proofs.Decided.{both, either, grants, is_nil, is_true}
 use Rattle.rbac_matrix.proofs.Orders.{cmp_append, first_less, first_tied}
 use Rattle.rbac_matrix.proofs.Product.{cells_ascend, cells_in, in_cells, key_texts}
-use Rattle.rbac_matrix.proofs.ThoseLemmas.{some_those, those_ascend, those_complete, those_from, those_sound}
+use Rattle.rbac_matrix.proofs.ThoseLemmas.{some_those, those_ascend, those_complete, those_sound}
 
 pub one_every : (h : Held) (u : UniverseView) (rows others : List RowView) → IsEvery h u rows → IsEvery h u others → rows ≡ others
 one_every h u rows others m n =
@@ -93,14 +93,6 @@ module _ (h : Held) (u : UniverseView) (held : IsHeld h) (is : IsUniverse u) whe
         );
       }
 
-  pub every_rows : (rows : List RowView) → IsEvery h u rows → AreThose (IsGranted h) pairs rows
-  every_rows rows m =
-      let fit : (r : RowView) → Contains rows r → IsCellOf u r.cell × Fits r.cell = λ r w. let row = (m.exact r).0 w in (row.0, row.1) in
-      those_from (IsGranted h) pair_name pairs rows in_order
-      (λ i j d lt l. sym (same_order rows fit i j d lt l) ∙ m.ordered i j d lt l)
-      (λ r w. let row = (m.exact r).0 w in (pairs_in h.bindings (cells_of u) r (cells_in u r.cell row.0) row.2, (row.1, row.3)))
-      (λ r w has. let p = in_pairs h.bindings (cells_of u) r w in (m.exact r).1 (in_cells u r.cell p.0, has.0, p.1, has.1))
-
 -- ---- they are there
 
 rules_of_each : (h : Held) (bs : List Binding) (gs : List GrantView) → AreGrantsOf h bs gs → (b : Binding) → Contains bs b → (rules : List SourcedRule) × AreRulesFor h b rules
@@ -110,11 +102,12 @@ rules_of_each h (c ∷ bs) gs are b w = elim (in_cons c bs b w) [
   | inr v ↦ rules_of_each h bs are.1 are.3 b v
 ]
 
-pub some_every : (p : PolicyView) → IsPolicy p → (u : UniverseView) → IsUniverse u → (rows : List RowView) × IsEvery p.held u rows
-some_every p policy u is =
-    let pairs = pairs_of p.held.bindings (cells_of u) in
-    let rows = some_those (IsGranted p.held) pairs
+pub some_pairs : (p : PolicyView) → IsPolicy p → (u : UniverseView) → IsUniverse u → (rows : List RowView) × AreThose (IsGranted p.held) (pairs_of p.held.bindings (cells_of u)) rows
+some_pairs p policy u is =
+    some_those (IsGranted p.held) (pairs_of p.held.bindings (cells_of u))
     (λ r w.
     let rules = rules_of_each p.held p.held.bindings p.grants policy.1 r.binding (in_pairs p.held.bindings (cells_of u) r w).1 in
-    both (either (is_true r.cell.target.1) (is_nil r.cell.namespace)) (grants p.held policy.0 r.cell.who r.cell.namespace r.cell.verb r.cell.target.0 r.binding rules.0 rules.1)) in
-    (rows.0, is_every p.held u policy.0 is rows.0 rows.1)
+    both (either (is_true r.cell.target.1) (is_nil r.cell.namespace)) (grants p.held policy.0 r.cell.who r.cell.namespace r.cell.verb r.cell.target.0 r.binding rules.0 rules.1))
+
+pub some_every : (p : PolicyView) → IsPolicy p → (u : UniverseView) → IsUniverse u → (rows : List RowView) × IsEvery p.held u rows
+some_every p policy u is = let rows = some_pairs p policy u is in (rows.0, is_every p.held u policy.0 is rows.0 rows.1)

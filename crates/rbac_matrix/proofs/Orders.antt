@@ -3,10 +3,12 @@ use Rattle.std.proofs.Common.{◌≡◌, true, List, [], ◌∷◌, ◌++◌, le
 use Rattle.std.specs.Ordering.{is_gt, ordering_then}
 use Rattle.std.specs.Cmp.Lexicographic.{slice_cmp}
 use Rattle.rbac_terms.specs.Text.{Text, text_cmp}
-use Rattle.rbac_model.proofs.NamePlaces.{same_name}
 
 pub not_greater : (o : Ordering) → o ≡ Less → o ≡ Greater → ⊥
 not_greater o e f = cc
+
+pub not_less : (o : Ordering) → o ≡ Less → o ≡ Equal → ⊥
+not_less o e f = cc
 
 pub not_tied : (o : Ordering) → o ≡ Equal → o ≡ Greater → ⊥
 not_tied o e f = cc
@@ -29,21 +31,12 @@ first_greater o p e = rw e refl
 pub first_tied : (o p : Ordering) → o ≡ Equal → ordering_then o p ≡ p
 first_tied o p e = rw e refl
 
--- a list of one text
-pub single : (o : Ordering) → ordering_then o Equal ≡ Less → o ≡ Less
-single Less e = refl
-single Equal e = cc
-single Greater e = cc
-
-pub same_text : (x y : Text) → text_cmp x y ≡ Equal → x ≡ y
-same_text x y e = let same : x ∷ [] ≡ y ∷ [] = same_name (λ (t : Text). t ∷ []) x y (first_tied (text_cmp x y) Equal e) in cc
-
 then_assoc : (o p q : Ordering) → ordering_then o (ordering_then p q) ≡ ordering_then (ordering_then o p) q
 then_assoc Less p q = refl
 then_assoc Equal p q = refl
 then_assoc Greater p q = refl
 
--- lists with fronts of one length are compared by these, then by what follows
+-- lists with prefixes of one length are compared by these, then by what follows
 pub cmp_append : (xs ys : List Text) → length xs ≡ length ys → (zs ws : List Text) → slice_cmp text_cmp (xs ++ zs) (ys ++ ws) ≡ ordering_then (slice_cmp text_cmp xs ys) (slice_cmp text_cmp zs ws)
 cmp_append [] [] e zs ws = refl
 cmp_append [] (y ∷ ys) e zs ws = absurd (omega (arith, e))

@@ -61,7 +61,7 @@ last_of o (r ∷ rows) row = last_of (Some r) rows row
 
 -- ---- how a limit cuts
 
--- what the comparison with no rows left tells
+-- what the comparison with no rows left says
 pub is_full : (left : Option ℕ) → option_eq eqb left (Some 0) ≡ true → left ≡ Some 0
 is_full None e = absurd (false≢true e)
 is_full (Some n) e = let same : n ≡ 0 = grind (arith, nat_tests) in ap Some same

@@ -5,17 +5,13 @@ use Rattle.std.proofs.Math.Seq.{drop-cons}
 use Rattle.std.proofs.lemmas.List.{drop_all}
 use Rattle.std.proofs.lemmas.Option.{get_or_from_slice_get, slice_get_within}
 use Rattle.rbac_terms.specs.declared.granting.Binding.{Binding}
+use Rattle.rbac_terms.proofs.Reading.{read_some}
 use Rattle.rbac_model.specs.Policies.{Held}
 use Rattle.rbac_model.specs.Universes.{UniverseView, Listed, Cell, RowView}
 use Rattle.rbac_matrix.specs.Cells.{AreRowsOf, HasRow}
 use Rattle.rbac_matrix.specs.Lines.{LineView, line_cells_from}
 use Rattle.rbac_matrix.specs.Passing.{Passes, cell_of}
 use Rattle.rbac_matrix.proofs.RowLemmas.{rows_one, rows_append, rows_split}
-
-pub read_at : {X : Type 0} (xs : List X) (i : ℕ) → i < length xs → (x : X) × (slice_get xs i ≡ Some x)
-read_at (x ∷ xs) zero lt = (x, refl)
-read_at (x ∷ xs) (suc i) lt = read_at xs i (omega arith)
-read_at [] i lt = absurd (omega arith)
 
 pub same_head : {X : Type 0} (x y : X) (xs ys : List X) → x ∷ xs ≡ y ∷ ys → x ≡ y
 same_head x y xs ys e = cc
@@ -77,7 +73,7 @@ module _ (u : UniverseView) (l : LineView) where
     passes_over from (suc n) le none =
         let e : from + suc n ≡ from + n + 1 = omega arith in
         let lt : from + n < length u.targets = omega arith in
-        let t = read_at u.targets (from + n) lt in
+        let t = read_some u.targets (from + n) lt in
         let first = passes_over from n (omega arith) (λ at t low high. none at t low (omega arith)) in
         let last = no_row_passes (from + n) t.0 t.1 (none (from + n) t.0 (omega arith) (omega arith) t.1) in
         rw e (passes_then h (line_cells_from u from l) (line_cells_from u (from + n) l) (line_cells_from u (from + n + 1) l) [] [] first last)

@@ -4,15 +4,16 @@ use Rattle.std.specs.Ordering.{ordering_then}
 use Rattle.std.specs.Cmp.Lexicographic.{slice_cmp}
 use Rattle.std.proofs.lemmas.Cmp.{nat_list_cmp_total, tied_itself}
 use Rattle.rbac_terms.specs.Text.{Text, text_cmp}
-use Rattle.rbac_terms.specs.Principals.{Who, key_of as who_key}
+use Rattle.rbac_terms.specs.Principals.{Who, who_key}
 use Rattle.rbac_terms.specs.Targets.{What, Resource, Url}
 use Rattle.rbac_terms.specs.Keys.{texts}
+use Rattle.rbac_terms.proofs.Orderings.{less_alone}
 use Rattle.rbac_model.specs.Lists.{by_name, IsAscendingBy}
 use Rattle.rbac_model.specs.Universes.{UniverseView, IsUniverse, Listed, Cell, IsCellOf, Fits, cell_key, target_texts}
 use Rattle.rbac_universe.proofs.Flattened.{contains_map, map_contains, contains_flat, flat_contains, pairs_map, pairs_flat}
 use Rattle.rbac_matrix.specs.Cells.{cell_at, line_cells, namespace_cells, principal_cells, cells_of}
 use Rattle.rbac_matrix.specs.Starting.{cell_name}
-use Rattle.rbac_matrix.proofs.Orders.{first_less, single}
+use Rattle.rbac_matrix.proofs.Orders.{first_less}
 
 -- the texts of a request that fits are those of its key
 named : (u : UniverseView) (who : Who) (namespace verb : Text) (t : What) (b : Bool) → IsUniverse u → Contains u.targets (t, b) → Fits (cell_at who namespace verb (t, b)) → texts (cell_key (cell_at who namespace verb (t, b))) ≡ cell_name (cell_at who namespace verb (t, b))
@@ -26,7 +27,7 @@ key_texts u c is w fits = named u c.who c.namespace c.verb c.target.0 c.target.1
 
 -- the order of texts, text by text
 less_first : (o p : Ordering) → ordering_then o Equal ≡ Less → ordering_then o p ≡ Less
-less_first o p e = first_less o p (single o e)
+less_first o p e = first_less o p (less_alone o e)
 
 after_same : (x y : Text) (xs ys : List Text) → x ≡ y → slice_cmp text_cmp xs ys ≡ Less → slice_cmp text_cmp (x ∷ xs) (y ∷ ys) ≡ Less
 after_same x y xs ys e less = rw (← e) (ap (λ o. ordering_then o (slice_cmp text_cmp xs ys)) (tied_itself nat_list_cmp_total x) ∙ less)

@@ -55,14 +55,6 @@ seated_first r from position seat h top at place = record {
   ];
 }
 
-pub seated_start : (r : List ℕ) (seat : Seat) → seat.position ≡ 0 → seat.place ≡ get_or r 0 past_all → IsSeated r 0 seat
-seated_start r seat at place = record {
-  within = omega arith;
-  place = rw at place;
-  passed = λ k lt. absurd (omega arith);
-  ahead = omega arith;
-}
-
 -- what it costs to take an empty seat
 pub start_costs : (r : List ℕ) (seat : Seat) (position limit before middle after : ℕ) → ((i : ℕ) → i < length r → get_or r i 0 < past_all) → ReadsAtMost limit before middle → seat.position ≡ position → seat.place ≡ get_or r position past_all → (position < length r → after ≡ raised middle 1) → (length r ≤ position → after ≡ middle) → SeatCosts limit 0 empty_seat seat before after
 start_costs r seat position limit before middle after real h at place read unread = elim (cases_lt position (length r)) [

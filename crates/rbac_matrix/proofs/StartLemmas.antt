@@ -8,8 +8,9 @@ use Rattle.std.proofs.lemmas.Grind.{flat_map-append}
 use Rattle.std.proofs.lemmas.List.{map-append, take-append-drop}
 use Rattle.std.proofs.lemmas.Option.{slice_get_within}
 use Rattle.std.proofs.lemmas.List.Elements.{Contains-append_cases, Contains-append_left, Contains-append_right, filter-append}
+use Rattle.std.proofs.lemmas.Map.Lookups.{exact_bytes}
 use Rattle.rbac_terms.specs.Text.{Text, text_cmp}
-use Rattle.rbac_terms.specs.Principals.{Who, key_of as who_key}
+use Rattle.rbac_terms.specs.Principals.{Who, who_key}
 use Rattle.rbac_terms.specs.Keys.{KeyTexts, key_cmp, texts}
 use Rattle.rbac_model.specs.Policies.{Held}
 use Rattle.rbac_model.specs.Universes.{UniverseView, IsUniverse, Cell, RowView, cell_key, rows_after, target_texts}
@@ -19,7 +20,7 @@ use Rattle.rbac_matrix.specs.Lines.{IsSettled, LineView, cells_of_lines, line, l
 use Rattle.rbac_matrix.specs.Passing.{cells_left}
 use Rattle.rbac_matrix.specs.Starting.{IsAfter, IsFoundAt, IsGapAt, IsOwnLine, IsOwnPlace, IsStart, IsTargetPlace, cell_name, target_part}
 use Rattle.rbac_matrix.specs.declared.line.Place.{Place}
-use Rattle.rbac_matrix.proofs.Orders.{first_greater, first_less, first_tied, greater, is_greater, not_greater, same_text}
+use Rattle.rbac_matrix.proofs.Orders.{first_greater, first_less, first_tied, greater, is_greater, not_greater}
 use Rattle.rbac_matrix.proofs.Product.{in_cells, in_line, in_namespace, in_principal, key_texts}
 use Rattle.rbac_matrix.proofs.RowLemmas.{rows_sound, rows_split}
 use Rattle.rbac_matrix.proofs.LinesLemmas.{drop_at, line_first, lines_of_principal, namespaces_at, onward_whole}
@@ -30,7 +31,7 @@ is_false : (b : Bool) → (b ≡ true → ⊥) → b ≡ false
 is_false true h = absurd (h refl)
 is_false false h = refl
 
-filter_none : {X : Type 0} (q : X → Bool) (xs : List X) → ((x : X) → Contains xs x → q x ≡ true → ⊥) → filter q xs ≡ []
+pub filter_none : {X : Type 0} (q : X → Bool) (xs : List X) → ((x : X) → Contains xs x → q x ≡ true → ⊥) → filter q xs ≡ []
 filter_none q [] none = refl
 filter_none q (x ∷ xs) none = rw (is_false (q x) (none x (here x xs))) (filter_none q xs (λ y w. none y (there x xs y w)))
 
@@ -39,15 +40,15 @@ filter_all q [] all = refl
 filter_all {X} q (x ∷ xs) all = rw (all x (here x xs)) (ap (λ (rest : List X). x ∷ rest) (filter_all q xs (λ y w. all y (there x xs y w))))
 
 -- a row comes after the key where its request does
-abbrev RowAfter : Option KeyTexts → RowView → Type 0
+abbrev pub RowAfter : Option KeyTexts → RowView → Type 0
 RowAfter None r = Unit {0}
 RowAfter (Some k) r = is_gt (key_cmp (cell_key r.cell) k) ≡ true
 
-after_row : (k : Option KeyTexts) (r : RowView) → texts (cell_key r.cell) ≡ cell_name r.cell → IsAfter k r.cell → RowAfter k r
+pub after_row : (k : Option KeyTexts) (r : RowView) → texts (cell_key r.cell) ≡ cell_name r.cell → IsAfter k r.cell → RowAfter k r
 after_row None r e after = tt
 after_row (Some k) r e after = is_greater (key_cmp (cell_key r.cell) k) (ap (λ (n : List Text). slice_cmp text_cmp n (texts k)) e ∙ after)
 
-row_after : (k : Option KeyTexts) (r : RowView) → texts (cell_key r.cell) ≡ cell_name r.cell → RowAfter k r → IsAfter k r.cell
+pub row_after : (k : Option KeyTexts) (r : RowView) → texts (cell_key r.cell) ≡ cell_name r.cell → RowAfter k r → IsAfter k r.cell
 row_after None r e after = tt
 row_after (Some k) r e after = ap (λ (n : List Text). slice_cmp text_cmp n (texts k)) (sym e) ∙ greater (key_cmp (cell_key r.cell) k) after
 
@@ -89,13 +90,16 @@ module _ {X : Type 0} (O : Cell → Ordering) (f : X → List Cell) (xs : List X
     late = λ c w. let r = contains_flat f (drop i xs) c w in above r.0 r.1 c r.2;
   }
 
+  pub whole_found : (i : ℕ) (x : X) (before left : List Cell) → slice_get xs i ≡ Some x → f x ≡ before ++ left → flat_map f xs ≡ (flat_map f (take i xs) ++ before) ++ (left ++ flat_map f (drop (i + 1) xs))
+  whole_found i x before left at whole =
+      let parts : flat_map f xs ≡ flat_map f (take i xs) ++ flat_map f (drop i xs) = ap (flat_map f) (sym (take-append-drop i xs)) ∙ flat_map-append f (take i xs) (drop i xs) in
+      let rest : flat_map f (drop i xs) ≡ f x ++ flat_map f (drop (i + 1) xs) = ap (flat_map f) (drop_at xs i x at) in
+      parts ∙ ap (λ (cs : List Cell). flat_map f (take i xs) ++ cs) (rest ∙ ap (λ (cs : List Cell). cs ++ flat_map f (drop (i + 1) xs)) whole ∙ append_assoc before left (flat_map f (drop (i + 1) xs)))
+      ∙ sym (append_assoc (flat_map f (take i xs)) before (left ++ flat_map f (drop (i + 1) xs)))
+
   pub cut_found : (P : Cell → Ordering) (i : ℕ) (x : X) (before left : List Cell) → slice_get xs i ≡ Some x → ((y : X) → Contains (take i xs) y → (c : Cell) → Contains (f y) c → O c ≡ Less) → ((y : X) → Contains (drop (i + 1) xs) y → (c : Cell) → Contains (f y) c → O c ≡ Greater) → ((c : Cell) → Contains (f x) c → O c ≡ P c) → Cut P (f x) before left → Cut O (flat_map f xs) (flat_map f (take i xs) ++ before) (left ++ flat_map f (drop (i + 1) xs))
   cut_found P i x before left at below above same cut = record {
-    whole =
-        (let parts : flat_map f xs ≡ flat_map f (take i xs) ++ flat_map f (drop i xs) = ap (flat_map f) (sym (take-append-drop i xs)) ∙ flat_map-append f (take i xs) (drop i xs) in
-        let rest : flat_map f (drop i xs) ≡ f x ++ flat_map f (drop (i + 1) xs) = ap (flat_map f) (drop_at xs i x at) in
-        parts ∙ ap (λ (cs : List Cell). flat_map f (take i xs) ++ cs) (rest ∙ ap (λ (cs : List Cell). cs ++ flat_map f (drop (i + 1) xs)) cut.whole ∙ append_assoc before left (flat_map f (drop (i + 1) xs)))
-        ∙ sym (append_assoc (flat_map f (take i xs)) before (left ++ flat_map f (drop (i + 1) xs))));
+    whole = whole_found i x before left at cut.whole;
     early = λ c w. elim (Contains-append_cases (flat_map f (take i xs)) before c w) [
       | inl a ↦ let r = contains_flat f (take i xs) c a in not_greater (O c) (below r.0 r.1 c r.2)
       | inr b ↦ λ g. cut.early c b (sym (same c (rw cut.whole (Contains-append_left before left c b))) ∙ g)
@@ -278,6 +282,23 @@ module _ (u : UniverseView) where
           (cut_principal at.principal _ _ own.principal (cut_namespace who at.namespace _ _ own.namespace (cut_verb who namespace at.verb _ _ own.verb (cut_targets who namespace verb from t))))
           (left_of_target at.principal at.namespace at.verb from who namespace verb own.principal.here.1 own.namespace.here.1 own.verb.here.1)
 
+      -- what stands before a target's place
+      pub own_suffix : (from : ℕ) → (before : List Cell) × (cells_of u ≡ before ++ cells_left u at from)
+      own_suffix from =
+          let targets : line_cells u who namespace verb ≡ map (cell_at who namespace verb) (take from u.targets) ++ map (cell_at who namespace verb) (drop from u.targets) =
+          ap (map (cell_at who namespace verb)) (sym (take-append-drop from u.targets)) ∙ map-append (cell_at who namespace verb) (take from u.targets) (drop from u.targets) in
+          let t0 : List Cell = map (cell_at who namespace verb) (take from u.targets) in
+          let t1 : List Cell = map (cell_at who namespace verb) (drop from u.targets) in
+          let v0 : List Cell = flat_map (line_cells u who namespace) (take at.verb u.verbs) ++ t0 in
+          let v1 : List Cell = t1 ++ flat_map (line_cells u who namespace) (drop (at.verb + 1) u.verbs) in
+          let n0 : List Cell = flat_map (namespace_cells u who) (take at.namespace u.namespaces) ++ v0 in
+          let n1 : List Cell = v1 ++ flat_map (namespace_cells u who) (drop (at.namespace + 1) u.namespaces) in
+          let p0 : List Cell = flat_map (principal_cells u) (take at.principal u.principals) ++ n0 in
+          let verbs = whole_found (λ _. Equal) (line_cells u who namespace) u.verbs at.verb verb t0 t1 own.verb.here.1 targets in
+          let names = whole_found (λ _. Equal) (namespace_cells u who) u.namespaces at.namespace namespace v0 v1 own.namespace.here.1 verbs in
+          let all = whole_found (λ _. Equal) (principal_cells u) u.principals at.principal who n0 n1 own.principal.here.1 names in
+          (p0, all ∙ ap (λ (cs : List Cell). p0 ++ cs) (sym (left_of_target at.principal at.namespace at.verb from who namespace verb own.principal.here.1 own.namespace.here.1 own.verb.here.1)))
+
       pub own_settled : IsSettled u at
       own_settled = inl (slice_get_within u.principals at.principal who own.principal.here.1, slice_get_within u.namespaces at.namespace namespace own.namespace.here.1, slice_get_within u.verbs at.verb verb own.verb.here.1)
 
@@ -286,9 +307,9 @@ module _ (u : UniverseView) where
         line who namespace verb,
         lines_from u (place at.principal at.namespace (at.verb + 1)),
         line_first u at.principal at.namespace at.verb who namespace verb own.principal.here.1 own.namespace.here.1 own.verb.here.1,
-        same_text (who_key who) k.principal own.principal.here.2,
-        same_text namespace k.namespace own.namespace.here.2,
-        same_text verb k.verb own.verb.here.2,
+        exact_bytes (who_key who) k.principal own.principal.here.2,
+        exact_bytes namespace k.namespace own.namespace.here.2,
+        exact_bytes verb k.verb own.verb.here.2,
       )
 
   -- at a place with the same lines the same begins

@@ -8,20 +8,20 @@ use Rattle.std.proofs.lemmas.List.Sums.{sum_by-cons}
 use Rattle.std.proofs.lemmas.List.Elements.{Contains-get_or}
 use Rattle.std.proofs.lemmas.Option.{same_Some}
 use Rattle.rbac_terms.specs.Matching.{TargetOk}
+use Rattle.rbac_terms.proofs.Reading.{read_some}
 use Rattle.rbac_model.specs.Lists.{IsCount}
 use Rattle.rbac_model.specs.Policies.{PolicyView, IsPolicy, GrantView}
 use Rattle.rbac_model.specs.Universes.{UniverseView, IsUniverse, Listed, IsCursor, AreTouches}
 use Rattle.rbac_matrix.specs.Lines.{LineView, lines_from}
 use Rattle.rbac_matrix.specs.Cursors.{IsCursorAt}
-use Rattle.rbac_index.specs.Reaches.{AreReaches, raised}
+use Rattle.rbac_index.specs.Reaches.{AreReaches}
 use Rattle.rbac_matrix.specs.Metering.{AreTouched, IsMetered}
 use Rattle.rbac_matrix.specs.declared.line.Place.{Place}
 use Rattle.rbac_matrix.specs.declared.seat.Seat.{Seat}
-use Rattle.rbac_matrix.specs.Seats.{ArePast, AreEmpty, AreSeated, Costs, IsSeated, passed, past_all, reach_at, seat_at, stand_of, standing}
+use Rattle.rbac_matrix.specs.Seats.{ArePast, AreEmpty, AreSeated, Costs, IsSeated, passed, past_all, reach_at, seat_at, stand_of, standing, start_at}
 use Rattle.rbac_matrix.proofs.SeekLemmas.{ascends, raised-raised}
 use Rattle.rbac_matrix.proofs.SeatLemmas.{empty_passed, empty_standing, past_standing, stands_within}
 use Rattle.rbac_matrix.proofs.LineLemmas.{in_matches, place_within, reach_up}
-use Rattle.rbac_matrix.proofs.PassLemmas.{read_at}
 
 -- ---- counts
 
@@ -122,7 +122,7 @@ module _ (p : PolicyView) (u : UniverseView) (rs : List (List ℕ)) (l : LineVie
       (λ i lt.
       let w = Contains-get_or (reach_at rs k) i 0 lt in
       let within = place_within p u rs l policy is reaches k (get_or (reach_at rs k) i 0) c w in
-      let t = read_at u.targets (get_or (reach_at rs k) i 0) within in
+      let t = read_some u.targets (get_or (reach_at rs k) i 0) within in
       let e : get_or (reach_at rs k) i 0 - 0 ≡ get_or (reach_at rs k) i 0 = omega arith in
       (omega arith, (t.0, rw e t.1, (c.is, in_matches p u rs l policy is reaches k (get_or (reach_at rs k) i 0) t.0 c t.1 w))))
       (count_map Touches (λ (t : Listed). (c.grant, t)) u.targets m h)
@@ -133,11 +133,11 @@ module _ (p : PolicyView) (u : UniverseView) (rs : List (List ℕ)) (l : LineVie
     | inr past ↦ omega (arith, h.within)
   ]
 
-  pub reads_few : (from : ℕ) (seats : List Seat) (n : ℕ) → AreSeated p l rs from seats → AreTouches p u l.who l.namespace l.verb n → passed seats + standing seats ≤ n
-  reads_few from seats n seated h =
+  pub reads_few : (from upto : ℕ) (seats : List Seat) (n : ℕ) → AreSeated p l rs from upto seats → AreTouches p u l.who l.namespace l.verb n → passed seats + standing seats ≤ n
+  reads_few from upto seats n seated h =
       rw (both_sums seats) (sums_few Touches (λ (g : GrantView). map (λ (t : Listed). (g, t)) u.targets) p.grants seats n (omega (arith, seated.count))
       (λ k lt. elim (seated.each k lt) [
-        | inl s ↦ inr (s.0.grant, s.0.at, λ m count. let a = reach_few k s.0 m count in let b = seat_few from (seat_at seats k) (reach_at rs k) s.1 in omega arith)
+        | inl s ↦ inr (s.0.grant, s.0.at, λ m count. let a = reach_few k s.0 m count in let b = seat_few (start_at from upto k) (seat_at seats k) (reach_at rs k) s.1 in omega arith)
         | inr e ↦ inl (rw e.1 refl)
       ]) h)
 
@@ -190,8 +190,8 @@ module _ (p : PolicyView) (u : UniverseView) (start : Place) (sought : ℕ) wher
   }
 
   -- a line has ended, and its seats are emptied
-  pub metered_end : (rs : List (List ℕ)) (at to : Place) (l : LineView) (from : ℕ) (seats empty : List Seat) (given m : ℕ) → IsPolicy p → IsUniverse u → AreReaches p u rs → lines_from u at ≡ l ∷ lines_from u to → AreSeated p l rs from seats → ArePast seats → AreEmpty p empty → IsMetered p u start sought at seats given m → IsMetered p u start sought to empty given m
-  metered_end rs at to l from seats empty given m policy is reaches e seated past none h =
+  pub metered_end : (rs : List (List ℕ)) (at to : Place) (l : LineView) (from upto : ℕ) (seats empty : List Seat) (given m : ℕ) → IsPolicy p → IsUniverse u → AreReaches p u rs → lines_from u at ≡ l ∷ lines_from u to → AreSeated p l rs from upto seats → ArePast seats → AreEmpty p empty → IsMetered p u start sought at seats given m → IsMetered p u start sought to empty given m
+  metered_end rs at to l from upto seats empty given m policy is reaches e seated past none h =
       let a = empty_passed p empty none in
       let b = empty_standing p empty none in
       let c = past_standing seats past in
@@ -203,10 +203,6 @@ module _ (p : PolicyView) (u : UniverseView) (start : Place) (sought : ℕ) wher
         whole = h.whole ∙ ap (λ (ls : List LineView). h.behind ++ ls) e ∙ sym (append_assoc h.behind (l ∷ []) (lines_from u to));
         high = λ n touched.
             let split = touched_split p u h.behind (l ∷ []) n touched in
-            let few = reads_few p u rs l policy is reaches from seats split.3.0 seated split.3.2 in
+            let few = reads_few p u rs l policy is reaches from upto seats split.3.0 seated split.3.2 in
             omega (arith, h.high split.0 split.2, split.4, split.3.4);
       }
-
-  -- the bounds of the meter: no fewer reads than rows, and no more than the lines entered have, and 20 for each cursor sought
-  pub given_few : (at : Place) (seats : List Seat) (given m : ℕ) → IsMetered p u start sought at seats given m → raised 0 given ≤ m
-  given_few at seats given m h = omega (arith, h.low, h.meter)

@@ -1,5 +1,5 @@
 -- walks by runs
-use Rattle.std.proofs.Common.{◌≡◌, ℕ, Bool, List, drop, length, ◌+◌, ◌<◌, ◌≤◌, ◌⊎◌, refl, ◌∙◌, sym, arith, inl, inr, subst}
+use Rattle.std.proofs.Common.{◌≡◌, ℕ, length, ◌+◌, ◌<◌, ◌≤◌, ◌⊎◌, refl, ◌∙◌, sym, arith, inl, inr, subst}
 use Rattle.std.specs.Prelude.{Some, slice_get}
 use Rattle.std.proofs.lemmas.Bool.{cases_eq, cases_lt}
 use Rattle.std.proofs.lemmas.Option.{same_Some, slice_get_within}
@@ -8,11 +8,10 @@ use Rattle.rbac_model.specs.Policies.{PolicyView, GrantView, BindingNames}
 use Rattle.rbac_model.specs.Universes.{LiveForSome}
 use Rattle.rbac_index.specs.Bound.{IsNextRun}
 use Rattle.rbac_matrix.specs.Lines.{LineView}
-use Rattle.rbac_matrix.specs.Cursors.{AreRunsFrom, IsAhead, IsBoundOn, IsCursorAt, IsNextBound, IsNextRunOn, IsWithin, steps_left}
-use Rattle.rbac_matrix.specs.declared.bound.Run.{Run}
-use Rattle.rbac_matrix.specs.declared.bound.Runs.{Runs}
+use Rattle.rbac_matrix.specs.Cursors.{IsAhead, IsBoundOn, IsCursorAt, IsNextBound, IsNextRunOn, IsWithin, steps_left}
+use Rattle.rbac_matrix.specs.declared.bound_runs.Run.{Run}
+use Rattle.rbac_matrix.specs.declared.bound_runs.Runs.{Runs}
 use Rattle.rbac_matrix.specs.declared.walk.Walk.{Walk}
-use Rattle.rbac_matrix.proofs.LinesLemmas.{drop_at}
 
 pub bound_grant : (p : PolicyView) (l : LineView) (k : ℕ) → IsBoundOn p l k → (g : GrantView) × (slice_get p.grants k ≡ Some g) × BindingNames g.binding l.who × LiveForSome g.binding.namespace l.namespace
 unfolding IsBoundOn
@@ -62,10 +61,6 @@ module _ (p : PolicyView) (l : LineView) (runs : Runs) (old : Walk) (within : Is
       bound = λ number low high. run_bound p l old.end run.start run.end is.next number (omega arith) high;
       later = is.later;
     })
-
--- the run at a place among those from it on
-pub run_here : (p : PolicyView) (l : LineView) (are_all : Bool) (from later : ℕ) (kept : List Run) (run : Run) → slice_get kept later ≡ Some run → AreRunsFrom p l are_all from (drop later kept) → IsNextRun p l.who l.namespace from run.start run.end × AreRunsFrom p l are_all run.end (drop (later + 1) kept)
-run_here p l are_all from later kept run at are = subst (λ (rs : List Run). AreRunsFrom p l are_all from rs) (drop_at kept later run at) are
 
 -- a cursor is bound
 pub cursor_bound : (p : PolicyView) (l : LineView) (k : ℕ) → IsCursorAt p l k → IsBoundOn p l k

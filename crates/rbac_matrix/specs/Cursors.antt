@@ -4,8 +4,8 @@ use Rattle.rbac_model.specs.Policies.{PolicyView, GrantView}
 use Rattle.rbac_model.specs.Universes.{UniverseView, IsCursor}
 use Rattle.rbac_index.specs.Bound.{IsBoundTo, IsNextRun}
 use Rattle.rbac_matrix.specs.Lines.{LineView, lines_from}
-use Rattle.rbac_matrix.specs.declared.bound.Run.{Run}
-use Rattle.rbac_matrix.specs.declared.bound.Runs.{Runs}
+use Rattle.rbac_matrix.specs.declared.bound_runs.Run.{Run}
+use Rattle.rbac_matrix.specs.declared.bound_runs.Runs.{Runs}
 use Rattle.rbac_matrix.specs.declared.line.Place.{Place}
 use Rattle.rbac_matrix.specs.declared.walk.Walk.{Walk}
 

@@ -6,12 +6,13 @@ use Rattle.rbac_model.specs.Universes.{Cell, IsUniverse, RowView}
 use Rattle.rbac_matrix.specs.Cells.{AreRowsOf}
 use Rattle.rbac_matrix.specs.Cursors.{AreRunsAt}
 use Rattle.rbac_matrix.specs.Lines.{LineView, line, lines_from}
-use Rattle.rbac_matrix.specs.Metering.{IsMetered, IsReady}
+use Rattle.rbac_matrix.specs.Metering.{AreSought, IsMetered, IsReady}
 use Rattle.rbac_matrix.specs.Passing.{cells_left}
 use Rattle.rbac_index.specs.Reaches.{AreReaches, raised}
 use Rattle.rbac_matrix.specs.RowTexts.{Shows}
 use Rattle.rbac_matrix.specs.declared.row.Row.{Row}
 use Rattle.rbac_matrix.specs.declared.enumeration.Rows.{Rows}
+use Rattle.rbac_matrix.specs.declared.start.Start.{Start}
 
 -- these rows are left: those of the requests from its place on
 unfoldable pub AreLeft : Rows → List RowView → Type 0
@@ -44,16 +45,29 @@ abbrev pub EntersLast : List LineView → List LineView → List LineView → Ty
 EntersLast [] behind entered = entered ≡ behind
 EntersLast (l ∷ ls) behind entered = entered ≡ behind ++ l ∷ []
 
--- what holds between two calls
-pub record IsGoing (s : Rows) : Type 0 where
+-- what holds between two calls, where the grants below `upto` are past the place
+pub record IsUnderWay (s : Rows) (upto : ℕ) : Type 0 where
   pub policy : IsPolicy s.index.now
   pub universe : IsUniverse s.universe.now
   pub reaches : AreReaches s.index.now s.universe.now s.reaches.now
-  pub ready : IsReady s.index.now s.universe.now s.reaches.now s.at s.from s.seats.now
+  pub ready : IsReady s.index.now s.universe.now s.reaches.now s.at s.from upto s.seats.now
   pub runs : AreRunsAt s.index.now s.universe.now s.at s.runs
   pub rows : ℕ
-  pub is_given : s.given ≡ raised 0 rows
+  pub is_returned : s.returned ≡ raised 0 rows
   pub metered : IsMetered s.index.now s.universe.now s.start s.sought s.at s.seats.now rows s.meter
+
+-- what holds between two calls
+abbrev pub IsGoing : Rows → Type 0
+IsGoing s = IsUnderWay s 0
+
+-- it begins there, with no row given; and no more cursors were sought than that line has, none where all its rows are meant
+pub record BeginsAt (s : Rows) (start : Start) : Type 0 where
+  pub at : s.at ≡ start.at
+  pub from : s.from ≡ start.from
+  pub first : s.start ≡ start.at
+  pub returned : s.returned ≡ 0
+  pub whole : start.from ≡ 0 → s.sought ≡ 0
+  pub sought : AreSought s.index.now s.universe.now s.start s.sought
 
 -- the lines that were entered: those from the first one up to that of the seats
 pub record AreEntered (s : Rows) (entered : List LineView) : Type 0 where

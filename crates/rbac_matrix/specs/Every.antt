@@ -1,6 +1,7 @@
 -- Every granting binding: a row for each pair of a request that fits and a binding that grants it.
-use Rattle.std.specs.Prelude.{◌≡◌, ◌≢◌, ◌↔◌, ℕ, List, [], ◌∷◌, ◌++◌, Bool, true, Option, Some, None, Contains, take, filter, length, nat_lt}
+use Rattle.std.specs.Prelude.{◌≡◌, ◌≢◌, ◌↔◌, ◌⊎◌, ℕ, List, [], ◌∷◌, ◌++◌, Bool, true, Option, Some, None, Contains, take, filter, length, nat_lt}
 use Rattle.std.specs.Ordering.{is_gt}
+use Rattle.std.specs.declared.cmp.Ordering.TheVariants.{Greater}
 use Rattle.std.specs.Cmp.Lexicographic.{slice_cmp}
 use Rattle.rbac_terms.specs.Text.{Text, text_cmp}
 use Rattle.rbac_terms.specs.Keys.{KeyTexts, texts, key_cmp}
@@ -31,6 +32,12 @@ pub record IsEvery (h : Held) (u : UniverseView) (rows : List RowView) : Type 0 
 abbrev pub comes_after : KeyTexts → Option BindingName → RowView → Bool
 comes_after k None row = is_gt (key_cmp (cell_key row.cell) k)
 comes_after k (Some b) row = is_gt (slice_cmp text_cmp (every_name row) (texts k ++ name_texts (Some b)))
+
+-- the same of a mark with a binding, part by part: the row's key is greater, or it is the mark's and the row's binding stands past the mark's
+abbrev pub StandsPast : KeyTexts → BindingName → RowView → Type 0
+StandsPast k b row =
+    (key_cmp (cell_key row.cell) k ≡ Greater)
+    ⊎ ((cell_key row.cell ≡ k) × (slice_cmp text_cmp (binding_name row.binding) (name_texts (Some b)) ≡ Greater))
 
 -- the rows that come after it; all where no mark is given
 abbrev pub every_after : Option Mark → List RowView → List RowView

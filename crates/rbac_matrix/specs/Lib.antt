@@ -2,6 +2,8 @@ pub mod Cells
 pub mod Cursors
 pub mod Enumeration
 pub mod Every
+pub mod EveryLeft
+pub mod EveryStart
 pub mod Lent
 pub mod Lines
 pub mod Metering

@@ -23,10 +23,10 @@ pub record Skips (h : Held) (u : UniverseView) (at to : Place) : Type 0 where
   pub none : AreRowsOf h (flat_map (line_cells_from u 0) between) []
 
 -- the seats are those of the line at the place; past the last line they are empty
-pub record IsReady (p : PolicyView) (u : UniverseView) (rs : List (List ℕ)) (at : Place) (from : ℕ) (seats : List Seat) : Type 0 where
+pub record IsReady (p : PolicyView) (u : UniverseView) (rs : List (List ℕ)) (at : Place) (from upto : ℕ) (seats : List Seat) : Type 0 where
   pub settled : IsSettled u at
   pub count : length seats ≡ length p.grants
-  pub seated : (l : LineView) (ls : List LineView) → lines_from u at ≡ l ∷ ls → AreSeated p l rs from seats
+  pub seated : (l : LineView) (ls : List LineView) → lines_from u at ≡ l ∷ ls → AreSeated p l rs from upto seats
   pub ended : lines_from u at ≡ [] → AreEmpty p seats
 
 -- how many entries the meter counts, from the line at `start` on

@@ -1,12 +1,13 @@
 -- How the requests of a universe are passed, and which rows they give.
-use Rattle.std.specs.Prelude.{◌≡◌, ℕ, ◌+◌, Some, List, [], ◌∷◌, ◌++◌, slice_get}
-use Rattle.rbac_model.specs.Policies.{Held, PolicyView, GrantView}
+use Rattle.std.specs.Prelude.{◌≡◌, ℕ, ◌<◌, ◌≤◌, ◌⊎◌, Some, List, [], ◌∷◌, ◌++◌, slice_get}
+use Rattle.rbac_model.specs.Policies.{Held, PolicyView, GrantView, GrantAllows}
 use Rattle.rbac_model.specs.Universes.{UniverseView, Listed, Cell, RowView, Fits}
 use Rattle.rbac_matrix.specs.Cells.{AreRowsOf, cell_at}
-use Rattle.rbac_matrix.specs.Lines.{LineView, cells_of_lines, line_cells_from, lines_from}
-use Rattle.rbac_matrix.specs.Metering.{IsReady}
+use Rattle.rbac_matrix.specs.Cursors.{IsCursorAt}
+use Rattle.rbac_matrix.specs.Lines.{IsSettled, LineView, cells_of_lines, lines_from}
+use Rattle.rbac_matrix.specs.Metering.{IsReady, Skips}
 use Rattle.rbac_matrix.specs.declared.line.Place.{Place}
-use Rattle.rbac_matrix.specs.Seats.{ArePast, AreSeated}
+use Rattle.rbac_matrix.specs.Seats.{ArePast, AreSeated, AreSeatedAbout, seat_at}
 use Rattle.rbac_matrix.specs.declared.seat.Seat.{Seat}
 
 -- from requests to those that are left: these rows were given between
@@ -19,47 +20,80 @@ pub record Passes (h : Held) (cs ds : List Cell) (rows : List RowView) : Type 0 
 abbrev pub cell_of : LineView → Listed → Cell
 cell_of l t = cell_at l.who l.namespace l.verb t
 
--- a target at that place and the grant of that number, for a request of the line that fits
-pub record IsRowOn (p : PolicyView) (u : UniverseView) (l : LineView) (place number : ℕ) : Type 0 where
+-- a rule's grant of that number allows the line's request for the target at that place, which fits
+pub record IsHit (p : PolicyView) (u : UniverseView) (l : LineView) (place number : ℕ) : Type 0 where
   pub target : Listed
   pub grant : GrantView
   pub target_at : slice_get u.targets place ≡ Some target
   pub grant_at : slice_get p.grants number ≡ Some grant
   pub fits : Fits (cell_of l target)
+  pub allows : GrantAllows l.who l.namespace l.verb target.0 grant
 
 -- its row
-abbrev pub row_on : (p : PolicyView) (u : UniverseView) (l : LineView) (place number : ℕ) → IsRowOn p u l place number → RowView
+abbrev pub row_on : (p : PolicyView) (u : UniverseView) (l : LineView) (place number : ℕ) → IsHit p u l place number → RowView
 row_on p u l place number r = record { cell = cell_of l r.target; binding = r.grant.binding }
 
--- the row of a target's place on a line, by the grant of that number, was the next one
-pub record FindsRow (p : PolicyView) (u : UniverseView) (rs : List (List ℕ)) (l : LineView) (from : ℕ) (seats : List Seat) (place number : ℕ) : Type 0 where
-  pub found : IsRowOn p u l place number
-  pub passes : Passes p.held (line_cells_from u from l) (line_cells_from u (place + 1) l) (row_on p u l place number found ∷ [])
-  pub seated : AreSeated p l rs (place + 1) seats
+-- a place and a number aren't before others
+abbrev pub IsFrom : ℕ → ℕ → ℕ → ℕ → Type 0
+IsFrom place number from upto = (from < place) ⊎ ((from ≡ place) × (upto ≤ number))
 
--- a line has no further row
-pub record EndsLine (p : PolicyView) (u : UniverseView) (rs : List (List ℕ)) (l : LineView) (from : ℕ) (seats : List Seat) : Type 0 where
-  pub passes : Passes p.held (line_cells_from u from l) [] []
+-- the first that allows, by place and then by number, from a place and a number on
+pub record IsNextHit (p : PolicyView) (u : UniverseView) (l : LineView) (from upto place number : ℕ) : Type 0 where
+  pub hit : IsHit p u l place number
+  pub onward : IsFrom place number from upto
+  pub first : (q k : ℕ) → IsHit p u l q k → IsFrom q k from upto → IsFrom q k place number
+
+-- none allows from a place and a number on
+abbrev pub HasNoHit : PolicyView → UniverseView → LineView → ℕ → ℕ → Type 0
+HasNoHit p u l from upto = (q k : ℕ) → IsHit p u l q k → IsFrom q k from upto → ⊥
+
+-- the next of a line, at which the seat of its grant stands
+pub record FindsRow (p : PolicyView) (u : UniverseView) (rs : List (List ℕ)) (l : LineView) (from upto : ℕ) (seats : List Seat) (place number : ℕ) : Type 0 where
+  pub next : IsNextHit p u l from upto place number
+  pub cursor : IsCursorAt p l number
+  pub stands : (seat_at seats number).place ≡ place
+  pub about : (end : ℕ) → number < end → AreSeatedAbout p l rs place end seats
+
+-- a line has no further one
+pub record EndsLine (p : PolicyView) (u : UniverseView) (rs : List (List ℕ)) (l : LineView) (from upto : ℕ) (seats : List Seat) : Type 0 where
+  pub none : HasNoHit p u l from upto
   pub reached : ℕ
-  pub seated : AreSeated p l rs reached seats
+  pub low : ℕ
+  pub seated : AreSeated p l rs reached low seats
   pub past : ArePast seats
 
 -- the requests that are left from a place and a target's place on
 abbrev pub cells_left : UniverseView → Place → ℕ → List Cell
 cells_left u at from = cells_of_lines u from (lines_from u at)
 
--- from a place and a target's place on the next row was that of a target and a grant, on the line at another place
-pub record FindsCell (p : PolicyView) (u : UniverseView) (rs : List (List ℕ)) (at : Place) (from : ℕ) (to : Place) (seats : List Seat) (place number : ℕ) : Type 0 where
+-- on a later line's first place, where nothing is allowed between
+pub record ComesTo (p : PolicyView) (u : UniverseView) (at : Place) (from upto : ℕ) (to : Place) : Type 0 where
+  pub line : LineView
+  pub next : Place
+  pub line_at : lines_from u at ≡ line ∷ lines_from u next
+  pub none : HasNoHit p u line from upto
+  pub skips : Skips p.held u next to
+
+-- still at a place of a line, or on a later one's first
+abbrev pub Leads : PolicyView → UniverseView → Place → ℕ → ℕ → Place → ℕ → ℕ → Type 0
+Leads p u at from upto to begin low =
+    ((to ≡ at) × (begin ≡ from) × (low ≡ upto)) ⊎ ((begin ≡ 0) × (low ≡ 0) × ComesTo p u at from upto to)
+
+-- from a place, a target's place and a grant's number on the next that is allowed was that of a target and a grant, on the line at another place
+pub record FindsCell (p : PolicyView) (u : UniverseView) (rs : List (List ℕ)) (at : Place) (from upto : ℕ) (to : Place) (seats : List Seat) (place number : ℕ) : Type 0 where
   pub line : LineView
   pub others : List LineView
   pub line_at : lines_from u to ≡ line ∷ others
-  pub found : IsRowOn p u line place number
-  pub passes : Passes p.held (cells_left u at from) (cells_left u to (place + 1)) (row_on p u line place number found ∷ [])
-  pub ready : IsReady p u rs to (place + 1) seats
+  pub begin : ℕ
+  pub low : ℕ
+  pub leads : Leads p u at from upto to begin low
+  pub found : FindsRow p u rs line begin low seats place number
+  pub settled : IsSettled u to
 
--- there was no further row
-pub record EndsAll (p : PolicyView) (u : UniverseView) (rs : List (List ℕ)) (at : Place) (from : ℕ) (to : Place) (seats : List Seat) : Type 0 where
+-- there was no further one
+pub record EndsAll (p : PolicyView) (u : UniverseView) (rs : List (List ℕ)) (at : Place) (from upto : ℕ) (to : Place) (seats : List Seat) : Type 0 where
   pub ended : lines_from u to ≡ []
-  pub passes : Passes p.held (cells_left u at from) [] []
-  pub left : ℕ
-  pub ready : IsReady p u rs to left seats
+  pub begin : ℕ
+  pub low : ℕ
+  pub leads : Leads p u at from upto to begin low
+  pub ready : (left above : ℕ) → IsReady p u rs to left above seats

@@ -13,12 +13,12 @@ use Rattle.rbac_text.specs.Row.{row_text}
 abbrev pub rows_text : List RowView → Text
 rows_text rows = flat_map (λ row. row_text (cell_key row.cell) row.binding) rows
 
--- since `start` the sink took one front of the text and of whatever follows it, and the page says how long it is
+-- since `start` the sink took one prefix of the text and of whatever follows it, and the page says how long it is
 pub record StoppedWithin {W : Type 0} (contents : W → Option (List ℕ)) (start now : SinkView W) (page : PageView) (text : List ℕ) (Follows : List ℕ → Type 0) : Type 0 where
-  pub front : List ℕ
-  pub took : Took contents start now front
-  pub begins : (more : List ℕ) → Follows more → BeginsWith (text ++ more) front
-  pub written : page.written ≡ counted 0 (length front)
+  pub prefix : List ℕ
+  pub took : Took contents start now prefix
+  pub begins : (more : List ℕ) → Follows more → BeginsWith (text ++ more) prefix
+  pub written : page.written ≡ counted 0 (length prefix)
 
 -- from (old, page) to (new, after) printing stopped within the text that follows, whichever it is
 abbrev pub StopsWithin : {W : Type 0} → (W → Option (List ℕ)) → SinkView W → PageView → SinkView W → PageView → (List ℕ → Type 0) → Type 0

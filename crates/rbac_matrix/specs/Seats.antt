@@ -31,10 +31,21 @@ seat_at seats k = slice_index_or seats k no_seat
 abbrev pub reach_at : List (List ℕ) → ℕ → List ℕ
 reach_at rs k = slice_index_or rs k []
 
--- each cursor of the line has a seat at `from`, and all other seats are empty
-pub record AreSeated (p : PolicyView) (l : LineView) (rs : List (List ℕ)) (from : ℕ) (seats : List Seat) : Type 0 where
+-- from where a grant's entries are left: from the place on, and past it for the grants below `upto`
+abbrev pub start_at : ℕ → ℕ → ℕ → ℕ
+start_at from upto k = from + min 1 (upto - k)
+
+-- each cursor of the line has a seat from where its entries are left, and all other seats are empty
+pub record AreSeated (p : PolicyView) (l : LineView) (rs : List (List ℕ)) (from upto : ℕ) (seats : List Seat) : Type 0 where
   pub count : length seats ≡ length p.grants
-  pub each : (k : ℕ) → k < length seats → (IsCursorAt p l k × IsSeated (reach_at rs k) from (seat_at seats k)) ⊎ ((IsCursorAt p l k → ⊥) × (seat_at seats k ≡ empty_seat))
+  pub each : (k : ℕ) → k < length seats → (IsCursorAt p l k × IsSeated (reach_at rs k) (start_at from upto k) (seat_at seats k)) ⊎ ((IsCursorAt p l k → ⊥) × (seat_at seats k ≡ empty_seat))
+
+-- the same where each cursor's seat is at the place, or past it already if its number is below `end`
+pub record AreSeatedAbout (p : PolicyView) (l : LineView) (rs : List (List ℕ)) (place end : ℕ) (seats : List Seat) : Type 0 where
+  pub count : length seats ≡ length p.grants
+  pub each : (k : ℕ) → k < length seats
+      → (IsCursorAt p l k × (IsSeated (reach_at rs k) place (seat_at seats k) ⊎ ((k < end) × IsSeated (reach_at rs k) (place + 1) (seat_at seats k))))
+      ⊎ ((IsCursorAt p l k → ⊥) × (seat_at seats k ≡ empty_seat))
 
 -- as many seats as grants, all empty
 pub record AreEmpty (p : PolicyView) (seats : List Seat) : Type 0 where

@@ -1,13 +1,13 @@
 -- Where the rows after a key begin.
-use Rattle.std.specs.Prelude.{◌≡◌, ℕ, ◌+◌, ◌≤◌, List, [], ◌∷◌, ◌++◌, Contains, Option, Some, None, take, drop, length, slice_get}
+use Rattle.std.specs.Prelude.{◌≡◌, ℕ, ◌+◌, ◌≤◌, List, [], ◌∷◌, ◌++◌, Contains, map, Option, Some, None, take, drop, length, slice_get}
 use Rattle.std.specs.declared.cmp.Ordering.{Ordering}
 use Rattle.std.specs.declared.cmp.Ordering.TheVariants.{Less, Equal, Greater}
 use Rattle.std.specs.Cmp.Lexicographic.{slice_cmp}
 use Rattle.rbac_terms.specs.Text.{Text, text_cmp}
 use Rattle.rbac_terms.specs.Targets.{What, group_of, text_of, name_of}
-use Rattle.rbac_terms.specs.Principals.{key_of as who_key}
+use Rattle.rbac_terms.specs.Principals.{who_key}
 use Rattle.rbac_terms.specs.Keys.{KeyTexts, texts}
-use Rattle.rbac_model.specs.Universes.{UniverseView, Listed, Cell, target_texts}
+use Rattle.rbac_model.specs.Universes.{UniverseView, Listed, Cell, IsCellOf, target_texts}
 use Rattle.rbac_matrix.specs.Cells.{cells_of}
 use Rattle.rbac_matrix.specs.Lines.{LineView, lines_from}
 use Rattle.rbac_matrix.specs.Passing.{cells_left}
@@ -57,6 +57,9 @@ pub record IsOwnPlace (u : UniverseView) (k : KeyTexts) (at : Place) : Type 0 wh
 abbrev pub what_texts : What → List Text
 what_texts t = group_of t ∷ text_of t ∷ name_of t ∷ []
 
+abbrev pub whats : UniverseView → List What
+whats u = map (λ t. t.0) u.targets
+
 abbrev pub target_part : KeyTexts → List Text
 target_part k = k.group ∷ k.resource ∷ k.name ∷ []
 
@@ -65,3 +68,7 @@ pub record IsTargetPlace (u : UniverseView) (k : KeyTexts) (place : ℕ) : Type 
   pub within : place ≤ length u.targets
   pub below : (t : Listed) → Contains (take place u.targets) t → slice_cmp text_cmp (target_texts t) (target_part k) ≡ Greater → ⊥
   pub above : (t : Listed) → Contains (drop place u.targets) t → slice_cmp text_cmp (target_texts t) (target_part k) ≡ Greater
+
+-- no request of the universe is by the principal, in the namespace and for the verb of a key
+abbrev pub HasNoLine : UniverseView → KeyTexts → Type 0
+HasNoLine u k = (c : Cell) → IsCellOf u c → who_key c.who ≡ k.principal → c.namespace ≡ k.namespace → c.verb ≡ k.verb → ⊥

@@ -1,17 +1,23 @@
 //! The enumeration of a matrix's rows.
 
-ghost use Rattle.std.specs.Prelude.{◌≡◌, ◌≤◌, ◌+◌, ◌*◌, ℕ, List, is_some, if◌then◌else◌};
+ghost use Rattle.std.specs.Prelude.{length, ◌≡◌, ◌≤◌, ◌+◌, ◌*◌, ℕ, List, is_some, if◌then◌else◌};
 ghost use Rattle.std.specs.Iterator.{MakesProgress};
 ghost use Rattle.rbac_matrix.specs.Lines.{LineView};
 ghost use Rattle.rbac_index.specs.Reaches.{raised};
 ghost use Rattle.rbac_matrix.specs.Metering.{AreTouched};
-ghost use Rattle.rbac_matrix.specs.Enumeration.{AreEntered, Gives, GoesOn, IsGoing, left_at_most};
+ghost use Rattle.rbac_model.specs.Universes.{IsUniverse, most_targets};
+ghost use Rattle.rbac_model.specs.Policies.{IsPolicy};
+ghost use Rattle.rbac_index.specs.Reaches.{AreReaches};
+ghost use Rattle.rbac_matrix.specs.Lines.{IsSettled};
+ghost use Rattle.rbac_matrix.specs.Enumeration.{AreEntered, BeginsAt, Gives, GoesOn, IsGoing, IsUnderWay, left_at_most};
 
-use crate::bound::Runs;
+use crate::bound_runs::Runs;
 use crate::line::{Place, line_at};
 use crate::row::{Row, row_of};
 use crate::seat::Seat;
-use crate::stepping::next_cell;
+use crate::seats::{advance, empty_all};
+use crate::start::{Start, seat_start};
+use crate::steps::next_cell;
 use rbac_index::{Index, Meter, Reach};
 use rbac_universe::Universe;
 
@@ -28,21 +34,81 @@ pub struct Rows<'r, 'm> {
     pub(crate) from: u32,
     // The first runs of grants of that line.
     pub(crate) runs: Runs,
-    // The first line, how many of its cursors were sought, and how many rows were given.
+    // The first line, how many of its cursors were sought, and how many rows were returned.
     pub(crate) start: Place,
     pub(crate) sought: usize,
-    pub(crate) given: u128,
+    pub(crate) returned: u128,
     pub(crate) meter: Meter,
 }
 
+// The rows from a start on, over seats that are lent.
+pub(crate) fn rows_from<'r, 'm>(
+    index: &'m Index<'m>,
+    universe: &'m Universe,
+    reaches: &'m [Reach],
+    start: Start,
+    seats: &'r mut [Seat],
+) -> Rows<'r, 'm>
+    requires reaches { AreReaches index.now universe.now reaches.now }
+    requires seats { length seats.old ≡ length index.now.grants }
+    requires settled { IsSettled universe.now start.at }
+    requires few { start.from ≤ most_targets }
+    ensures going { IsGoing result }
+    ensures starts { BeginsAt result start }
+    ensures policy { IsPolicy index.now }
+    ensures lists { IsUniverse universe.now }
+    ensures index { result.index.now ≡ index.now }
+    ensures universe { result.universe.now ≡ universe.now }
+{
+    empty_all(index, seats);
+    let mut runs = Runs::new();
+    let mut meter = Meter::new();
+    let sought = seat_start(
+        index, universe, reaches, start, &mut runs, seats, &mut meter,
+    );
+    Rows {
+        index,
+        universe,
+        reaches,
+        seats,
+        at: start.at,
+        from: start.from,
+        runs,
+        start: start.at,
+        sought,
+        returned: 0,
+        meter,
+    }
+}
+
 impl Rows<'_, '_> {
-    /// How many entries of reaches were read: no fewer than the rows that were given, and no more
-    /// than the entries of the lines that were entered, and 20 for each cursor of the first line
-    /// that was sought. Takes no memory.
+    // Moves the seats of the grants below `upto` past the place from which rows are left.
+    pub(crate) fn pass(&mut self, upto: u32)
+        requires going { IsGoing self.old }
+        requires few { self.old.from ≤ most_targets }
+        ensures way { IsUnderWay self.new upto }
+        ensures place { (self.new.at ≡ self.old.at) × (self.new.from ≡ self.old.from) × (self.new.returned ≡ self.old.returned) }
+        ensures same { GoesOn self.old self.new }
+    {
+        let index = self.index;
+        let reaches = self.reaches;
+        let from = self.from;
+        let Some(line) = line_at(self.universe, self.at) else {
+            return;
+        };
+        let meter = &mut self.meter;
+        advance(
+            index, reaches, line, &self.runs, from, upto, self.seats, meter,
+        );
+    }
+
+    /// How many entries of reaches were read: no fewer than the rows that were returned, and no
+    /// more than the entries of the lines that were entered, and 20 for each cursor of the first
+    /// line that was sought. Takes no memory.
     pub fn meter(&self) -> &Meter
         requires { IsGoing self.now }
         ensures meter { result.now ≡ self.now.meter }
-        ensures low { self.now.given ≤ result.now }
+        ensures low { self.now.returned ≤ result.now }
         ensures high { (entered : List LineView) (n : ℕ) → AreEntered self.now entered → AreTouched self.now.index.now self.now.universe.now entered n → result.now ≤ 20 * self.now.sought + n }
     {
         &self.meter
@@ -63,7 +129,7 @@ impl<'m> Iterator for Rows<'_, 'm> {
         ensures steps { Gives self.old result self.new }
         ensures goes { MakesProgress IsGoing left_at_most self.old result self.new }
         ensures going { IsGoing self.new }
-        ensures given { self.new.given ≡ raised self.old.given (if is_some result then 1 else 0) }
+        ensures returned { self.new.returned ≡ raised self.old.returned (if is_some result then 1 else 0) }
         ensures same { GoesOn self.old self.new }
     {
         let index = self.index;
@@ -74,6 +140,7 @@ impl<'m> Iterator for Rows<'_, 'm> {
             self.reaches,
             self.at,
             self.from,
+            0,
             &mut self.runs,
             self.seats,
             &mut self.meter,
@@ -81,9 +148,15 @@ impl<'m> Iterator for Rows<'_, 'm> {
         self.at = at;
         let (place, no) = found?;
         let line = line_at(universe, at)?;
+        let all = index.len();
+        let reaches = self.reaches;
+        let meter = &mut self.meter;
+        advance(
+            index, reaches, line, &self.runs, place, all, self.seats, meter,
+        );
         let targets = universe.targets();
         self.from = place + 1;
-        self.given = self.given.saturating_add(1);
+        self.returned = self.returned.saturating_add(1);
         let grant = index.grant(no);
         Some(row_of(line, &targets[place as usize], grant.binding))
     }

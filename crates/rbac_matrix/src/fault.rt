@@ -1,4 +1,4 @@
-//! Why a row's key can't be told.
+//! Why a row's key can't be made.
 
 ghost use Rattle.std.specs.Prelude.{◌≡◌};
 

@@ -1,8 +1,10 @@
 //! The matrix: all that anyone may do, in order of keys, each with its first granting binding.
 #![tactic(auto)]
 
-mod bound;
+mod bound_runs;
 mod enumeration;
+mod every_rows;
+mod every_start;
 mod fault;
 mod laws;
 mod line;
@@ -12,14 +14,15 @@ mod row;
 mod seat;
 mod seats;
 mod start;
-mod stepping;
+mod steps;
 mod walk;
 
 pub use enumeration::Rows;
+pub use every_rows::EveryRows;
 pub use fault::MatrixFault;
 pub use laws::{
     a_matrix_is_there, every_pages_join, every_rows_are_one, every_rows_are_there, pages_join,
-    the_matrix_is_one,
+    rows_after_a_binding, the_matrix_is_one,
 };
 pub use matrix::Matrix;
 pub use pages::print_page;

@@ -1,7 +1,7 @@
 //! The lines of a universe: who, namespace and verb.
 
 ghost use Rattle.std.specs.Prelude.{◌≡◌, ◌∷◌, [], ◌<◌, ◌≤◌, ◌+◌, length, IfSome, MatchOption};
-ghost use Rattle.rbac_model.specs.Universes.{IsUniverse};
+ghost use Rattle.rbac_model.specs.Universes.{IsUniverse, most_words};
 ghost use Rattle.rbac_universe.specs.Sets.{IsWithinLimits};
 ghost use Rattle.rbac_matrix.specs.Lines.{LineView, IsLineAt, IsSettled, lines_from, next_verb, place};
 ghost use Rattle.rbac_matrix.specs.Shown.{line_of};
@@ -50,7 +50,7 @@ pub(crate) fn line_at<'a>(universe: &'a Universe, at: Place) -> Option<Line<'a>>
     requires { IsSettled universe.now at }
     ensures universe { IsUniverse universe.now }
     ensures limits { IsWithinLimits universe.now }
-    ensures few { IfSome result (λ _. (at.principal < 65535) × (at.namespace < 65535) × (at.verb < 65535)) }
+    ensures few { IfSome result (λ _. (at.principal < most_words) × (at.namespace < most_words) × (at.verb < most_words)) }
     ensures place { IfSome result (λ line. IsLineAt universe.now at (line_of line)) }
     ensures line { MatchOption result (lines_from universe.now at ≡ [])
         (λ line. lines_from universe.now at ≡ line_of line ∷ lines_from universe.now (next_verb at)) }
@@ -65,7 +65,7 @@ pub(crate) fn line_at<'a>(universe: &'a Universe, at: Place) -> Option<Line<'a>>
 
 // The place after a line's.
 pub(crate) fn after(at: Place) -> Place
-    requires { at.verb < 65535 }
+    requires { at.verb < most_words }
     ensures { result ≡ next_verb at }
 {
     Place {

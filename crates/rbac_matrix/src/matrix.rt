@@ -4,20 +4,24 @@ ghost use Rattle.std.specs.Prelude.{◌≡◌, ◌≤◌, ℕ, List, length};
 ghost use Rattle.std.specs.Option.{option_copied};
 ghost use Rattle.rbac_model.specs.Universes.{RowView, IsMatrix, rows_after};
 ghost use Rattle.rbac_matrix.specs.Enumeration.{AreLeft, IsGoing};
+ghost use Rattle.rbac_matrix.specs.Every.{IsEvery, every_after};
+ghost use Rattle.rbac_matrix.specs.EveryLeft.{AreEveryLeft, IsGoingEvery};
+ghost use Rattle.rbac_matrix.specs.EveryStart.{EveryStarts, key_of_mark};
 ghost use Rattle.rbac_matrix.specs.Lent.{AreLent, Starts};
 ghost use Rattle.rbac_index.specs.Reaches.{AreReaches};
 
-use crate::bound::Runs;
-use crate::enumeration::Rows;
+use crate::enumeration::{Rows, rows_from};
+use crate::every_rows::EveryRows;
+use crate::every_start::every_start;
 use crate::seat::Seat;
-use crate::seats::empty_all;
-use crate::start::{seat_start, start_after};
-use rbac_index::{Index, Meter, Reach};
+use crate::start::start_after;
+use rbac_index::{Index, Reach};
 use rbac_terms::Key;
+use rbac_token::Mark;
 use rbac_universe::Universe;
 
-/// All that anyone may do: the requests of a universe that fit and are allowed. It borrows an index,
-/// a universe, a reach for each grant over this universe, and a seat for each grant.
+/// All that anyone may do: the requests of a universe that fit and are allowed. It borrows an
+/// index, a universe, a reach for each grant over this universe, and a seat for each grant.
 #[derive(Drop)]
 pub struct Matrix<'m, 's> {
     index: &'m Index<'m>,
@@ -55,7 +59,7 @@ impl<'m, 's> Matrix<'m, 's> {
         ensures going { IsGoing result }
         ensures rows { (rows : List RowView) → IsMatrix self.old.index.now.held self.old.universe.now rows → AreLeft result (rows_after (option_copied key.entry) rows) }
         ensures starts { Starts result (option_copied key.entry) }
-        ensures given { result.given ≡ 0 }
+        ensures returned { result.returned ≡ 0 }
         ensures index { result.index.now ≡ self.old.index.now }
         ensures universe { result.universe.now ≡ self.old.universe.now }
     {
@@ -63,25 +67,33 @@ impl<'m, 's> Matrix<'m, 's> {
         let universe = self.universe;
         let reaches = self.reaches;
         let seats = &mut *self.seats;
-        empty_all(index, seats);
         let start = start_after(universe, key);
-        let mut runs = Runs::new();
-        let mut meter = Meter::new();
-        let sought = seat_start(
-            index, universe, reaches, start, &mut runs, seats, &mut meter,
-        );
-        Rows {
-            index,
-            universe,
-            reaches,
-            seats,
-            at: start.at,
-            from: start.from,
-            runs,
-            start: start.at,
-            sought,
-            given: 0,
-            meter,
+        rows_from(index, universe, reaches, start, seats)
+    }
+
+    /// The rows of every granting binding that come after this mark, whose request and binding may
+    /// be there or not; all such rows without one. They come in order of keys, then of bindings,
+    /// each once. Takes no memory.
+    pub fn every_after(&mut self, mark: Option<&Mark>) -> EveryRows<'_, 'm>
+        requires { AreLent self.old }
+        ensures going { IsGoingEvery result }
+        ensures rows { (rows : List RowView) → IsEvery self.old.index.now.held self.old.universe.now rows → AreEveryLeft result (every_after (option_copied mark.entry) rows) }
+        ensures starts { EveryStarts result (key_of_mark (option_copied mark.entry)) }
+        ensures returned { result.rows.returned ≡ 0 }
+        ensures index { result.rows.index.now ≡ self.old.index.now }
+        ensures universe { result.rows.universe.now ≡ self.old.universe.now }
+    {
+        let index = self.index;
+        let universe = self.universe;
+        let reaches = self.reaches;
+        let seats = &mut *self.seats;
+        let start = every_start(index, universe, mark);
+        let mut rows = rows_from(index, universe, reaches, start.request, seats);
+        rows.pass(start.upto);
+        EveryRows {
+            rows,
+            binding: start.binding,
+            upto: start.upto,
         }
     }
 }

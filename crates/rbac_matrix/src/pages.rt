@@ -27,7 +27,7 @@ const END: &[u8] = b"end\n";
 /// which is `next` and the token of the last row, joined by a tab, where more rows follow, and else
 /// `end`. Keeps no list of rows.
 ///
-/// Where the sink fails, or memory for a line is refused, a front of the page was printed.
+/// Where the sink fails, or memory for a line is refused, a prefix of the page was printed.
 pub fn print_page<W: Write + Drop>(
     alloc: Global,
     rows: &mut Rows<'_, '_>,

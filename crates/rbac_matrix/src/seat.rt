@@ -5,6 +5,7 @@ ghost use Rattle.std.specs.List.{slice_index_or};
 ghost use Rattle.std.specs.List.Sorted.{IsStrictlyIncreasing};
 ghost use Rattle.rbac_index.specs.Reaches.{raised};
 ghost use Rattle.rbac_matrix.specs.Seats.{IsSeated, IsFirstFrom, ReadsAtMost, SeatCosts, empty_seat, past_all};
+ghost use Rattle.rbac_model.specs.Universes.{most_targets};
 
 use rbac_index::{Meter, Reach};
 
@@ -68,7 +69,7 @@ fn seat_in(reach: &Reach, position: usize, meter: &mut Meter) -> Seat
 fn seek(reach: &Reach, from: u32, meter: &mut Meter) -> usize
     ensures first { IsFirstFrom reach.now from result }
     ensures reads { ReadsAtMost 20 meter.old meter.new }
-    ensures few { length reach.now ≤ 1000000 }
+    ensures few { length reach.now ≤ most_targets }
 {
     let mut low = 0;
     let mut high = reach.len();

@@ -4,9 +4,9 @@ ghost use Rattle.std.specs.Prelude.{◌≡◌, ◌+◌, ◌*◌, ◌<◌, ◌≤
 ghost use Rattle.rbac_model.specs.Policies.{IsPolicy};
 ghost use Rattle.rbac_matrix.specs.Shown.{line_of};
 ghost use Rattle.rbac_matrix.specs.Cursors.{AreRuns, IsCursorAt};
-ghost use Rattle.rbac_matrix.specs.Seats.{AreSeated, AreEmpty, Costs, IsLeastSeat, AreReal, filled, empty_seat, past_all, seat_at};
+ghost use Rattle.rbac_matrix.specs.Seats.{AreSeated, AreSeatedAbout, AreEmpty, Costs, IsLeastSeat, AreReal, filled, empty_seat, past_all, seat_at};
 
-use crate::bound::Runs;
+use crate::bound_runs::Runs;
 use crate::line::Line;
 use crate::seat::{Seat, seat_after, seat_from};
 use crate::walk::{next_bound, next_cursor, whole_walk};
@@ -26,8 +26,8 @@ fn comes_before(place: u32, number: u32, other_place: u32, other: u32) -> bool
     place < other_place || (place == other_place && number < other)
 }
 
-// Seats each cursor of the line at its first entry that is at least `from`. Tells how many have an
-// entry, or had one.
+// Seats each cursor of the line at its first entry that is at least `from`. Answers how many have
+// an entry, or had one.
 pub(crate) fn seat_line(
     index: &Index<'_>,
     reaches: &[Reach],
@@ -42,7 +42,7 @@ pub(crate) fn seat_line(
     requires real { AreReal reaches.now }
     requires from { from ≤ past_all }
     requires empty { AreEmpty index.now seats.old }
-    ensures seated { AreSeated index.now (line_of line.entry) reaches.now from seats.new }
+    ensures seated { AreSeated index.now (line_of line.entry) reaches.now from 0 seats.new }
     ensures filled { result ≡ filled seats.new }
     ensures started { from ≡ 0 → Costs 0 0 seats.old seats.new meter.old meter.new }
     ensures sought { Costs (20 * result) 0 seats.old seats.new meter.old meter.new }
@@ -89,29 +89,39 @@ pub(crate) fn least_seat(
     }
 }
 
-// Moves each seat that stands at the place on by one entry.
+// Whether a seat stands at the place, and its number is below `end`.
+fn stands_below(seat: Seat, no: u32, place: u32, end: u32) -> bool
+    ensures { IsTrue result ↔ ((no < end) × (seat.place ≡ place)) }
+{
+    no < end && seat.place() == place
+}
+
+// Moves each seat that stands at the place on by one entry, of the grants whose number is below
+// `end`.
 pub(crate) fn advance(
     index: &Index<'_>,
     reaches: &[Reach],
     line: Line<'_>,
     runs: &Runs,
     place: u32,
+    end: u32,
     seats: &mut [Seat],
     meter: &mut Meter,
 )
     requires runs { AreRuns index.now (line_of line) runs.now }
     requires reaches { length reaches.now ≡ length index.now.grants }
-    requires seated { AreSeated index.now (line_of line) reaches.now place seats.old }
+    requires seated { AreSeatedAbout index.now (line_of line) reaches.now place end seats.old }
     requires real { AreReal reaches.now }
     requires stands { place < past_all }
-    ensures seated { AreSeated index.now (line_of line.entry) reaches.now (place + 1) seats.new }
-    ensures costs { (k : ℕ) → IsCursorAt index.now (line_of line.entry) k → (seat_at seats.old k).place ≡ place → Costs 0 1 seats.old seats.new meter.old meter.new }
+    ensures seated { AreSeated index.now (line_of line.entry) reaches.now place end seats.new }
+    ensures costs { Costs 0 0 seats.old seats.new meter.old meter.new }
+    ensures gains { (k : ℕ) → IsCursorAt index.now (line_of line.entry) k → k < end → (seat_at seats.old k).place ≡ place → Costs 0 1 seats.old seats.new meter.old meter.new }
 {
     let mut walk = whole_walk();
     while let Some(no) = next_bound(index, line, runs, &mut walk) {
-        let no = no as usize;
-        if seats[no].place() == place {
-            seats[no] = seat_after(&reaches[no], seats[no], meter);
+        let at = no as usize;
+        if stands_below(seats[at], no, place, end) {
+            seats[at] = seat_after(&reaches[at], seats[at], meter);
         }
     }
 }

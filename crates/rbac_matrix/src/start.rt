@@ -1,21 +1,21 @@
 //! Where the rows after a key begin.
 
-ghost use Rattle.std.specs.Prelude.{Some, ◌≡◌, ◌⊎◌, [], ◌∷◌, ◌≤◌, IfOk, IfErr};
+ghost use Rattle.std.specs.Prelude.{length, Some, ◌≡◌, ◌⊎◌, [], ◌∷◌, ◌≤◌, IfOk, IfErr};
 ghost use Rattle.std.specs.Option.{option_copied};
 ghost use Rattle.std.specs.Cmp.Lexicographic.{slice_cmp};
 ghost use Rattle.rbac_terms.specs.Text.{text_cmp};
-ghost use Rattle.rbac_terms.specs.Principals.{key_of as who_key};
+ghost use Rattle.rbac_terms.specs.Principals.{who_key};
 ghost use Rattle.rbac_model.specs.Lists.{IsAscendingBy};
 ghost use Rattle.rbac_matrix.specs.Cursors.{AreRunsAt};
 ghost use Rattle.rbac_matrix.specs.Lines.{IsSettled, lines_from};
 ghost use Rattle.rbac_model.specs.Policies.{IsPolicy};
-ghost use Rattle.rbac_model.specs.Universes.{IsUniverse};
+ghost use Rattle.rbac_model.specs.Universes.{IsUniverse, most_targets};
 ghost use Rattle.rbac_matrix.specs.Metering.{AreSought, IsMetered, IsReady};
 ghost use Rattle.rbac_index.specs.Reaches.{AreReaches};
 ghost use Rattle.rbac_matrix.specs.Seats.{AreEmpty};
-ghost use Rattle.rbac_matrix.specs.Starting.{IsFoundAt, IsGapAt, IsOwnLine, IsOwnPlace, IsStart, IsTargetPlace, target_part, what_texts};
+ghost use Rattle.rbac_matrix.specs.Starting.{HasNoLine, IsFoundAt, IsGapAt, IsOwnLine, IsOwnPlace, IsStart, IsTargetPlace, target_part, what_texts, whats};
 
-use crate::bound::Runs;
+use crate::bound_runs::Runs;
 use crate::line::{Place, line_at, settled};
 use crate::seat::Seat;
 use crate::seats::seat_line;
@@ -60,22 +60,33 @@ fn cmp_target(target: &Target, key: &Key) -> Ordering
     target.group().cmp(key.field(3)).then(by_text.then(by_name))
 }
 
-// The place after the targets that aren't past that of the key.
-fn target_place(universe: &Universe, key: &Key) -> usize
-    ensures place { IsTargetPlace universe.now key.now result }
-    ensures few { result ≤ 1000000 }
+// Where the target of the key stands, or would go.
+pub(crate) fn target_place(universe: &Universe, key: &Key) -> Result<usize, usize>
+    ensures found { IfOk result (IsFoundAt (slice_cmp text_cmp) what_texts (whats universe.now) (target_part key.now)) }
+    ensures gap { IfErr result (IsGapAt (slice_cmp text_cmp) what_texts (whats universe.now) (target_part key.now)) }
+    ensures few { length universe.now.targets ≤ most_targets }
+    ensures universe { IsUniverse universe.now }
 {
     let targets = universe.targets();
-    match targets.binary_search_by(|target| cmp_target(target, key)) {
+    targets.binary_search_by(|target| cmp_target(target, key))
+}
+
+// The place after the targets that aren't past that of the key.
+fn place_after(universe: &Universe, key: &Key) -> usize
+    ensures place { IsTargetPlace universe.now key.now result }
+    ensures few { result ≤ most_targets }
+{
+    match target_place(universe, key) {
         Ok(place) => place + 1,
         Err(place) => place,
     }
 }
 
 // The place of the key's own line; where there is none, that from which the lines past it stand.
-fn line_place(universe: &Universe, key: &Key) -> Result<Place, Place>
+pub(crate) fn line_place(universe: &Universe, key: &Key) -> Result<Place, Place>
     ensures found { IfOk result (IsOwnPlace universe.now key.now) }
     ensures gap { IfErr result (λ at. IsStart universe.now (Some key.now) at 0) }
+    ensures absent { IfErr result (λ _. HasNoLine universe.now key.now) }
     ensures universe { IsUniverse universe.now }
 {
     let principal = match principal_place(universe, key) {
@@ -120,12 +131,12 @@ fn start_at(universe: &Universe, key: &Key) -> Start
     ensures settled { IsSettled universe.now result.at }
     ensures start { IsStart universe.now (Some key.now) result.at result.from }
     ensures own { (result.from ≡ 0) ⊎ IsOwnLine universe.now (Some key.now) result.at }
-    ensures few { result.from ≤ 1000000 }
+    ensures few { result.from ≤ most_targets }
 {
     match line_place(universe, key) {
         Ok(at) => Start {
             at,
-            from: target_place(universe, key) as u32,
+            from: place_after(universe, key) as u32,
         },
         Err(at) => line_start(universe, at),
     }
@@ -136,7 +147,7 @@ pub(crate) fn start_after(universe: &Universe, key: Option<&Key>) -> Start
     ensures settled { IsSettled universe.now result.at }
     ensures start { IsStart universe.now (option_copied key.entry) result.at result.from }
     ensures own { (result.from ≡ 0) ⊎ IsOwnLine universe.now (option_copied key.entry) result.at }
-    ensures few { result.from ≤ 1000000 }
+    ensures few { result.from ≤ most_targets }
 {
     match key {
         Some(key) => start_at(universe, key),
@@ -144,7 +155,7 @@ pub(crate) fn start_after(universe: &Universe, key: Option<&Key>) -> Start
     }
 }
 
-// Seats the cursors of the line at which the rows begin, if there is one. Tells how many were
+// Seats the cursors of the line at which the rows begin, if there is one. Answers how many were
 // sought. All seats are empty before.
 pub(crate) fn seat_start(
     index: &Index<'_>,
@@ -158,10 +169,10 @@ pub(crate) fn seat_start(
     requires policy { IsPolicy index.now }
     requires reaches { AreReaches index.now universe.now reaches.now }
     requires settled { IsSettled universe.now start.at }
-    requires few { start.from ≤ 1000000 }
+    requires few { start.from ≤ most_targets }
     requires empty { AreEmpty index.now seats.old }
     requires fresh { meter.old ≡ 0 }
-    ensures ready { IsReady index.now universe.now reaches.now start.at start.from seats.new }
+    ensures ready { IsReady index.now universe.now reaches.now start.at start.from 0 seats.new }
     ensures runs { AreRunsAt index.now universe.now start.at runs.new }
     ensures metered { IsMetered index.now universe.now start.at result start.at seats.new 0 meter.new }
     ensures whole { start.from ≡ 0 → result ≡ 0 }

@@ -6,7 +6,7 @@ ghost use Rattle.rbac_matrix.specs.Shown.{line_of};
 ghost use Rattle.rbac_matrix.specs.Lines.{LineView};
 ghost use Rattle.rbac_matrix.specs.Cursors.{AreRuns, AreRunsFrom, IsAhead, IsBoundOn, IsCursorAt, IsNextBound, IsNextRunOn, IsWithin, steps_left};
 
-use crate::bound::{Run, Runs};
+use crate::bound_runs::{Run, Runs};
 use crate::line::Line;
 use rbac_index::Index;
 use rbac_terms::verb_matches;
@@ -33,7 +33,7 @@ pub(crate) fn whole_walk() -> Walk
     }
 }
 
-// The number of a cursor, and on to the others; none where all were told.
+// The number of a cursor, and on to the others; none where all were answered.
 pub(crate) fn next_cursor(
     index: &Index<'_>,
     line: Line<'_>,

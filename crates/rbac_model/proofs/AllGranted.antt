@@ -7,13 +7,14 @@ use Rattle.rbac_terms.specs.declared.granting.Role.{Role}
 use Rattle.rbac_terms.specs.declared.granting.ClusterRole.{ClusterRole}
 use Rattle.rbac_terms.specs.declared.granting.RoleRef.{RoleRef}
 use Rattle.rbac_terms.specs.declared.granting.RoleRef.TheVariants.{Role as ToRole, ClusterRole as ToClusterRole}
+use Rattle.rbac_terms.proofs.Cases.{by_ordering}
 use Rattle.rbac_model.specs.Lists.{by_name}
 use Rattle.rbac_model.specs.Policies.{Held, InRole, SourcedRule, GrantView, AreRulesFor, AreGrantsOf, written_from, role_name, cluster_role_name}
 use Rattle.rbac_model.specs.Places.{AreSourcesAt, IsRefAt, granted_by, rules_in, roles_at}
 use Rattle.rbac_model.specs.declared.places.RolePlace.TheVariants.{RoleAt, ClusterRoleAt}
 use Rattle.rbac_model.proofs.Brought.{role_rules, source_rules}
 use Rattle.rbac_model.proofs.Lookups.{role_named, cluster_role_named, same_role, same_cluster_role, role_ref, cluster_role_ref, no_role_ref, no_cluster_role_ref}
-use Rattle.rbac_model.proofs.NamePlaces.{by_ordering, same_name, equal_from_name}
+use Rattle.rbac_model.proofs.NamePlaces.{same_name, equal_from_name}
 
 role_same : (r : Role) (namespace name : Text) → r.namespace ≡ namespace → r.name ≡ name → role_name r ≡ role_name (role_named namespace name)
 role_same r namespace name e f = cc

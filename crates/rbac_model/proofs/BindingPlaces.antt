@@ -1,5 +1,5 @@
 -- a grant is of one binding, at one place, and these places rise with the numbers of grants
-use Rattle.std.proofs.Common.{◌≡◌, ℕ, ◌<◌, ◌≤◌, List, length, get_or, ap, sym, ◌∙◌, refl, inl, inr, arith, All, ltb, leb, true, false, [], ◌∷◌, zero, suc, Contains}
+use Rattle.std.proofs.Common.{◌≡◌, ℕ, ◌<◌, ◌≤◌, List, length, get_or, ap, sym, ◌∙◌, refl, inl, inr, arith, All, ltb, leb, true, false, Contains}
 use Rattle.std.specs.Prelude.{Option, Some, None, slice_get, IsSome, option_and_then, ◌↔◌}
 use Rattle.std.specs.Option.{option_map}
 use Rattle.std.specs.List.Sorted.{IsNonDecreasingBy, IsPartitionPoint}
@@ -9,6 +9,7 @@ use Rattle.std.proofs.lemmas.List.Elements.{All-get_or}
 use Rattle.std.proofs.lemmas.Option.{same_Some, slice_get_within, get_or_from_slice_get, slice_get-get_or}
 use Rattle.rbac_terms.specs.Text.{Text}
 use Rattle.rbac_terms.specs.declared.granting.Binding.{Binding}
+use Rattle.rbac_terms.proofs.Reading.{read_some}
 use Rattle.rbac_model.specs.Lists.{by_name, IsAscendingBy}
 use Rattle.rbac_model.specs.declared.places.GrantPlace.{GrantPlace}
 use Rattle.rbac_model.specs.declared.places.RolePlace.TheVariants.{RoleAt}
@@ -16,11 +17,6 @@ use Rattle.rbac_model.specs.Policies.{Held, PolicyView, IsPolicy, GrantView, Sou
 use Rattle.rbac_model.proofs.NamePlaces.{equal_from_name}
 use Rattle.rbac_model.proofs.Granted.{granted}
 use Rattle.rbac_model.proofs.GrantNumbers.{bindings_rise, binding_of, number_of, grant_by}
-
-read_some : {X : Type 0} (xs : List X) (i : ℕ) → i < length xs → (x : X) × (slice_get xs i ≡ Some x)
-read_some (x ∷ xs) zero lt = (x, refl)
-read_some (x ∷ xs) (suc i) lt = read_some xs i (omega arith)
-read_some [] i lt = absurd (omega arith)
 
 module _ {X : Type 0} (name : X → List Text) where
   not_below : (x y : X) → name x ≡ name y → by_name name x y ≡ Less → ⊥
@@ -139,4 +135,20 @@ module _ (p : PolicyView) (ok : IsPolicy p) (places : List GrantPlace) (are : p.
             | inr l ↦ absurd (omega (arith, at, same, leb_not_below k place (upto.1 n d l lt)))
           ],
         ),
+      )
+
+  -- the grants of bindings up to that place stand before the second point
+  pub parted_upto : (place last : ℕ) → length places ≡ length p.grants
+      → IsPartitionPoint (λ (at : GrantPlace). leb at.binding place ≡ true) (λ (at : GrantPlace). leb at.binding place ≡ false) places last
+      → (n i : ℕ) → IsOfBinding p n i → (n < last) ↔ (i ≤ place)
+  parted_upto place last len upto n i of =
+      let lt : n < length places = omega (arith, slice_get_within p.grants n of.0 of.1, len) in
+      let d : GrantPlace = record { binding = 0; role = RoleAt 0; rule = 0 } in
+      let k = (get_or places n d).binding in
+      let at : i ≡ k = one_binding_place p ok n i k of (granted_binding p.held places p.grants are all n d lt) in (
+        λ within. omega (arith, at, leb_below k place (upto.0 n d (omega arith) within)),
+        λ low. elim (cases_lt n last) [
+          | inl l ↦ l
+          | inr l ↦ absurd (omega (arith, at, low, leb_not_below k place (upto.1 n d l lt)))
+        ],
       )

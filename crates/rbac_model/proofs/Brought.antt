@@ -1,5 +1,5 @@
 -- the rules that a binding brings, by the place of its role
-use Rattle.std.proofs.Common.{◌≡◌, ℕ, ◌<◌, List, [], ◌∷◌, ◌++◌, length, All, inl, inr, sym, ap, ◌∙◌, refl, arith, subst, option_map, Result, Ok, Err, OnOk, IfErr, append-nil, ◌+◌, ◌⊎◌}
+use Rattle.std.proofs.Common.{◌≡◌, ℕ, ◌<◌, List, [], ◌∷◌, ◌++◌, length, All, inl, inr, sym, ap, ◌∙◌, refl, arith, subst, option_map, Result, Ok, Err, IfErr, append-nil, ◌+◌, ◌⊎◌}
 use Rattle.std.specs.Prelude.{Option, Some, None, slice_get, IsSome}
 use Rattle.std.proofs.lemmas.Option.{same_Some, slice_get_within}
 use Rattle.rbac_model.specs.Policies.{Held, Source, InRole, InClusterRole, SourcedRule, IsRefTo, IsPlain, AreRulesOf, AreRulesFor, AreGathered, written_from, grant_at}
@@ -10,10 +10,6 @@ use Rattle.rbac_terms.specs.declared.granting.ClusterRole.{ClusterRole}
 use Rattle.rbac_model.specs.declared.places.GrantPlace.{GrantPlace}
 use Rattle.rbac_model.specs.declared.places.RolePlace.TheVariants.{RoleAt, ClusterRoleAt}
 use Rattle.rbac_model.proofs.Listed.{added, role_placed, sources_placed, placed_len}
-
-pub on_ok : {T E : Type 0} {P Q : Type 0} (o : Result T E) → (P → Q) → OnOk o P → OnOk o Q
-on_ok (Ok x) f p = f p
-on_ok (Err e) f p = tt
 
 pub if_err : {T E : Type 0} (P Q : E → Type 0) (o : Result T E) → ((e : E) → P e → Q e) → IfErr o P → IfErr o Q
 if_err P Q (Ok x) f p = tt

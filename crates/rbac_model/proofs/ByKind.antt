@@ -2,8 +2,8 @@
 use Rattle.std.proofs.Common.{◌≡◌, List, [], ◌∷◌, ◌++◌, append-nil, ◌∙◌}
 use Rattle.std.specs.List.{filter_map}
 use Rattle.std.proofs.lemmas.List.Elements.{filter_map-append}
-use Rattle.rbac_model.specs.declared.holding.Object.{Object}
-use Rattle.rbac_model.specs.declared.holding.Object.TheVariants.{Role as ARole, ClusterRole as AClusterRole, Binding as ABinding}
+use Rattle.rbac_model.specs.declared.objects.Object.{Object}
+use Rattle.rbac_model.specs.declared.objects.Object.TheVariants.{Role as ARole, ClusterRole as AClusterRole, Binding as ABinding}
 use Rattle.rbac_terms.specs.declared.granting.Role.{Role}
 use Rattle.rbac_terms.specs.declared.granting.ClusterRole.{ClusterRole}
 use Rattle.rbac_terms.specs.declared.granting.Binding.{Binding}

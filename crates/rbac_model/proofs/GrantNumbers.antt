@@ -9,20 +9,11 @@ use Rattle.rbac_terms.specs.Targets.{What}
 use Rattle.rbac_terms.specs.Principals.{Who}
 use Rattle.rbac_terms.specs.Matching.{RuleAllows}
 use Rattle.rbac_terms.specs.declared.granting.Binding.{Binding}
+use Rattle.rbac_terms.proofs.Reading.{read_left, read_right}
 use Rattle.rbac_model.specs.Policies.{Held, IsHeld, SourcedRule, GrantView, AreRulesFor, AreGrantsOf, Allows, IsFirst, Grants, GrantAllows}
 use Rattle.rbac_model.specs.Lists.{IsFirstAt}
 use Rattle.rbac_model.specs.Places.{granted_by}
 use Rattle.rbac_model.proofs.OneList.{one_rules_for}
-
-read_left : {X : Type 0} (xs ys : List X) (i : ℕ) → i < length xs → slice_get (xs ++ ys) i ≡ slice_get xs i
-read_left [] ys i l = absurd (omega arith)
-read_left (x ∷ xs) ys zero l = refl
-read_left (x ∷ xs) ys (suc i) l = read_left xs ys i (omega arith)
-
-read_right : {X : Type 0} (xs ys : List X) (i j : ℕ) → i ≡ length xs + j → slice_get (xs ++ ys) i ≡ slice_get ys j
-read_right [] ys i j e = let same : i ≡ j = omega arith in ap (slice_get ys) same
-read_right (x ∷ xs) ys zero j e = absurd (omega arith)
-read_right (x ∷ xs) ys (suc i) j e = read_right xs ys i j (omega arith)
 
 abbrev pub grant_by : Binding → SourcedRule → GrantView
 grant_by b rule = record { binding = b; rule = rule }

@@ -11,7 +11,7 @@ use Rattle.std.proofs.lemmas.Option.{same_Some, slice_get_within}
 use Rattle.rbac_terms.specs.Text.{Text}
 use Rattle.rbac_terms.specs.Selecting.{LabelTexts, HasLabel}
 use Rattle.rbac_terms.specs.declared.granting.ClusterRole.{ClusterRole}
-use Rattle.rbac_model.specs.Labelled.{Entry, Says, Adds, IsWithAt, HasSome, label_texts}
+use Rattle.rbac_model.specs.Labelled.{LabelEntry, Says, Adds, IsWithAt, HasSome, label_texts}
 use Rattle.rbac_model.proofs.LabelSets.{any_push, none_any}
 
 -- a label has the key, and the value that is asked for
@@ -63,10 +63,10 @@ bit_here place k = (
 )
 
 -- what the two entries of a label say
-abbrev pub of_label : Text × Text → ℕ → Entry
+abbrev pub of_label : Text × Text → ℕ → LabelEntry
 of_label l place = record { label = label_texts l.0 (Some l.1); place = place; bits = bit_of place }
 
-abbrev pub of_key : Text × Text → ℕ → Entry
+abbrev pub of_key : Text × Text → ℕ → LabelEntry
 of_key l place = record { label = label_texts l.0 None; place = place; bits = bit_of place }
 
 head_of : (a b : Text) (xs ys : List Text) → (a ∷ xs) ≡ (b ∷ ys) → (a ≡ b) × (xs ≡ ys)
@@ -90,12 +90,12 @@ two_say l place key (Some v) k = (
   λ w. let b = (bit_here place k).1 w.0 in inl (ap (λ (t : Text). t ∷ l.1 ∷ []) w.1.0 ∙ ap (λ (t : Text). key ∷ t ∷ []) w.1.1, b.0, b.1),
 )
 
-pub adds_none : (old : List Entry) (place : ℕ) → Adds old old [] place
+pub adds_none : (old : List LabelEntry) (place : ℕ) → Adds old old [] place
 adds_none old place key value k = (λ w. inl w, λ w. elim w [ inl v ↦ v | inr h ↦ absurd (has_none key value h.1) ])
 
-pub adds_more : (old mid : List Entry) (ls : LabelTexts) (l : Text × Text) (place : ℕ) → Adds old mid ls place → Adds old ((mid ++ of_label l place ∷ []) ++ of_key l place ∷ []) (ls ++ l ∷ []) place
+pub adds_more : (old mid : List LabelEntry) (ls : LabelTexts) (l : Text × Text) (place : ℕ) → Adds old mid ls place → Adds old ((mid ++ of_label l place ∷ []) ++ of_key l place ∷ []) (ls ++ l ∷ []) place
 adds_more old mid ls l place adds key value k =
-    let P : Entry → Type 0 = λ e. Says e (label_texts key value) k in
+    let P : LabelEntry → Type 0 = λ e. Says e (label_texts key value) k in
     let outer = any_push P (mid ++ of_label l place ∷ []) (of_key l place) in
     let inner = any_push P mid (of_label l place) in
     let two = two_say l place key value k in
@@ -120,13 +120,10 @@ adds_more old mid ls l place adds key value k =
     )
 
 -- what the entries of the first roles say
-abbrev pub SaysUpTo : List ClusterRole → List Entry → ℕ → Type 0
+abbrev pub SaysUpTo : List ClusterRole → List LabelEntry → ℕ → Type 0
 SaysUpTo roles xs i = (key : Text) (value : Option Text) (k : ℕ) → Any (λ e. Says e (label_texts key value) k) xs ↔ ((k < i) × IsWithAt (λ labels. HasSome labels key value) roles k)
 
-pub says_none : (roles : List ClusterRole) → SaysUpTo roles [] 0
-says_none roles key value k = (λ w. absurd (none_any (λ e. Says e (label_texts key value) k) w), λ w. absurd (omega (arith, w.0)))
-
-pub says_more : (roles : List ClusterRole) (old new : List Entry) (i : ℕ) (r : ClusterRole) → slice_get roles i ≡ Some r → Adds old new r.labels i → SaysUpTo roles old i → SaysUpTo roles new (i + 1)
+pub says_more : (roles : List ClusterRole) (old new : List LabelEntry) (i : ℕ) (r : ClusterRole) → slice_get roles i ≡ Some r → Adds old new r.labels i → SaysUpTo roles old i → SaysUpTo roles new (i + 1)
 says_more roles old new i r there adds up key value k = (
   λ w. elim ((adds key value k).0 w) [
     | inl v ↦ let h = (up key value k).0 v in (omega (arith, h.0), h.1)
@@ -140,19 +137,19 @@ says_more roles old new i r there adds up key value k = (
   ]),
 )
 
-pub says_all : (roles : List ClusterRole) (xs : List Entry) (i : ℕ) → length roles ≤ i → SaysUpTo roles xs i → (key : Text) (value : Option Text) (k : ℕ) → Any (λ e. Says e (label_texts key value) k) xs ↔ IsWithAt (λ labels. HasSome labels key value) roles k
+pub says_all : (roles : List ClusterRole) (xs : List LabelEntry) (i : ℕ) → length roles ≤ i → SaysUpTo roles xs i → (key : Text) (value : Option Text) (k : ℕ) → Any (λ e. Says e (label_texts key value) k) xs ↔ IsWithAt (λ labels. HasSome labels key value) roles k
 says_all roles xs i le up key value k = (
   λ w. ((up key value k).0 w).1,
   λ h. (up key value k).1 (omega (arith, slice_get_within roles k h.0 h.1, le), h),
 )
 
 -- a sort changes nothing of what is said
-any_moved : (P : Entry → Type 0) (xs ys : List Entry) → ((x : Entry) → Contains xs x → Contains ys x) → Any P xs → Any P ys
+any_moved : (P : LabelEntry → Type 0) (xs ys : List LabelEntry) → ((x : LabelEntry) → Contains xs x → Contains ys x) → Any P xs → Any P ys
 any_moved P xs ys moved w = let c = moved w.1 (w.0, w.2, w.3) in (c.0, w.1, c.1, c.2, w.4)
 
-pub says_sorted : (roles : List ClusterRole) (xs ys : List Entry) (i : ℕ) → length roles ≤ i → IsPermutation xs ys → SaysUpTo roles xs i → (key : Text) (value : Option Text) (k : ℕ) → Any (λ e. Says e (label_texts key value) k) ys ↔ IsWithAt (λ labels. HasSome labels key value) roles k
+pub says_sorted : (roles : List ClusterRole) (xs ys : List LabelEntry) (i : ℕ) → length roles ≤ i → IsPermutation xs ys → SaysUpTo roles xs i → (key : Text) (value : Option Text) (k : ℕ) → Any (λ e. Says e (label_texts key value) k) ys ↔ IsWithAt (λ labels. HasSome labels key value) roles k
 says_sorted roles xs ys i le moves up key value k =
-    let P : Entry → Type 0 = λ e. Says e (label_texts key value) k in
+    let P : LabelEntry → Type 0 = λ e. Says e (label_texts key value) k in
     let all = says_all roles xs i le up key value k in (
       λ w. all.0 (any_moved P ys xs (λ x. Contains-permutation ys xs x (IsPermutation-sym xs ys moves)) w),
       λ h. any_moved P xs ys (λ x. Contains-permutation xs ys x moves) (all.1 h),

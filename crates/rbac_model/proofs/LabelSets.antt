@@ -1,8 +1,8 @@
 -- sets of the roles whose labels have a property
-use Rattle.std.proofs.Common.{◌≡◌, ℕ, ◌<◌, ◌⊎◌, ◌↔◌, List, [], ◌∷◌, ◌++◌, length, Any, All, Contains, inl, inr, sym, ap, ◌∙◌, refl, arith, subst, length-append, take, get_or-take}
+use Rattle.std.proofs.Common.{◌≡◌, ℕ, ◌<◌, ◌⊎◌, ◌↔◌, List, [], ◌∷◌, ◌++◌, length, Any, All, Contains, inl, inr, sym, ap, ◌∙◌, refl, arith, subst, length-append}
 use Rattle.std.specs.Prelude.{Some, slice_get}
 use Rattle.std.proofs.lemmas.Bool.{cases_lt}
-use Rattle.std.proofs.lemmas.List.{get_or_at, length-take}
+use Rattle.std.proofs.lemmas.List.{get_or_at}
 use Rattle.std.proofs.Math.ListN.{get_or-append}
 use Rattle.std.proofs.lemmas.List.Elements.{All-push, Contains-push, Contains-push_cases, Contains-append_left}
 use Rattle.std.proofs.lemmas.List.Quantifiers.{Any-push}
@@ -110,18 +110,6 @@ module _ (roles : List ClusterRole) where
     λ m. elim ((either k).0 m) [ inl v ↦ absurd (none_marked k v) | inr q ↦ q ],
     λ w. (either k).1 (inr w),
   )
-
-  -- where all roles are marked, more may be asked for
-  pub with_full : (P Q : LabelTexts → Type 0) (a : List ℕ) → ((ls : LabelTexts) → P ls → Q ls) → ((k : ℕ) → k < length roles → IsMarked a k) → AreWith P roles a → AreWith Q roles a
-  with_full P Q a more full are k = (
-    λ m. let w = (are k).0 m in (w.0, w.1, more w.0.labels w.2),
-    λ w. full k (slice_get_within roles k w.0 w.1),
-  )
-
-pub any_taken : {X : Type 0} (P : X → Type 0) (xs : List X) (i : ℕ) → Any P (take i xs) → Any P xs
-any_taken P xs i w =
-    let n = length-take i xs in
-    (w.0, w.1, omega (arith, n, w.2), sym (get_or-take i xs w.0 w.1 (omega (arith, n, w.2))) ∙ w.3, w.4)
 
 -- one value more
 pub one_of_push : (labels : LabelTexts) (key : Text) (values : List Text) (v : Text) → HasOneOf labels key (values ++ v ∷ []) ↔ (HasOneOf labels key values ⊎ HasSome labels key (Some v))

@@ -17,10 +17,10 @@ module _ {X : Type 0} (name : X → List Text) where
   abbrev Unnamed : X → List X → Type 0
   Unnamed x ys = All (λ z. name z ≢ name x) ys
 
-  unnamed_front : (x z : X) (ys : List X) → Unnamed x (ys ++ z ∷ []) → Unnamed x ys × (name z ≢ name x)
-  unnamed_front x z [] h = (All-nil (λ y. name y ≢ name x), All-head (λ y. name y ≢ name x) z [] h)
-  unnamed_front x z (y ∷ ys) h =
-      let rest = unnamed_front x z ys (All-tail (λ w. name w ≢ name x) y (ys ++ z ∷ []) h) in
+  unnamed_prefix : (x z : X) (ys : List X) → Unnamed x (ys ++ z ∷ []) → Unnamed x ys × (name z ≢ name x)
+  unnamed_prefix x z [] h = (All-nil (λ y. name y ≢ name x), All-head (λ y. name y ≢ name x) z [] h)
+  unnamed_prefix x z (y ∷ ys) h =
+      let rest = unnamed_prefix x z ys (All-tail (λ w. name w ≢ name x) y (ys ++ z ∷ []) h) in
       (All-cons (λ w. name w ≢ name x) y ys (All-head (λ w. name w ≢ name x) y (ys ++ z ∷ []) h) rest.0, rest.1)
 
   -- one more is given: it is the last of its name, and of every other name the last stays
@@ -31,7 +31,7 @@ module _ {X : Type 0} (name : X → List Text) where
   )
   last_push (x ∷ xs) z y = (
     λ w. elim w [
-      | inl h ↦ let parts = unnamed_front y z xs h.1 in inr (inl (h.0, parts.0), parts.1)
+      | inl h ↦ let parts = unnamed_prefix y z xs h.1 in inr (inl (h.0, parts.0), parts.1)
       | inr h ↦ elim ((last_push xs z y).0 h) [ inl e ↦ inl e | inr v ↦ inr (inr v.0, v.1) ]
     ],
     λ w. elim w [
@@ -80,7 +80,7 @@ module _ {X : Type 0} (name : X → List Text) where
   unnamed_filtered x [] h = All-nil (λ z. name z ≢ name x)
   unnamed_filtered x (y ∷ ys) h = unnamed_test x y ys (ties less x y) refl (unnamed_filtered x ys) h
 
-  -- the last of x's name is told by those of x's name alone
+  -- the last of x's name is determined by those of x's name alone
   last_test : (x z : X) (zs : List X) (b : Bool) → ties less x z ≡ b → IsLastNamed name zs x ↔ IsLastNamed name (filter (ties less x) zs) x → IsLastNamed name (z ∷ zs) x ↔ IsLastNamed name (filter (ties less x) (z ∷ zs)) x
   last_test x z zs true e rest = rw e (
     λ w. elim w [

@@ -1,5 +1,5 @@
 -- marks as bits of words
-use Rattle.std.proofs.Common.{◌≡◌, ◌≢◌, ℕ, ◌+◌, ◌*◌, ◌/◌, ◌%◌, ◌^◌, ◌<◌, ◌≤◌, ◌⊎◌, ◌↔◌, List, [], ◌∷◌, ◌++◌, length, get_or, set, inl, inr, sym, ap, refl, arith, subst, zero, suc, max, w64, bit_or, get_or-set_same, get_or-set_other}
+use Rattle.std.proofs.Common.{◌≡◌, ◌≢◌, ℕ, ◌*◌, ◌/◌, ◌%◌, ◌^◌, ◌<◌, ◌≤◌, ◌⊎◌, ◌↔◌, List, [], ◌∷◌, ◌++◌, length, get_or, set, inl, inr, ap, refl, arith, subst, zero, suc, max, w64, bit_or, get_or-set_same, get_or-set_other}
 use Rattle.std.specs.Int.{bit_at}
 use Rattle.std.proofs.lemmas.Bool.{cases_eq, cases_lt}
 use Rattle.std.proofs.lemmas.Nat.Bits.{bit_at-zero, bit_at_or, bit_at-lt, bit_at_set_same, bit_at_set_other}
@@ -62,38 +62,6 @@ module _ (words new : List ℕ) (place : ℕ) (l : place / 64 < length words) (i
           rw other (λ m. inl m, elim [ inl m ↦ m | inr e ↦ absurd (ne (ap (λ i. i % 64) e)) ])
     ]
   ]
-
--- marks on the places below a bound that have a property
-abbrev pub MarksUpTo : (ℕ → Type 0) → List ℕ → ℕ → Type 0
-MarksUpTo P marks i = (k : ℕ) → IsMarked marks k ↔ ((k < i) × P k)
-
-module _ (P : ℕ → Type 0) where
-  pub none_up : MarksUpTo P [] 0
-  none_up k = (λ m. absurd (none_marked k m), λ w. absurd (omega (arith, w.0)))
-
-  pub one_up : (old new : List ℕ) (i : ℕ) → P i → ((k : ℕ) → IsMarked new k ↔ (IsMarked old k ⊎ (k ≡ i))) → MarksUpTo P old i → MarksUpTo P new (i + 1)
-  one_up old new i p more up k = (
-    λ m. elim ((more k).0 m) [
-      | inl v ↦ let w = (up k).0 v in (omega (arith, w.0), w.1)
-      | inr e ↦ (omega (arith, e), subst P (sym e) p)
-    ],
-    λ w. (more k).1 (elim (cases_eq k i) [
-      | inl e ↦ inr e
-      | inr ne ↦ inl ((up k).1 (omega (arith, w.0, ne), w.1))
-    ]),
-  )
-
-  pub same_up : (marks : List ℕ) (i : ℕ) → (P i → ⊥) → MarksUpTo P marks i → MarksUpTo P marks (i + 1)
-  same_up marks i isnt up k = (
-    λ m. let w = (up k).0 m in (omega (arith, w.0), w.1),
-    λ w. elim (cases_eq k i) [
-      | inl e ↦ absurd (isnt (subst P e w.1))
-      | inr ne ↦ (up k).1 (omega (arith, w.0, ne), w.1)
-    ],
-  )
-
-  pub all_up : (marks : List ℕ) (n : ℕ) → ((k : ℕ) → P k → k < n) → MarksUpTo P marks n → (k : ℕ) → IsMarked marks k ↔ P k
-  all_up marks n below up k = (λ m. ((up k).0 m).1, λ p. (up k).1 (below k p, p))
 
 -- a word without marks at the end is as none
 pub widened : (ws : List ℕ) (k : ℕ) → get_or (ws ++ 0 ∷ []) k 0 ≡ get_or ws k 0

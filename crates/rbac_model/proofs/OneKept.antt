@@ -5,7 +5,7 @@ use Rattle.rbac_terms.specs.Text.{Text}
 use Rattle.rbac_terms.specs.declared.granting.Role.{Role}
 use Rattle.rbac_terms.specs.declared.granting.ClusterRole.{ClusterRole}
 use Rattle.rbac_terms.specs.declared.granting.Binding.{Binding}
-use Rattle.rbac_model.specs.declared.holding.Object.{Object}
+use Rattle.rbac_model.specs.declared.objects.Object.{Object}
 use Rattle.rbac_model.specs.Kept.{AreLastNamed, AreKept, as_role, as_cluster_role, as_binding}
 use Rattle.rbac_model.specs.Policies.{Held, role_name, cluster_role_name, binding_name}
 use Rattle.rbac_model.proofs.OneList.{one_list}

@@ -31,7 +31,7 @@ module _ {X : Type 0} (name : X → List Text) where
   in_cons x xs y (zero, l, e) = inl e
   in_cons x xs y (suc k, l, e) = inr (k, omega arith, e)
 
-  -- an element is told by its name
+  -- an element is determined by its name
   pub one_of_name : (xs : List X) (x y : X) → IsAscendingBy name xs → Contains xs x → Contains xs y → name x ≡ name y → x ≡ y
   one_of_name xs x y up a b e = elim (cases_lt a.0 b.0) [
     | inl lt ↦

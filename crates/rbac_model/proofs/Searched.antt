@@ -46,9 +46,6 @@ unmarked marks zero = 0
 unmarked marks (suc n) = unmarked marks n + (1 - bit_at (get_or marks (n / 64) 0) (n % 64))
 
 module _ (old new : List ℕ) (kept : (k : ℕ) → IsMarked old k → IsMarked new k) where
-  bit : List ℕ → ℕ → ℕ
-  bit marks k = bit_at (get_or marks (k / 64) 0) (k % 64)
-
   no_more_here : (k : ℕ) → 1 - bit_at (get_or new (k / 64) 0) (k % 64) ≤ 1 - bit_at (get_or old (k / 64) 0) (k % 64)
   no_more_here k = elim (cases_eq (bit_at (get_or old (k / 64) 0) (k % 64)) 1) [
     | inl e ↦ let f : bit_at (get_or new (k / 64) 0) (k % 64) ≡ 1 = kept k e in omega (arith, e, f)

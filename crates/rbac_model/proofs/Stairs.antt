@@ -4,13 +4,14 @@ use Rattle.std.proofs.lemmas.List.{take_more, get_or_default}
 use Rattle.std.proofs.Math.ListN.{get_or-eq_default}
 use Rattle.std.specs.Prelude.{Option, Some, slice_get}
 use Rattle.std.specs.List.{AllZip}
-use Rattle.std.proofs.lemmas.Option.{same_Some, slice_get_within, get_or_from_slice_get, slice_get-get_or, slice_get_cases}
+use Rattle.std.proofs.lemmas.Option.{same_Some, slice_get_within, slice_get-get_or, slice_get_cases}
 use Rattle.rbac_model.proofs.Marked.{none_marked}
 use Rattle.rbac_model.specs.Policies.{Held, IsPath, Reaches, Gathers, IsPlain}
 use Rattle.rbac_model.specs.Graphs.{Graph, IsGraph, IsMarked, HasEdge, IsWay, LeadsTo}
 use Rattle.rbac_model.specs.Places.{IsStepTo, IsRowOf, AreSteps, IsReachedAt, AreReaches}
 use Rattle.rbac_terms.specs.declared.granting.ClusterRole.{ClusterRole}
 use Rattle.rbac_terms.specs.declared.selecting.Selector.{Selector}
+use Rattle.rbac_terms.proofs.Reading.{contains_read}
 
 -- pairs by place
 pub zip_read : {A B : Type 0} (R : A → B → Type 0) (xs : List A) (ys : List B) (i : ℕ) (x : A) (y : B) → AllZip R xs ys → slice_get xs i ≡ Some x → slice_get ys i ≡ Some y → R x y
@@ -31,9 +32,6 @@ zip_push R [] [] x y all p = (p, tt)
 zip_push R [] (b ∷ ys) x y all p = absurd all
 zip_push R (a ∷ xs) [] x y all p = absurd all
 zip_push R (a ∷ xs) (b ∷ ys) x y all p = (all.0, zip_push R xs ys x y all.1 p)
-
-pub contains_read : {X : Type 0} (xs : List X) (k : ℕ) (x : X) → slice_get xs k ≡ Some x → Contains xs x
-contains_read xs k x e = (k, slice_get_within xs k x e, get_or_from_slice_get xs k x x e)
 
 pub read_contains : {X : Type 0} (xs : List X) (x : X) → Contains xs x → (k : ℕ) × (slice_get xs k ≡ Some x)
 read_contains xs x w = (w.0, slice_get-get_or xs w.0 x w.1 ∙ ap Some w.2)

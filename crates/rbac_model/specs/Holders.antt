@@ -19,8 +19,8 @@ pub record HolderView : Type 0 where
   pub subject_place : ℕ
 
 -- the key holds by the subject at the second place of the binding at the first
-abbrev pub HoldsAt : Held → Text → Text → What → Text → ℕ → ℕ → Type 0
-HoldsAt h namespace verb t key i j =
+abbrev pub IsHolderAt : Held → Text → Text → What → Text → ℕ → ℕ → Type 0
+IsHolderAt h namespace verb t key i j =
     (b : Binding) × (s : Subject) × (slice_get h.bindings i ≡ Some b) × (slice_get b.subjects j ≡ Some s) × HoldsBy h namespace verb t b s key
 
 -- the first pair of places stands before the second
@@ -30,8 +30,8 @@ IsBefore i j k l = (i < k) ⊎ ((i ≡ k) × (j < l))
 -- x is a holder: its key holds by its pair of places, and by no pair before it (own)
 abbrev pub IsHolder : Held → Text → Text → What → HolderView → Type 0
 IsHolder h namespace verb t x =
-    (slice_get h.bindings x.binding_place ≡ Some x.binding) × HoldsAt h namespace verb t x.key x.binding_place x.subject_place
-    × ((i j : ℕ) → HoldsAt h namespace verb t x.key i j → IsBefore x.binding_place x.subject_place i (j + 1))
+    (slice_get h.bindings x.binding_place ≡ Some x.binding) × IsHolderAt h namespace verb t x.key x.binding_place x.subject_place
+    × ((i j : ℕ) → IsHolderAt h namespace verb t x.key i j → IsBefore x.binding_place x.subject_place i (j + 1))
 
 -- who can: each holder once, in order of these pairs (own)
 pub record AreHolders (h : Held) (namespace verb : Text) (t : What) (xs : List HolderView) : Type 0 where

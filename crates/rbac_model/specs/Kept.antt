@@ -5,8 +5,8 @@ use Rattle.rbac_terms.specs.Text.{Text}
 use Rattle.rbac_terms.specs.declared.granting.Role.{Role}
 use Rattle.rbac_terms.specs.declared.granting.ClusterRole.{ClusterRole}
 use Rattle.rbac_terms.specs.declared.granting.Binding.{Binding}
-use Rattle.rbac_model.specs.declared.holding.Object.{Object}
-use Rattle.rbac_model.specs.declared.holding.Object.TheVariants.{Role as ARole, ClusterRole as AClusterRole, Binding as ABinding}
+use Rattle.rbac_model.specs.declared.objects.Object.{Object}
+use Rattle.rbac_model.specs.declared.objects.Object.TheVariants.{Role as ARole, ClusterRole as AClusterRole, Binding as ABinding}
 use Rattle.rbac_model.specs.Lists.{IsAscendingBy}
 use Rattle.rbac_model.specs.Policies.{Held, role_name, cluster_role_name, binding_name}
 

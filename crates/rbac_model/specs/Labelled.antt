@@ -26,20 +26,20 @@ HasSome labels key None = HasKey labels key
 HasSome labels key (Some value) = HasLabel labels key value
 
 -- a label, and which places have it among the 64 of one word: those whose bit is 1
-pub record Entry : Type 0 where
+pub record LabelEntry : Type 0 where
   pub label : List Text
   pub place : ℕ
   pub bits : ℕ
 
 -- an entry says that the place has the label
-abbrev pub Says : Entry → List Text → ℕ → Type 0
+abbrev pub Says : LabelEntry → List Text → ℕ → Type 0
 Says e label k = (e.label ≡ label) × (k / 64 ≡ e.place / 64) × (bit_at e.bits (k % 64) ≡ 1)
 
 -- entries in order of labels, which say of each label exactly which roles have it
-pub record AreLabels (roles : List ClusterRole) (entries : List Entry) : Type 0 where
+pub record AreLabels (roles : List ClusterRole) (entries : List LabelEntry) : Type 0 where
   pub sorted : IsSorted (by_name (λ e. e.label)) entries
   pub exact : (key : Text) (value : Option Text) (k : ℕ) → Any (λ e. Says e (label_texts key value) k) entries ↔ IsWithAt (λ labels. HasSome labels key value) roles k
 
 -- to what old says, new adds the labels of the role at a place
-abbrev pub Adds : List Entry → List Entry → LabelTexts → ℕ → Type 0
+abbrev pub Adds : List LabelEntry → List LabelEntry → LabelTexts → ℕ → Type 0
 Adds old new labels place = (key : Text) (value : Option Text) (k : ℕ) → Any (λ e. Says e (label_texts key value) k) new ↔ (Any (λ e. Says e (label_texts key value) k) old ⊎ ((k ≡ place) × HasSome labels key value))

@@ -13,8 +13,8 @@ use Rattle.rbac_terms.specs.Selecting.{Selects}
 use Rattle.rbac_terms.specs.Granting.{Names}
 use Rattle.rbac_terms.specs.Matching.{RuleAllows}
 use Rattle.rbac_terms.specs.declared.matching.Rule.{Rule}
-use Rattle.rbac_model.specs.declared.holding.Object.{Object}
-use Rattle.rbac_model.specs.declared.holding.Object.TheVariants.{Role as ARole, ClusterRole as AClusterRole, Binding as ABinding}
+use Rattle.rbac_model.specs.declared.objects.Object.{Object}
+use Rattle.rbac_model.specs.declared.objects.Object.TheVariants.{Role as ARole, ClusterRole as AClusterRole, Binding as ABinding}
 use Rattle.rbac_terms.specs.declared.granting.Role.{Role}
 use Rattle.rbac_terms.specs.declared.granting.ClusterRole.{ClusterRole}
 use Rattle.rbac_terms.specs.declared.granting.RoleRef.{RoleRef}
@@ -170,9 +170,13 @@ IsOfBinding p n at = (g : GrantView) × (slice_get p.grants n ≡ Some g) × (sl
 abbrev pub IsPolicy : PolicyView → Type 0
 IsPolicy p = IsHeld p.held × AreGrantsOf p.held p.held.bindings p.grants
 
--- the grants of the bindings are over a million (own)
+-- how many grants a policy may have (own)
+abbrev pub most_grants : ℕ
+most_grants = 1000000
+
+-- the grants of the bindings are more (own)
 abbrev pub HasTooMany : Held → Type 0
-HasTooMany h = (gs : List GrantView) × AreGrantsOf h h.bindings gs × (1000000 < length gs)
+HasTooMany h = (gs : List GrantView) × AreGrantsOf h h.bindings gs × (most_grants < length gs)
 
 -- the grants of the bindings that are held are one list
 abbrev pub OneListOfGrants : Held → Type 0

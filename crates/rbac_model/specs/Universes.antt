@@ -23,6 +23,13 @@ pub record UniverseView : Type 0 where
   pub verbs : List Text
   pub targets : List Listed
 
+-- how many principals, namespaces and verbs each a universe may have, and how many targets (own)
+abbrev pub most_words : ℕ
+most_words = 65535
+
+abbrev pub most_targets : ℕ
+most_targets = 1000000
+
 -- the texts of a target by which targets are ordered: group, resource text or path, and name
 abbrev pub target_texts : Listed → List Text
 target_texts t = group_of t.0 ∷ text_of t.0 ∷ name_of t.0 ∷ []

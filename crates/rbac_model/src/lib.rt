@@ -2,25 +2,25 @@
 //! are made of stand in `rbac_terms`, and are reached from here too.
 #![tactic(auto)]
 
-mod allowing;
+mod aggregation;
 mod fault;
-mod gathering;
-mod holding;
-mod keeping;
-mod labelled;
+mod grants;
+mod labels;
 mod laws;
-mod listing;
-mod marking;
+mod live;
+mod marks;
+mod objects;
 mod places;
 mod policy;
-mod reaching;
-mod resolving;
-mod visiting;
+mod reachability;
+mod references;
+mod replacement;
+mod visit_order;
 
-pub use allowing::is_live;
 pub use fault::ResolveFault;
-pub use holding::{Object, Objects};
 pub use laws::{grants_are_one_list, kept_objects_are_one};
+pub use live::is_live;
+pub use objects::{Object, Objects};
 pub use places::{GrantPlace, RolePlace};
 pub use policy::Policy;
 pub use rbac_terms::{
@@ -29,4 +29,4 @@ pub use rbac_terms::{
     account_user, group_matches, name_matches, names, resource_matches, rule_allows, selects,
     subject_key, target_matches, url_matches, verb_matches,
 };
-pub use resolving::{Grant, SourceRole, ref_place};
+pub use references::{Grant, SourceRole, ref_place};

@@ -1,21 +1,19 @@
 //! Policies: objects, and the grants that follow from them.
 
-ghost use Rattle.std.specs.Prelude.{ℕ, ◌≡◌, ◌<◌, ◌≤◌, ◌↔◌, IsTrue, [], Any, Contains, IfOk, IfErr, IsOkAnd, MatchOption, Some, IsSome, All, length, slice_get};
-ghost use Rattle.std.specs.Option.{option_copied};
-ghost use Rattle.rbac_model.specs.Policies.{PolicyView, IsPolicy, HasTooMany, Allows, IsFirst, AreReachedNames, IsOfBinding, grants_at, grant_at};
+ghost use Rattle.std.specs.Prelude.{ℕ, ◌≡◌, ◌<◌, ◌≤◌, ◌↔◌, IsTrue, [], Any, Contains, IfOk, IfErr, IsOkAnd, Some, IsSome, All, length, slice_get};
+ghost use Rattle.rbac_model.specs.Policies.{PolicyView, IsPolicy, HasTooMany, AreReachedNames, IsOfBinding, grants_at, grant_at, most_grants};
 ghost use Rattle.rbac_model.specs.Places.{IsReachedAt};
 ghost use Rattle.rbac_model.specs.Sources.{grant_of};
 ghost use Rattle.rbac_terms.specs.declared.granting.ClusterRole.{ClusterRole};
 
-use crate::allowing::grant_allows;
+use crate::aggregation::{names_from, reaches_of};
 use crate::fault::ResolveFault;
-use crate::gathering::{names_from, reaches_of};
-use crate::holding::Objects;
-use crate::listing::grants_of;
-use crate::marking::Marks;
+use crate::grants::grants_of;
+use crate::marks::Marks;
+use crate::objects::Objects;
 use crate::places::GrantPlace;
-use crate::resolving::{Grant, grant_from};
-use rbac_terms::{Binding, Principal, Target, Word, Words};
+use crate::references::{Grant, grant_from};
+use rbac_terms::{Binding, Word, Words};
 use std::alloc::Global;
 use std::marker::Model;
 
@@ -31,25 +29,25 @@ pub struct Policy {
 impl Model for Policy {
     ghost use Rattle.std.specs.Prelude.{IsSome, All, ◌≤◌, vec_len};
     ghost use Rattle.rbac_model.specs.Places.{AreReaches};
-    ghost use Rattle.rbac_model.specs.Policies.{PolicyView, IsPolicy, grants_at, grant_at};
+    ghost use Rattle.rbac_model.specs.Policies.{PolicyView, IsPolicy, grants_at, grant_at, most_grants};
 
     ghost Value = { PolicyView };
 
     ghost view = { λ p. record { held = p.objects; grants = grants_at p.objects p.grants.items } };
 
     ghost invariant = { λ p. IsPolicy (record { held = p.objects; grants = grants_at p.objects p.grants.items })
-        × All (λ g. IsSome (grant_at p.objects g)) p.grants.items × (vec_len p.grants ≤ 1000000) × AreReaches p.objects p.reaches.items };
+        × All (λ g. IsSome (grant_at p.objects g)) p.grants.items × (vec_len p.grants ≤ most_grants) × AreReaches p.objects p.reaches.items };
 }
 
 impl Policy {
     /// The grants that follow from these objects. A binding whose role isn't held brings none; an
     /// aggregated role has the rules of the plain ones that it reaches, in order of their names
     /// (own: the state in which aggregation settles). More than a million grants are refused as
-    /// `TooMany`, and want of memory as `NoMemory`; the objects aren't handed back.
+    /// `TooMany`, and out of memory as `NoMemory`; the objects aren't handed back.
     pub fn resolve(alloc: Global, objects: Objects) -> Result<Self, ResolveFault>
         ensures held { IfOk result (λ p. p.held ≡ objects) }
         ensures policy { IfOk result (λ p. IsPolicy p) }
-        ensures few { IfOk result (λ p. length p.grants ≤ 1000000) }
+        ensures few { IfOk result (λ p. length p.grants ≤ most_grants) }
         ensures many { IfErr result (λ e. e ≡ ResolveFault.TooMany → HasTooMany objects) }
     {
         let reaches = reaches_of(alloc, &objects)?;
@@ -59,43 +57,6 @@ impl Policy {
             reaches,
             grants,
         })
-    }
-
-    /// Whether some binding allows the principal this verb on this target in this namespace; there
-    /// are no deny rules (Using RBAC Authorization). In the empty namespace, and for URLs,
-    /// ClusterRoleBindings alone are live. Tests the grants in turn, and takes no memory.
-    pub fn allows(
-        &self,
-        principal: &Principal,
-        namespace: &Word,
-        verb: &Word,
-        target: &Target,
-    ) -> bool
-        ensures { IsTrue result ↔ Allows self.now.held principal.now namespace.now verb.now target.now }
-    {
-        self.first(principal, namespace, verb, target).is_some()
-    }
-
-    /// The first binding, in order, that allows the principal this verb on this target in this
-    /// namespace (own); none where it isn't allowed. Tests the grants in turn, which stand in order
-    /// of bindings, and takes no memory.
-    pub fn first(
-        &self,
-        principal: &Principal,
-        namespace: &Word,
-        verb: &Word,
-        target: &Target,
-    ) -> Option<&Binding>
-        ensures { MatchOption (option_copied result)
-            (¬ Allows self.now.held principal.now namespace.now verb.now target.now)
-            (IsFirst self.now.held principal.now namespace.now verb.now target.now) }
-    {
-        for no in 0..self.len() {
-            if grant_allows(self.grant(no), principal, namespace, verb, target) {
-                return Some(self.grant(no).binding);
-            }
-        }
-        None
     }
 
     /// The names of the cluster roles that the one of this name reaches, by one step of
@@ -138,7 +99,7 @@ impl Policy {
     /// How many grants there are.
     pub fn len(&self) -> u32
         ensures len { result ≡ length self.now.grants }
-        ensures few { length self.now.grants ≤ 1000000 }
+        ensures few { length self.now.grants ≤ most_grants }
         ensures policy { IsPolicy self.now }
     {
         self.places().len() as u32
@@ -147,7 +108,8 @@ impl Policy {
     /// The grant of this number, from 0.
     pub fn grant(&self, no: u32) -> Grant<'_>
         requires { no < length self.now.grants }
-        ensures { slice_get self.now.grants no ≡ Some (grant_of result) }
+        ensures grant { slice_get self.now.grants no ≡ Some (grant_of result) }
+        ensures binding { IsOfBinding self.now no result.binding_place }
     {
         let places = self.places();
         grant_from(&self.objects, places[no as usize])
@@ -168,6 +130,7 @@ impl Policy {
     pub fn grants_of(&self, place: usize) -> (u32, u32)
         ensures within { result.1 ≤ length self.now.grants }
         ensures between { (n at : ℕ) → IsOfBinding self.now n at → ((result.0 ≤ n) × (n < result.1)) ↔ (at ≡ place) }
+        ensures upto { (n at : ℕ) → IsOfBinding self.now n at → (n < result.1) ↔ (at ≤ place) }
         ensures policy { IsPolicy self.now }
     {
         let places = self.places();
@@ -179,7 +142,7 @@ impl Policy {
 
     fn places(&self) -> &[GrantPlace]
         ensures len { length result.now ≡ length self.now.grants }
-        ensures few { length result.now ≤ 1000000 }
+        ensures few { length result.now ≤ most_grants }
         ensures held { All (λ at. IsSome (grant_at self.now.held at)) result.now }
         ensures grants { self.now.grants ≡ grants_at self.now.held result.now }
         ensures policy { IsPolicy self.now }

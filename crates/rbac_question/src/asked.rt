@@ -1,41 +1,55 @@
 //! What TARGET and `--subresource` ask for.
 
-ghost use Rattle.std.specs.Prelude.{◌≡◌, [], IsTrue, ◌↔◌, MatchBool, IfOk, OnOk, IfErr, codes};
+ghost use Rattle.std.specs.Prelude.{◌≡◌, IsTrue, ◌↔◌, IfOk, OnOk, IfErr, codes};
 ghost use Rattle.rbac_terms.specs.Text.{BeginsWith};
-ghost use Rattle.rbac_question.specs.Asked.{AskedFor, ForUrl, IsAskable, AsksFor, RefusesTarget, IsTypeAndName, LacksType, HasUrlSubresource, IsForUrl, IsForType, text_of, subresource_of, name_of};
+ghost use Rattle.rbac_question.specs.Asked.{IsAskable, AsksFor, RefusesTarget, IsTypeAndName, LacksType, HasUrlSubresource};
+ghost use Rattle.rbac_question.specs.declared.asked.AskedFor.TheVariants.{Url as ForUrl};
 
 use crate::fault::QuestionFault;
 use rbac_terms::Word;
 use std::alloc::{AllocError, Global};
 use std::marker::Model;
 
-/// What a question asks for: a URL by its path, or a type of resource by its word, with a
-/// subresource and an object name, each of which may be empty (own).
+/// What a question asks for (own).
+#[derive(Drop)]
+pub enum AskedFor {
+    /// A URL, by its path: it begins with a slash.
+    Url(Word),
+    /// A type of resource, with a subresource and an object name, each of which may be empty.
+    Resource {
+        /// The type word: not empty, without a slash, and not begun by a dot.
+        word: Word,
+        /// The subresource.
+        subresource: Word,
+        /// The object name.
+        name: Word,
+    },
+}
+
+/// What a question can ask for: as [`AskedFor`] says of a path and of a type word (own).
 #[derive(Drop)]
 pub struct Asked {
-    is_url: bool,
-    text: Word,
-    subresource: Word,
-    name: Word,
+    what: AskedFor,
 }
 
 impl Model for Asked {
-    ghost use Rattle.std.specs.Prelude.{◌≡◌, [], IsTrue};
-    ghost use Rattle.rbac_question.specs.Asked.{AskedFor, asked_of, IsAskable};
+    ghost use Rattle.rbac_question.specs.declared.asked.AskedFor.{AskedFor};
+    ghost use Rattle.rbac_question.specs.Asked.{IsAskable};
 
     ghost Value = { AskedFor };
 
-    ghost view = { λ a. asked_of a.is_url a.text a.subresource a.name };
+    ghost view = { λ a. a.what };
 
-    ghost invariant = { λ a. IsAskable (asked_of a.is_url a.text a.subresource a.name) × (IsTrue a.is_url → (a.subresource ≡ []) × (a.name ≡ [])) };
+    ghost invariant = { λ a. IsAskable a.what };
 }
 
 impl Asked {
     // What TARGET and `--subresource` ask for (own): a URL where TARGET begins with `/`, else a
-    // type, split at its first `/` into type word and object name. A missing name is the empty text.
+    // type, split at its first `/` into type word and object name. A missing name is the empty
+    // text.
     //
-    // U2 where TARGET is empty or begins with `.`, U3 where a URL has a subresource. Both are told
-    // before any memory is asked for.
+    // U2 where TARGET is empty or begins with `.`, U3 where a URL has a subresource. Both are
+    // refused before any memory is asked for.
     pub(crate) fn from_target(
         alloc: Global,
         target: &str,
@@ -62,35 +76,12 @@ impl Asked {
         Ok(located(alloc, target)?)
     }
 
-    /// Whether this is a URL.
-    pub fn is_url(&self) -> bool
-        ensures { MatchBool result (IsForUrl self.now) (IsForType self.now) }
-    {
-        self.is_url
-    }
-
-    /// The path of a URL, or the type word: not empty, without a slash, and not begun by a dot.
-    pub fn text(&self) -> &Word
-        ensures text { result.now ≡ text_of self.now }
+    /// What is asked for.
+    pub fn what(&self) -> &AskedFor
+        ensures what { result.now ≡ self.now }
         ensures askable { IsAskable self.now }
     {
-        &self.text
-    }
-
-    /// The subresource, empty for a URL.
-    pub fn subresource(&self) -> &Word
-        ensures subresource { result.now ≡ subresource_of self.now }
-        ensures askable { IsAskable self.now }
-    {
-        &self.subresource
-    }
-
-    /// The object name, empty for a URL.
-    pub fn name(&self) -> &Word
-        ensures name { result.now ≡ name_of self.now }
-        ensures askable { IsAskable self.now }
-    {
-        &self.name
+        &self.what
     }
 }
 
@@ -111,11 +102,9 @@ fn located(alloc: Global, path: &str) -> Result<Asked, AllocError>
     requires { BeginsWith path.now (codes "/") }
     ensures { IfOk result (λ asked. (asked ≡ ForUrl path.now) × IsAskable asked) }
 {
+    let path = Word::from_slice(alloc, path.as_bytes())?;
     Ok(Asked {
-        is_url: true,
-        text: Word::from_slice(alloc, path.as_bytes())?,
-        subresource: Word::new(alloc),
-        name: Word::new(alloc),
+        what: AskedFor::Url(path),
     })
 }
 
@@ -127,10 +116,11 @@ fn typed(alloc: Global, target: &str, subresource: &str) -> Result<Asked, AllocE
 {
     let (word, name) = type_and_name(target);
     Ok(Asked {
-        is_url: false,
-        text: Word::from_slice(alloc, word.as_bytes())?,
-        subresource: Word::from_slice(alloc, subresource.as_bytes())?,
-        name: Word::from_slice(alloc, name.as_bytes())?,
+        what: AskedFor::Resource {
+            word: Word::from_slice(alloc, word.as_bytes())?,
+            subresource: Word::from_slice(alloc, subresource.as_bytes())?,
+            name: Word::from_slice(alloc, name.as_bytes())?,
+        },
     })
 }
 

@@ -3,7 +3,8 @@
 use crate::asked::Asked;
 use rbac_terms::{Key, Principal, Word};
 
-/// Whether a verb may be used on what is asked for, in a namespace (own, after `kubectl auth can-i`).
+/// Whether a verb may be used on what is asked for, in a namespace (own, after `kubectl auth
+/// can-i`).
 #[derive(Drop)]
 pub struct Question {
     /// What `-n` names, or `default`; empty with `-A`.
@@ -23,7 +24,7 @@ pub enum Action {
         principal: Principal,
         /// Whether the answer is the exit status alone.
         quiet: bool,
-        /// Whether a second line tells why, after yes.
+        /// Whether a second line explains it, after yes.
         why: bool,
         /// What is asked.
         question: Question,

@@ -125,7 +125,7 @@ fn namespace_from(alloc: Global, all: bool, given: &str) -> Result<Word, AllocEr
 }
 
 // The user that asks, with the groups given.
-fn principal_of(alloc: Global, user: &str, groups: &str) -> Result<Principal, QuestionFault>
+fn principal_from(alloc: Global, user: &str, groups: &str) -> Result<Principal, QuestionFault>
     ensures { MatchResult result
         (λ principal. (principal ≡ AsUser user.now (groups_in groups.now)) × (user.now ≢ []))
         (RefusesUser user.now) }
@@ -172,7 +172,7 @@ impl Action {
     /// What a `can-i` line means.
     ///
     /// U2 where USER, VERB or TARGET is empty, or TARGET begins with `.`; else U3 where a URL has a
-    /// subresource. Both are told before any memory is asked for.
+    /// subresource. Both are refused before any memory is asked for.
     pub fn can_i(alloc: Global, line: &CanILine<'_>) -> Result<Self, QuestionFault>
         ensures answer { MatchResult result (λ action. AcceptsCanI line.now × MeansCanI line.now action)
             (RefusesCanI line.now) }
@@ -183,7 +183,7 @@ impl Action {
             return Err(QuestionFault::EmptyWord);
         }
         let question = question_of(alloc, &line.question)?;
-        let principal = principal_of(alloc, line.user, line.groups)?;
+        let principal = principal_from(alloc, line.user, line.groups)?;
         Ok(Action::CanI {
             principal,
             quiet: line.quiet,
@@ -195,7 +195,7 @@ impl Action {
     /// What a `who-can` line means.
     ///
     /// U2 where VERB or TARGET is empty, or TARGET begins with `.`; else U3 where a URL has a
-    /// subresource. Both are told before any memory is asked for.
+    /// subresource. Both are refused before any memory is asked for.
     pub fn who_can(alloc: Global, line: &QuestionLine<'_>) -> Result<Self, QuestionFault>
         ensures answer { MatchResult result
             (λ action. AcceptsQuestion line.now × MeansWhoCan line.now action)

@@ -43,26 +43,26 @@ module _ {W : Type 0} (contents : W → Option (List ℕ)) where
       → Took contents old new page.pending → after.pending ≡ []
       → after.written ≡ counted page.written (length page.pending) → Printed contents start new after text
   flushed start old new page after text p t none more = record {
-    front = p.front ++ page.pending;
-    took = Took-more contents start old new p.front page.pending p.took t;
-    whole = p.whole ∙ sym (append-nil (p.front ++ page.pending)) ∙ ap (λ (l : List ℕ). (p.front ++ page.pending) ++ l) (sym none);
+    prefix = p.prefix ++ page.pending;
+    took = Took-more contents start old new p.prefix page.pending p.took t;
+    whole = p.whole ∙ sym (append-nil (p.prefix ++ page.pending)) ∙ ap (λ (l : List ℕ). (p.prefix ++ page.pending) ++ l) (sym none);
     written = more ∙ ap (λ n. counted n (length page.pending)) p.written
-        ∙ counted_more 0 (length p.front) (length page.pending)
-        ∙ ap (counted 0) (sym (length-append p.front page.pending));
+        ∙ counted_more 0 (length p.prefix) (length page.pending)
+        ∙ ap (counted 0) (sym (length-append p.prefix page.pending));
   }
 
   pub stopped : (start old new : SinkView W) (page after : PageView) (text : List ℕ) (n : ℕ) → Printed contents start old page text
       → n ≤ length page.pending → Took contents old new (take n page.pending)
       → after.written ≡ counted page.written n → Stopped contents start new after text
   stopped start old new page after text n p k t more = record {
-    front = p.front ++ take n page.pending;
+    prefix = p.prefix ++ take n page.pending;
     rest = drop n page.pending;
-    took = Took-more contents start old new p.front (take n page.pending) p.took t;
-    whole = p.whole ∙ ap (λ (l : List ℕ). p.front ++ l) (sym (take-append-drop n page.pending))
-        ∙ sym (append_assoc p.front (take n page.pending) (drop n page.pending));
-    written = more ∙ ap (λ m. counted m n) p.written ∙ counted_more 0 (length p.front) n
-        ∙ ap (λ m. counted 0 (length p.front + m)) (sym (length-take-le n page.pending k))
-        ∙ ap (counted 0) (sym (length-append p.front (take n page.pending)));
+    took = Took-more contents start old new p.prefix (take n page.pending) p.took t;
+    whole = p.whole ∙ ap (λ (l : List ℕ). p.prefix ++ l) (sym (take-append-drop n page.pending))
+        ∙ sym (append_assoc p.prefix (take n page.pending) (drop n page.pending));
+    written = more ∙ ap (λ m. counted m n) p.written ∙ counted_more 0 (length p.prefix) n
+        ∙ ap (λ m. counted 0 (length p.prefix + m)) (sym (length-take-le n page.pending k))
+        ∙ ap (counted 0) (sym (length-append p.prefix (take n page.pending)));
   }
 
 -- ---- texts printed one after another
@@ -77,10 +77,10 @@ module _ {W : Type 0} (contents : W → Option (List ℕ)) where
 
   pub Stopped-more : (s t : SinkView W) (p : PageView) (bs cs : List ℕ) → Stopped contents s t p bs → Stopped contents s t p (bs ++ cs)
   Stopped-more s t p bs cs h = record {
-    front = h.front;
+    prefix = h.prefix;
     rest = h.rest ++ cs;
     took = h.took;
-    whole = ap (λ (l : List ℕ). l ++ cs) h.whole ∙ append_assoc h.front h.rest cs;
+    whole = ap (λ (l : List ℕ). l ++ cs) h.whole ∙ append_assoc h.prefix h.rest cs;
     written = h.written;
   }
 
@@ -95,7 +95,7 @@ module _ {W : Type 0} (contents : W → Option (List ℕ)) where
   -- a page that is empty, at its own sink
   pub Printed-nothing : (s : SinkView W) (p : PageView) → p.pending ≡ [] → p.written ≡ 0 → Printed contents s s p []
   Printed-nothing s p e w = record {
-    front = [];
+    prefix = [];
     took = Took-nothing contents s s refl (Keeps-refl (contents s.writer));
     whole = sym e;
     written = w;
@@ -104,4 +104,4 @@ module _ {W : Type 0} (contents : W → Option (List ℕ)) where
   -- all was printed, and nothing is pending
   pub Printed-all : (s t : SinkView W) (p : PageView) (text : List ℕ) → Printed contents s t p text → p.pending ≡ [] → Took contents s t text
   Printed-all s t p text h e = subst (λ (x : List ℕ). Took contents s t x)
-      (sym (h.whole ∙ ap (λ (l : List ℕ). h.front ++ l) e ∙ append-nil h.front)) h.took
+      (sym (h.whole ∙ ap (λ (l : List ℕ). h.prefix ++ l) e ∙ append-nil h.prefix)) h.took

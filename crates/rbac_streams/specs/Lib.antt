@@ -1,3 +1,3 @@
-pub mod Given
+pub mod ReadFaults
 pub mod Streams
 pub mod Taken

@@ -12,20 +12,20 @@ pub record Took {W : Type 0} (contents : W → Option (List ℕ)) (old new : Sin
   pub appends : Appends (contents old.writer) (contents new.writer) bytes
   pub count : new.taken ≡ counted old.taken (length bytes)
 
--- since `start` this text was printed: the sink took the front, and the page holds the rest
+-- since `start` this text was printed: the sink took the prefix, and the page holds the rest
 pub record Printed {W : Type 0} (contents : W → Option (List ℕ)) (start now : SinkView W) (page : PageView) (text : List ℕ) : Type 0 where
-  pub front : List ℕ
-  pub took : Took contents start now front
-  pub whole : text ≡ front ++ page.pending
-  pub written : page.written ≡ counted 0 (length front)
+  pub prefix : List ℕ
+  pub took : Took contents start now prefix
+  pub whole : text ≡ prefix ++ page.pending
+  pub written : page.written ≡ counted 0 (length prefix)
 
--- since `start` the sink took a front of the text, and the page says how long it is
+-- since `start` the sink took a prefix of the text, and the page says how long it is
 pub record Stopped {W : Type 0} (contents : W → Option (List ℕ)) (start now : SinkView W) (page : PageView) (text : List ℕ) : Type 0 where
-  pub front : List ℕ
+  pub prefix : List ℕ
   pub rest : List ℕ
-  pub took : Took contents start now front
-  pub whole : text ≡ front ++ rest
-  pub written : page.written ≡ counted 0 (length front)
+  pub took : Took contents start now prefix
+  pub whole : text ≡ prefix ++ rest
+  pub written : page.written ≡ counted 0 (length prefix)
 
 -- from (old, page) to (new, after) more text was printed
 abbrev pub Prints : {W : Type 0} → (W → Option (List ℕ)) → SinkView W → PageView → SinkView W → PageView → List ℕ → Type 0

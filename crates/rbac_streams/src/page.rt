@@ -1,4 +1,4 @@
-//! Text on its way to a sink, handed on in large pieces.
+//! Text on its way to a sink, which is written in large pieces.
 
 ghost use Rattle.std.specs.Prelude.{◌≡◌, ◌++◌, List, ℕ, [], true, false, OnOk, OnErr, IsErrOf};
 ghost use Rattle.rbac_streams.specs.Streams.{SinkView};
@@ -9,10 +9,10 @@ use std::alloc::Global;
 use std::io::Write;
 use std::marker::Model;
 
-// From how many bytes on the text is handed to the sink.
+// From how many bytes on the text is written to the sink.
 const FULL: usize = 65_536;
 
-/// Text that is printed bit by bit and handed to a sink in pieces of 64 KiB or more, with the
+/// Text that is printed bit by bit and written to a sink in pieces of 64 KiB or more, with the
 /// number of bytes that the sink took of it.
 #[derive(Drop)]
 pub struct Page {
@@ -58,8 +58,8 @@ impl Page {
         self.written
     }
 
-    /// Hands all that is pending to the sink. Where the sink fails, all of it stays pending, also the
-    /// front that was taken.
+    /// Writes all that is pending to the sink. Where the sink fails, all of it stays pending, also
+    /// the prefix that was taken.
     pub fn flush<W: Write + Drop>(&mut self, sink: &mut Sink<W>) -> Result<(), PrintFault>
         requires { sink.old.has_failed ≡ false }
         ensures ok { OnOk result ((start : SinkView W) (text : List ℕ)
@@ -86,8 +86,8 @@ impl Page {
         }
     }
 
-    /// Adds to the text, and hands it on where it has become long. Where memory is refused, nothing
-    /// changes; where the sink fails, the text is pending with what was added.
+    /// Adds to the text, and writes it to the sink once it is long. Where memory is refused,
+    /// nothing changes; where the sink fails, the text is pending with what was added.
     pub fn print<W: Write + Drop>(
         &mut self,
         sink: &mut Sink<W>,

@@ -10,7 +10,8 @@ use std::marker::Model;
 #[derive(Clone, Copy, Debug, PartialEq, Eq)]
 pub struct Failed;
 
-/// A writer that isn't called again once a call of it failed, with the number of bytes that it took.
+/// A writer that isn't called again once a call of it failed, with the number of bytes that it
+/// took.
 ///
 /// An interruption is such a failure too, and so is a call that takes nothing of a piece (own).
 #[derive(Drop)]
@@ -54,7 +55,8 @@ impl<W: Write + Drop> Sink<W> {
         self.taken
     }
 
-    /// Hands the writer a piece once, and says how many bytes of its front it took: at least one.
+    /// Hands the writer a piece once, and says how long a prefix of it was taken: at least one
+    /// byte.
     ///
     /// Where the writer has failed, it isn't called, and nothing changes.
     pub fn write(&mut self, piece: &[u8]) -> Result<usize, Failed>

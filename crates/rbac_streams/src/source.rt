@@ -2,8 +2,9 @@
 
 ghost use Rattle.std.specs.Prelude.{◌≡◌, ℕ, ◌+◌, ◌<◌, ◌≤◌, List, [], length, take, true, false, IfOk, OnOk, OnErr, IsErrOf};
 ghost use Rattle.std.specs.Io.KnownBytes.{Consumes, IsAtEnd, Keeps};
-ghost use Rattle.rbac_streams.specs.Given.{is_read_fault};
+ghost use Rattle.rbac_streams.specs.ReadFaults.{is_read_fault};
 ghost use Rattle.rbac_streams.specs.Taken.{counted};
+ghost use Rattle.rbac_streams.specs.Streams.{most_bytes};
 
 use crate::input::Input;
 use crate::sink::Failed;
@@ -68,7 +69,7 @@ impl<R: Read + Drop> Source<R> {
         self.has_failed
     }
 
-    /// Reads once, into the front of the room, and says how many bytes: none only at the end.
+    /// Reads once, to the start of the buffer, and says how many bytes: none only at the end.
     ///
     /// Where the reader has failed, it isn't called, and nothing changes.
     pub fn read(&mut self, room: &mut [u8]) -> Result<usize, Failed>
@@ -104,13 +105,13 @@ pub fn read_input<R: Read + Drop>(
     source: &mut Source<R>,
 ) -> Result<Input, InputFault>
     requires { source.old.has_failed ≡ false }
-    ensures ok { IfOk result (λ input. (length input ≤ 67108864)
+    ensures ok { IfOk result (λ input. (length input ≤ most_bytes)
         × Consumes (R.remaining source.old.reader) (R.remaining source.new.reader) input
         × IsAtEnd (R.remaining source.new.reader)) }
     ensures failed { source.new.has_failed ≡ is_read_fault result }
-    ensures long { IsErrOf result InputFault.TooLong → (bytes : List ℕ) × (67108864 < length bytes)
+    ensures long { IsErrOf result InputFault.TooLong → (bytes : List ℕ) × (most_bytes < length bytes)
         × Consumes (R.remaining source.old.reader) (R.remaining source.new.reader) bytes }
-    ensures reads { source.new.reads ≤ source.old.reads + 67108865 }
+    ensures reads { source.new.reads ≤ source.old.reads + (most_bytes + 1) }
 {
     let mut chunk = [0u8; 65536];
     let mut bytes = Vec::new(alloc);
@@ -132,23 +133,23 @@ pub fn read_input<R: Read + Drop>(
 
 /// Reads all that a slice has left, as [`read_input`] reads any reader: by its contract alone.
 ///
-/// A slice tells its bytes, so here it is plain which bytes an input has. A file doesn't, and for it
-/// the same holds as far as its reads give what it has.
+/// A slice shows its bytes, so here it is plain which bytes an input has. A file doesn't, and for
+/// it the same holds as far as its reads give what it has.
 pub fn read_slice(alloc: Global, source: &mut Source<&[u8]>) -> Result<Input, InputFault>
     requires { source.old.has_failed ≡ false }
-    ensures ok { IfOk result (λ input. (input ≡ source.old.reader.now) × (length input ≤ 67108864)) }
+    ensures ok { IfOk result (λ input. (input ≡ source.old.reader.now) × (length input ≤ most_bytes)) }
     ensures rest { OnOk result (source.new.reader.now ≡ []) }
     ensures failed { source.new.has_failed ≡ is_read_fault result }
-    ensures long { IsErrOf result InputFault.TooLong → 67108864 < length source.old.reader.now }
+    ensures long { IsErrOf result InputFault.TooLong → most_bytes < length source.old.reader.now }
 {
     read_input(alloc, source)
 }
 
 /// Reads the file at `path` whole, as [`read_input`] does; I1 also where it can't be opened.
 pub fn read_file<R: Files>(rt: &R, alloc: Global, path: &str) -> Result<Input, InputFault>
-    ensures ok { IfOk result (λ input. (length input ≤ 67108864) × ((file after : R.File)
+    ensures ok { IfOk result (λ input. (length input ≤ most_bytes) × ((file after : R.File)
         × Consumes (R.File.remaining file) (R.File.remaining after) input × IsAtEnd (R.File.remaining after))) }
-    ensures long { IsErrOf result InputFault.TooLong → (file after : R.File) × (bytes : List ℕ) × (67108864 < length bytes)
+    ensures long { IsErrOf result InputFault.TooLong → (file after : R.File) × (bytes : List ℕ) × (most_bytes < length bytes)
         × Consumes (R.File.remaining file) (R.File.remaining after) bytes }
 {
     match fs::open(rt, path) {

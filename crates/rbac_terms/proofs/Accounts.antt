@@ -4,7 +4,7 @@ use Rattle.std.specs.Prelude.{codes}
 use Rattle.std.proofs.lemmas.List.{append_cancel_left}
 use Rattle.rbac_terms.specs.Text.{Text, colon, IsCutAtFirst, BeginsWith}
 use Rattle.rbac_terms.specs.Principals.{Who, AsUser, who_of, name_of, account_user, IsPart, IsAccountOf, IsAccountGroup, IsGroupOfAccounts}
-use Rattle.rbac_terms.proofs.Texts.{IsCutAtFirst-one, IsCutAtFirst-front, IsCutAtFirst-contains}
+use Rattle.rbac_terms.proofs.Texts.{IsCutAtFirst-one, IsCutAtFirst-prefix, IsCutAtFirst-contains}
 
 -- what follows the prefix of such a name
 abbrev pub rest_of : Text → Text → Text
@@ -44,13 +44,13 @@ IsAccountOf-from user parts namespace name e c p q =
 pub IsAccountOf-parts : (user parts namespace m s : Text) → user ≡ codes "system:serviceaccount:" ++ parts → IsCutAtFirst parts colon m s → IsAccountOf user namespace → IsPart m × IsPart s
 IsAccountOf-parts user parts namespace m s e c a =
     let cut = IsAccountOf-cut user parts namespace e a in
-    (subst IsPart (IsCutAtFirst-front parts namespace m a.0 s colon cut c) a.2, subst IsPart (IsCutAtFirst-one parts namespace m a.0 s colon cut c) a.3)
+    (subst IsPart (IsCutAtFirst-prefix parts namespace m a.0 s colon cut c) a.2, subst IsPart (IsCutAtFirst-one parts namespace m a.0 s colon cut c) a.3)
 
 -- a user is the service account of one namespace
 pub IsAccountOf-one : (user m n : Text) → IsAccountOf user m → IsAccountOf user n → m ≡ n
 IsAccountOf-one user m n a b =
     let e = a.1 ∙ user_is m a.0 in
-    IsCutAtFirst-front (rest_of m a.0) m n a.0 b.0 colon (IsAccountOf-cut user (rest_of m a.0) m e a) (IsAccountOf-cut user (rest_of m a.0) n e b)
+    IsCutAtFirst-prefix (rest_of m a.0) m n a.0 b.0 colon (IsAccountOf-cut user (rest_of m a.0) m e a) (IsAccountOf-cut user (rest_of m a.0) n e b)
 
 pub IsAccountOf-iff : (user namespace : Text) → IsAccountOf user namespace → (other : Text) → IsAccountOf user other ↔ (other ≡ namespace)
 IsAccountOf-iff user namespace a other = (λ b. IsAccountOf-one user other namespace b a, λ e. subst (IsAccountOf user) (sym e) a)

@@ -42,8 +42,8 @@ none_before x i b h before w =
 pub IsCutAtFirst-one : (x m n s t : Text) (b : ℕ) → IsCutAtFirst x b m s → IsCutAtFirst x b n t → s ≡ t
 IsCutAtFirst-one x m n s t b f g = same_after_first m n s t b f.1 g.1 (sym f.0 ∙ g.0)
 
-pub IsCutAtFirst-front : (x m n s t : Text) (b : ℕ) → IsCutAtFirst x b m s → IsCutAtFirst x b n t → m ≡ n
-IsCutAtFirst-front x m n s t b f g = same_before_first m n s t b f.1 g.1 (sym f.0 ∙ g.0)
+pub IsCutAtFirst-prefix : (x m n s t : Text) (b : ℕ) → IsCutAtFirst x b m s → IsCutAtFirst x b n t → m ≡ n
+IsCutAtFirst-prefix x m n s t b f g = same_before_first m n s t b f.1 g.1 (sym f.0 ∙ g.0)
 
 pub IsCutAtFirst-contains : (x m s : Text) (b : ℕ) → IsCutAtFirst x b m s → Contains x b
 IsCutAtFirst-contains x m s b f = rw f.0 (byte_within m s b)
@@ -51,18 +51,23 @@ IsCutAtFirst-contains x m s b f = rw f.0 (byte_within m s b)
 pub IsCutAtFirst-at : (x : Text) (i b : ℕ) → (i < length x) × (get_or x i 0 ≡ b) × ((k : ℕ) → k < i → get_or x k 0 ≡ b → ⊥) → IsCutAtFirst x b (take i x) (drop (i + 1) x)
 IsCutAtFirst-at x i b h = (cut_at x i 0 h.0 ∙ ap (λ c. take i x ++ c ∷ drop (i + 1) x) h.1, none_before x i b h.0 h.2)
 
+-- a star at the end of a text of two bytes and more ends the text without its first byte
+pub shorter : (c d : ℕ) (q r : Text) → c ∷ d ∷ q ≡ r ++ star ∷ [] → EndsInStar (d ∷ q)
+shorter c d q [] e = cc
+shorter c d q (x ∷ r) e = let rest : d ∷ q ≡ r ++ star ∷ [] = cc in (r, rest)
+
 -- one more star at the end
 pub one_more_star : (p : Text) (k : ℕ) → p ++ replicate (suc k) star ≡ (p ++ replicate k star) ++ star ∷ []
 one_more_star p k = sym (append_assoc p (replicate k star) (star ∷ []) ∙ ap (λ r. p ++ r) (replicate_more k star ∙ ap (λ n. replicate n star) (add-one k)))
 
 -- a text without its trailing stars is one text
-pub same_front : (p q : Text) (j k : ℕ) → (EndsInStar p → ⊥) → (EndsInStar q → ⊥) → p ++ replicate j star ≡ q ++ replicate k star → p ≡ q
-same_front p q zero zero a b e = sym (append-nil p) ∙ e ∙ append-nil q
-same_front p q zero (suc k) a b e = absurd (a (q ++ replicate k star, sym (append-nil p) ∙ e ∙ one_more_star q k))
-same_front p q (suc j) zero a b e = absurd (b (p ++ replicate j star, sym (append-nil q) ∙ sym e ∙ one_more_star p j))
-same_front p q (suc j) (suc k) a b e = same_front p q j k a b (same_from_push (p ++ replicate j star) (q ++ replicate k star) star star (sym (one_more_star p j) ∙ e ∙ one_more_star q k)).0
+pub same_prefix : (p q : Text) (j k : ℕ) → (EndsInStar p → ⊥) → (EndsInStar q → ⊥) → p ++ replicate j star ≡ q ++ replicate k star → p ≡ q
+same_prefix p q zero zero a b e = sym (append-nil p) ∙ e ∙ append-nil q
+same_prefix p q zero (suc k) a b e = absurd (a (q ++ replicate k star, sym (append-nil p) ∙ e ∙ one_more_star q k))
+same_prefix p q (suc j) zero a b e = absurd (b (p ++ replicate j star, sym (append-nil q) ∙ sym e ∙ one_more_star p j))
+same_prefix p q (suc j) (suc k) a b e = same_prefix p q j k a b (same_from_push (p ++ replicate j star) (q ++ replicate k star) star star (sym (one_more_star p j) ∙ e ∙ one_more_star q k)).0
 
--- the stars move from the end of the front to those that were taken off
+-- the stars move from the end of the prefix to those that were taken off
 pub star_off : (w p before : Text) (last k : ℕ) → w ≡ p ++ replicate k star → p ≡ before ++ last ∷ [] → last ≡ star → w ≡ before ++ replicate (suc k) star
 star_off w p before last k e f g = e ∙ ap (λ q. q ++ replicate k star) (f ∙ ap (λ b. before ++ b ∷ []) g) ∙ append_assoc before (star ∷ []) (replicate k star)
 
@@ -80,7 +85,7 @@ UrlWordMatches-iff w x p (suc k) r ne e none l i = (
   λ h. inr (p, k, e ∙ ap (λ n. p ++ replicate n star) (sym (add-one k)), none, i.0 h),
   λ m. elim m [
     | inl a ↦ absurd (ne a)
-    | inr b ↦ let same : b.0 ≡ p = same_front b.0 p (b.1 + 1) (suc k) b.3 none (sym b.2 ∙ e) in i.1 (b.4.0, b.4.1 ∙ ap (λ q. q ++ b.4.0) same)
+    | inr b ↦ let same : b.0 ≡ p = same_prefix b.0 p (b.1 + 1) (suc k) b.3 none (sym b.2 ∙ e) in i.1 (b.4.0, b.4.1 ∙ ap (λ q. q ++ b.4.0) same)
   ],
 )
 
@@ -88,10 +93,10 @@ pub UrlWordMatches-none : (w x p : Text) (k : ℕ) → w ≢ x → w ≡ p ++ re
 UrlWordMatches-none w x p k ne e none l m =
     elim m [
       | inl a ↦ ne a
-      | inr b ↦ let same : b.0 ≡ p = same_front b.0 p (b.1 + 1) k b.3 none (sym b.2 ∙ e) in
+      | inr b ↦ let same : b.0 ≡ p = same_prefix b.0 p (b.1 + 1) k b.3 none (sym b.2 ∙ e) in
           omega (arith, ap length b.2, length-append b.0 (replicate (b.1 + 1) star), length-replicate (b.1 + 1) star, ap length same)
     ]
 
-pub after_front_is : (text front : Text) (r : Option (Bor Text)) → MatchOption r ((rest : Text) → text ≢ front ++ rest) (λ x. text ≡ front ++ x.now) → MatchOption r (BeginsWith text front → ⊥) (λ x. text ≡ front ++ x.now)
-after_front_is text front None h = λ b. h b.0 b.1
-after_front_is text front (Some x) h = h
+pub after_prefix_is : (text prefix : Text) (r : Option (Bor Text)) → MatchOption r ((rest : Text) → text ≢ prefix ++ rest) (λ x. text ≡ prefix ++ x.now) → MatchOption r (BeginsWith text prefix → ⊥) (λ x. text ≡ prefix ++ x.now)
+after_prefix_is text prefix None h = λ b. h b.0 b.1
+after_prefix_is text prefix (Some x) h = h

@@ -1,6 +1,6 @@
 use Rattle.std.specs.Prelude.{◌≡◌, [], Option, Some, None}
 use Rattle.rbac_terms.specs.Text.{Text}
-use Rattle.rbac_terms.specs.Principals.{Who, AsUser, AsMember, key_of, IsUserNamed, IsInGroup, account_user}
+use Rattle.rbac_terms.specs.Principals.{Who, AsUser, AsMember, who_key, IsUserNamed, IsInGroup, account_user}
 use Rattle.rbac_terms.specs.declared.granting.Subject.{Subject}
 use Rattle.rbac_terms.specs.declared.granting.Subject.TheVariants.{User, Group, Account}
 
@@ -14,8 +14,8 @@ Names (Account None name) None _ = ⊥
 
 -- the key of the principal that a subject stands for, if it does (own): an account's is its user's, and one without any namespace has none
 abbrev pub IsSubjectKey : Subject → Option Text → Text → Type 0
-IsSubjectKey (User name) _ key = key ≡ key_of (AsUser name [])
-IsSubjectKey (Group name) _ key = key ≡ key_of (AsMember name)
-IsSubjectKey (Account (Some namespace) name) _ key = key ≡ key_of (AsUser (account_user namespace name) [])
-IsSubjectKey (Account None name) (Some namespace) key = key ≡ key_of (AsUser (account_user namespace name) [])
+IsSubjectKey (User name) _ key = key ≡ who_key (AsUser name [])
+IsSubjectKey (Group name) _ key = key ≡ who_key (AsMember name)
+IsSubjectKey (Account (Some namespace) name) _ key = key ≡ who_key (AsUser (account_user namespace name) [])
+IsSubjectKey (Account None name) (Some namespace) key = key ≡ who_key (AsUser (account_user namespace name) [])
 IsSubjectKey (Account None name) None key = ⊥

@@ -2,7 +2,7 @@ use Rattle.std.specs.Prelude.{List, [], ◌∷◌}
 use Rattle.std.specs.declared.cmp.Ordering.{Ordering}
 use Rattle.std.specs.Cmp.Lexicographic.{slice_cmp}
 use Rattle.rbac_terms.specs.Text.{Text, text_cmp}
-use Rattle.rbac_terms.specs.Principals.{Who, key_of as who_key}
+use Rattle.rbac_terms.specs.Principals.{Who, who_key}
 use Rattle.rbac_terms.specs.Targets.{What, Resource, Url, group_of, text_of, name_of}
 
 -- the key of a request: six texts, the principal's key, namespace, verb, API group, resource text or URL, object name (own)

@@ -1,4 +1,6 @@
+pub mod GivenGroups
 pub mod Granting
+pub mod Held
 pub mod KeyOrder
 pub mod Keys
 pub mod Matching

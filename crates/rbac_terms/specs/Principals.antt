@@ -7,9 +7,9 @@ pub data Who : Type 0 where
   AsMember : (group : Text) → Who
 
 -- the key of who asks: `u:` and the user's name, or `g:` and the group's (own)
-abbrev pub key_of : Who → Text
-key_of (AsUser name given) = codes "u:" ++ name
-key_of (AsMember group) = codes "g:" ++ group
+abbrev pub who_key : Who → Text
+who_key (AsUser name given) = codes "u:" ++ name
+who_key (AsMember group) = codes "g:" ++ group
 
 -- the user name of a service account (Using RBAC Authorization, Referring to subjects)
 abbrev pub account_user : Text → Text → Text
@@ -31,7 +31,7 @@ IsGroupOfAccounts namespace g = (g ≡ codes "system:serviceaccounts") ⊎ (g �
 abbrev pub IsAccountGroup : Text → Text → Type 0
 IsAccountGroup user g = (namespace : Text) × IsAccountOf user namespace × IsGroupOfAccounts namespace g
 
--- the group that tells whether a user has signed in: `system:unauthenticated` of the anonymous user, `system:authenticated` of any other (Using RBAC Authorization), save of one that was given `system:unauthenticated` (own)
+-- the group that says whether a user has signed in: `system:unauthenticated` of the anonymous user, `system:authenticated` of any other (Using RBAC Authorization), save of one that was given `system:unauthenticated` (own)
 abbrev pub IsSignInGroup : Text → List Text → Text → Type 0
 IsSignInGroup user given g =
     ((user ≡ codes "system:anonymous") × (g ≡ codes "system:unauthenticated"))
@@ -66,7 +66,7 @@ abbrev pub IsAccountIn : Who → Text → Type 0
 IsAccountIn (AsUser name given) namespace = IsAccountOf name namespace
 IsAccountIn (AsMember group) namespace = ⊥
 
--- the group tells whether who asks has signed in, which is told of users alone (own)
+-- the group says whether who asks has signed in, which is so for users alone (own)
 abbrev pub SignsInAs : Who → Text → Type 0
 SignsInAs (AsUser name given) g = IsSignInGroup name given g
 SignsInAs (AsMember group) g = ⊥

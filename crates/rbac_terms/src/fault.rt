@@ -6,7 +6,7 @@ use std::alloc::{AllocError, AllocFailed};
 use thiserror::Error;
 
 /// Why a principal, a target or a key isn't made, or an object isn't put (own). Its text is the
-/// number and name of the refusal; want of memory has no number there.
+/// number and name of the refusal; out of memory has no number there.
 #[derive(Debug, Drop, Clone, Copy, PartialEq, Eq, Error)]
 pub enum ModelFault {
     /// P1: a principal without a name.

@@ -1,8 +1,10 @@
 //! The words of role-based access control (texts, rules, subjects, principals, targets, selectors,
-//! keys), and what each of them matches. `rbac_model` builds policies of them, and hands their names on.
+//! keys), and what each of them matches. `rbac_model` builds policies of them, and re-exports their
+//! names.
 #![tactic(auto)]
 
 mod fault;
+mod given_groups;
 mod granting;
 mod items;
 mod keys;

@@ -18,7 +18,8 @@ pub struct Rule {
     pub verbs: Words,
     /// API groups, the core group as the empty text, or `*` for each group.
     pub groups: Words,
-    /// Resources as `pods` or `pods/log`, `*/log` for a subresource of each resource, or `*` for all.
+    /// Resources as `pods` or `pods/log`, `*/log` for a subresource of each resource, or `*` for
+    /// all.
     pub resources: Words,
     /// Names of objects; no names at all stand for every name.
     pub resource_names: Words,
@@ -147,8 +148,8 @@ fn url_word_matches(word: &[u8], path: &[u8]) -> bool
     if word == path {
         return true;
     }
-    let front = without_trailing_stars(word);
-    front.len() < word.len() && path.starts_with(front)
+    let prefix = without_trailing_stars(word);
+    prefix.len() < word.len() && path.starts_with(prefix)
 }
 
 fn without_trailing_stars(word: &[u8]) -> &[u8]

@@ -3,10 +3,11 @@
 ghost use Rattle.std.specs.Prelude.{◌≡◌, ◌≢◌, ◌++◌, ◌⊎◌, [], IsTrue, ◌↔◌, MatchBool, MatchResult, MatchOption, IfOk, IfErr, OnOk, OnErr, Contains};
 ghost use Rattle.rbac_terms.specs.Text.{Text};
 ghost use Rattle.rbac_terms.specs.Targets.{Resource, Url, IsProper, IsUrl, IsResource, group_of, text_of, name_of};
-ghost use Rattle.rbac_terms.specs.Principals.{AsUser, AsMember, key_of as who_key, name_of as who_name, given_of, IsUserNamed, IsInGroup, account_user, IsAccountOf, IsAccountGroup, IsGroupOfAccounts, IsImpliedGroup, IsPart, IsSignInGroup, IsAccountIn, SignsInAs};
+ghost use Rattle.rbac_terms.specs.Principals.{AsUser, AsMember, who_key, name_of as who_name, given_of, IsUserNamed, IsInGroup, account_user, IsAccountOf, IsAccountGroup, IsGroupOfAccounts, IsImpliedGroup, IsPart, IsSignInGroup, IsAccountIn, SignsInAs};
 
 use crate::fault::ModelFault;
-use crate::text::{Word, Words, after_front, cut_at_first, is_joined};
+use crate::given_groups::GivenGroups;
+use crate::text::{Word, Words, after_prefix, cut_at_first, is_joined};
 use std::alloc::{AllocError, Global};
 use std::marker::Model;
 
@@ -136,18 +137,18 @@ impl Target {
 pub struct Principal {
     is_user: bool,
     key: Word,
-    given: Words,
+    given: GivenGroups,
 }
 
 impl Model for Principal {
     ghost use Rattle.std.specs.Prelude.{◌≡◌, ◌≢◌, []};
-    ghost use Rattle.rbac_terms.specs.Principals.{Who, who_of, key_of, name_of};
+    ghost use Rattle.rbac_terms.specs.Principals.{Who, who_of, who_key, name_of};
 
     ghost Value = { Who };
 
     ghost view = { λ p. who_of p.is_user p.key p.given };
 
-    ghost invariant = { λ p. (p.key ≡ key_of (who_of p.is_user p.key p.given)) × (name_of (who_of p.is_user p.key p.given) ≢ []) };
+    ghost invariant = { λ p. (p.key ≡ who_key (who_of p.is_user p.key p.given)) × (name_of (who_of p.is_user p.key p.given) ≢ []) };
 }
 
 impl Principal {
@@ -161,7 +162,7 @@ impl Principal {
         Ok(Principal {
             is_user: true,
             key: named_key(alloc, USER, name)?,
-            given: given.clone()?,
+            given: GivenGroups::of(given)?,
         })
     }
 
@@ -175,7 +176,7 @@ impl Principal {
         Ok(Principal {
             is_user: false,
             key: named_key(alloc, MEMBER, name)?,
-            given: Words::new(alloc),
+            given: GivenGroups::new(alloc),
         })
     }
 
@@ -195,7 +196,8 @@ impl Principal {
         self.given.append(given)
     }
 
-    /// The principal's key: `u:` and the user's name, or `g:` and the group's (own). Takes no memory.
+    /// The principal's key: `u:` and the user's name, or `g:` and the group's (own). Takes no
+    /// memory.
     pub fn key(&self) -> &Word
         ensures { result.now ≡ who_key self.now }
     {
@@ -252,7 +254,7 @@ impl Principal {
         }
     }
 
-    /// The group that tells whether a user has signed in: `system:authenticated` or
+    /// The group that says whether a user has signed in: `system:authenticated` or
     /// `system:unauthenticated` (Using RBAC Authorization); none where the second is given, and for
     /// a group's member (own). Takes no memory.
     pub fn sign_in_group(&self) -> Option<&'static [u8]>
@@ -275,7 +277,7 @@ impl Principal {
         ensures { IsTrue result ↔ IsInGroup self.now group.now }
     {
         if self.is_user {
-            is_user_group(self.name(), &self.given, group)
+            is_user_group(self.name(), &self.given, group.as_bytes())
         } else {
             self.name() == group.as_bytes()
         }
@@ -283,21 +285,21 @@ impl Principal {
 }
 
 // The key of a principal of this name, which may not be empty.
-fn named_key(alloc: Global, front: &[u8], name: &Word) -> Result<Word, ModelFault>
-    ensures ok { IfOk result (λ key. key ≡ front.now ++ name.now) }
+fn named_key(alloc: Global, prefix: &[u8], name: &Word) -> Result<Word, ModelFault>
+    ensures ok { IfOk result (λ key. key ≡ prefix.now ++ name.now) }
     ensures empty { (result ≡ Err ModelFault.EmptyName) ↔ (name.now ≡ []) }
     ensures errors { IfErr result (λ e. (e ≡ ModelFault.EmptyName) ⊎ (e ≡ ModelFault.NoMemory)) }
 {
     if name.is_empty() {
         return Err(ModelFault::EmptyName);
     }
-    Ok(with_front(alloc, front, name)?)
+    Ok(with_prefix(alloc, prefix, name)?)
 }
 
-fn with_front(alloc: Global, front: &[u8], name: &Word) -> Result<Word, AllocError>
-    ensures { IfOk result (λ word. word ≡ front.now ++ name.now) }
+fn with_prefix(alloc: Global, prefix: &[u8], name: &Word) -> Result<Word, AllocError>
+    ensures { IfOk result (λ word. word ≡ prefix.now ++ name.now) }
 {
-    let mut word = Word::from_slice(alloc, front)?;
+    let mut word = Word::from_slice(alloc, prefix)?;
     word.push_slice(name.as_bytes())?;
     Ok(word)
 }
@@ -306,14 +308,14 @@ fn with_front(alloc: Global, front: &[u8], name: &Word) -> Result<Word, AllocErr
 pub(crate) fn user_key(alloc: Global, name: &Word) -> Result<Word, AllocError>
     ensures { IfOk result (λ key. key ≡ who_key (AsUser name.now [])) }
 {
-    with_front(alloc, USER, name)
+    with_prefix(alloc, USER, name)
 }
 
 // The key of a member of the group of this name.
 pub(crate) fn member_key(alloc: Global, name: &Word) -> Result<Word, AllocError>
     ensures { IfOk result (λ key. key ≡ who_key (AsMember name.now)) }
 {
-    with_front(alloc, MEMBER, name)
+    with_prefix(alloc, MEMBER, name)
 }
 
 /// The user name of a service account, `system:serviceaccount:NAMESPACE:NAME` (Using RBAC
@@ -334,7 +336,7 @@ fn account_namespace(user: &[u8]) -> Option<&[u8]>
         ((namespace : Text) → ¬ IsAccountOf user.now namespace)
         (λ own. (namespace : Text) → IsAccountOf user.now namespace ↔ (namespace ≡ own.now)) }
 {
-    let parts = after_front(user, ACCOUNT)?;
+    let parts = after_prefix(user, ACCOUNT)?;
     let (namespace, name) = cut_at_first(parts, b':')?;
     if is_part(namespace) && is_part(name) {
         Some(namespace)
@@ -346,10 +348,10 @@ fn account_namespace(user: &[u8]) -> Option<&[u8]>
 fn is_account_user(user: &[u8], namespace: &[u8], name: &[u8]) -> bool
     ensures { IsTrue result ↔ (user.now ≡ account_user namespace.now name.now) }
 {
-    let Some(parts) = after_front(user, ACCOUNT) else {
+    let Some(parts) = after_prefix(user, ACCOUNT) else {
         return false;
     };
-    let Some(rest) = after_front(parts, namespace) else {
+    let Some(rest) = after_prefix(parts, namespace) else {
         return false;
     };
     is_joined(rest, COLON, name)
@@ -376,37 +378,37 @@ fn is_group_of_accounts(namespace: &[u8], group: &[u8]) -> bool
     group == ACCOUNTS || is_joined(group, ACCOUNTS_OF, namespace)
 }
 
-fn is_user_group(user: &[u8], given: &Words, group: &Word) -> bool
+fn is_user_group(user: &[u8], given: &GivenGroups, group: &[u8]) -> bool
     ensures { IsTrue result ↔ IsInGroup (AsUser user.now given.now) group.now }
 {
-    given.contains(group) || is_implied_group(user, given, group.as_bytes())
+    given.contains(group) || is_implied_group(user, given, group)
 }
 
-fn is_implied_group(user: &[u8], given: &Words, group: &[u8]) -> bool
+fn is_implied_group(user: &[u8], given: &GivenGroups, group: &[u8]) -> bool
     ensures { IsTrue result ↔ IsImpliedGroup user.now given.now group.now }
 {
     is_account_group(user, group) || is_sign_in_group(user, given, group)
 }
 
-fn is_sign_in_group(user: &[u8], given: &Words, group: &[u8]) -> bool
+fn is_sign_in_group(user: &[u8], given: &GivenGroups, group: &[u8]) -> bool
     ensures { IsTrue result ↔ IsSignInGroup user.now given.now group.now }
 {
     if user == ANONYMOUS {
         group == UNAUTHENTICATED
     } else {
-        group == AUTHENTICATED && !given.contains_bytes(UNAUTHENTICATED)
+        group == AUTHENTICATED && !given.contains(UNAUTHENTICATED)
     }
 }
 
-// The group that tells whether this user has signed in.
-fn sign_in_group(user: &[u8], given: &Words) -> Option<&'static [u8]>
+// The group that says whether this user has signed in.
+fn sign_in_group(user: &[u8], given: &GivenGroups) -> Option<&'static [u8]>
     ensures { MatchOption result
         ((group : Text) → ¬ IsSignInGroup user.now given.now group)
         (λ own. (group : Text) → IsSignInGroup user.now given.now group ↔ (group ≡ own.now)) }
 {
     if user == ANONYMOUS {
         Some(UNAUTHENTICATED)
-    } else if given.contains_bytes(UNAUTHENTICATED) {
+    } else if given.contains(UNAUTHENTICATED) {
         None
     } else {
         Some(AUTHENTICATED)

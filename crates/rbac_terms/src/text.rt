@@ -4,6 +4,7 @@ ghost use Rattle.std.specs.Prelude.{◌≡◌, ◌++◌, ◌∷◌, [], ℕ, len
 ghost use Rattle.rbac_terms.specs.Text.{IsCutAtFirst, BeginsWith};
 
 use crate::items::Items;
+use bytes::Bytes;
 use smallvec::SmallVec;
 use std::alloc::{AllocError, Global};
 use std::cmp::Ordering;
@@ -13,21 +14,45 @@ use std::marker::Model;
 // How many bytes a text has at most without an allocation.
 const INLINE: usize = 24;
 
+// How many bytes a text has at most where each copy has its own.
+const MOST_COPIED: usize = 1_024;
+
 /// A text of a manifest or of a request, as a name, a verb or an API group: any bytes, as many as
 /// memory holds. Texts are equal where their bytes are, and ordered byte by byte, a proper prefix
-/// first (own). Contracts see the list of its bytes.
-#[derive(Debug, Clone, Drop)]
+/// first (own). Copies of a long text share its bytes. Contracts see the list of its bytes.
+#[derive(Debug, Drop)]
 pub struct Word {
+    held: Held,
+}
+
+// Where the bytes of a text are.
+#[derive(Debug)]
+enum Held {
     // Most texts are short, and stand in the value itself: no allocation, and no look elsewhere.
-    bytes: SmallVec<u8, INLINE>,
+    Own(SmallVec<u8, INLINE>),
+    // A name of a megabyte may be in thousands of targets. Beside it what gives memory to a copy of
+    // its own, when bytes are added.
+    Shared(Bytes, Global),
+}
+
+// Written out, since a derived drop is split into its cases wherever a text is dropped: two for each
+// text, in each proof.
+impl Drop for Held {
+    fn drop(self) {
+        match self {
+            Held::Own(_) => {}
+            Held::Shared(_, _) => {}
+        }
+    }
 }
 
 impl Model for Word {
     ghost use Rattle.std.specs.Prelude.{ℕ, List};
+    ghost use Rattle.rbac_terms.specs.Held.{bytes_of};
 
     ghost Value = { List ℕ };
 
-    ghost view = { λ w. w.bytes.items };
+    ghost view = { λ w. bytes_of w.held };
 }
 
 impl Word {
@@ -36,7 +61,7 @@ impl Word {
         ensures { result ≡ [] }
     {
         Word {
-            bytes: SmallVec::new(alloc),
+            held: Held::Own(SmallVec::new(alloc)),
         }
     }
 
@@ -44,23 +69,29 @@ impl Word {
     pub fn from_slice(alloc: Global, bytes: &[u8]) -> Result<Self, AllocError>
         ensures { IfOk result (λ w. w ≡ bytes.now) }
     {
-        Ok(Word {
-            bytes: SmallVec::from_slice(alloc, bytes)?,
-        })
+        let held = if bytes.len() > MOST_COPIED {
+            Held::Shared(Bytes::copy_from_slice(alloc, bytes)?, alloc)
+        } else {
+            Held::Own(SmallVec::from_slice(alloc, bytes)?)
+        };
+        Ok(Word { held })
     }
 
     /// The bytes of the text.
     pub fn as_bytes(&self) -> &[u8]
         ensures { result.now ≡ self.now }
     {
-        self.bytes.as_slice()
+        match &self.held {
+            Held::Own(own) => own.as_slice(),
+            Held::Shared(shared, _) => shared.as_slice(),
+        }
     }
 
     /// Whether the text has no bytes.
     pub fn is_empty(&self) -> bool
         ensures { IsTrue result ↔ (self.now ≡ []) }
     {
-        self.bytes.is_empty()
+        self.as_bytes().is_empty()
     }
 
     /// Adds a byte at the end. Fails only where memory is refused, and the text is then as before.
@@ -68,8 +99,7 @@ impl Word {
         ensures ok { OnOk result (self.new ≡ self.old ++ byte ∷ []) }
         ensures err { OnErr result (self.new ≡ self.old) }
     {
-        self.bytes.push(byte)?;
-        Ok(())
+        self.push_slice(&[byte])
     }
 
     /// Adds these bytes at the end, in order. Fails only where memory is refused, and the text is
@@ -78,7 +108,36 @@ impl Word {
         ensures ok { OnOk result (self.new ≡ self.old ++ bytes.now) }
         ensures err { OnErr result (self.new ≡ self.old) }
     {
-        self.bytes.extend_from_slice(bytes)
+        match &mut self.held {
+            Held::Own(own) => own.extend_from_slice(bytes),
+            Held::Shared(shared, alloc) => {
+                let own = joined(*alloc, shared.as_slice(), bytes)?;
+                self.held = Held::Own(own);
+                Ok(())
+            }
+        }
+    }
+}
+
+// The bytes of both, the second after the first.
+fn joined(alloc: Global, prefix: &[u8], rest: &[u8]) -> Result<SmallVec<u8, INLINE>, AllocError>
+    ensures { IfOk result (λ both. both.items ≡ prefix.now ++ rest.now) }
+{
+    let mut both = SmallVec::from_slice(alloc, prefix)?;
+    both.extend_from_slice(rest)?;
+    Ok(both)
+}
+
+impl Clone for Word {
+    ghost is_clone = { λ word copy. copy ≡ word };
+
+    fn clone(&self) -> Result<Self, AllocError> {
+        match &self.held {
+            Held::Own(own) => Word::from_slice(*own.allocator(), own.as_slice()),
+            Held::Shared(shared, alloc) => Ok(Word {
+                held: Held::Shared(shared.clone()?, *alloc),
+            }),
+        }
     }
 }
 
@@ -185,19 +244,19 @@ fn first_place(text: &[u8], byte: u8) -> Option<usize>
     text.iter().position(|b| *b == byte)
 }
 
-// What follows this front.
-pub(crate) fn after_front<'a>(text: &'a [u8], front: &[u8]) -> Option<&'a [u8]>
-    ensures { MatchOption result (¬ BeginsWith text.now front.now)
-        (λ rest. text.now ≡ front.now ++ rest.now) }
+// What follows this prefix.
+pub(crate) fn after_prefix<'a>(text: &'a [u8], prefix: &[u8]) -> Option<&'a [u8]>
+    ensures { MatchOption result (¬ BeginsWith text.now prefix.now)
+        (λ rest. text.now ≡ prefix.now ++ rest.now) }
 {
-    text.strip_prefix(front)
+    text.strip_prefix(prefix)
 }
 
 // Whether the text is these two, one after the other.
-pub(crate) fn is_joined(text: &[u8], front: &[u8], rest: &[u8]) -> bool
-    ensures { IsTrue result ↔ (text.now ≡ front.now ++ rest.now) }
+pub(crate) fn is_joined(text: &[u8], prefix: &[u8], rest: &[u8]) -> bool
+    ensures { IsTrue result ↔ (text.now ≡ prefix.now ++ rest.now) }
 {
-    match after_front(text, front) {
+    match after_prefix(text, prefix) {
         Some(after) => after == rest,
         None => false,
     }

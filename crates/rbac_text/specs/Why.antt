@@ -38,7 +38,7 @@ roles_text b source = named_text b.namespace b.role ++ tab ∷ source_text sourc
 abbrev pub places_text : ℕ → ℕ → Text
 places_text rule subject = place_text rule ++ tab ∷ place_text subject
 
--- the line that tells why: the binding, its roles, and the places, joined by tabs
+-- the line that explains a yes: the binding, its roles, and the places, joined by tabs
 abbrev pub why_text : Binding → Source → ℕ → ℕ → Text
 why_text b source rule subject =
     binding_text b ++ tab ∷ roles_text b source ++ tab ∷ places_text rule subject ++ newline ∷ []

@@ -8,7 +8,7 @@ use std::alloc::AllocError;
 
 /// Adds a field to a line (own): the empty text as `-`, the text `-` as `\x2d`, and else the text
 /// with backslashes doubled and bytes below 32 and byte 127 as `\x` and two lower-case hexadecimal
-/// digits. Where memory is refused a front of the field may have been added.
+/// digits. Where memory is refused a prefix of the field may have been added.
 pub fn put_field(line: &mut Vec<u8>, field: &[u8]) -> Result<(), AllocError>
     ensures { OnOk result (line.new.items ≡ line.old.items ++ field_text field.now) }
 {

@@ -14,8 +14,8 @@ use rbac_terms::Word;
 use std::alloc::AllocError;
 
 /// Adds the line of a finding (own): its code and the word for it, the object, the place counted
-/// from 1, and what else is told, joined by tabs, with the line's end. Where memory is refused a
-/// front of it may have been added.
+/// from 1, and the last field, joined by tabs, with the line's end. Where memory is refused a
+/// prefix of it may have been added.
 pub fn put_finding(
     line: &mut Vec<u8>,
     code: u8,
@@ -68,7 +68,7 @@ fn put_place_if_any(line: &mut Vec<u8>, place: Option<usize>) -> Result<(), Allo
     }
 }
 
-// Adds what else is told, after a tab, and the line's end.
+// Adds the last field, after a tab, and the line's end.
 fn put_rest(line: &mut Vec<u8>, other: &Word) -> Result<(), AllocError>
     ensures { OnOk result (line.new.items ≡ line.old.items ++ tab ∷ field_text other.now ++ newline ∷ []) }
 {

@@ -8,7 +8,7 @@ use rbac_terms::{Binding, Word};
 use std::alloc::AllocError;
 
 /// Adds the line of a holder (own): its key and the binding that lets it, joined by a tab, with the
-/// line's end. Where memory is refused a front of it may have been added.
+/// line's end. Where memory is refused a prefix of it may have been added.
 pub fn put_holder(line: &mut Vec<u8>, key: &Word, binding: &Binding) -> Result<(), AllocError>
     ensures { OnOk result (line.new.items ≡ line.old.items ++ holder_text key.now binding.now) }
 {

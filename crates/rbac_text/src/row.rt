@@ -13,7 +13,7 @@ use rbac_terms::{Binding, Principal, Target, Word};
 use std::alloc::AllocError;
 
 /// Adds the name of a binding to a line as one field (own): `ClusterRoleBinding/NAME` or
-/// `RoleBinding/NAMESPACE/NAME`. Where memory is refused a front of it may have been added.
+/// `RoleBinding/NAMESPACE/NAME`. Where memory is refused a prefix of it may have been added.
 pub fn put_binding(line: &mut Vec<u8>, binding: &Binding) -> Result<(), AllocError>
     ensures { OnOk result (line.new.items ≡ line.old.items ++ binding_text binding.now) }
 {
@@ -38,7 +38,7 @@ fn put_scope(line: &mut Vec<u8>, namespace: Option<&Word>) -> Result<(), AllocEr
 }
 
 /// Adds the line of a row of the matrix (own): the six fields of the request's key and the binding
-/// that grants it, joined by tabs, with the line's end. Where memory is refused a front of it may
+/// that grants it, joined by tabs, with the line's end. Where memory is refused a prefix of it may
 /// have been added.
 pub fn put_row(
     line: &mut Vec<u8>,

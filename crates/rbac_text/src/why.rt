@@ -1,4 +1,4 @@
-//! The line that tells why a request is allowed.
+//! The line that explains why a request is allowed.
 
 ghost use Rattle.std.specs.Prelude.{◌≡◌, ◌++◌, ◌∷◌, [], OnErr, OnOk};
 ghost use Rattle.rbac_model.specs.Sources.{source_of};
@@ -12,8 +12,8 @@ use rbac_model::SourceRole;
 use rbac_terms::{Binding, RoleRef, Word};
 use std::alloc::AllocError;
 
-/// Adds the name of a role of a namespace as one field (own): `Role/NAMESPACE/NAME`. Where memory is
-/// refused a front of it may have been added.
+/// Adds the name of a role of a namespace as one field (own): `Role/NAMESPACE/NAME`. Where memory
+/// is refused a prefix of it may have been added.
 pub fn put_role(line: &mut Vec<u8>, namespace: &Word, name: &Word) -> Result<(), AllocError>
     ensures { OnOk result (line.new.items ≡ line.old.items ++ role_text namespace.now name.now) }
 {
@@ -24,7 +24,7 @@ pub fn put_role(line: &mut Vec<u8>, namespace: &Word, name: &Word) -> Result<(),
 }
 
 // Adds the name of a role of the whole cluster as one field (own): `ClusterRole/NAME`. Where memory
-// is refused a front of it may have been added.
+// is refused a prefix of it may have been added.
 fn put_cluster_role(line: &mut Vec<u8>, name: &Word) -> Result<(), AllocError>
     ensures { OnOk result (line.new.items ≡ line.old.items ++ cluster_role_text name.now) }
 {
@@ -32,8 +32,8 @@ fn put_cluster_role(line: &mut Vec<u8>, name: &Word) -> Result<(), AllocError>
     put_text(line, name.as_bytes())
 }
 
-/// Adds a place that is counted from 0 as one field (own): from 1, in decimal digits. Where memory is
-/// refused nothing is added.
+/// Adds a place that is counted from 0 as one field (own): from 1, in decimal digits. Where memory
+/// is refused nothing is added.
 pub fn put_place(line: &mut Vec<u8>, place: usize) -> Result<(), AllocError>
     ensures added { OnOk result (line.new.items ≡ line.old.items ++ place_text place) }
     ensures kept { OnErr result (line.new.items ≡ line.old.items) }
@@ -44,10 +44,10 @@ pub fn put_place(line: &mut Vec<u8>, place: usize) -> Result<(), AllocError>
     line.extend_from_slice(buffer.format(number).as_bytes())
 }
 
-/// Adds the line that tells why a request is allowed (own): the binding that grants it, the role that
-/// this binding names, the role where the rule is written, and the places of the rule there and of
-/// the subject in the binding, joined by tabs, with the line's end. Where memory is refused a front
-/// of it may have been added.
+/// Adds the line that explains why a request is allowed (own): the binding that grants it, the role
+/// that this binding names, the role where the rule is written, and the places of the rule there
+/// and of the subject in the binding, joined by tabs, with the line's end. Where memory is refused
+/// a prefix of it may have been added.
 pub fn put_why(
     line: &mut Vec<u8>,
     binding: &Binding,

@@ -5,7 +5,7 @@ use Rattle.base64.specs.Engines.{url_safe_no_pad}
 use Rattle.base64.specs.GeneralPurpose.{IsBytes, encode_of}
 use Rattle.rbac_terms.specs.Text.{Text, BeginsWith}
 use Rattle.rbac_terms.specs.Keys.{KeyTexts, texts, key_of}
-use Rattle.rbac_terms.specs.Principals.{Who, key_of as who_key, name_of}
+use Rattle.rbac_terms.specs.Principals.{Who, who_key, name_of}
 use Rattle.rbac_terms.specs.Targets.{What, IsProper}
 use Rattle.rbac_text.specs.Field.{field_text}
 use Rattle.rbac_text.specs.Row.{tab}
@@ -43,10 +43,6 @@ pub record IsKey (k : KeyTexts) : Type 0 where
 -- the token is the unpadded URL-safe base64 of these bytes, each from 0 to 255
 abbrev pub Encodes : Text → Text → Type 0
 Encodes token bytes = IsBytes bytes × (token ≡ encode_of url_safe_no_pad bytes)
-
--- the bytes are the printed key of a request
-abbrev pub IsPrintedAs : Text → KeyTexts → Type 0
-IsPrintedAs bytes k = IsKey k × (bytes ≡ printed_key k)
 
 -- the token is that of this key
 abbrev pub IsTokenOf : Text → KeyTexts → Type 0

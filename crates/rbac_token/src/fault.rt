@@ -6,7 +6,7 @@ use rbac_terms::ModelFault;
 use std::alloc::{AllocError, AllocFailed};
 use thiserror::Error;
 
-/// Why a token stands for no key (own). Its text is the number and name of the refusal; want of
+/// Why a token stands for no key (own). Its text is the number and name of the refusal; out of
 /// memory has no number there.
 #[derive(Debug, Drop, Clone, Copy, PartialEq, Eq, Error)]
 pub enum TokenFault {

@@ -4,7 +4,7 @@ ghost use Rattle.std.specs.Prelude.{◌≡◌, ◌==◌, List, [], ◌∷◌, �
 ghost use Rattle.std.specs.List.{slice_split};
 ghost use Rattle.rbac_terms.specs.Text.{Text};
 ghost use Rattle.rbac_terms.specs.Keys.{KeyTexts, texts as texts_of};
-ghost use Rattle.rbac_terms.specs.Principals.{AsUser, AsMember, key_of as who_key};
+ghost use Rattle.rbac_terms.specs.Principals.{AsUser, AsMember, who_key};
 ghost use Rattle.rbac_terms.specs.Targets.{What, IsProper, group_of, text_of, name_of};
 ghost use Rattle.rbac_text.specs.Field.{field_text};
 ghost use Rattle.rbac_text.specs.Row.{tab};
@@ -90,7 +90,7 @@ fn key_of_texts(alloc: Global, texts: [&Word; 6]) -> Result<Key, TokenFault>
     ensures refused { IfErr result IsReadFault }
 {
     let [principal, namespace, verb, group, text, name] = texts;
-    let principal = principal_of(alloc, principal.as_bytes())?;
+    let principal = principal_of_key(alloc, principal.as_bytes())?;
     let target = target_of(alloc, group, text, name)?;
     Ok(Key::of(alloc, &principal, namespace, verb, &target)?)
 }
@@ -117,7 +117,7 @@ fn fields_of(alloc: Global, bytes: &[u8]) -> Result<Vec<&[u8]>, AllocError>
 }
 
 // The principal of this key, with no groups given.
-fn principal_of(alloc: Global, key: &[u8]) -> Result<Principal, TokenFault>
+fn principal_of_key(alloc: Global, key: &[u8]) -> Result<Principal, TokenFault>
     ensures { MatchResult result (λ who. (who_key who ≡ key.now) × HasName who)
         (RefusesIf (¬ IsWhoKey key.now)) }
 {

@@ -1,5 +1,5 @@
 pub mod Flattened
-pub mod Gathers
+pub mod SetLemmas
 pub mod Once
 pub mod OneMore
 pub mod OneUniverse

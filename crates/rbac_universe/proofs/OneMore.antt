@@ -12,8 +12,9 @@ use Rattle.std.proofs.lemmas.List.Elements.{Contains-append_left, Contains-push,
 use Rattle.std.proofs.lemmas.List.Quantifiers.{all_pairs_push}
 use Rattle.std.proofs.lemmas.List.Sorted.{Contains-permutation, IsPermutation-sym, ranks_by, sorted_far}
 use Rattle.rbac_terms.specs.Text.{Text, text_cmp}
+use Rattle.rbac_terms.proofs.Cases.{by_ordering}
 use Rattle.rbac_model.specs.Lists.{by_name, IsAscendingBy}
-use Rattle.rbac_model.proofs.NamePlaces.{by_ordering, total}
+use Rattle.rbac_model.proofs.NamePlaces.{total}
 use Rattle.rbac_universe.specs.Uniting.{AreUnitedBy, IsOneMore}
 
 pub on_ok_both : {T E : Type 0} {P Q R : Type 0} (o : Result T E) → (P → Q → R) → OnOk o P → OnOk o Q → OnOk o R
@@ -38,16 +39,16 @@ any_push Q xs x = (
 any_same : {X : Type 0} (Q : X → Type 0) (xs ys : List X) → ((x : X) → Contains xs x → Contains ys x) → Any Q xs → Any Q ys
 any_same Q xs ys same w = as_any Q ys w.1 (same w.1 (w.0, w.2, w.3)) w.4
 
--- what a test of an order for `Equal` tells
-pub equal_told : (o : Ordering) (b : Bool) → b ≡ (ordering_index o == 1) → b ≡ true → o ≡ Equal
-equal_told Less b e t = cc
-equal_told Equal b e t = refl
-equal_told Greater b e t = cc
+-- what a test of an order for `Equal` says
+pub equal_tested : (o : Ordering) (b : Bool) → b ≡ (ordering_index o == 1) → b ≡ true → o ≡ Equal
+equal_tested Less b e t = cc
+equal_tested Equal b e t = refl
+equal_tested Greater b e t = cc
 
-pub other_told : (o : Ordering) (b : Bool) → b ≡ (ordering_index o == 1) → b ≡ false → o ≢ Equal
-other_told Less b e t q = cc
-other_told Equal b e t q = cc
-other_told Greater b e t q = cc
+pub other_tested : (o : Ordering) (b : Bool) → b ≡ (ordering_index o == 1) → b ≡ false → o ≢ Equal
+other_tested Less b e t q = cc
+other_tested Equal b e t q = cc
+other_tested Greater b e t q = cc
 
 -- what is so of some element when the one at place k is another
 module _ {X : Type 0} (Q : X → Type 0) (xs : List X) (k : ℕ) (x last : X) (l : k < length xs) (is : last ≡ get_or xs k last) where
@@ -89,11 +90,11 @@ module _ {X : Type 0} (name : X → List Text) (has : X → Text → Type 0) whe
   pushed old item up below = record {
     ordered = all_pairs_push (λ x y. by_name name x y ≡ Less) old item up below;
     names = λ n. any_push (λ x. name x ≡ n) old item;
-    told = λ n t. any_push (λ x. (name x ≡ n) × has x t) old item;
+    texts = λ n t. any_push (λ x. (name x ≡ n) × has x t) old item;
   }
 
-  -- the element at place k takes over what is told of an item of its name
-  module _ (old : List X) (item x last : X) (k : ℕ) (up : IsAscendingBy name old) (l : k < length old) (is : last ≡ get_or old k last) (named : name item ≡ name last) (kept : name x ≡ name last) (told : (t : Text) → has x t ↔ (has last t ⊎ has item t)) where
+  -- the element at place k takes over the texts of an item of its name
+  module _ (old : List X) (item x last : X) (k : ℕ) (up : IsAscendingBy name old) (l : k < length old) (is : last ≡ get_or old k last) (named : name item ≡ name last) (kept : name x ≡ name last) (texts : (t : Text) → has x t ↔ (has last t ⊎ has item t)) where
     same_names : (i : ℕ) (d : X) → name (get_or (set old k x) i d) ≡ name (get_or old i d)
     same_names i d = elim (cases_eq i k) [
       | inl e ↦ rw e (ap name (get_or-set_same old k x d l) ∙ kept ∙ ap name (is ∙ get_or_default old k last d l))
@@ -112,9 +113,9 @@ module _ {X : Type 0} (name : X → List Text) (has : X → Text → Type 0) whe
           | inr e ↦ set_has (λ y. name y ≡ n) old k x last l is (kept ∙ sym named ∙ e)
         ],
       );
-      told = λ n t. (
+      texts = λ n t. (
         λ w. elim (set_from (λ y. (name y ≡ n) × has y t) old k x last l is w) [
-          | inl q ↦ elim ((told t).0 q.1) [
+          | inl q ↦ elim ((texts t).0 q.1) [
             | inl h ↦ inl (set_was (λ y. (name y ≡ n) × has y t) old k x last l is (sym kept ∙ q.0, h))
             | inr h ↦ inr (named ∙ sym kept ∙ q.0, h)
           ]
@@ -123,9 +124,9 @@ module _ {X : Type 0} (name : X → List Text) (has : X → Text → Type 0) whe
         λ s. elim s [
           | inl o ↦ elim (set_kept (λ y. (name y ≡ n) × has y t) old k x last l is o) [
             | inl w ↦ w
-            | inr q ↦ set_has (λ y. (name y ≡ n) × has y t) old k x last l is (kept ∙ q.0, (told t).1 (inl q.1))
+            | inr q ↦ set_has (λ y. (name y ≡ n) × has y t) old k x last l is (kept ∙ q.0, (texts t).1 (inl q.1))
           ]
-          | inr q ↦ set_has (λ y. (name y ≡ n) × has y t) old k x last l is (kept ∙ sym named ∙ q.0, (told t).1 (inr q.1))
+          | inr q ↦ set_has (λ y. (name y ≡ n) × has y t) old k x last l is (kept ∙ sym named ∙ q.0, (texts t).1 (inr q.1))
         ],
       );
     }
@@ -138,18 +139,18 @@ module _ {X : Type 0} (name : X → List Text) (has : X → Text → Type 0) whe
       λ w. g.1 (elim ((one.names n).0 w) [ inl o ↦ inl ((are.names n).0 o) | inr e ↦ inr e ]),
       λ w. (one.names n).1 (elim (g.0 w) [ inl o ↦ inl ((are.names n).1 o) | inr e ↦ inr e ]),
     );
-    told = λ n t. let g = any_push (λ x. (name x ≡ n) × has x t) listed item in (
-      λ w. g.1 (elim ((one.told n t).0 w) [ inl o ↦ inl ((are.told n t).0 o) | inr e ↦ inr e ]),
-      λ w. (one.told n t).1 (elim (g.0 w) [ inl o ↦ inl ((are.told n t).1 o) | inr e ↦ inr e ]),
+    texts = λ n t. let g = any_push (λ x. (name x ≡ n) × has x t) listed item in (
+      λ w. g.1 (elim ((one.texts n t).0 w) [ inl o ↦ inl ((are.texts n t).0 o) | inr e ↦ inr e ]),
+      λ w. (one.texts n t).1 (elim (g.0 w) [ inl o ↦ inl ((are.texts n t).1 o) | inr e ↦ inr e ]),
     );
   }
 
   -- the next of a sorted list is not below those of the names before it
   pub not_below : (sorted yielded united : List X) (item : X) → IsSortedBy (λ x y. is_lt (by_name name x y)) sorted → yielded ≡ take (length yielded) sorted → length yielded < length sorted → item ≡ get_or sorted (length yielded) item → AreUnitedBy name has yielded united → All (λ y. by_name name item y ≢ Less) united
-  not_below sorted yielded united item up front l is are k d m less =
+  not_below sorted yielded united item up prefix l is are k d m less =
       let y : X = get_or united k d in
       let z = (are.names (name y)).0 (k, y, m, get_or_default united k y d m, refl) in
-      let at : get_or sorted z.0 z.1 ≡ z.1 = sym (get_or-take (length yielded) sorted z.0 z.1 z.2) ∙ ap (λ (s : List X). get_or s z.0 z.1) (sym front) ∙ z.3 in
+      let at : get_or sorted z.0 z.1 ≡ z.1 = sym (get_or-take (length yielded) sorted z.0 z.1 z.2) ∙ ap (λ (s : List X). get_or s z.0 z.1) (sym prefix) ∙ z.3 in
       let at_item : get_or sorted (length yielded) z.1 ≡ item = get_or_default sorted (length yielded) z.1 item l ∙ sym is in
       let far = sorted_far (λ a b. is_lt (by_name name a b)) ranks sorted up z.0 (length yielded) z.1 (omega (arith, z.2)) l in
       let not_less : is_lt (by_name name item z.1) ≡ false = rw (at, at_item) at far in
@@ -164,5 +165,5 @@ module _ {X : Type 0} (name : X → List Text) (has : X → Text → Type 0) whe
       record {
         ordered = are.ordered;
         names = λ n. (λ w. any_same (λ x. name x ≡ n) moved listed back ((are.names n).0 w), λ w. (are.names n).1 (any_same (λ x. name x ≡ n) listed moved there w));
-        told = λ n t. (λ w. any_same (λ x. (name x ≡ n) × has x t) moved listed back ((are.told n t).0 w), λ w. (are.told n t).1 (any_same (λ x. (name x ≡ n) × has x t) listed moved there w));
+        texts = λ n t. (λ w. any_same (λ x. (name x ≡ n) × has x t) moved listed back ((are.texts n t).0 w), λ w. (are.texts n t).1 (any_same (λ x. (name x ≡ n) × has x t) listed moved there w));
       }

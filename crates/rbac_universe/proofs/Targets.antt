@@ -9,6 +9,7 @@ use Rattle.std.proofs.lemmas.List.Elements.{Contains-get_or, Contains-append_lef
 use Rattle.std.proofs.lemmas.Map.Keys.{Less-from_sorted}
 use Rattle.rbac_terms.specs.Text.{Text, text_cmp, BeginsWith}
 use Rattle.rbac_terms.specs.Targets.{What, Resource, Url, IsProper, group_of, text_of}
+use Rattle.rbac_terms.proofs.Cases.{by_bool}
 use Rattle.rbac_model.specs.Lists.{by_name, IsAscendingBy, IsOnceEach}
 use Rattle.rbac_model.specs.Universes.{Listed, target_texts}
 use Rattle.rbac_model.proofs.OneList.{one_of_name}
@@ -30,10 +31,6 @@ path_begins (b ∷ rest) e = (rest, ap (λ c. c ∷ rest) (is_slash b rest e))
 pub begins_path : (t : Text) → BeginsWith t (codes "/") → is_path t ≡ true
 begins_path t w = rw w.1 refl
 
-by_bool : {G : Type 0} (b : Bool) → (b ≡ true → G) → (b ≡ false → G) → G
-by_bool true f g = f refl
-by_bool false f g = g refl
-
 not_path : (t : Text) → (BeginsWith t (codes "/") → ⊥) → is_path t ≡ false
 not_path t none = by_bool (is_path t) (λ e. absurd (none (path_begins t e))) (λ e. e)
 
@@ -43,12 +40,12 @@ same_bool true false f g = sym (g.1 (f.0 refl))
 same_bool false true f g = f.1 (g.0 refl)
 same_bool false false f g = refl
 
-then_front : (o p q : Ordering) → ordering_then o (ordering_then p Equal) ≡ Less → ordering_then o (ordering_then p q) ≡ Less
-then_front Less p q e = refl
-then_front Equal Less q e = refl
-then_front Equal Equal q e = cc
-then_front Equal Greater q e = cc
-then_front Greater p q e = cc
+then_prefix : (o p q : Ordering) → ordering_then o (ordering_then p Equal) ≡ Less → ordering_then o (ordering_then p q) ≡ Less
+then_prefix Less p q e = refl
+then_prefix Equal Less q e = refl
+then_prefix Equal Equal q e = cc
+then_prefix Equal Greater q e = cc
+then_prefix Greater p q e = cc
 
 -- the names alone decide, where group and text are the same
 last_less : (g x n m : Text) → text_cmp n m ≡ Less → slice_cmp text_cmp (g ∷ x ∷ n ∷ []) (g ∷ x ∷ m ∷ []) ≡ Less
@@ -97,9 +94,9 @@ module _ (lists : UniverseLists) (proper : AreProper lists) where
 
     marked : (s : ListedResource) → Contains stems s → IsTrue s.namespaced ↔ HasUnder stem_name has_mark (stems_of lists) (stem_name s) []
     marked s w = (
-      λ m. (are.told (stem_name s) []).0 (as_any (λ x. (stem_name x ≡ stem_name s) × has_mark x []) stems s w (refl, m)),
+      λ m. (are.texts (stem_name s) []).0 (as_any (λ x. (stem_name x ≡ stem_name s) × has_mark x []) stems s w (refl, m)),
       λ h.
-          let a = (are.told (stem_name s) []).1 h in
+          let a = (are.texts (stem_name s) []).1 h in
           let same : a.1 ≡ s = one_of_name stem_name stems a.1 s are.ordered (a.0, a.2, a.3) w a.4.0 in
           subst (λ x. IsTrue x.namespaced) same a.4.1,
     )
@@ -228,7 +225,7 @@ module _ (lists : UniverseLists) (proper : AreProper lists) where
         let y = contains_map {Y = Listed} (λ t. (t, r.namespaced)) (targets_of names r) b cb in
         let xt = texts_of s w x.0 x.1 in
         let yt = texts_of r v y.0 y.1 in
-        rw (← x.2, ← y.2, xt.0, xt.1, yt.0, yt.1) (then_front (text_cmp s.group r.group) (text_cmp s.text r.text) _ less)
+        rw (← x.2, ← y.2, xt.0, xt.1, yt.0, yt.1) (then_prefix (text_cmp s.group r.group) (text_cmp s.text r.text) _ less)
 
     pub ordered : IsAscendingBy target_texts (flat_map (listed_of names) stems)
     ordered = pairs_flat (λ u v. by_name target_texts u v ≡ Less) (λ s r. by_name stem_name s r ≡ Less) (listed_of names) stems (λ s w. one_stem s) two_stems are.ordered

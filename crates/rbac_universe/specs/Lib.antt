@@ -1,4 +1,4 @@
-pub mod Gathering
+pub mod UniverseSets
 pub mod Made
 pub mod Sets
 pub mod Stems

@@ -4,7 +4,7 @@ use Rattle.rbac_terms.specs.Text.{text_cmp}
 use Rattle.rbac_terms.specs.Targets.{What, Resource, Url, IsProper}
 use Rattle.rbac_model.specs.Lists.{IsAscendingBy, IsOnceEach}
 use Rattle.rbac_model.specs.Unions.{AreUnited}
-use Rattle.rbac_model.specs.Universes.{UniverseView, Listed, target_texts}
+use Rattle.rbac_model.specs.Universes.{UniverseView, Listed, target_texts, most_targets, most_words}
 use Rattle.rbac_universe.specs.declared.lists.UniverseLists.{UniverseLists}
 use Rattle.rbac_universe.specs.declared.fault.UniverseFault.{UniverseFault}
 use Rattle.rbac_universe.specs.declared.fault.UniverseFault.TheVariants.{BadTarget, TooLarge, NoMemory}
@@ -34,10 +34,10 @@ pub record AreSets (lists : UniverseLists) (u : UniverseView) : Type 0 where
 
 -- the limits of a universe, counted without repeats (own)
 pub record IsWithinLimits (u : UniverseView) : Type 0 where
-  pub principals : length u.principals ≤ 65535
-  pub namespaces : length u.namespaces ≤ 65535
-  pub verbs : length u.verbs ≤ 65535
-  pub targets : length u.targets ≤ 1000000
+  pub principals : length u.principals ≤ most_words
+  pub namespaces : length u.namespaces ≤ most_words
+  pub verbs : length u.verbs ≤ most_words
+  pub targets : length u.targets ≤ most_targets
 
 -- the universe of these lists
 pub record IsUniverseOf (lists : UniverseLists) (u : UniverseView) : Type 0 where
@@ -46,7 +46,7 @@ pub record IsUniverseOf (lists : UniverseLists) (u : UniverseView) : Type 0 wher
   pub few : IsWithinLimits u
 
 -- why there is none: a bad target first, then sets that are too large
-abbrev pub HasFault : UniverseLists → UniverseFault → Type 0
-HasFault lists BadTarget = ¬ AreProper lists
-HasFault lists TooLarge = AreProper lists × ((u : UniverseView) × AreSets lists u × (¬ IsWithinLimits u))
-HasFault lists NoMemory = Unit {0}
+abbrev pub HasUniverseFault : UniverseLists → UniverseFault → Type 0
+HasUniverseFault lists BadTarget = ¬ AreProper lists
+HasUniverseFault lists TooLarge = AreProper lists × ((u : UniverseView) × AreSets lists u × (¬ IsWithinLimits u))
+HasUniverseFault lists NoMemory = Unit {0}

@@ -1,4 +1,4 @@
--- One of each name, with whatever is told of any of that name.
+-- One of each name, with the texts of all of that name.
 use Rattle.std.specs.Prelude.{◌≡◌, ◌↔◌, ◌⊎◌, List, Any}
 use Rattle.rbac_terms.specs.Text.{Text}
 use Rattle.rbac_model.specs.Lists.{IsAscendingBy}
@@ -11,10 +11,10 @@ HasUnder name has xs n t = Any (λ x. (name x ≡ n) × has x t) xs
 pub record AreUnitedBy {X : Type 0} (name : X → List Text) (has : X → Text → Type 0) (listed united : List X) : Type 0 where
   pub ordered : IsAscendingBy name united
   pub names : (n : List Text) → Any (λ x. name x ≡ n) united ↔ Any (λ x. name x ≡ n) listed
-  pub told : (n : List Text) (t : Text) → HasUnder name has united n t ↔ HasUnder name has listed n t
+  pub texts : (n : List Text) (t : Text) → HasUnder name has united n t ↔ HasUnder name has listed n t
 
 -- the same after one element more
 pub record IsOneMore {X : Type 0} (name : X → List Text) (has : X → Text → Type 0) (old : List X) (item : X) (new : List X) : Type 0 where
   pub ordered : IsAscendingBy name new
   pub names : (n : List Text) → Any (λ x. name x ≡ n) new ↔ (Any (λ x. name x ≡ n) old ⊎ (name item ≡ n))
-  pub told : (n : List Text) (t : Text) → HasUnder name has new n t ↔ (HasUnder name has old n t ⊎ ((name item ≡ n) × has item t))
+  pub texts : (n : List Text) (t : Text) → HasUnder name has new n t ↔ (HasUnder name has old n t ⊎ ((name item ≡ n) × has item t))

@@ -5,12 +5,12 @@ ghost use Rattle.std.specs.Prelude.{◌≡◌};
 use std::alloc::AllocError;
 use thiserror::Error;
 
-/// Why lists don't make a universe (own). Its text is the number and name of the refusal; want of
+/// Why lists don't make a universe (own). Its text is the number and name of the refusal; out of
 /// memory has no number there.
 #[derive(Debug, Drop, Clone, Copy, PartialEq, Eq, Error)]
 pub enum UniverseFault {
     /// P3: a listed resource whose text is empty or begins with a slash, or a listed URL that
-    /// doesn't begin with one. It is told before P4, and also where there are no names.
+    /// doesn't begin with one. It stands before P4, and also where there are no names.
     #[error("P3 bad target")]
     BadTarget,
     /// P4: over 65,535 principals, namespaces or verbs, or over 1,000,000 targets, without repeats.

@@ -1,22 +1,22 @@
-//! Laws of universes, each told by the contract of a function that does nothing.
+//! Laws of universes, each stated by the contract of a function that does nothing.
 
 ghost use Rattle.std.specs.Prelude.{◌≡◌, ◌≢◌, map};
-ghost use Rattle.rbac_terms.specs.Principals.{key_of};
+ghost use Rattle.rbac_terms.specs.Principals.{who_key};
 ghost use Rattle.rbac_model.specs.Universes.{UniverseView};
 ghost use Rattle.rbac_universe.specs.declared.lists.UniverseLists.{UniverseLists};
 ghost use Rattle.rbac_universe.specs.declared.fault.UniverseFault.{UniverseFault};
 ghost use Rattle.rbac_universe.specs.declared.fault.UniverseFault.TheVariants.{NoMemory};
-ghost use Rattle.rbac_universe.specs.Sets.{AreSets, IsUniverseOf, HasFault};
+ghost use Rattle.rbac_universe.specs.Sets.{AreSets, IsUniverseOf, HasUniverseFault};
 
 /// The sets of lists are one, but for the order in which a principal's groups are given (own).
 pub fn sets_are_one()
     ensures { (lists : UniverseLists) (u others : UniverseView) → AreSets lists u → AreSets lists others
-        → (map key_of u.principals ≡ map key_of others.principals) × (u.namespaces ≡ others.namespaces)
+        → (map who_key u.principals ≡ map who_key others.principals) × (u.namespaces ≡ others.namespaces)
         × (u.verbs ≡ others.verbs) × (u.targets ≡ others.targets) }
 {}
 
 /// Lists that make a universe have no fault, so that they are refused or not, whoever builds (own).
 pub fn universes_have_no_fault()
     ensures { (lists : UniverseLists) (u : UniverseView) (fault : UniverseFault) → IsUniverseOf lists u
-        → fault ≢ NoMemory → ¬ HasFault lists fault }
+        → fault ≢ NoMemory → ¬ HasUniverseFault lists fault }
 {}

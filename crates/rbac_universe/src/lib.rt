@@ -2,12 +2,12 @@
 #![tactic(auto)]
 
 mod fault;
-mod gathering;
 mod laws;
 mod lists;
 mod principals;
+mod sets;
 mod stems;
-mod uniting;
+mod unions;
 mod universe;
 
 pub use fault::UniverseFault;

@@ -1,7 +1,5 @@
 //! The lists that a universe is made of, in any order and with repeats.
 
-ghost use Rattle.std.specs.Prelude.{◌≡◌, IfOk};
-
 use rbac_terms::{Items, Principal, Word, Words};
 
 /// What a universe is made of: who asks, where, to do what, for which resources by which object

@@ -1,6 +1,6 @@
 //! Principals once for each key, with all groups that are given.
 
-use crate::uniting::Unites;
+use crate::unions::Unites;
 use rbac_terms::Principal;
 use std::alloc::AllocError;
 use std::cmp::Ordering;

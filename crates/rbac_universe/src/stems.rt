@@ -7,7 +7,7 @@ ghost use Rattle.rbac_terms.specs.Targets.{Resource, Url, IsProper};
 ghost use Rattle.rbac_universe.specs.Stems.{is_path, url_stem, stems_of, stem_name, targets_of, flags_of, IsStem};
 
 use crate::lists::{ListedResource, UniverseLists};
-use crate::uniting::Unites;
+use crate::unions::Unites;
 use rbac_terms::{Target, Word};
 use std::alloc::{AllocError, Global};
 use std::cmp::Ordering;

@@ -2,13 +2,13 @@
 
 ghost use Rattle.std.specs.Prelude.{◌≡◌, ◌<◌, All, IfOk, IfErr, Some, length, map, slice_get};
 ghost use Rattle.rbac_model.specs.Universes.{IsUniverse};
-ghost use Rattle.rbac_universe.specs.Gathering.{universe_of};
-ghost use Rattle.rbac_universe.specs.Sets.{IsUniverseOf, AreProper, HasFault, IsWithinLimits};
+ghost use Rattle.rbac_universe.specs.UniverseSets.{universe_of};
+ghost use Rattle.rbac_universe.specs.Sets.{IsUniverseOf, AreProper, HasUniverseFault, IsWithinLimits};
 ghost use Rattle.rbac_universe.specs.Stems.{IsStem};
 
 use crate::fault::UniverseFault;
-use crate::gathering::{Gathered, are_proper};
 use crate::lists::UniverseLists;
+use crate::sets::{UniverseSets, are_proper};
 use crate::stems::{all_flags, all_targets};
 use rbac_terms::{Principal, Target, Word};
 use std::alloc::{AllocError, Global};
@@ -44,41 +44,41 @@ impl Universe {
     /// groups that are given under it; each resource with each name, and each URL. A resource is
     /// namespaced where one of its entries is, and a URL isn't.
     ///
-    /// A bad resource or URL is told first, whatever the names, and then sets beyond the limits:
+    /// A bad resource or URL is refused first, whatever the names, and then sets beyond the limits:
     /// 65,535 principals, namespaces and verbs, 1,000,000 targets (own). Targets are counted before
-    /// any of them is made. Telling a bad resource or URL takes no memory.
+    /// any of them is made. Refusing a bad resource or URL takes no memory.
     pub fn build(alloc: Global, lists: &UniverseLists) -> Result<Self, UniverseFault>
         ensures ok { IfOk result (IsUniverseOf lists.now) }
-        ensures fault { IfErr result (HasFault lists.now) }
+        ensures fault { IfErr result (HasUniverseFault lists.now) }
         ensures bad { ¬ AreProper lists.now → result ≡ Err UniverseFault.BadTarget }
     {
         if !are_proper(lists) {
             return Err(UniverseFault::BadTarget);
         }
-        let gathered = Gathered::of(alloc, lists)?;
-        if !gathered.is_within_limits() {
+        let sets = UniverseSets::of(alloc, lists)?;
+        if !sets.is_within_limits() {
             return Err(UniverseFault::TooLarge);
         }
-        Ok(Universe::of(alloc, gathered)?)
+        Ok(Universe::of(alloc, sets)?)
     }
 
     // The universe that these sets make.
-    fn of(alloc: Global, gathered: Gathered) -> Result<Self, AllocError>
-        requires stems { All IsStem gathered.stems.items }
-        requires made { IsMade (universe_of gathered) }
-        ensures { IfOk result (λ u. u ≡ universe_of gathered) }
+    fn of(alloc: Global, sets: UniverseSets) -> Result<Self, AllocError>
+        requires stems { All IsStem sets.stems.items }
+        requires made { IsMade (universe_of sets) }
+        ensures { IfOk result (λ u. u ≡ universe_of sets) }
     {
-        let stems = gathered.stems.as_slice();
-        let names = gathered.names.as_slice();
+        let stems = sets.stems.as_slice();
+        let names = sets.names.as_slice();
         let targets = all_targets(alloc, stems, names)?;
         let namespaced = all_flags(alloc, stems, names)?;
-        let Gathered {
+        let UniverseSets {
             principals,
             namespaces,
             verbs,
             stems: _,
             names: _,
-        } = gathered;
+        } = sets;
         Ok(Universe {
             principals,
             namespaces,

@@ -1,8 +1,8 @@
 //! `rbacaudit`: answers questions about exported Kubernetes roles.
 //!
 //! Reads the command line, then each FILE in order or standard input, runs the command to standard
-//! output, and tells a fault on standard error. The status is 0, or 1 for `no` and for findings, or
-//! 2 for a fault.
+//! output, and reports a fault on standard error. The status is 0, or 1 for `no` and for findings,
+//! or 2 for a fault.
 #![tactic(auto)]
 
 use rbac_cli::{
@@ -17,7 +17,7 @@ use std::{env, fmt, io, str};
 // The most bytes of a word of the command line (Linux, MAX_ARG_STRLEN).
 const MOST_WORD: usize = 131_072;
 
-// Why no answer is told.
+// Why there is no answer.
 #[derive(Drop)]
 enum Fault {
     // The words of the command line couldn't be had.
@@ -59,7 +59,7 @@ fn main(rt: HostRuntime) -> ExitCode {
             }
         }
         Err(fault) => {
-            // A fault that can't be told has its status all the same.
+            // A fault that can't be reported has its status all the same.
             let _ = eprintln!(&rt; "rbacaudit: {fault}");
             ExitCode::from(2)
         }

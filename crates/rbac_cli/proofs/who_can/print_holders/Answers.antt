@@ -1,7 +1,7 @@
 use Rattle.std.proofs.Common.{refl}
 use Rattle.rbac_question.specs.declared.command.Action.TheVariants.{WhoCan}
 use Rattle.rbac_cli.specs.Out.{holders_text}
-use Rattle.rbac_cli.specs.declared.ending.Status.TheVariants.{Zero}
+use Rattle.rbac_cli.specs.declared.outcome.Status.TheVariants.{Zero}
 use Rattle.rbac_cli.proofs.Stops.{stops_within}
 use Rattle.rbac_cli.proofs.who_can.print_holders.Goals as goal
 

@@ -10,7 +10,7 @@ grant-grant-requires c = let by = c.in-Some-first_allowing.ensures.0.0 in slice_
 pub returns-clause-why : goal.returns-clause-why
 returns-clause-why c =
     one_first c.args.policy.now c.args.principal.now c.args.verb.now c.args.target.now c.args.place c.in-Some-first_allowing.no c.in-Some.subject_place c.binding_at-binding.result.now (grant_of c.grant-grant.result) _
-    c.binding_at-binding.ensures.binding c.in-Some-first_allowing.ensures c.grant-grant.ensures c.in-Some.ensures refl refl refl refl
+    c.binding_at-binding.ensures.binding c.in-Some-first_allowing.ensures c.grant-grant.ensures.grant c.in-Some.ensures refl refl refl refl
 
 pub returns-in_default-first_allowing-clause-why : goal.returns-in_default-first_allowing-clause-why
 returns-in_default-first_allowing-clause-why c =

@@ -16,13 +16,13 @@ returns-then-rule_allows c =
     let of = of_some_binding c.args.policy.now c.grants_of-from.ensures.policy c.loop-no.no (omega (arith, c.grants_of-from.ensures.within, c.loop-no-test.true)) in
     let here : of.0 ≡ c.args.place = (c.grants_of-from.ensures.between c.loop-no.no of.0 of.1).0 (c.loop-no.auto.no, c.loop-no-test.true) in
     let P : ℕ → Type 0 = IsOfBinding c.args.policy.now c.loop-no.no in
-    ((subst P here of.1, (grant_of c.grant.result, c.grant.ensures, c.rule_allows.ensures.0 c.if-rule_allows.true)), c.loop-no.invariant)
+    ((subst P here of.1, (grant_of c.grant.result, c.grant.ensures.grant, c.rule_allows.ensures.0 c.if-rule_allows.true)), c.loop-no.invariant)
 
 pub loop-no-preserved : goal.loop-no-preserved
 loop-no-preserved c = λ n lt by.
     elim (cases_eq n c.loop-no.no) [
       | inl e ↦
-          let at : slice_get c.args.policy.now.grants n ≡ Some (grant_of c.grant.result) = rw e c.grant.ensures in
+          let at : slice_get c.args.policy.now.grants n ≡ Some (grant_of c.grant.result) = rw e c.grant.ensures.grant in
           let same : by.1.0 ≡ grant_of c.grant.result = same_Some by.1.0 (grant_of c.grant.result) (sym by.1.1 ∙ at) in
           let P : GrantView → Type 0 = λ g. RuleAllows g.rule.rule c.args.verb.now c.args.target.now in
           both_ways _ c.if-rule_allows.false (c.rule_allows.ensures.1 (subst P same by.1.2))

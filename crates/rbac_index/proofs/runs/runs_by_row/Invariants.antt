@@ -4,7 +4,7 @@ use Rattle.rbac_index.specs.Indexed.{AreRuns}
 use Rattle.rbac_index.proofs.RunLemmas.{BeginsRun}
 use Rattle.rbac_index.proofs.runs.runs_by_row.Given as goal
 
--- the runs before the number are told, and the next begins there
+-- the runs before the number are listed, and the next begins there
 abbrev pub invariant-loop-no : goal.invariant-loop-no
 invariant-loop-no l = record {
   runs : AreRuns l.policy (written_rules l.policy.held) l.no l.runs.items;

@@ -1,9 +1,9 @@
 use Rattle.std.proofs.Common.{◌≡◌, List, subst}
 use Rattle.rbac_terms.specs.Text.{Text}
-use Rattle.rbac_lint.specs.declared.fronts.Front.{Front}
+use Rattle.rbac_lint.specs.declared.prefixes.Prefix.{Prefix}
 use Rattle.rbac_lint.specs.Listing.{Lists, IsStem}
-use Rattle.rbac_lint.specs.Candidates.{AddsUnder, AddsFronts}
-use Rattle.rbac_lint.proofs.Looked.{fronts_found}
+use Rattle.rbac_lint.specs.Candidates.{AddsUnder, AddsPrefixes}
+use Rattle.rbac_lint.proofs.Looked.{prefixes_found}
 use Rattle.rbac_lint.proofs.candidates.starting.Goals as goal
 
 pub returns : goal.returns
@@ -13,7 +13,7 @@ returns c =
     let none = c.new-candidates.result in
     let own = c.add_under.new.self in
     let stem = c.stem_of-stem.result.now in
-    λ rules is. fronts_found rules l w stem none own c.add_fronts.new.candidates is c.new-candidates.ensures
+    λ rules is. prefixes_found rules l w stem none own c.add_prefixes.new.candidates is c.new-candidates.ensures
     (subst (λ (t : Text). IsStem t stem) c.as_bytes.ensures c.stem_of-stem.ensures)
     (subst (λ (m : Lists). AddsUnder m (λ u. u ≡ w) none own) c.lists.ensures c.in_ok-add_under.ensures)
-    (subst (λ (fs : List Front). AddsFronts fs stem own c.add_fronts.new.candidates) c.as_slice.ensures.value c.in_ok-add_fronts.ensures)
+    (subst (λ (fs : List Prefix). AddsPrefixes fs stem own c.add_prefixes.new.candidates) c.as_slice.ensures.value c.in_ok-add_prefixes.ensures)

@@ -1,11 +1,12 @@
 use Rattle.std.proofs.Common.{◌≡◌}
 use Rattle.std.specs.Prelude.{Some}
 use Rattle.std.proofs.lemmas.Bool.{both_ways}
+use Rattle.rbac_terms.proofs.Cases.{on_ok}
 use Rattle.rbac_model.specs.Sources.{source_of}
 use Rattle.rbac_lint.specs.declared.finding.Finding.{Finding}
 use Rattle.rbac_lint.specs.Lines.{Line, shown}
 use Rattle.rbac_lint.specs.Findings.{Escalates, IsEscalationBy, role_line}
-use Rattle.rbac_lint.proofs.Exact.{on_ok, Adds-nowhere, Adds-if}
+use Rattle.rbac_lint.proofs.Exact.{Adds-nowhere, Adds-if}
 use Rattle.rbac_lint.proofs.escalation.find_by_verb.Goals as goal
 
 pub returns-then-not-escalates : goal.returns-then-not-escalates
@@ -23,6 +24,6 @@ returns c =
     let made : Finding = record { code = 4; object = c.in_ok-object.object; place = Some c.args.place; other = c.in_ok-other.other } in
     let line : Line = role_line 4 (source_of c.args.role) (Some c.args.place) c.args.verb.now in
     let same : made ≡ shown line = cc (object, other, c.as_bytes.ensures) in
-    on_ok c.push.result _ _
+    on_ok c.push.result
     (λ h. Adds-if (Escalates c.args.rule.now c.args.verb.now) line c.args.found.now c.push.new.self made (c.escalates.ensures.0 c.if-not-escalates.false) same h)
     c.push.ensures

@@ -1,11 +1,12 @@
 use Rattle.std.proofs.Common.{List, subst}
 use Rattle.rbac_terms.specs.declared.matching.Rule.{Rule}
+use Rattle.rbac_terms.proofs.Cases.{on_ok}
 use Rattle.rbac_model.specs.Sources.{source_of}
 use Rattle.rbac_lint.specs.Lines.{Adds, OfEach}
 use Rattle.rbac_model.specs.Places.{rules_of}
 use Rattle.rbac_lint.specs.Roles.{IsPlainRole}
 use Rattle.rbac_lint.specs.Findings.{IsEscalationAt, IsEscalationOf}
-use Rattle.rbac_lint.proofs.Exact.{on_ok, Adds-where, Adds-nowhere}
+use Rattle.rbac_lint.proofs.Exact.{Adds-where, Adds-nowhere}
 use Rattle.rbac_lint.proofs.escalation.find_in_role.Goals as goal
 
 pub returns-in-Some : goal.returns-in-Some
@@ -15,7 +16,7 @@ returns-in-Some c =
     let old = c.args.found.now in
     let new = c.find_in_rules.new.found in
     let P : List Rule → Type 0 = λ rs. Adds (OfEach (IsEscalationAt s) rs) old new in
-    on_ok c.find_in_rules.result _ _
+    on_ok c.find_in_rules.result
     (λ h. Adds-where (IsPlainRole s) (OfEach (IsEscalationAt s) (rules_of s)) old new c.in-Some.ensures.0 (subst P c.in-Some.ensures.1 h))
     c.find_in_rules.ensures
 

@@ -2,7 +2,7 @@ use Rattle.std.proofs.Common.{List, subst, sym, ap, ◌∙◌}
 use Rattle.rbac_model.specs.Policies.{Held, PolicyView}
 use Rattle.rbac_model.specs.Lists.{IsAscendingBy}
 use Rattle.rbac_manifest.specs.Replaced.{replaced_name}
-use Rattle.rbac_manifest.specs.declared.replaced.Replaced.{Replaced}
+use Rattle.rbac_manifest.specs.declared.replacement.Replaced.{Replaced}
 use Rattle.rbac_lint.specs.Lines.{Adds}
 use Rattle.rbac_lint.specs.Findings.{IsDangling, IsUnused, IsRedundant, IsEscalation, IsAccountWithout, IsStale}
 use Rattle.rbac_lint.specs.Replaced.{IsReplaced}

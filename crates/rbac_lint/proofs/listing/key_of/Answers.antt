@@ -4,6 +4,6 @@ use Rattle.rbac_lint.specs.declared.listing.Field.{Field}
 use Rattle.rbac_lint.specs.Listing.{IsKey}
 use Rattle.rbac_lint.proofs.listing.key_of.Goals as goal
 
-pub returns-in-Fronts : goal.returns-in-Fronts
-returns-in-Fronts c =
-    subst (λ (f : Field). MatchOption c.front_of.result ((key : Text) → IsKey f c.args.word.now key → ⊥) (λ key. IsKey f c.args.word.now key.now)) (sym c.in-Fronts.is) c.front_of.ensures
+pub returns-in-Prefixes : goal.returns-in-Prefixes
+returns-in-Prefixes c =
+    subst (λ (f : Field). MatchOption c.prefix_of.result ((key : Text) → IsKey f c.args.word.now key → ⊥) (λ key. IsKey f c.args.word.now key.now)) (sym c.in-Prefixes.is) c.prefix_of.ensures

@@ -1,12 +1,12 @@
 use Rattle.std.proofs.Common.{◌≡◌, ◌++◌, map, drop}
 use Rattle.serde_json.specs.View.{view}
 use Rattle.rbac_manifest.specs.Lists.{all_at, bad_place, given_by}
-use Rattle.rbac_manifest.proofs.Texts.{with_front}
+use Rattle.rbac_manifest.proofs.Texts.{with_prefix}
 use Rattle.rbac_manifest.proofs.listed.all_read.Given as goal
 
 abbrev pub invariant-loop-place : goal.invariant-loop-place
 invariant-loop-place g l =
-    (with_front l.items.items (all_at g.at (map view (drop l.place-counter l.values))) ≡ all_at g.at (map view l.values))
+    (with_prefix l.items.items (all_at g.at (map view (drop l.place-counter l.values))) ≡ all_at g.at (map view l.values))
     × (bad_place g.at l.place-counter (map view (drop l.place-counter l.values)) ≡ bad_place g.at 0 (map view l.values))
     × (l.items.items ++ given_by g.at (map view (drop l.place-counter l.values)) ≡ given_by g.at (map view l.values))
     × goal.F-IsAlwaysCallable g l.read

@@ -5,7 +5,7 @@ use Rattle.rbac_matrix.proofs.seats.advance.Given as goal
 
 abbrev pub invariant-loop-no : goal.invariant-loop-no
 invariant-loop-no l = record {
-  advanced : AreAdvanced l.index (line_of l.line) l.reaches l.place l.walk l.initial.seats l.seats l.initial.meter l.meter;
+  advanced : AreAdvanced l.index (line_of l.line) l.reaches l.place l.end l.walk l.initial.seats l.seats l.initial.meter l.meter;
   within : IsWithin l.index (line_of l.line) l.runs l.walk;
 }
 

@@ -3,7 +3,7 @@ use Rattle.std.proofs.lemmas.Fn.{answers_by}
 use Rattle.std.proofs.lemmas.Cmp.{nat_list_cmp_total}
 use Rattle.std.proofs.lemmas.Option.{same_Some}
 use Rattle.rbac_terms.specs.Text.{text_cmp}
-use Rattle.rbac_terms.specs.Principals.{key_of as who_key}
+use Rattle.rbac_terms.specs.Principals.{who_key}
 use Rattle.rbac_matrix.proofs.SearchLemmas.{by_text, place_from}
 use Rattle.rbac_matrix.proofs.start.principal_place.Goals as goal
 

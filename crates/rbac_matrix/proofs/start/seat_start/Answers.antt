@@ -23,4 +23,4 @@ returns-clause-metered c =
 
 pub returns-clause-sought : goal.returns-clause-sought
 returns-clause-sought c =
-    rw c.seat_line-filled.ensures.filled (sought_filled c.args.index.now c.args.universe.now c.args.reaches.now c.args.start.at c.args.start.from c.seat_line-filled.new.seats (line_of c.in-Some.line) _ c.in-Some.ensures.line c.seat_line-filled.ensures.seated)
+    rw c.seat_line-filled.ensures.filled (sought_filled c.args.index.now c.args.universe.now c.args.reaches.now c.args.start.at c.args.start.from 0 c.seat_line-filled.new.seats (line_of c.in-Some.line) _ c.in-Some.ensures.line c.seat_line-filled.ensures.seated)

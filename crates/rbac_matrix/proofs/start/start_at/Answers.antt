@@ -5,9 +5,9 @@ use Rattle.rbac_matrix.proofs.start.start_at.Goals as goal
 pub returns-in-Ok : goal.returns-in-Ok
 returns-in-Ok c = record {
   settled = own_settled c.args.universe.now c.args.key.now c.in-Ok.at c.in-Ok.ensures.found;
-  start = start_found c.args.universe.now c.args.key.now c.in-Ok.at c.in-Ok.ensures.found c.target_place.result c.target_place.ensures.place;
+  start = start_found c.args.universe.now c.args.key.now c.in-Ok.at c.in-Ok.ensures.found c.place_after.result c.place_after.ensures.place;
   own = inr (own_line c.args.universe.now c.args.key.now c.in-Ok.at c.in-Ok.ensures.found);
-  few = c.target_place.ensures.few;
+  few = c.place_after.ensures.few;
 }
 
 pub returns-in-Err-clause-start : goal.returns-in-Err-clause-start

@@ -7,8 +7,8 @@ use Rattle.rbac_matrix.proofs.walk.next_cursor.Goals as goal
 
 pub returns-then-verb_matches-clause-found : goal.returns-then-verb_matches-clause-found
 returns-then-verb_matches-clause-found c = (
-  bound_cursor c.args.index.now (line_of c.args.line) c.loop-no.walk c.next_bound.new.walk c.in-Some.no c.in-Some.ensures.found (grant_of c.grant.result) c.grant.ensures (c.verb_matches.ensures.0 c.if-verb_matches.true),
-  bound_others c.args.index.now (line_of c.args.line) c.loop-no.walk c.next_bound.new.walk c.in-Some.no c.in-Some.ensures.found (grant_of c.grant.result) c.grant.ensures c.args.walk.now c.loop-no.invariant.ahead,
+  bound_cursor c.args.index.now (line_of c.args.line) c.loop-no.walk c.next_bound.new.walk c.in-Some.no c.in-Some.ensures.found (grant_of c.grant.result) c.grant.ensures.grant (c.verb_matches.ensures.0 c.if-verb_matches.true),
+  bound_others c.args.index.now (line_of c.args.line) c.loop-no.walk c.next_bound.new.walk c.in-Some.no c.in-Some.ensures.found (grant_of c.grant.result) c.grant.ensures.grant c.args.walk.now c.loop-no.invariant.ahead,
 )
 
 pub returns-then-verb_matches-clause-ends : goal.returns-then-verb_matches-clause-ends
@@ -17,7 +17,7 @@ returns-then-verb_matches-clause-ends c = let ends = c.in-Some.ensures.ends in o
 pub loop-no-preserved : goal.loop-no-preserved
 loop-no-preserved c = record {
   onward = let step = c.in-Some.ensures.found in omega (arith, c.loop-no.invariant.onward, step.on, step.passed);
-  ahead = bound_passes c.args.index.now (line_of c.args.line) c.loop-no.walk c.next_bound.new.walk c.in-Some.no c.in-Some.ensures.found (grant_of c.grant.result) c.grant.ensures c.args.walk.now c.loop-no.invariant.ahead (λ x. both_ways _ c.if-verb_matches.false (c.verb_matches.ensures.1 x));
+  ahead = bound_passes c.args.index.now (line_of c.args.line) c.loop-no.walk c.next_bound.new.walk c.in-Some.no c.in-Some.ensures.found (grant_of c.grant.result) c.grant.ensures.grant c.args.walk.now c.loop-no.invariant.ahead (λ x. both_ways _ c.if-verb_matches.false (c.verb_matches.ensures.1 x));
   within = c.in-Some.ensures.within;
 }
 

@@ -6,8 +6,8 @@ use Rattle.rbac_terms.proofs.text.is_joined.Goals as goal
 
 pub returns-in-Some : goal.returns-in-Some
 returns-in-Some c =
-    let front = c.args.front.now in
+    let prefix = c.args.prefix.now in
     let same = slice_eq-Decides Decides-eqb _ _ _ c.eq.ensures in (
-      λ h. c.in-Some.ensures ∙ ap (λ t. front ++ t) (same.0 h),
-      λ e. same.1 (append_cancel_left front c.in-Some.after.now c.args.rest.now (sym c.in-Some.ensures ∙ e)),
+      λ h. c.in-Some.ensures ∙ ap (λ t. prefix ++ t) (same.0 h),
+      λ e. same.1 (append_cancel_left prefix c.in-Some.after.now c.args.rest.now (sym c.in-Some.ensures ∙ e)),
     )

@@ -1,7 +1,7 @@
 use Rattle.std.proofs.Common.{◌≡◌, ◌∙◌, [], arith, ap, get_or}
 use Rattle.rbac_terms.specs.Keys.{texts}
 use Rattle.rbac_token.proofs.Fields.{text_at}
-use Rattle.rbac_token.proofs.Keys.{told}
+use Rattle.rbac_token.proofs.Keys.{by_texts}
 use Rattle.rbac_token.proofs.read.key_of_texts.Goals as goal
 
 pub returns-clause-whole : goal.returns-clause-whole
@@ -13,4 +13,4 @@ returns-clause-whole c = λ k h e.
     let principal : (get_or c.args.texts 0 c.index-texts-0.result).now ≡ k.principal = text_at c.args.texts (texts k) 0 _ [] e (omega arith) in
     let namespace : (get_or c.args.texts 1 c.index-texts-1.result).now ≡ k.namespace = text_at c.args.texts (texts k) 1 _ [] e (omega arith) in
     let verb : (get_or c.args.texts 2 c.index-texts-2.result).now ≡ k.verb = text_at c.args.texts (texts k) 2 _ [] e (omega arith) in
-    c.in_ok-of.ensures.ok ∙ told k h c.in_ok-principal.principal _ _ c.in_ok-target.target (c.in_ok-principal.ensures.0 ∙ c.as_bytes.ensures ∙ principal) namespace verb target)
+    c.in_ok-of.ensures.ok ∙ by_texts k h c.in_ok-principal.principal _ _ c.in_ok-target.target (c.in_ok-principal.ensures.0 ∙ c.as_bytes.ensures ∙ principal) namespace verb target)

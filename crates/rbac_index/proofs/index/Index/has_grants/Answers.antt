@@ -1,6 +1,6 @@
 use Rattle.std.proofs.Common.{◌≤◌, List, length, ap, subst, arith}
-use Rattle.rbac_index.specs.declared.keyed.Keyed.{Keyed}
-use Rattle.rbac_index.specs.declared.living.Live.{Live}
+use Rattle.rbac_index.specs.declared.subject_keys.Keyed.{Keyed}
+use Rattle.rbac_index.specs.declared.live_bindings.Live.{Live}
 use Rattle.rbac_index.specs.Holding.{IsKeyFor}
 use Rattle.rbac_index.specs.Keyed.{AnswersNext, IsLiveUnderAny}
 use Rattle.rbac_index.proofs.NextRunLemmas.{any_named}

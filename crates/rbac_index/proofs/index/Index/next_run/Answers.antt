@@ -2,7 +2,7 @@ use Rattle.std.proofs.Common.{◌≡◌, ◌≤◌, ◌↔◌, ℕ, List, slice_
 use Rattle.std.specs.Prelude.{Some}
 use Rattle.rbac_terms.specs.declared.granting.Binding.{Binding}
 use Rattle.rbac_model.specs.Universes.{LiveForSome}
-use Rattle.rbac_index.specs.declared.keyed.Keyed.{Keyed}
+use Rattle.rbac_index.specs.declared.subject_keys.Keyed.{Keyed}
 use Rattle.rbac_index.specs.Holding.{IsKeyFor}
 use Rattle.rbac_index.specs.Keyed.{IsLiveAt, IsLiveUnderAny, IsNextOf}
 use Rattle.rbac_index.proofs.NextRunLemmas.{none_left, found_run}

@@ -1,7 +1,7 @@
 use Rattle.std.proofs.Common.{arith, vec_len}
 use Rattle.std.proofs.lemmas.Option.{slice_get_read}
 use Rattle.std.proofs.lemmas.Slice.Zip.{seconds-zip}
-use Rattle.rbac_universe.proofs.Gathers.{zip_within}
+use Rattle.rbac_universe.proofs.SetLemmas.{zip_within}
 use Rattle.rbac_universe.proofs.universe.Universe.namespaced.Goals as goal
 
 pub index-requires : goal.index-requires

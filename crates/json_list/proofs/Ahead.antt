@@ -1,0 +1,77 @@
+-- The items that are still to come, one after another.
+use Rattle.std.proofs.Common.{◌≡◌, ℕ, zero, suc, ◌-◌, ◌<◌, ◌≤◌, List, [], ◌∷◌, length, Option, Some, None, option_map, option_and_then, refl, sym, ap, ◌∙◌, arith}
+use Rattle.json.specs.Token.{Token}
+use Rattle.json.specs.Json as json
+use Rattle.json.specs.Json.{Parse, parse_map, after_end_array, items_step}
+use Rattle.json.proofs.Grammar.{left, Takes, skip_value-shorter, value_is, items_end, items_fail, items_more}
+use Rattle.serde_json.specs.Data.{Data, no_items, item}
+use Rattle.serde_json.specs.Read.{of_json, of_items}
+use Rattle.json_list.specs.List.{items_ahead, IsRead, IsUnread}
+
+-- ---- the bound on the turns plays no part
+
+module _ (p : Parse json.Json) (takes : Takes p) where
+  more_items : (n m : ℕ) (ts : List Token) (o : Option (json.Json × List Token)) → p ts ≡ o → ((r : List Token) → length r < length ts → json.items p n r ≡ json.items p m r)
+      → option_and_then (λ q. parse_map (json.item q.0) (json.items p n q.1)) o ≡ option_and_then (λ q. parse_map (json.item q.0) (json.items p m q.1)) o
+  more_items n m ts None is same = refl
+  more_items n m ts (Some q) is same = ap (parse_map (json.item q.0)) (same q.1 (takes ts q.1 (ap left is)))
+
+  one_turn : (n m : ℕ) (ts : List Token) (o : Option (List Token)) → ((r : List Token) → length r < length ts → json.items p n r ≡ json.items p m r)
+      → items_step p (json.items p n) ts o ≡ items_step p (json.items p m) ts o
+  one_turn n m ts None same = more_items n m ts (p ts) refl same
+  one_turn n m ts (Some r) same = refl
+
+  nothing_first : (o : Option (json.Json × List Token)) → p [] ≡ o → None ≡ o
+  nothing_first None is = refl
+  nothing_first (Some q) is = let never : ⊥ = omega (arith, takes [] q.1 (ap left is)) in absurd never
+
+  no_items_in_nothing : (n : ℕ) → json.items p n [] ≡ None
+  unfolding json.items
+  no_items_in_nothing zero = refl
+  no_items_in_nothing (suc n) = ap (option_and_then (λ q. parse_map (json.item q.0) (json.items p n q.1))) (sym (nothing_first (p []) refl))
+
+  at_nothing : (n m : ℕ) (ts : List Token) → length ts ≤ 0 → json.items p n ts ≡ json.items p m ts
+  at_nothing n m [] le = no_items_in_nothing n ∙ sym (no_items_in_nothing m)
+  at_nothing n m (t ∷ ts) le = let never : ⊥ = omega arith in absurd never
+
+  any_bound : (n m : ℕ) (ts : List Token) → length ts ≤ n → length ts ≤ m → json.items p n ts ≡ json.items p m ts
+  unfolding json.items
+  any_bound zero m ts le also = at_nothing zero m ts le
+  any_bound (suc n) zero ts le also = at_nothing (suc n) zero ts also
+  any_bound (suc n) (suc m) ts le also = one_turn n m ts (after_end_array ts) (λ r less. any_bound n m r (omega arith) (omega arith))
+
+-- ---- the next item, or none
+
+pub over : (ts r : List Token) → after_end_array ts ≡ Some r → items_ahead ts ≡ Some no_items
+over ts r e = ap (option_and_then (λ p. of_items p.0)) (items_end (json.value 125) (length ts) ts r (omega arith) e)
+
+pub still_over : items_ahead (Token.end_array ∷ []) ≡ Some no_items
+still_over = over (Token.end_array ∷ []) [] refl
+
+pub nothing_ahead : items_ahead [] ≡ None
+nothing_ahead = ap (option_and_then (λ p. of_items p.0)) (items_fail (json.value 125) 0 [] refl (value_is 125 []))
+
+with_first : (j : json.Json) (d : Data) (o : Option (json.Items × List Token)) → of_json j ≡ Some d
+    → option_and_then (λ p. of_items p.0) (parse_map (json.item j) o) ≡ option_map (item d) (option_and_then (λ p. of_items p.0) o)
+with_first j d None is = refl
+with_first j d (Some p) is = ap (option_and_then (λ e. option_map (item e) (of_items p.0))) is
+
+without_first : (j : json.Json) (o : Option (json.Items × List Token)) → of_json j ≡ None → option_and_then (λ p. of_items p.0) (parse_map (json.item j) o) ≡ None
+without_first j None is = refl
+without_first j (Some p) is = ap (option_and_then (λ e. option_map (item e) (of_items p.0))) is
+
+module _ (ts : List Token) (going : after_end_array ts ≡ None) where
+  pub next : (r : List Token) (d : Data) → IsRead 125 ts d r → length r < length ts → items_ahead ts ≡ option_map (item d) (items_ahead r)
+  next r d is less =
+      let turn = items_more (json.value 125) (length ts) ts r is.0 (omega arith) going is.1 in
+      let same = any_bound (json.value 125) (skip_value-shorter 125) (length ts - 1) (length r) r (omega arith) (omega arith) in
+      ap (option_and_then (λ p. of_items p.0)) (turn ∙ ap (parse_map (json.item is.0)) same) ∙ with_first is.0 d _ is.2
+
+  refused_at : (o : Option (json.Json × List Token)) → json.value 125 ts ≡ o → IsUnread 125 ts → items_ahead ts ≡ None
+  refused_at None is unread = ap (option_and_then (λ p. of_items p.0)) (items_fail (json.value 125) (length ts) ts going is)
+  refused_at (Some (j, r)) is unread =
+      let less = skip_value-shorter 125 ts r (ap left is) in
+      ap (option_and_then (λ p. of_items p.0)) (items_more (json.value 125) (length ts) ts r j (omega arith) going is) ∙ without_first j _ (unread j r is)
+
+  pub refused : IsUnread 125 ts → items_ahead ts ≡ None
+  refused unread = refused_at (json.value 125 ts) refl unread

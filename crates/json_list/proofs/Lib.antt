@@ -1,0 +1,7 @@
+pub mod Numbers
+pub mod Values
+pub mod Puts
+pub mod Ahead
+pub mod Walks
+pub mod Others
+pub mod Whole

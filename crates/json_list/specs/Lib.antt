@@ -1,0 +1,3 @@
+pub mod List
+pub mod Places
+pub mod Values

@@ -1,0 +1,46 @@
+-- Where a reader stands in an object or in its list of items; for private clauses.
+use Rattle.std.specs.Prelude.{◌≡◌, ℕ, List, [], ◌∷◌, length, Option, Some, None, option_map}
+use Rattle.json.specs.Token.{Token}
+use Rattle.json.specs.Lex.{tokens}
+use Rattle.json.specs.Json as json
+use Rattle.serde_json.specs.Data.{array, Members, no_members, put}
+use Rattle.serde_json.specs.Read.{of_json, of_members, read}
+use Rattle.json_list.specs.List.{items_name, values_of, HaveOneList, with_items, items_ahead}
+use Rattle.json_list.specs.declared.items.Place.{Place}
+use Rattle.json_list.specs.declared.items.Place.TheVariants.{Inside, Past, Stopped}
+
+-- the tokens that a reader is seen to have at a place in a list
+abbrev pub tokens_at : Place → List Token → List Token
+tokens_at Inside ts = ts
+tokens_at Past ts = Token.end_array ∷ []
+tokens_at Stopped ts = []
+
+-- the members that are read from inside an object, and what follows it
+abbrev pub members_in : List Token → Option (json.Members × List Token)
+members_in ts = json.members (json.value 126) (length ts) ts
+
+-- no object is read
+abbrev pub AreRefused : List Token → Type 0
+AreRefused old = (ms : json.Members) (new : List Token) → members_in old ≡ Some (ms, new) → of_members ms no_members ≡ None
+
+-- the object has `items` once, and it is a list
+abbrev pub HasOneList : List Token → Type 0
+HasOneList old = (ms : json.Members) × (new : List Token) × (members_in old ≡ Some (ms, new)) × HaveOneList ms
+
+-- these are the tokens behind the bracket that opens the items, where the object has `items` once
+abbrev pub IsAtItems : List Token → List Token → Type 0
+IsAtItems old at = (ms : json.Members) (new : List Token) (j : json.Json) → members_in old ≡ Some (ms, new) → values_of items_name ms ≡ j ∷ [] → of_json j ≡ option_map array (items_ahead at)
+
+-- the object has `items` once, these members beside it, and is followed by those tokens
+abbrev pub AreOthers : List Token → Members → List Token → Type 0
+AreOthers old others new =
+    (ms : json.Members) × (j : json.Json) × (members_in old ≡ Some (ms, new)) × (values_of items_name ms ≡ j ∷ [])
+    × (of_members ms no_members ≡ option_map (λ d. put items_name d others) (of_json j))
+
+-- the same from the beginning of a text
+abbrev pub IsAtItemsOf : List ℕ → List Token → Type 0
+IsAtItemsOf text at = (ts : List Token) × (tokens text ≡ Token.begin_object ∷ ts) × IsAtItems ts at
+
+-- these members stand beside the items that a text is read to
+abbrev pub AreOthersOf : List ℕ → Members → Type 0
+AreOthersOf text others = (at : List Token) → IsAtItemsOf text at → read text ≡ option_map (with_items others) (items_ahead at)

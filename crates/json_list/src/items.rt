@@ -1,0 +1,92 @@
+//! The items of a list, one after another.
+
+ghost use Rattle.std.specs.Prelude.{◌≡◌, ◌<◌, [], length, option_map, Some, None, Err, IfOk, IfSome, OnErr, MatchOption};
+ghost use Rattle.serde_json.specs.Data.{no_items, item};
+ghost use Rattle.serde_json.specs.View.{view};
+ghost use Rattle.json_list.specs.List.{items_ahead};
+ghost use Rattle.json_list.specs.declared.fault.ReadFault.TheVariants.{Refused};
+
+use crate::fault::ReadFault;
+use crate::value::read_value;
+use json::Reader;
+use serde_json::Value;
+use std::alloc::Global;
+use std::marker::Model;
+
+// `serde_json` reads 127 levels, of which the object and its list are two.
+const ITEM_DEPTH: usize = 125;
+
+// Where in its list a reader stands.
+#[derive(Clone, Copy, Drop)]
+pub(crate) enum Place {
+    Inside,
+    // Behind the bracket that closes the list.
+    Past,
+    // Something was refused.
+    Stopped,
+}
+
+/// The items of a list that are still to come. A clause sees the tokens that it reads them from, none
+/// after an error, and after the last item the closing bracket for good.
+#[derive(Drop)]
+pub struct Items<'a> {
+    reader: Reader<'a>,
+    place: Place,
+}
+
+impl<'a> Model for Items<'a> {
+    ghost use Rattle.std.specs.Prelude.{List};
+    ghost use Rattle.json.specs.Token.{Token as SpecToken, tokens_code};
+
+    ghost Value = { List SpecToken };
+
+    ghost coded = { tokens_code };
+
+    ghost use Rattle.json_list.specs.Places.{tokens_at};
+
+    ghost view = { λ a. tokens_at a.place a.reader };
+}
+
+impl<'a> Items<'a> {
+    // The items that a reader comes to behind the bracket that opens their list.
+    pub(crate) fn new(reader: Reader<'a>) -> Self
+        ensures { result ≡ reader.entry }
+    {
+        Items {
+            reader,
+            place: Place::Inside,
+        }
+    }
+
+    /// The next item, and None, again whenever asked, after the last (own).
+    ///
+    /// # Errors
+    ///
+    /// Refused only where the rest of the list can't be read; some item may have been given before
+    /// that is known. After any error every further call is refused.
+    pub fn next_item(&mut self, alloc: Global) -> Result<Option<Value>, ReadFault>
+        ensures next { IfOk result (λ next. MatchOption next
+            ((items_ahead self.old ≡ Some no_items) × (items_ahead self.new ≡ Some no_items))
+            (λ v. items_ahead self.old ≡ option_map (item (view v)) (items_ahead self.new))) }
+        ensures shorter { IfOk result (λ next. IfSome next (λ _. length self.new < length self.old)) }
+        ensures refused { result ≡ Err Refused → items_ahead self.old ≡ None }
+        ensures stopped { OnErr result (self.new ≡ []) }
+    {
+        match self.place {
+            Place::Past => return Ok(None),
+            Place::Stopped => return Err(ReadFault::Refused),
+            Place::Inside => {}
+        }
+        if self.reader.take_end_array() {
+            self.place = Place::Past;
+            return Ok(None);
+        }
+        match read_value(alloc, &mut self.reader, ITEM_DEPTH) {
+            Ok(item) => Ok(Some(item)),
+            Err(fault) => {
+                self.place = Place::Stopped;
+                Err(fault)
+            }
+        }
+    }
+}

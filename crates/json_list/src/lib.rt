@@ -1,0 +1,12 @@
+//! A large JSON list, read item by item, so that one item's value is in memory at a time. What a
+//! text means is what `serde_json` reads it as.
+#![tactic(auto)]
+
+mod fault;
+mod items;
+mod list;
+mod value;
+
+pub use fault::ReadFault;
+pub use items::Items;
+pub use list::{OpenList, open_list};

@@ -1,0 +1,23 @@
+-- The text of a verdict, by why it was found to be so.
+use Rattle.std.specs.Prelude.{ℕ, Bool, true, false, List, [], ◌++◌, codes, Option, Some, None}
+use Rattle.rbac_model.specs.Sources.{source_of}
+use Rattle.rbac_text.specs.Why.{why_text}
+use Rattle.rbac_index.specs.declared.deciding.Why.{Why}
+use Rattle.rbac_cli.specs.Out.{line}
+use Rattle.rbac_cli.specs.declared.outcome.Status.{Status}
+use Rattle.rbac_cli.specs.declared.outcome.Status.TheVariants.{Zero, One}
+
+-- the line that explains a yes
+abbrev pub found_text : Why → List ℕ
+found_text found = why_text found.binding.now (source_of found.source) found.rule_place found.subject_place
+
+-- with `-q` nothing; else yes or no, and with `--why` what was found
+abbrev pub verdict_text : Bool → Bool → Option Why → List ℕ
+verdict_text true why found = []
+verdict_text false why None = line (codes "no")
+verdict_text false true (Some found) = line (codes "yes") ++ found_text found
+verdict_text false false (Some found) = line (codes "yes")
+
+abbrev pub verdict_status : Option Why → Status
+verdict_status None = One
+verdict_status (Some found) = Zero

@@ -1,0 +1,47 @@
+//! The answer of each action.
+
+ghost use Rattle.std.specs.Prelude.{◌≡◌, false, IfOk, IfErr};
+ghost use Rattle.rbac_cli.specs.Ends.{is_write_fault};
+ghost use Rattle.rbac_cli.specs.Printing.{PrintsAnswer, StopsPrinting};
+
+use crate::can_i::{print_verdict, verdict_of};
+use crate::lint::print_findings;
+use crate::matrix::print_listing;
+use crate::outcome::{RunFault, Status};
+use crate::who_can::print_holders;
+use rbac_manifest::Loaded;
+use rbac_question::Action;
+use rbac_streams::{Page, Sink};
+use std::alloc::Global;
+use std::io::Write;
+
+/// Prints the answer of an action over what was loaded.
+pub(crate) fn print_answer<W: Write + Drop>(
+    alloc: Global,
+    loaded: &Loaded,
+    action: &Action,
+    sink: &mut Sink<W>,
+    page: &mut Page,
+) -> Result<Status, RunFault>
+    requires { sink.old.has_failed ≡ false }
+    ensures ok { IfOk result (PrintsAnswer W.contents sink.old page.old sink.new page.new loaded.now action.now) }
+    ensures err { IfErr result (StopsPrinting W.contents sink.old page.old sink.new page.new loaded.now action.now) }
+    ensures failed { sink.new.has_failed ≡ is_write_fault result }
+{
+    match action {
+        Action::CanI {
+            principal,
+            quiet,
+            why,
+            question,
+        } => {
+            let verdict = verdict_of(alloc, loaded, principal, *quiet, *why, question);
+            print_verdict(verdict, sink, page)
+        }
+        Action::WhoCan { question } => print_holders(alloc, loaded, question, sink, page),
+        Action::Matrix { after, limit } => {
+            print_listing(alloc, loaded, after.as_ref(), *limit, sink, page)
+        }
+        Action::Lint => print_findings(alloc, loaded, sink, page),
+    }
+}

@@ -1,0 +1,109 @@
+//! What a question asks for, over a catalogue.
+
+ghost use Rattle.std.specs.Prelude.{◌≡◌, [], IfOk, codes};
+ghost use Rattle.rbac_terms.specs.Targets.{Url};
+ghost use Rattle.rbac_terms.specs.Text.{BeginsWith};
+ghost use Rattle.rbac_question.specs.Asked.{IsTypeWord};
+ghost use Rattle.rbac_question.specs.declared.asked.AskedFor.TheVariants.{Resource as ForResource};
+ghost use Rattle.rbac_cli.specs.Meant.{IsTargetMeant, IsNamespaceMeant, IsMeant, with_subresource};
+
+use rbac_catalogue::Catalogue;
+use rbac_question::{Asked, AskedFor, Question};
+use rbac_terms::{Target, Word};
+use std::alloc::{AllocError, Global};
+
+// What a question asks for, and where.
+#[derive(Drop)]
+pub(crate) struct Meant {
+    pub(crate) target: Target,
+    pub(crate) namespace: Word,
+}
+
+// What a question asks for, and where, over a catalogue.
+pub(crate) fn meant_by(
+    alloc: Global,
+    catalogue: &Catalogue,
+    question: &Question,
+) -> Result<Meant, AllocError>
+    ensures { IfOk result (λ meant. IsMeant catalogue.now.entries question.now meant.target meant.namespace) }
+{
+    let target = target_of(alloc, catalogue, &question.asked)?;
+    let nowhere = Word::new(alloc);
+    let namespace = namespace_for(catalogue, &target, &question.namespace, &nowhere);
+    let namespace = Word::from_slice(alloc, namespace.as_bytes())?;
+    Ok(Meant { target, namespace })
+}
+
+// What a question asks for (own): a URL as it is written; a type word is what
+// [`Catalogue::resolve_word`] makes of it, and a subresource stands after it and a slash.
+fn target_of(alloc: Global, catalogue: &Catalogue, asked: &Asked) -> Result<Target, AllocError>
+    ensures { IfOk result (IsTargetMeant catalogue.now.entries asked.now) }
+{
+    match asked.what() {
+        AskedFor::Url(path) => url_target(alloc, path),
+        AskedFor::Resource {
+            word,
+            subresource,
+            name,
+        } => resource_target(alloc, catalogue, word, subresource, name),
+    }
+}
+
+fn url_target(alloc: Global, path: &Word) -> Result<Target, AllocError>
+    requires { BeginsWith path.now (codes "/") }
+    ensures { IfOk result (λ target. target ≡ Url path.now) }
+{
+    match Target::url(alloc, Word::from_slice(alloc, path.as_bytes())?) {
+        Ok(target) => Ok(target),
+        Err(_) => unreachable!(),
+    }
+}
+
+fn resource_target(
+    alloc: Global,
+    catalogue: &Catalogue,
+    word: &Word,
+    subresource: &Word,
+    name: &Word,
+) -> Result<Target, AllocError>
+    requires { IsTypeWord word.now }
+    ensures { IfOk result (IsTargetMeant catalogue.now.entries (ForResource word.now subresource.now name.now)) }
+{
+    let found = catalogue.resolve_word(alloc, word)?;
+    let text = resource_text(alloc, found.resource.as_bytes(), subresource.as_bytes())?;
+    let name = Word::from_slice(alloc, name.as_bytes())?;
+    match Target::resource(found.group, text, name) {
+        Ok(target) => Ok(target),
+        Err(_) => unreachable!(),
+    }
+}
+
+// A resource with its subresource, if there is one.
+fn resource_text(alloc: Global, resource: &[u8], subresource: &[u8]) -> Result<Word, AllocError>
+    ensures { IfOk result (λ text. text ≡ with_subresource resource.now subresource.now) }
+{
+    let mut text = Word::from_slice(alloc, resource)?;
+    if !subresource.is_empty() {
+        text.push(b'/')?;
+        text.push_slice(subresource)?;
+    }
+    Ok(text)
+}
+
+// Where a target is asked for (own): in `nowhere`, the empty namespace, where the catalogue knows
+// it to be outside all namespaces, else in the one given.
+fn namespace_for<'a>(
+    catalogue: &Catalogue,
+    target: &Target,
+    given: &'a Word,
+    nowhere: &'a Word,
+) -> &'a Word
+    requires { nowhere.now ≡ [] }
+    ensures { IsNamespaceMeant catalogue.now.entries target.now given.now result.now }
+{
+    if catalogue.cluster_only(target.group(), target.text()) {
+        nowhere
+    } else {
+        given
+    }
+}

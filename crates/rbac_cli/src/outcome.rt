@@ -1,0 +1,61 @@
+//! How a run ends.
+
+ghost use Rattle.std.specs.Prelude.{◌≡◌};
+ghost use Rattle.rbac_cli.specs.Printing.{fault_at};
+
+use rbac_manifest::LoadFault;
+use rbac_streams::{Page, PrintFault};
+use rbac_universe::UniverseFault;
+use std::error::Error;
+use std::fmt;
+
+/// The exit status of a run that gave its answer.
+#[derive(Clone, Copy, Debug, PartialEq, Eq)]
+pub enum Status {
+    /// 0: `yes`, all holders, a page of the matrix, or no findings.
+    Zero,
+    /// 1: `no`, or findings.
+    One,
+}
+
+/// Why a run stopped. Texts that were written up to then stay written.
+#[derive(Clone, Copy, Debug, PartialEq, Eq)]
+pub enum RunFault {
+    /// The inputs are refused, and nothing was written.
+    Load(LoadFault),
+    /// The lists that were loaded make no universe for a matrix, and nothing was written. Out of
+    /// memory is a fault of its own.
+    Universe(UniverseFault),
+    /// Memory was refused after this many bytes were written, at most the last value of `u128`.
+    Memory { written: u128 },
+    /// A write failed after this many bytes were written, at most the last value of `u128`.
+    Write { written: u128 },
+}
+
+impl fmt::Display for RunFault {
+    ghost use Rattle.rbac_cli.specs.RunTexts.{run_fault_text};
+
+    ghost output = { run_fault_text };
+
+    fn fmt<W: fmt::Write>(&self, f: &mut fmt::Formatter<W>) -> fmt::Result {
+        match self {
+            RunFault::Load(fault) => write!(f, "{fault}"),
+            RunFault::Universe(fault) => write!(f, "{fault}"),
+            RunFault::Memory { .. } => write!(f, "out of memory"),
+            RunFault::Write { written } => write!(f, "write failed after {written} bytes"),
+        }
+    }
+}
+
+impl Error for RunFault {}
+
+// Why a run stopped whose printing stopped so.
+pub(crate) fn fault_of(page: &Page, fault: PrintFault) -> RunFault
+    ensures { result ≡ fault_at page.now fault }
+{
+    let written = page.written();
+    match fault {
+        PrintFault::SinkFailed => RunFault::Write { written },
+        PrintFault::NoMemory => RunFault::Memory { written },
+    }
+}

@@ -1,0 +1,10 @@
+use Rattle.std.proofs.Common.{arith, length}
+use Rattle.rbac_index.proofs.ReachLemmas.{reach_all}
+use Rattle.rbac_index.proofs.StemLemmas.{stems_end}
+use Rattle.rbac_index.proofs.matches.matched.Goals as goal
+
+pub returns : goal.returns
+returns c =
+    let ts = c.args.targets.now in
+    let done = stems_end ts c.loop-stem.start (length ts) c.loop-stem.stem-index c.args.stems.now c.loop-stem-test.false c.loop-stem.invariant.1 in
+    reach_all c.args.rule.now ts c.loop-stem.start c.loop-stem.spans (omega (arith, done)) c.loop-stem.invariant.0

@@ -1,7 +1,0 @@
-use Rattle.rbac_lint.specs.Lines.{Adds, OfFirst}
-use Rattle.rbac_lint.specs.Roles.{roles_in}
-use Rattle.rbac_lint.specs.Findings.{IsRedundantOf}
-use Rattle.rbac_lint.proofs.redundant.find_redundant.Given as goal
-
-abbrev pub invariant-loop-place : goal.invariant-loop-place
-invariant-loop-place l = Adds (OfFirst (λ k s. IsRedundantOf s) (roles_in l.objects) l.place) l.initial.found l.found

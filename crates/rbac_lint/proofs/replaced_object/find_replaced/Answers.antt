@@ -1,0 +1,22 @@
+use Rattle.std.proofs.Common.{arith, refl}
+use Rattle.std.proofs.lemmas.Option.{slice_get_read}
+use Rattle.rbac_manifest.specs.Replaced.{replaced_name}
+use Rattle.rbac_lint.specs.Replaced.{IsReplacedOf}
+use Rattle.rbac_lint.proofs.Exact.{Adds-start, Adds-each}
+use Rattle.rbac_lint.proofs.Order.{Adds-next}
+use Rattle.rbac_lint.proofs.Named.{replaced_names}
+use Rattle.rbac_lint.proofs.replaced_object.find_replaced.Goals as goal
+
+pub loop-object-init : goal.loop-object-init
+loop-object-init c = Adds-start (λ k r. IsReplacedOf r) c.args.replaced.now c.args.found.now
+
+pub loop-object-preserved : goal.loop-object-preserved
+loop-object-preserved c =
+    let rs = c.args.replaced.now in
+    let i = c.loop-object.object-index in
+    let r = c.object-item.result in
+    Adds-next replaced_name IsReplacedOf 7 replaced_names rs i r c.args.found.now c.loop-object.found c.find_replaced_of.new.found
+    c.requires (slice_get_read rs _ i r refl c.loop-object-test.true c.object-item.is) c.loop-object.invariant c.in_ok-find_replaced_of.ensures
+
+pub returns : goal.returns
+returns c = Adds-each (λ k r. IsReplacedOf r) c.args.replaced.now c.loop-object.object-index c.args.found.now c.loop-object.found (omega arith) c.loop-object.invariant

@@ -1,0 +1,6 @@
+use Rattle.rbac_lint.specs.Lines.{Adds, OfFirst}
+use Rattle.rbac_lint.specs.Replaced.{IsReplacedOf}
+use Rattle.rbac_lint.proofs.replaced_object.find_replaced.Given as goal
+
+abbrev pub invariant-loop-object : goal.invariant-loop-object
+invariant-loop-object l = Adds (OfFirst (λ k r. IsReplacedOf r) l.replaced l.object-index) l.initial.found l.found

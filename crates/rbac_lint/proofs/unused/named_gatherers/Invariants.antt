@@ -1,5 +1,0 @@
-use Rattle.rbac_lint.proofs.Marked.{AreGatherersBelow}
-use Rattle.rbac_lint.proofs.unused.named_gatherers.Given as goal
-
-abbrev pub invariant-loop-place : goal.invariant-loop-place
-invariant-loop-place l = AreGatherersBelow l.objects l.place l.gatherers.items

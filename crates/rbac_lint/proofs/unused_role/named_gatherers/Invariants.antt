@@ -1,0 +1,5 @@
+use Rattle.rbac_lint.proofs.Marked.{AreGatherersBelow}
+use Rattle.rbac_lint.proofs.unused_role.named_gatherers.Given as goal
+
+abbrev pub invariant-loop-place : goal.invariant-loop-place
+invariant-loop-place l = AreGatherersBelow l.objects l.place l.gatherers.items

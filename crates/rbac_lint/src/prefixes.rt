@@ -1,0 +1,96 @@
+//! The prefixes of a role's URLs: what stands before the stars at the end of a URL. They stand in
+//! order, and each leads to the longest other one with which it begins. So from the last that isn't
+//! after a text a way leads to all prefixes with which the text begins, and is no longer than the
+//! text where that one is the text itself.
+
+ghost use Rattle.std.specs.Prelude.{◌≡◌, ◌<◌, ℕ, length, slice_get, Some, true, ◌↔◌, IfOk, IfSome, OnOk, IsTrue};
+ghost use Rattle.std.specs.Ordering.{is_le};
+ghost use Rattle.rbac_terms.specs.Text.{text_cmp, BeginsWith};
+ghost use Rattle.rbac_lint.specs.declared.prefixes.Prefix.{Prefix as PrefixView};
+ghost use Rattle.rbac_lint.specs.Prefixes.{AreEntriesOf, LeadsTo, AreLinked, ArePrefixes, PutsPrefix};
+
+use crate::listing::Places;
+use rbac_terms::Word;
+use std::alloc::{AllocError, Global};
+use std::collections::BTreeMap;
+
+// A prefix and the places of its rules; or a URL without a star, and no places.
+#[derive(Drop)]
+pub(crate) struct Prefix {
+    text: Word,
+    pub(crate) places: Places,
+    // Where the longest other one stands with which this one begins.
+    pub(crate) shorter: Option<usize>,
+}
+
+// The prefixes with these places.
+pub(crate) fn prefixes_of(
+    alloc: Global,
+    lists: BTreeMap<Word, Places>,
+) -> Result<Vec<Prefix>, AllocError>
+    ensures prefixes { IfOk result (λ v. ArePrefixes v.items) }
+    ensures entries { IfOk result (λ v. AreEntriesOf lists v.items) }
+{
+    let mut prefixes = Vec::new(alloc);
+    for (text, places) in lists {
+        push_prefix(&mut prefixes, text, places)?;
+    }
+    Ok(prefixes)
+}
+
+// Adds the next prefix at the end.
+fn push_prefix(prefixes: &mut Vec<Prefix>, text: Word, places: Places) -> Result<(), AllocError>
+    requires prefixes { ArePrefixes prefixes.now.items }
+    requires next { (i : ℕ) (f : PrefixView) → slice_get prefixes.now.items i ≡ Some f → is_le (text_cmp f.text text) ≡ true }
+    ensures { OnOk result (PutsPrefix prefixes.old.items prefixes.new.items text places) }
+{
+    let last = prefixes.len().checked_sub(1);
+    let shorter = longest_from(prefixes.as_slice(), last, text.as_bytes());
+    prefixes.push(Prefix {
+        text,
+        places,
+        shorter,
+    })?;
+    Ok(())
+}
+
+// The first on the way from this one with which the text begins.
+fn longest_from(prefixes: &[Prefix], from: Option<usize>, text: &[u8]) -> Option<usize>
+    requires linked { AreLinked prefixes.now }
+    requires leads { LeadsTo prefixes.now (length prefixes.now) text.now from }
+    requires within { IfSome from (λ i. i < length prefixes.now) }
+    ensures leads { LeadsTo prefixes.now (length prefixes.now) text.now result }
+    ensures within { IfSome result (λ i. i < length prefixes.now) }
+{
+    let mut next = from;
+    while let Some(place) = next {
+        let prefix = &prefixes[place];
+        if begins_with(text, prefix.text.as_bytes()) {
+            return Some(place);
+        }
+        next = prefix.shorter;
+    }
+    None
+}
+
+fn begins_with(text: &[u8], prefix: &[u8]) -> bool
+    ensures { IsTrue result ↔ BeginsWith text.now prefix.now }
+{
+    text.starts_with(prefix)
+}
+
+// The last that isn't after the text.
+pub(crate) fn last_up_to(prefixes: &[Prefix], text: &[u8]) -> Option<usize>
+    requires { ArePrefixes prefixes.now }
+    ensures leads { LeadsTo prefixes.now (length prefixes.now) text.now result }
+    ensures within { IfSome result (λ i. i < length prefixes.now) }
+{
+    let count = prefixes.partition_point(|prefix| is_up_to(prefix, text));
+    count.checked_sub(1)
+}
+
+fn is_up_to(prefix: &Prefix, text: &[u8]) -> bool
+    ensures { result ≡ is_le (text_cmp prefix.now.text text.now) }
+{
+    prefix.text.as_bytes().cmp(text).is_le()
+}

@@ -1,0 +1,214 @@
+//! Rules that another rule of their role covers.
+
+ghost use Rattle.std.specs.Prelude.{◌≡◌, ◌<◌, ℕ, List, length, IsTrue, ◌↔◌, MatchOption, slice_get, Some, IfSome, IfOk, OnOk};
+ghost use Rattle.std.specs.Option.{ForSome};
+ghost use Rattle.rbac_model.specs.Sources.{source_of};
+ghost use Rattle.rbac_terms.specs.declared.matching.Rule.{Rule as RuleView};
+ghost use Rattle.rbac_lint.specs.Lines.{Adds, OfEach};
+ghost use Rattle.rbac_lint.specs.Listing.{IsAscending, IsListingOf};
+ghost use Rattle.rbac_lint.specs.Prefixes.{ArePrefixes};
+ghost use Rattle.rbac_lint.specs.Candidates.{AreCandidates, IsLeastCoverIfAny, IsSoonest};
+ghost use Rattle.rbac_lint.specs.Findings.{CoversAll, MakesRedundantAt, MakesRedundant, IsRedundantAt, IsRedundantOf, IsRedundant};
+
+use crate::candidates::{Candidates, fewest_for};
+use crate::coverage::covers;
+use crate::finding::{Finding, Findings, number_word, role_word};
+use crate::listing::{Listing, listing_of};
+use crate::roles::{plain_rules, role_at, role_count};
+use rbac_model::{Objects, SourceRole};
+use rbac_terms::Rule;
+use std::alloc::{AllocError, Global};
+
+// From so many rules on a role's rules are listed by their words.
+const MANY: usize = 16;
+
+// Those of all plain roles.
+pub(crate) fn find_redundant(
+    alloc: Global,
+    found: &mut Findings,
+    objects: &Objects,
+) -> Result<(), AllocError>
+    ensures { OnOk result (Adds (IsRedundant objects.now) found.old found.new) }
+{
+    for place in 0..role_count(objects) {
+        find_in_role(alloc, found, role_at(objects, place))?;
+    }
+    Ok(())
+}
+
+fn find_in_role(alloc: Global, found: &mut Findings, role: SourceRole<'_>) -> Result<(), AllocError>
+    ensures { OnOk result (Adds (IsRedundantOf (source_of role.entry)) found.old found.new) }
+{
+    match plain_rules(role) {
+        Some(rules) => find_in_rules(alloc, found, role, rules),
+        None => Ok(()),
+    }
+}
+
+// Those of these rules of a role.
+fn find_in_rules(
+    alloc: Global,
+    found: &mut Findings,
+    role: SourceRole<'_>,
+    rules: &[Rule],
+) -> Result<(), AllocError>
+    ensures { OnOk result (Adds (OfEach (λ i r. IsRedundantAt (source_of role.entry) rules.now i) rules.now) found.old found.new) }
+{
+    let listing = listing_if_many(alloc, rules)?;
+    let listed = listing.as_ref();
+    for (place, rule) in rules.iter().enumerate() {
+        find_at(alloc, found, role, rules, listed, place, rule)?;
+    }
+    Ok(())
+}
+
+// The listing of these rules; a few are compared sooner than listed.
+fn listing_if_many(alloc: Global, rules: &[Rule]) -> Result<Option<Listing>, AllocError>
+    ensures { IfOk result (λ l. ForSome l (IsListingOf rules.now)) }
+{
+    if rules.len() < MANY {
+        return Ok(None);
+    }
+    Ok(Some(listing_of(alloc, rules)?))
+}
+
+// The one that the rule at this place is, if it is one.
+fn find_at(
+    alloc: Global,
+    found: &mut Findings,
+    role: SourceRole<'_>,
+    rules: &[Rule],
+    listing: Option<&Listing>,
+    place: usize,
+    rule: &Rule,
+) -> Result<(), AllocError>
+    requires here { slice_get rules.now place ≡ Some rule.now }
+    requires listed { ForSome listing (λ l. IsListingOf rules.now l.now) }
+    ensures { OnOk result (Adds (IsRedundantAt (source_of role.entry) rules.now place) found.old found.new) }
+{
+    let Some(wide) = covering_rule(alloc, rules, listing, place, rule)? else {
+        return Ok(());
+    };
+    let object = role_word(alloc, role)?;
+    let other = number_word(alloc, wide + 1)?;
+    found.push(Finding {
+        code: 3,
+        object,
+        place: Some(place),
+        other,
+    })
+}
+
+// The least place of a rule that makes this one redundant.
+fn covering_rule(
+    alloc: Global,
+    rules: &[Rule],
+    listing: Option<&Listing>,
+    place: usize,
+    rule: &Rule,
+) -> Result<Option<usize>, AllocError>
+    requires here { slice_get rules.now place ≡ Some rule.now }
+    requires listed { ForSome listing (λ l. IsListingOf rules.now l.now) }
+    ensures least { IfOk result (IsLeastCoverIfAny rules.now place) }
+    ensures within { IfOk result (λ o. IfSome o (λ j. j < length rules.now)) }
+{
+    match candidates_if_listed(alloc, listing, rule)? {
+        Some(candidates) => Ok(first_of(rules, candidates, place, rule)),
+        None => Ok(first_of_all(rules, place, rule)),
+    }
+}
+
+fn candidates_if_listed<'a>(
+    alloc: Global,
+    listing: Option<&'a Listing>,
+    rule: &'a Rule,
+) -> Result<Option<Candidates<'a>>, AllocError>
+    requires { ForSome listing (λ l. ArePrefixes l.now.prefixes.items) }
+    ensures { IfOk result (λ o. (rules : List RuleView) → ForSome listing.entry (λ l. IsListingOf rules l.now) → IfSome o (AreCandidates rules rule.now)) }
+{
+    match listing {
+        Some(listing) => fewest_for(alloc, listing, rule),
+        None => Ok(None),
+    }
+}
+
+// The same among candidates. The last lists come first: they are of the shortest prefixes, which
+// cover the most, and a list needs no look from the place on that is found already.
+fn first_of(
+    rules: &[Rule],
+    mut candidates: Candidates<'_>,
+    place: usize,
+    rule: &Rule,
+) -> Option<usize>
+    requires here { slice_get rules.now place ≡ Some rule.now }
+    requires complete { AreCandidates rules.now rule.now candidates }
+    ensures least { IsLeastCoverIfAny rules.now place result }
+    ensures within { IfSome result (λ j. j < length rules.now) }
+{
+    let mut first = rules.len();
+    while let Some(listed) = candidates.lists.pop() {
+        first = first_listed(rules, listed, first, place, rule);
+    }
+    if first < rules.len() {
+        Some(first)
+    } else {
+        None
+    }
+}
+
+// The least of these places, below the limit, whose rule makes this one redundant, or the limit.
+fn first_listed(rules: &[Rule], listed: &[usize], limit: usize, place: usize, rule: &Rule) -> usize
+    requires here { slice_get rules.now place ≡ Some rule.now }
+    requires ascending { IsAscending listed.now }
+    ensures { IsSoonest rules.now place listed.now limit result }
+{
+    for other in listed {
+        if limit <= *other {
+            return limit;
+        }
+        if is_redundant_by(rules, place, rule, *other) {
+            return *other;
+        }
+    }
+    limit
+}
+
+// Whether the rule at the other place makes this one redundant.
+fn is_redundant_by(rules: &[Rule], place: usize, rule: &Rule, other: usize) -> bool
+    requires { slice_get rules.now place ≡ Some rule.now }
+    ensures { IsTrue result ↔ MakesRedundant rules.now place other }
+{
+    match rules.get(other) {
+        Some(wide) => makes_redundant(place, rule, other, wide),
+        None => false,
+    }
+}
+
+// The same among all rules.
+fn first_of_all(rules: &[Rule], place: usize, rule: &Rule) -> Option<usize>
+    requires { slice_get rules.now place ≡ Some rule.now }
+    ensures least { IsLeastCoverIfAny rules.now place result }
+    ensures within { IfSome result (λ j. j < length rules.now) }
+{
+    for (other, wide) in rules.iter().enumerate() {
+        if makes_redundant(place, rule, other, wide) {
+            return Some(other);
+        }
+    }
+    None
+}
+
+// Whether this other rule, at its place, makes the rule at that place redundant.
+#[tactic(auto, unfolding(crate::specs::Findings::MakesRedundantAt))]
+fn makes_redundant(place: usize, rule: &Rule, other: usize, wide: &Rule) -> bool
+    ensures { IsTrue result ↔ MakesRedundantAt place rule.now other wide.now }
+{
+    other != place && covers_all(wide, rule) && (other < place || !covers_all(rule, wide))
+}
+
+#[tactic(auto, unfolding(crate::specs::Findings::CoversAll))]
+fn covers_all(a: &Rule, b: &Rule) -> bool
+    ensures { IsTrue result ↔ CoversAll a.now b.now }
+{
+    covers(a, b)
+}

@@ -1,0 +1,32 @@
+//! What documents give beside roles and bindings: service accounts, and lists of Universe
+//! documents.
+
+use rbac_terms::{Word, Words};
+use rbac_universe::{ListedResources, Principals};
+
+/// A ServiceAccount object.
+#[derive(Drop)]
+pub struct Account {
+    /// Its namespace.
+    pub namespace: Word,
+    /// Its name there.
+    pub name: Word,
+}
+
+/// The lists that a Universe document gives (own); one that it doesn't give is left to the
+/// documents before it, or else derived.
+#[derive(Drop)]
+pub struct GivenLists {
+    /// Users, with the groups given to them, and members of groups.
+    pub principals: Option<Principals>,
+    /// Namespaces; the empty text stands for a request without one.
+    pub namespaces: Option<Words>,
+    /// Verbs.
+    pub verbs: Option<Words>,
+    /// Resources, each of them asked for by each name.
+    pub resources: Option<ListedResources>,
+    /// Object names; the empty text stands for a request without one.
+    pub names: Option<Words>,
+    /// Paths of URLs.
+    pub urls: Option<Words>,
+}

@@ -1,0 +1,138 @@
+//! The lists that are meant, each given or derived.
+
+ghost use Rattle.std.specs.Prelude.{◌≡◌, IfOk, unwrap_or};
+ghost use Rattle.std.specs.Option.{option_copied, option_or};
+ghost use Rattle.rbac_lists.specs.Derived.{principals_of, namespaces_of, verbs_of, resources_of, names_of, urls_of};
+ghost use Rattle.rbac_lists.specs.Meant.{last_given, lists_meant};
+
+use crate::derived_lists::{
+    names_of, namespaces_of, principals_of, resources_of, urls_of, verbs_of,
+};
+use crate::given_lists::{Account, GivenLists};
+use rbac_catalogue::Catalogue;
+use rbac_model::Objects;
+use rbac_terms::{Word, Words};
+use rbac_universe::{ListedResources, Principals, UniverseLists};
+use std::alloc::{AllocError, Global};
+
+// The lists that some documents give.
+#[derive(Drop)]
+struct LastLists<'a> {
+    principals: Option<&'a Principals>,
+    namespaces: Option<&'a Words>,
+    verbs: Option<&'a Words>,
+    resources: Option<&'a ListedResources>,
+    names: Option<&'a Words>,
+    urls: Option<&'a Words>,
+}
+
+/// The lists that a universe is made of (own): each as the last of the Universe documents that has
+/// it gives it, also where that is empty, and where none has it as it is derived from the objects
+/// that are kept, the catalogue, the names of Namespace objects and the ServiceAccount objects.
+/// Fails only where memory is refused.
+pub fn lists_of(
+    alloc: Global,
+    objects: &Objects,
+    catalogue: &Catalogue,
+    namespaces: &[Word],
+    accounts: &[Account],
+    documents: &[GivenLists],
+) -> Result<UniverseLists, AllocError>
+    ensures { IfOk result (λ lists.
+        lists ≡ lists_meant objects.now catalogue.now namespaces.now accounts.now documents.now) }
+{
+    let given = last_lists(documents);
+    Ok(UniverseLists {
+        principals: given_or(given.principals, || principals_of(alloc, objects, accounts))?,
+        namespaces: given_or(
+            given.namespaces,
+            || namespaces_of(alloc, objects, namespaces, accounts),
+        )?,
+        verbs: given_or(given.verbs, || verbs_of(alloc, objects, catalogue))?,
+        resources: given_or(given.resources, || resources_of(alloc, objects, catalogue))?,
+        names: given_or(given.names, || names_of(alloc, objects))?,
+        urls: given_or(given.urls, || urls_of(alloc, objects))?,
+    })
+}
+
+// Of each list the last that these documents give.
+fn last_lists(documents: &[GivenLists]) -> LastLists<'_>
+    ensures principals { option_copied result.principals ≡ last_given (λ d. d.principals) documents.now }
+    ensures namespaces { option_copied result.namespaces ≡ last_given (λ d. d.namespaces) documents.now }
+    ensures verbs { option_copied result.verbs ≡ last_given (λ d. d.verbs) documents.now }
+    ensures resources { option_copied result.resources ≡ last_given (λ d. d.resources) documents.now }
+    ensures names { option_copied result.names ≡ last_given (λ d. d.names) documents.now }
+    ensures urls { option_copied result.urls ≡ last_given (λ d. d.urls) documents.now }
+{
+    let mut last = LastLists {
+        principals: None,
+        namespaces: None,
+        verbs: None,
+        resources: None,
+        names: None,
+        urls: None,
+    };
+    for document in documents {
+        last = over(document, last);
+    }
+    last
+}
+
+// The lists of this document, and where it has none those of the documents before it.
+fn over<'a>(document: &'a GivenLists, earlier: LastLists<'a>) -> LastLists<'a>
+    ensures principals { option_copied result.principals ≡ option_or document.now.principals (option_copied earlier.entry.principals) }
+    ensures namespaces { option_copied result.namespaces ≡ option_or document.now.namespaces (option_copied earlier.entry.namespaces) }
+    ensures verbs { option_copied result.verbs ≡ option_or document.now.verbs (option_copied earlier.entry.verbs) }
+    ensures resources { option_copied result.resources ≡ option_or document.now.resources (option_copied earlier.entry.resources) }
+    ensures names { option_copied result.names ≡ option_or document.now.names (option_copied earlier.entry.names) }
+    ensures urls { option_copied result.urls ≡ option_or document.now.urls (option_copied earlier.entry.urls) }
+{
+    LastLists {
+        principals: document.principals.as_ref().or(earlier.principals),
+        namespaces: document.namespaces.as_ref().or(earlier.namespaces),
+        verbs: document.verbs.as_ref().or(earlier.verbs),
+        resources: document.resources.as_ref().or(earlier.resources),
+        names: document.names.as_ref().or(earlier.names),
+        urls: document.urls.as_ref().or(earlier.urls),
+    }
+}
+
+// A list that can be copied as it is. The contract of a derived clone of one unknown list says too
+// little.
+trait Copied: Drop {
+    fn copied(&self) -> Result<Self, AllocError>
+        ensures { IfOk result (λ copy. copy ≡ self.now) };
+}
+
+impl Copied for Words {
+    fn copied(&self) -> Result<Words, AllocError> {
+        self.clone()
+    }
+}
+
+impl Copied for Principals {
+    fn copied(&self) -> Result<Principals, AllocError> {
+        self.clone()
+    }
+}
+
+impl Copied for ListedResources {
+    fn copied(&self) -> Result<ListedResources, AllocError> {
+        self.clone()
+    }
+}
+
+// The list that is given, also where it is empty, or else the derived one.
+fn given_or<T: Copied, F: FnOnce() -> Result<T, AllocError>>(
+    given: Option<&T>,
+    derive: F,
+) -> Result<T, AllocError>
+    requires { F.IsAlwaysCallable derive }
+    ensures { (derived : T) → ((made : _) → F.post derive made → IfOk made (λ list. list ≡ derived))
+        → IfOk result (λ list. list ≡ unwrap_or (option_copied given.entry) derived) }
+{
+    match given {
+        Some(list) => list.copied(),
+        None => derive(),
+    }
+}

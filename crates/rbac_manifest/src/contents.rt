@@ -1,0 +1,76 @@
+//! What documents gave so far, sorted by its use.
+
+ghost use Rattle.std.specs.Prelude.{◌≡◌, OnOk, []};
+ghost use Rattle.std.specs.Option.{option_to_list};
+ghost use Rattle.rbac_manifest.specs.Contents.{sorted_contents, with_contents};
+
+use crate::content::Content;
+use rbac_catalogue::Catalogue;
+use rbac_lists::{Account, GivenLists};
+use rbac_model::Object;
+use rbac_terms::Word;
+use std::alloc::{AllocError, Global};
+use std::marker::Model;
+
+// What documents gave, each kind of it in order.
+#[derive(Drop)]
+pub(crate) struct Contents {
+    pub objects: Vec<Object>,
+    pub namespaces: Vec<Word>,
+    pub accounts: Vec<Account>,
+    pub catalogue: Catalogue,
+    pub documents: Vec<GivenLists>,
+}
+
+impl Model for Contents {
+    ghost use Rattle.rbac_manifest.specs.Contents.{ContentsView};
+
+    ghost Value = { ContentsView };
+
+    ghost view = { λ g. record {
+      objects = g.objects.items;
+      namespaces = g.namespaces.items;
+      accounts = g.accounts.items;
+      catalogue = g.catalogue;
+      documents = g.documents.items;
+    } };
+}
+
+impl Contents {
+    // Nothing yet, which takes no memory.
+    #[tactic(auto, unfolding(crate::specs::Contents::sorted_contents))]
+    pub(crate) fn new(alloc: Global) -> Self
+        ensures { result ≡ sorted_contents [] }
+    {
+        Contents {
+            objects: Vec::new(alloc),
+            namespaces: Vec::new(alloc),
+            accounts: Vec::new(alloc),
+            catalogue: Catalogue::new(alloc),
+            documents: Vec::new(alloc),
+        }
+    }
+
+    // Room for so many more objects.
+    pub(crate) fn reserve(&mut self, count: usize) -> Result<(), AllocError>
+        ensures { OnOk result (self.new ≡ self.old) }
+    {
+        self.objects.reserve(count)
+    }
+
+    // Takes over what a document gave, if it gave anything.
+    #[tactic(auto, unfolding(crate::specs::Contents::with_contents))]
+    pub(crate) fn take(&mut self, content: Option<Content>) -> Result<(), AllocError>
+        ensures { OnOk result (self.new ≡ with_contents self.old (option_to_list content)) }
+    {
+        match content {
+            Some(Content::Object(object)) => self.objects.push(object)?,
+            Some(Content::Namespace(name)) => self.namespaces.push(name)?,
+            Some(Content::Account(account)) => self.accounts.push(account)?,
+            Some(Content::ApiList(entries)) => self.catalogue.give(entries)?,
+            Some(Content::Lists(lists)) => self.documents.push(lists)?,
+            None => {}
+        }
+        Ok(())
+    }
+}

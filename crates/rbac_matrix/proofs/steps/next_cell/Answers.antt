@@ -1,0 +1,52 @@
+use Rattle.std.proofs.Common.{◌≡◌, ◌∷◌, ◌∙◌, List, ap, inl, refl, sym}
+use Rattle.rbac_matrix.specs.Shown.{line_of}
+use Rattle.rbac_matrix.specs.Lines.{LineView, lines_from}
+use Rattle.rbac_matrix.proofs.TouchLemmas.{metered_on}
+use Rattle.rbac_matrix.proofs.EnumLemmas.{leads_on, metered_over, ready_past}
+use Rattle.rbac_matrix.proofs.steps.next_cell.Goals as goal
+
+pub loop-line-init : goal.loop-line-init
+loop-line-init c = record {
+  ready = c.requires.ready;
+  runs = c.requires.runs;
+  leads = inl (refl, refl, refl);
+  metered = λ start sought given h. h;
+}
+
+pub returns-in-Some-next_in_line-clause-row : goal.returns-in-Some-next_in_line-clause-row
+returns-in-Some-next_in_line-clause-row c = record {
+  line = line_of c.in-Some.line;
+  others = _;
+  line_at = c.in-Some.ensures.line;
+  begin = c.loop-line.from;
+  low = c.loop-line.upto;
+  leads = c.loop-line.invariant.leads;
+  found = c.in-Some-next_in_line.ensures.row;
+  settled = c.loop-line.invariant.ready.settled;
+}
+
+pub returns-in-Some-next_in_line-clause-metered : goal.returns-in-Some-next_in_line-clause-metered
+returns-in-Some-next_in_line-clause-metered c = λ start sought given h.
+    metered_on c.args.index.now c.args.universe.now start sought c.loop-line.at c.loop-line.seats c.next_in_line.new.seats given c.loop-line.meter c.next_in_line.new.meter (c.loop-line.invariant.metered start sought given h) c.next_in_line.ensures.costs
+
+pub loop-line-preserved : goal.loop-line-preserved
+loop-line-preserved c =
+    let line : lines_from c.args.universe.now c.loop-line.at ≡ line_of c.in-Some.line ∷ lines_from c.args.universe.now c.after.result =
+    c.in-Some.ensures.line ∙ ap (λ (ls : List LineView). line_of c.in-Some.line ∷ ls) (sym (ap (lines_from c.args.universe.now) c.after.ensures)) in
+    record {
+      ready = c.next_line-at.ensures.ready;
+      runs = c.next_line-at.ensures.runs;
+      leads = leads_on c.args.index.now c.args.universe.now c.args.reaches.now c.requires.policy c.args.at c.args.from c.args.upto c.loop-line.at c.after.result c.next_line-at.result c.loop-line.from c.loop-line.upto (line_of c.in-Some.line) c.loop-line.invariant.leads line c.in_default-next_in_line.ensures.row.none c.next_line-at.ensures.skips;
+      metered = λ start sought given h.
+          metered_over c.args.index.now c.args.universe.now c.args.reaches.now start sought given c.loop-line.at c.after.result c.next_line-at.result (line_of c.in-Some.line) c.loop-line.from c.loop-line.upto c.loop-line.seats c.next_in_line.new.seats c.empty_line.new.seats c.next_line-at.new.seats c.loop-line.meter c.next_in_line.new.meter c.next_line-at.new.meter
+          c.requires.policy c.line_at.ensures.universe c.requires.reaches line c.in_default-next_in_line.ensures.row c.empty_line.ensures c.in_default-next_in_line.ensures.costs c.next_line-at.ensures.costs c.next_line-at.ensures.skips (c.loop-line.invariant.metered start sought given h);
+    }
+
+pub returns-clause-row : goal.returns-clause-row
+returns-clause-row c = record {
+  ended = c.in_default.ensures.line;
+  begin = c.loop-line.from;
+  low = c.loop-line.upto;
+  leads = c.loop-line.invariant.leads;
+  ready = ready_past c.args.index.now c.args.universe.now c.args.reaches.now c.loop-line.at c.loop-line.from c.loop-line.upto c.loop-line.seats c.loop-line.invariant.ready c.in_default.ensures.line;
+}

@@ -1,0 +1,18 @@
+use Rattle.std.proofs.Common.{ℕ, length}
+use Rattle.rbac_matrix.specs.Cursors.{AreRunsAt}
+use Rattle.rbac_matrix.specs.Lines.{lines_from}
+use Rattle.rbac_matrix.specs.Passing.{Leads}
+use Rattle.rbac_matrix.specs.Metering.{IsMetered, IsReady}
+use Rattle.rbac_matrix.specs.declared.line.Place.{Place}
+use Rattle.rbac_matrix.proofs.steps.next_cell.Given as goal
+
+abbrev pub invariant-loop-line : goal.invariant-loop-line
+invariant-loop-line l = record {
+  ready : IsReady l.index l.universe l.reaches l.at l.from l.upto l.seats;
+  runs : AreRunsAt l.index l.universe l.at l.runs;
+  leads : Leads l.index l.universe l.fn.at l.fn.from l.fn.upto l.at l.from l.upto;
+  metered : (start : Place) (sought given : ℕ) → IsMetered l.index l.universe start sought l.fn.at l.fn.seats given l.fn.meter → IsMetered l.index l.universe start sought l.at l.seats given l.meter;
+}
+
+abbrev pub decreases-loop-line : goal.decreases-loop-line
+decreases-loop-line l = length (lines_from l.universe l.at)

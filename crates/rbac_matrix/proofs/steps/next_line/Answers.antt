@@ -1,0 +1,41 @@
+use Rattle.std.proofs.Common.{◌≡◌, ◌∷◌, ◌∙◌, List, ap, sym, refl, arith, ℕ, ◌≤◌}
+use Rattle.rbac_matrix.specs.Shown.{line_of}
+use Rattle.rbac_matrix.specs.Lines.{LineView, lines_from}
+use Rattle.rbac_matrix.proofs.SeatLemmas.{Costs-then}
+use Rattle.rbac_matrix.proofs.LineLemmas.{are_real}
+use Rattle.rbac_matrix.proofs.EnumLemmas.{idle_line, skips_line, skips_same, skips_then, unfilled}
+use Rattle.rbac_matrix.proofs.steps.next_line.Goals as goal
+
+nought : (n : ℕ) → n ≤ 0 → n ≡ 0
+nought n h = omega arith
+
+pub seat_line-requires-clause-real : goal.seat_line-requires-clause-real
+seat_line-requires-clause-real c = are_real c.args.index.now c.args.universe.now c.args.reaches.now (line_of c.in-Some.line) c.requires.policy c.line_at.ensures.universe c.requires.reaches c.line_at.ensures.limits.targets
+
+pub returns-then-seat_line-gt0-clause-costs : goal.returns-then-seat_line-gt0-clause-costs
+returns-then-seat_line-gt0-clause-costs c = Costs-then c.args.seats.now c.loop-line.seats c.seat_line.new.seats 0 0 0 0 c.args.meter.now c.loop-line.meter c.seat_line.new.meter c.loop-line.invariant.costs (c.seat_line.ensures.started refl)
+
+pub loop-line-preserved-then-is_empty : goal.loop-line-preserved-then-is_empty
+loop-line-preserved-then-is_empty c = record {
+  settled = c.settled-at-then-is_empty.ensures.settled;
+  skips = skips_then c.args.index.now.held c.args.universe.now c.args.at c.loop-line.at c.settled-at-then-is_empty.result c.loop-line.invariant.skips
+      (skips_then c.args.index.now.held c.args.universe.now c.loop-line.at c.past_idle.result c.settled-at-then-is_empty.result (c.past_idle.ensures.skips c.args.universe.now c.in-Some.ensures.place)
+      (skips_same c.args.index.now.held c.args.universe.now c.past_idle.result c.settled-at-then-is_empty.result c.settled-at-then-is_empty.ensures.same));
+  empty = c.loop-line.invariant.empty;
+  costs = c.loop-line.invariant.costs;
+}
+
+pub loop-line-preserved : goal.loop-line-preserved
+loop-line-preserved c =
+    let real = are_real c.args.index.now c.args.universe.now c.args.reaches.now (line_of c.in-Some.line) c.requires.policy c.line_at.ensures.universe c.requires.reaches c.line_at.ensures.limits.targets in
+    let none = sym c.seat_line.ensures.filled ∙ nought c.seat_line.result c.if-seat_line-gt0.false in
+    let line : lines_from c.args.universe.now c.loop-line.at ≡ line_of c.in-Some.line ∷ lines_from c.args.universe.now c.settled-at-else-seat_line-gt0.result =
+    c.in-Some.ensures.line ∙ ap (λ (ls : List LineView). line_of c.in-Some.line ∷ ls) (sym (c.settled-at-else-seat_line-gt0.ensures.same ∙ ap (lines_from c.args.universe.now) c.after.ensures)) in
+    record {
+      settled = c.settled-at-else-seat_line-gt0.ensures.settled;
+      skips = skips_then c.args.index.now.held c.args.universe.now c.args.at c.loop-line.at c.settled-at-else-seat_line-gt0.result c.loop-line.invariant.skips
+          (skips_line c.args.index.now.held c.args.universe.now c.loop-line.at c.settled-at-else-seat_line-gt0.result (line_of c.in-Some.line) line
+          (idle_line c.args.index.now c.args.universe.now c.args.reaches.now (line_of c.in-Some.line) c.seat_line.new.seats c.requires.policy c.line_at.ensures.universe c.requires.reaches c.line_at.ensures.limits.targets real c.seat_line.ensures.seated none));
+      empty = unfilled c.args.index.now (line_of c.in-Some.line) c.args.reaches.now 0 0 c.seat_line.new.seats real c.seat_line.ensures.seated none;
+      costs = Costs-then c.args.seats.now c.loop-line.seats c.seat_line.new.seats 0 0 0 0 c.args.meter.now c.loop-line.meter c.seat_line.new.meter c.loop-line.invariant.costs (c.seat_line.ensures.started refl);
+    }

@@ -1,0 +1,67 @@
+-- Where the rows of every granting binding after a mark begin.
+use Rattle.std.specs.Prelude.{◌≡◌, ℕ, ◌<◌, ◌≤◌, ◌⊎◌, List, ◌++◌, Contains, Option, Some, None, slice_get, true}
+use Rattle.std.specs.declared.cmp.Ordering.TheVariants.{Greater}
+use Rattle.std.specs.Cmp.Lexicographic.{slice_cmp}
+use Rattle.rbac_terms.specs.Text.{text_cmp}
+use Rattle.rbac_terms.specs.Keys.{KeyTexts}
+use Rattle.rbac_terms.specs.declared.granting.Binding.{Binding}
+use Rattle.rbac_model.specs.Policies.{Held, binding_name}
+use Rattle.rbac_model.specs.Universes.{UniverseView, Cell, IsCellOf, RowView}
+use Rattle.rbac_token.specs.Marks.{name_texts}
+use Rattle.rbac_token.specs.declared.mark.BindingName.{BindingName}
+use Rattle.rbac_token.specs.declared.mark.Mark.{Mark}
+use Rattle.rbac_matrix.specs.Cells.{cells_of}
+use Rattle.rbac_matrix.specs.Every.{comes_after}
+use Rattle.rbac_matrix.specs.EveryLeft.{pairs_from}
+use Rattle.rbac_matrix.specs.Metering.{AreSought}
+use Rattle.rbac_matrix.specs.Pairs.{IsGranted, pairs_of}
+use Rattle.rbac_matrix.specs.Passing.{cells_left}
+use Rattle.rbac_matrix.specs.Starting.{IsOwnLine, IsOwnPlace, IsFoundAt, IsStart, cell_name, target_part, what_texts, whats}
+use Rattle.rbac_terms.specs.Keys.{texts}
+use Rattle.rbac_matrix.specs.declared.line.Place.{Place}
+use Rattle.rbac_matrix.specs.declared.every_rows.EveryRows.{EveryRows}
+
+-- the key of a mark, if there is one
+abbrev pub key_of_mark : Option Mark → Option KeyTexts
+key_of_mark None = None
+key_of_mark (Some m) = Some m.key
+
+-- a row comes after the mark; without one all do
+abbrev pub ComesAfter : Option Mark → RowView → Type 0
+ComesAfter None row = Unit {0}
+ComesAfter (Some m) row = comes_after m.key m.binding row ≡ true
+
+-- of the pairs from the place, a target's and a binding's place on those that are granted come after the mark, and of those before it none
+pub record IsEveryStart (h : Held) (u : UniverseView) (m : Option Mark) (at : Place) (from place : ℕ) : Type 0 where
+  pub before : List RowView
+  pub whole : pairs_of h.bindings (cells_of u) ≡ before ++ pairs_from h.bindings place (cells_left u at from)
+  pub early : (r : RowView) → Contains before r → IsGranted h r → ComesAfter m r → ⊥
+  pub late : (r : RowView) → Contains (pairs_from h.bindings place (cells_left u at from)) r → IsGranted h r → ComesAfter m r
+
+-- the line is that from which the requests after the key begin, and within it no later place is meant
+pub record IsKeyStart (u : UniverseView) (k : Option KeyTexts) (at : Place) (from : ℕ) : Type 0 where
+  pub first : ℕ
+  pub start : IsStart u k at first
+  pub own : (first ≡ 0) ⊎ IsOwnLine u k at
+  pub within : from ≤ first
+
+-- the rows begin at the first line, that of the key; within a line only where it is the key's own, and then no more cursors were sought than that line has
+pub record EveryStarts (s : EveryRows) (k : Option KeyTexts) : Type 0 where
+  pub start : IsKeyStart s.rows.universe.now k s.rows.start s.rows.from
+  pub here : s.rows.at ≡ s.rows.start
+  pub whole : s.rows.from ≡ 0 → s.rows.sought ≡ 0
+  pub sought : AreSought s.rows.index.now s.rows.universe.now s.rows.start s.rows.sought
+
+-- the request of the key stands at the place and at that of its target
+pub record IsOwnRequest (u : UniverseView) (k : KeyTexts) (at : Place) (place : ℕ) : Type 0 where
+  pub line : IsOwnPlace u k at
+  pub target : IsFoundAt (slice_cmp text_cmp) what_texts (whats u) (target_part k) place
+
+-- no request of the universe has the texts of the key
+abbrev pub HasNoRequest : UniverseView → KeyTexts → Type 0
+HasNoRequest u k = (c : Cell) → IsCellOf u c → cell_name c ≡ texts k → ⊥
+
+-- those of the bindings before the place stand no later than the name, and the others past it
+pub record ArePastName (bs : List Binding) (b : BindingName) (place : ℕ) : Type 0 where
+  pub below : (j : ℕ) (x : Binding) → j < place → slice_get bs j ≡ Some x → slice_cmp text_cmp (binding_name x) (name_texts (Some b)) ≡ Greater → ⊥
+  pub above : (j : ℕ) (x : Binding) → place ≤ j → slice_get bs j ≡ Some x → slice_cmp text_cmp (binding_name x) (name_texts (Some b)) ≡ Greater

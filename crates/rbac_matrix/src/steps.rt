@@ -1,0 +1,157 @@
+//! The rows of a line, by the seats of its cursors.
+
+ghost use Rattle.std.specs.Prelude.{ℕ, ◌≡◌, ◌<◌, ◌⊎◌, ◌↔◌, ◌≤◌, [], IsTrue, MatchOption, length};
+ghost use Rattle.rbac_model.specs.Policies.{IsPolicy};
+ghost use Rattle.rbac_model.specs.Universes.{IsUniverse, UniverseView, most_words};
+ghost use Rattle.rbac_universe.specs.Sets.{IsWithinLimits};
+ghost use Rattle.rbac_matrix.specs.Shown.{line_of};
+ghost use Rattle.rbac_index.specs.Reaches.{AreReaches};
+ghost use Rattle.rbac_matrix.specs.Cursors.{AreRuns, AreRunsAt, IsBoundOn};
+ghost use Rattle.rbac_matrix.specs.Lines.{IsLineAt, lines_from};
+ghost use Rattle.rbac_matrix.specs.Passing.{EndsAll, EndsLine, FindsCell, FindsRow};
+ghost use Rattle.rbac_matrix.specs.Metering.{IsMetered, IsReady, Skips};
+ghost use Rattle.rbac_matrix.specs.declared.line.Place.{Place};
+ghost use Rattle.rbac_matrix.specs.Seats.{AreEmpty, AreSeated, Costs};
+
+use crate::bound_runs::Runs;
+use crate::line::{Line, Place, after, line_at, settled};
+use crate::seat::Seat;
+use crate::seats::{advance, empty_line, least_seat, seat_line};
+use rbac_index::{Index, Meter, Reach};
+use rbac_terms::Word;
+use rbac_universe::Universe;
+
+// Whether a target that is namespaced, or isn't, is asked for in this namespace (own).
+fn fits(namespace: &Word, namespaced: bool) -> bool
+    ensures { IsTrue result ↔ (IsTrue namespaced ⊎ (namespace.now ≡ [])) }
+{
+    namespaced || namespace.is_empty()
+}
+
+// The next row of a line, from a place on and past it for the grants below `upto`: the place of its
+// target, and the first grant that allows it. Entries of requests that don't fit are read and
+// passed over; the seats that stand at the row are left there.
+pub(crate) fn next_in_line(
+    index: &Index<'_>,
+    universe: &Universe,
+    reaches: &[Reach],
+    line: Line<'_>,
+    runs: &Runs,
+    from: u32,
+    upto: u32,
+    seats: &mut [Seat],
+    meter: &mut Meter,
+) -> Option<(u32, u32)>
+    requires policy { IsPolicy index.now }
+    requires universe { IsUniverse universe.now }
+    requires limits { IsWithinLimits universe.now }
+    requires runs { AreRuns index.now (line_of line) runs.now }
+    requires reaches { AreReaches index.now universe.now reaches.now }
+    requires seated { AreSeated index.now (line_of line) reaches.now from upto seats.old }
+    ensures row { MatchOption result
+        (EndsLine index.now universe.now reaches.now (line_of line.entry) from upto seats.new)
+        (λ found. FindsRow index.now universe.now reaches.now (line_of line.entry) from upto seats.new found.0 found.1) }
+    ensures costs { Costs 0 0 seats.old seats.new meter.old meter.new }
+{
+    let mut from = from;
+    let mut upto = upto;
+    while let Some((place, no)) = least_seat(index, line, runs, seats) {
+        if fits(line.namespace, universe.namespaced(place as usize)) {
+            return Some((place, no));
+        }
+        let all = index.len();
+        advance(index, reaches, line, runs, place, all, seats, meter);
+        from = place + 1;
+        upto = 0;
+    }
+    None
+}
+
+// The next line that has cursors with an entry, from this place on, with its cursors seated; the
+// place past all lines where there is none. All seats are empty before.
+fn next_line(
+    index: &Index<'_>,
+    universe: &Universe,
+    reaches: &[Reach],
+    at: Place,
+    runs: &mut Runs,
+    seats: &mut [Seat],
+    meter: &mut Meter,
+) -> Place
+    requires policy { IsPolicy index.now }
+    requires reaches { AreReaches index.now universe.now reaches.now }
+    requires empty { AreEmpty index.now seats.old }
+    ensures skips { Skips index.now.held universe.now at result }
+    ensures ready { IsReady index.now universe.now reaches.now result 0 0 seats.new }
+    ensures runs { AreRunsAt index.now universe.now result runs.new }
+    ensures costs { Costs 0 0 seats.old seats.new meter.old meter.new }
+{
+    let mut at = settled(universe, at);
+    while let Some(line) = line_at(universe, at) {
+        *runs = Runs::of(index, line);
+        if runs.is_empty() {
+            at = settled(universe, past_idle(index, line, at));
+        } else if seat_line(index, reaches, line, runs, 0, seats, meter) > 0 {
+            return at;
+        } else {
+            at = settled(universe, after(at));
+        }
+    }
+    at
+}
+
+// The place after the lines of a namespace in which none of somebody's grants may be live; after
+// all lines of somebody who has none.
+fn past_idle(index: &Index<'_>, line: Line<'_>, at: Place) -> Place
+    requires policy { IsPolicy index.now }
+    requires idle { (k : ℕ) → ¬ IsBoundOn index.now (line_of line) k }
+    requires few { (at.principal < most_words) × (at.namespace < most_words) }
+    ensures skips { (u : UniverseView) → IsLineAt u at (line_of line.entry) → Skips index.now.held u at result }
+    ensures on { (u : UniverseView) → IsLineAt u at (line_of line.entry) → length (lines_from u result) < length (lines_from u at) }
+{
+    if at.namespace == 0 && !index.has_grants(line.principal) {
+        return Place::of_principal(at.principal + 1);
+    }
+    Place::of_namespace(at.principal, at.namespace + 1)
+}
+
+// The next row from a place and a target's place on, and past it for the grants below `upto`: the
+// place of its line, and the place of its target with the first grant that allows it.
+pub(crate) fn next_cell(
+    index: &Index<'_>,
+    universe: &Universe,
+    reaches: &[Reach],
+    at: Place,
+    from: u32,
+    upto: u32,
+    runs: &mut Runs,
+    seats: &mut [Seat],
+    meter: &mut Meter,
+) -> (Place, Option<(u32, u32)>)
+    requires policy { IsPolicy index.now }
+    requires reaches { AreReaches index.now universe.now reaches.now }
+    requires ready { IsReady index.now universe.now reaches.now at from upto seats.old }
+    requires runs { AreRunsAt index.now universe.now at runs.old }
+    ensures runs { AreRunsAt index.now universe.now result.0 runs.new }
+    ensures row { MatchOption result.1
+        (EndsAll index.now universe.now reaches.now at from upto result.0 seats.new)
+        (λ found. FindsCell index.now universe.now reaches.now at from upto result.0 seats.new found.0 found.1) }
+    ensures metered { (start : Place) (sought given : ℕ) → IsMetered index.now universe.now start sought at seats.old given meter.old
+        → IsMetered index.now universe.now start sought result.0 seats.new given meter.new }
+{
+    let mut at = at;
+    let mut from = from;
+    let mut upto = upto;
+    while let Some(line) = line_at(universe, at) {
+        if let Some(found) = next_in_line(
+            index, universe, reaches, line, runs, from, upto, seats, meter,
+        ) {
+            return (at, Some(found));
+        }
+        empty_line(index, line, runs, seats);
+        at = next_line(index, universe, reaches, after(at), runs, seats, meter);
+        from = 0;
+        upto = 0;
+    }
+    (at, None)
+}

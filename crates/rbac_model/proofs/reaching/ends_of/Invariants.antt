@@ -1,5 +1,0 @@
-use Rattle.rbac_model.specs.Graphs.{AreEnds}
-use Rattle.rbac_model.proofs.reaching.ends_of.Given as goal
-
-abbrev pub invariant-loop-at : goal.invariant-loop-at
-invariant-loop-at l = AreEnds l.graph l.ends

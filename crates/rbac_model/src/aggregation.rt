@@ -1,0 +1,149 @@
+//! What aggregated roles gather from.
+
+ghost use Rattle.std.specs.Prelude.{◌≡◌, ◌≢◌, ◌+◌, ◌*◌, ◌/◌, ◌<◌, ◌≤◌, ◌↔◌, IsTrue, IfOk, OnOk, IsOkAnd, Contains, Any, Some, [], length, min, slice_get};
+ghost use Rattle.rbac_model.specs.Policies.{IsHeld, AreReachedNames};
+ghost use Rattle.rbac_model.specs.Graphs.{IsMarked};
+ghost use Rattle.rbac_model.specs.Lists.{IsUpTo};
+ghost use Rattle.rbac_terms.specs.declared.granting.ClusterRole.{ClusterRole};
+ghost use Rattle.rbac_model.specs.Places.{IsRowOf, AreSteps, IsReachedAt, AreReaches, AreSourcesAt, IsPlainAt, AreMarkedNames};
+
+use crate::labels::Labelled;
+use crate::marks::Marks;
+use crate::objects::Objects;
+use crate::reachability::close;
+use crate::references::cluster_role_place;
+use rbac_terms::{ClusterRole, Word, Words};
+use std::alloc::{AllocError, Global};
+
+// For each cluster role the places of those that it reaches.
+pub(crate) fn reaches_of(alloc: Global, objects: &Objects) -> Result<Vec<Marks>, AllocError>
+    ensures { IfOk result (λ rows. AreReaches objects.now rows.items) }
+{
+    let mut rows = steps_of(alloc, objects)?;
+    close(alloc, &mut rows)?;
+    Ok(rows)
+}
+
+// For each cluster role the places of those that one step leads to.
+fn steps_of(alloc: Global, objects: &Objects) -> Result<Vec<Marks>, AllocError>
+    ensures { IfOk result (λ rows. AreSteps objects.now rows.items) }
+{
+    let roles = objects.cluster_roles();
+    let labelled = Labelled::new(alloc, roles)?;
+    let mut rows = Vec::with_capacity(alloc, roles.len())?;
+    for (at, role) in roles.iter().enumerate() {
+        rows.push(steps_from(alloc, objects, &labelled, role, at)?)?;
+    }
+    Ok(rows)
+}
+
+// The places of those that one step leads to from the cluster role at this place.
+fn steps_from(
+    alloc: Global,
+    objects: &Objects,
+    labelled: &Labelled,
+    role: &ClusterRole,
+    at: usize,
+) -> Result<Marks, AllocError>
+    requires held { IsHeld objects.now }
+    requires labelled { labelled.now ≡ objects.now.cluster_roles }
+    requires at { slice_get objects.now.cluster_roles at ≡ Some role.now }
+    ensures { IfOk result (IsRowOf objects.now role.now) }
+{
+    let Some(selectors) = &role.aggregation else {
+        return Ok(Marks::new(alloc));
+    };
+    let mut row = labelled.gathered(alloc, selectors)?;
+    let mut own = Marks::new(alloc);
+    own.set(at)?;
+    row.remove(&own);
+    Ok(row)
+}
+
+// The places of the cluster roles whose written rules the one at this place has. They are read out
+// of the set when a binding asks for them: lists for all roles may be more than memory holds.
+pub(crate) fn sources_at(
+    alloc: Global,
+    objects: &Objects,
+    reaches: &[Marks],
+    at: usize,
+) -> Result<Vec<usize>, AllocError>
+    requires reaches { AreReaches objects.now reaches.now }
+    requires at { at < length objects.now.cluster_roles }
+    ensures { IfOk result (λ row. AreSourcesAt objects.now at row.items) }
+{
+    let roles = objects.cluster_roles();
+    if roles[at].aggregation.is_none() {
+        let mut own = Vec::new(alloc);
+        own.push(at)?;
+        return Ok(own);
+    }
+    plain_marked(alloc, roles, &reaches[at])
+}
+
+// The places of the plain roles with a mark, ascending.
+fn plain_marked(
+    alloc: Global,
+    roles: &[ClusterRole],
+    marks: &Marks,
+) -> Result<Vec<usize>, AllocError>
+    ensures { IfOk result (λ row. IsUpTo (λ k. IsMarked marks.now k × IsPlainAt roles.now k) row.items (length roles.now)) }
+{
+    let mut row = Vec::new(alloc);
+    for at in 0..roles.len() / 64 + 1 {
+        if marks.has_word(at) {
+            put_plain(roles, marks, at, &mut row)?;
+        }
+    }
+    Ok(row)
+}
+
+// Adds those that have their mark in one word.
+fn put_plain(
+    roles: &[ClusterRole],
+    marks: &Marks,
+    at: usize,
+    row: &mut Vec<usize>,
+) -> Result<(), AllocError>
+    requires word { at ≤ length roles.now / 64 }
+    requires before { IsUpTo (λ k. IsMarked marks.now k × IsPlainAt roles.now k) row.old.items (at * 64) }
+    ensures { OnOk result (IsUpTo (λ k. IsMarked marks.now k × IsPlainAt roles.now k) row.new.items (min (at * 64 + 64) (length roles.now))) }
+{
+    for place in at * 64..(at * 64).saturating_add(64).min(roles.len()) {
+        if marks.has(place) && roles[place].aggregation.is_none() {
+            row.push(place)?;
+        }
+    }
+    Ok(())
+}
+
+// The names of those that the cluster role of this name reaches; where no role has the name, none,
+// and no memory is asked for.
+pub(crate) fn names_from(
+    alloc: Global,
+    objects: &Objects,
+    reaches: &[Marks],
+    name: &Word,
+) -> Result<Words, AllocError>
+    requires { AreReaches objects.now reaches.now }
+    ensures reached { IfOk result (λ ws. (r : ClusterRole) → Contains objects.now.cluster_roles r → r.name ≡ name.now → AreReachedNames objects.now r ws) }
+    ensures none { ¬ Any (λ r. r.name ≡ name.now) objects.now.cluster_roles → IsOkAnd result (λ ws. ws ≡ []) }
+{
+    match cluster_role_place(objects.cluster_roles(), name) {
+        Some(at) => marked_names(alloc, objects, &reaches[at]),
+        None => Ok(Words::new(alloc)),
+    }
+}
+
+// The names of the cluster roles with a mark, ascending.
+fn marked_names(alloc: Global, objects: &Objects, marks: &Marks) -> Result<Words, AllocError>
+    ensures { IfOk result (λ ws. AreMarkedNames objects.now marks.now ws) }
+{
+    let mut names = Words::new(alloc);
+    for (at, role) in objects.cluster_roles().iter().enumerate() {
+        if marks.has(at) {
+            names.push(role.name.clone()?)?;
+        }
+    }
+    Ok(names)
+}

@@ -1,0 +1,241 @@
+//! The labels of all cluster roles, in order: what a selector selects is looked up there, so that
+//! no export can make that slow.
+
+ghost use Rattle.std.specs.Prelude.{◌≡◌, ◌↔◌, ◌⊎◌, ◌≤◌, ◌<◌, ◌/◌, ◌++◌, ◌∷◌, [], ℕ, Any, All, IfOk, OnOk, IsTrue, length, slice_get, Some};
+ghost use Rattle.std.specs.Option.{option_map};
+ghost use Rattle.std.specs.Cmp.Lexicographic.{slice_cmp};
+ghost use Rattle.std.specs.List.Sorted.{IsSorted};
+ghost use Rattle.rbac_terms.specs.Text.{text_cmp};
+ghost use Rattle.rbac_terms.specs.Selecting.{Selects, Meets, HasLabel, HasOneOf};
+ghost use Rattle.rbac_model.specs.Graphs.{IsMarked};
+ghost use Rattle.rbac_model.specs.Lists.{by_name};
+ghost use Rattle.rbac_model.specs.Labelled.{LabelEntry, AreWith, IsWithAt, HasSome, Adds, label_texts};
+
+use crate::marks::Marks;
+use rbac_terms::{
+    ClusterRole, Labels, Requirement, Requirements, SelectOp, Selector, Selectors, Word, Words,
+};
+use std::alloc::{AllocError, Global};
+use std::cmp::Ordering;
+use std::marker::Model;
+
+// A label, and which of 64 neighbouring cluster roles have it: those with a 1 in the word of this
+// place. Without a value it stands for all labels of its key.
+#[derive(Drop)]
+struct Entry<'a> {
+    key: &'a Word,
+    value: Option<&'a Word>,
+    place: usize,
+    bits: u64,
+}
+
+impl<'a> Model for Entry<'a> {
+    ghost use Rattle.std.specs.Option.{option_map};
+    ghost use Rattle.rbac_model.specs.Labelled.{LabelEntry, label_texts};
+
+    ghost Value = { LabelEntry };
+
+    ghost view = { λ e. record { label = label_texts e.key.now (option_map (λ v. v.now) e.value); place = e.place; bits = e.bits } };
+}
+
+impl<'a> Entry<'a> {
+    // How its label stands to this one; a key alone stands before its labels with a value.
+    fn cmp_label(&self, key: &Word, value: Option<&Word>) -> Ordering
+        ensures { result ≡ slice_cmp text_cmp self.now.label (label_texts key.now (option_map (λ v. v.now) value.entry)) }
+    {
+        self.key.cmp(key).then(match (self.value, value) {
+            (None, None) => Ordering::Equal,
+            (None, Some(_)) => Ordering::Less,
+            (Some(_), None) => Ordering::Greater,
+            (Some(mine), Some(theirs)) => mine.cmp(theirs),
+        })
+    }
+}
+
+// The labels of these cluster roles.
+#[derive(Drop)]
+pub(crate) struct Labelled<'a> {
+    roles: &'a [ClusterRole],
+    all: Marks,
+    entries: Vec<Entry<'a>>,
+}
+
+impl<'a> Model for Labelled<'a> {
+    ghost use Rattle.std.specs.Prelude.{List, ℕ, ◌<◌, ◌↔◌, length};
+    ghost use Rattle.rbac_terms.specs.declared.granting.ClusterRole.{ClusterRole};
+    ghost use Rattle.rbac_model.specs.Graphs.{IsMarked};
+    ghost use Rattle.rbac_model.specs.Labelled.{AreLabels};
+
+    ghost Value = { List ClusterRole };
+
+    ghost view = { λ l. l.roles.now };
+
+    ghost invariant = { λ l. ((k : ℕ) → IsMarked l.all k ↔ (k < length l.roles.now)) × AreLabels l.roles.now l.entries.items };
+}
+
+impl<'a> Labelled<'a> {
+    pub(crate) fn new(alloc: Global, roles: &'a [ClusterRole]) -> Result<Self, AllocError>
+        ensures { IfOk result (λ labelled. labelled ≡ roles.now) }
+    {
+        let mut entries = Vec::new(alloc);
+        for (place, role) in roles.iter().enumerate() {
+            push_labels(&role.labels, place, &mut entries)?;
+        }
+        entries.sort_by(|a, b| a.cmp_label(b.key, b.value))?;
+        Ok(Labelled {
+            roles,
+            all: Marks::up_to(alloc, roles.len())?,
+            entries,
+        })
+    }
+
+    // The cluster roles that one of the selectors selects, or more.
+    pub(crate) fn gathered(&self, alloc: Global, selectors: &Selectors) -> Result<Marks, AllocError>
+        ensures { IfOk result (AreWith (λ labels. Any (λ selector. Selects selector labels) selectors.now) self.now) }
+    {
+        let mut marks = Marks::new(alloc);
+        for selector in selectors.as_slice() {
+            if self.all.first_outside(&marks, self.roles.len()).is_none() {
+                return Ok(marks);
+            }
+            marks.add(&self.selected(alloc, selector)?)?;
+        }
+        Ok(marks)
+    }
+
+    // The cluster roles that the selector selects.
+    fn selected(&self, alloc: Global, selector: &Selector) -> Result<Marks, AllocError>
+        ensures { IfOk result (AreWith (Selects selector.now) self.now) }
+    {
+        let mut marks = self.having_all(alloc, &selector.labels)?;
+        marks.keep(&self.meeting_all(alloc, &selector.requirements)?);
+        Ok(marks)
+    }
+
+    // Those that have each of these labels.
+    fn having_all(&self, alloc: Global, labels: &Labels) -> Result<Marks, AllocError>
+        ensures { IfOk result (AreWith (λ own. All (λ label. HasLabel own label.0 label.1) labels.now) self.now) }
+    {
+        let mut marks = self.everyone()?;
+        for label in labels.as_slice() {
+            marks.keep(&self.having(alloc, &label.0, Some(&label.1))?);
+        }
+        Ok(marks)
+    }
+
+    // Those that meet each of these requirements.
+    fn meeting_all(&self, alloc: Global, requirements: &Requirements) -> Result<Marks, AllocError>
+        ensures { IfOk result (AreWith (λ own. All (λ requirement. Meets requirement own) requirements.now) self.now) }
+    {
+        let mut marks = self.everyone()?;
+        for requirement in requirements.as_slice() {
+            marks.keep(&self.meeting(alloc, requirement)?);
+        }
+        Ok(marks)
+    }
+
+    // Those that meet the requirement.
+    fn meeting(&self, alloc: Global, requirement: &Requirement) -> Result<Marks, AllocError>
+        ensures { IfOk result (AreWith (Meets requirement.now) self.now) }
+    {
+        let key = &requirement.key;
+        match requirement.op {
+            SelectOp::OneOf => self.having_one_of(alloc, key, &requirement.values),
+            SelectOp::NoneOf => self.others(&self.having_one_of(alloc, key, &requirement.values)?),
+            SelectOp::Present => self.having(alloc, key, None),
+            SelectOp::Absent => self.others(&self.having(alloc, key, None)?),
+        }
+    }
+
+    // All of them.
+    fn everyone(&self) -> Result<Marks, AllocError>
+        ensures { IfOk result (λ marks. (k : ℕ) → IsMarked marks k ↔ (k < length self.now)) }
+    {
+        self.all.clone()
+    }
+
+    // All that aren't in this set.
+    fn others(&self, marks: &Marks) -> Result<Marks, AllocError>
+        ensures { IfOk result (λ others. (k : ℕ) → IsMarked others k ↔ ((k < length self.now) × (¬ IsMarked marks.now k))) }
+    {
+        let mut others = self.everyone()?;
+        others.remove(marks);
+        Ok(others)
+    }
+
+    // Those that have a label of this key, with one of these values.
+    fn having_one_of(&self, alloc: Global, key: &Word, values: &Words) -> Result<Marks, AllocError>
+        ensures { IfOk result (AreWith (λ own. HasOneOf own key.now values.now) self.now) }
+    {
+        let mut marks = Marks::new(alloc);
+        for value in values.as_slice() {
+            self.put_having(key, Some(value), &mut marks)?;
+        }
+        Ok(marks)
+    }
+
+    // Those that have this label, or where there is no value a label of this key.
+    fn having(&self, alloc: Global, key: &Word, value: Option<&Word>) -> Result<Marks, AllocError>
+        ensures { IfOk result (AreWith (λ own. HasSome own key.now (option_map (λ v. v.now) value.entry)) self.now) }
+    {
+        let mut marks = Marks::new(alloc);
+        self.put_having(key, value, &mut marks)?;
+        Ok(marks)
+    }
+
+    // Adds those that have this label.
+    fn put_having(
+        &self,
+        key: &Word,
+        value: Option<&Word>,
+        marks: &mut Marks,
+    ) -> Result<(), AllocError>
+        ensures { OnOk result ((k : ℕ) → IsMarked marks.new k ↔ (IsMarked marks.old k ⊎ IsWithAt (λ own. HasSome own key.now (option_map (λ v. v.now) value.entry)) self.now k)) }
+    {
+        let (from, to) = label_range(self.entries.as_slice(), key, value);
+        for at in from..to {
+            let entry = &self.entries[at];
+            marks.put(entry.place, entry.bits)?;
+        }
+        Ok(())
+    }
+}
+
+// Where the entries of this label stand: from the first place, up to the second.
+fn label_range(entries: &[Entry], key: &Word, value: Option<&Word>) -> (usize, usize)
+    requires { IsSorted (by_name (λ e. e.label)) entries.now }
+    ensures within { result.1 ≤ length entries.now }
+    ensures between { (at : ℕ) (e : LabelEntry) → slice_get entries.now at ≡ Some e → ((result.0 ≤ at) × (at < result.1)) ↔ (e.label ≡ label_texts key.now (option_map (λ v. v.now) value.entry)) }
+{
+    (
+        entries.partition_point(|entry| entry.cmp_label(key, value).is_lt()),
+        entries.partition_point(|entry| entry.cmp_label(key, value).is_le()),
+    )
+}
+
+// Adds the labels of the cluster role at this place, and their keys.
+fn push_labels<'a>(
+    labels: &'a Labels,
+    place: usize,
+    entries: &mut Vec<Entry<'a>>,
+) -> Result<(), AllocError>
+    ensures { OnOk result (Adds entries.old.items entries.new.items labels.now place) }
+{
+    let bits = 1 << (place % 64);
+    for label in labels.as_slice() {
+        let key = &label.0;
+        entries.push(Entry {
+            key,
+            value: Some(&label.1),
+            place,
+            bits,
+        })?;
+        entries.push(Entry {
+            key,
+            value: None,
+            place,
+            bits,
+        })?;
+    }
+    Ok(())
+}

@@ -1,0 +1,23 @@
+//! Where a binding is live.
+
+ghost use Rattle.std.specs.Prelude.{IsTrue, ◌↔◌};
+ghost use Rattle.rbac_model.specs.Policies.{Live};
+
+use rbac_terms::{Binding, Target, Word};
+
+/// Whether the binding is live for this target in this namespace (Using RBAC Authorization): a
+/// ClusterRoleBinding everywhere, a RoleBinding for resources of its own namespace, which isn't the
+/// empty one. Takes no memory.
+pub fn is_live(binding: &Binding, namespace: &Word, target: &Target) -> bool
+    ensures { IsTrue result ↔ Live binding.now.namespace namespace.now target.now }
+{
+    match &binding.namespace {
+        None => true,
+        Some(own) => {
+            if target.is_url() {
+                return false;
+            }
+            !namespace.is_empty() && own == namespace
+        }
+    }
+}

@@ -1,0 +1,134 @@
+//! What is reached in a graph, by one edge or more.
+
+ghost use Rattle.std.specs.Prelude.{◌≡◌, ◌<◌, ◌⊎◌, ◌↔◌, ℕ, IfOk, OnOk, MatchOption, length, vec_len};
+ghost use Rattle.rbac_model.specs.Graphs.{IsGraph, HasEdge, LeadsTo, IsMarked, LeadsAlike, AreFull, AreEnds};
+
+use crate::marks::Marks;
+use crate::visit_order::order_of;
+use std::alloc::{AllocError, Global};
+
+// Makes of the edges of each vertex all that it leads to.
+pub(crate) fn close(alloc: Global, graph: &mut Vec<Marks>) -> Result<(), AllocError>
+    requires { IsGraph graph.old.items }
+    ensures len { vec_len graph.new ≡ vec_len graph.old }
+    ensures exact { OnOk result ((a b : ℕ) → HasEdge graph.new.items a b ↔ LeadsTo graph.old.items a b) }
+{
+    let ends = ends_of(alloc, graph.as_slice())?;
+    let order = order_of(alloc, graph.as_slice())?;
+    let mut closed = Marks::new(alloc);
+    close_each(graph, &mut closed, &ends, order.as_slice())?;
+    for at in 0..graph.len() {
+        close_at(graph, &mut closed, &ends, at)?;
+    }
+    Ok(())
+}
+
+// The vertices that have no edges.
+fn ends_of(alloc: Global, graph: &[Marks]) -> Result<Marks, AllocError>
+    ensures { IfOk result (AreEnds graph.now) }
+{
+    let mut ends = Marks::new(alloc);
+    for (at, row) in graph.iter().enumerate() {
+        if row.is_empty() {
+            ends.set(at)?;
+        }
+    }
+    Ok(ends)
+}
+
+// Closes these vertices, one after the other.
+fn close_each(
+    graph: &mut Vec<Marks>,
+    closed: &mut Marks,
+    ends: &Marks,
+    order: &[usize],
+) -> Result<(), AllocError>
+    requires graph { IsGraph graph.old.items }
+    requires ends { AreEnds graph.old.items ends.now }
+    requires full { AreFull graph.old.items closed.old }
+    ensures len { vec_len graph.new ≡ vec_len graph.old }
+    ensures alike { OnOk result (LeadsAlike graph.old.items graph.new.items) }
+    ensures full { OnOk result (AreFull graph.new.items closed.new) }
+{
+    for at in order {
+        close_at(graph, closed, ends, *at)?;
+    }
+    Ok(())
+}
+
+// Gives a vertex an edge to all that it leads to, if there is such a vertex and it isn't closed.
+fn close_at(
+    graph: &mut Vec<Marks>,
+    closed: &mut Marks,
+    ends: &Marks,
+    at: usize,
+) -> Result<(), AllocError>
+    requires graph { IsGraph graph.old.items }
+    requires ends { AreEnds graph.old.items ends.now }
+    requires full { AreFull graph.old.items closed.old }
+    ensures len { vec_len graph.new ≡ vec_len graph.old }
+    ensures alike { OnOk result (LeadsAlike graph.old.items graph.new.items) }
+    ensures full { OnOk result (AreFull graph.new.items closed.new) }
+    ensures kept { OnOk result ((k : ℕ) → IsMarked closed.old k → IsMarked closed.new k) }
+    ensures closed { OnOk result (at < vec_len graph.old → IsMarked closed.new at) }
+{
+    if at >= graph.len() || closed.has(at) {
+        return Ok(());
+    }
+    let row = reach(graph.as_slice(), closed, ends, at)?;
+    graph[at] = row;
+    closed.set(at)?;
+    Ok(())
+}
+
+// All that a vertex leads to: of each vertex that is met the edges are taken, and of a closed one
+// whatever it has edges to needs no visit.
+fn reach(graph: &[Marks], closed: &Marks, ends: &Marks, from: usize) -> Result<Marks, AllocError>
+    requires graph { IsGraph graph.now }
+    requires ends { AreEnds graph.now ends.now }
+    requires full { AreFull graph.now closed.now }
+    requires from { from < length graph.now }
+    ensures { IfOk result (λ row. (k : ℕ) → IsMarked row k ↔ LeadsTo graph.now from k) }
+{
+    let mut seen = graph[from].clone()?;
+    let mut done = ends.clone()?;
+    let mut near = from;
+    while let Some(at) = next(&seen, &done, closed, near, graph.len()) {
+        take(graph, closed, at, &mut seen, &mut done)?;
+        near = at;
+    }
+    Ok(seen)
+}
+
+// The next vertex to visit: a closed one that isn't far, or else the first.
+fn next(seen: &Marks, done: &Marks, closed: &Marks, near: usize, count: usize) -> Option<usize>
+    ensures { MatchOption result
+        ((k : ℕ) → k < count → IsMarked seen.now k → IsMarked done.now k)
+        (λ at. IsMarked seen.now at × (¬ IsMarked done.now at)) }
+{
+    match seen.shared_outside(closed, done, near) {
+        Some(at) => Some(at),
+        None => seen.first_outside(done, count),
+    }
+}
+
+// Takes the edges of a vertex, which is done then, as is all that a closed one has edges to.
+fn take(
+    graph: &[Marks],
+    closed: &Marks,
+    at: usize,
+    seen: &mut Marks,
+    done: &mut Marks,
+) -> Result<(), AllocError>
+    requires { at < length graph.now }
+    ensures seen { OnOk result ((k : ℕ) → IsMarked seen.new k ↔ (IsMarked seen.old k ⊎ HasEdge graph.now at k)) }
+    ensures done { OnOk result ((k : ℕ) → IsMarked done.new k ↔ ((IsMarked done.old k ⊎ (k ≡ at)) ⊎ (IsMarked closed.now at × HasEdge graph.now at k))) }
+{
+    let row = &graph[at];
+    seen.add(row)?;
+    done.set(at)?;
+    if closed.has(at) {
+        done.add(row)?;
+    }
+    Ok(())
+}

@@ -1,0 +1,71 @@
+//! Which of the objects given stand: a later one replaces an earlier one of its kind and name.
+
+ghost use Rattle.std.specs.Prelude.{◌≡◌, IfOk, IfErr};
+ghost use Rattle.std.specs.List.{filter_map};
+ghost use Rattle.rbac_model.specs.Kept.{AreKept, AreLastNamed, as_role, as_cluster_role, as_binding};
+
+use crate::objects::{Named, Object, Objects, put};
+use rbac_terms::{Binding, ClusterRole, ModelFault, Role};
+use std::alloc::{AllocError, Global};
+
+// The objects given, kind by kind.
+#[derive(Drop)]
+struct Kinds {
+    roles: Vec<Role>,
+    cluster_roles: Vec<ClusterRole>,
+    bindings: Vec<Binding>,
+}
+
+impl Objects {
+    /// The objects that stand where these are given one after the other: of each kind, namespace
+    /// and name the last one. As quick in any order as in the order of names.
+    pub fn from_given(alloc: Global, given: Vec<Object>) -> Result<Self, ModelFault>
+        ensures kept { IfOk result (λ held. AreKept given.items held) }
+        ensures only_memory { IfErr result (λ e. e ≡ ModelFault.NoMemory) }
+    {
+        let Kinds {
+            roles,
+            cluster_roles,
+            bindings,
+        } = by_kind(alloc, given)?;
+        let roles = last_named(alloc, roles)?;
+        let cluster_roles = last_named(alloc, cluster_roles)?;
+        let bindings = last_named(alloc, bindings)?;
+        Ok(Objects::of_kinds(roles, cluster_roles, bindings))
+    }
+}
+
+// Puts each object with those of its kind, in the order given.
+fn by_kind(alloc: Global, given: Vec<Object>) -> Result<Kinds, AllocError>
+    ensures roles { IfOk result (λ kinds. kinds.roles.items ≡ filter_map as_role given.items) }
+    ensures cluster_roles { IfOk result (λ kinds. kinds.cluster_roles.items ≡ filter_map as_cluster_role given.items) }
+    ensures bindings { IfOk result (λ kinds. kinds.bindings.items ≡ filter_map as_binding given.items) }
+{
+    let mut roles = Vec::new(alloc);
+    let mut cluster_roles = Vec::new(alloc);
+    let mut bindings = Vec::new(alloc);
+    for object in given {
+        match object {
+            Object::Role(role) => roles.push(role)?,
+            Object::ClusterRole(role) => cluster_roles.push(role)?,
+            Object::Binding(binding) => bindings.push(binding)?,
+        }
+    }
+    Ok(Kinds {
+        roles,
+        cluster_roles,
+        bindings,
+    })
+}
+
+// Of each name the last that has it. Sorted first, so that each goes to the end.
+fn last_named<T: Named + Drop>(alloc: Global, mut given: Vec<T>) -> Result<Vec<T>, AllocError>
+    ensures { IfOk result (λ kept. AreLastNamed T.name given.items kept.items) }
+{
+    given.sort_by(|a, b| a.cmp_name(b))?;
+    let mut kept = Vec::with_capacity(alloc, given.len())?;
+    for item in given {
+        put(&mut kept, item)?;
+    }
+    Ok(kept)
+}

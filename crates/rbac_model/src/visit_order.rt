@@ -1,0 +1,98 @@
+//! In which order the vertices of a graph are closed. It decides how long that takes and nothing
+//! else, so nothing is proved of it.
+
+use crate::marks::Marks;
+use std::alloc::{AllocError, Global};
+
+// The vertices that have edges, in an order where a vertex stands behind those that it leads to,
+// but for rings, and each vertex of a ring but the first has an edge to an earlier one: a search in
+// depth goes edges backwards, and what it leaves last comes first (Kosaraju's order).
+pub(crate) fn order_of(alloc: Global, graph: &[Marks]) -> Result<Vec<usize>, AllocError> {
+    let waiting = with_edges(alloc, graph)?;
+    let turned = turned(alloc, graph, &waiting)?;
+    let mut met = Marks::new(alloc);
+    let mut path = Vec::new(alloc);
+    let mut left = Vec::new(alloc);
+    for _step in 0..graph.len().saturating_mul(2) {
+        walk(turned.as_slice(), &waiting, &mut met, &mut path, &mut left)?;
+    }
+    left.reverse();
+    Ok(left)
+}
+
+// The vertices that have edges.
+fn with_edges(alloc: Global, graph: &[Marks]) -> Result<Marks, AllocError> {
+    let mut vertices = Marks::new(alloc);
+    for (at, row) in graph.iter().enumerate() {
+        if !row.is_empty() {
+            vertices.set(at)?;
+        }
+    }
+    Ok(vertices)
+}
+
+// For each of these vertices those that have an edge to it.
+fn turned(alloc: Global, graph: &[Marks], vertices: &Marks) -> Result<Vec<Marks>, AllocError> {
+    let mut turned = Vec::with_capacity(alloc, graph.len())?;
+    for _row in graph {
+        turned.push(Marks::new(alloc))?;
+    }
+    for (from, row) in graph.iter().enumerate() {
+        let mut shared = row.clone()?;
+        shared.keep(vertices);
+        turn_row(&shared, from, turned.as_mut_slice())?;
+    }
+    Ok(turned)
+}
+
+// Turns the edges of one vertex.
+fn turn_row(row: &Marks, from: usize, turned: &mut [Marks]) -> Result<(), AllocError> {
+    for at in 0..turned.len() / 64 + 1 {
+        if row.has_word(at) {
+            turn_word(row, at, from, turned)?;
+        }
+    }
+    Ok(())
+}
+
+// Turns the edges that have their mark in one word.
+fn turn_word(row: &Marks, at: usize, from: usize, turned: &mut [Marks]) -> Result<(), AllocError> {
+    let first = at.saturating_mul(64);
+    for to in first..first.saturating_add(64).min(turned.len()) {
+        if row.has(to) {
+            turned[to].set(from)?;
+        }
+    }
+    Ok(())
+}
+
+// One step of the search: to a vertex that waits and has an edge to the end of the path, or back.
+fn walk(
+    turned: &[Marks],
+    waiting: &Marks,
+    met: &mut Marks,
+    path: &mut Vec<usize>,
+    left: &mut Vec<usize>,
+) -> Result<(), AllocError> {
+    let Some(end) = path.pop() else {
+        if let Some(first) = waiting.first_outside(met, turned.len()) {
+            met.set(first)?;
+            path.push(first)?;
+        }
+        return Ok(());
+    };
+    match before(turned, met, end) {
+        Some(from) => {
+            met.set(from)?;
+            path.push(end)?;
+            path.push(from)?;
+        }
+        None => left.push(end)?,
+    }
+    Ok(())
+}
+
+// One that isn't met and has an edge to this vertex.
+fn before(turned: &[Marks], met: &Marks, to: usize) -> Option<usize> {
+    turned.get(to)?.first_outside(met, turned.len())
+}

@@ -1,0 +1,8 @@
+-- the groups that a user is given, sorted
+use Rattle.std.specs.Prelude.{List}
+use Rattle.std.specs.List.Sorted.{IsSorted, IsPermutation}
+use Rattle.rbac_terms.specs.Text.{Text, text_cmp}
+
+-- the second list is the first, sorted (own)
+abbrev pub AreInOrder : List Text → List Text → Type 0
+AreInOrder given sorted = IsSorted text_cmp sorted × IsPermutation given sorted

@@ -1,0 +1,112 @@
+//! The groups that a user is given.
+
+ghost use Rattle.std.specs.Prelude.{◌≡◌, ◌++◌, ◌↔◌, [], IsTrue, IfOk, OnOk, OnErr, Contains};
+ghost use Rattle.std.specs.List.Sorted.{IsSorted};
+ghost use Rattle.rbac_terms.specs.Text.{text_cmp};
+ghost use Rattle.rbac_terms.specs.GivenGroups.{AreInOrder};
+
+use crate::text::{Word, Words};
+use std::alloc::{AllocError, Global};
+use std::marker::Model;
+
+// The groups that a user is given, as they are given: in order, with repeats. Contracts see the list
+// of them.
+#[derive(Drop)]
+pub(crate) struct GivenGroups {
+    given: Words,
+    // The same texts sorted, since a user of thousands of groups is looked up for each subject of a
+    // million. None for a member of a group, who is given none, and where those of another entry
+    // were added: a user may have a million entries, and a sort at each would take the square of
+    // that.
+    sorted: Option<Vec<Word>>,
+}
+
+impl Model for GivenGroups {
+    ghost use Rattle.std.specs.Prelude.{ℕ, List, MatchOption, ⊤};
+    ghost use Rattle.rbac_terms.specs.GivenGroups.{AreInOrder};
+
+    ghost Value = { List (List ℕ) };
+
+    ghost view = { λ g. g.given };
+
+    ghost invariant = { λ g. MatchOption g.sorted ⊤ (λ sorted. AreInOrder g.given sorted.items) };
+}
+
+impl GivenGroups {
+    // No groups. Takes no memory.
+    pub(crate) fn new(alloc: Global) -> Self
+        ensures { result ≡ [] }
+    {
+        GivenGroups {
+            given: Words::new(alloc),
+            sorted: None,
+        }
+    }
+
+    // Copies of these groups. Fails only where memory is refused.
+    pub(crate) fn of(groups: &Words) -> Result<Self, AllocError>
+        ensures { IfOk result (λ given. given ≡ groups.now) }
+    {
+        let given = groups.clone()?;
+        let sorted = sorted_copy(&given)?;
+        Ok(GivenGroups {
+            given,
+            sorted: Some(sorted),
+        })
+    }
+
+    // The groups, as they are given.
+    pub(crate) fn as_slice(&self) -> &[Word]
+        ensures { result.now ≡ self.now }
+    {
+        self.given.as_slice()
+    }
+
+    // Whether the group of this name is among them.
+    pub(crate) fn contains(&self, group: &[u8]) -> bool
+        ensures { IsTrue result ↔ Contains self.now group.now }
+    {
+        match &self.sorted {
+            Some(sorted) => is_among(sorted.as_slice(), group),
+            None => self.given.contains_bytes(group),
+        }
+    }
+
+    // Adds all of these at the end, in order. Fails only where memory is refused, and the groups are
+    // then as before.
+    pub(crate) fn append(&mut self, more: Self) -> Result<(), AllocError>
+        ensures ok { OnOk result (self.new ≡ self.old ++ more) }
+        ensures err { OnErr result (self.new ≡ self.old) }
+    {
+        let GivenGroups { given, sorted: _ } = more;
+        self.given.append(given)?;
+        self.sorted = None;
+        Ok(())
+    }
+}
+
+impl Clone for GivenGroups {
+    ghost is_clone = { λ groups copy. copy ≡ groups };
+
+    fn clone(&self) -> Result<Self, AllocError> {
+        GivenGroups::of(&self.given)
+    }
+}
+
+// Copies of the texts, sorted.
+fn sorted_copy(words: &Words) -> Result<Vec<Word>, AllocError>
+    ensures { IfOk result (λ sorted. AreInOrder words.now sorted.items) }
+{
+    let mut sorted = words.clone()?.into_vec();
+    sorted.sort_unstable();
+    Ok(sorted)
+}
+
+// Whether the text is among these.
+fn is_among(sorted: &[Word], text: &[u8]) -> bool
+    requires { IsSorted text_cmp sorted.now }
+    ensures { IsTrue result ↔ Contains sorted.now text.now }
+{
+    let found = sorted.binary_search_by(|held| held.as_bytes().cmp(text));
+    found.is_ok()
+}

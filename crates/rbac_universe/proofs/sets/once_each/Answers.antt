@@ -1,0 +1,12 @@
+use Rattle.std.specs.Str.{bytes_eq}
+use Rattle.std.specs.Cmp.Lexicographic.{texts_ties}
+use Rattle.std.proofs.lemmas.Cmp.{nat_list_cmp_total, nat_list_eq_equiv}
+use Rattle.std.proofs.lemmas.Slice.Eq.{bytes_eq-Decides}
+use Rattle.rbac_terms.specs.Text.{text_cmp}
+use Rattle.rbac_universe.proofs.Once.{once_each_is}
+use Rattle.rbac_universe.proofs.sets.once_each.Goals as goal
+
+pub returns : goal.returns
+returns c =
+    once_each_is text_cmp bytes_eq c.args.words.now _ _ nat_list_cmp_total nat_list_eq_equiv (λ x y. (bytes_eq-Decides x y).0) texts_ties
+    (rw (c.in_ok-once.ensures, c.as_slice.ensures) at c.in_ok-sort.ensures.permutation) c.in_ok-sort.ensures.sorted c.dedup.ensures.filtered
