@@ -66,8 +66,17 @@ def put(texts, crate, path, old, new):
         return "an 'old:' text is in %s %d times, and not once" % (path, found)
     if old == new:
         return 'it changes nothing'
+    if is_within_a_word(texts[path], old):
+        return "an 'old:' text begins or ends within a word of %s, so it was meant for another place" % path
     texts[path] = texts[path].replace(old, new)
     return None
+
+
+def is_within_a_word(text, old):
+    """Whether the one place of the old text begins or ends in the middle of a word."""
+    start = text.index(old)
+    ends = (start, start + len(old))
+    return any(re.match(r'\w\w', text[max(end - 1, 0):end + 1]) for end in ends)
 
 
 def edits():
