@@ -13,6 +13,8 @@ KIND is one of
     names        N resources, and the name of one object, which has M bytes
     bindings     N bindings of a user each
     nested       a list of lists of N documents, each nested as deep as may be
+    items        N items that are small objects
+    members      an item of N small objects
     collide      a binding of the users whose names stand on standard input, one a line (generate_collisions.c)
 """
 
@@ -99,12 +101,21 @@ def nested(n, _):
     return ['{"kind":"x","y":%s}' % ('[' * 120 + ']' * 120)] * n
 
 
+def items(n, _):
+    return ['{"":0}'] * n
+
+
+def members(n, _):
+    return ['{"kind":"x","y":[%s]}' % ','.join(items(n, 0))]
+
+
 def collide(_n, _m):
     return [role('r', PODS), binding('b', ','.join(subject('User', name) for name in sys.stdin.read().split()))]
 
 
 KINDS = {'ring': ring, 'all': select_all, 'steps': steps, 'expressions': expressions, 'values': values, 'labels': labels, 'groups': groups,
-         'names': names, 'bindings': bindings, 'nested': nested, 'collide': collide}
+         'names': names, 'bindings': bindings, 'nested': nested, 'items': items, 'members': members,
+         'collide': collide}
 
 
 def main(kind, out, n='1000', m='1000'):

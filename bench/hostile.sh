@@ -48,3 +48,7 @@ hostile bindings 60000
 measure "60000 users by 60000 bindings" matrix --limit 1000
 hostile nested 200000
 measure "values nested to the limit" can-i --as kim -A get pods
+hostile items 9000000
+measure "9000000 items that are small objects" can-i --as kim -A get pods
+hostile members 9000000
+measure "an item of 9000000 small objects" can-i --as kim -A get pods
