@@ -41,7 +41,7 @@ fn number_of(alloc: Global, text: &str) -> Result<Value, ReadFault>
     }
 }
 
-// The same, from its first token on.
+// A value, from its first token on.
 #[cycle(value_from)]
 fn value_from(alloc: Global, reader: &mut Reader<'_>, depth: usize) -> Result<Value, ReadFault>
     ensures read { IfOk result (λ v. value_read depth reader.old ≡ Some (view v, reader.new)) }
