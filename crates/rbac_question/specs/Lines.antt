@@ -3,10 +3,11 @@ use Rattle.std.specs.List.{slice_split}
 use Rattle.rbac_terms.specs.Text.{Text}
 use Rattle.rbac_terms.specs.Keys.{KeyTexts}
 use Rattle.rbac_terms.specs.Principals.{AsUser}
-use Rattle.rbac_token.specs.Token.{IsTokenOf}
+use Rattle.rbac_token.specs.Marks.{IsTokenOfMark}
+use Rattle.rbac_token.specs.declared.mark.Mark.{Mark}
 use Rattle.rbac_question.specs.Asked.{AsksFor, LacksType, HasUrlSubresource}
 use Rattle.rbac_question.specs.declared.command.Action.{Action}
-use Rattle.rbac_question.specs.declared.command.Action.TheVariants.{CanI, WhoCan, Matrix, Lint}
+use Rattle.rbac_question.specs.declared.command.Action.TheVariants.{CanI, WhoCan, Matrix, Every, Lint}
 use Rattle.rbac_question.specs.declared.command.Question.{Question}
 use Rattle.rbac_question.specs.declared.fault.QuestionFault.{QuestionFault}
 use Rattle.rbac_question.specs.declared.fault.QuestionFault.TheVariants.{EmptyWord, UrlSubresource, BadToken, NoMemory}
@@ -27,8 +28,9 @@ pub record CanIParts : Type 0 where
   pub why : Bool
   pub question : QuestionParts
 
--- the parts of a `matrix` line: the token of `--after` and the number of `--limit`
+-- the parts of a `matrix` line: `--every`, the token of `--after` and the number of `--limit`
 pub record MatrixParts : Type 0 where
+  pub every : Bool
   pub after : Option Text
   pub limit : Option ℕ
 
@@ -64,6 +66,7 @@ MeansCanI l (CanI principal quiet why question) =
     (principal ≡ AsUser l.user (groups_in l.groups)) × (quiet ≡ l.quiet) × (why ≡ l.why) × IsQuestion l.question question
 MeansCanI l (WhoCan question) = ⊥
 MeansCanI l (Matrix after limit) = ⊥
+MeansCanI l (Every after limit) = ⊥
 MeansCanI l Lint = ⊥
 
 -- what a `who-can` line means: it asks who is allowed this
@@ -71,20 +74,29 @@ abbrev pub MeansWhoCan : QuestionParts → Action → Type 0
 MeansWhoCan l (CanI principal quiet why question) = ⊥
 MeansWhoCan l (WhoCan question) = IsQuestion l question
 MeansWhoCan l (Matrix after limit) = ⊥
+MeansWhoCan l (Every after limit) = ⊥
 MeansWhoCan l Lint = ⊥
 
--- the key is the one whose token is given; none where none is given
+-- the key is that of the mark whose token is given; none where none is given (own)
 abbrev pub IsAfter : Option Text → Option KeyTexts → Type 0
 IsAfter None after = after ≡ None
 IsAfter (Some token) None = ⊥
-IsAfter (Some token) (Some k) = IsTokenOf token k
+IsAfter (Some token) (Some k) = (m : Mark) × IsTokenOfMark token m × (m.key ≡ k)
 
--- what a `matrix` line means: it lists what comes after the token's key, as many rows as the limit says
+-- the mark is the one whose token is given; none where none is given (own)
+abbrev pub IsAfterMark : Option Text → Option Mark → Type 0
+IsAfterMark None after = after ≡ None
+IsAfterMark (Some token) None = ⊥
+IsAfterMark (Some token) (Some m) = IsTokenOfMark token m
+
+-- what a `matrix` line means: it lists what comes after the key of the token's mark, as many rows as the limit says;
+-- with `--every` it lists every binding that grants, after the mark itself
 abbrev pub MeansMatrix : MatrixParts → Action → Type 0
 MeansMatrix l (CanI principal quiet why question) = ⊥
 MeansMatrix l (WhoCan question) = ⊥
 MeansMatrix l Lint = ⊥
-MeansMatrix l (Matrix after limit) = IsAfter l.after after × (limit ≡ l.limit)
+MeansMatrix l (Matrix after limit) = (l.every ≡ false) × IsAfter l.after after × (limit ≡ l.limit)
+MeansMatrix l (Every after limit) = (l.every ≡ true) × IsAfterMark l.after after × (limit ≡ l.limit)
 
 -- which refusal USER comes to
 abbrev pub RefusesUser : Text → QuestionFault → Type 0
@@ -119,10 +131,10 @@ RefusesCanI l UrlSubresource = (l.user ≢ []) × RefusesQuestion l.question Url
 RefusesCanI l BadToken = ⊥
 RefusesCanI l NoMemory = Unit {0}
 
--- U4: a token is given that no key has (own)
+-- U4: a token is given that no mark has, with `--every` and without (own)
 abbrev pub HasBadToken : Option Text → Type 0
 HasBadToken None = ⊥
-HasBadToken (Some token) = (k : KeyTexts) → ¬ IsTokenOf token k
+HasBadToken (Some token) = (m : Mark) → ¬ IsTokenOfMark token m
 
 -- the refusal of a `matrix` line; memory may be refused at any time
 abbrev pub RefusesMatrix : MatrixParts → QuestionFault → Type 0

@@ -2,6 +2,7 @@
 
 use crate::asked::Asked;
 use rbac_terms::{Key, Principal, Word};
+use rbac_token::Mark;
 
 /// Whether a verb may be used on what is asked for, in a namespace (own, after `kubectl auth
 /// can-i`).
@@ -38,6 +39,13 @@ pub enum Action {
     Matrix {
         /// The key of `--after`: only what comes after it is listed.
         after: Option<Key>,
+        /// The most rows, as `--limit` gives it.
+        limit: Option<u32>,
+    },
+    /// Lists every binding that grants, for all that anyone may do.
+    Every {
+        /// The mark of `--after`: only what comes after it is listed.
+        after: Option<Mark>,
         /// The most rows, as `--limit` gives it.
         limit: Option<u32>,
     },

@@ -2,14 +2,14 @@
 
 ghost use Rattle.std.specs.Prelude.{◌≡◌, ◌≢◌, ◌⊎◌, [], Some, map, IfOk, IfErr, MatchResult};
 ghost use Rattle.rbac_terms.specs.Principals.{AsUser};
-ghost use Rattle.rbac_token.specs.Token.{IsTokenOf};
+ghost use Rattle.rbac_token.specs.Marks.{IsTokenOfMark};
 ghost use Rattle.rbac_question.specs.Lines.{comma, parts_between, groups_in, namespace_meant, IsQuestion, MeansCanI, MeansWhoCan, MeansMatrix, LacksWord, AcceptsQuestion, RefusesQuestion, AcceptsCanI, RefusesCanI, RefusesMatrix, RefusesUser, HasBadToken};
 
 use crate::asked::Asked;
 use crate::command::{Action, Question};
 use crate::fault::QuestionFault;
-use rbac_terms::{Key, ModelFault, Principal, Word, Words};
-use rbac_token::key_of_token;
+use rbac_terms::{ModelFault, Principal, Word, Words};
+use rbac_token::{Mark, mark_of_token};
 use std::alloc::{AllocError, Global};
 use std::marker::Model;
 
@@ -75,6 +75,8 @@ impl<'a> Model for CanILine<'a> {
 /// The parts of a `matrix` line.
 #[derive(Drop)]
 pub struct MatrixLine<'a> {
+    /// Whether `--every` stands.
+    pub every: bool,
     /// The token after `--after`.
     pub after: Option<&'a str>,
     /// The number after `--limit`.
@@ -87,7 +89,11 @@ impl<'a> Model for MatrixLine<'a> {
 
     ghost Value = { MatrixParts };
 
-    ghost view = { λ l. record { after = option_map (λ t. t.now) l.after; limit = l.limit } };
+    ghost view = { λ l. record {
+      every = l.every;
+      after = option_map (λ t. t.now) l.after;
+      limit = l.limit;
+    } };
 }
 
 // The parts between commas.
@@ -140,14 +146,14 @@ fn principal_from(alloc: Global, user: &str, groups: &str) -> Result<Principal, 
     }
 }
 
-// The key whose token this is.
-fn key_after(alloc: Global, token: &str) -> Result<Key, QuestionFault>
-    ensures key { IfOk result (IsTokenOf token.now) }
+// The mark whose token this is.
+fn mark_after(alloc: Global, token: &str) -> Result<Mark, QuestionFault>
+    ensures mark { IfOk result (IsTokenOfMark token.now) }
     ensures refused { IfErr result (λ e. (e ≡ QuestionFault.NoMemory)
         ⊎ ((e ≡ QuestionFault.BadToken) × HasBadToken (Some token.now))) }
 {
     let token = Word::from_slice(alloc, token.as_bytes())?;
-    Ok(key_of_token(alloc, &token)?)
+    Ok(mark_of_token(alloc, &token)?)
 }
 
 // The question that a line asks, whoever asks it.
@@ -210,17 +216,22 @@ impl Action {
 
     /// What a `matrix` line means.
     ///
-    /// U4 where what follows `--after` is the token of no key.
+    /// Without `--every` a mark stands for its key. U4 where what follows `--after` is the token of no
+    /// mark, with `--every` and without.
     pub fn matrix(alloc: Global, line: &MatrixLine<'_>) -> Result<Self, QuestionFault>
         ensures { MatchResult result (MeansMatrix line.now) (RefusesMatrix line.now) }
     {
         let after = match line.after {
-            Some(token) => Some(key_after(alloc, token)?),
+            Some(token) => Some(mark_after(alloc, token)?),
             None => None,
         };
+        let limit = line.limit;
+        if line.every {
+            return Ok(Action::Every { after, limit });
+        }
         Ok(Action::Matrix {
-            after,
-            limit: line.limit,
+            after: after.map(|mark| mark.key),
+            limit,
         })
     }
 }
