@@ -4,12 +4,12 @@ use Rattle.std.specs.Prelude.{◌||◌}
 use Rattle.std.specs.Str.{bytes_eq}
 use Rattle.std.proofs.lemmas.Slice.Eq.{bytes_eq-Decides}
 use Rattle.clap.specs.Words.{Row, Text, first_of}
-use Rattle.rbac_question.specs.Lines.{QuestionParts, CanIParts, MatrixParts, MeansCanI, MeansWhoCan, MeansMatrix, AcceptsCanI, AcceptsQuestion, RefusesCanI, RefusesQuestion, RefusesMatrix, HasBadToken, IsAfter}
+use Rattle.rbac_question.specs.Lines.{QuestionParts, CanIParts, MatrixParts, MeansCanI, MeansWhoCan, MeansMatrix, AcceptsCanI, AcceptsQuestion, RefusesCanI, RefusesQuestion, RefusesMatrix, HasBadToken, IsAfter, IsAfterMark}
 use Rattle.rbac_question.specs.declared.command.Action.{Action}
-use Rattle.rbac_question.specs.declared.command.Action.TheVariants.{CanI, WhoCan, Matrix, Lint}
+use Rattle.rbac_question.specs.declared.command.Action.TheVariants.{CanI, WhoCan, Matrix, Every, Lint}
 use Rattle.rbac_question.specs.declared.fault.QuestionFault.{QuestionFault}
 use Rattle.rbac_question.specs.declared.fault.QuestionFault.TheVariants.{EmptyWord, UrlSubresource, BadToken, NoMemory}
-use Rattle.rbac_command.specs.Meaning.{question_in, parts_in, is_known, DoesAction, IsNumberAt, RefusesAction}
+use Rattle.rbac_command.specs.Meaning.{question_in, parts_in, has_flag, is_known, DoesAction, IsNumberAt, RefusesAction}
 
 first_of_four : (a b c d : Bool) → a || (b || (c || d)) ≡ true → b ≡ false → c ≡ false → d ≡ false → a ≡ true
 first_of_four true b c d h e k l = refl
@@ -34,6 +34,7 @@ as_can_i : (name : Text) (rows : List Row) (r : Result Action QuestionFault) →
 as_can_i name rows (Ok (CanI principal quiet why question)) e h = (e, h.0, h.1)
 as_can_i name rows (Ok (WhoCan question)) e h = absurd h.1
 as_can_i name rows (Ok (Matrix after limit)) e h = absurd h.1
+as_can_i name rows (Ok (Every after limit)) e h = absurd h.1
 as_can_i name rows (Ok Lint) e h = absurd h.1
 as_can_i name rows (Err EmptyWord) e h = inl (e, h)
 as_can_i name rows (Err UrlSubresource) e h = inl (e, h)
@@ -52,6 +53,7 @@ as_who_can : (name : Text) (rows : List Row) (r : Result Action QuestionFault) �
 as_who_can name rows (Ok (CanI principal quiet why question)) e h = absurd h.1
 as_who_can name rows (Ok (WhoCan question)) e h = (e, h.0, h.1)
 as_who_can name rows (Ok (Matrix after limit)) e h = absurd h.1
+as_who_can name rows (Ok (Every after limit)) e h = absurd h.1
 as_who_can name rows (Ok Lint) e h = absurd h.1
 as_who_can name rows (Err EmptyWord) e h = inr (e, h)
 as_who_can name rows (Err UrlSubresource) e h = inr (e, h)
@@ -64,16 +66,18 @@ pub who_can_line : (name : Text) (rows : List Row) (l : QuestionParts) (r : Resu
 who_can_line name rows l r e same h =
     as_who_can name rows r e (subst (λ (parts : QuestionParts). MatchResult r (λ a. AcceptsQuestion parts × MeansWhoCan parts a) (RefusesQuestion parts)) same h)
 
--- a `matrix` line does what its token and number say
+-- a `matrix` line does what `--every`, its token and its number say
 pub matrix_line : (name : Text) (rows : List Row) (l : MatrixParts) (r : Result Action QuestionFault) → name ≡ codes "matrix"
-    → l.after ≡ first_of (codes "after") rows → IsNumberAt (codes "limit") rows l.limit → MatchResult r (MeansMatrix l) (RefusesMatrix l)
+    → l.every ≡ has_flag (codes "every") rows → l.after ≡ first_of (codes "after") rows → IsNumberAt (codes "limit") rows l.limit → MatchResult r (MeansMatrix l) (RefusesMatrix l)
     → MatchResult r (DoesAction name rows) (RefusesAction name rows)
-matrix_line name rows l (Ok (CanI principal quiet why question)) e f n h = absurd h
-matrix_line name rows l (Ok (WhoCan question)) e f n h = absurd h
-matrix_line name rows l (Ok (Matrix after limit)) e f n h =
-    (e, subst (λ (t : _). IsAfter t after) f h.0, subst (λ (m : _). IsNumberAt (codes "limit") rows m) (sym h.1) n)
-matrix_line name rows l (Ok Lint) e f n h = absurd h
-matrix_line name rows l (Err EmptyWord) e f n h = absurd h
-matrix_line name rows l (Err UrlSubresource) e f n h = absurd h
-matrix_line name rows l (Err BadToken) e f n h = (e, subst HasBadToken f h)
-matrix_line name rows l (Err NoMemory) e f n h = tt
+matrix_line name rows l (Ok (CanI principal quiet why question)) e v f n h = absurd h
+matrix_line name rows l (Ok (WhoCan question)) e v f n h = absurd h
+matrix_line name rows l (Ok (Matrix after limit)) e v f n h =
+    (e, sym v ∙ h.0, subst (λ (t : _). IsAfter t after) f h.1, subst (λ (m : _). IsNumberAt (codes "limit") rows m) (sym h.2) n)
+matrix_line name rows l (Ok (Every after limit)) e v f n h =
+    (e, sym v ∙ h.0, subst (λ (t : _). IsAfterMark t after) f h.1, subst (λ (m : _). IsNumberAt (codes "limit") rows m) (sym h.2) n)
+matrix_line name rows l (Ok Lint) e v f n h = absurd h
+matrix_line name rows l (Err EmptyWord) e v f n h = absurd h
+matrix_line name rows l (Err UrlSubresource) e v f n h = absurd h
+matrix_line name rows l (Err BadToken) e v f n h = (e, subst HasBadToken f h)
+matrix_line name rows l (Err NoMemory) e v f n h = tt

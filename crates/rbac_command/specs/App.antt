@@ -59,6 +59,10 @@ verb_rule = record (new_rule (codes "verb")) { value_names = 1; required = true 
 abbrev pub target_rule : Rule
 target_rule = record (new_rule (codes "target")) { value_names = 1; required = true }
 
+-- `--every`
+abbrev pub every_rule : Rule
+every_rule = record (new_rule (codes "every")) { long = Some (codes "every"); action = Some SetTrue }
+
 -- `--after TOKEN`
 abbrev pub after_rule : Rule
 after_rule = record (new_rule (codes "after")) { long = Some (codes "after"); value_names = 1 }
@@ -96,9 +100,10 @@ can_i_app =
 abbrev pub who_can_app : App
 who_can_app = with_question (with_scope (new_app (codes "who-can")))
 
--- matrix [--after TOKEN] [--limit N] [FILE]..
+-- matrix [--every] [--after TOKEN] [--limit N] [FILE]..
 abbrev pub matrix_app : App
-matrix_app = with_rule (with_rule (with_rule (new_app (codes "matrix")) after_rule) limit_rule) files_rule
+matrix_app =
+    with_rule (with_rule (with_rule (with_rule (new_app (codes "matrix")) every_rule) after_rule) limit_rule) files_rule
 
 -- lint [FILE]..
 abbrev pub lint_app : App

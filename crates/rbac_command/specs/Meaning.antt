@@ -1,12 +1,12 @@
 -- What the words of a command line mean, by `clap`'s matches.
-use Rattle.std.specs.Prelude.{◌≡◌, ◌||◌, ◌⊎◌, ◌<◌, ◌^◌, ℕ, Bool, List, [], Option, Some, None, Result, map, codes, unwrap_or, MatchResult, string_bytes}
+use Rattle.std.specs.Prelude.{◌≡◌, ◌||◌, ◌⊎◌, ◌<◌, ◌^◌, ℕ, Bool, true, false, List, [], Option, Some, None, Result, map, codes, unwrap_or, MatchResult, string_bytes}
 use Rattle.std.specs.Str.{bytes_eq}
 use Rattle.std.specs.Str.Parse.{IsNumeral, without_leading_plus, digits_value}
 use Rattle.clap.specs.Words.{Row, Text, all_of, fault_of, first_of, kind_of, one_of, subcommand_of}
 use Rattle.clap.specs.Kinds.{IsAmong}
-use Rattle.rbac_question.specs.Lines.{QuestionParts, CanIParts, MeansCanI, MeansWhoCan, AcceptsCanI, AcceptsQuestion, RefusesCanI, RefusesQuestion, HasBadToken, IsAfter}
+use Rattle.rbac_question.specs.Lines.{QuestionParts, CanIParts, MeansCanI, MeansWhoCan, AcceptsCanI, AcceptsQuestion, RefusesCanI, RefusesQuestion, HasBadToken, IsAfter, IsAfterMark}
 use Rattle.rbac_question.specs.declared.command.Action.{Action}
-use Rattle.rbac_question.specs.declared.command.Action.TheVariants.{CanI, WhoCan, Matrix, Lint}
+use Rattle.rbac_question.specs.declared.command.Action.TheVariants.{CanI, WhoCan, Matrix, Every, Lint}
 use Rattle.rbac_question.specs.declared.command.Command.{Command}
 use Rattle.rbac_question.specs.declared.fault.QuestionFault.{QuestionFault}
 use Rattle.rbac_question.specs.declared.fault.QuestionFault.TheVariants as question
@@ -75,7 +75,9 @@ DoesAction name rows (CanI principal quiet why question) =
 DoesAction name rows (WhoCan question) =
     (name ≡ codes "who-can") × AcceptsQuestion (question_in rows) × MeansWhoCan (question_in rows) (WhoCan question)
 DoesAction name rows (Matrix after limit) =
-    (name ≡ codes "matrix") × IsAfter (first_of (codes "after") rows) after × IsNumberAt (codes "limit") rows limit
+    (name ≡ codes "matrix") × (has_flag (codes "every") rows ≡ false) × IsAfter (first_of (codes "after") rows) after × IsNumberAt (codes "limit") rows limit
+DoesAction name rows (Every after limit) =
+    (name ≡ codes "matrix") × (has_flag (codes "every") rows ≡ true) × IsAfterMark (first_of (codes "after") rows) after × IsNumberAt (codes "limit") rows limit
 DoesAction name rows Lint = name ≡ codes "lint"
 
 -- the command is what the matches of the subcommand of that name mean

@@ -3,7 +3,7 @@
 ghost use Rattle.std.specs.Prelude.{◌≡◌, IfOk, false};
 ghost use Rattle.clap.specs.Words.{app_of, new_app, rule_of, with_rule, with_subcommand};
 ghost use Rattle.clap.specs.declared.builder.command.Command.TheViews.{out-Command as fields_of};
-ghost use Rattle.rbac_command.specs.App.{after_rule, limit_rule, user_rule, groups_rule, namespace_rule, all_rule, subresource_rule, quiet_rule, why_rule, verb_rule, target_rule, files_rule};
+ghost use Rattle.rbac_command.specs.App.{every_rule, after_rule, limit_rule, user_rule, groups_rule, namespace_rule, all_rule, subresource_rule, quiet_rule, why_rule, verb_rule, target_rule, files_rule};
 ghost use Rattle.rbac_command.specs.App.{with_asker, with_scope, with_question, can_i_app, who_can_app, matrix_app, lint_app, bare_app, rbac_app};
 
 use clap::{Arg, ArgAction, Command, value_parser};
@@ -45,6 +45,7 @@ Examples:
 const MATRIX_MORE: &str =
     "A line has seven fields, joined by tabs: who (u:USER or g:GROUP), namespace, verb,
 API group, resource or URL, object name, and the first binding that grants it; - is an empty field.
+With --every each binding that grants it has a line: whoever deletes one sees what still grants.
 A Universe document says whom and what to ask. A list that it leaves out is made from the files:
 whom bindings name and every service account, the namespaces, verbs, object names and URLs that
 there are, and the resources of the API resource lists, or of the rules if there is no such list.
@@ -54,6 +55,7 @@ The last line is end, or next and a TOKEN, joined by a tab, where --limit left r
 
 Examples:
   rbacaudit matrix cluster.json namespaced.json universe.json
+  rbacaudit matrix --every cluster.json namespaced.json universe.json
   rbacaudit matrix --limit 1000 --after TOKEN cluster.json namespaced.json";
 
 const LINT_MORE: &str = "A line has five fields, joined by tabs; - is an empty field:
@@ -166,6 +168,16 @@ fn target_arg<'a>(alloc: Global) -> Arg<'a>
         .value_name("TARGET")
         .required(true)
         .help("TYPE, TYPE/NAME or a URL path, e.g. pods, deployments.apps/web or /healthz")
+}
+
+fn every_arg<'a>(alloc: Global) -> Arg<'a>
+    ensures rule { rule_of result ≡ every_rule }
+    ensures local { result.global ≡ false }
+{
+    Arg::new(alloc, "every")
+        .long("every")
+        .action(ArgAction::SetTrue)
+        .help("List every binding that grants, not only the first")
 }
 
 fn after_arg<'a>(alloc: Global) -> Arg<'a>
@@ -287,6 +299,7 @@ fn matrix<'a>(alloc: Global) -> Result<Command<'a>, AllocError>
         "List everything that anyone may do: a line for each request that is allowed, then end",
         MATRIX_MORE,
     );
+    let command = with(command, every_arg(alloc))?;
     let command = with(command, after_arg(alloc))?;
     let command = with(command, limit_arg(alloc))?;
     with(command, files_arg(alloc))

@@ -17,7 +17,7 @@ pub enum UsageFault {
     EmptyWord,
     /// U3: a subresource is asked for with a URL.
     UrlSubresource,
-    /// U4: what follows `--after` is the token of no key.
+    /// U4: what follows `--after` is the token of no mark.
     BadToken,
     /// Memory was refused.
     NoMemory,

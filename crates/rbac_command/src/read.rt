@@ -76,10 +76,12 @@ fn number_of(matches: &ArgMatches<'_>, id: &str) -> Option<u32>
 
 // The parts of a `matrix` line.
 fn matrix_line_of<'a>(matches: &ArgMatches<'a>) -> MatrixLine<'a>
+    ensures every { result.every ≡ has_flag (codes "every") (rows_of (found_of matches.now)) }
     ensures after { result.after ≡ first_of (codes "after") (rows_of (found_of matches.now)) }
     ensures limit { IsNumberAt (codes "limit") (rows_of (found_of matches.now)) result.limit }
 {
     MatrixLine {
+        every: flag_of(matches, "every"),
         after: value_of(matches, "after"),
         limit: number_of(matches, "limit"),
     }

@@ -8,8 +8,8 @@ use Rattle.rbac_command.proofs.read.action_of.Goals as goal
 pub returns-then-eq : goal.returns-then-eq
 returns-then-eq c =
     matrix_line c.args.name.now (rows_of (found_of c.args.matches.now)) _ c.matrix.result
-    ((bytes_eq-Decides c.args.name.now (codes "matrix")).0 (sym c.eq.ensures ∙ c.if-eq.true)) c.matrix_line_of.ensures.after
-    c.matrix_line_of.ensures.limit c.matrix.ensures
+    ((bytes_eq-Decides c.args.name.now (codes "matrix")).0 (sym c.eq.ensures ∙ c.if-eq.true)) c.matrix_line_of.ensures.every
+    c.matrix_line_of.ensures.after c.matrix_line_of.ensures.limit c.matrix.ensures
 
 pub returns-then-eq-2 : goal.returns-then-eq-2
 returns-then-eq-2 c =
