@@ -4,6 +4,7 @@ Texts and statuses on the real streams, files that can't be read, full disks, in
 `console` block of the documents (transcripts.py). The last line is `N passed, M failed`.
 """
 
+import base64
 import json
 import os
 import resource
@@ -43,6 +44,10 @@ def binding(kind, name, role_kind, role_name, namespace=None):
         metadata['namespace'] = namespace
     return {'apiVersion': V1, 'kind': kind, 'metadata': metadata,
             'roleRef': {'kind': role_kind, 'name': role_name}, 'subjects': [{'kind': 'User', 'name': 'alice'}]}
+
+
+def token_of(text):
+    return base64.urlsafe_b64encode(text.encode()).rstrip(b'=').decode()
 
 
 def listed(version, kind, *items):
@@ -113,10 +118,18 @@ def help_and_usage():
     for command in ('who-can', 'matrix', 'lint'):
         text = run([command, '--help']).stdout
         checked('help of %s names FILE and has an example' % command, b'FILE' in text and b'rbacaudit %s ' % command.encode() in text, repr(text))
-    for option in (b'--after <TOKEN>', b'--limit <N>'):
+    for option in (b'--every', b'--after <TOKEN>', b'--limit <N>'):
         checked('help names %s' % option.decode(), option in run(['matrix', '--help']).stdout)
-    for token in ('', 'MQ==', 'M', 'OQ', 'MQ', 'MQlnOmEJLQktCS0JeAkt='):
-        expect('"%s" is no token' % token, ['matrix', '--after', token], 2, err=b'rbacaudit: U4 bad token\n')
+    no_tokens = ['', 'MQ==', 'M', 'OQ', 'MQ', 'Mg', 'Mw', 'MQlnOmEJLQktCS0JeAkt=']
+    key = '\tg:a\t-\t-\t-\tx\t-'
+    no_tokens += map(token_of, ['2' + key, '1' + key + '\tClusterRoleBinding\t-\tb', '3' + key + '\tClusterRoleBinding\t-\tb',
+                                '2' + key + '\tClusterRoleBinding\tdev\tb', '2' + key + '\tRole\tdev\tb', '2' + key + '\tRoleBinding\tdev'])
+    for token in no_tokens:
+        for form in (['matrix'], ['matrix', '--every']):
+            expect('"%s" is no token of %s' % (token, ' '.join(form)), [*form, '--after', token], 2, err=b'rbacaudit: U4 bad token\n')
+    for text in ('1' + key, '2' + key + '\tClusterRoleBinding\t-\tb', '2' + key + '\tRoleBinding\tdev\tb', '2' + key + '\tRoleBinding\t-\t-'):
+        for form in (['matrix'], ['matrix', '--every']):
+            expect('%r is a token of %s' % (text, ' '.join(form)), [*form, '--after', token_of(text)], 0, b'end\n', given=export())
     expect('--version prints name and version', ['--version'], 0, b'rbacaudit 0.1.0\n')
     expect('-V is --version', ['-V'], 0, b'rbacaudit 0.1.0\n')
     expect('a word that is not UTF-8', ['can-i', '--as', b'al\xffce', 'get', 'pods'], 2,
@@ -124,6 +137,7 @@ def help_and_usage():
     for words in ([], ['can-i'], ['can-i', 'get', 'pods'], ['who-knows'], ['can-i', '--as', 'alice', '--why', 'get'],
                   ['can-i', '--as', 'a', '--as', 'b', 'get', 'pods'], ['can-i', '--as', 'a', '-A', '-A', 'get', 'pods'], ['who-can', 'get'],
                   ['who-can', '--as', 'alice', 'get', 'pods'], ['who-can', '--limit', '1', 'get', 'pods'],
+                  ['who-can', '--every', 'get', 'pods'], ['lint', '--every'], ['matrix', '--every', '--every'], ['matrix', '--every=x'],
                   ['matrix', '--limit', '1', '--limit', '1'], ['matrix', '--after', 'MQ', '--after', 'MQ'], ['matrix', '-n', 'dev'],
                   ['lint', '--limit', '1'], ['lint', '-n', 'dev'], ['help']):
         ended = run(words)
@@ -205,9 +219,11 @@ def matrix_streams():
     expect('a matrix of a bad document', ['matrix'], 2, err=b'rbacaudit: file 1: M2 not an object\n', given=b'[]')
     expect('a matrix of a document that is passed over', ['matrix'], 0, b'end\n',
            given=b'{"kind":"APIVersions","versions":["v1"]}')
-    with open('/dev/full', 'wb') as full:
-        ended = run(['matrix'], export(), stdout=full)
-    checked('a matrix on a full disk', (ended.returncode, ended.stderr) == (2, b'rbacaudit: write failed after 0 bytes\n'), repr(ended))
+    for form in (['matrix'], ['matrix', '--every']):
+        with open('/dev/full', 'wb') as full:
+            ended = run(form, export(), stdout=full)
+        got = (ended.returncode, ended.stderr)
+        checked('%s on a full disk' % ' '.join(form), got == (2, b'rbacaudit: write failed after 0 bytes\n'), repr(ended))
 
 
 def lint_streams():
