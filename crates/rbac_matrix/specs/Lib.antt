@@ -3,6 +3,7 @@ pub mod Cursors
 pub mod Enumeration
 pub mod Every
 pub mod EveryLeft
+pub mod EveryPages
 pub mod EveryStart
 pub mod Lent
 pub mod Lines
@@ -15,4 +16,5 @@ pub mod Printed
 pub mod RowTexts
 pub mod Seats
 pub mod Shown
+pub mod ShownTokens
 pub mod Starting

@@ -9,9 +9,7 @@ use Rattle.rbac_text.specs.Row.{tab, newline}
 use Rattle.rbac_token.specs.Token.{token_text}
 use Rattle.rbac_matrix.specs.Enumeration.{AreLeft}
 use Rattle.rbac_matrix.specs.Printed.{StopsWithin, rows_text}
-use Rattle.rbac_matrix.specs.RowTexts.{key_shown}
 use Rattle.rbac_matrix.specs.declared.enumeration.Rows.{Rows}
-use Rattle.rbac_matrix.specs.declared.row.Row.{Row}
 
 -- of these rows those that the limit leaves, and whether more follow; without a limit all of them
 abbrev pub cut_at : Option ℕ → List RowView → List RowView × Bool
@@ -31,11 +29,6 @@ last_words None more = codes "end"
 -- the lines of a page: its rows, and the last line
 abbrev pub page_text : List RowView × Bool → Text
 page_text p = rows_text p.0 ++ last_words (last_or None p.0) p.1 ++ newline ∷ []
-
--- the last line of a page: for the row after which more follow, and without one
-abbrev pub last_line : Option Row → Text
-last_line (Some row) = next_words (key_shown row) ++ newline ∷ []
-last_line None = codes "end" ++ newline ∷ []
 
 -- the lines of the page of the rows that are left
 abbrev pub IsPageOf : Option ℕ → Rows → Text → Type 0

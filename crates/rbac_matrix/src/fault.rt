@@ -3,6 +3,7 @@
 ghost use Rattle.std.specs.Prelude.{◌≡◌};
 
 use rbac_terms::ModelFault;
+use rbac_token::TokenFault;
 use std::alloc::{AllocError, AllocFailed};
 use thiserror::Error;
 
@@ -20,6 +21,16 @@ impl From<ModelFault> for MatrixFault {
     ghost from_gives = { λ _ fault. fault ≡ NoMemory };
 
     fn from(_: ModelFault) -> Self {
+        MatrixFault::NoMemory
+    }
+}
+
+impl From<TokenFault> for MatrixFault {
+    ghost use Rattle.rbac_matrix.specs.declared.fault.MatrixFault.TheVariants.{NoMemory};
+
+    ghost from_gives = { λ _ fault. fault ≡ NoMemory };
+
+    fn from(_: TokenFault) -> Self {
         MatrixFault::NoMemory
     }
 }

@@ -3,6 +3,7 @@
 
 mod bound_runs;
 mod enumeration;
+mod every_pages;
 mod every_rows;
 mod every_start;
 mod fault;
@@ -15,9 +16,11 @@ mod seat;
 mod seats;
 mod start;
 mod steps;
+mod token;
 mod walk;
 
 pub use enumeration::Rows;
+pub use every_pages::print_every_page;
 pub use every_rows::EveryRows;
 pub use fault::MatrixFault;
 pub use laws::{

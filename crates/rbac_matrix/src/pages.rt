@@ -6,15 +6,16 @@ ghost use Rattle.rbac_model.specs.Universes.{RowView};
 ghost use Rattle.rbac_streams.specs.Taken.{Prints};
 ghost use Rattle.rbac_text.specs.Row.{newline, row_text};
 ghost use Rattle.rbac_matrix.specs.Enumeration.{AreLeft, IsGoing};
-ghost use Rattle.rbac_matrix.specs.Pages.{StopsInPage, cut_at, last_line, next_words, page_text};
+ghost use Rattle.rbac_matrix.specs.Pages.{StopsInPage, cut_at, page_text};
 ghost use Rattle.rbac_matrix.specs.Printed.{StopsBy};
 ghost use Rattle.rbac_matrix.specs.RowTexts.{key_shown};
+ghost use Rattle.rbac_matrix.specs.ShownTokens.{last_line, next_token};
 
 use crate::enumeration::Rows;
 use crate::fault::MatrixFault;
 use crate::row::Row;
+use crate::token::{TokenOf, token_of_row};
 use rbac_streams::{Page, PrintFault, Sink};
-use rbac_token::token_of;
 use std::alloc::Global;
 use std::io::Write;
 
@@ -48,17 +49,17 @@ pub fn print_page<W: Write + Drop>(
     let mut last = None;
     while let Some(row) = rows.next() {
         if left == Some(0) {
-            return print_last(alloc, last, &mut text, sink, page);
+            return print_last(alloc, TokenOf::Key, last, &mut text, sink, page);
         }
         print_row(row, &mut text, sink, page)?;
         left = one_less(left);
         last = Some(row);
     }
-    print_last(alloc, None, &mut text, sink, page)
+    print_last(alloc, TokenOf::Key, None, &mut text, sink, page)
 }
 
 // How many rows are left to be printed after one more.
-fn one_less(left: Option<u32>) -> Option<u32>
+pub(crate) fn one_less(left: Option<u32>) -> Option<u32>
     requires { left ≢ Some 0 }
     ensures { result ≡ option_map (λ count. count - 1) left }
 {
@@ -66,7 +67,7 @@ fn one_less(left: Option<u32>) -> Option<u32>
 }
 
 // Prints a row, whose line is put together in `text`.
-fn print_row<W: Write + Drop>(
+pub(crate) fn print_row<W: Write + Drop>(
     row: Row<'_>,
     text: &mut Vec<u8>,
     sink: &mut Sink<W>,
@@ -84,33 +85,33 @@ fn print_row<W: Write + Drop>(
 }
 
 // Prints the last line of a page, for the row after which more follow; without one for the end.
-fn print_last<W: Write + Drop>(
+pub(crate) fn print_last<W: Write + Drop>(
     alloc: Global,
+    of: TokenOf,
     row: Option<Row<'_>>,
     text: &mut Vec<u8>,
     sink: &mut Sink<W>,
     page: &mut Page,
 ) -> Result<(), PrintFault>
     requires { sink.old.has_failed ≡ false }
-    ensures ok { OnOk result (Prints W.contents sink.old page.old sink.new page.new (last_line row.entry)) }
+    ensures ok { OnOk result (Prints W.contents sink.old page.old sink.new page.new (last_line of row.entry)) }
     ensures works { OnOk result (sink.new.has_failed ≡ false) }
-    ensures err { IfErr result (StopsBy W.contents sink.old page.old sink.new page.new (last_line row.entry)) }
+    ensures err { IfErr result (StopsBy W.contents sink.old page.old sink.new page.new (last_line of row.entry)) }
 {
     let Some(row) = row else {
         return page.print(sink, END);
     };
-    if put_next(alloc, row, text).is_err() {
+    if put_next(alloc, of, row, text).is_err() {
         return Err(PrintFault::NoMemory);
     }
     page.print(sink, text.as_slice())
 }
 
 // Puts `next`, the token of the row and the line's end in place of what was there.
-fn put_next(alloc: Global, row: Row<'_>, line: &mut Vec<u8>) -> Result<(), MatrixFault>
-    ensures { OnOk result (line.new.items ≡ next_words (key_shown row.entry) ++ newline ∷ []) }
+fn put_next(alloc: Global, of: TokenOf, row: Row<'_>, line: &mut Vec<u8>) -> Result<(), MatrixFault>
+    ensures { OnOk result (line.new.items ≡ next_token of row.entry ++ newline ∷ []) }
 {
-    let key = row.key(alloc)?;
-    let token = token_of(alloc, &key).map_err(|_| MatrixFault::NoMemory)?;
+    let token = token_of_row(alloc, of, row)?;
     line.clear();
     line.extend_from_slice(NEXT)?;
     line.extend_from_slice(token.as_bytes())?;

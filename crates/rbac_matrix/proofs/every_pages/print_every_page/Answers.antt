@@ -1,0 +1,64 @@
+use Rattle.std.proofs.Common.{◌∙◌, sym}
+use Rattle.rbac_matrix.specs.EveryLeft.{AreEveryLeft}
+use Rattle.rbac_matrix.specs.declared.token.TokenOf.TheVariants.{Mark}
+use Rattle.std.proofs.lemmas.Result.{err_from_is_err_and, on_ok_weaker}
+use Rattle.rbac_matrix.proofs.PageLemmas.{begins, every_none, goes_on, if_err_weaker, is_full, not_full, prints_end, prints_next, stops_end, stops_next, stops_row}
+use Rattle.rbac_matrix.proofs.every_pages.print_every_page.Goals as goal
+
+pub loop-row-init : goal.loop-row-init
+loop-row-init g c = record {
+  going = c.requires.going;
+  works = c.requires.works;
+  goes = begins AreEveryLeft every_none Mark g.W.Write.contents c.args.sink.now c.args.page.now c.args.rows.now c.args.limit;
+}
+
+pub returns-then-eq-clause-ok : goal.returns-then-eq-clause-ok
+returns-then-eq-clause-ok g c =
+    let full = is_full c.loop-row.left (sym c.eq.ensures ∙ c.if-eq.true) in
+    on_ok_weaker c.print_last.result
+    (prints_next AreEveryLeft every_none Mark g.W.Write.contents c.args.sink.now c.args.page.now c.args.rows.now c.args.limit c.loop-row.sink c.loop-row.page c.loop-row.rows c.loop-row.left c.loop-row.last
+    c.loop-row.invariant.goes c.print_last.new.sink c.print_last.new.page c.next.new.self c.in-Some.row c.in-Some.ensures.steps.row c.in-Some.ensures.steps.shows (λ all. (c.in-Some.ensures.steps.left all).0) full)
+    c.print_last.ensures.ok
+
+pub returns-then-eq-clause-err : goal.returns-then-eq-clause-err
+returns-then-eq-clause-err g c =
+    let full = is_full c.loop-row.left (sym c.eq.ensures ∙ c.if-eq.true) in
+    if_err_weaker c.print_last.result
+    (λ fault stopped. stops_next AreEveryLeft every_none Mark g.W.Write.contents c.args.sink.now c.args.page.now c.args.rows.now c.args.limit c.loop-row.sink c.loop-row.page c.loop-row.rows c.loop-row.left c.loop-row.last
+    c.loop-row.invariant.goes c.print_last.new.sink c.print_last.new.page c.next.new.self c.in-Some.row c.in-Some.ensures.steps.row c.in-Some.ensures.steps.shows (λ all. (c.in-Some.ensures.steps.left all).0) full stopped.stops)
+    c.print_last.ensures.err
+
+pub returns-in_err-print_row-clause-err : goal.returns-in_err-print_row-clause-err
+returns-in_err-print_row-clause-err g c =
+    let some = not_full c.loop-row.left (sym c.eq.ensures ∙ c.if-eq.false) in
+    let p = err_from_is_err_and c.from_residual.result c.from_residual.ensures.1 in
+    rw p.1 (stops_row AreEveryLeft every_none Mark g.W.Write.contents c.args.sink.now c.args.page.now c.args.rows.now c.args.limit c.loop-row.sink c.loop-row.page c.loop-row.rows c.loop-row.left c.loop-row.last
+    c.loop-row.invariant.goes c.print_row.new.sink c.print_row.new.page c.next.new.self c.in-Some.row c.in-Some.ensures.steps.row c.in-Some.ensures.steps.shows (λ all. (c.in-Some.ensures.steps.left all).0) some c.in_err-print_row.ensures.err.stops)
+
+pub one_less-left-requires : goal.one_less-left-requires
+one_less-left-requires g c = not_full c.loop-row.left (sym c.eq.ensures ∙ c.if-eq.false)
+
+pub loop-row-preserved : goal.loop-row-preserved
+loop-row-preserved g c =
+    let some = not_full c.loop-row.left (sym c.eq.ensures ∙ c.if-eq.false) in
+    let goes = goes_on AreEveryLeft every_none Mark g.W.Write.contents c.args.sink.now c.args.page.now c.args.rows.now c.args.limit c.loop-row.sink c.loop-row.page c.loop-row.rows c.loop-row.left c.loop-row.last
+    c.loop-row.invariant.goes c.print_row.new.sink c.print_row.new.page c.next.new.self c.in-Some.row c.in-Some.ensures.steps.row c.in-Some.ensures.steps.shows (λ all. (c.in-Some.ensures.steps.left all).0) some c.in_ok-print_row.ensures.ok in
+    record {
+      going = c.next.ensures.going;
+      works = c.in_ok-print_row.ensures.works;
+      goes = rw c.one_less-left.ensures goes;
+    }
+
+pub returns-clause-ok : goal.returns-clause-ok
+returns-clause-ok g c =
+    on_ok_weaker c.print_last-2.result
+    (prints_end AreEveryLeft every_none Mark g.W.Write.contents c.args.sink.now c.args.page.now c.args.rows.now c.args.limit c.loop-row.sink c.loop-row.page c.loop-row.rows c.loop-row.left c.loop-row.last
+    c.loop-row.invariant.goes c.print_last-2.new.sink c.print_last-2.new.page c.in_default.ensures.steps.0)
+    c.print_last-2.ensures.ok
+
+pub returns-clause-err : goal.returns-clause-err
+returns-clause-err g c =
+    if_err_weaker c.print_last-2.result
+    (λ fault stopped. stops_end AreEveryLeft every_none Mark g.W.Write.contents c.args.sink.now c.args.page.now c.args.rows.now c.args.limit c.loop-row.sink c.loop-row.page c.loop-row.rows c.loop-row.left c.loop-row.last
+    c.loop-row.invariant.goes c.print_last-2.new.sink c.print_last-2.new.page c.in_default.ensures.steps.0 stopped.stops)
+    c.print_last-2.ensures.err
