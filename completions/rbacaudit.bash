@@ -30,7 +30,7 @@ _rbacaudit() {
     case $command in
         can-i) options='--as --groups -n,--namespace -A,--all-namespaces --subresource -q,--quiet --why -h,--help' ;;
         who-can) options='-n,--namespace -A,--all-namespaces --subresource -h,--help' ;;
-        matrix) options='--after --limit -h,--help' ;;
+        matrix) options='--every --after --limit -h,--help' ;;
         lint) options='-h,--help' ;;
         '') options='-h,--help -V,--version' ;;
         *) return ;;

@@ -6,7 +6,7 @@ function __rbacaudit_line
     # (an option that still waits for its value isn't given yet)
     string match -qr -- '^(--(as|groups|namespace|subresource|after|limit)|-[^-n]*n)$' "$words[-1]"
     and set -e words[-1]
-    argparse -i h/help V/version as= groups= n/namespace= A/all-namespaces subresource= q/quiet why after= limit= \
+    argparse -i h/help V/version as= groups= n/namespace= A/all-namespaces subresource= q/quiet why every after= limit= \
         -- $words 2>/dev/null
     or return
     echo "$argv[2]"
@@ -42,6 +42,7 @@ complete -c rbacaudit -n '__rbacaudit_lacks all-namespaces can-i who-can' -s A -
 complete -c rbacaudit -n '__rbacaudit_lacks subresource can-i who-can' -l subresource -x -d 'Subresource to check (default: none)'
 complete -c rbacaudit -n '__rbacaudit_lacks quiet can-i' -s q -l quiet -d 'Print nothing'
 complete -c rbacaudit -n '__rbacaudit_lacks why can-i' -l why -d 'After yes, print why'
+complete -c rbacaudit -n '__rbacaudit_lacks every matrix' -l every -d 'List every binding that grants, not only the first'
 complete -c rbacaudit -n '__rbacaudit_lacks after matrix' -l after -x -d 'List only the rows after this TOKEN of a next line (default: from the first)'
 complete -c rbacaudit -n '__rbacaudit_lacks limit matrix' -l limit -x -d 'List at most N rows, 1 to 1000000 (default: all)'
 complete -c rbacaudit -n '__rbacaudit_lacks help "" can-i who-can matrix lint' -s h -l help -d 'Print help'
