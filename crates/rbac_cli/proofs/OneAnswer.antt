@@ -12,7 +12,7 @@ use Rattle.rbac_terms.specs.declared.granting.Subject.{Subject}
 use Rattle.rbac_terms.specs.declared.granting.Subject.TheVariants.{User, Group, Account}
 use Rattle.rbac_terms.proofs.Groups.{apart}
 use Rattle.rbac_model.specs.Lists.{by_name, IsAscendingBy}
-use Rattle.rbac_model.specs.Policies.{Held, Grants, Allows, IsFirst}
+use Rattle.rbac_model.specs.Policies.{Held, Grants, Allows, IsFirst, binding_name}
 use Rattle.rbac_model.specs.Unions.{AreUnited, who_name}
 use Rattle.rbac_model.specs.Universes.{UniverseView, RowView, Cell, IsRow, IsMatrix, cell_key}
 use Rattle.rbac_model.specs.Holders.{HolderView, AreHolders}
@@ -27,12 +27,13 @@ use Rattle.rbac_index.proofs.OneHolders.{one_holders}
 use Rattle.rbac_manifest.specs.Load.{LoadedView}
 use Rattle.rbac_lint.proofs.OneLines.{one_findings}
 use Rattle.rbac_question.specs.declared.command.Action.{Action}
-use Rattle.rbac_question.specs.declared.command.Action.TheVariants.{CanI, WhoCan, Matrix, Lint}
+use Rattle.rbac_question.specs.declared.command.Action.TheVariants.{CanI, WhoCan, Matrix, Every, Lint}
 use Rattle.rbac_question.specs.declared.command.Question.{Question}
 use Rattle.rbac_cli.specs.Out.{Answers, IsAllowed, IsDenied, AreHoldersMeant, holders_text, findings_text, findings_status, line_unless}
 use Rattle.rbac_cli.specs.declared.outcome.Status.{Status}
+use Rattle.rbac_matrix.specs.Every.{IsEvery, IsEveryRow, every_name}
 use Rattle.rbac_matrix.proofs.OneMatrix.{key_name, by_keys}
-use Rattle.rbac_cli.proofs.OneListing.{Line, line_of, one_listing}
+use Rattle.rbac_cli.proofs.OneListing.{Line, line_of, one_every_listing, one_listing}
 use Rattle.rbac_cli.proofs.OneMeant.{one_meant}
 use Rattle.rbac_cli.proofs.OneReason.{one_reason}
 
@@ -159,6 +160,46 @@ one_lines held lists u v rows others m n x y =
     one_list line_name (map line_of rows) (map line_of others) (lines_ascend rows (by_keys held u rows x)) (lines_ascend others (by_keys held v others y))
     (line_there held lists u v m n rows others x y) (line_there held lists v u n m others rows y x)
 
+-- ---- and so do the rows of every granting binding
+
+abbrev every_line_name : Line → List Text
+every_line_name l = texts l.0 ++ binding_name l.1
+
+module _ (held : Held) (lists : UniverseLists) (u v : UniverseView) (m : AreSets lists u) (n : AreSets lists v) where
+  every_there : (row : RowView) → IsEveryRow held u row → (other : RowView) × IsEveryRow held v other × (line_of other ≡ line_of row)
+  every_there row (cell, fits, here, grant) =
+      let one = one_sets lists u v m n in
+      let (q, inq, a) = alike_there lists.principals u.principals v.principals m.principals n.principals row.cell.who cell.0 in (
+        record { cell = record row.cell { who = q }; binding = row.binding },
+        (
+          (
+            inq,
+            subst (λ xs. Contains xs row.cell.namespace) one.1 cell.1,
+            subst (λ xs. Contains xs row.cell.verb) one.2 cell.2,
+            subst (λ xs. Contains xs row.cell.target) one.3 cell.3,
+          ),
+          fits,
+          here,
+          grants held row.binding row.cell.who q row.cell.namespace row.cell.verb row.cell.target.0 a grant,
+        ),
+        ap (λ (k : KeyTexts). (k, row.binding)) (sym (same_key row.cell.who q row.cell a.key)),
+      )
+
+  every_line_there : (rows others : List RowView) → IsEvery held u rows → IsEvery held v others → (l : Line) → Contains (map line_of rows) l → Contains (map line_of others) l
+  every_line_there rows others x y l w =
+      let (row, inrows, e) = contains_map line_of rows l w in
+      let (other, is_row, same) = every_there row ((x.exact row).0 inrows) in
+      subst (Contains (map line_of others)) (same ∙ e) (map_contains line_of others other ((y.exact other).1 is_row))
+
+every_lines_ascend : (rows : List RowView) → IsAscendingBy every_name rows → IsAscendingBy every_line_name (map line_of rows)
+every_lines_ascend rows up = pairs_map (λ a b. by_name every_line_name a b ≡ Less) line_of rows up
+
+one_every_lines : (held : Held) (lists : UniverseLists) (u v : UniverseView) (rows others : List RowView) → AreSets lists u → AreSets lists v
+    → IsEvery held u rows → IsEvery held v others → map line_of rows ≡ map line_of others
+one_every_lines held lists u v rows others m n x y =
+    one_list every_line_name (map line_of rows) (map line_of others) (every_lines_ascend rows x.ordered) (every_lines_ascend others y.ordered)
+    (every_line_there held lists u v m n rows others x y) (every_line_there held lists v u n m others rows y x)
+
 -- ---- the holders are one list
 
 one_holders_meant : (held : Held) (entries : List Entry) (q : Question) (xs ys : List HolderView) → AreHoldersMeant held entries q xs
@@ -187,6 +228,10 @@ one_answer l (WhoCan q) text other status ending (xs, are, e, s) (ys, others, f,
     (e ∙ ap holders_text (one_holders_meant l.policy.held l.catalogue.entries q xs ys are others) ∙ sym f, s ∙ sym t)
 one_answer l (Matrix after limit) text other status ending (u, rows, m, x, e, s) (v, others, n, y, f, t) = (
   e ∙ one_listing after limit rows others (one_lines l.policy.held l.lists u v rows others m.sets n.sets x y) ∙ sym f,
+  s ∙ sym t,
+)
+one_answer l (Every after limit) text other status ending (u, rows, m, x, e, s) (v, others, n, y, f, t) = (
+  e ∙ one_every_listing after limit rows others (one_every_lines l.policy.held l.lists u v rows others m.sets n.sets x y) ∙ sym f,
   s ∙ sym t,
 )
 one_answer l Lint text other status ending (found, are, e, s) (others, these, f, t) =

@@ -7,12 +7,15 @@ use Rattle.rbac_streams.specs.declared.page.PrintFault.TheVariants.{SinkFailed, 
 use Rattle.rbac_terms.specs.Keys.{KeyTexts}
 use Rattle.rbac_model.specs.Policies.{Held}
 use Rattle.rbac_model.specs.Universes.{UniverseView, RowView, IsMatrix}
+use Rattle.rbac_token.specs.declared.mark.Mark.{Mark}
+use Rattle.rbac_matrix.specs.Every.{IsEvery}
+use Rattle.rbac_matrix.proofs.OneEvery.{one_every}
 use Rattle.rbac_matrix.proofs.OneMatrix.{one_matrix}
 use Rattle.rbac_matrix.proofs.Within.{within_of}
 use Rattle.rbac_manifest.specs.Load.{LoadedView}
 use Rattle.rbac_question.specs.declared.command.Action.{Action}
-use Rattle.rbac_question.specs.declared.command.Action.TheVariants.{CanI, WhoCan, Matrix, Lint}
-use Rattle.rbac_cli.specs.Out.{Answers, listing_text}
+use Rattle.rbac_question.specs.declared.command.Action.TheVariants.{CanI, WhoCan, Matrix, Every, Lint}
+use Rattle.rbac_cli.specs.Out.{Answers, every_listing_text, listing_text}
 use Rattle.rbac_cli.specs.declared.outcome.Status.{Status}
 use Rattle.rbac_cli.specs.declared.outcome.RunFault.{RunFault}
 use Rattle.rbac_cli.specs.declared.outcome.RunFault.TheVariants.{Load, Universe, Memory, Write}
@@ -23,6 +26,10 @@ use Rattle.rbac_cli.proofs.Matrices.{prefix_of_text}
 -- the page of the matrix
 abbrev pub IsListing : Option KeyTexts → Option ℕ → Held → UniverseView → List ℕ → Type 0
 IsListing k limit held u text = (rows : List RowView) × IsMatrix held u rows × (text ≡ listing_text k limit rows)
+
+-- the page of the rows of every granting binding
+abbrev pub IsEveryListing : Option Mark → Option ℕ → Held → UniverseView → List ℕ → Type 0
+IsEveryListing m limit held u text = (rows : List RowView) × IsEvery held u rows × (text ≡ every_listing_text m limit rows)
 
 module _ {W : Type 0} (contents : W → Option (List ℕ)) where
   as_prefix : (s t : SinkView W) (p : PageView) (l : LoadedView) (action : Action) (text : List ℕ) (status : Status) (n : ℕ) → n ≡ p.written
@@ -47,6 +54,12 @@ module _ {W : Type 0} (contents : W → Option (List ℕ)) where
     within_of contents s t p q text (IsListing k limit l.policy.held u) f
         (λ more (others, other, e). ([], e ∙ ap (listing_text k limit) (one_matrix l.policy.held u others rows other matrix) ∙ sym same ∙ sym (append-nil text))),
   )
+  stops_in_text s t p q l (Every k limit) text status (u, rows, is_universe, matrix, same, zero) f = (
+    u,
+    is_universe,
+    within_of contents s t p q text (IsEveryListing k limit l.policy.held u) f
+        (λ more (others, other, e). ([], e ∙ ap (every_listing_text k limit) (one_every l.policy.held u others rows other matrix) ∙ sym same ∙ sym (append-nil text))),
+  )
 
   -- stopped while it was printed
   pub stops_within : (s t : SinkView W) (p q : PageView) (l : LoadedView) (action : Action) (fault : PrintFault)
@@ -64,6 +77,12 @@ module _ {W : Type 0} (contents : W → Option (List ℕ)) where
   within s t p q l (Matrix k limit) n printed e (u, is_universe, f) = let stop = f s [] printed in (
     stop.prefix,
     (u, is_universe, λ rows matrix. stop.begins (listing_text k limit rows) (rows, matrix, refl)),
+    stop.took,
+    e ∙ stop.written,
+  )
+  within s t p q l (Every k limit) n printed e (u, is_universe, f) = let stop = f s [] printed in (
+    stop.prefix,
+    (u, is_universe, λ rows matrix. stop.begins (every_listing_text k limit rows) (rows, matrix, refl)),
     stop.took,
     e ∙ stop.written,
   )

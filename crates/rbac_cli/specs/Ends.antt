@@ -6,7 +6,7 @@ use Rattle.rbac_universe.specs.declared.fault.UniverseFault.{UniverseFault}
 use Rattle.rbac_universe.specs.declared.fault.UniverseFault.TheVariants as universe
 use Rattle.rbac_manifest.specs.Load.{LoadedView, IsLoaded, HasFault}
 use Rattle.rbac_question.specs.declared.command.Action.{Action}
-use Rattle.rbac_question.specs.declared.command.Action.TheVariants.{CanI, WhoCan, Matrix, Lint}
+use Rattle.rbac_question.specs.declared.command.Action.TheVariants.{CanI, WhoCan, Matrix, Every, Lint}
 use Rattle.rbac_question.specs.declared.command.Command.{Command}
 use Rattle.rbac_cli.specs.Out.{Answers, IsPrefixOfAnswer}
 use Rattle.rbac_cli.specs.declared.outcome.Status.{Status}
@@ -25,12 +25,13 @@ WritesPrefix took l action n = (prefix : List ℕ) × IsPrefixOfAnswer l action 
 abbrev pub WritesNothing : (List ℕ → Type 0) → ℕ → Type 0
 WritesNothing took n = took [] × (n ≡ 0)
 
--- the action is `matrix`, and the lists make no universe, for this fault; out of memory is a fault of its own
+-- the action is `matrix`, with `--every` or without, and the lists make no universe, for this fault; out of memory is a fault of its own
 abbrev pub LacksUniverse : LoadedView → Action → UniverseFault → Type 0
 LacksUniverse l (CanI who quiet why q) fault = ⊥
 LacksUniverse l (WhoCan q) fault = ⊥
 LacksUniverse l Lint fault = ⊥
 LacksUniverse l (Matrix after limit) fault = HasUniverseFault l.lists fault × (fault ≢ universe.NoMemory)
+LacksUniverse l (Every after limit) fault = HasUniverseFault l.lists fault × (fault ≢ universe.NoMemory)
 
 -- the inputs are loaded, and what the command means over them is written
 abbrev pub Succeeds : (List ℕ → Type 0) → Command → List (List ℕ) → Status → Type 0

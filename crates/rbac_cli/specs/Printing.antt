@@ -7,12 +7,14 @@ use Rattle.rbac_streams.specs.Streams.{SinkView, PageView}
 use Rattle.rbac_streams.specs.Taken.{Prints, StopsIn}
 use Rattle.rbac_streams.specs.declared.page.PrintFault.{PrintFault}
 use Rattle.rbac_streams.specs.declared.page.PrintFault.TheVariants.{SinkFailed, NoMemory}
+use Rattle.rbac_token.specs.declared.mark.Mark.{Mark}
 use Rattle.rbac_universe.specs.Sets.{IsUniverseOf}
+use Rattle.rbac_matrix.specs.Every.{IsEvery}
 use Rattle.rbac_matrix.specs.Printed.{StopsWithin}
 use Rattle.rbac_manifest.specs.Load.{LoadedView}
 use Rattle.rbac_question.specs.declared.command.Action.{Action}
-use Rattle.rbac_question.specs.declared.command.Action.TheVariants.{CanI, WhoCan, Matrix, Lint}
-use Rattle.rbac_cli.specs.Out.{Answers, listing_text}
+use Rattle.rbac_question.specs.declared.command.Action.TheVariants.{CanI, WhoCan, Matrix, Every, Lint}
+use Rattle.rbac_cli.specs.Out.{Answers, every_listing_text, listing_text}
 use Rattle.rbac_cli.specs.Ends.{WritesPrefix, WritesNothing, LacksUniverse}
 use Rattle.rbac_cli.specs.declared.outcome.Status.{Status}
 use Rattle.rbac_cli.specs.declared.outcome.RunFault.{RunFault}
@@ -27,6 +29,15 @@ PrintsListing contents old page new after k limit held u =
 abbrev pub StopsInListing : {W : Type 0} → (W → Option (List ℕ)) → SinkView W → PageView → SinkView W → PageView → Option KeyTexts → Option ℕ → Held → UniverseView → Type 0
 StopsInListing contents old page new after k limit held u =
     StopsWithin contents old page new after (λ more. (rows : List RowView) × IsMatrix held u rows × (more ≡ listing_text k limit rows))
+
+-- the same of the rows of every granting binding, after the mark
+abbrev pub PrintsEvery : {W : Type 0} → (W → Option (List ℕ)) → SinkView W → PageView → SinkView W → PageView → Option Mark → Option ℕ → Held → UniverseView → Type 0
+PrintsEvery contents old page new after m limit held u =
+    (rows : List RowView) × IsEvery held u rows × Prints contents old page new after (every_listing_text m limit rows)
+
+abbrev pub StopsInEvery : {W : Type 0} → (W → Option (List ℕ)) → SinkView W → PageView → SinkView W → PageView → Option Mark → Option ℕ → Held → UniverseView → Type 0
+StopsInEvery contents old page new after m limit held u =
+    StopsWithin contents old page new after (λ more. (rows : List RowView) × IsEvery held u rows × (more ≡ every_listing_text m limit rows))
 
 -- more text was printed, one that the action means over what was loaded
 abbrev pub PrintsAnswer : {W : Type 0} → (W → Option (List ℕ)) → SinkView W → PageView → SinkView W → PageView → LoadedView → Action → Status → Type 0
@@ -43,6 +54,8 @@ StopsInAnswer contents old page new after l Lint =
     (text : List ℕ) × (status : Status) × Answers l Lint text status × StopsIn contents old page new after text
 StopsInAnswer contents old page new after l (Matrix k limit) =
     (u : UniverseView) × IsUniverseOf l.lists u × StopsInListing contents old page new after k limit l.policy.held u
+StopsInAnswer contents old page new after l (Every m limit) =
+    (u : UniverseView) × IsUniverseOf l.lists u × StopsInEvery contents old page new after m limit l.policy.held u
 
 -- nothing was printed
 abbrev pub IsUntouched : {W : Type 0} → SinkView W → PageView → SinkView W → PageView → Type 0

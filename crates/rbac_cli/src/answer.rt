@@ -6,7 +6,7 @@ ghost use Rattle.rbac_cli.specs.Printing.{PrintsAnswer, StopsPrinting};
 
 use crate::can_i::{print_verdict, verdict_of};
 use crate::lint::print_findings;
-use crate::matrix::print_listing;
+use crate::matrix::{print_every_listing, print_listing};
 use crate::outcome::{RunFault, Status};
 use crate::who_can::print_holders;
 use rbac_manifest::Loaded;
@@ -41,6 +41,9 @@ pub(crate) fn print_answer<W: Write + Drop>(
         Action::WhoCan { question } => print_holders(alloc, loaded, question, sink, page),
         Action::Matrix { after, limit } => {
             print_listing(alloc, loaded, after.as_ref(), *limit, sink, page)
+        }
+        Action::Every { after, limit } => {
+            print_every_listing(alloc, loaded, after.as_ref(), *limit, sink, page)
         }
         Action::Lint => print_findings(alloc, loaded, sink, page),
     }
