@@ -5,8 +5,9 @@ ghost use Rattle.rbac_cli.specs.Ends.{is_write_fault};
 ghost use Rattle.rbac_cli.specs.Printing.{PrintsAnswer, StopsPrinting};
 
 use crate::can_i::{print_verdict, verdict_of};
+use crate::every::print_every_listing;
 use crate::lint::print_findings;
-use crate::matrix::{print_every_listing, print_listing};
+use crate::matrix::print_listing;
 use crate::outcome::{RunFault, Status};
 use crate::who_can::print_holders;
 use rbac_manifest::Loaded;

@@ -5,6 +5,7 @@
 
 mod answer;
 mod can_i;
+mod every;
 mod laws;
 mod lint;
 mod matrix;

@@ -4,20 +4,17 @@ ghost use Rattle.std.specs.Prelude.{◌≡◌, ◌≢◌, length, false, IfOk, I
 ghost use Rattle.std.specs.Option.{option_copied};
 ghost use Rattle.rbac_universe.specs.Sets.{IsUniverseOf, HasUniverseFault};
 ghost use Rattle.rbac_index.specs.Reaches.{AreReaches};
-ghost use Rattle.rbac_question.specs.declared.command.Action.TheVariants.{Every as ListsEvery, Matrix as ListsMatrix};
+ghost use Rattle.rbac_question.specs.declared.command.Action.TheVariants.{Matrix as ListsMatrix};
 ghost use Rattle.rbac_cli.specs.Ends.{is_write_fault};
-ghost use Rattle.rbac_cli.specs.Printing.{PrintsAnswer, StopsPrinting, PrintsEvery, PrintsListing, StopsInEvery, StopsInListing, fault_at, is_sink_fault};
+ghost use Rattle.rbac_cli.specs.Printing.{PrintsAnswer, StopsPrinting, PrintsListing, StopsInListing, fault_at, is_sink_fault};
 
 use crate::outcome::{RunFault, Status, fault_of};
 use rbac_index::{Index, IndexFault, Reach, reaches_of};
 use rbac_manifest::Loaded;
-use rbac_matrix::{
-    Matrix, Seat, a_matrix_is_there, every_rows_are_there, print_every_page, print_page,
-};
+use rbac_matrix::{Matrix, Seat, a_matrix_is_there, print_page};
 use rbac_model::Policy;
 use rbac_streams::{Page, PrintFault, Sink};
 use rbac_terms::Key;
-use rbac_token::Mark;
 use rbac_universe::{Universe, UniverseFault};
 use std::alloc::{AllocError, Global};
 use std::io::Write;
@@ -51,37 +48,8 @@ pub(crate) fn print_listing<W: Write + Drop>(
     }
 }
 
-/// Prints a page of the rows of every granting binding: a line for each that comes after the mark,
-/// at most as many as the limit says, and a last line that says whether more follow.
-pub(crate) fn print_every_listing<W: Write + Drop>(
-    alloc: Global,
-    loaded: &Loaded,
-    after: Option<&Mark>,
-    limit: Option<u32>,
-    sink: &mut Sink<W>,
-    page: &mut Page,
-) -> Result<Status, RunFault>
-    requires { sink.old.has_failed ≡ false }
-    ensures ok { IfOk result (PrintsAnswer W.contents sink.old page.old sink.new page.new loaded.now (ListsEvery (option_copied after.entry) limit)) }
-    ensures err { IfErr result (StopsPrinting W.contents sink.old page.old sink.new page.new loaded.now (ListsEvery (option_copied after.entry) limit)) }
-    ensures failed { sink.new.has_failed ≡ is_write_fault result }
-{
-    let lent = match lent_by(alloc, loaded) {
-        Ok(lent) => lent,
-        Err(fault) => return Err(unmade(page, fault)),
-    };
-    let mut seats = match seats_for(alloc, &lent.index) {
-        Ok(seats) => seats,
-        Err(_) => return Err(fault_of(page, PrintFault::NoMemory)),
-    };
-    match print_every_row(alloc, &lent, seats.as_mut_slice(), after, limit, sink, page) {
-        Ok(()) => Ok(Status::Zero),
-        Err(fault) => Err(fault_of(page, fault)),
-    }
-}
-
 // Why printing stops whose lists make no universe. Out of memory is a fault of its own.
-fn unmade(page: &Page, fault: UniverseFault) -> RunFault
+pub(crate) fn unmade(page: &Page, fault: UniverseFault) -> RunFault
     ensures refused { fault ≢ UniverseFault.NoMemory → result ≡ RunFault.Universe fault }
     ensures memory { fault ≡ UniverseFault.NoMemory → result ≡ fault_at page.now PrintFault.NoMemory }
 {
@@ -93,14 +61,14 @@ fn unmade(page: &Page, fault: UniverseFault) -> RunFault
 
 // What a matrix borrows: a universe, an index, and the reach of each grant.
 #[derive(Drop)]
-struct Lent<'p> {
-    universe: Universe,
-    index: Index<'p>,
-    reaches: Vec<Reach>,
+pub(crate) struct Lent<'p> {
+    pub(crate) universe: Universe,
+    pub(crate) index: Index<'p>,
+    pub(crate) reaches: Vec<Reach>,
 }
 
 // What the matrix of what was loaded borrows.
-fn lent_by(alloc: Global, loaded: &Loaded) -> Result<Lent<'_>, UniverseFault>
+pub(crate) fn lent_by(alloc: Global, loaded: &Loaded) -> Result<Lent<'_>, UniverseFault>
     ensures universe { MatchResult result (λ lent. IsUniverseOf loaded.now.lists lent.universe) (HasUniverseFault loaded.now.lists) }
     ensures index { IfOk result (λ lent. lent.index ≡ loaded.now.policy) }
     ensures reaches { IfOk result (λ lent. AreReaches lent.index lent.universe lent.reaches.items) }
@@ -129,7 +97,7 @@ fn lent_for(alloc: Global, policy: &Policy, universe: Universe) -> Result<Lent<'
 }
 
 // A seat for each grant.
-fn seats_for(alloc: Global, index: &Index<'_>) -> Result<Vec<Seat>, AllocError>
+pub(crate) fn seats_for(alloc: Global, index: &Index<'_>) -> Result<Vec<Seat>, AllocError>
     ensures { IfOk result (λ seats. length seats.items ≡ length index.now.grants) }
 {
     vec![in alloc; Seat::new(); index.len() as usize]
@@ -156,27 +124,4 @@ fn print_rows<W: Write + Drop>(
     let mut matrix = Matrix::build(&lent.index, &lent.universe, lent.reaches.as_slice(), seats);
     let mut rows = matrix.rows_after(after);
     print_page(alloc, &mut rows, limit, sink, page)
-}
-
-// The same of every granting binding.
-fn print_every_row<W: Write + Drop>(
-    alloc: Global,
-    lent: &Lent<'_>,
-    seats: &mut [Seat],
-    after: Option<&Mark>,
-    limit: Option<u32>,
-    sink: &mut Sink<W>,
-    page: &mut Page,
-) -> Result<(), PrintFault>
-    requires works { sink.old.has_failed ≡ false }
-    requires reaches { AreReaches lent.now.index lent.now.universe lent.now.reaches.items }
-    requires seats { length seats.old ≡ length lent.now.index.grants }
-    ensures ok { OnOk result (PrintsEvery W.contents sink.old page.old sink.new page.new (option_copied after.entry) limit lent.now.index.held lent.now.universe) }
-    ensures err { OnErr result (StopsInEvery W.contents sink.old page.old sink.new page.new (option_copied after.entry) limit lent.now.index.held lent.now.universe) }
-    ensures failed { sink.new.has_failed ≡ is_sink_fault result }
-{
-    every_rows_are_there();
-    let mut matrix = Matrix::build(&lent.index, &lent.universe, lent.reaches.as_slice(), seats);
-    let mut rows = matrix.every_after(after);
-    print_every_page(alloc, &mut rows, limit, sink, page)
 }

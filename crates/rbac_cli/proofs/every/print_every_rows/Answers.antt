@@ -4,7 +4,7 @@ use Rattle.std.proofs.lemmas.Result.{on_ok_weaker, on_err_weaker}
 use Rattle.rbac_model.specs.Policies.{IsPolicy}
 use Rattle.rbac_model.specs.Universes.{IsUniverse}
 use Rattle.rbac_cli.proofs.Listings.{every_printed, every_stopped}
-use Rattle.rbac_cli.proofs.matrix.print_every_row.Goals as goal
+use Rattle.rbac_cli.proofs.every.print_every_rows.Goals as goal
 
 pub returns-clause-ok : goal.returns-clause-ok
 returns-clause-ok g c =
