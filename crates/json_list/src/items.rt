@@ -26,8 +26,8 @@ pub(crate) enum Place {
     Stopped,
 }
 
-/// The items of a list that are still to come. A clause sees the tokens that it reads them from, none
-/// after an error, and after the last item the closing bracket for good.
+/// The items of a list that are still to come. A clause sees the tokens that it reads them from,
+/// none after an error, and after the last item the closing bracket for good.
 #[derive(Drop)]
 pub struct Items<'a> {
     reader: Reader<'a>,

@@ -23,7 +23,7 @@ HasWords e = (e.name ≢ []) × (¬ Contains e.name slash)
 abbrev pub IsNamed : Text → Entry → Type 0
 IsNamed word e = (word ≢ []) × HasWords e × IsCalled word e
 
--- it names the entry in that group, or in any where none is given
+-- a word names the entry in that group, or in any where none is given
 abbrev pub IsNamedIn : Option Text → Text → Entry → Type 0
 IsNamedIn None word e = IsNamed word e
 IsNamedIn (Some group) word e = (e.group ≡ group) × IsNamed word e
@@ -57,6 +57,6 @@ unfoldable pub IsFound : List Entry → Text → Found → Type 0
 IsFound entries typed found =
     (word : Text) × (group : Option Text) × IsWordAndGroup typed word group × IsMeantIn entries group word found
 
--- it means nothing else
+-- a word means this and nothing else
 abbrev pub IsOnlyFound : List Entry → Text → Found → Type 0
 IsOnlyFound entries typed found = (other : Found) → IsFound entries typed other → other ≡ found

@@ -35,7 +35,7 @@ module _ (r : Rows) (k : Option KeyTexts) (limit : Option ℕ) (p q : PolicyView
         within_more contents s t page after (IsPageOf limit r) (IsListing k limit p.held u) f
         (λ more (rows, matrix, e). (more, (rows_after k rows, left_of rows matrix, e), ([], sym (append-nil more))))
 
--- the same of the rows of every granting binding, which are p and u
+-- the rows of every granting binding are those of p and u
 module _ (r : EveryRows) (k : Option Mark) (limit : Option ℕ) (p q : PolicyView) (u v : UniverseView) (same_policy : q ≡ p) (same_universe : v ≡ u)
     (left : (rows : List RowView) → IsEvery q.held v rows → AreEveryLeft r (every_after k rows)) where
   every_left_of : (rows : List RowView) → IsEvery p.held u rows → AreEveryLeft r (every_after k rows)

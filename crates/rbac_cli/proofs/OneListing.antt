@@ -93,7 +93,7 @@ pub one_listing : (k : Option KeyTexts) (limit : Option ℕ) (rows others : List
 one_listing k limit rows others e =
     as_listing k limit rows ∙ ap (λ (ls : List Line). lines_cut limit (lines_after k ls)) e ∙ sym (as_listing k limit others)
 
--- ---- the same of the rows of every granting binding
+-- ---- the listing of every granting binding
 
 abbrev mark_words : Option Line → Bool → Text
 mark_words (Some l) true = codes "next" ++ tab ∷ mark_text (record { key = l.0; binding = Some (name_of l.1) })

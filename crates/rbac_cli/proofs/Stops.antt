@@ -91,7 +91,7 @@ module _ {W : Type 0} (contents : W → Option (List ℕ)) where
     untaken : IsUntouched s p t q → Took contents s t []
     untaken h = subst (λ x. Took contents s x []) (sym h.0) took
 
-    -- the same, from an empty page on
+    -- a print that began with an empty page stopped
     pub stopped : (fault : RunFault) → StopsPrinting contents s p t q l action fault → StopsWith (Took contents s t) l action fault
     stopped (Load fault) h = h
     stopped (Universe fault) h = (h.0, untaken h.1)

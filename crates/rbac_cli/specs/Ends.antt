@@ -17,7 +17,7 @@ use Rattle.rbac_cli.specs.declared.outcome.RunFault.TheVariants.{Load, Universe,
 abbrev pub Writes : (List ℕ → Type 0) → LoadedView → Action → Status → Type 0
 Writes took l action status = (text : List ℕ) × Answers l action text status × took text
 
--- it took a prefix of what the action means, and n is how many bytes that is
+-- the writer took a prefix of what the action means, and n is how many bytes that is
 abbrev pub WritesPrefix : (List ℕ → Type 0) → LoadedView → Action → ℕ → Type 0
 WritesPrefix took l action n = (prefix : List ℕ) × IsPrefixOfAnswer l action prefix × took prefix × (n ≡ counted 0 (length prefix))
 

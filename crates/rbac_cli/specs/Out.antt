@@ -31,7 +31,7 @@ use Rattle.rbac_cli.specs.declared.outcome.Status.TheVariants.{Zero, One}
 abbrev pub line : List ℕ → List ℕ
 line word = word ++ 10 ∷ []
 
--- the same, or with `-q` nothing at all
+-- a word on a line of its own, or with `-q` nothing at all
 abbrev pub line_unless : Bool → List ℕ → List ℕ
 line_unless true word = []
 line_unless false word = line word

@@ -30,7 +30,7 @@ abbrev pub StopsInListing : {W : Type 0} → (W → Option (List ℕ)) → SinkV
 StopsInListing contents old page new after k limit held u =
     StopsWithin contents old page new after (λ more. (rows : List RowView) × IsMatrix held u rows × (more ≡ listing_text k limit rows))
 
--- the same of the rows of every granting binding, after the mark
+-- the page of the rows of every granting binding after the mark was printed
 abbrev pub PrintsEvery : {W : Type 0} → (W → Option (List ℕ)) → SinkView W → PageView → SinkView W → PageView → Option Mark → Option ℕ → Held → UniverseView → Type 0
 PrintsEvery contents old page new after m limit held u =
     (rows : List RowView) × IsEvery held u rows × Prints contents old page new after (every_listing_text m limit rows)

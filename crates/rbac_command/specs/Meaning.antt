@@ -99,7 +99,7 @@ RefusesAction name rows question.BadToken = (name ≡ codes "matrix") × HasBadT
 RefusesAction name rows e = ((name ≡ codes "can-i") × RefusesCanI (parts_in rows) e)
     ⊎ ((name ≡ codes "who-can") × RefusesQuestion (question_in rows) e)
 
--- the same as a refusal of a command line
+-- a command line is refused with what refuses the matches of its subcommand
 abbrev pub IsCauseOf : Option (Text × List Row) → UsageFault → Type 0
 IsCauseOf None e = ⊥
 IsCauseOf (Some p) EmptyWord = RefusesAction p.0 p.1 question.EmptyWord

@@ -83,8 +83,8 @@ const AMONG_OTHERS: &str = r#"{"apiVersion":"v1","kind":"List","items":[
    "resources":[{"resource":"pods"},{"resource":"secrets"}]}
 ]}"#;
 
-// The binding that allows each request of the universe that is allowed, in order: alice gets pods in
-// each namespace, and bob in the last one.
+// The binding that allows each request of the universe that is allowed, in order: alice gets pods
+// in each namespace, and bob in the last one.
 const FIRST_BINDINGS: &[&str] = &["z", "z", "z", "b"];
 
 // Adds the names of the bindings that allow what the principal asks in this namespace.

@@ -70,7 +70,7 @@ fn gives_all(lent: &Lent<'_>, seats: &mut [Seat], before: u128, steps: [Step<'_>
     gives(&mut rows, second) && gives(&mut rows, third)
 }
 
-// The same of the matrix of this export.
+// Whether three calls of `next` give this, of the matrix of this export.
 fn export_gives(
     alloc: Global,
     export: &str,

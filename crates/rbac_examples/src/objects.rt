@@ -108,8 +108,8 @@ fn object(alloc: Global, row: &Row<'_>) -> Result<Object, AllocError> {
     }
 }
 
-// Of the objects given the ones that stand, in order of their kinds, namespaces and names: namespace
-// or name, and the verb of its rule or the role that it binds.
+// Of the objects given the ones that stand, in order of their kinds, namespaces and names:
+// namespace or name, and the verb of its rule or the role that it binds.
 
 const ROLES: &[(&str, &str)] = &[("Prod", "get"), ("dev", "list")];
 

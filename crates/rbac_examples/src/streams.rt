@@ -1,4 +1,5 @@
-//! Readers and writers that fail, and count their calls: none is made twice, and none after one that failed.
+//! Readers and writers that fail, and count their calls: none is made twice, and none after one
+//! that failed.
 
 use rbac_streams::{Failed, InputFault, Sink, Source, read_input, read_slice};
 use std::io;
@@ -83,8 +84,8 @@ fn a_slice_is_read_whole(rt: HostRuntime) -> Result<(), Fail> {
     Ok(())
 }
 
-// How many bytes a writer takes at a time, at which call it fails, how many of four it has taken, and
-// how often it was called.
+// How many bytes a writer takes at a time, at which call it fails, how many of four it has taken,
+// and how often it was called.
 const SIPS: &[(usize, usize, usize, usize)] = &[(1, 4, 3, 4), (0, 9, 0, 1), (64, 1, 0, 1)];
 
 #[test]

@@ -15,7 +15,8 @@ pub(crate) fn words(alloc: Global, texts: &[&str]) -> Result<Words, AllocError> 
     Ok(Words::from_vec(all))
 }
 
-// Whether this is the wanted text. Tests ask for a bool, since what an assertion prints is proved too.
+// Whether this is the wanted text. Tests ask for a bool, since what an assertion prints is proved
+// too.
 pub(crate) fn is(word: &Word, wanted: &str) -> bool {
     word.as_bytes() == wanted.as_bytes()
 }

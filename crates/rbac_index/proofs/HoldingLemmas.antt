@@ -27,7 +27,7 @@ module _ (p : PolicyView) (ok : IsPolicy p) (namespace verb : Text) (t : What) (
       let has = by.2.2 in
       (by.0, by.1, (by.2.0, by.2.1, (has.0, a.0.rule, has.1, has.2, a.2)))
 
-  -- such a binding is a candidate's
+  -- a binding that brings a rule that allows is a candidate's
   brings_candidate : (m : ℕ) → BringsAt p.held namespace verb t m → (k : ℕ) × (k < length ns) × IsOfBinding p (get_or ns k 0) m
   brings_candidate m brings =
       let any = brings.3.2 in

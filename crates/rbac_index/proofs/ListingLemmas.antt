@@ -86,7 +86,7 @@ three_words lists text third n i = (
   ],
 )
 
--- the same of a union that may fail
+-- a union that may fail gives what matches
 pub matching_from : {E : Type 0} (lists : Lists) (text : Text) (first second third : List ℕ) (r : Result (Vec ℕ Global) E) → IfOk r (λ v. (n : ℕ) → Contains v.items n ↔ (Contains first n ⊎ (Contains second n ⊎ Contains third n))) → first ≡ listed lists (codes "*") → second ≡ listed lists text
     → ((n : ℕ) → ((w : Text) × ((s : Text) × (w ≡ codes "*/" ++ s) × (s ≢ []) × FollowsFirstSlash text s) × Contains (listed lists w) n) ↔ Contains third n)
     → IfOk r (λ v. (n : ℕ) → Contains v.items n ↔ ((w : Text) × ResourceWordMatches w text × Contains (listed lists w) n))

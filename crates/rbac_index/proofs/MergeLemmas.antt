@@ -34,7 +34,7 @@ sorted_from : {M E : Type 0} (steps : M → Option ℕ → M → Type 0) (m : M)
 sorted_from steps m lt (Ok v) (x, drains, is) h = subst (IsSortedBy lt) (sym is.0) (h x true (drains.0, drains.1, λ _. drains.2 tt))
 sorted_from steps m lt (Err e) h k = tt
 
--- the same, at the order of numbers
+-- the steps of a merge, at the order of numbers
 abbrev pub steps_of : (ℕ → ℕ → Bool) → KMergeBy (List ℕ) KMergeLt Global ℕ → Option ℕ → KMergeBy (List ℕ) KMergeLt Global ℕ → Type 0
 steps_of lt = kmerge_steps (YieldsFirst (λ l. l)) (λ _ first. first ≡ lt)
 

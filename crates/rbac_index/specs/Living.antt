@@ -11,6 +11,6 @@ abbrev pub namespace_cmp : Option Text → Text → Ordering
 namespace_cmp None asked = Less
 namespace_cmp (Some namespace) asked = text_cmp namespace asked
 
--- it is a RoleBinding, and live
+-- the binding is a RoleBinding, and live
 abbrev pub IsLiveRoleBinding : Binding → Text → What → Type 0
 IsLiveRoleBinding b namespace t = (b.namespace ≢ None) × Live b.namespace namespace t

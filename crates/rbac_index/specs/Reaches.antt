@@ -20,7 +20,7 @@ pub record IsReach (r : Rule) (ts : List What) (places : List ℕ) : Type 0 wher
   pub ascending : IsStrictlyIncreasing places
   pub exact : (place : ℕ) → Contains places place ↔ MatchesAt r ts place
 
--- the same among so many first targets
+-- the places of the targets that the rule matches, among so many first targets
 pub record IsReachBelow (r : Rule) (ts : List What) (count : ℕ) (places : List ℕ) : Type 0 where
   pub ascending : IsStrictlyIncreasing places
   pub exact : (place : ℕ) → Contains places place ↔ ((place < count) × MatchesAt r ts place)

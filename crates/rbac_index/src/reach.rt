@@ -48,7 +48,7 @@ impl Reach {
         Self::by_stems(alloc, index, no, universe, stems.as_slice())
     }
 
-    // The same, by where the stems of the universe's targets end.
+    // The reach of a rule, by where the stems of the universe's targets end.
     fn by_stems(
         alloc: Global,
         index: &Index<'_>,
@@ -67,7 +67,7 @@ impl Reach {
         })
     }
 
-    // The same reach, which holds its places together with this one.
+    // Another holder of this reach's places.
     fn share(&self) -> Result<Self, AllocError>
         ensures { IfOk result (λ r. r ≡ self.now) }
     {

@@ -102,7 +102,7 @@ fn next_under(entries: &[Keyed], prefix: &[u8], rest: &[u8], from: usize) -> Opt
     }
 }
 
-// The same of places where a binding is live.
+// The next place from `from` on under this key where a binding is live.
 fn next_live(
     entries: &[Keyed],
     prefix: &[u8],
@@ -137,7 +137,7 @@ fn sooner(a: Option<usize>, b: Option<usize>) -> Option<usize>
     }
 }
 
-// The same for the keys of the groups that are given.
+// The next place from `from` on under the key of a group that is given.
 fn next_given(entries: &[Keyed], principal: &Principal, live: Live, from: usize) -> Option<usize>
     requires { IsSorted keyed_cmp entries.now }
     ensures { AnswersNext (IsLiveUnderAny entries.now live (IsGivenKey (given_of principal.now))) from result }
@@ -152,7 +152,7 @@ fn next_given(entries: &[Keyed], principal: &Principal, live: Live, from: usize)
     next
 }
 
-// The same for the keys of the groups of a service account.
+// The next place from `from` on under the key of a service account's group.
 fn next_of_account(
     entries: &[Keyed],
     principal: &Principal,
@@ -170,7 +170,7 @@ fn next_of_account(
     sooner(of_all, of_namespace)
 }
 
-// The same for the key of the group that says whether a user has signed in.
+// The next place from `from` on under the key of the group that says whether a user has signed in.
 fn next_signed_in(
     entries: &[Keyed],
     principal: &Principal,

@@ -84,7 +84,7 @@ gathered_all h place n rules all was r here rule = (
       (was r here rule).1 (k.0, g.0, omega (arith, all, slice_get_within h.cluster_roles k.0 g.0 k.1), k.1, g.1, (g.0, k.1, g.2), g.3)),
 )
 
--- ---- the same rules
+-- ---- sets that hold the same rules
 
 each_of : {X : Type 0} (P : X → Type 0) (xs : List X) → ((x : X) → Contains xs x → P x) → All P xs
 each_of P xs f k d l = f (get_or xs k d) (Contains-get_or xs k d l)

@@ -40,7 +40,7 @@ IsSample a b v (Url path) = Contains b.verbs v × Any (λ w. IsUrlSample w path)
 abbrev pub AllowsSamples : Rule → Rule → Type 0
 AllowsSamples a b = (v : Text) (t : What) → IsSample a b v t → RuleAllows a v t
 
--- ---- the same, list by list
+-- ---- covering, list by list
 
 -- a allows this word of b, taken as a text; a resource word only where it is a resource text, a URL word only where its sample is a path
 unfoldable pub AllowsVerb : Rule → Text → Type 0

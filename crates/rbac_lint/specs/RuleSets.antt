@@ -17,7 +17,7 @@ rule_lists r = r.verbs ∷ r.groups ∷ r.resources ∷ r.resource_names ∷ r.u
 abbrev pub lists_cmp : List (List Text) → List (List Text) → Ordering
 lists_cmp = slice_cmp (slice_cmp text_cmp)
 
--- it is total; to tie in it is an equivalence; and it orders what ties alike
+-- this order is total; to tie in it is an equivalence; and it orders what ties alike
 pub lists_cmp_total : IsTotalOrder lists_cmp
 lists_cmp_total = lists_total (lists_total nat_list_cmp_total)
 

@@ -132,8 +132,9 @@ fn candidates_if_listed<'a>(
     }
 }
 
-// The same among candidates. The last lists come first: they are of the shortest prefixes, which
-// cover the most, and a list needs no look from the place on that is found already.
+// The first rule among candidates that makes this one redundant. The last lists come first: they
+// are of the shortest prefixes, which cover the most, and a list needs no look from the place on
+// that is found already.
 fn first_of(
     rules: &[Rule],
     mut candidates: Candidates<'_>,
@@ -184,7 +185,7 @@ fn is_redundant_by(rules: &[Rule], place: usize, rule: &Rule, other: usize) -> b
     }
 }
 
-// The same among all rules.
+// The first rule of all that makes this one redundant.
 fn first_of_all(rules: &[Rule], place: usize, rule: &Rule) -> Option<usize>
     requires { slice_get rules.now place ≡ Some rule.now }
     ensures least { IsLeastCoverIfAny rules.now place result }

@@ -96,7 +96,7 @@ pub(crate) fn has_same_rules<'a>(
     Ok(hold_the_same(written, &these, gathered, &those))
 }
 
-// The same, by the sets of both.
+// Whether the two hold the same rules, by the sets of both.
 fn hold_the_same<'a>(
     written: &[&'a Rule],
     these: &BTreeSet<RuleKey<'a>>,

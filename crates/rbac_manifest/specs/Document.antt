@@ -64,7 +64,7 @@ has_metadata kinds.Other = false
 abbrev pub bad_metadata : Data → Option Cause
 bad_metadata d = when (is_none (metadata_at d)) BadMetadata
 
--- the same, of the kinds that have it
+-- M4: the kind has metadata, and it is bad
 abbrev pub metadata_row : Kind → Data → Option Cause
 metadata_row kind d = if has_metadata kind then bad_metadata d else None
 

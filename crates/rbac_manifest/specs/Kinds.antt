@@ -113,7 +113,7 @@ version_at implied kind d = version_or (needs_version kind) (implied_version imp
 abbrev pub is_row : List ℕ → List ℕ → Reading → Bool
 is_row version kind row = bytes_eq version row.version && bytes_eq kind row.kind
 
--- the same of the program's own row
+-- the reading of a row of the program's own table
 abbrev pub as_reading : Row → Reading
 as_reading row = record { version = row.version.now; kind = row.kind.now; means = row.means }
 

@@ -23,7 +23,7 @@ abbrev pub labels_of : Members → Option (List (Text × Text))
 labels_of no_members = Some []
 labels_of (member key d ms) = cons_if (label_of key d) (labels_of ms)
 
--- the same of a map's entries
+-- the labels of a map's entries, if each value is a text
 abbrev pub entry_labels : List (String Global × Value) → Option (List (Text × Text))
 entry_labels [] = Some []
 entry_labels (e ∷ es) = cons_if (label_of (string_bytes e.0) (view e.1)) (entry_labels es)

@@ -13,7 +13,7 @@ is_bad_metadata m = not (is_object m) || is_none (labels_at (codes "labels") m) 
 abbrev pub metadata_in : Data → Metadata
 metadata_in m = record { name = unwrap_or (name_at m) []; namespace = unwrap_or (text_at (codes "namespace") m) []; labels = unwrap_or (labels_at (codes "labels") m) [] }
 
--- the same, unless it is bad
+-- what metadata says, unless it is bad
 unfoldable pub metadata_from : Data → Option Metadata
 metadata_from m = if is_bad_metadata m then None else Some (metadata_in m)
 

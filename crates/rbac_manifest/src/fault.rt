@@ -14,7 +14,7 @@ use std::fmt;
 // Why a value was not read.
 #[derive(Clone, Copy, Debug, Drop)]
 pub(crate) enum Trouble {
-    // It has another shape than the format says.
+    // The value has another shape than the format says.
     Shape,
     Memory,
 }

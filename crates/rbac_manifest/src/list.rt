@@ -1,5 +1,5 @@
-//! What an object with a list under `items` gives. Its items are read one after another, so that one
-//! of them is in memory at a time.
+//! What an object with a list under `items` gives. Its items are read one after another, so that
+//! one of them is in memory at a time.
 
 ghost use Rattle.std.specs.Prelude.{◌≡◌, ◌≢◌, option_map, OnOk, IfOk, IfErr, IsSome, IsTrue, MatchOption, None, Some, false, if◌then◌else◌};
 ghost use Rattle.std.specs.Option.{option_to_list};

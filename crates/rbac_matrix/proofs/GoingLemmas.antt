@@ -66,7 +66,7 @@ module _ (p : PolicyView) (u : UniverseView) (rs : List (List ℕ)) (at : Place)
   metered_after start sought given m m' h lt gains =
       metered_more p u start sought to old new given 1 m m' h (gains number f.found.cursor lt f.found.stands)
 
--- the same of a line that is this one
+-- what a line gains, another that is equal to it gains
 pub gains_on : (p : PolicyView) (l m : LineView) (place end : ℕ) (old new : List Seat) (before after : ℕ) → l ≡ m
     → ((k : ℕ) → IsCursorAt p l k → k < end → (seat_at old k).place ≡ place → Costs 0 1 old new before after)
     → (k : ℕ) → IsCursorAt p m k → k < end → (seat_at old k).place ≡ place → Costs 0 1 old new before after

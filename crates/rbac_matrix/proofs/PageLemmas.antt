@@ -233,7 +233,7 @@ module _ {W S : Type 0} (Left : S → List RowView → Type 0) (one_left : IsOne
         pub stops_next : StopsIn contents now at new after (last_line of last) → StopsWithin contents old page new after IsPage
         stops_next stops = within (last_line of last) stops (λ all is. ([], followed all is ∙ sym (append-nil (rows_text g.rows ++ last_line of last))))
 
-      -- it isn't
+      -- the limit isn't reached
       module _ (some : left ≢ Some 0) where
         line_is : row_text (key_shown r) r.binding.now ≡ row_line row
         line_is = ap₂ row_text shows.key shows.binding

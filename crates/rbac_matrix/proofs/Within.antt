@@ -13,7 +13,7 @@ longer text bs prefix more (rest, whole) (last, e) = (
 )
 
 module _ {W : Type 0} (contents : W → Option (List ℕ)) where
-  -- it stopped in a text that all that follows begins with
+  -- printing stopped in a text that all that follows begins with
   pub within_of : (s t : SinkView W) (p q : PageView) (bs : List ℕ) (Q : List ℕ → Type 0) → StopsIn contents s p t q bs
       → ((more : List ℕ) → Q more → BeginsWith more bs) → StopsWithin contents s p t q Q
   within_of s t p q bs Q f begins start text h = let stop = f start text h in record {
@@ -23,7 +23,7 @@ module _ {W : Type 0} (contents : W → Option (List ℕ)) where
     written = stop.written;
   }
 
-  -- it stopped within a text that all that follows begins with
+  -- printing stopped within a text that all that follows begins with
   pub within_more : (s t : SinkView W) (p q : PageView) (P Q : List ℕ → Type 0) → StopsWithin contents s p t q P
       → ((more : List ℕ) → Q more → (bs : List ℕ) × P bs × BeginsWith more bs) → StopsWithin contents s p t q Q
   within_more s t p q P Q f begins start text h = let stop = f start text h in record {
@@ -33,7 +33,7 @@ module _ {W : Type 0} (contents : W → Option (List ℕ)) where
     written = stop.written;
   }
 
-  -- it stopped after a text was printed, within what follows that
+  -- printing stopped after a text was printed, within what follows that
   pub within_after : (s t u : SinkView W) (p q r : PageView) (bs : List ℕ) (P Q : List ℕ → Type 0) → Prints contents s p t q bs → StopsWithin contents t q u r P
       → ((more : List ℕ) → Q more → (cs : List ℕ) × P cs × BeginsWith more (bs ++ cs)) → StopsWithin contents s p u r Q
   within_after s t u p q r bs P Q f g begins start text h = let stop = g start (text ++ bs) (f start text h) in record {

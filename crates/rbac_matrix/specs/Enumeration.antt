@@ -60,7 +60,7 @@ pub record IsUnderWay (s : Rows) (upto : ℕ) : Type 0 where
 abbrev pub IsGoing : Rows → Type 0
 IsGoing s = IsUnderWay s 0
 
--- it begins there, with no row given; and no more cursors were sought than that line has, none where all its rows are meant
+-- an enumeration begins there, with no row given; and no more cursors were sought than that line has, none where all its rows are meant
 pub record BeginsAt (s : Rows) (start : Start) : Type 0 where
   pub at : s.at ≡ start.at
   pub from : s.from ≡ start.from

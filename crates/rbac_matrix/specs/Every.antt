@@ -33,7 +33,7 @@ abbrev pub comes_after : KeyTexts → Option BindingName → RowView → Bool
 comes_after k None row = is_gt (key_cmp (cell_key row.cell) k)
 comes_after k (Some b) row = is_gt (slice_cmp text_cmp (every_name row) (texts k ++ name_texts (Some b)))
 
--- the same of a mark with a binding, part by part: the row's key is greater, or it is the mark's and the row's binding stands past the mark's
+-- a row comes after a mark with a binding, part by part: its key is greater, or it is the mark's and its binding stands past the mark's
 abbrev pub StandsPast : KeyTexts → BindingName → RowView → Type 0
 StandsPast k b row =
     (key_cmp (cell_key row.cell) k ≡ Greater)

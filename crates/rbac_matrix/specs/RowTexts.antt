@@ -12,7 +12,7 @@ key_shown r = key_of r.who.now r.namespace.now r.verb.now r.target.now
 abbrev pub texts_shown : Row → KeyTexts
 texts_shown r = record { principal = r.principal.now; namespace = r.namespace.now; verb = r.verb.now; group = r.group.now; resource = r.resource.now; name = r.name.now }
 
--- it shows a row of the matrix, by its key and binding
+-- what is given shows a row of the matrix, by its key and binding
 pub record Shows (r : Row) (v : RowView) : Type 0 where
   pub key : key_shown r ≡ cell_key v.cell
   pub texts : texts_shown r ≡ cell_key v.cell

@@ -40,7 +40,7 @@ pub record AreSeated (p : PolicyView) (l : LineView) (rs : List (List ℕ)) (fro
   pub count : length seats ≡ length p.grants
   pub each : (k : ℕ) → k < length seats → (IsCursorAt p l k × IsSeated (reach_at rs k) (start_at from upto k) (seat_at seats k)) ⊎ ((IsCursorAt p l k → ⊥) × (seat_at seats k ≡ empty_seat))
 
--- the same where each cursor's seat is at the place, or past it already if its number is below `end`
+-- the line's cursors have their seats at the place, or past it already if their number is below `end`
 pub record AreSeatedAbout (p : PolicyView) (l : LineView) (rs : List (List ℕ)) (place end : ℕ) (seats : List Seat) : Type 0 where
   pub count : length seats ≡ length p.grants
   pub each : (k : ℕ) → k < length seats
@@ -82,7 +82,7 @@ pub record Costs (limit gain : ℕ) (old new : List Seat) (before after : ℕ) :
   pub low : gain + standing new ≤ standing old + total
   pub high : total + passed old + standing old ≤ limit + passed new + standing new
 
--- the same of one seat
+-- a step that took one seat from `old` to `new`, and the meter on: what it read, left behind, and read at most
 pub record SeatCosts (limit gain : ℕ) (old new : Seat) (before after : ℕ) : Type 0 where
   pub total : ℕ
   pub meter : after ≡ raised before total

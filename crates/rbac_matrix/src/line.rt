@@ -102,7 +102,7 @@ fn after_namespaces(universe: &Universe, at: Place) -> Place
     at
 }
 
-// The same place where it is a line's, else that of the next line.
+// The place as it is where it is a line's, else that of the next line.
 pub(crate) fn settled(universe: &Universe, at: Place) -> Place
     ensures settled { IsSettled universe.now result }
     ensures same { lines_from universe.now result ≡ lines_from universe.now at }

@@ -59,7 +59,7 @@ pub reached_held : (h : Held) (r s : ClusterRole) → Reaches h r s → Contains
 reached_held h r s path = path_held h r path.0 s path.1
 
 module _ (h : Held) (g : Graph) (are : AreSteps h g) where
-  -- it has a row for each role
+  -- the closure has a row for each role
   rows_len : length g ≡ length h.cluster_roles
   rows_len = zip_len (IsRowOf h) h.cluster_roles g are
 

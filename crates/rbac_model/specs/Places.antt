@@ -53,7 +53,7 @@ AreSourcesOf h r ps =
     All (λ p. p < length h.cluster_roles) ps
     × ((IsPlain r × (roles_at h ps ≡ r ∷ [])) ⊎ ((¬ IsPlain r) × AreGathered h r (roles_at h ps)))
 
--- such places, for the cluster role at a place
+-- the places of the roles whose rules the cluster role at this place has
 abbrev pub AreSourcesAt : Held → ℕ → List ℕ → Type 0
 AreSourcesAt h at ps = (r : ClusterRole) → slice_get h.cluster_roles at ≡ Some r → AreSourcesOf h r ps
 
@@ -69,7 +69,7 @@ IsStepTo h r k = (s : ClusterRole) × (slice_get h.cluster_roles k ≡ Some s) �
 abbrev pub IsRowOf : Held → ClusterRole → List ℕ → Type 0
 IsRowOf h r row = (k : ℕ) → IsMarked row k ↔ IsStepTo h r k
 
--- such a set, for each cluster role
+-- for each cluster role the set of those that one step leads to
 abbrev pub AreSteps : Held → Graph → Type 0
 AreSteps h rows = AllZip (IsRowOf h) h.cluster_roles rows
 
@@ -97,7 +97,7 @@ places_in h binding ps = flat_map (λ at. places_of binding (ClusterRoleAt at) (
 abbrev pub IsMarkedName : Held → List ℕ → Text → Type 0
 IsMarkedName h marks w = (k : ℕ) × (s : ClusterRole) × IsMarked marks k × (slice_get h.cluster_roles k ≡ Some s) × (s.name ≡ w)
 
--- such names, ascending
+-- the names of the roles at the places with a mark, ascending
 pub record AreMarkedNames (h : Held) (marks : List ℕ) (ws : List Text) : Type 0 where
   pub ordered : IsAscendingBy (λ w. w ∷ []) ws
   pub exact : (w : Text) → Contains ws w ↔ IsMarkedName h marks w

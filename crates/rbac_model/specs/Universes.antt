@@ -49,7 +49,7 @@ pub record Cell : Type 0 where
   pub verb : Text
   pub target : Listed
 
--- it fits: its target is namespaced, or its namespace is empty (own)
+-- a request fits: its target is namespaced, or its namespace is empty (own)
 abbrev pub Fits : Cell → Type 0
 Fits c = (IsTrue c.target.1) ⊎ (c.namespace ≡ [])
 
@@ -57,7 +57,7 @@ Fits c = (IsTrue c.target.1) ⊎ (c.namespace ≡ [])
 abbrev pub cell_key : Cell → KeyTexts
 cell_key c = key_of c.who c.namespace c.verb c.target.0
 
--- it is a request of the universe: each of its parts stands in the list of its kind
+-- a request is one of the universe: each of its parts stands in the list of its kind
 abbrev pub IsCellOf : UniverseView → Cell → Type 0
 IsCellOf u c = Contains u.principals c.who × Contains u.namespaces c.namespace × Contains u.verbs c.verb × Contains u.targets c.target
 

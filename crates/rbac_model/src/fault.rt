@@ -5,8 +5,8 @@ ghost use Rattle.std.specs.Prelude.{◌≡◌};
 use std::alloc::{AllocError, AllocFailed};
 use thiserror::Error;
 
-/// Why objects don't resolve to a policy (own). Its text is the number and name of the refusal; want
-/// of memory has no number there.
+/// Why objects don't resolve to a policy (own). Its text is the number and name of the refusal;
+/// out of memory has no number there.
 #[derive(Debug, Drop, Clone, Copy, PartialEq, Eq, Error)]
 pub enum ResolveFault {
     /// P2: more than a million grants.

@@ -216,8 +216,8 @@ impl Action {
 
     /// What a `matrix` line means.
     ///
-    /// Without `--every` a mark stands for its key. U4 where what follows `--after` is the token of no
-    /// mark, with `--every` and without.
+    /// Without `--every` a mark stands for its key. U4 where what follows `--after` is the token of
+    /// no mark, with `--every` and without.
     pub fn matrix(alloc: Global, line: &MatrixLine<'_>) -> Result<Self, QuestionFault>
         ensures { MatchResult result (MeansMatrix line.now) (RefusesMatrix line.now) }
     {

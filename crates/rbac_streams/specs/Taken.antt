@@ -32,7 +32,7 @@ abbrev pub Prints : {W : Type 0} → (W → Option (List ℕ)) → SinkView W �
 Prints {W} contents old page new after more = (start : SinkView W) (text : List ℕ)
     → Printed contents start old page text → Printed contents start new after (text ++ more)
 
--- the same, but it stopped in that text
+-- printing more text stopped within it
 abbrev pub StopsIn : {W : Type 0} → (W → Option (List ℕ)) → SinkView W → PageView → SinkView W → PageView → List ℕ → Type 0
 StopsIn {W} contents old page new after more = (start : SinkView W) (text : List ℕ)
     → Printed contents start old page text → Stopped contents start new after (text ++ more)

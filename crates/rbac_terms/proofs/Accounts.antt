@@ -16,18 +16,18 @@ user_is namespace name = ap (λ t. codes "system:serviceaccount:" ++ t) (append_
 pub account_rest : (user parts namespace name : Text) → user ≡ codes "system:serviceaccount:" ++ parts → user ≡ account_user namespace name → parts ≡ rest_of namespace name
 account_rest user parts namespace name e g = append_cancel_left (codes "system:serviceaccount:") parts (rest_of namespace name) (sym e ∙ g ∙ user_is namespace name)
 
--- such a name is its prefix, its namespace and the rest, each found in turn
+-- an account's name is its prefix, its namespace and the rest, each found in turn
 pub account_user-iff : (user parts rest namespace name : Text) (r : Bool) → user ≡ codes "system:serviceaccount:" ++ parts → parts ≡ namespace ++ rest → (IsTrue r ↔ (rest ≡ codes ":" ++ name)) → IsTrue r ↔ (user ≡ account_user namespace name)
 account_user-iff user parts rest namespace name r e f i = (
   λ h. e ∙ ap (λ t. codes "system:serviceaccount:" ++ t) (f ∙ ap (λ t. namespace ++ t) (i.0 h)) ∙ sym (user_is namespace name),
   λ g. i.1 (append_cancel_left namespace rest (colon ∷ name) (sym f ∙ account_rest user parts namespace name e g)),
 )
 
--- such a name begins with the prefix
+-- an account's name begins with the prefix
 pub IsAccountOf-begins : (user namespace : Text) → IsAccountOf user namespace → BeginsWith user (codes "system:serviceaccount:")
 IsAccountOf-begins user namespace a = (rest_of namespace a.0, a.1 ∙ user_is namespace a.0)
 
--- such a name's rest is cut at its first colon
+-- the rest of an account's name is cut at its first colon
 pub IsAccountOf-cut : (user parts namespace : Text) → user ≡ codes "system:serviceaccount:" ++ parts → (a : IsAccountOf user namespace) → IsCutAtFirst parts colon namespace a.0
 IsAccountOf-cut user parts namespace e a =
     (append_cancel_left (codes "system:serviceaccount:") parts (rest_of namespace a.0) (sym e ∙ a.1 ∙ user_is namespace a.0), a.2.1)

@@ -26,11 +26,11 @@ abbrev pub name_of : What → Text
 name_of (Resource group text name) = name
 name_of (Url path) = []
 
--- it is a URL
+-- what is asked for is a URL
 abbrev pub IsUrl : What → Type 0
 IsUrl t = t ≡ Url (text_of t)
 
--- it is a resource
+-- what is asked for is a resource
 abbrev pub IsResource : What → Type 0
 IsResource t = t ≡ Resource (group_of t) (text_of t) (name_of t)
 

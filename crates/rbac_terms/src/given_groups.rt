@@ -9,15 +9,15 @@ use crate::text::{Word, Words};
 use std::alloc::{AllocError, Global};
 use std::marker::Model;
 
-// The groups that a user is given, as they are given: in order, with repeats. Contracts see the list
-// of them.
+// The groups that a user is given, as they are given: in order, with repeats. Contracts see the
+// list of them.
 #[derive(Drop)]
 pub(crate) struct GivenGroups {
     given: Words,
-    // The same texts sorted, since a user of thousands of groups is looked up for each subject of a
-    // million. None for a member of a group, who is given none, and where those of another entry
-    // were added: a user may have a million entries, and a sort at each would take the square of
-    // that.
+    // The texts once more, sorted, since a user of thousands of groups is looked up for each
+    // subject of a million. None for a member of a group, who is given none, and where those of
+    // another entry were added: a user may have a million entries, and a sort at each would take
+    // the square of that.
     sorted: Option<Vec<Word>>,
 }
 
@@ -72,8 +72,8 @@ impl GivenGroups {
         }
     }
 
-    // Adds all of these at the end, in order. Fails only where memory is refused, and the groups are
-    // then as before.
+    // Adds all of these at the end, in order. Fails only where memory is refused, and the groups
+    // are then as before.
     pub(crate) fn append(&mut self, more: Self) -> Result<(), AllocError>
         ensures ok { OnOk result (self.new ≡ self.old ++ more) }
         ensures err { OnErr result (self.new ≡ self.old) }

@@ -65,7 +65,8 @@ pub enum Subject {
 /// The subjects of a binding in their written order: as many as memory holds.
 pub type Subjects = Items<Subject>;
 
-/// A binding of a role to subjects (Using RBAC Authorization, "RoleBinding and ClusterRoleBinding").
+/// A binding of a role to subjects (Using RBAC Authorization, "RoleBinding and
+/// ClusterRoleBinding").
 #[derive(Drop)]
 pub struct Binding {
     /// A RoleBinding's namespace; a ClusterRoleBinding has none.
@@ -78,10 +79,10 @@ pub struct Binding {
     pub subjects: Subjects,
 }
 
-/// Whether a subject of a binding in that namespace, or of a ClusterRoleBinding where there is none,
-/// names this principal: the user of its name, a member of its group, or the user of its service
-/// account (Using RBAC Authorization, "Referring to subjects"). An account without a namespace is of
-/// the binding's; in a ClusterRoleBinding it names nobody (own). Takes no memory.
+/// Whether a subject of a binding in that namespace, or of a ClusterRoleBinding where there is
+/// none, names this principal: the user of its name, a member of its group, or the user of its
+/// service account (Using RBAC Authorization, "Referring to subjects"). An account without a
+/// namespace is of the binding's; in a ClusterRoleBinding it names nobody (own). Takes no memory.
 pub fn names(subject: &Subject, binding_namespace: Option<&Word>, principal: &Principal) -> bool
     ensures { IsTrue result ↔ Names subject.now (option_copied binding_namespace.entry) principal.now }
 {

@@ -35,8 +35,8 @@ enum Held {
     Shared(Bytes, Global),
 }
 
-// Written out, since a derived drop is split into its cases wherever a text is dropped: two for each
-// text, in each proof.
+// Written out, since a derived drop is split into its cases wherever a text is dropped: two for
+// each text, in each proof.
 impl Drop for Held {
     fn drop(self) {
         match self {

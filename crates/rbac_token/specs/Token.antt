@@ -52,6 +52,6 @@ IsTokenOf token k = IsKey k × Encodes token (printed_key k)
 abbrev pub HasVersion : Text → Text → Type 0
 HasVersion version bytes = (bytes ≡ version) ⊎ BeginsWith bytes (version ++ tab ∷ [])
 
--- it is the version `1`, which the token of a key has
+-- a text has the version `1`, as the token of a key does
 abbrev pub HasKeyVersion : Text → Type 0
 HasKeyVersion bytes = HasVersion (codes "1") bytes

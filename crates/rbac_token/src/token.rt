@@ -19,7 +19,8 @@ use rbac_terms::{Key, Word};
 use std::alloc::{AllocError, Global};
 
 /// The token of a key (own): unpadded URL-safe base64 of the version `1` and the key's six texts,
-/// each printed as a field, joined by tabs. Fails with K4 NoMemory, and only where memory is refused.
+/// each printed as a field, joined by tabs. Fails with K4 NoMemory, and only where memory is
+/// refused.
 pub fn token_of(alloc: Global, key: &Key) -> Result<Word, TokenFault>
     ensures ok { IfOk result (λ token. token ≡ token_text key.now) }
     ensures only_memory { IfErr result (λ e. e ≡ TokenFault.NoMemory) }
@@ -40,10 +41,10 @@ pub fn token_of_mark(alloc: Global, mark: &Mark) -> Result<Word, TokenFault>
     Ok(encoded(alloc, printed.as_slice())?)
 }
 
-/// The key whose token this is (own). K1 NotBase64 where it isn't unpadded URL-safe base64, of which
-/// each text of bytes has one spelling; else K2 BadVersion where what stands before the first tab of
-/// its bytes, or all of them where there is none, isn't `1`; else K3 NotCanonical where it is the
-/// token of no key. K4 NoMemory only where memory is refused.
+/// The key whose token this is (own). K1 NotBase64 where it isn't unpadded URL-safe base64, of
+/// which each text of bytes has one spelling; else K2 BadVersion where what stands before the first
+/// tab of its bytes, or all of them where there is none, isn't `1`; else K3 NotCanonical where it
+/// is the token of no key. K4 NoMemory only where memory is refused.
 pub fn key_of_token(alloc: Global, token: &Word) -> Result<Key, TokenFault>
     ensures key { MatchResult result (IsTokenOf token.now) (IsTokenFault token.now) }
     ensures no_key { IfErr result (λ e. (e ≡ TokenFault.NoMemory)
@@ -59,9 +60,9 @@ pub fn key_of_token(alloc: Global, token: &Word) -> Result<Key, TokenFault>
 
 /// The mark whose token this is (own), that of a key or that of a key and a binding. K1 NotBase64
 /// as for a key; else K2 BadVersion where what stands before the first tab of its bytes, or all of
-/// them where there is none, is neither `1` nor `2`; else K3 NotCanonical where it is the token of no
-/// mark: so also with another kind word, or with a ClusterRoleBinding in a namespace. K4 NoMemory
-/// only where memory is refused.
+/// them where there is none, is neither `1` nor `2`; else K3 NotCanonical where it is the token of
+/// no mark: so also with another kind word, or with a ClusterRoleBinding in a namespace. K4
+/// NoMemory only where memory is refused.
 pub fn mark_of_token(alloc: Global, token: &Word) -> Result<Mark, TokenFault>
     ensures mark { MatchResult result (IsTokenOfMark token.now) (IsMarkFault token.now) }
     ensures no_mark { IfErr result (λ e. (e ≡ TokenFault.NoMemory)

@@ -13,7 +13,7 @@ pub record AreUnitedBy {X : Type 0} (name : X → List Text) (has : X → Text �
   pub names : (n : List Text) → Any (λ x. name x ≡ n) united ↔ Any (λ x. name x ≡ n) listed
   pub texts : (n : List Text) (t : Text) → HasUnder name has united n t ↔ HasUnder name has listed n t
 
--- the same after one element more
+-- what the elements give, united by name, after one element more
 pub record IsOneMore {X : Type 0} (name : X → List Text) (has : X → Text → Type 0) (old : List X) (item : X) (new : List X) : Type 0 where
   pub ordered : IsAscendingBy name new
   pub names : (n : List Text) → Any (λ x. name x ≡ n) new ↔ (Any (λ x. name x ≡ n) old ⊎ (name item ≡ n))
