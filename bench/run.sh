@@ -27,19 +27,22 @@ ask() {
     least "$audit" can-i --as nobody@example.com -A get pods "$1"
 }
 
-# One line for a matrix over an export and a universe: its requests and its time.
+# One line for a matrix over an export and a universe: its requests, and its time for the first binding and for every one.
 measure_matrix() {
     local name=$1 file=$2 universe=$3 requests=$4
-    printf '%-44s %9d requests  matrix %7d ms\n' "$name" "$requests" "$(least "$audit" matrix "$file" "$universe")"
+    printf '%-44s %9d requests  matrix %7d ms  --every %7d ms\n' "$name" "$requests" \
+        "$(least "$audit" matrix "$file" "$universe")" "$(least "$audit" matrix --every "$file" "$universe")"
 }
 
-# One line for the whole matrix that follows from an export: its rows, time and memory, and rows a second beside loading.
+# One line for the whole matrix that follows from an export: its rows, time and memory, and rows a second beside loading. Options of
+# `matrix` follow the file.
 measure_whole() {
     local name=$1 file=$2
     local rows whole memory
-    rows=$(($("$audit" matrix "$file" | wc -l) - 1))
-    whole=$(python3 least.py 3 "$audit" matrix "$file")
-    memory=$(python3 least.py --memory "$audit" matrix "$file")
+    shift 2
+    rows=$(($("$audit" matrix "$@" "$file" | wc -l) - 1))
+    whole=$(python3 least.py 3 "$audit" matrix "$@" "$file")
+    memory=$(python3 least.py --memory "$audit" matrix "$@" "$file")
     printf '%-44s %9d rows  matrix %7d ms  %d rows a second  %d MB\n' \
         "$name" "$rows" "$whole" "$((rows * 1000 / (whole - $(ask "$file") + 1)))" "$((memory / 1024))"
 }
@@ -76,6 +79,7 @@ for size in "200 800 20" "1000 4000 100"; do
 done
 python3 generate_export.py 200 800 20 1 "$room/export.json" > /dev/null
 measure_whole "whole matrix, 200 roles, 800 bindings" "$room/export.json"
+measure_whole "whole matrix, every granting binding" "$room/export.json" --every
 python3 generate_export.py 1000 4000 100 1 "$room/export.json" > /dev/null
 measure_pages "pages, 1000 roles, 4000 bindings" "$room/export.json"
 for size in "4 20 60" "40 20 60" "4 200 60" "4 20 600"; do
