@@ -17,7 +17,8 @@ use std::io::Write;
 ///
 /// For a matrix it writes exactly one line for each request of the universe that is allowed and
 /// whose key is greater than the token's, in order of keys, each with the first binding that grants
-/// it, cut at the limit, and last a line that says whether more follow.
+/// it, cut at the limit, and last a line that says whether more follow. With `--every` it is one
+/// line for each request and binding that grants it, whose row comes after the token's mark.
 ///
 /// Refused are inputs that [`load`] refuses, and for a matrix those whose lists make no universe;
 /// nothing is written then. Where memory was refused or a write failed, what was written is a
