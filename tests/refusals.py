@@ -120,7 +120,7 @@ def long_matrix():
 
 
 def long_bindings():
-    """The same of a listing of every binding, two for each request."""
+    """A listing of every binding, two for each request, that is written in several pieces."""
     names = {letter: [letter + str(i) for i in range(count)] for letter, count in (('u', 10), ('n', 8), ('v', 3), ('r', 8))}
     given = export(
         item('ClusterRole', {'name': 'r'}, rules=[{'verbs': ['*'], 'apiGroups': ['*'], 'resources': ['*']}]),

@@ -25,7 +25,7 @@ abbrev pub PrintsListing : {W : Type 0} → (W → Option (List ℕ)) → SinkVi
 PrintsListing contents old page new after k limit held u =
     (rows : List RowView) × IsMatrix held u rows × Prints contents old page new after (listing_text k limit rows)
 
--- printing stopped within it
+-- printing stopped within a page of the matrix
 abbrev pub StopsInListing : {W : Type 0} → (W → Option (List ℕ)) → SinkView W → PageView → SinkView W → PageView → Option KeyTexts → Option ℕ → Held → UniverseView → Type 0
 StopsInListing contents old page new after k limit held u =
     StopsWithin contents old page new after (λ more. (rows : List RowView) × IsMatrix held u rows × (more ≡ listing_text k limit rows))
@@ -35,6 +35,7 @@ abbrev pub PrintsEvery : {W : Type 0} → (W → Option (List ℕ)) → SinkView
 PrintsEvery contents old page new after m limit held u =
     (rows : List RowView) × IsEvery held u rows × Prints contents old page new after (every_listing_text m limit rows)
 
+-- printing stopped within a page of the rows of every granting binding
 abbrev pub StopsInEvery : {W : Type 0} → (W → Option (List ℕ)) → SinkView W → PageView → SinkView W → PageView → Option Mark → Option ℕ → Held → UniverseView → Type 0
 StopsInEvery contents old page new after m limit held u =
     StopsWithin contents old page new after (λ more. (rows : List RowView) × IsEvery held u rows × (more ≡ every_listing_text m limit rows))

@@ -40,7 +40,7 @@ pub record AreSeated (p : PolicyView) (l : LineView) (rs : List (List ℕ)) (fro
   pub count : length seats ≡ length p.grants
   pub each : (k : ℕ) → k < length seats → (IsCursorAt p l k × IsSeated (reach_at rs k) (start_at from upto k) (seat_at seats k)) ⊎ ((IsCursorAt p l k → ⊥) × (seat_at seats k ≡ empty_seat))
 
--- the line's cursors have their seats at the place, or past it already if their number is below `end`
+-- each cursor of the line has a seat at the place, or past it already if its number is below `end`, and all other seats are empty
 pub record AreSeatedAbout (p : PolicyView) (l : LineView) (rs : List (List ℕ)) (place end : ℕ) (seats : List Seat) : Type 0 where
   pub count : length seats ≡ length p.grants
   pub each : (k : ℕ) → k < length seats

@@ -1,5 +1,5 @@
--- How a run ends whose inputs are refused. It is stated here so that a check that doesn't find it says so at once, and doesn't first
--- print all that is known there, which takes three minutes.
+-- How a run ends if its inputs are refused. A search finds it. It has an answer here because a check that doesn't find it would otherwise
+-- take three minutes to print what is known there.
 use Rattle.std.proofs.Common.{rules}
 use Rattle.rbac_cli.proofs.running.run.Goals as goal
 
