@@ -41,6 +41,13 @@ Succeeds took command inputs status = (l : LoadedView) × IsLoaded inputs l × W
 abbrev pub StopsShort : (List ℕ → Type 0) → Command → List (List ℕ) → ℕ → Type 0
 StopsShort took command inputs n = (l : LoadedView) × IsLoaded inputs l × WritesPrefix took l command.action n
 
+-- the inputs are refused, for the fault that they have, or memory was refused before anything was written
+abbrev pub FailsToLoad : List (List ℕ) → RunFault → Type 0
+FailsToLoad inputs (Load fault) = HasFault inputs fault
+FailsToLoad inputs (Universe fault) = ⊥
+FailsToLoad inputs (Memory n) = n ≡ 0
+FailsToLoad inputs (Write n) = ⊥
+
 -- the inputs are refused, for the fault that they have, or they are loaded and make no universe for a matrix, and nothing is written; or
 -- memory was refused; or a write failed
 abbrev pub Faults : (List ℕ → Type 0) → Command → List (List ℕ) → RunFault → Type 0

@@ -1,8 +1,9 @@
 //! A run: load the inputs, answer the command, write the answer.
 
-ghost use Rattle.std.specs.Prelude.{◌≡◌, ◌≢◌, ◌++◌, [], false, MatchResult};
+ghost use Rattle.std.specs.Prelude.{◌≡◌, ◌≢◌, ◌++◌, [], false, MatchResult, IfOk, IfErr};
 ghost use Rattle.rbac_streams.specs.Taken.{Took, Printed};
-ghost use Rattle.rbac_cli.specs.Ends.{Ends, Writes, is_write_fault};
+ghost use Rattle.rbac_manifest.specs.Load.{IsLoaded};
+ghost use Rattle.rbac_cli.specs.Ends.{Ends, FailsToLoad, Writes, is_write_fault};
 ghost use Rattle.rbac_cli.specs.Printing.{StopsWith};
 
 use crate::answer::print_answer;
@@ -34,10 +35,7 @@ pub fn run<W: Write + Drop>(
     ensures failed { sink.new.has_failed ≡ is_write_fault result }
 {
     let mut page = Page::start(alloc, sink);
-    let loaded = match load(alloc, inputs) {
-        Ok(loaded) => loaded,
-        Err(fault) => return Err(unloaded(fault)),
-    };
+    let loaded = loaded_from(alloc, inputs)?;
     write_answer(alloc, &loaded, &command.action, sink, &mut page)
 }
 
@@ -56,6 +54,14 @@ pub fn run_into(
     ensures failed { sink.new.has_failed ≡ is_write_fault result }
 {
     run(alloc, command, inputs, sink)
+}
+
+// Loads the inputs of a run.
+fn loaded_from(alloc: Global, inputs: &[Input]) -> Result<Loaded, RunFault>
+    ensures ok { IfOk result (IsLoaded inputs.now) }
+    ensures fault { IfErr result (FailsToLoad inputs.now) }
+{
+    load(alloc, inputs).map_err(unloaded)
 }
 
 // Why a run stops whose inputs aren't loaded. Out of memory is a fault of its own.
