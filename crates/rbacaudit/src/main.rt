@@ -6,7 +6,7 @@
 #![tactic(auto)]
 
 use rbac_cli::{
-    Input, InputFault, RunFault, Sink, Source, Status, UsageFault, command_of, read_file,
+    Command, Input, InputFault, RunFault, Sink, Source, Status, UsageFault, command_of, read_file,
     read_input, run,
 };
 use std::alloc::AllocError;
@@ -67,12 +67,20 @@ fn main(rt: HostRuntime) -> ExitCode {
 }
 
 fn audit(rt: &HostRuntime) -> Result<Status, Fault> {
-    let alloc = rt.alloc();
+    let command = command_given(rt)?;
+    answer(rt, &command)
+}
+
+fn command_given(rt: &HostRuntime) -> Result<Command, Fault> {
     let words = words_of(rt)?;
-    let command = command_of(alloc, words.as_slice()).map_err(Fault::Usage)?;
+    command_of(rt.alloc(), words.as_slice()).map_err(Fault::Usage)
+}
+
+// Answers the command over its inputs, on standard output.
+fn answer(rt: &HostRuntime, command: &Command) -> Result<Status, Fault> {
     let inputs = inputs_of(rt, command.files.as_slice())?;
     let mut sink = Sink::new(rt.stdout());
-    run(alloc, &command, inputs.as_slice(), &mut sink).map_err(Fault::Run)
+    run(rt.alloc(), command, inputs.as_slice(), &mut sink).map_err(Fault::Run)
 }
 
 fn words_of(rt: &HostRuntime) -> Result<Vec<String>, Fault> {
