@@ -148,8 +148,8 @@ fn meaning_of(alloc: Global, matches: &ArgMatches<'_>) -> Result<Command, UsageF
 {
     match subcommand_of(matches) {
         Some((name, inner)) => {
-            let action = action_of(alloc, name, inner)?;
             let files = files_of(alloc, inner)?;
+            let action = action_of(alloc, name, inner)?;
             Ok(Command { action, files })
         }
         None => unreachable!(),
