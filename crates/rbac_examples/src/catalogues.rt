@@ -1,12 +1,11 @@
 //! Type words that no command passes on: one with a slash, and those that are empty before their
 //! dot.
 
-use crate::exports::loaded;
 use crate::words::{is, word};
-use std::test::Fail;
-
-const PODS_AND_LOGS: &str = r#"{"kind":"APIResourceList","groupVersion":"v1",
-  "resources":[{"name":"pods","namespaced":true},{"name":"pods/log","namespaced":true}]}"#;
+use rbac_catalogue::{Catalogue, Entries, Entry};
+use rbac_terms::{Word, Words};
+use std::alloc::Global;
+use std::process::Abort;
 
 // A type word, and the group and the resource that it means.
 const WORDS: &[(&str, &str, &str)] = &[
@@ -15,13 +14,43 @@ const WORDS: &[(&str, &str, &str)] = &[
     ("", "", ""),
 ];
 
-#[test]
-fn a_word_that_names_nothing_stands_as_written(rt: HostRuntime) -> Result<(), Fail> {
-    let loaded = loaded(rt.alloc(), PODS_AND_LOGS)?;
-    for (typed, group, resource) in WORDS {
-        let typed = word(rt.alloc(), typed)?;
-        let found = loaded.catalogue().resolve_word(rt.alloc(), &typed)?;
-        assert!(rt; is(&found.group, group) && is(&found.resource, resource));
+// An entry of the core group.
+fn entry(rt: &impl Abort, alloc: Global, name: &str) -> Entry {
+    Entry {
+        group: Word::new(alloc),
+        name: word(rt, alloc, name),
+        singular: Word::new(alloc),
+        short_names: Words::new(alloc),
+        namespaced: true,
+        verbs: Words::new(alloc),
     }
-    Ok(())
+}
+
+const RESOURCES: &[&str] = &["pods", "pods/log"];
+
+fn pods_and_logs(rt: &impl Abort, alloc: Global) -> Catalogue {
+    let mut entries = Entries::new(alloc);
+    for name in RESOURCES {
+        entries.push(entry(rt, alloc, name)).expect(rt, "memory");
+    }
+    let mut catalogue = Catalogue::new(alloc);
+    catalogue.give(entries).expect(rt, "memory");
+    catalogue
+}
+
+// Whether the word means the resource of this group and text.
+fn means(rt: &impl Abort, alloc: Global, catalogue: &Catalogue, row: &(&str, &str, &str)) -> bool {
+    let (typed, group, resource) = *row;
+    let found = catalogue
+        .resolve_word(alloc, &word(rt, alloc, typed))
+        .expect(rt, "memory");
+    is(&found.group, group) && is(&found.resource, resource)
+}
+
+#[test]
+fn a_word_that_names_nothing_stands_as_written(rt: HostRuntime) {
+    let catalogue = pods_and_logs(&rt, rt.alloc());
+    for row in WORDS {
+        assert!(rt; means(&rt, rt.alloc(), &catalogue, row));
+    }
 }

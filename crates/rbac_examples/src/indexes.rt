@@ -1,25 +1,35 @@
 //! The index at every request of a universe.
 
-use crate::exports::{loaded, universe};
+use crate::policies::{BindingRow, RuleRow, TO_ALICE, policy};
+use crate::universes::{Listed, universe};
 use crate::words::is;
 use rbac_index::Index;
 use rbac_terms::{Principal, Word};
 use rbac_text::put_place;
 use rbac_universe::Universe;
-use std::alloc::{AllocError, Global};
-use std::test::Fail;
+use std::alloc::Global;
+use std::process::Abort;
 
-const FOUR_RULES: &str = r#"{"apiVersion":"v1","kind":"List","items":[
-  {"apiVersion":"rbac.authorization.k8s.io/v1","kind":"ClusterRole","metadata":{"name":"r"},"rules":[
-    {"verbs":["get"],"apiGroups":[""],"resources":["*"]},
-    {"verbs":["*"],"apiGroups":["*"],"resources":["pods"]},
-    {"verbs":["list"],"apiGroups":[""],"resources":["pods"]},
-    {"verbs":["get","*","get"],"apiGroups":[""],"resources":["pods/log","*/log"]}]},
-  {"apiVersion":"rbac.authorization.k8s.io/v1","kind":"ClusterRoleBinding","metadata":{"name":"b"},
-   "roleRef":{"kind":"ClusterRole","name":"r"},"subjects":[{"kind":"User","name":"alice"}]},
-  {"apiVersion":"rbacaudit/v1","kind":"Universe","verbs":["get","list"],"names":[""],"urls":["/x"],
-   "resources":[{"resource":"nodes"},{"resource":"pods"},{"resource":"pods/log"}]}
-]}"#;
+const FOUR_RULES: &[RuleRow<'static>] = &[
+    [&["get"], &[""], &["*"], &[]],
+    [&["*"], &["*"], &["pods"], &[]],
+    [&["list"], &[""], &["pods"], &[]],
+    [&["get", "*", "get"], &[""], &["pods/log", "*/log"], &[]],
+];
+
+const FOUR_TARGETS: Listed<'static> = Listed {
+    users: &["alice"],
+    groups: &[],
+    namespaces: &[""],
+    verbs: &["get", "list"],
+    resources: &[
+        ("", "nodes", true),
+        ("", "pods", true),
+        ("", "pods/log", true),
+    ],
+    names: &[""],
+    urls: &["/x"],
+};
 
 // Stands after the candidates of each request.
 const END: u32 = 100;
@@ -30,16 +40,29 @@ const CANDIDATES: &[u32] = &[
     END, 0, END, 0, 1, END, 0, 3, END, END, END, 1, 2, END, 3, END,
 ];
 
-// The candidates of all requests of the universe, verb by verb and target by target.
-fn all_candidates(alloc: Global, index: &Index<'_>, universe: &Universe) -> Result<Vec<u32>, Fail> {
-    let mut all = Vec::new(alloc);
+// Adds the candidates of all requests of the universe, verb by verb and target by target.
+fn put_candidates(
+    rt: &impl Abort,
+    alloc: Global,
+    index: &Index<'_>,
+    universe: &Universe,
+    all: &mut Vec<u32>,
+) {
     for verb in universe.verbs() {
         for target in universe.targets() {
-            all.extend_from_slice(index.candidates(alloc, verb, target)?.as_slice())?;
-            all.push(END)?;
+            let found = index.candidates(alloc, verb, target).expect(rt, "memory");
+            all.extend_from_slice(found.as_slice()).expect(rt, "memory");
+            all.push(END).expect(rt, "memory");
         }
     }
-    Ok(all)
+}
+
+// Whether they are the wanted ones.
+fn has_candidates(rt: &impl Abort, alloc: Global, index: &Index<'_>) -> bool {
+    let universe = universe(rt, alloc, &FOUR_TARGETS);
+    let mut got = Vec::new(alloc);
+    put_candidates(rt, alloc, index, &universe, &mut got);
+    got.as_slice() == CANDIDATES
 }
 
 // Whether each grant is by the one binding and by the rule of its number.
@@ -54,34 +77,32 @@ fn are_by_their_rules(index: &Index<'_>) -> bool {
 }
 
 #[test]
-fn candidates_are_the_grants_whose_rule_allows(rt: HostRuntime) -> Result<(), Fail> {
-    let loaded = loaded(rt.alloc(), FOUR_RULES)?;
-    let index = Index::build(rt.alloc(), loaded.policy())?;
+fn candidates_are_the_grants_whose_rule_allows(rt: HostRuntime) {
+    let policy = policy(&rt, rt.alloc(), FOUR_RULES, TO_ALICE);
+    let index = Index::build(rt.alloc(), &policy).expect(&rt, "memory");
     assert!(rt; index.len() == 4 && are_by_their_rules(&index));
-    let universe = universe(rt.alloc(), &loaded)?;
-    let got = all_candidates(rt.alloc(), &index, &universe)?;
-    assert!(rt; got.as_slice() == CANDIDATES);
-    Ok(())
+    assert!(rt; has_candidates(&rt, rt.alloc(), &index));
 }
 
-// The first binding has no role that is held; tests/rows.json has the matrix of this export.
-const AMONG_OTHERS: &str = r#"{"apiVersion":"v1","kind":"List","items":[
-  {"apiVersion":"rbac.authorization.k8s.io/v1","kind":"ClusterRole","metadata":{"name":"r"},"rules":[
-    {"verbs":["get"],"apiGroups":[""],"resources":["pods"]}]},
-  {"apiVersion":"rbac.authorization.k8s.io/v1","kind":"ClusterRoleBinding","metadata":{"name":"a"},
-   "roleRef":{"kind":"ClusterRole","name":"missing"},"subjects":[{"kind":"User","name":"bob"}]},
-  {"apiVersion":"rbac.authorization.k8s.io/v1","kind":"ClusterRoleBinding","metadata":{"name":"z"},
-   "roleRef":{"kind":"ClusterRole","name":"r"},"subjects":[{"kind":"User","name":"alice"}]},
-  {"apiVersion":"rbac.authorization.k8s.io/v1","kind":"RoleBinding",
-   "metadata":{"namespace":"dev","name":"a"},
-   "roleRef":{"kind":"ClusterRole","name":"r"},"subjects":[{"kind":"User","name":"alice"}]},
-  {"apiVersion":"rbac.authorization.k8s.io/v1","kind":"RoleBinding",
-   "metadata":{"namespace":"qa","name":"b"},"roleRef":{"kind":"ClusterRole","name":"r"},
-   "subjects":[{"kind":"User","name":"alice"},{"kind":"User","name":"bob"}]},
-  {"apiVersion":"rbacaudit/v1","kind":"Universe","namespaces":["","dev","qa"],
-   "verbs":["get","list"],"names":[""],"urls":["/healthz"],
-   "resources":[{"resource":"pods"},{"resource":"secrets"}]}
-]}"#;
+const GETS_PODS: &[RuleRow<'static>] = &[[&["get"], &[""], &["pods"], &[]]];
+
+// The first binding has no role that is held; tests/rows.json has the matrix of these objects.
+const AMONG_OTHERS: &[BindingRow<'static>] = &[
+    (None, "a", "missing", &["bob"]),
+    (None, "z", "r", &["alice"]),
+    (Some("dev"), "a", "r", &["alice"]),
+    (Some("qa"), "b", "r", &["alice", "bob"]),
+];
+
+const THREE_NAMESPACES: Listed<'static> = Listed {
+    users: &["alice", "bob"],
+    groups: &[],
+    namespaces: &["", "dev", "qa"],
+    verbs: &["get", "list"],
+    resources: &[("", "pods", true), ("", "secrets", true)],
+    names: &[""],
+    urls: &["/healthz"],
+};
 
 // The binding that allows each request of the universe that is allowed, in order: alice gets pods
 // in each namespace, and bob in the last one.
@@ -89,58 +110,62 @@ const FIRST_BINDINGS: &[&str] = &["z", "z", "z", "b"];
 
 // Adds the names of the bindings that allow what the principal asks in this namespace.
 fn put_bindings<'p>(
+    rt: &impl Abort,
     index: &Index<'p>,
     universe: &Universe,
     asker: &Principal,
     namespace: &Word,
     names: &mut Vec<&'p Word>,
-) -> Result<(), AllocError> {
+) {
     for verb in universe.verbs() {
         for target in universe.targets() {
             if let Some(why) = index.can_i(asker, namespace, verb, target) {
-                names.push(&why.binding.name)?;
+                names.push(&why.binding.name).expect(rt, "memory");
             }
         }
     }
-    Ok(())
 }
 
-fn all_bindings<'p>(
-    alloc: Global,
+fn put_all_bindings<'p>(
+    rt: &impl Abort,
     index: &Index<'p>,
     universe: &Universe,
-) -> Result<Vec<&'p Word>, AllocError> {
-    let mut names = Vec::new(alloc);
+    names: &mut Vec<&'p Word>,
+) {
     for asker in universe.principals() {
         for namespace in universe.namespaces() {
-            put_bindings(index, universe, asker, namespace, &mut names)?;
+            put_bindings(rt, index, universe, asker, namespace, names);
         }
     }
-    Ok(names)
 }
 
-#[test]
-fn the_first_binding_that_grants_is_given(rt: HostRuntime) -> Result<(), Fail> {
-    let loaded = loaded(rt.alloc(), AMONG_OTHERS)?;
-    let index = Index::build(rt.alloc(), loaded.policy())?;
-    let universe = universe(rt.alloc(), &loaded)?;
-    let names = all_bindings(rt.alloc(), &index, &universe)?;
-    assert!(rt; names.len() == FIRST_BINDINGS.len());
-    for (name, wanted) in names.as_slice().iter().zip(FIRST_BINDINGS) {
-        assert!(rt; is(name, wanted), "{wanted}");
+fn are_first(names: &[&Word]) -> bool {
+    for (name, wanted) in names.iter().zip(FIRST_BINDINGS) {
+        if !is(name, wanted) {
+            return false;
+        }
     }
-    Ok(())
+    names.len() == FIRST_BINDINGS.len()
 }
 
-fn printed_place(alloc: Global, place: usize) -> Result<Vec<u8>, AllocError> {
-    let mut line = Vec::new(alloc);
-    put_place(&mut line, place)?;
-    Ok(line)
+// Whether the bindings that allow the requests of the universe are the wanted ones.
+fn gives_first(rt: &impl Abort, alloc: Global, index: &Index<'_>) -> bool {
+    let universe = universe(rt, alloc, &THREE_NAMESPACES);
+    let mut names = Vec::new(alloc);
+    put_all_bindings(rt, index, &universe, &mut names);
+    are_first(names.as_slice())
 }
 
 #[test]
-fn the_last_place_is_printed_in_full(rt: HostRuntime) -> Result<(), Fail> {
-    let got = printed_place(rt.alloc(), usize::MAX)?;
-    assert!(rt; got.as_slice() == "18446744073709551616".as_bytes());
-    Ok(())
+fn the_first_binding_that_grants_is_given(rt: HostRuntime) {
+    let policy = policy(&rt, rt.alloc(), GETS_PODS, AMONG_OTHERS);
+    let index = Index::build(rt.alloc(), &policy).expect(&rt, "memory");
+    assert!(rt; gives_first(&rt, rt.alloc(), &index));
+}
+
+#[test]
+fn the_last_place_is_printed_in_full(rt: HostRuntime) {
+    let mut line = Vec::new(rt.alloc());
+    put_place(&mut line, usize::MAX).expect(&rt, "memory");
+    assert!(rt; line.as_slice() == "18446744073709551616".as_bytes());
 }

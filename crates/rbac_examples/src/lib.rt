@@ -4,8 +4,6 @@
 #[cfg(test)]
 mod catalogues;
 #[cfg(test)]
-mod exports;
-#[cfg(test)]
 mod indexes;
 #[cfg(test)]
 mod matching;
@@ -14,6 +12,8 @@ mod matrices;
 #[cfg(test)]
 mod objects;
 #[cfg(test)]
+mod policies;
+#[cfg(test)]
 mod reaching;
 #[cfg(test)]
 mod requests;
@@ -21,5 +21,7 @@ mod requests;
 mod streams;
 #[cfg(test)]
 mod tokens;
+#[cfg(test)]
+mod universes;
 #[cfg(test)]
 mod words;

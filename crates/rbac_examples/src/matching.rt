@@ -2,10 +2,10 @@
 
 use crate::words::{word, words};
 use rbac_terms::{
-    Rule, Words, group_matches, name_matches, resource_matches, url_matches, verb_matches,
+    Rule, Word, Words, group_matches, name_matches, resource_matches, url_matches, verb_matches,
 };
-use std::alloc::{AllocError, Global};
-use std::test::Fail;
+use std::alloc::Global;
+use std::process::Abort;
 
 // The list of a rule that is asked.
 #[derive(Clone, Copy)]
@@ -36,16 +36,19 @@ fn rule(alloc: Global, part: Part, listed: Words) -> Rule {
     rule
 }
 
-fn matches(alloc: Global, part: Part, listed: &[&str], text: &str) -> Result<bool, AllocError> {
-    let rule = rule(alloc, part, words(alloc, listed)?);
-    let text = word(alloc, text)?;
-    Ok(match part {
-        Part::Verbs => verb_matches(&rule, &text),
-        Part::Groups => group_matches(&rule, &text),
-        Part::Resources => resource_matches(&rule, &text),
-        Part::Names => name_matches(&rule, &text),
-        Part::Urls => url_matches(&rule, &text),
-    })
+fn part_matches(rule: &Rule, part: Part, text: &Word) -> bool {
+    match part {
+        Part::Verbs => verb_matches(rule, text),
+        Part::Groups => group_matches(rule, text),
+        Part::Resources => resource_matches(rule, text),
+        Part::Names => name_matches(rule, text),
+        Part::Urls => url_matches(rule, text),
+    }
+}
+
+fn matches(rt: &impl Abort, alloc: Global, part: Part, listed: &[&str], text: &str) -> bool {
+    let rule = rule(alloc, part, words(rt, alloc, listed));
+    part_matches(&rule, part, &word(rt, alloc, text))
 }
 
 // The list of a rule, its words, a text, and whether they match it.
@@ -97,12 +100,9 @@ const ROWS: &[Row<'static>] = &[
 ];
 
 #[test]
-fn words_of_a_rule_match_what_they_stand_for(rt: HostRuntime) -> Result<(), Fail> {
+fn words_of_a_rule_match_what_they_stand_for(rt: HostRuntime) {
     for (part, listed, text, wanted) in ROWS {
-        assert!(rt;
-            matches(rt.alloc(), *part, listed, text)? == *wanted,
-            "{text}"
-        );
+        let got = matches(&rt, rt.alloc(), *part, listed, text);
+        assert!(rt; got == *wanted, "{text}");
     }
-    Ok(())
 }

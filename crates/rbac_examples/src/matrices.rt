@@ -1,17 +1,18 @@
 //! How many entries of reaches an enumeration of a matrix reads.
 
-ghost use Rattle.std.specs.Prelude.{◌≡◌, length, IfOk};
+ghost use Rattle.std.specs.Prelude.{◌≡◌, length};
 ghost use Rattle.rbac_matrix.specs.Enumeration.{IsGoing};
 ghost use Rattle.rbac_index.specs.Reaches.{AreReaches};
 
-use crate::exports::{loaded, universe};
-use crate::words::is;
+use crate::policies::{RuleRow, TO_ALICE, policy};
+use crate::universes::{Listed, principals, universe};
+use crate::words::{is, word, words};
 use rbac_index::{Index, Meter, Reach, reaches_of};
-use rbac_manifest::Loaded;
 use rbac_matrix::{Matrix, Rows, Seat};
-use rbac_universe::Universe;
-use std::alloc::{AllocError, Global};
-use std::test::Fail;
+use rbac_terms::Words;
+use rbac_universe::{ListedResource, ListedResources, Universe, UniverseLists};
+use std::alloc::Global;
+use std::process::Abort;
 
 // The resource of a row, if there is one, and how many entries were read by then, at least and at
 // most.
@@ -35,33 +36,19 @@ fn gives(rows: &mut Rows<'_, '_>, wanted: Step<'_>) -> bool
     got && read_within(rows.meter(), least, most)
 }
 
-// What a matrix borrows beside its seats.
-#[derive(Drop)]
-struct Lent<'p> {
-    universe: Universe,
-    index: Index<'p>,
-    reaches: Vec<Reach>,
-}
-
-fn lent_by(alloc: Global, loaded: &Loaded) -> Result<Lent<'_>, Fail>
-    ensures { IfOk result (λ lent. AreReaches lent.index lent.universe lent.reaches.items) }
-{
-    let universe = universe(alloc, loaded)?;
-    let index = Index::build(alloc, loaded.policy())?;
-    let reaches = reaches_of(alloc, &index, &universe)?;
-    Ok(Lent {
-        universe,
-        index,
-        reaches,
-    })
-}
-
 // Whether three calls of `next` give this, and before them at most so many entries are read.
-fn gives_all(lent: &Lent<'_>, seats: &mut [Seat], before: u128, steps: [Step<'_>; 3]) -> bool
-    requires reaches { AreReaches lent.now.index lent.now.universe lent.now.reaches.items }
-    requires seats { length seats.old ≡ length lent.now.index.grants }
+fn gives_all(
+    index: &Index<'_>,
+    universe: &Universe,
+    reaches: &[Reach],
+    seats: &mut [Seat],
+    before: u128,
+    steps: [Step<'_>; 3],
+) -> bool
+    requires reaches { AreReaches index.now universe.now reaches.now }
+    requires seats { length seats.old ≡ length index.now.grants }
 {
-    let mut matrix = Matrix::build(&lent.index, &lent.universe, lent.reaches.as_slice(), seats);
+    let mut matrix = Matrix::build(index, universe, reaches, seats);
     let mut rows = matrix.rows_after(None);
     let [first, second, third] = steps;
     if !read_within(rows.meter(), 0, before) || !gives(&mut rows, first) {
@@ -70,84 +57,106 @@ fn gives_all(lent: &Lent<'_>, seats: &mut [Seat], before: u128, steps: [Step<'_>
     gives(&mut rows, second) && gives(&mut rows, third)
 }
 
-// Whether three calls of `next` give this, of the matrix of this export.
-fn export_gives(
+fn index_gives(
+    rt: &impl Abort,
     alloc: Global,
-    export: &str,
+    index: &Index<'_>,
+    universe: &Universe,
     before: u128,
     steps: [Step<'_>; 3],
-) -> Result<bool, Fail> {
-    let loaded = loaded(alloc, export)?;
-    let lent = lent_by(alloc, &loaded)?;
-    let mut seats = vec![in alloc; Seat::new(); lent.index.len() as usize]?;
-    Ok(gives_all(&lent, seats.as_mut_slice(), before, steps))
+) -> bool {
+    let reaches = reaches_of(alloc, index, universe).expect(rt, "memory");
+    let mut seats = vec![in alloc; Seat::new(); index.len() as usize].expect(rt, "memory");
+    gives_all(
+        index,
+        universe,
+        reaches.as_slice(),
+        seats.as_mut_slice(),
+        before,
+        steps,
+    )
 }
 
-// Two grants, whose reaches have three places together.
-const TWO_GRANTS: &str = r#"{"apiVersion":"v1","kind":"List","items":[
-  {"apiVersion":"rbac.authorization.k8s.io/v1","kind":"ClusterRole","metadata":{"name":"r"},"rules":[
-    {"verbs":["get"],"apiGroups":[""],"resources":["pods"]},
-    {"verbs":["get"],"apiGroups":[""],"resources":["*"]}]},
-  {"apiVersion":"rbac.authorization.k8s.io/v1","kind":"ClusterRoleBinding","metadata":{"name":"b"},
-   "roleRef":{"kind":"ClusterRole","name":"r"},"subjects":[{"kind":"User","name":"alice"}]},
-  {"apiVersion":"rbacaudit/v1","kind":"Universe","namespaces":[""],
-   "resources":[{"resource":"nodes","namespaced":false},{"resource":"pods"}]}
-]}"#;
-
-#[test]
-fn each_place_of_the_reaches_is_read_once(rt: HostRuntime) -> Result<(), Fail> {
-    let steps = [(Some("nodes"), 1, 3), (Some("pods"), 2, 3), (None, 2, 3)];
-    assert!(rt; export_gives(rt.alloc(), TWO_GRANTS, 3, steps)?);
-    Ok(())
+// Whether they do in the matrix of what these rules grant to alice.
+fn matrix_gives(
+    rt: &impl Abort,
+    alloc: Global,
+    rules: &[RuleRow<'_>],
+    universe: &Universe,
+    before: u128,
+    steps: [Step<'_>; 3],
+) -> bool {
+    let policy = policy(rt, alloc, rules, TO_ALICE);
+    let index = Index::build(alloc, &policy).expect(rt, "memory");
+    index_gives(rt, alloc, &index, universe, before, steps)
 }
 
-// A rule that allows one of 65 billion requests, and what stands before the verbs of the universe.
-const ONE_REQUEST: &str = r#"{"apiVersion":"v1","kind":"List","items":[
-  {"apiVersion":"rbac.authorization.k8s.io/v1","kind":"ClusterRole","metadata":{"name":"r"},"rules":[
-    {"verbs":["v2"],"apiGroups":[""],"resources":["r1"],"resourceNames":["n1"]}]},
-  {"apiVersion":"rbac.authorization.k8s.io/v1","kind":"ClusterRoleBinding","metadata":{"name":"b"},
-   "roleRef":{"kind":"ClusterRole","name":"r"},"subjects":[{"kind":"User","name":"alice"}]},
-  {"apiVersion":"rbacaudit/v1","kind":"Universe","namespaces":[""],"verbs":["v1""#;
-
-// What follows, and what stands before and after each number from 2 on that is less than this one.
-const LISTS: &[(&str, &str, &str, u32)] = &[
-    ("", ",\"v", "\"", 65_536),
-    (
-        "],\"resources\":[{\"resource\":\"r1\"}",
-        ",{\"resource\":\"r",
-        "\"}",
-        1001,
-    ),
-    ("],\"names\":[\"n1\"", ",\"n", "\"", 1001),
-    ("]}]}", "", "", 0),
+// Two rules, the reaches of whose grants have three places together.
+const TWO_RULES: &[RuleRow<'static>] = &[
+    [&["get"], &[""], &["pods"], &[]],
+    [&["get"], &[""], &["*"], &[]],
 ];
 
-fn add_numbered(
-    alloc: Global,
-    text: &mut String,
-    before: &str,
-    after: &str,
-    end: u32,
-) -> Result<(), AllocError> {
-    for number in 2..end {
-        text.push_str(format!(in alloc; "{before}{number}{after}")?.as_str())?;
-    }
-    Ok(())
+const NODES_AND_PODS: Listed<'static> = Listed {
+    users: &["alice"],
+    groups: &[],
+    namespaces: &[""],
+    verbs: &["get"],
+    resources: &[("", "nodes", false), ("", "pods", true)],
+    names: &[""],
+    urls: &[],
+};
+
+#[test]
+fn each_place_of_the_reaches_is_read_once(rt: HostRuntime) {
+    let universe = universe(&rt, rt.alloc(), &NODES_AND_PODS);
+    let steps = [(Some("nodes"), 1, 3), (Some("pods"), 2, 3), (None, 2, 3)];
+    assert!(rt; matrix_gives(&rt, rt.alloc(), TWO_RULES, &universe, 3, steps));
 }
 
-fn wide(alloc: Global) -> Result<String, AllocError> {
-    let mut text = String::from_str(alloc, ONE_REQUEST)?;
-    for (prefix, before, after, end) in LISTS {
-        text.push_str(prefix)?;
-        add_numbered(alloc, &mut text, before, after, *end)?;
+// A rule that allows one of 65 billion requests.
+const ONE_REQUEST: &[RuleRow<'static>] = &[[&["v2"], &[""], &["r1"], &["n1"]]];
+
+fn numbered(rt: &impl Abort, alloc: Global, letter: &str, last: u32) -> Words {
+    let mut all = Words::new(alloc);
+    for number in 1..=last {
+        let text = format!(in alloc; "{letter}{number}").expect(rt, "memory");
+        all.push(word(rt, alloc, text.as_str()))
+            .expect(rt, "memory");
     }
-    Ok(text)
+    all
+}
+
+fn resources(rt: &impl Abort, alloc: Global, texts: Words) -> ListedResources {
+    let mut all = ListedResources::new(alloc);
+    for text in texts.into_vec() {
+        let group = word(rt, alloc, "");
+        all.push(ListedResource {
+            group,
+            text,
+            namespaced: true,
+        })
+        .expect(rt, "memory");
+    }
+    all
+}
+
+// The verbs v1, v2, .., and as many targets as there may be.
+fn wide(rt: &impl Abort, alloc: Global) -> Universe {
+    let wide = UniverseLists {
+        principals: principals(rt, alloc, &["alice"], &[]),
+        namespaces: words(rt, alloc, &[""]),
+        verbs: numbered(rt, alloc, "v", 65_535),
+        resources: resources(rt, alloc, numbered(rt, alloc, "r", 1000)),
+        names: numbered(rt, alloc, "n", 1000),
+        urls: Words::new(alloc),
+    };
+    Universe::build(alloc, &wide).expect(rt, "a universe")
 }
 
 #[test]
-fn requests_that_no_one_may_make_cost_no_read(rt: HostRuntime) -> Result<(), Fail> {
-    let text = wide(rt.alloc())?;
+fn requests_that_no_one_may_make_cost_no_read(rt: HostRuntime) {
+    let universe = wide(&rt, rt.alloc());
     let steps = [(Some("r1"), 1, 1), (None, 1, 1), (None, 1, 1)];
-    assert!(rt; export_gives(rt.alloc(), text.as_str(), 0, steps)?);
-    Ok(())
+    assert!(rt; matrix_gives(&rt, rt.alloc(), ONE_REQUEST, &universe, 0, steps));
 }

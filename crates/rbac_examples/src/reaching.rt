@@ -1,36 +1,78 @@
 //! Which cluster roles an aggregated one reaches.
 
-use crate::exports::loaded;
 use crate::words::{is, word};
-use rbac_model::Policy;
-use rbac_terms::{Word, Words};
-use std::alloc::{AllocError, Global};
+use rbac_model::{Object, Objects, Policy};
+use rbac_terms::{ClusterRole, Labels, Requirements, Rules, Selector, Selectors, Word, Words};
+use std::alloc::Global;
 use std::process::Abort;
-use std::test::Fail;
 
 // Whether these are the wanted texts, in this order.
 fn are(got: &[Word], wanted: &[&str]) -> bool {
     got.len() == wanted.len() && got.iter().zip(wanted).all(|(word, text)| is(word, text))
 }
 
-fn reached(alloc: Global, policy: &Policy, name: &str) -> Result<Words, Fail> {
-    Ok(policy.reached(alloc, &word(alloc, name)?)?)
+fn reached(rt: &impl Abort, alloc: Global, policy: &Policy, name: &str) -> Words {
+    policy
+        .reached(alloc, &word(rt, alloc, name))
+        .expect(rt, "memory")
+}
+
+// The label `to` with this value.
+fn labels(rt: &impl Abort, alloc: Global, value: &str) -> Labels {
+    let mut one = Labels::new(alloc);
+    one.push((word(rt, alloc, "to"), word(rt, alloc, value)))
+        .expect(rt, "memory");
+    one
+}
+
+// What selects the roles with that label.
+fn selectors(rt: &impl Abort, alloc: Global, value: &str) -> Selectors {
+    let mut one = Selectors::new(alloc);
+    let selector = Selector {
+        labels: labels(rt, alloc, value),
+        requirements: Requirements::new(alloc),
+    };
+    one.push(selector).expect(rt, "memory");
+    one
+}
+
+fn role(
+    rt: &impl Abort,
+    alloc: Global,
+    name: &str,
+    label: &str,
+    aggregation: Option<Selectors>,
+) -> Object {
+    Object::ClusterRole(ClusterRole {
+        name: word(rt, alloc, name),
+        labels: labels(rt, alloc, label),
+        rules: Rules::new(alloc),
+        aggregation,
+    })
 }
 
 // Edit, view and admin select one another in a ring, and view the plain role q too; alone selects
-// itself alone.
-const SMALL_RING: &str =
-    r#"{"apiVersion":"rbac.authorization.k8s.io/v1","kind":"ClusterRoleList","items":[
-  {"metadata":{"name":"q","labels":{"to":"view"}},"rules":[]},
-  {"metadata":{"name":"edit","labels":{"to":"admin"}},"rules":[],
-   "aggregationRule":{"clusterRoleSelectors":[{"matchLabels":{"to":"edit"}}]}},
-  {"metadata":{"name":"view","labels":{"to":"edit"}},"rules":[],
-   "aggregationRule":{"clusterRoleSelectors":[{"matchLabels":{"to":"view"}}]}},
-  {"metadata":{"name":"admin","labels":{"to":"view"}},"rules":[],
-   "aggregationRule":{"clusterRoleSelectors":[{"matchLabels":{"to":"admin"}}]}},
-  {"metadata":{"name":"alone","labels":{"to":"alone"}},"rules":[],
-   "aggregationRule":{"clusterRoleSelectors":[{"matchLabels":{"to":"alone"}}]}}
-]}"#;
+// itself alone. The name of each, its label, and the label of those that it selects.
+const SMALL_RING: &[(&str, &str, &str)] = &[
+    ("edit", "admin", "edit"),
+    ("view", "edit", "view"),
+    ("admin", "view", "admin"),
+    ("alone", "alone", "alone"),
+];
+
+fn small_ring(rt: &impl Abort, alloc: Global) -> Policy {
+    let mut objects = Objects::new(alloc);
+    objects
+        .put(role(rt, alloc, "q", "view", None))
+        .expect(rt, "memory");
+    for (name, label, selected) in SMALL_RING {
+        let selected = selectors(rt, alloc, selected);
+        objects
+            .put(role(rt, alloc, name, label, Some(selected)))
+            .expect(rt, "memory");
+    }
+    Policy::resolve(alloc, objects).expect(rt, "a policy")
+}
 
 const RING_OF_THREE: &[&str] = &["admin", "edit", "q", "view"];
 
@@ -44,68 +86,59 @@ const REACHED: &[(&str, &[&str])] = &[
     ("nobody", &[]),
 ];
 
-fn all_reach(rt: &impl Abort, alloc: Global, policy: &Policy) -> Result<(), Fail> {
+#[test]
+fn roles_that_select_one_another_reach_themselves(rt: HostRuntime) {
+    let policy = small_ring(&rt, rt.alloc());
     for (name, wanted) in REACHED {
-        let got = reached(alloc, policy, name)?;
+        let got = reached(&rt, rt.alloc(), &policy, name);
         assert!(rt; are(got.as_slice(), wanted), "{name}");
     }
-    Ok(())
-}
-
-#[test]
-fn roles_that_select_one_another_reach_themselves(rt: HostRuntime) -> Result<(), Fail> {
-    let loaded = loaded(rt.alloc(), SMALL_RING)?;
-    all_reach(&rt, rt.alloc(), loaded.policy())
 }
 
 // How many roles are in the great ring.
 const RING: u32 = 200;
 
-const HEAD: &str =
-    r#"{"apiVersion":"rbac.authorization.k8s.io/v1","kind":"ClusterRoleList","items":["#;
+// The name of the role of this number, which is its label too.
+fn ring_name(rt: &impl Abort, alloc: Global, number: u32) -> String {
+    format!(in alloc; "r{number:03}").expect(rt, "memory")
+}
 
 // The role of this number, which selects the next one by its label.
-fn ring_role(alloc: Global, number: u32, next: u32) -> Result<String, AllocError> {
-    format!(in alloc;
-        r#"{{"metadata":{{"name":"r{number:03}","labels":{{"to":"{number:03}"}}}},"rules":[],
-             "aggregationRule":{{"clusterRoleSelectors":[{{"matchLabels":{{"to":"{next:03}"}}}}]}}}},"#
-    )
+fn ring_role(rt: &impl Abort, alloc: Global, number: u32, next: u32) -> Object {
+    let name = ring_name(rt, alloc, number);
+    let next = selectors(rt, alloc, ring_name(rt, alloc, next).as_str());
+    role(rt, alloc, name.as_str(), name.as_str(), Some(next))
 }
 
 // A ring of roles, the last of which selects the first one, and a plain role with its label.
-fn ring_text(alloc: Global) -> Result<String, AllocError> {
-    let mut text = String::from_str(alloc, HEAD)?;
+fn great_ring(rt: &impl Abort, alloc: Global) -> Policy {
+    let mut objects = Objects::new(alloc);
     for number in 0..RING {
         let next = if number < RING - 1 { number + 1 } else { 0 };
-        text.push_str(ring_role(alloc, number, next)?.as_str())?;
+        objects
+            .put(ring_role(rt, alloc, number, next))
+            .expect(rt, "memory");
     }
-    text.push_str(r#"{"metadata":{"name":"plain","labels":{"to":"000"}},"rules":[]}]}"#)?;
-    Ok(text)
-}
-
-fn ring_name(alloc: Global, number: u32) -> Result<String, AllocError> {
-    format!(in alloc; "r{number:03}")
+    objects
+        .put(role(rt, alloc, "plain", "r000", None))
+        .expect(rt, "memory");
+    Policy::resolve(alloc, objects).expect(rt, "a policy")
 }
 
 // Whether these are the names of the ring's roles.
-fn are_ring(rt: &impl Abort, alloc: Global, got: &[Word]) -> Result<(), AllocError> {
+fn are_ring(rt: &impl Abort, alloc: Global, got: &[Word]) -> bool {
     for (number, word) in (0..RING).zip(got) {
-        let name = ring_name(alloc, number)?;
-        assert!(rt; is(word, name.as_str()));
+        if !is(word, ring_name(rt, alloc, number).as_str()) {
+            return false;
+        }
     }
-    Ok(())
-}
-
-// What a role of the ring reaches, in order of names.
-fn reached_in_ring(alloc: Global) -> Result<Words, Fail> {
-    let text = ring_text(alloc)?;
-    let loaded = loaded(alloc, text.as_str())?;
-    reached(alloc, loaded.policy(), "r077")
+    true
 }
 
 #[test]
-fn two_hundred_roles_in_a_ring_reach_all_of_them(rt: HostRuntime) -> Result<(), Fail> {
-    let got = reached_in_ring(rt.alloc())?;
+fn two_hundred_roles_in_a_ring_reach_all_of_them(rt: HostRuntime) {
+    let policy = great_ring(&rt, rt.alloc());
+    let got = reached(&rt, rt.alloc(), &policy, "r077");
     assert!(rt; got.as_slice().len() == 201 && is(&got.as_slice()[0], "plain"));
-    Ok(are_ring(&rt, rt.alloc(), &got.as_slice()[1..])?)
+    assert!(rt; are_ring(&rt, rt.alloc(), &got.as_slice()[1..]));
 }

@@ -4,7 +4,6 @@
 use rbac_streams::{Failed, InputFault, Sink, Source, read_input, read_slice};
 use std::io;
 use std::io::{ErrorKind, Read, Write};
-use std::test::Fail;
 
 // Gives its bytes one at a time, and is interrupted at call `fails_at`, from 1.
 #[derive(Drop)]
@@ -78,10 +77,10 @@ fn reads_until_the_end(rt: HostRuntime) {
 }
 
 #[test]
-fn a_slice_is_read_whole(rt: HostRuntime) -> Result<(), Fail> {
+fn a_slice_is_read_whole(rt: HostRuntime) {
     let mut source = Source::new(LIST);
-    assert!(rt; read_slice(rt.alloc(), &mut source)?.as_bytes() == LIST);
-    Ok(())
+    let input = read_slice(rt.alloc(), &mut source).expect(&rt, "an input");
+    assert!(rt; input.as_bytes() == LIST);
 }
 
 // How many bytes a writer takes at a time, at which call it fails, how many of four it has taken,

@@ -1,22 +1,33 @@
-//! Texts and lists of them, which the other tests are made of.
+//! Texts and lists of them, which the other tests are made of. What tests build stops where memory
+//! is refused: with `?` each early return would drop all that is built so far, which is proved too.
 
 use rbac_terms::{Word, Words};
-use std::alloc::{AllocError, Global};
+use std::alloc::Global;
+use std::process::Abort;
 
-pub(crate) fn word(alloc: Global, text: &str) -> Result<Word, AllocError> {
-    Word::from_slice(alloc, text.as_bytes())
+pub(crate) fn word(rt: &impl Abort, alloc: Global, text: &str) -> Word {
+    Word::from_slice(alloc, text.as_bytes()).expect(rt, "memory")
 }
 
-pub(crate) fn words(alloc: Global, texts: &[&str]) -> Result<Words, AllocError> {
-    let mut all = Vec::new(alloc);
+pub(crate) fn words(rt: &impl Abort, alloc: Global, texts: &[&str]) -> Words {
+    let mut all = Words::new(alloc);
     for text in texts {
-        all.push(word(alloc, text)?)?;
+        all.push(word(rt, alloc, text)).expect(rt, "memory");
     }
-    Ok(Words::from_vec(all))
+    all
 }
 
 // Whether this is the wanted text. Tests ask for a bool, since what an assertion prints is proved
 // too.
 pub(crate) fn is(word: &Word, wanted: &str) -> bool {
     word.as_bytes() == wanted.as_bytes()
+}
+
+// Whether this is the wanted text, or none where none is wanted.
+pub(crate) fn is_of(word: Option<&Word>, wanted: Option<&str>) -> bool {
+    match (word, wanted) {
+        (Some(word), Some(wanted)) => is(word, wanted),
+        (None, None) => true,
+        _ => false,
+    }
 }
