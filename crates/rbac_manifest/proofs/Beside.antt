@@ -1,7 +1,7 @@
 -- The members beside a list under `items` say all of a document but its items.
-use Rattle.std.proofs.Common.{◌≡◌, true≢false, ℕ, List, [], ◌∷◌, Bool, true, false, is_none, Option, Some, None, option_map, option_and_then, unwrap_or, cond, codes, refl, sym, ap, ap₂, ◌∙◌}
+use Rattle.std.proofs.Common.{◌≡◌, true≢false, ℕ, List, [], ◌∷◌, Bool, true, false, Some, option_and_then, codes, refl, sym, ap, ap₂, ◌∙◌}
 use Rattle.std.specs.Str.{bytes_eq}
-use Rattle.serde_json.specs.Data.{Data, array, object, Items, Members}
+use Rattle.serde_json.specs.Data.{array, object, Items, Members}
 use Rattle.serde_json.proofs.Views.{get_member-put, get_member-put_other}
 use Rattle.json_list.specs.List.{items_name, with_items}
 use Rattle.rbac_manifest.proofs.Faults.{fault_by_kind}
@@ -12,8 +12,8 @@ use Rattle.rbac_manifest.specs.Role.{bad_rules, rules_in}
 use Rattle.rbac_manifest.specs.Label.{aggregation_of, aggregation_at}
 use Rattle.rbac_manifest.specs.Binding.{role_ref_at, bad_subjects, subjects_in}
 use Rattle.rbac_manifest.specs.ApiList.{entries_at}
-use Rattle.rbac_manifest.specs.UniverseDocument.{where_given, items_field, given_lists_at, principal_at, resource_at}
-use Rattle.rbac_manifest.specs.Document.{fault, first_of, not_an_object, bad_version, bad_metadata, role_in, cluster_role_in, binding_in, content_in}
+use Rattle.rbac_manifest.specs.UniverseDocument.{given_lists_at}
+use Rattle.rbac_manifest.specs.Document.{fault, first_of, not_an_object, bad_version, role_in, cluster_role_in, binding_in, content_in}
 use Rattle.rbac_manifest.specs.Walk.{bad_header, bad_body, bad_role, bad_cluster_role, bad_binding}
 use Rattle.rbac_manifest.specs.declared.kind.Kind.{Kind}
 use Rattle.rbac_manifest.specs.declared.kind.Kind.TheVariants as kinds

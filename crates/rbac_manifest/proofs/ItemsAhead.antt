@@ -1,5 +1,5 @@
 -- Items that are read one after another, beside the list of all of them.
-use Rattle.std.proofs.Common.{◌≡◌, ◌≢◌, ℕ, ◌+◌, List, [], ◌∷◌, true≢false, Result, Ok, Err, OnOk, Option, Some, None, option_map, refl, sym, ap, ap₂, ◌∙◌}
+use Rattle.std.proofs.Common.{◌≡◌, ℕ, ◌+◌, [], ◌∷◌, true≢false, Result, Ok, Err, OnOk, Option, Some, None, option_map, refl, sym, ap, ap₂, ◌∙◌}
 use Rattle.std.specs.Option.{option_to_list, IsSome}
 use Rattle.serde_json.specs.Data.{Data, object, Items, no_items, item, Members}
 use Rattle.json_list.specs.List.{with_items}
@@ -14,7 +14,6 @@ use Rattle.rbac_manifest.specs.declared.kind.Kind.{Kind}
 use Rattle.rbac_manifest.specs.declared.kind.Kind.TheVariants as kinds
 use Rattle.rbac_manifest.specs.declared.kind.Implied.{Implied}
 use Rattle.rbac_manifest.specs.declared.kind.Implied.TheVariants as lists
-use Rattle.rbac_manifest.specs.declared.content.Content.{Content}
 use Rattle.rbac_manifest.specs.declared.fault.Cause.{Cause}
 use Rattle.rbac_manifest.specs.declared.fault.Cause.TheVariants.{NotJson}
 use Rattle.rbac_manifest.specs.declared.fault.Refusal.{Refusal}

@@ -28,8 +28,6 @@ use Rattle.rbac_matrix.specs.Passing.{cells_left}
 use Rattle.rbac_matrix.specs.Printed.{StopsWithin, rows_text}
 use Rattle.rbac_matrix.specs.RowTexts.{Shows, key_shown}
 use Rattle.rbac_matrix.specs.ShownTokens.{last_line}
-use Rattle.rbac_matrix.specs.declared.enumeration.Rows.{Rows}
-use Rattle.rbac_matrix.specs.declared.every_rows.EveryRows.{EveryRows}
 use Rattle.rbac_matrix.specs.declared.row.Row.{Row}
 use Rattle.rbac_matrix.specs.declared.token.TokenOf.{TokenOf}
 use Rattle.rbac_matrix.specs.declared.token.TokenOf.TheVariants.{Key, Mark}

@@ -1,13 +1,13 @@
-use Rattle.std.proofs.Common.{◌≡◌, ◌<◌, ◌≤◌, ◌∷◌, [], length, Some, None, string_bytes, sym, ap, ◌∙◌, subst, arith, rules}
+use Rattle.std.proofs.Common.{◌≡◌, ◌<◌, ◌∷◌, [], length, Some, None, string_bytes, sym, ap, ◌∙◌, subst, arith, rules}
 use Rattle.json.specs.Token.{Token}
 use Rattle.json.specs.Reads.{token_of}
 use Rattle.json.specs.Json.{after_end_array, read_key}
 use Rattle.json.proofs.Grammar.{after_end_array-shorter, read_key-shorter}
-use Rattle.serde_json.specs.Data.{string, no_members, put}
-use Rattle.serde_json.specs.View.{view, items_view, members_view}
+use Rattle.serde_json.specs.Data.{string, put}
+use Rattle.serde_json.specs.View.{view, members_view}
 use Rattle.serde_json.proofs.Views.{members_view-insert_entry, view-Array, view-Object}
-use Rattle.json_list.specs.Values.{value_read, items_read, members_read}
-use Rattle.json_list.proofs.Values.{ItemsCome, items_over, item_found, item_refused, MembersCome, members_begin, members_over, key_refused, member_found, member_refused, array_read, object_read, arrays, objects, no_array_read, no_object_read, null_read, boolean_read, string_read, number_is, number_refused, end_array_refused, end_object_refused, key_first_refused, bad_refused, nothing_refused, seen_null, seen_boolean, seen_string}
+use Rattle.json_list.specs.Values.{value_read}
+use Rattle.json_list.proofs.Values.{ItemsCome, items_over, item_found, item_refused, MembersCome, members_over, key_refused, member_found, member_refused, array_read, object_read, arrays, objects, no_array_read, no_object_read, null_read, boolean_read, string_read, number_is, number_refused, end_array_refused, end_object_refused, key_first_refused, bad_refused, nothing_refused, seen_null, seen_boolean, seen_string}
 use Rattle.json_list.proofs.value.+value_from.Goals as goal
 
 -- ---- items

@@ -1,15 +1,15 @@
-use Rattle.std.proofs.Common.{◌≡◌, ◌≢◌, Some, None, option_map, IsSome, IfErr, OnOk, sym, ap, ◌∙◌, subst}
+use Rattle.std.proofs.Common.{◌≡◌, ◌≢◌, Some, None, option_map, IsSome, IfErr, sym, ap, ◌∙◌, subst}
 use Rattle.std.specs.Option.{option_to_list}
-use Rattle.serde_json.specs.Data.{Data, object, Members}
-use Rattle.serde_json.specs.View.{view, members_view}
+use Rattle.serde_json.specs.Data.{object}
+use Rattle.serde_json.specs.View.{members_view}
 use Rattle.serde_json.proofs.Views.{view-Object}
-use Rattle.json_list.specs.List.{items_ahead, with_items}
+use Rattle.json_list.specs.List.{items_ahead}
 use Rattle.rbac_manifest.specs.declared.fault.Cause.TheVariants.{NoMemory}
 use Rattle.rbac_manifest.specs.declared.kind.Implied.TheVariants as lists
 use Rattle.rbac_manifest.specs.Contents.{with_contents}
 use Rattle.rbac_manifest.specs.Document.{fault, stands}
-use Rattle.rbac_manifest.specs.Load.{refusal_of, as_whole, contents_of_value}
-use Rattle.rbac_manifest.specs.ItemsAhead.{ahead_refusal, IsListOf}
+use Rattle.rbac_manifest.specs.Load.{as_whole}
+use Rattle.rbac_manifest.specs.ItemsAhead.{IsListOf}
 use Rattle.rbac_manifest.proofs.ItemsAhead.{refused_by_items, contents_in_items, refused_beside, contents_beside, IsNoList, where_ok, where_both_ok}
 use Rattle.rbac_manifest.proofs.list.open_into.Goals as goal
 
