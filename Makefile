@@ -3,7 +3,7 @@
 PREFIX ?= /usr/local
 PROGRAM = crates/rbacaudit/out/rbacaudit
 
-.PHONY: run test fuzz wrong-bodies build install
+.PHONY: run test fuzz calls wrong-bodies build install
 
 # One question on the example export: may the CI account of the shop update deployments there, and why? The proved program
 # answers where it is built and nothing has changed since, else the same sources do, run without their proofs.
@@ -25,6 +25,11 @@ test:
 # Bad documents through the built program, against the table of refusals, in about a minute; `make fuzz SEED=N COUNT=N` tries others.
 fuzz:
 	python3 tests/fuzz.py "$(SEED)" "$(COUNT)"
+
+# Single public calls: every allocation in them fails in turn. The program that makes them is proved first, in 17 processor minutes;
+# `make calls KEPT=FOLDER` keeps what was proved in a folder outside this repository, so that the next time only what has changed is.
+calls:
+	python3 tests/calls.py $(KEPT)
 
 # Each wrong body that the gate leaves out has to be refused; `make wrong-bodies CRATE=NAME` tries those of a crate, or of several.
 wrong-bodies:

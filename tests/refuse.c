@@ -1,9 +1,12 @@
-/* Refuses calls of the program that it is preloaded into; refusals.py builds it and says what for.
+/* Refuses calls of the program that it is preloaded into; refusals.py and calls.py build it and say what for.
 
    REFUSE is `memory`, `read` or `write`: which calls are numbered, from 1 on. Those from REFUSE_FIRST to REFUSE_LAST fail with
    the error number REFUSE_ERROR; with 0 a read or write answers that it moved nothing. For each of them a byte is added to the
    file that is open as REFUSE_LOG, so that the test knows how many were met. Reads, and writes to standard output, move at most
-   REFUSE_PIECE bytes. What happens before the constructor, which is libc's own, is let be. */
+   REFUSE_PIECE bytes. What happens before the constructor, which is libc's own, is let be.
+
+   With REFUSE_BETWEEN=K only the calls between two marks are numbered: the Kth write to standard error that begins with `(`, and
+   the next one that begins with `)`. */
 
 #include <errno.h>
 #include <stdlib.h>
@@ -20,7 +23,8 @@ extern void *__libc_memalign(size_t alignment, size_t size);
 
 static const char *refused_kind = "";
 static unsigned long long first, last, made, most_bytes;
-static int error, met;
+static unsigned long long wanted_mark, marks;
+static int error, met, is_between;
 
 static unsigned long long number(const char *name)
 {
@@ -35,6 +39,7 @@ __attribute__((constructor)) static void begin(void)
     error = (int)number("REFUSE_ERROR");
     most_bytes = number("REFUSE_PIECE");
     met = (int)number("REFUSE_LOG");
+    wanted_mark = number("REFUSE_BETWEEN");
     if (getenv("REFUSE"))
         refused_kind = getenv("REFUSE");
 }
@@ -42,7 +47,7 @@ __attribute__((constructor)) static void begin(void)
 /* Whether this call, one more of its kind, is to fail; errno then says why. */
 static int is_refused(const char *kind)
 {
-    if (strcmp(kind, refused_kind) != 0)
+    if (strcmp(kind, refused_kind) != 0 || (wanted_mark && !is_between))
         return 0;
     made++;
     if (made < first || made > last)
@@ -93,9 +98,19 @@ ssize_t read(int file, void *bytes, size_t count)
     return syscall(SYS_read, file, bytes, piece(count));
 }
 
+static void heed_mark(const char *bytes, size_t count)
+{
+    if (count > 0 && bytes[0] == '(')
+        is_between = ++marks == wanted_mark;
+    if (count > 0 && bytes[0] == ')')
+        is_between = 0;
+}
+
 /* Standard error stays as it is, so that a fault can be reported. */
 ssize_t write(int file, const void *bytes, size_t count)
 {
+    if (file == STDERR_FILENO)
+        heed_mark(bytes, count);
     if (file != STDOUT_FILENO)
         return syscall(SYS_write, file, bytes, count);
     if (is_refused("write"))

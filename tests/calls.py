@@ -1,0 +1,156 @@
+"""What each public call of the libraries does where an allocation fails: calls.py [FOLDER]
+
+tests/calls is a program that makes the calls, each between two marks, and tells what each answered; tests/refuse.c, preloaded,
+makes the Nth allocation between two marks fail, that one alone or with all that follow. A sweep counts N upwards until a run meets
+no failure. Each run answers that it is out of memory, or what it answers with memory; then the receiver is as before (a text: that
+of before, and a prefix of what would have been added), the same call answers with memory as if nothing had failed, and so do all
+calls after it. Calls that allocate nothing meet no failure where every allocation would fail. A sweep that met none has failed.
+
+The program is proved and built in a repository of its own in FOLDER, which keeps what was proved for the next time; without
+FOLDER in one that is gone afterwards. The last line is `N passed, M failed`.
+"""
+
+import concurrent.futures
+import errno
+import itertools
+import os
+import shutil
+import subprocess
+import sys
+import tempfile
+
+from common import TOP, checked, results
+
+SOURCES = os.path.join(TOP, 'tests', 'calls')
+EXPORT = os.path.join(SOURCES, 'export.json')
+GROUPS = 'requests', 'growing', 'exports', 'matrix', 'commands'
+# The texts of this project's errors, and of the kit's.
+OUT_OF_MEMORY = 'out of memory', 'memory allocation failed'
+NEVER = 10 ** 9
+
+
+def copied(source, folder):
+    """Copies a file or a folder, unless there is the same one already, so that nothing unchanged is proved again."""
+    if os.path.exists(source) and subprocess.run(['diff', '-rq', source, folder], capture_output=True).returncode:
+        shutil.rmtree(folder, ignore_errors=True)
+        copy = shutil.copytree if os.path.isdir(source) else shutil.copy2
+        os.makedirs(os.path.dirname(folder), exist_ok=True)
+        copy(source, folder)
+
+
+def build(folder):
+    """Makes the repository: copies of the libraries, as far as they are built, and the program above them. The gate reads each .rt
+    file of this repository, so the program's have another ending here."""
+    with open(os.path.join(TOP, 'crates.txt'), encoding='utf-8') as file:
+        lines = [line for line in file if not line.startswith(('#', 'rbacaudit:', 'rbac_examples:'))]
+    libraries = [line.partition(':')[0] for line in lines]
+    for library, part in itertools.product(libraries, ('src', 'specs', 'proofs', 'out/rlib')):
+        copied(os.path.join(TOP, 'crates', library, part), os.path.join(folder, 'crates', library, part))
+    crate = os.path.join(folder, 'crates', 'calls')
+    sources = {name.replace('.rt.txt', '.rt'): name for name in os.listdir(SOURCES) if name.endswith('.rt.txt')}
+    for name in os.listdir(os.path.join(crate, 'src')) if os.path.isdir(crate) else ():
+        if name not in sources:
+            os.remove(os.path.join(crate, 'src', name))
+    for name, source in sources.items():
+        copied(os.path.join(SOURCES, source), os.path.join(crate, 'src', name))
+    copied(os.path.join(TOP, 'HANDLES'), os.path.join(folder, 'HANDLES'))
+    with open(os.path.join(folder, 'crates.txt'), 'w', encoding='utf-8') as file:
+        file.writelines([*lines, 'calls: %s\n' % ' '.join(libraries)])
+    return subprocess.run(['rt', 'run', '--', 'requests', EXPORT], cwd=crate, stdout=subprocess.PIPE, stderr=subprocess.STDOUT)
+
+
+class Program:
+    def __init__(self, folder):
+        self.path = os.path.join(folder, 'crates', 'calls', 'out', 'calls')
+        self.shim = os.path.join(folder, 'refuse.so')
+
+    def run(self, log, group, mark, first, last):
+        """Makes a group's calls while allocations from FIRST to LAST fail in the one of this number: how many failures it met, and
+        the fields of each call, or what the run said in the place of them."""
+        environment = dict(LD_PRELOAD=self.shim, REFUSE='memory', REFUSE_BETWEEN=str(mark), REFUSE_FIRST=str(first),
+                           REFUSE_LAST=str(last), REFUSE_ERROR=str(errno.ENOMEM), REFUSE_LOG=str(log))
+        before = os.fstat(log).st_size
+        ended = subprocess.run([self.path, group, EXPORT], stdin=subprocess.DEVNULL, stdout=subprocess.PIPE, stderr=subprocess.PIPE,
+                               env=environment, pass_fds=[log], timeout=60)
+        lines = [line.split('\t') for line in ended.stdout.decode().splitlines()]
+        if ended.returncode or ended.stderr != b'()' * len(lines) or any(len(line) != 6 for line in lines):
+            lines = [['status %d' % ended.returncode, repr(ended.stdout[-300:]), repr(ended.stderr[-300:])]]
+        return os.fstat(log).st_size - before, lines
+
+
+def is_right(whole, got):
+    """Whether a call that met failures answered as it has to; the fields are its kind and name, the receiver before, the answer, the
+    receiver after, and the answer of the call that was made again."""
+    if got[3] not in OUT_OF_MEMORY:
+        return got == whole
+    kept = got[4].startswith(got[2]) and whole[4].startswith(got[4]) if got[0] == 'print' else got[4] == got[2]
+    return kept and got[:3] == whole[:3] and got[5] == whole[3]
+
+
+def sweep(program, group, whole, at, from_there_on):
+    """Lets allocation after allocation fail until a call meets no failure: how many were met, how many answers were that it is out of
+    memory, and which went wrong."""
+    met, short, wrong = 0, 0, []
+    with tempfile.TemporaryFile() as log:
+        for first in itertools.count(1):
+            count, got = program.run(log.fileno(), group, at + 1, first, NEVER if from_there_on else first)
+            same = len(got) == len(whole) and got[:at] == whole[:at] and got[at + 1:] == whole[at + 1:]
+            if not same or not (is_right(whole[at], got[at]) if count else got == whole):
+                wrong.append((first, got[at] if same else got))
+            met, short = met + count, short + (same and got[at][3] in OUT_OF_MEMORY)
+            if not count or len(wrong) == 5:
+                return met, short, wrong
+
+
+def sweeps(program, group, whole):
+    """Each call that allocates, in both modes, two sweeps at a time: how many failures they met."""
+    asked = [(at, mode) for at, line in enumerate(whole) if line[0] != 'free' for mode in (False, True)]
+    total = 0
+    with concurrent.futures.ThreadPoolExecutor(2) as pool:
+        mets = pool.map(lambda it: sweep(program, group, whole, *it), asked)
+        for (at, mode), (met, short, wrong) in zip(asked, mets):
+            said = 'wrong are (N, fields) = %r' % wrong if wrong else '' if short else 'it shows nothing'
+            which = 'from the Nth on' if mode else 'the Nth'
+            checked('%s, %s: met %d failures, %d answers are out of memory' % (whole[at][1], which, met, short), not said, said)
+            total += met
+    return total
+
+
+def free_calls(program, group, whole):
+    """Calls that allocate nothing, each while every allocation would fail."""
+    with tempfile.TemporaryFile() as log:
+        for at, line in enumerate(whole):
+            if line[0] == 'free':
+                count, got = program.run(log.fileno(), group, at + 1, 1, NEVER)
+                checked('%s: allocates nothing' % line[1], not count and got == whole, 'met %d failures, %r' % (count, got))
+
+
+def calls(program):
+    total = 0
+    for group in GROUPS:
+        with tempfile.TemporaryFile() as log:
+            _, whole = program.run(log.fileno(), group, NEVER, NEVER, NEVER)
+        well = all(len(line) == 6 and line[3].startswith('ok ') for line in whole)
+        checked('the calls of %s succeed with memory' % group, well, repr(whole))
+        if well:
+            total += sweeps(program, group, whole)
+            free_calls(program, group, whole)
+    print('the calls met %d failures' % total)
+
+
+def main():
+    with tempfile.TemporaryDirectory() as room:
+        folder = os.path.abspath(sys.argv[1]) if len(sys.argv) > 1 else room
+        program = Program(folder)
+        built = build(folder)
+        checked('the program that makes the calls is proved and built', built.returncode == 0, built.stdout.decode()[-2000:])
+        words = ['cc', '-O2', '-Wall', '-Werror', '-shared', '-fPIC', '-o', program.shim, os.path.join(TOP, 'tests', 'refuse.c')]
+        checked('what refuses is built', subprocess.run(words).returncode == 0)
+        if all(results):
+            calls(program)
+    print('%d passed, %d failed' % (results.count(True), results.count(False)))
+    return 0 if all(results) else 1
+
+
+if __name__ == '__main__':
+    sys.exit(main())
