@@ -1,0 +1,4 @@
+use Rattle.rbac_index.proofs.index.Index.len.Goals as goal
+
+pub returns : goal.returns
+returns c = cc

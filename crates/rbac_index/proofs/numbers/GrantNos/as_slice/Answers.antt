@@ -1,0 +1,4 @@
+use Rattle.rbac_index.proofs.numbers.GrantNos.as_slice.Goals as goal
+
+pub returns-clause-numbers : goal.returns-clause-numbers
+returns-clause-numbers c = cc

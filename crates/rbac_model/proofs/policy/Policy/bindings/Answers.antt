@@ -1,0 +1,4 @@
+use Rattle.rbac_model.proofs.policy.Policy.bindings.Goals as goal
+
+pub returns-clause-bindings : goal.returns-clause-bindings
+returns-clause-bindings c = cc
