@@ -3,7 +3,7 @@ use Rattle.std.specs.Prelude.{◌≡◌, ◌⊎◌, List, Any, Bool, IsTrue}
 use Rattle.rbac_terms.specs.Text.{Text, slash, IsCutAtFirst}
 use Rattle.rbac_catalogue.specs.declared.entry.Entry.{Entry}
 
--- the entries of all API resource lists given, in order, and whether there was such a list, be it without entries
+-- the entries of all API resource lists given, in order, and whether a list was given, even one without entries
 pub record CatalogueView : Type 0 where
   pub is_given : Bool
   pub entries : List Entry
@@ -12,11 +12,11 @@ pub record CatalogueView : Type 0 where
 abbrev pub IsAbout : Text → Text → Entry → Type 0
 IsAbout group text e = (e.group ≡ group) × (e.name ≡ text)
 
--- some entry, of whatever version, is about the resource
+-- some entry, whatever its version, is about the resource
 abbrev pub IsListed : List Entry → Text → Text → Type 0
 IsListed entries group text = Any (IsAbout group text) entries
 
--- a resource is namespaced where any of its versions is (own)
+-- a resource is namespaced if any of its versions is (own)
 abbrev pub IsNamespaced : List Entry → Text → Text → Type 0
 IsNamespaced entries group text = Any (λ e. IsAbout group text e × IsTrue e.namespaced) entries
 
@@ -24,7 +24,7 @@ IsNamespaced entries group text = Any (λ e. IsAbout group text e × IsTrue e.na
 abbrev pub IsClusterScoped : List Entry → Text → Text → Type 0
 IsClusterScoped entries group text = IsListed entries group text × (¬ IsNamespaced entries group text)
 
--- a resource text that isn't listed is as what stands before its first slash; one of which nothing is listed isn't cluster-only (own)
+-- a resource text that isn't listed is taken as the part before its first slash; if neither is listed, it isn't cluster-only (own)
 unfoldable pub IsClusterOnly : List Entry → Text → Text → Type 0
 IsClusterOnly entries group text =
     IsClusterScoped entries group text

@@ -15,24 +15,24 @@ dot = 46
 abbrev pub IsCalled : Text → Entry → Type 0
 IsCalled word e = (word ≡ e.name) ⊎ (word ≡ e.singular) ⊎ Contains e.short_names word
 
--- an entry that words can name: it has a name, and no subresource (own)
+-- an entry that words can name: it has a name, and isn't a subresource (own)
 abbrev pub HasWords : Entry → Type 0
 HasWords e = (e.name ≢ []) × (¬ Contains e.name slash)
 
--- a word names such an entry that is called so; the empty word names nothing (own)
+-- a word names an entry if words can name the entry and it is called so; the empty word names nothing (own)
 abbrev pub IsNamed : Text → Entry → Type 0
 IsNamed word e = (word ≢ []) × HasWords e × IsCalled word e
 
--- a word names the entry in that group, or in any where none is given
+-- a word names the entry in that group, or in any if none is given
 abbrev pub IsNamedIn : Option Text → Text → Entry → Type 0
 IsNamedIn None word e = IsNamed word e
 IsNamedIn (Some group) word e = (e.group ≡ group) × IsNamed word e
 
--- the resource that an entry is about; entries of several versions may be about one
+-- the resource that an entry is about; entries of several versions may be about the same one
 abbrev pub resource_of : Entry → Found
 resource_of e = record { group = e.group; resource = e.name }
 
--- resources by group, and within it by name, each by its bytes
+-- the order of resources: by group, and within it by name, each byte by byte
 abbrev pub resource_cmp : Found → Found → Ordering
 resource_cmp a b = ordering_then (text_cmp a.group b.group) (text_cmp a.resource b.resource)
 
@@ -41,18 +41,18 @@ pub record IsLeastOf (P : Entry → Type 0) (entries : List Entry) (found : Foun
   pub listed : Any (λ e. P e × (resource_of e ≡ found)) entries
   pub none_before : ¬ Any (λ e. P e × (resource_cmp (resource_of e) found ≡ Less)) entries
 
--- what a word means in that group, or in any: the least resource that it names there; where it names none it stands as written in that group, or in the core group, the empty one (own)
+-- what a word means in that group, or in any: the least resource that it names there; if it names none, it is taken as written, in that group or in the core group, the empty one (own)
 abbrev pub IsMeantIn : List Entry → Option Text → Text → Found → Type 0
 IsMeantIn entries group word found =
     IsLeastOf (IsNamedIn group word) entries found
     ⊎ ((¬ Any (IsNamedIn group word) entries) × (found ≡ record { group = unwrap_or group []; resource = word }))
 
--- a type word is a word alone, without a dot, or a word and a group about its first dot (own, after kubectl's RESOURCE and RESOURCE.GROUP)
+-- a type word is a word alone, without a dot, or a word before its first dot and a group after it (own, after kubectl's RESOURCE and RESOURCE.GROUP)
 abbrev pub IsWordAndGroup : Text → Text → Option Text → Type 0
 IsWordAndGroup typed word None = (typed ≡ word) × (¬ Contains typed dot)
 IsWordAndGroup typed word (Some group) = IsCutAtFirst typed dot word group
 
--- what a type word means over these entries
+-- what a type word means according to these entries
 unfoldable pub IsFound : List Entry → Text → Found → Type 0
 IsFound entries typed found =
     (word : Text) × (group : Option Text) × IsWordAndGroup typed word group × IsMeantIn entries group word found

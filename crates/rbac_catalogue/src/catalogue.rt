@@ -11,8 +11,8 @@ use rbac_terms::Word;
 use std::alloc::{AllocError, Global};
 use std::marker::Model;
 
-/// What all API resource lists together say about the resources of a cluster. Entries of one group
-/// and name, of several versions, are taken as one resource.
+/// What all API resource lists together say about the resources of a cluster. Entries of several
+/// versions with the same group and name are taken as one resource.
 #[derive(Drop)]
 pub struct Catalogue {
     is_given: bool,
@@ -28,7 +28,7 @@ impl Model for Catalogue {
 }
 
 impl Catalogue {
-    /// The catalogue of no lists, which takes no memory.
+    /// The catalogue of no lists. Doesn't allocate.
     pub fn new(alloc: Global) -> Self
         ensures { result ≡ record { is_given = false; entries = [] } }
     {
@@ -38,8 +38,8 @@ impl Catalogue {
         }
     }
 
-    /// Adds the entries of an API resource list, of which there may be none. Where memory is
-    /// refused the catalogue is as before.
+    /// Adds the entries of an API resource list, which may have none. If it runs out of memory, the
+    /// catalogue is unchanged.
     pub fn give(&mut self, entries: Entries) -> Result<(), AllocError>
         ensures ok { OnOk result (self.new ≡ record { is_given = true; entries = self.old.entries ++ entries }) }
         ensures err { OnErr result (self.new ≡ self.old) }
@@ -49,14 +49,14 @@ impl Catalogue {
         Ok(())
     }
 
-    /// Whether there was an API resource list, be it without entries. Takes no memory.
+    /// Whether there was an API resource list, even one without entries. Doesn't allocate.
     pub fn is_given(&self) -> bool
         ensures { result ≡ self.now.is_given }
     {
         self.is_given
     }
 
-    /// The entries of all lists, in the order given. Takes no memory.
+    /// The entries of all lists, in the order given. Doesn't allocate.
     pub fn entries(&self) -> &[Entry]
         ensures { result.now ≡ self.now.entries }
     {
@@ -65,12 +65,13 @@ impl Catalogue {
 
     /// The resource that a type word means (own). A word without a dot means the least resource, by
     /// group and then by name, whose name, singular name or short name it is, as `po` means `pods`.
-    /// In a word with a dot what follows the first dot is the group, and what stands before it is
-    /// looked up in that group alone, as `deploy` in `deploy.apps`. Where no resource is named so,
-    /// the word stands as written, without a dot in the core group.
+    /// In a word with a dot, what follows the first dot is the group, and what comes before it is
+    /// looked up in that group alone, like `deploy` in `deploy.apps`. If no resource is named so,
+    /// what was looked up is taken as written, in that group or, for a word without a dot, in the
+    /// core group.
     ///
     /// Subresources and entries without a name have no type words, and the empty word names
-    /// nothing. Takes memory for the result alone.
+    /// nothing. Allocates only for the result.
     pub fn resolve_word(&self, alloc: Global, word: &Word) -> Result<Found, AllocError>
         ensures found { IfOk result (IsFound self.now.entries word.now) }
         ensures only { IfOk result (IsOnlyFound self.now.entries word.now) }
@@ -80,7 +81,7 @@ impl Catalogue {
 
     /// Whether the resource of that group and full text is known to be outside all namespaces
     /// (own): it is listed, and namespaced in none of its versions. A subresource that isn't
-    /// listed, as `pods/log`, is asked by its resource, `pods`. Takes no memory.
+    /// listed, like `pods/log`, is judged by its resource, `pods`. Doesn't allocate.
     pub fn cluster_only(&self, group: &Word, text: &Word) -> bool
         ensures { IsTrue result ↔ IsClusterOnly self.now.entries group.now text.now }
     {

@@ -15,7 +15,7 @@ use std::cmp::Ordering;
 pub struct Found {
     /// The API group, empty for the core group.
     pub group: Word,
-    /// The resource, as `pods`, or the word as written where it names none.
+    /// The resource, like `pods`, or the word as written if it names none.
     pub resource: Word,
 }
 
@@ -44,7 +44,7 @@ fn is_named(word: &[u8], entry: &Entry) -> bool
     is_called(word, entry)
 }
 
-// Whether it does in that group, or in any.
+// Whether the word names the entry in that group, or in any if none is given.
 fn is_named_in(group: Option<&[u8]>, word: &[u8], entry: &Entry) -> bool
     ensures { IsTrue result ↔ IsNamedIn (option_copied group.entry) word.now entry.now }
 {
@@ -54,7 +54,7 @@ fn is_named_in(group: Option<&[u8]>, word: &[u8], entry: &Entry) -> bool
     }
 }
 
-// The order of what two entries are about.
+// The order of the resources that two entries are about.
 fn cmp_resource(a: &Entry, b: &Entry) -> Ordering
     ensures { result ≡ resource_cmp (resource_of a.now) (resource_of b.now) }
 {
@@ -72,7 +72,7 @@ fn comes_before(entry: &Entry, least: Option<&Entry>) -> bool
     }
 }
 
-// The least of the entries that the word names in the group, or in any.
+// The least of the entries that the word names in that group, or in any if none is given.
 fn least_named<'a>(entries: &'a [Entry], group: Option<&[u8]>, word: &[u8]) -> Option<&'a Entry>
     ensures { let P = IsNamedIn (option_copied group.entry) word.now in
         MatchOption (option_copied result) (¬ Any P entries.now) (λ e. IsLeastOf P entries.now (resource_of e)) }
@@ -86,7 +86,7 @@ fn least_named<'a>(entries: &'a [Entry], group: Option<&[u8]>, word: &[u8]) -> O
     least
 }
 
-// A copy of these texts.
+// A resource with copies of these texts.
 fn found_from(alloc: Global, group: &[u8], resource: &[u8]) -> Result<Found, AllocError>
     ensures { IfOk result (λ f. f ≡ record { group = group.now; resource = resource.now }) }
 {
@@ -96,7 +96,7 @@ fn found_from(alloc: Global, group: &[u8], resource: &[u8]) -> Result<Found, All
     })
 }
 
-// What the word means in the group, or in any.
+// What the word means in that group, or in any if none is given.
 fn meant(
     alloc: Global,
     entries: &[Entry],

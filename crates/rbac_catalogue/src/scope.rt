@@ -33,8 +33,8 @@ fn is_cluster_scoped(entries: &[Entry], group: &[u8], text: &[u8]) -> bool
     is_listed(entries, group, text) && !is_namespaced(entries, group, text)
 }
 
-// Whether the resource, or where it isn't listed the one that it is a subresource of, is known to
-// be outside all namespaces.
+// Whether the resource, or if it isn't listed the one that it is a subresource of, is known to be
+// outside all namespaces.
 #[tactic(auto, unfolding(crate::specs::Catalogue::IsClusterOnly))]
 pub(crate) fn is_cluster_only(entries: &[Entry], group: &[u8], text: &[u8]) -> bool
     ensures { IsTrue result ↔ IsClusterOnly entries.now group.now text.now }

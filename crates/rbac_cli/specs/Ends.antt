@@ -1,4 +1,4 @@
--- How a run ends. `took` says of some bytes that the writer took exactly these in the run.
+-- How a run ends. `took bytes` says that the writer took exactly these bytes in the run.
 use Rattle.std.specs.Prelude.{◌≡◌, ◌≢◌, ℕ, ◌⊎◌, Bool, true, false, List, [], length, Result, Ok, Err, MatchResult}
 use Rattle.rbac_streams.specs.Taken.{counted}
 use Rattle.rbac_universe.specs.Sets.{HasUniverseFault}
@@ -25,7 +25,7 @@ WritesPrefix took l action n = (prefix : List ℕ) × IsPrefixOfAnswer l action 
 abbrev pub WritesNothing : (List ℕ → Type 0) → ℕ → Type 0
 WritesNothing took n = took [] × (n ≡ 0)
 
--- the action is `matrix`, with `--every` or without, and the lists make no universe, for this fault; out of memory is a fault of its own
+-- the action is `matrix`, with or without `--every`, and the lists make no universe because of this fault; out of memory is a fault of its own
 abbrev pub LacksUniverse : LoadedView → Action → UniverseFault → Type 0
 LacksUniverse l (CanI who quiet why q) fault = ⊥
 LacksUniverse l (WhoCan q) fault = ⊥
@@ -41,15 +41,15 @@ Succeeds took command inputs status = (l : LoadedView) × IsLoaded inputs l × W
 abbrev pub StopsShort : (List ℕ → Type 0) → Command → List (List ℕ) → ℕ → Type 0
 StopsShort took command inputs n = (l : LoadedView) × IsLoaded inputs l × WritesPrefix took l command.action n
 
--- the inputs are refused, for the fault that they have, or memory was refused before anything was written
+-- the inputs are refused for the fault that they have, or the run is out of memory before anything is written
 abbrev pub FailsToLoad : List (List ℕ) → RunFault → Type 0
 FailsToLoad inputs (Load fault) = HasFault inputs fault
 FailsToLoad inputs (Universe fault) = ⊥
 FailsToLoad inputs (Memory n) = n ≡ 0
 FailsToLoad inputs (Write n) = ⊥
 
--- the inputs are refused, for the fault that they have, or they are loaded and make no universe for a matrix, and nothing is written; or
--- memory was refused; or a write failed
+-- the inputs are refused for the fault that they have, or they are loaded but make no universe for a matrix, and in both cases nothing is
+-- written; or the run is out of memory; or a write failed
 abbrev pub Faults : (List ℕ → Type 0) → Command → List (List ℕ) → RunFault → Type 0
 Faults took command inputs (Load fault) = HasFault inputs fault × took []
 Faults took command inputs (Universe fault) = ((l : LoadedView) × IsLoaded inputs l × LacksUniverse l command.action fault) × took []

@@ -1,4 +1,4 @@
--- What a question asks for, over the entries of a catalogue.
+-- What a question asks for, according to the entries of a catalogue.
 use Rattle.std.specs.Prelude.{◌≡◌, ◌⊎◌, List, [], ◌∷◌, ◌++◌}
 use Rattle.rbac_terms.specs.Text.{Text, slash}
 use Rattle.rbac_terms.specs.Targets.{What, Resource, Url, group_of, text_of}
@@ -10,7 +10,7 @@ use Rattle.rbac_question.specs.declared.asked.AskedFor.{AskedFor}
 use Rattle.rbac_question.specs.declared.asked.AskedFor.TheVariants.{Url as ForUrl, Resource as ForResource}
 use Rattle.rbac_question.specs.declared.command.Question.{Question}
 
--- a subresource is written after a slash (Using RBAC Authorization, Referring to resources); an empty one is as none (own)
+-- a subresource is written after a slash (Using RBAC Authorization, Referring to resources); an empty one is the same as none (own)
 abbrev pub with_subresource : Text → Text → Text
 with_subresource resource [] = resource
 with_subresource resource (b ∷ bs) = resource ++ slash ∷ b ∷ bs
@@ -21,7 +21,7 @@ IsTargetMeant entries (ForUrl path) target = target ≡ Url path
 IsTargetMeant entries (ForResource word subresource name) target =
     (found : Found) × IsFound entries word found × (target ≡ Resource found.group (with_subresource found.resource subresource) name)
 
--- where it is asked for: a target that is known to be outside all namespaces in none, any other in the one given (own)
+-- where it is asked for: in no namespace if the target is known to be outside all namespaces, otherwise in the one given (own)
 abbrev pub IsNamespaceMeant : List Entry → What → Text → Text → Type 0
 IsNamespaceMeant entries target given namespace =
     (IsClusterOnly entries (group_of target) (text_of target) × (namespace ≡ []))

@@ -36,24 +36,24 @@ abbrev pub line_unless : Bool → List ℕ → List ℕ
 line_unless true word = []
 line_unless false word = line word
 
--- whoever asks is allowed what the question asks, by the objects that are held and the entries of the catalogue
+-- `who` is allowed what the question asks, by the objects that are held and the entries of the catalogue
 abbrev pub IsAllowed : Held → List Entry → Who → Question → Type 0
 IsAllowed held entries who q =
     (target : What) × (namespace : Text) × IsMeant entries q target namespace × Allows held who namespace q.verb target
 
--- whoever asks isn't allowed it: some target and namespace are meant, and what is asked of them isn't allowed
+-- `who` isn't allowed what the question asks: it means some target and namespace, and `who` isn't allowed its verb on that target there
 abbrev pub IsDenied : Held → List Entry → Who → Question → Type 0
 IsDenied held entries who q =
     (target : What) × (namespace : Text) × IsMeant entries q target namespace × (¬ Allows held who namespace q.verb target)
 
--- the line that explains a yes: the least grant that allows it, and the least subject there that names who asks
+-- the line that explains a yes: the least grant that allows it, and the least subject of its binding that names who asks
 abbrev pub IsWhyText : PolicyView → List Entry → Who → Question → Text → Type 0
 IsWhyText p entries who q text =
     (target : What) × (namespace : Text) × IsMeant entries q target namespace
     × ((g : GrantView) × (subject : ℕ) × IsWhy p who namespace q.verb target g subject
     × (text ≡ why_text g.binding g.rule.source g.rule.place subject))
 
--- what stands after `yes`: with `--why`, and without `-q`, that line
+-- what comes after `yes`: with `--why` and without `-q`, the line that explains it; otherwise nothing
 abbrev pub IsReason : PolicyView → List Entry → Who → Bool → Bool → Question → Text → Type 0
 IsReason p entries who false true q text = IsWhyText p entries who q text
 IsReason p entries who false false q text = text ≡ []
@@ -68,13 +68,13 @@ AreHoldersMeant held entries q xs =
 abbrev pub holders_text : List HolderView → List ℕ
 holders_text xs = flat_map (λ x. holder_text x.key x.binding) xs
 
--- of the rows of a matrix those whose key is greater than this one, cut at the limit, each on a line, and a last line that says whether
--- more follow (own); with a limit n, `cut_at` of them is `page k n rows`
+-- the rows of a matrix whose key is greater than the one given, cut at the limit, each on a line, and a last line that says whether more
+-- follow (own); with a limit n, `cut_at` of these rows is `page k n rows`
 abbrev pub listing_text : Option KeyTexts → Option ℕ → List RowView → List ℕ
 listing_text k limit rows = page_text (cut_at limit (rows_after k rows))
 
--- of the rows of every granting binding those that come after this mark, cut at the limit, each on a line, and a last line that says whether
--- more follow (own); with a limit n, `cut_at` of them is `every_page m n rows`
+-- those rows of every granting binding that come after the mark given, cut at the limit, each on a line, and a last line that says whether
+-- more follow (own); with a limit n, `cut_at` of these rows is `every_page m n rows`
 abbrev pub every_listing_text : Option Mark → Option ℕ → List RowView → List ℕ
 every_listing_text m limit rows = every_page_text (cut_at limit (every_after m rows))
 
@@ -82,14 +82,14 @@ every_listing_text m limit rows = every_page_text (cut_at limit (every_after m r
 abbrev pub findings_text : List Finding → List ℕ
 findings_text found = flat_map (λ f. finding_text f.code f.object f.place f.other) found
 
--- 1 where something is found (own)
+-- 1 if anything is found (own)
 abbrev pub findings_status : List Finding → Status
 findings_status [] = Zero
 findings_status (f ∷ found) = One
 
--- the text and the status that an action means over what was loaded: `can-i` answers `yes` and 0 or `no` and 1 (kubectl auth can-i);
--- `who-can` answers a line for each holder, and 0; `matrix` a page of the matrix of a universe of the lists, and 0 (own);
--- with `--every` a page of the rows of every granting binding, and 0 (own); `lint` a line for each finding, and 1 where there is one (own)
+-- the text and the status that an action means over what was loaded: `can-i` answers `yes` and 0, or `no` and 1 (kubectl auth can-i);
+-- `who-can` answers a line for each holder, and 0; `matrix` a page of the matrix of a universe of the lists, and 0 (own), or with `--every`
+-- a page of the rows of every granting binding, and 0 (own); `lint` a line for each finding, and 1 if there is one (own)
 abbrev pub Answers : LoadedView → Action → List ℕ → Status → Type 0
 Answers l (CanI who quiet why q) text status =
     (IsAllowed l.policy.held l.catalogue.entries who q
@@ -107,8 +107,8 @@ Answers l (Every after limit) text status =
 Answers l Lint text status =
     (found : List Finding) × AreFindings l.policy.held l.replaced found × (text ≡ findings_text found) × (status ≡ findings_status found)
 
--- a prefix of the text that the action means: of a verdict's, of the holders', of the findings', or, for a universe of the lists, of whichever rows are its matrix,
--- or with `--every` all of its granting bindings
+-- a prefix of the text that the action means: of the text of a verdict, of the holders or of the findings, or, for a universe of the lists, of
+-- the page of whichever rows are its matrix, or with `--every` its rows of every granting binding
 abbrev pub IsPrefixOfAnswer : LoadedView → Action → List ℕ → Type 0
 IsPrefixOfAnswer l (CanI who quiet why q) prefix =
     (text : List ℕ) × (status : Status) × Answers l (CanI who quiet why q) text status × BeginsWith text prefix

@@ -20,7 +20,7 @@ use Rattle.rbac_cli.specs.declared.outcome.Status.{Status}
 use Rattle.rbac_cli.specs.declared.outcome.RunFault.{RunFault}
 use Rattle.rbac_cli.specs.declared.outcome.RunFault.TheVariants.{Load, Universe, Memory, Write}
 
--- a page of the matrix was printed: what comes after the key, cut at the limit, and the last line
+-- a page of the matrix was printed: the rows after the key, cut at the limit, and the last line
 abbrev pub PrintsListing : {W : Type 0} → (W → Option (List ℕ)) → SinkView W → PageView → SinkView W → PageView → Option KeyTexts → Option ℕ → Held → UniverseView → Type 0
 PrintsListing contents old page new after k limit held u =
     (rows : List RowView) × IsMatrix held u rows × Prints contents old page new after (listing_text k limit rows)
@@ -30,7 +30,7 @@ abbrev pub StopsInListing : {W : Type 0} → (W → Option (List ℕ)) → SinkV
 StopsInListing contents old page new after k limit held u =
     StopsWithin contents old page new after (λ more. (rows : List RowView) × IsMatrix held u rows × (more ≡ listing_text k limit rows))
 
--- the page of the rows of every granting binding after the mark was printed
+-- a page of the rows of every granting binding was printed: those after the mark, cut at the limit, and the last line
 abbrev pub PrintsEvery : {W : Type 0} → (W → Option (List ℕ)) → SinkView W → PageView → SinkView W → PageView → Option Mark → Option ℕ → Held → UniverseView → Type 0
 PrintsEvery contents old page new after m limit held u =
     (rows : List RowView) × IsEvery held u rows × Prints contents old page new after (every_listing_text m limit rows)
@@ -40,12 +40,12 @@ abbrev pub StopsInEvery : {W : Type 0} → (W → Option (List ℕ)) → SinkVie
 StopsInEvery contents old page new after m limit held u =
     StopsWithin contents old page new after (λ more. (rows : List RowView) × IsEvery held u rows × (more ≡ every_listing_text m limit rows))
 
--- more text was printed, one that the action means over what was loaded
+-- more text was printed: a text that the action means over what was loaded
 abbrev pub PrintsAnswer : {W : Type 0} → (W → Option (List ℕ)) → SinkView W → PageView → SinkView W → PageView → LoadedView → Action → Status → Type 0
 PrintsAnswer contents old page new after l action status =
     (text : List ℕ) × Answers l action text status × Prints contents old page new after text
 
--- printing stopped within such a text: a verdict's, the holders', the findings', or, for a universe of the lists, the page of its matrix
+-- printing stopped within a text that the action means: a verdict's, the holders', the findings', or, for a universe of the lists, the page of its matrix or of its rows of every granting binding
 abbrev pub StopsInAnswer : {W : Type 0} → (W → Option (List ℕ)) → SinkView W → PageView → SinkView W → PageView → LoadedView → Action → Type 0
 StopsInAnswer contents old page new after l (CanI who quiet why q) =
     (text : List ℕ) × (status : Status) × Answers l (CanI who quiet why q) text status × StopsIn contents old page new after text
@@ -67,7 +67,7 @@ abbrev pub fault_at : PageView → PrintFault → RunFault
 fault_at page SinkFailed = Write page.written
 fault_at page NoMemory = Memory page.written
 
--- how printing an answer stops: without a universe or out of memory before any of it, or within it
+-- how printing an answer stops: before any of it, with no universe or out of memory; or within it
 abbrev pub StopsPrinting : {W : Type 0} → (W → Option (List ℕ)) → SinkView W → PageView → SinkView W → PageView → LoadedView → Action → RunFault → Type 0
 StopsPrinting contents old page new after l action (Load fault) = ⊥
 StopsPrinting contents old page new after l action (Universe fault) = LacksUniverse l action fault × IsUntouched old page new after

@@ -1,4 +1,4 @@
--- The text of a verdict, by why it was found to be so.
+-- The text of a verdict, from what was found to explain it.
 use Rattle.std.specs.Prelude.{ℕ, Bool, true, false, List, [], ◌++◌, codes, Option, Some, None}
 use Rattle.rbac_model.specs.Sources.{source_of}
 use Rattle.rbac_text.specs.Why.{why_text}
@@ -11,7 +11,7 @@ use Rattle.rbac_cli.specs.declared.outcome.Status.TheVariants.{Zero, One}
 abbrev pub found_text : Why → List ℕ
 found_text found = why_text found.binding.now (source_of found.source) found.rule_place found.subject_place
 
--- with `-q` nothing; else yes or no, and with `--why` what was found
+-- with `-q` nothing; otherwise yes or no, and with `--why` the line that explains a yes
 abbrev pub verdict_text : Bool → Bool → Option Why → List ℕ
 verdict_text true why found = []
 verdict_text false why None = line (codes "no")

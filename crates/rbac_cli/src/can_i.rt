@@ -27,8 +27,8 @@ pub(crate) struct Verdict {
     status: Status,
 }
 
-/// The verdict on whether the principal is allowed what the question asks: with `quiet` nothing but
-/// the status, and with `why` a second line that explains it, after yes.
+/// The verdict on whether the principal is allowed what the question asks. With `quiet` it has a
+/// status and no text; with `why`, a second line explains a yes.
 pub(crate) fn verdict_of(
     alloc: Global,
     loaded: &Loaded,
@@ -54,7 +54,7 @@ pub(crate) fn verdict_of(
     })
 }
 
-// What is printed of a verdict.
+// The text that is printed for a verdict.
 fn text_of(
     alloc: Global,
     quiet: bool,

@@ -16,8 +16,8 @@ use rbac_token::Mark;
 use std::alloc::Global;
 use std::io::Write;
 
-/// Prints a page of the rows of every granting binding: a line for each that comes after the mark,
-/// at most as many as the limit says, and a last line that says whether more follow.
+/// Prints a page of the rows of every granting binding: a line for each row that comes after the
+/// mark, at most as many as the limit says, and a last line that says whether more follow.
 pub(crate) fn print_every_listing<W: Write + Drop>(
     alloc: Global,
     loaded: &Loaded,

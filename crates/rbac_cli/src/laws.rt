@@ -16,16 +16,16 @@ use rbac_manifest::{load_faults_are_one, loaded_inputs_are_one, loaded_inputs_ha
 use rbac_universe::universes_have_no_fault;
 use std::io::Write;
 
-/// What an action means over what was loaded is one text and one status, so that whoever runs a
-/// command over the same inputs reads the same (own).
+/// Over what was loaded, an action means at most one text and one status, so everyone who runs a
+/// command over the same inputs reads the same answer (own).
 pub fn answers_are_one()
     ensures { (l : LoadedView) (action : Action) (text other : List ℕ) (status ending : Status) → Answers l action text status
         → Answers l action other ending → (text ≡ other) × (status ≡ ending) }
 {}
 
-/// Two runs of one command over the same inputs end alike, and their writers took one text, where
-/// neither ran out of memory nor failed to write: it is the same answer with the same
-/// status, or the same refusal and no text. So an answer and a refusal exclude each other (own).
+/// Two runs of one command over the same inputs end alike, and their writers take the same text, if
+/// neither runs out of memory or fails to write: both give the same answer with the same status, or
+/// the same refusal and no text. So an answer and a refusal exclude each other (own).
 pub fn runs_are_one<V: Write, W: Write>()
     ensures { (start end : SinkView V) (old new : SinkView W) (command : Command) (inputs : List (List ℕ)) (ended other : Result Status RunFault)
         → IsUnstopped ended → IsUnstopped other → Ends (Took V.contents start end) command inputs ended

@@ -1,6 +1,6 @@
-//! The program's inside: it loads the inputs of a command, answers the command over them and writes
-//! the answer. What a program needs beside [`run`] (the command line, reader and writer) is reached
-//! from here too.
+//! The inside of the program: loads the inputs of a command, answers the command over them and
+//! writes the answer. Re-exports what a program needs besides [`run`]: the command line, the reader
+//! and the writer.
 #![tactic(auto)]
 
 mod answer;

@@ -16,7 +16,7 @@ use rbac_text::put_finding;
 use std::alloc::Global;
 use std::io::Write;
 
-/// Prints what lint finds in what was loaded, each on a line.
+/// Prints what lint finds in what was loaded, a line for each finding.
 pub(crate) fn print_findings<W: Write + Drop>(
     alloc: Global,
     loaded: &Loaded,
@@ -38,7 +38,7 @@ pub(crate) fn print_findings<W: Write + Drop>(
     }
 }
 
-// 1 where something is found.
+// The status: 1 if anything is found.
 fn status_of(findings: &[Finding]) -> Status
     ensures { result ≡ findings_status findings.now }
 {
@@ -69,7 +69,7 @@ fn print_lines<W: Write + Drop>(
     Ok(())
 }
 
-// Prints the line of one finding, which is put together in `line`.
+// Prints the line of one finding, built in `line`.
 fn print_line<W: Write + Drop>(
     finding: &Finding,
     line: &mut Vec<u8>,

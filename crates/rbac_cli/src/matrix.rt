@@ -48,7 +48,7 @@ pub(crate) fn print_listing<W: Write + Drop>(
     }
 }
 
-// Why printing stops whose lists make no universe. Out of memory is a fault of its own.
+// Why printing stops if the lists make no universe. Out of memory is a fault of its own.
 pub(crate) fn unmade(page: &Page, fault: UniverseFault) -> RunFault
     ensures refused { fault ≢ UniverseFault.NoMemory → result ≡ RunFault.Universe fault }
     ensures memory { fault ≡ UniverseFault.NoMemory → result ≡ fault_at page.now PrintFault.NoMemory }

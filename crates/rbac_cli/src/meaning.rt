@@ -1,4 +1,4 @@
-//! What a question asks for, over a catalogue.
+//! What a question asks for, according to a catalogue.
 
 ghost use Rattle.std.specs.Prelude.{◌≡◌, [], IfOk, codes};
 ghost use Rattle.rbac_terms.specs.Targets.{Url};
@@ -19,7 +19,7 @@ pub(crate) struct Meant {
     pub(crate) namespace: Word,
 }
 
-// What a question asks for, and where, over a catalogue.
+// What a question asks for, and where, according to a catalogue.
 pub(crate) fn meant_by(
     alloc: Global,
     catalogue: &Catalogue,
@@ -34,8 +34,9 @@ pub(crate) fn meant_by(
     Ok(Meant { target, namespace })
 }
 
-// What a question asks for (own): a URL as it is written; a type word is what
-// [`Catalogue::resolve_word`] makes of it, and a subresource stands after it and a slash.
+// The target that a question asks for (own): a URL as it is written, or what
+// [`Catalogue::resolve_word`] makes of the type word, followed by a slash and the subresource if
+// there is one.
 fn target_of(alloc: Global, catalogue: &Catalogue, asked: &Asked) -> Result<Target, AllocError>
     ensures { IfOk result (IsTargetMeant catalogue.now.entries asked.now) }
 {
@@ -90,8 +91,8 @@ fn resource_text(alloc: Global, resource: &[u8], subresource: &[u8]) -> Result<W
     Ok(text)
 }
 
-// Where a target is asked for (own): in `nowhere`, the empty namespace, where the catalogue knows
-// it to be outside all namespaces, else in the one given.
+// The namespace in which a target is asked for (own): `nowhere`, the empty one, if the catalogue
+// knows the target to be outside all namespaces, otherwise the one given.
 fn namespace_for<'a>(
     catalogue: &Catalogue,
     target: &Target,

@@ -18,17 +18,17 @@ pub enum Status {
     One,
 }
 
-/// Why a run stopped. Texts that were written up to then stay written.
+/// Why a run stopped. What was written up to then stays written.
 #[derive(Clone, Copy, Debug, PartialEq, Eq)]
 pub enum RunFault {
-    /// The inputs are refused, and nothing was written.
+    /// The inputs were refused, and nothing was written.
     Load(LoadFault),
     /// The lists that were loaded make no universe for a matrix, and nothing was written. Out of
     /// memory is a fault of its own.
     Universe(UniverseFault),
-    /// Memory was refused after this many bytes were written, at most the last value of `u128`.
+    /// Out of memory after this many bytes were written, at most `u128::MAX`.
     Memory { written: u128 },
-    /// A write failed after this many bytes were written, at most the last value of `u128`.
+    /// A write failed after this many bytes were written, at most `u128::MAX`.
     Write { written: u128 },
 }
 
@@ -49,7 +49,7 @@ impl fmt::Display for RunFault {
 
 impl Error for RunFault {}
 
-// Why a run stopped whose printing stopped so.
+// The fault of a run whose printing stopped with `fault`.
 pub(crate) fn fault_of(page: &Page, fault: PrintFault) -> RunFault
     ensures { result ≡ fault_at page.now fault }
 {

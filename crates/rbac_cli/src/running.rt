@@ -17,13 +17,14 @@ use std::io::Write;
 /// Loads the inputs, answers the command over them and writes the answer.
 ///
 /// For a matrix it writes exactly one line for each request of the universe that is allowed and
-/// whose key is greater than the token's, in order of keys, each with the first binding that grants
-/// it, cut at the limit, and last a line that says whether more follow. With `--every` it is one
-/// line for each request and binding that grants it, whose row comes after the token's mark.
+/// whose key is greater than the token's, in key order, each with the first binding that grants it,
+/// cut at the limit, and then a line that says whether more follow. With `--every` there is one
+/// line for each pair of a request and a binding that grants it, if the pair's row comes after the
+/// token's mark.
 ///
-/// Refused are inputs that [`load`] refuses, and for a matrix those whose lists make no universe;
-/// nothing is written then. Where memory was refused or a write failed, what was written is a
-/// prefix of the answer, and the fault says how long it is.
+/// Refuses inputs that [`load`] refuses and, for a matrix, those whose lists make no universe;
+/// nothing is written then. If it runs out of memory or a write fails, what was written is a prefix
+/// of the answer, and the fault says how long that prefix is.
 pub fn run<W: Write + Drop>(
     alloc: Global,
     command: &Command,
@@ -39,10 +40,11 @@ pub fn run<W: Write + Drop>(
     write_answer(alloc, &loaded, &command.action, sink, &mut page)
 }
 
-/// As [`run`], with a writer that shows its bytes, a vector: by the contract of `run` alone.
+/// Like [`run`], but with a writer that shows its bytes: a vector. This contract follows from the
+/// contract of `run` alone.
 ///
-/// Here it is plain which bytes a run writes. Standard output doesn't show them, and for it the
-/// same holds as far as its calls take the bytes that they say they took.
+/// Here the contract says plainly which bytes a run writes. Standard output doesn't show its bytes;
+/// for it the same holds as far as its calls take the bytes that they report as taken.
 pub fn run_into(
     alloc: Global,
     command: &Command,
@@ -64,7 +66,7 @@ fn loaded_from(alloc: Global, inputs: &[Input]) -> Result<Loaded, RunFault>
     load(alloc, inputs).map_err(unloaded)
 }
 
-// Why a run stops whose inputs aren't loaded. Out of memory is a fault of its own.
+// Why a run stops if its inputs fail to load. Out of memory is a fault of its own.
 fn unloaded(fault: LoadFault) -> RunFault
     ensures refused { fault.cause ≢ Cause.NoMemory → result ≡ RunFault.Load fault }
     ensures memory { fault.cause ≡ Cause.NoMemory → result ≡ RunFault.Memory 0 }
@@ -75,7 +77,7 @@ fn unloaded(fault: LoadFault) -> RunFault
     }
 }
 
-// Writes the answer of an action over what was loaded, from an empty page on.
+// Writes the answer of an action over what was loaded, starting with an empty page.
 fn write_answer<W: Write + Drop>(
     alloc: Global,
     loaded: &Loaded,

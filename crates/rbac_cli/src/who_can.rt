@@ -18,7 +18,7 @@ use rbac_text::put_holder;
 use std::alloc::Global;
 use std::io::Write;
 
-/// Prints who is allowed what the question asks, each on a line.
+/// Prints who is allowed what the question asks, a line for each holder.
 pub(crate) fn print_holders<W: Write + Drop>(
     alloc: Global,
     loaded: &Loaded,
@@ -74,7 +74,7 @@ fn print_lines<W: Write + Drop>(
     Ok(())
 }
 
-// Prints the line of one holder, which is put together in `line`.
+// Prints the line of one holder, built in `line`.
 fn print_line<W: Write + Drop>(
     holder: Holder<'_>,
     line: &mut Vec<u8>,

@@ -67,7 +67,7 @@ every_rule = record (new_rule (codes "every")) { long = Some (codes "every"); ac
 abbrev pub after_rule : Rule
 after_rule = record (new_rule (codes "after")) { long = Some (codes "after"); value_names = 1 }
 
--- `--limit N`, of which `clap` takes a number from 1 to 1,000,000
+-- `--limit N`, for which `clap` takes a number from 1 to 1,000,000
 abbrev pub limit_rule : Rule
 limit_rule = record (new_rule (codes "limit")) {
   long = Some (codes "limit");
@@ -119,7 +119,7 @@ as_program a = record a {
   };
 }
 
--- without its subcommands
+-- the program without its subcommands
 abbrev pub bare_app : App
 bare_app = as_program (new_app (codes "rbacaudit"))
 

@@ -5,14 +5,14 @@ use Rattle.rbac_question.specs.declared.fault.QuestionFault.TheVariants as quest
 use Rattle.rbac_command.specs.declared.fault.UsageFault.{UsageFault}
 use Rattle.rbac_command.specs.declared.fault.UsageFault.TheVariants.{Refused, EmptyWord, UrlSubresource, BadToken, NoMemory}
 
--- the refusal of a question, as one of a command line
+-- the refusal of a question, as the refusal of a command line
 abbrev pub usage_fault : QuestionFault → UsageFault
 usage_fault question.EmptyWord = EmptyWord
 usage_fault question.UrlSubresource = UrlSubresource
 usage_fault question.BadToken = BadToken
 usage_fault question.NoMemory = NoMemory
 
--- the text of a refusal; that of `clap` is its own
+-- the text of a refusal; a refusal by `clap` has its own text
 abbrev pub usage_text : UsageFault → Option (List ℕ)
 usage_text (Refused e) = None
 usage_text EmptyWord = Some (fault_text question.EmptyWord)

@@ -1,4 +1,4 @@
--- What the words of a command line mean, by `clap`'s matches.
+-- What the words of a command line mean, according to `clap`'s matches.
 use Rattle.std.specs.Prelude.{◌≡◌, ◌||◌, ◌⊎◌, ◌<◌, ◌^◌, ℕ, Bool, true, false, List, [], Option, Some, None, Result, map, codes, unwrap_or, MatchResult, string_bytes}
 use Rattle.std.specs.Str.{bytes_eq}
 use Rattle.std.specs.Str.Parse.{IsNumeral, without_leading_plus, digits_value}
@@ -14,13 +14,13 @@ use Rattle.rbac_command.specs.App.{rbac_app}
 use Rattle.rbac_command.specs.declared.fault.UsageFault.{UsageFault}
 use Rattle.rbac_command.specs.declared.fault.UsageFault.TheVariants.{Refused, EmptyWord, UrlSubresource, BadToken, NoMemory}
 
--- ---- what stands under an id
+-- ---- what is under an id
 
--- its first value, or the empty text
+-- the first value of an id, or the empty text
 abbrev pub text_at : Text → List Row → Text
 text_at id rows = unwrap_or (first_of id rows) []
 
--- whether the flag stands
+-- whether the flag is given
 abbrev pub has_flag : Text → List Row → Bool
 has_flag id rows = bytes_eq (text_at id rows) (codes "true")
 
@@ -48,11 +48,11 @@ parts_in rows = record {
   question = question_in rows;
 }
 
--- the text is a number of 32 bits: decimal digits, before which a plus sign may stand
+-- the text is a 32-bit number: decimal digits, with an optional plus sign before them
 abbrev pub IsNumberText : Text → Type 0
 IsNumberText text = IsNumeral 10 (without_leading_plus text) × (digits_value 10 (without_leading_plus text) < 2 ^ 32)
 
--- the number that a text reads as, none where there is no text or no number
+-- the number that a text reads as; none if there is no text or it isn't a number
 abbrev pub IsNumber : Option Text → Option ℕ → Type 0
 IsNumber None number = number ≡ None
 IsNumber (Some text) None = ¬ IsNumberText text
@@ -68,7 +68,7 @@ IsNumberAt id rows number = IsNumber (one_of id rows) number
 abbrev pub is_known : Text → Bool
 is_known name = bytes_eq name (codes "can-i") || (bytes_eq name (codes "who-can") || (bytes_eq name (codes "matrix") || bytes_eq name (codes "lint")))
 
--- what the subcommand of that name does, by its matches
+-- what the subcommand of that name does, according to its matches
 abbrev pub DoesAction : Text → List Row → Action → Type 0
 DoesAction name rows (CanI principal quiet why question) =
     (name ≡ codes "can-i") × AcceptsCanI (parts_in rows) × MeansCanI (parts_in rows) (CanI principal quiet why question)
@@ -85,21 +85,21 @@ pub record MeansRows (name : Text) (rows : List Row) (c : Command) : Type 0 wher
   pub action : DoesAction name rows c.action
   pub files : map string_bytes c.files.items ≡ files_in rows
 
--- the command is what the subcommand that was met means
+-- the command is what the subcommand that was found means
 abbrev pub Means : Option (Text × List Row) → Command → Type 0
 Means None c = ⊥
 Means (Some p) c = MeansRows p.0 p.1 c
 
 -- ---- refusals
 
--- the refusal of a subcommand's matches: U4 is of `matrix` alone, which has no other but out of memory, as `lint` has; that may come at any time
+-- the refusal of a subcommand's matches: out of memory may come at any time; besides it, `matrix` has only U4, no other has U4, and `lint` has none
 abbrev pub RefusesAction : Text → List Row → QuestionFault → Type 0
 RefusesAction name rows question.NoMemory = Unit {0}
 RefusesAction name rows question.BadToken = (name ≡ codes "matrix") × HasBadToken (first_of (codes "after") rows)
 RefusesAction name rows e = ((name ≡ codes "can-i") × RefusesCanI (parts_in rows) e)
     ⊎ ((name ≡ codes "who-can") × RefusesQuestion (question_in rows) e)
 
--- a command line is refused with what refuses the matches of its subcommand
+-- a command line is refused with the refusal of its subcommand's matches
 abbrev pub IsCauseOf : Option (Text × List Row) → UsageFault → Type 0
 IsCauseOf None e = ⊥
 IsCauseOf (Some p) EmptyWord = RefusesAction p.0 p.1 question.EmptyWord
@@ -108,7 +108,7 @@ IsCauseOf (Some p) BadToken = RefusesAction p.0 p.1 question.BadToken
 IsCauseOf (Some p) NoMemory = RefusesAction p.0 p.1 question.NoMemory
 IsCauseOf (Some p) (Refused e) = ⊥
 
--- a refusal of `clap`'s comes where it refuses the words; any other where it takes them
+-- a refusal by `clap` comes if it refuses the words, any other if it accepts them; out of memory may come at any time
 abbrev pub IsRefusal : List Text → UsageFault → Type 0
 IsRefusal words NoMemory = Unit {0}
 IsRefusal words (Refused e) = IsAmong (kind_of e) (fault_of rbac_app words)

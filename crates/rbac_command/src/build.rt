@@ -12,7 +12,7 @@ use std::alloc::{AllocError, Global};
 // What `--version` prints after the program's name.
 const VERSION: &str = "0.1.0";
 
-// How each help text ends.
+// The endings of the help texts.
 const MORE: &str = "Get the files:
   kubectl get clusterroles,clusterrolebindings -o json > cluster.json
   kubectl get roles,rolebindings --all-namespaces -o json > namespaced.json
@@ -211,7 +211,7 @@ fn files_arg<'a>(alloc: Global) -> Arg<'a>
         .help("JSON of kubectl get -o json or --raw, or a Universe (default: standard input)")
 }
 
-// Adds an argument that is not global.
+// Adds an argument that isn't global.
 fn with<'a>(command: Command<'a>, arg: Arg<'a>) -> Result<Command<'a>, AllocError>
     requires arg { arg.global ≡ false }
     requires alone { (fields_of command).has_globals ≡ false }
@@ -250,7 +250,7 @@ fn with_question<'a>(alloc: Global, command: Command<'a>) -> Result<Command<'a>,
     with(command, files_arg(alloc))
 }
 
-// A command with this name and no arguments; its help ends in more lines.
+// A command with this name and no arguments, whose help ends with `more`.
 fn named<'a>(alloc: Global, name: &'a str, about: &'a str, more: &'a str) -> Command<'a>
     ensures app { app_of result ≡ new_app name.entry.now }
     ensures local { (fields_of result).has_globals ≡ false }
@@ -327,7 +327,7 @@ fn with_sub<'a>(command: Command<'a>, sub: Command<'a>) -> Result<Command<'a>, A
     command.subcommand(sub)
 }
 
-// Names the program in usage, whatever the first word is.
+// Sets the program's name in usage texts, whatever the first word is.
 fn with_bin_name<'a>(command: Command<'a>, name: &str) -> Result<Command<'a>, AllocError>
     ensures { IfOk result (λ r. app_of r ≡ app_of command.entry) }
 {

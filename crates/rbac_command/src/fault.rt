@@ -10,16 +10,16 @@ use std::fmt;
 /// Why a command line is refused (own).
 #[derive(Debug, Drop)]
 pub enum UsageFault {
-    /// U1: by `clap`, or help was asked. Its `Display` is `clap`'s text, and `use_stderr` says
-    /// which of the two it is.
+    /// U1: refused by `clap`, or help or the version was asked for. Its `Display` is `clap`'s text,
+    /// and `use_stderr` says whether it is a refusal.
     Refused(clap::Error),
-    /// U2: USER, VERB or TARGET is empty, or nothing stands before the dot of a type word.
+    /// U2: USER, VERB or TARGET is empty, or a type word has nothing before its dot.
     EmptyWord,
     /// U3: a subresource is asked for with a URL.
     UrlSubresource,
-    /// U4: what follows `--after` is the token of no mark.
+    /// U4: what follows `--after` isn't the token of any mark.
     BadToken,
-    /// Memory was refused.
+    /// Out of memory.
     NoMemory,
 }
 

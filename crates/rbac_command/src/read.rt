@@ -13,14 +13,14 @@ use clap::error::ErrorKind;
 use rbac_question::{Action, CanILine, Command, MatrixLine, QuestionFault, QuestionLine};
 use std::alloc::{AllocError, Global};
 
-// The first value of `id`, in the words of a parse's rows.
+// The first value of `id`, stated in terms of a parse's rows.
 fn value_of<'a>(matches: &ArgMatches<'a>, id: &str) -> Option<&'a str>
     ensures { option_map (λ s. s.now) result ≡ first_of id.now (rows_of (found_of matches.now)) }
 {
     matches.get_str(id)
 }
 
-// All values of `id`, in the same words.
+// All values of `id`, stated in terms of a parse's rows.
 fn values_of<'m, 'a>(matches: &'m ArgMatches<'a>, id: &str) -> Option<&'m [&'a str]>
     ensures { option_map (λ s. map (λ v. v.now) s.now) result
         ≡ all_of id.now (rows_of (found_of matches.now)) }
@@ -67,7 +67,7 @@ fn line_of<'a>(matches: &ArgMatches<'a>) -> CanILine<'a>
     }
 }
 
-// The number under `id`, as its text reads.
+// The number that the text under `id` reads as.
 fn number_of(matches: &ArgMatches<'_>, id: &str) -> Option<u32>
     ensures { IsNumberAt id.now (rows_of (found_of matches.now)) result }
 {
@@ -115,7 +115,7 @@ fn parsed<'a>(alloc: Global, words: &'a [String]) -> Result<ArgMatches<'a>, Usag
     }
 }
 
-// What the subcommand of that name does, by its matches.
+// What the subcommand of that name does, according to its matches.
 fn action_of(alloc: Global, name: &str, matches: &ArgMatches<'_>) -> Result<Action, QuestionFault>
     requires { is_known name.now ≡ true }
     ensures { MatchResult result (DoesAction name.now (rows_of (found_of matches.now)))
@@ -133,7 +133,7 @@ fn action_of(alloc: Global, name: &str, matches: &ArgMatches<'_>) -> Result<Acti
     Action::can_i(alloc, &line_of(matches))
 }
 
-// The subcommand that was met, in the words of a parse's rows.
+// The subcommand that was found, stated in terms of a parse's rows.
 fn subcommand_of<'m, 'a>(matches: &'m ArgMatches<'a>) -> Option<(&'a str, &'m ArgMatches<'a>)>
     ensures { option_map (λ p. (p.0.now, rows_of (found_of p.1.now))) result
         ≡ subcommand_rows_of matches.now }
@@ -156,9 +156,9 @@ fn meaning_of(alloc: Global, matches: &ArgMatches<'_>) -> Result<Command, UsageF
     }
 }
 
-/// The command that the words say; the first word is the program's name.
+/// The command that the words mean; the first word is the program's name.
 ///
-/// U1 where `clap` refuses the words or help is asked, then U2, U3 and U4.
+/// U1 if `clap` refuses the words, or help or the version is asked for, then U2, U3 and U4.
 pub fn command_of(alloc: Global, words: &[String]) -> Result<Command, UsageFault>
     ensures { IsAnswer (map string_bytes words.now) result }
 {

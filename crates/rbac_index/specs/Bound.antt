@@ -1,19 +1,19 @@
--- Which grants are somebody's in a namespace, whatever their rules.
+-- Which grants a principal has in a namespace, whatever their rules.
 use Rattle.std.specs.Prelude.{◌≡◌, ℕ, ◌<◌, ◌≤◌, Some, slice_get}
 use Rattle.rbac_terms.specs.Text.{Text}
 use Rattle.rbac_terms.specs.Principals.{Who}
 use Rattle.rbac_model.specs.Policies.{PolicyView, GrantView, BindingNames}
 use Rattle.rbac_model.specs.Universes.{LiveForSome}
 
--- the binding of the grant of that number names who asks
+-- the binding of the grant with that number names who asks
 abbrev pub IsNamedBy : PolicyView → Who → ℕ → Type 0
 IsNamedBy p who number = (g : GrantView) × (slice_get p.grants number ≡ Some g) × BindingNames g.binding who
 
--- the binding of the grant of that number names who asks, and may be live in that namespace
+-- the binding of the grant with that number names who asks, and may be live in that namespace
 abbrev pub IsBoundTo : PolicyView → Who → Text → ℕ → Type 0
 IsBoundTo p who namespace number = (g : GrantView) × (slice_get p.grants number ≡ Some g) × BindingNames g.binding who × LiveForSome g.binding.namespace namespace
 
--- the numbers from the second one up to the last are of such grants, and those before it, from the first one on, aren't
+-- the grants numbered from `start` up to `end` are bound to who asks in that namespace, and none of those from `from` up to `start` is
 pub record IsNextRun (p : PolicyView) (who : Who) (namespace : Text) (from start end : ℕ) : Type 0 where
   pub after : from ≤ start
   pub some : start < end

@@ -10,7 +10,7 @@ use Rattle.rbac_index.specs.declared.rule_rows.Written.{Written}
 use Rattle.rbac_index.specs.Listing.{AreListed}
 use Rattle.rbac_index.specs.Written.{written_rules, IsRuleAt, AreWritten, bare_rules}
 
--- the rule of the grant of that number allows the verb on the target
+-- the rule of the grant with that number allows the verb on the target
 abbrev pub AllowsAt : PolicyView → Text → What → ℕ → Type 0
 AllowsAt p verb t n = (g : GrantView) × (slice_get p.grants n ≡ Some g) × RuleAllows g.rule.rule verb t
 
@@ -19,7 +19,7 @@ pub record AreCandidates (p : PolicyView) (verb : Text) (t : What) (ns : List �
   pub ascending : IsStrictlyIncreasing ns
   pub exact : (n : ℕ) → Contains ns n ↔ AllowsAt p verb t n
 
--- the grant of that number is by that rule
+-- the grant with that number is by that rule
 abbrev pub IsByRule : PolicyView → Rule → ℕ → Type 0
 IsByRule p r n = (g : GrantView) × (slice_get p.grants n ≡ Some g) × (g.rule.rule ≡ r)
 
@@ -27,7 +27,7 @@ IsByRule p r n = (g : GrantView) × (slice_get p.grants n ≡ Some g) × (g.rule
 abbrev pub IsRun : PolicyView → List Rule → ℕ → Type 0
 IsRun p rs start = (k : ℕ) (r : Rule) → slice_get rs k ≡ Some r → IsByRule p r (start + k)
 
--- runs of grants by the rules of each row, by where they begin, which end before the grant of that number; each grant before it is in one of them
+-- the runs of grants by the rules of each row, given by where they begin: they end before grant number `count`, and each grant before it is in one of them
 pub record AreRuns (p : PolicyView) (rows : List (List Rule)) (count : ℕ) (runs : List (List ℕ)) : Type 0 where
   pub len : length runs ≡ length rows
   pub sound : (row start : ℕ) (rs : List Rule) → slice_get rows row ≡ Some rs → Contains (slice_index_or runs row []) start → (start + length rs ≤ count) × IsRun p rs start
@@ -44,14 +44,14 @@ pub record IsIndexOf (p : PolicyView) (ws : List Written) (l : Listing) (runs : 
 abbrev pub numbers_by : List (List ℕ) → Written → List ℕ
 numbers_by runs w = map (λ start. start + w.place) (slice_index_or runs w.row [])
 
--- the rule's row has runs, and the numbers of its grants fit
+-- the rule's row has runs, and the numbers of its grants fit in a u32
 abbrev pub HaveNumbers : List (List ℕ) → Written → Type 0
 HaveNumbers runs w = (w.row < length runs) × All (λ start. start + w.place < 2 ^ 32) (slice_index_or runs w.row [])
 
--- the rule of that number allows the verb on the target
+-- the rule with that number allows the verb on the target
 abbrev pub AllowsRule : List Rule → Text → What → ℕ → Type 0
 AllowsRule rules verb t at = (r : Rule) × (slice_get rules at ≡ Some r) × RuleAllows r verb t
 
--- the number is of a grant by one of the rules at these places that allows the verb on the target
+-- the number is that of a grant by a rule, at one of these places, that allows the verb on the target
 abbrev pub IsAllowedBy : List Written → List (List ℕ) → List ℕ → Text → What → ℕ → Type 0
 IsAllowedBy ws runs places verb t n = (at : ℕ) × Contains places at × ((w : Written) × (slice_get ws at ≡ Some w) × RuleAllows w.rule.now verb t × Contains (numbers_by runs w) n)

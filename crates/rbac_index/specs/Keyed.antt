@@ -19,7 +19,7 @@ IsKeyIn b key = Any (λ s. IsSubjectKey s b.namespace key) b.subjects
 abbrev pub IsKeyedAt : List Binding → Text → ℕ → Type 0
 IsKeyedAt bs key place = (b : Binding) × (slice_get bs place ≡ Some b) × IsKeyIn b key
 
--- some grant is of the binding at that place
+-- some grant belongs to the binding at that place
 abbrev pub HasGrants : PolicyView → ℕ → Type 0
 HasGrants p place = (number : ℕ) × IsOfBinding p number place
 
@@ -27,11 +27,11 @@ HasGrants p place = (number : ℕ) × IsOfBinding p number place
 abbrev pub keyed_cmp : Keyed → Keyed → Ordering
 keyed_cmp x y = ordering_then (text_cmp x.key y.key) (nat_cmp x.place y.place)
 
--- an entry of that key and place
+-- the entry with that key and place
 abbrev pub keyed : Text → ℕ → Keyed
 keyed key place = record { key = key; place = place }
 
--- new has what old has, and the keys of the binding's subjects with its place
+-- new has what old has, and the keys of the binding's subjects, each with the binding's place
 abbrev pub HasKeysOf : List Keyed → List Keyed → Binding → ℕ → Type 0
 HasKeysOf old new b place = (x : Keyed) → Contains new x ↔ (Contains old x ⊎ ((x.place ≡ place) × IsKeyIn b x.key))
 
@@ -40,7 +40,7 @@ pub record AreKeyed (p : PolicyView) (xs : List Keyed) : Type 0 where
   pub sorted : IsSorted keyed_cmp xs
   pub exact : (x : Keyed) → Contains xs x ↔ (HasGrants p x.place × IsKeyedAt p.held.bindings x.key x.place)
 
--- the binding at that place is live: it is one of the ClusterRoleBindings, which stand first, or of the namespace's RoleBindings
+-- the binding at that place is live: it is one of the ClusterRoleBindings, which come first, or one of the namespace's RoleBindings
 abbrev pub IsLiveAt : Live → ℕ → Type 0
 IsLiveAt l place = (place < l.cluster_wide) ⊎ ((l.from ≤ place) × (place < l.to))
 
@@ -50,7 +50,7 @@ pub record IsNextOf (P : ℕ → Type 0) (from at : ℕ) : Type 0 where
   pub holds : P at
   pub none_before : (n : ℕ) → from ≤ n → n < at → ¬ P n
 
--- the first such number, if there is one
+-- the first number from that one on that has the property, if there is one
 abbrev pub AnswersNext : (ℕ → Type 0) → ℕ → Option ℕ → Type 0
 AnswersNext P from o = MatchOption o ((n : ℕ) → from ≤ n → ¬ P n) (IsNextOf P from)
 
@@ -58,21 +58,21 @@ AnswersNext P from o = MatchOption o ((n : ℕ) → from ≤ n → ¬ P n) (IsNe
 abbrev pub IsLiveUnder : List Keyed → Live → Text → ℕ → Type 0
 IsLiveUnder xs live key place = Contains xs (keyed key place) × IsLiveAt live place
 
--- one of these keys is listed so
+-- one of these keys is listed with the place, and the binding there is live
 abbrev pub IsLiveUnderAny : List Keyed → Live → (Text → Type 0) → ℕ → Type 0
 IsLiveUnderAny xs live Has place = (key : Text) × Has key × IsLiveUnder xs live key place
 
--- the lesser of two numbers, if there is one
+-- the lesser of the numbers that are given; none if neither is
 abbrev pub sooner : Option ℕ → Option ℕ → Option ℕ
 sooner None b = b
 sooner (Some a) None = Some a
 sooner (Some a) (Some b) = Some (min a b)
 
--- the key of a group that is given
+-- the key of one of the given groups
 abbrev pub IsGivenKey : List Text → Text → Type 0
 IsGivenKey given key = (g : Text) × Contains given g × (key ≡ codes "g:" ++ g)
 
--- the key of a group that service accounts are in: that of all, or that of the namespace
+-- the key of a group that service accounts are in: that of all of them, or that of the namespace's
 abbrev pub IsAccountKeyOf : Text → Text → Type 0
 IsAccountKeyOf namespace key = (key ≡ codes "g:system:serviceaccounts") ⊎ (key ≡ codes "g:system:serviceaccounts:" ++ namespace)
 

@@ -6,7 +6,7 @@ use Rattle.rbac_terms.specs.Targets.{What}
 use Rattle.rbac_terms.specs.declared.granting.Binding.{Binding}
 use Rattle.rbac_model.specs.Policies.{Live}
 
--- the order of a binding's namespace and a namespace: a ClusterRoleBinding stands before each
+-- how a binding's namespace compares to a namespace: a ClusterRoleBinding comes before every namespace
 abbrev pub namespace_cmp : Option Text → Text → Ordering
 namespace_cmp None asked = Less
 namespace_cmp (Some namespace) asked = text_cmp namespace asked

@@ -12,40 +12,40 @@ use Rattle.rbac_index.specs.Reaches.{MatchesAt}
 abbrev pub what_texts : What → List Text
 what_texts t = group_of t ∷ text_of t ∷ name_of t ∷ []
 
--- a text stands after one, and before another where it is given
+-- x comes after `after`, and before `before` if that is given
 abbrev pub IsBetween : Text → Option Text → Text → Type 0
 IsBetween after before x = (text_cmp after x ≡ Less) × IfSome before (λ m. text_cmp x m ≡ Less)
 
--- u has the group and resource text of t, and a later name, which stands before that one where it is given
+-- u has the API group and resource text of t, and a later name, which comes before `before` if that is given
 pub record IsLaterOfStem (before : Option Text) (t u : What) : Type 0 where
   pub group : group_of u ≡ group_of t
   pub text : text_of u ≡ text_of t
   pub name : IsBetween (name_of t) before (name_of u)
 
--- the targets at the places between these are such of the one at the first
+-- the targets after `at` and before `end` have the API group and resource text of the one at `at`, and later names, before `before` if that is given
 abbrev pub AreOfStem : Option Text → List What → ℕ → ℕ → Type 0
 AreOfStem before ts at end = (n : ℕ) (t u : What) → at < n → n < end → slice_get ts at ≡ Some t → slice_get ts n ≡ Some u → IsLaterOfStem before t u
 
--- words of the rule match the group and the resource text
+-- words of the rule match the target's API group and resource text
 abbrev pub StemOk : Rule → What → Type 0
 StemOk r t = Any (λ w. WordMatches w (group_of t)) r.groups × Any (λ w. ResourceWordMatches w (text_of t)) r.resources
 
--- a stem: the targets between these places have the group and the resource text of the first, and a URL stands alone
+-- a stem: the targets from `start` up to `end` have the API group and resource text of the first, and a URL is a stem of its own
 pub record IsStem (ts : List What) (start end : ℕ) : Type 0 where
   pub some : start < end
   pub within : end ≤ length ts
   pub alike : AreOfStem None ts start end
   pub alone : (t : What) → slice_get ts start ≡ Some t → IsUrl t → end ≡ start + 1
 
--- the targets from the first place up to the second are stems, one after the other, each given by where it ends
+-- the targets from the first place up to the second form stems, one after the other, each given by where it ends
 abbrev pub AreStems : List What → ℕ → ℕ → List ℕ → Type 0
 AreStems ts from to [] = from ≡ to
 AreStems ts from to (end ∷ ends) = IsStem ts from end × AreStems ts end to ends
 
--- the rule matches all of the targets between these places, or none
+-- the rule matches all targets from `start` up to `end`, or none of them
 abbrev pub IsWhole : Rule → List What → ℕ → ℕ → Type 0
 IsWhole r ts start end = (n : ℕ) → start ≤ n → n < end → MatchesAt r ts n ↔ MatchesAt r ts start
 
--- all targets of a universe are these stems
+-- all targets of a universe form these stems
 abbrev pub AreStemsOf : UniverseView → List ℕ → Type 0
 AreStemsOf u ends = AreStems (map (λ t. t.0) u.targets) 0 (length (map (λ t. t.0) u.targets)) ends

@@ -1,4 +1,4 @@
--- Where the targets of a universe stand that the rules of grants match.
+-- The places of a universe's targets that the rules of grants match.
 use Rattle.std.specs.Prelude.{◌≡◌, ℕ, ◌+◌, ◌-◌, ◌^◌, ◌<◌, ◌≤◌, ◌↔◌, min, max, List, Contains, Some, map, slice_get, length}
 use Rattle.std.specs.List.Sorted.{IsStrictlyIncreasing}
 use Rattle.rbac_terms.specs.Targets.{What}
@@ -7,7 +7,7 @@ use Rattle.rbac_terms.specs.declared.matching.Rule.{Rule}
 use Rattle.rbac_model.specs.Policies.{PolicyView, GrantView}
 use Rattle.rbac_model.specs.Universes.{UniverseView}
 
--- a meter after n more reads: at the last value of a u128 it stays (own)
+-- a meter after n more reads: it saturates at the largest u128 (own)
 abbrev pub raised : ℕ → ℕ → ℕ
 raised meter n = max meter (min (meter + n) (2 ^ 128 - 1))
 
@@ -20,17 +20,17 @@ pub record IsReach (r : Rule) (ts : List What) (places : List ℕ) : Type 0 wher
   pub ascending : IsStrictlyIncreasing places
   pub exact : (place : ℕ) → Contains places place ↔ MatchesAt r ts place
 
--- the places of the targets that the rule matches, among so many first targets
+-- the places of the targets that the rule matches, among the first `count` targets
 pub record IsReachBelow (r : Rule) (ts : List What) (count : ℕ) (places : List ℕ) : Type 0 where
   pub ascending : IsStrictlyIncreasing places
   pub exact : (place : ℕ) → Contains places place ↔ ((place < count) × MatchesAt r ts place)
   pub short : length places ≤ count
 
--- the reach of the rule of the grant of that number, among the targets of a universe
+-- the reach of the rule of the grant with that number, among the targets of a universe
 abbrev pub IsReachAt : PolicyView → UniverseView → ℕ → List ℕ → Type 0
 IsReachAt p u number places = (g : GrantView) × (slice_get p.grants number ≡ Some g) × IsReach g.rule.rule (map (λ t. t.0) u.targets) places
 
--- the reaches of so many first grants, each at its grant's number
+-- the reaches of the first `count` grants, each at its grant's number
 pub record AreReachesBelow (p : PolicyView) (u : UniverseView) (count : ℕ) (reaches : List (List ℕ)) : Type 0 where
   pub len : length reaches ≡ count
   pub each : (number : ℕ) (places : List ℕ) → slice_get reaches number ≡ Some places → IsReachAt p u number places
@@ -39,6 +39,6 @@ pub record AreReachesBelow (p : PolicyView) (u : UniverseView) (count : ℕ) (re
 abbrev pub AreReaches : PolicyView → UniverseView → List (List ℕ) → Type 0
 AreReaches p u reaches = AreReachesBelow p u (length p.grants) reaches
 
--- the grants of these numbers are by one rule
+-- the grants with these numbers are by the same rule
 abbrev pub AreAlike : PolicyView → ℕ → ℕ → Type 0
 AreAlike p m n = (g h : GrantView) → slice_get p.grants m ≡ Some g → slice_get p.grants n ≡ Some h → g.rule.rule ≡ h.rule.rule

@@ -9,12 +9,12 @@ use Rattle.rbac_index.specs.declared.rule_rows.Written.{Written}
 abbrev pub written_rules : Held → List (List Rule)
 written_rules h = map (λ r. r.rules) h.roles ++ map (λ r. r.rules) h.cluster_roles
 
--- the row of a role's rules, where there are so many roles
+-- the row of a role's rules, given how many roles there are
 abbrev pub row_of : ℕ → RolePlace → ℕ
 row_of roles (RoleAt at) = at
 row_of roles (ClusterRoleAt at) = roles + at
 
--- the rule stands at that place of that row
+-- the rule is at that place in that row
 abbrev pub IsRuleAt : List (List Rule) → ℕ → ℕ → Rule → Type 0
 IsRuleAt rows row place r = (rs : List Rule) × (slice_get rows row ≡ Some rs) × (slice_get rs place ≡ Some r)
 

@@ -1,4 +1,4 @@
-//! Grants by one rule.
+//! Grants by the same rule.
 
 ghost use Rattle.std.specs.Prelude.{◌≡◌, ◌<◌, ◌↔◌, IsTrue, IfSome, length};
 ghost use Rattle.rbac_index.specs.Reaches.{AreAlike};
@@ -6,8 +6,8 @@ ghost use Rattle.rbac_index.specs.Reaches.{AreAlike};
 use crate::numbers::GrantNos;
 use rbac_model::{GrantPlace, Policy, RolePlace};
 
-// An earlier grant by the rule of the grant of this number, by the runs of each row of rules: the
-// first one, so that what is worked out for it serves them all.
+// An earlier grant by the same rule as the grant with this number, found in the runs of each row of
+// rules: the first one, so that what is worked out for it serves them all.
 pub(crate) fn earlier_alike(policy: &Policy, runs: &[GrantNos], no: u32) -> Option<u32>
     requires { no < length policy.now.grants }
     ensures { IfSome result (λ first. (first < no) × AreAlike policy.now first no) }
@@ -26,7 +26,7 @@ pub(crate) fn earlier_alike(policy: &Policy, runs: &[GrantNos], no: u32) -> Opti
     }
 }
 
-// Whether the grants of these places are by one rule.
+// Whether the grants with these places are by the same rule.
 fn is_same_rule(a: GrantPlace, b: GrantPlace) -> bool
     ensures { IsTrue result ↔ ((a.role ≡ b.role) × (a.rule ≡ b.rule)) }
 {

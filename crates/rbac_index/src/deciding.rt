@@ -11,8 +11,8 @@ use crate::live_bindings::{cluster_wide, live_role_bindings};
 use rbac_model::{Policy, SourceRole};
 use rbac_terms::{Binding, Principal, Target, Word, names, rule_allows};
 
-/// Why a request is allowed: the first grant that allows it, by its binding and by where its rule
-/// is written, and the first subject of the binding that names who asks.
+/// Why a request is allowed: the first grant that allows it, as its binding and where its rule is
+/// written, and the first subject of the binding that names who asks.
 #[derive(Clone, Copy)]
 pub struct Why<'p> {
     /// The binding that grants.
@@ -21,7 +21,7 @@ pub struct Why<'p> {
     pub source: SourceRole<'p>,
     /// The place of the rule in that role, from 0.
     pub rule_place: usize,
-    /// The place among the binding's subjects of the first that names who asks, from 0.
+    /// The place, among the binding's subjects, of the first one that names who asks, from 0.
     pub subject_place: usize,
 }
 
@@ -48,7 +48,8 @@ pub(crate) fn binding_at<'p>(policy: &'p Policy, place: usize) -> &'p Binding
     &bindings[place]
 }
 
-// The first grant of the binding at this place whose rule allows this.
+// The number of the first grant of the binding at this place whose rule allows the verb on the
+// target.
 fn first_allowing(policy: &Policy, place: usize, verb: &Word, target: &Target) -> Option<u32>
     ensures { MatchOption result
         (NoneAllowing policy.now verb.now target.now place)
@@ -63,7 +64,7 @@ fn first_allowing(policy: &Policy, place: usize, verb: &Word, target: &Target) -
     None
 }
 
-// Why the binding at this place grants, live or not.
+// Why the binding at this place grants, whether or not it is live.
 fn by_binding<'p>(
     policy: &'p Policy,
     place: usize,
@@ -93,7 +94,7 @@ fn by_binding<'p>(
     })
 }
 
-// Why the first of the bindings at these places that grants does so, live or not.
+// Why the first binding at these places that grants does so, whether or not it is live.
 pub(crate) fn first_among<'p>(
     policy: &'p Policy,
     from: usize,
@@ -115,9 +116,10 @@ pub(crate) fn first_among<'p>(
     None
 }
 
-/// Why the principal may use the verb on the target in this namespace; none where it may not (Using
-/// RBAC Authorization). It is the first grant that allows, in order of bindings and of their rules
-/// (own). Looks at the bindings that are live there alone, needs no index, and takes no memory.
+/// Why the principal may use the verb on the target in this namespace; `None` if it may not (Using
+/// RBAC Authorization). The answer is the first grant that allows the request, in order of
+/// bindings, then of their rules (own). Looks only at the bindings that are live there, needs no
+/// index, and doesn't allocate.
 pub fn why_allowed<'p>(
     policy: &'p Policy,
     principal: &Principal,

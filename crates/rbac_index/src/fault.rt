@@ -1,14 +1,14 @@
-//! Why a call of this crate is refused.
+//! Why a call into this crate fails.
 
 ghost use Rattle.std.specs.Prelude.{◌≡◌};
 
 use std::alloc::{AllocError, AllocFailed};
 use thiserror::Error;
 
-/// Why an index can't be made or asked.
+/// Why an index can't be built or queried.
 #[derive(Debug, Drop, Clone, Copy, PartialEq, Eq, Error)]
 pub enum IndexFault {
-    /// X1: memory was refused.
+    /// X1: out of memory.
     #[error("out of memory")]
     NoMemory,
 }

@@ -1,4 +1,4 @@
-//! Who holds a verb on a target, each once.
+//! The holders of a verb on a target, each once.
 
 ghost use Rattle.std.specs.Prelude.{◌≡◌, ◌<◌, ◌+◌, [], OnOk, slice_get, Some, length};
 ghost use Rattle.rbac_terms.specs.Text.{Text};
@@ -21,24 +21,26 @@ struct Seen<'p> {
     subject_place: usize,
 }
 
-/// A holder: a principal's key, and the first binding and subject by which it holds.
+/// A holder: a principal's key, and the first binding and subject through which it holds the
+/// permission.
 #[derive(Clone, Copy)]
 pub struct Holder<'a> {
     /// The principal's key: `u:` and a user's name, or `g:` and a group's (own).
     pub principal: &'a Word,
-    /// The first binding by which it holds.
+    /// The first binding through which it holds the permission.
     pub binding: &'a Binding,
     /// The place of that binding among the bindings, from 0.
     pub binding_place: usize,
-    /// The place of the first subject there with the key, from 0.
+    /// The place, in that binding, of the first subject with the key, from 0.
     pub subject_place: usize,
 }
 
-/// Holders, each once, in order of the bindings and subjects by which they hold.
+/// Holders, each once, in order of the first binding and subject through which each holds the
+/// permission.
 #[derive(Drop)]
 pub struct Holders<'p> {
     seen: Vec<Seen<'p>>,
-    // Their keys, found by their order: a hash could be aimed at by whoever writes the export.
+    // Their keys, in an ordered set: the author of an export could force collisions in a hash set.
     keys: BTreeSet<Word>,
 }
 
@@ -58,7 +60,7 @@ impl<'p> Model for Holders<'p> {
 impl<'p> Holders<'p> {
     ghost use Rattle.rbac_index.specs.HolderViews.{holder_of, holder_shown};
 
-    // No holders, which takes no memory.
+    // No holders. Doesn't allocate.
     pub(crate) fn new(alloc: Global) -> Self
         ensures { result ≡ [] }
     {
@@ -89,11 +91,11 @@ impl<'p> Holders<'p> {
         }
     }
 
-    // Puts a holder behind the others, unless its key is among theirs.
+    // Adds a holder after the others, unless its key is among theirs.
     fn see(&mut self, alloc: Global, seen: Seen<'p>) -> Result<(), AllocError>
         ensures { OnOk result (IsSeenMore self.old self.new (holder_of seen.entry)) }
     {
-        // Room first, so that a key is among the keys only where its holder is listed.
+        // Reserves room first, so that a key is among the keys only if its holder is listed.
         self.seen.reserve(1)?;
         let key = Word::from_slice(alloc, seen.key.as_bytes())?;
         if self.keys.insert(key)? {
@@ -102,7 +104,8 @@ impl<'p> Holders<'p> {
         Ok(())
     }
 
-    // Sees the subjects of this binding, which stands at that place, if it is live.
+    // Adds the new holders among the subjects of this binding, which is at `place`, if the binding
+    // is live.
     pub(crate) fn see_binding(
         &mut self,
         alloc: Global,
@@ -119,7 +122,7 @@ impl<'p> Holders<'p> {
         Ok(())
     }
 
-    // Sees the subjects of this binding, which stands at that place.
+    // Adds the new holders among the subjects of this binding, which is at `binding_place`.
     fn see_subjects(
         &mut self,
         alloc: Global,

@@ -28,14 +28,14 @@ use std::alloc::{AllocError, Global};
 use std::marker::Model;
 
 /// The rules of a policy's roles, each listed once under the words of its resources, and the runs
-/// of grants by each role's rules. A question looks at the rules that may match alone, and at the
-/// bindings that may be live.
+/// of grants by each role's rules. A question looks only at rules that may match and at bindings
+/// that may be live.
 #[derive(Drop)]
 pub struct Index<'p> {
     policy: &'p Policy,
     rules: Vec<Written<'p>>,
     listing: Listing,
-    // Where the runs of grants begin that each row of rules brings.
+    // Where the runs of grants by each row of rules begin.
     runs: Vec<GrantNos>,
     named: Vec<Keyed>,
 }
@@ -53,7 +53,7 @@ impl<'p> Model for Index<'p> {
 }
 
 impl<'p> Index<'p> {
-    /// The index of this policy. X1 NoMemory where memory is refused.
+    /// The index of this policy. X1 NoMemory if it runs out of memory.
     pub fn build(alloc: Global, policy: &'p Policy) -> Result<Self, IndexFault>
         ensures { IfOk result (λ i. i ≡ policy.now) }
     {
@@ -85,7 +85,7 @@ impl<'p> Index<'p> {
         self.policy.len()
     }
 
-    /// The grant of this number, from 0.
+    /// The grant with this number, from 0.
     pub fn grant(&self, no: u32) -> Grant<'p>
         requires { no < length self.now.grants }
         ensures grant { slice_get self.now.grants no ≡ Some (grant_of result) }
@@ -95,7 +95,7 @@ impl<'p> Index<'p> {
         policy.grant(no)
     }
 
-    // An earlier grant by the rule of the grant of this number, where one is known.
+    // An earlier grant by the same rule as the grant with this number, if one is known.
     pub(crate) fn earlier_alike(&self, no: u32) -> Option<u32>
         requires { no < length self.now.grants }
         ensures { IfSome result (λ first. (first < no) × AreAlike self.now first no) }
@@ -103,8 +103,8 @@ impl<'p> Index<'p> {
         earlier_alike(self.policy, self.runs.as_slice(), no)
     }
 
-    /// The numbers of the grants whose rule allows the verb on the target, ascending; where
-    /// bindings are live and whom they name is left aside. X1 NoMemory where memory is refused.
+    /// The numbers, ascending, of the grants whose rule allows the verb on the target, regardless
+    /// of where their bindings are live and whom they name. X1 NoMemory if it runs out of memory.
     pub fn candidates(
         &self,
         alloc: Global,
@@ -125,7 +125,7 @@ impl<'p> Index<'p> {
     }
 
     /// Why the principal may use the verb on the target in this namespace, as [`why_allowed`]
-    /// answers for the policy. Takes no memory.
+    /// answers it for the policy. Doesn't allocate.
     pub fn can_i(
         &self,
         principal: &Principal,
@@ -142,7 +142,7 @@ impl<'p> Index<'p> {
         why_allowed(policy, principal, namespace, verb, target)
     }
 
-    /// Whether some grant is of a binding that names the principal. Takes no memory.
+    /// Whether some grant belongs to a binding that names the principal. Doesn't allocate.
     pub fn has_grants(&self, principal: &Principal) -> bool
         ensures { IsTrue result ↔ ((number : ℕ) × IsNamedBy self.now principal.now number) }
     {
@@ -155,8 +155,8 @@ impl<'p> Index<'p> {
     }
 
     /// The next grants, from this number on, of bindings that name the principal and are live in
-    /// this namespace for some target: a run of numbers, from the first up to the second. None
-    /// where no such grants are left. Takes no memory.
+    /// this namespace for some target: a run of numbers, from the first up to the second. `None` if
+    /// there are no more of them. Doesn't allocate.
     pub fn next_run(&self, principal: &Principal, namespace: &Word, from: u32) -> Option<(u32, u32)>
         ensures { MatchOption result
             ((number : ℕ) → from ≤ number → ¬ IsBoundTo self.now principal.now namespace.now number)
@@ -175,8 +175,9 @@ impl<'p> Index<'p> {
     }
 
     /// Who may use the verb on the target in this namespace: each holder once, in order of the
-    /// bindings and subjects by which they hold (own). A service account without a namespace holds
-    /// nothing by a ClusterRoleBinding. X1 NoMemory where memory is refused.
+    /// first binding and subject through which each holds the permission (own). A service account
+    /// without a namespace holds nothing through a ClusterRoleBinding. X1 NoMemory if it runs out
+    /// of memory.
     pub fn who_can(
         &self,
         alloc: Global,
@@ -204,7 +205,7 @@ impl<'p> Index<'p> {
     }
 }
 
-// The numbers of the grants by those of these rules that allow the verb on the target.
+// The numbers of the grants by those rules at these places that allow the verb on the target.
 fn allowed_by(
     alloc: Global,
     rules: &[Written<'_>],
@@ -222,7 +223,8 @@ fn allowed_by(
     Ok(merged(alloc, lists)?)
 }
 
-// The grants by each of these rules that allows the verb on the target.
+// The numbers of the grants by each rule at these places that allows the verb on the target, rule
+// by rule.
 fn allowing<'a>(
     alloc: Global,
     rules: &[Written<'_>],

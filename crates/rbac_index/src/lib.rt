@@ -1,5 +1,5 @@
-//! An index over a policy: which grants allow a verb on a target, whether someone may do it and
-//! why, and who may. Contracts here speak of the policy alone; the index only makes it fast.
+//! An index over a policy: which grants allow a verb on a target, whether a principal may use it
+//! and why, and who may. The contracts here speak only of the policy; the index only makes it fast.
 #![tactic(auto)]
 
 mod alike;

@@ -27,7 +27,7 @@ impl Model for RuleNos {
 }
 
 impl RuleNos {
-    // No numbers, which takes no memory.
+    // No numbers. Doesn't allocate.
     pub(crate) fn new(alloc: Global) -> Self
         ensures { result ≡ [] }
     {
@@ -43,7 +43,7 @@ impl RuleNos {
         self.items.as_slice()
     }
 
-    // Puts a number at the end.
+    // Adds a number at the end.
     fn push(&mut self, no: usize) -> Result<(), AllocError>
         ensures { OnOk result (self.new ≡ self.old ++ no ∷ []) }
     {
@@ -52,7 +52,7 @@ impl RuleNos {
     }
 }
 
-// The numbers of rules, under each word of their resources, and of those with URLs.
+// The numbers of the rules under each of their resource words, and of the rules with URLs.
 #[derive(Drop)]
 pub(crate) struct Listing {
     pub(crate) by_word: BTreeMap<Word, RuleNos>,
@@ -73,7 +73,7 @@ pub(crate) fn listing_of(alloc: Global, rules: &[Written<'_>]) -> Result<Listing
     Ok(listing)
 }
 
-// Lists one rule under its words, and among those with URLs if it has some.
+// Lists one rule under its resource words, and among the rules with URLs if it has any.
 fn list_rule(alloc: Global, listing: &mut Listing, rule: &Rule, no: usize) -> Result<(), AllocError>
     ensures { OnOk result (ListsRule listing.old listing.new rule.now no) }
 {
@@ -130,7 +130,7 @@ fn under<'a>(lists: &'a BTreeMap<Word, RuleNos>, word: &Word) -> &'a [usize]
     }
 }
 
-// The word for each resource with the subresource of this text, if it has one.
+// The word for every resource that has this text's subresource, if the text has one.
 fn subresource_word(alloc: Global, text: &Word) -> Result<Option<Word>, AllocError>
     ensures { IfOk result (λ o. MatchOption o
         ((s : Text) → s ≢ [] → ¬ FollowsFirstSlash text.now s)

@@ -1,4 +1,4 @@
-//! Where the live bindings stand.
+//! Where the live bindings are.
 
 ghost use Rattle.std.specs.Prelude.{◌≡◌, ◌<◌, ◌≤◌, ◌↔◌, ℕ, Some, None, IsTrue, length, slice_get};
 ghost use Rattle.rbac_terms.specs.declared.granting.Binding.{Binding};
@@ -11,7 +11,7 @@ ghost use Rattle.rbac_index.specs.Living.{namespace_cmp, IsLiveRoleBinding};
 use rbac_terms::{Binding, Target, Word};
 use std::cmp::Ordering;
 
-// How many ClusterRoleBindings there are, which stand first.
+// How many ClusterRoleBindings there are; they come first.
 pub(crate) fn cluster_wide(bindings: &[Binding]) -> usize
     requires { IsAscendingBy binding_name bindings.now }
     ensures within { result ≤ length bindings.now }
@@ -20,7 +20,7 @@ pub(crate) fn cluster_wide(bindings: &[Binding]) -> usize
     bindings.partition_point(|binding| binding.namespace.is_none())
 }
 
-// Where the RoleBindings of this namespace stand: from the first place, up to the second.
+// The places of the RoleBindings of this namespace: from the first up to the second.
 fn of_namespace(bindings: &[Binding], namespace: &Word) -> (usize, usize)
     requires { IsAscendingBy binding_name bindings.now }
     ensures within { result.1 ≤ length bindings.now }
@@ -32,7 +32,8 @@ fn of_namespace(bindings: &[Binding], namespace: &Word) -> (usize, usize)
     )
 }
 
-// How the binding's namespace stands to this one; a ClusterRoleBinding stands before each.
+// How the binding's namespace compares to this one; a ClusterRoleBinding comes before every
+// namespace.
 fn cmp_namespace(binding: &Binding, namespace: &Word) -> Ordering
     ensures { result ≡ namespace_cmp binding.now.namespace namespace.now }
 {
@@ -42,7 +43,8 @@ fn cmp_namespace(binding: &Binding, namespace: &Word) -> Ordering
     }
 }
 
-// Where the RoleBindings stand that are live for this target in this namespace.
+// The places of the RoleBindings that are live for this target in this namespace: from the first up
+// to the second.
 pub(crate) fn live_role_bindings(
     bindings: &[Binding],
     namespace: &Word,
@@ -58,8 +60,8 @@ pub(crate) fn live_role_bindings(
     of_namespace(bindings, namespace)
 }
 
-// Where bindings are live for some target: so many stand first, which are ClusterRoleBindings, and
-// the RoleBindings of a namespace stand from one place up to another.
+// Where bindings are live for some target: the first `cluster_wide` bindings, and those of a
+// namespace, from place `from` up to place `to`.
 #[derive(Clone, Copy)]
 pub(crate) struct Live {
     pub(crate) cluster_wide: usize,

@@ -13,7 +13,7 @@ use crate::stems::{is_between, run_end};
 use rbac_terms::{Rule, Target, Word, group_matches, resource_matches, target_matches};
 use std::alloc::{AllocError, Global};
 
-// The places of the targets that the rule matches, by where the targets' stems end.
+// The places of the targets that the rule matches, given where the targets' stems end.
 pub(crate) fn matched(
     alloc: Global,
     rule: &Rule,
@@ -35,7 +35,7 @@ pub(crate) fn matched(
     Ok(spans)
 }
 
-// Puts the places of one stem that the rule matches behind those of the stems before.
+// Adds the places in one stem that the rule matches, after those in the stems before it.
 fn push_stem(
     spans: &mut Spans,
     rule: &Rule,
@@ -59,7 +59,7 @@ fn push_stem(
     Ok(())
 }
 
-// Puts all of these places, or none of them: the rule is asked about the first.
+// Adds all of these places or none of them: the rule is asked about the first.
 fn push_whole(
     spans: &mut Spans,
     rule: &Rule,
@@ -79,7 +79,7 @@ fn push_whole(
     Ok(())
 }
 
-// Puts those of these places whose targets the rule, which has names, matches: it looks its names
+// Adds those of these places whose targets the rule matches. The rule has names, which are looked
 // up.
 fn push_named(
     spans: &mut Spans,
@@ -107,8 +107,8 @@ fn push_named(
     Ok(())
 }
 
-// A place after this one, which the rule, which has names, doesn't match, up to which it matches
-// nothing: at most that end.
+// A place after `at`, and at most `end`: from `at` up to it, the rule matches nothing. The rule has
+// names, and doesn't match the target at `at`.
 fn after_failure(rule: &Rule, targets: &[Target], at: usize, end: usize) -> usize
     requires within { (at < end) × (end ≤ length targets.now) }
     requires ordered { IsAscendingBy what_texts targets.now }

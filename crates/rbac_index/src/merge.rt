@@ -11,7 +11,7 @@ use itertools::Itertools;
 use std::alloc::{AllocError, Global};
 use std::marker::Model;
 
-// The numbers of the grants at one place of runs, which begin at these numbers.
+// The numbers of the grants at one place in each of the runs that begin at `starts`.
 #[derive(Drop)]
 pub(crate) struct Numbers<'a> {
     pub(crate) starts: &'a [u32],

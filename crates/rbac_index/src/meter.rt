@@ -5,7 +5,7 @@ ghost use Rattle.rbac_index.specs.Reaches.{raised};
 
 use std::marker::Model;
 
-/// How many entries of reaches were read (own). At the last value of a `u128` it stays.
+/// How many entries of reaches were read (own). The count saturates at the largest `u128`.
 #[derive(Debug, Drop)]
 pub struct Meter {
     reads: u128,
@@ -20,14 +20,14 @@ impl Model for Meter {
 }
 
 impl Meter {
-    /// A meter of no reads. Takes no memory.
+    /// A meter with no reads. Doesn't allocate.
     pub fn new() -> Self
         ensures { result ≡ 0 }
     {
         Meter { reads: 0 }
     }
 
-    /// How many entries were read. Takes no memory.
+    /// How many entries were read. Doesn't allocate.
     pub fn count(&self) -> u128
         ensures { result ≡ self.now }
     {

@@ -25,7 +25,7 @@ impl Model for GrantNos {
 }
 
 impl GrantNos {
-    // No numbers, which takes no memory.
+    // No numbers. Doesn't allocate.
     pub(crate) fn new(alloc: Global) -> Self
         ensures { result ≡ [] }
     {
@@ -34,7 +34,7 @@ impl GrantNos {
         }
     }
 
-    // These numbers, each once, where it may stand next to itself. Takes no memory.
+    // These numbers, each once; the repeats among them are adjacent. Doesn't allocate.
     pub(crate) fn from_sorted(mut items: Vec<u32>) -> Self
         requires { IsSorted nat_cmp items.items }
         ensures ascending { IsStrictlyIncreasing result }
@@ -52,7 +52,7 @@ impl GrantNos {
         self.items.as_slice()
     }
 
-    // Puts a greater number at the end.
+    // Adds a number at the end that is greater than all others.
     pub(crate) fn push(&mut self, no: u32) -> Result<(), AllocError>
         requires { All (λ n. n < no) self.old }
         ensures { OnOk result (self.new ≡ self.old ++ no ∷ []) }

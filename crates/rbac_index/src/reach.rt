@@ -1,4 +1,4 @@
-//! Where the targets of a universe stand that the rules of grants match.
+//! The places of a universe's targets that the rules of grants match.
 
 ghost use Rattle.std.specs.Prelude.{◌≡◌, ◌<◌, ◌≤◌, IfOk, length, slice_index};
 ghost use Rattle.std.specs.List.Sorted.{IsStrictlyIncreasing};
@@ -18,8 +18,8 @@ use std::marker::Model;
 use std::rc::Rc;
 
 /// The places, ascending, of the targets of a universe that a grant's rule matches, verbs aside: at
-/// most a million. Neighbours are kept as one run, and reaches of grants by one rule share what
-/// they hold.
+/// most a million. Neighbours are kept as one run, and the reaches of grants by the same rule share
+/// what they hold.
 #[derive(Drop)]
 pub struct Reach {
     places: Rc<Spans>,
@@ -34,7 +34,7 @@ impl Model for Reach {
 }
 
 impl Reach {
-    /// The reach of the grant of this number, from 0. X1 NoMemory where memory is refused.
+    /// The reach of the grant with this number, from 0. X1 NoMemory if it runs out of memory.
     pub fn of(
         alloc: Global,
         index: &Index<'_>,
@@ -48,7 +48,7 @@ impl Reach {
         Self::by_stems(alloc, index, no, universe, stems.as_slice())
     }
 
-    // The reach of a rule, by where the stems of the universe's targets end.
+    // The reach of a grant's rule, given where the stems of the universe's targets end.
     fn by_stems(
         alloc: Global,
         index: &Index<'_>,
@@ -67,7 +67,7 @@ impl Reach {
         })
     }
 
-    // Another holder of this reach's places.
+    // Another reach that shares this one's places.
     fn share(&self) -> Result<Self, AllocError>
         ensures { IfOk result (λ r. r ≡ self.now) }
     {
@@ -76,7 +76,7 @@ impl Reach {
         })
     }
 
-    /// How many places there are. Takes no memory.
+    /// How many places there are. Doesn't allocate.
     pub fn len(&self) -> usize
         ensures len { result ≡ length self.now }
         ensures few { length self.now ≤ most_targets }
@@ -85,8 +85,7 @@ impl Reach {
         self.places.len()
     }
 
-    /// The place that stands at this one among the reach's, from 0. It counts as one read. Takes no
-    /// memory.
+    /// The `i`-th of the reach's places, from 0. Counts as one read. Doesn't allocate.
     pub fn place(&self, i: usize, meter: &mut Meter) -> u32
         requires { i < length self.now }
         ensures place { result ≡ slice_index self.now i }
@@ -97,8 +96,8 @@ impl Reach {
     }
 }
 
-/// The reach of each grant, in order of the grants' numbers. What one rule matches is worked out
-/// once, for all grants by it. X1 NoMemory where memory is refused.
+/// The reach of each grant, in order of the grants' numbers. What a rule matches is worked out
+/// once, for all grants by it. X1 NoMemory if it runs out of memory.
 pub fn reaches_of(
     alloc: Global,
     index: &Index<'_>,
@@ -122,7 +121,7 @@ pub fn reaches_of(
     Ok(reaches)
 }
 
-// The reach of the grant of this number, by those of all grants before it.
+// The reach of the grant with this number, given those of all grants before it.
 fn next_reach(
     alloc: Global,
     index: &Index<'_>,

@@ -30,7 +30,7 @@ fn push_cluster_roles<'p>(objects: &'p Objects, rows: &mut Vec<&'p Rules>) -> Re
     Ok(())
 }
 
-// The row of a role's rules, where there are so many roles.
+// The row of a role's rules, given how many roles there are.
 pub(crate) fn row_at(roles: usize, role: RolePlace) -> usize
     requires { row_of roles role < 2 ^ 64 }
     ensures { result ≡ row_of roles role }

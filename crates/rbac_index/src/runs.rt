@@ -1,5 +1,5 @@
-//! The grants by the rules of each row, in runs. The grants of a binding by the rules of a role
-//! stand together, in order of the rules: so the number at which they begin determines them all.
+//! The grants by the rules of each row, in runs. A binding's grants by the rules of a role have
+//! consecutive numbers, in order of the rules, so the first number determines them all.
 
 ghost use Rattle.std.specs.Prelude.{◌≡◌, ◌<◌, ◌^◌, [], IfOk, length, map, replicate};
 ghost use Rattle.rbac_index.specs.Written.{written_rules};
@@ -11,7 +11,7 @@ use rbac_model::Policy;
 use rbac_terms::Rules;
 use std::alloc::{AllocError, Global};
 
-// The numbers at which the runs of grants by each of these rows begin, which are the rows of the
+// The numbers at which the runs of grants by each of these rows begin; the rows are those of the
 // policy's roles.
 pub(crate) fn runs_by_row(
     alloc: Global,
@@ -33,7 +33,7 @@ pub(crate) fn runs_by_row(
     Ok(runs)
 }
 
-// So many lists without numbers.
+// This many empty lists.
 fn no_runs(alloc: Global, count: usize) -> Result<Vec<GrantNos>, AllocError>
     ensures { IfOk result (λ v. v.items ≡ replicate count []) }
 {

@@ -1,4 +1,4 @@
-//! Ascending places, kept as runs of neighbours: a run costs what one place does.
+//! Ascending places, kept as runs of neighbours: a run costs as much as a single place.
 
 ghost use Rattle.std.specs.Prelude.{◌≡◌, ◌+◌, ◌-◌, ◌<◌, ◌≤◌, ◌++◌, [], OnErr, OnOk, length, slice_index};
 ghost use Rattle.std.specs.List.Sorted.{IsStrictlyIncreasing};
@@ -8,7 +8,7 @@ ghost use Rattle.rbac_model.specs.Universes.{most_targets};
 use std::alloc::{AllocError, Global};
 use std::marker::Model;
 
-// The places from the first up to the second, and how many stand in the runs before.
+// The places from `start` up to `end`; `before` is how many the runs before this one hold.
 #[derive(Clone, Copy)]
 pub(crate) struct Span {
     pub(crate) start: u32,
@@ -35,7 +35,7 @@ impl Model for Spans {
 }
 
 impl Spans {
-    // No places, which takes no memory.
+    // No places. Doesn't allocate.
     pub(crate) fn new(alloc: Global) -> Self
         ensures { result ≡ [] }
     {
@@ -45,8 +45,8 @@ impl Spans {
         }
     }
 
-    // Puts the places from the first up to the second behind the others: they lengthen the last run
-    // where it ends at the first.
+    // Adds the places from `start` up to `end` after the others: they lengthen the last run if it
+    // ends at `start`.
     pub(crate) fn push(&mut self, start: u32, end: u32) -> Result<(), AllocError>
         requires some { start < end }
         requires small { end ≤ most_targets }
@@ -69,7 +69,7 @@ impl Spans {
         self.len as usize
     }
 
-    // The place that stands at this one, from 0.
+    // The `i`-th place, from 0.
     pub(crate) fn get(&self, i: usize) -> u32
         requires { i < length self.now }
         ensures { result ≡ slice_index self.now i }
@@ -78,7 +78,7 @@ impl Spans {
     }
 }
 
-// Puts one more run behind these, or lengthens the last one that ends where it begins.
+// Adds one more run after these, or lengthens the last one if it ends where the new one begins.
 fn put(spans: &mut Vec<Span>, span: Span) -> Result<(), AllocError>
     requires counted { IsCounted 0 spans.old.items span.before }
     requires some { span.start < span.end }
@@ -96,7 +96,7 @@ fn put(spans: &mut Vec<Span>, span: Span) -> Result<(), AllocError>
     Ok(())
 }
 
-// The place that stands at this one of runs of so many places.
+// The `i`-th place, from 0, in runs that hold `len` places in all.
 fn place_in(spans: &[Span], len: u32, i: u32) -> u32
     requires counted { IsCounted 0 spans.now len }
     requires within { i < len }

@@ -1,4 +1,5 @@
-//! The stems of targets: targets stand in order, those of one group and resource text together.
+//! The stems of targets: targets are in order, those with the same API group and resource text
+//! together.
 
 ghost use Rattle.std.specs.Prelude.{◌≡◌, ◌+◌, ◌<◌, ◌≤◌, ◌↔◌, IfOk, IsTrue, length, option_copied};
 ghost use Rattle.rbac_model.specs.Lists.{IsAscendingBy};
@@ -8,7 +9,7 @@ ghost use Rattle.rbac_model.specs.Universes.{most_targets};
 use rbac_terms::{Target, Word};
 use std::alloc::{AllocError, Global};
 
-// Where the stems of the targets end, in order: the last at the targets' count.
+// Where the stems of the targets end, in order: the last at the number of targets.
 pub(crate) fn stems_of(alloc: Global, targets: &[Target]) -> Result<Vec<u32>, AllocError>
     requires few { length targets.now ≤ most_targets }
     requires ordered { IsAscendingBy what_texts targets.now }
@@ -36,7 +37,7 @@ fn stem_end(targets: &[Target], at: usize) -> usize
     }
 }
 
-// Whether a text stands after one, and before another where it is given.
+// Whether the text comes after `after`, and before `before` if that is given.
 pub(crate) fn is_between(text: &Word, after: &Word, before: Option<&Word>) -> bool
     ensures { IsTrue result ↔ IsBetween after.now (option_copied before.entry) text.now }
 {
@@ -46,8 +47,8 @@ pub(crate) fn is_between(text: &Word, after: &Word, before: Option<&Word>) -> bo
     }
 }
 
-// Where those behind the target at this place end that have its group and resource text, and a name
-// before that one where it is given: sought by steps that double, and then halve.
+// The end of the run of targets after the one at this place that have its API group and resource
+// text, and a name before `before` if that is given: found by steps that double, and then halve.
 pub(crate) fn run_end(targets: &[Target], at: usize, before: Option<&Word>) -> usize
     requires within { at < length targets.now }
     requires ordered { IsAscendingBy what_texts targets.now }
@@ -63,7 +64,8 @@ pub(crate) fn run_end(targets: &[Target], at: usize, before: Option<&Word>) -> u
     run_end_within(targets, at, end, step, before)
 }
 
-// As above, where the run is known to reach the one place, and to end within that many behind it.
+// The end of a run, as `run_end` finds it, if the run is known to reach `reached`, and to end
+// within `within` places after it.
 fn run_end_within(
     targets: &[Target],
     at: usize,
@@ -89,8 +91,8 @@ fn run_end_within(
     end
 }
 
-// Whether the run reaches so far: it does where its last target is of it, since targets are in
-// order.
+// Whether the run reaches `end`: it does if the last target before `end` belongs to it, since
+// targets are in order.
 fn is_run(targets: &[Target], at: usize, end: usize, before: Option<&Word>) -> bool
     requires past { at + 1 < end }
     requires ordered { IsAscendingBy what_texts targets.now }
@@ -99,8 +101,8 @@ fn is_run(targets: &[Target], at: usize, end: usize, before: Option<&Word>) -> b
     end <= targets.len() && is_later_of_stem(&targets[at], &targets[end - 1], before)
 }
 
-// Whether the second target has the group and resource text of the first, and a later name, which
-// stands before that one where it is given.
+// Whether the second target has the API group and resource text of the first, and a later name,
+// which comes before `before` if that is given.
 fn is_later_of_stem(first: &Target, second: &Target, before: Option<&Word>) -> bool
     ensures { IsTrue result ↔ IsLaterOfStem (option_copied before.entry) first.now second.now }
 {

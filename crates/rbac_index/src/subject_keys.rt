@@ -1,4 +1,4 @@
-//! The bindings under the keys of their subjects, in a sorted list: so that the bindings that name
+//! The bindings under the keys of their subjects, in a sorted list, so that the bindings that name
 //! a principal are found by its keys, and no export can make a look-up slow.
 
 ghost use Rattle.std.specs.Prelude.{◌≡◌, ◌≤◌, ◌++◌, ℕ, IfOk, OnOk, Contains};
@@ -15,13 +15,13 @@ use rbac_terms::{Binding, Principal, Word, subject_key};
 use std::alloc::{AllocError, Global};
 use std::cmp::Ordering;
 
-// What the key of a member of a group begins with.
+// The prefix of the key of a group's members.
 const MEMBER: &[u8] = b"g:";
 
 // The key of the members of the group of all service accounts.
 const ACCOUNTS: &[u8] = b"g:system:serviceaccounts";
 
-// What the key of the members of the group of a namespace's service accounts begins with.
+// The prefix of the key of the members of the group of a namespace's service accounts.
 const ACCOUNTS_OF: &[u8] = b"g:system:serviceaccounts:";
 
 // The key of a subject, and the place of a binding that has it.
@@ -69,7 +69,7 @@ fn cmp_keyed(a: &Keyed, b: &Keyed) -> Ordering
     a.key.cmp(&b.key).then(a.place.cmp(&b.place))
 }
 
-// How the text stands to one in two parts.
+// How the text compares to one made of two parts.
 fn cmp_joined(text: &[u8], prefix: &[u8], rest: &[u8]) -> Ordering
     ensures { result ≡ text_cmp text.now (prefix.now ++ rest.now) }
 {
@@ -77,7 +77,7 @@ fn cmp_joined(text: &[u8], prefix: &[u8], rest: &[u8]) -> Ordering
     head.cmp(prefix).then(tail.cmp(rest))
 }
 
-// Whether the entry stands before one of this key and place.
+// Whether the entry comes before one with this key and place.
 fn is_before(entry: &Keyed, prefix: &[u8], rest: &[u8], place: usize) -> bool
     ensures { result ≡ is_lt (keyed_cmp entry.now (keyed (prefix.now ++ rest.now) place)) }
 {
@@ -85,7 +85,7 @@ fn is_before(entry: &Keyed, prefix: &[u8], rest: &[u8], place: usize) -> bool
     by_key.then(entry.place.cmp(&place)).is_lt()
 }
 
-// The first place from this one on that is listed under the key of these two parts.
+// The first place from `from` on that is listed under the key made of these two parts.
 fn next_under(entries: &[Keyed], prefix: &[u8], rest: &[u8], from: usize) -> Option<usize>
     requires { IsSorted keyed_cmp entries.now }
     ensures { AnswersNext (λ place. Contains entries.now (keyed (prefix.now ++ rest.now) place)) from result }
@@ -119,14 +119,14 @@ fn next_live(
     if live.has(first) {
         return Some(first);
     }
-    // No ClusterRoleBinding is left, and no RoleBinding of the namespace stands earlier.
+    // No ClusterRoleBinding is left, and no RoleBinding of the namespace comes earlier.
     let Some(next) = next_under(entries, prefix, rest, first.max(live.from)) else {
         return None;
     };
     if next < live.to { Some(next) } else { None }
 }
 
-// The lesser place.
+// The lesser of the places that are given; `None` if neither is.
 fn sooner(a: Option<usize>, b: Option<usize>) -> Option<usize>
     ensures { result ≡ sooner_of a b }
 {
@@ -137,7 +137,7 @@ fn sooner(a: Option<usize>, b: Option<usize>) -> Option<usize>
     }
 }
 
-// The next place from `from` on under the key of a group that is given.
+// The next place from `from` on under the key of a group that the principal was given.
 fn next_given(entries: &[Keyed], principal: &Principal, live: Live, from: usize) -> Option<usize>
     requires { IsSorted keyed_cmp entries.now }
     ensures { AnswersNext (IsLiveUnderAny entries.now live (IsGivenKey (given_of principal.now))) from result }

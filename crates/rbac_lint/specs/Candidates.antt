@@ -14,7 +14,7 @@ use Rattle.rbac_lint.specs.declared.listing.Field.TheVariants.{Verbs, Groups, Re
 use Rattle.rbac_lint.specs.declared.listing.Listing.{Listing}
 use Rattle.rbac_lint.specs.declared.candidates.Candidates.{Candidates}
 
--- whatever covers the rule allows its words in that list; no prefix is asked for
+-- every rule that covers this one allows its words in that list; no prefix is asked for
 abbrev pub Binds : Field → Rule → Type 0
 Binds Verbs b = HasResource b ⊎ HasUrl b
 Binds Groups b = HasResource b
@@ -23,19 +23,19 @@ Binds Names b = HasResource b
 Binds Urls b = HasUrl b
 Binds Prefixes b = ⊥
 
--- the word gives a target, where it is one of a target's
+-- the word gives a target, if it is a resource word or a URL word
 abbrev pub IsAsked : Field → Text → Type 0
 IsAsked Resources w = IsResourceText w
 IsAsked Urls w = IsPath w
 IsAsked field w = Unit {0}
 
--- a place is listed under a word that matches this one: it is `*`, the word itself, or `*/` and what follows the word's first slash; for a URL it is the word, or a prefix of it
+-- a place is listed under a word that matches this one: `*`, the word itself, or `*/` and what follows the word's first slash; for a URL, the word or a prefix of it
 abbrev pub IsFound : Field → Listing → Text → ℕ → Type 0
 IsFound Urls l w n = Contains (listed l.urls w) n
     ⊎ ((j : ℕ) × (f : Prefix) × (slice_get l.prefixes.items j ≡ Some f) × BeginsWith w f.text × (¬ EndsInStar f.text) × Contains f.places n)
 IsFound field l w n = (u : Text) × ResourceWordMatches u w × Contains (listed (lists_in field l) u) n
 
--- a place stands in one of these lists
+-- the place is in one of these lists
 abbrev pub StandsIn : List (Bor (List ℕ)) → ℕ → Type 0
 StandsIn lists n = Any (λ places. Contains places.now n) lists
 
@@ -45,7 +45,7 @@ IsAmong c n = StandsIn c.lists.items n
 abbrev pub Ascend : Candidates → Type 0
 Ascend c = All (λ places. IsAscending places.now) c.lists.items
 
--- each place that is to be found is among them
+-- each place that is to be found is among the candidates
 abbrev pub Finds : Field → Listing → Text → Candidates → Type 0
 Finds field l w c = Ascend c × ((n : ℕ) → IsFound field l w n → IsAmong c n)
 
@@ -55,13 +55,13 @@ pub record AddsUnder (m : Lists) (P : Text → Type 0) (old new : Candidates) : 
   pub has : (u : Text) (n : ℕ) → P u → Contains (listed m u) n → IsAmong new n
   pub ascending : AreAscending m → Ascend old → Ascend new
 
--- new has old's places, and those of the prefixes with which the text begins
+-- new has old's places, and those of the prefixes that the text begins with
 pub record AddsPrefixes (prefixes : List Prefix) (text : Text) (old new : Candidates) : Type 0 where
   pub kept : (n : ℕ) → IsAmong old n → IsAmong new n
   pub has : (j : ℕ) (f : Prefix) (n : ℕ) → slice_get prefixes j ≡ Some f → BeginsWith text f.text → Contains f.places n → IsAmong new n
   pub ascending : All (λ f. IsAscending f.places) prefixes → Ascend old → Ascend new
 
--- the words that match this one: each resource's with its subresource
+-- u is the word for every resource that has w's subresource
 abbrev pub IsOfEach : Text → Text → Type 0
 IsOfEach w u = (s : Text) × (u ≡ codes "*/" ++ s) × FollowsFirstSlash w s
 
@@ -73,7 +73,7 @@ AreMatching m w c = (AreAscending m → Ascend c) × ((u : Text) (n : ℕ) → R
 abbrev pub CoversAt : List Rule → Rule → ℕ → Type 0
 CoversAt rules b n = (a : Rule) × (slice_get rules n ≡ Some a) × Covers a b
 
--- each rule that covers this one stands at one of these places
+-- each rule that covers this one is at one of these places
 unfoldable pub AreCandidates : List Rule → Rule → Candidates → Type 0
 AreCandidates rules b c = Ascend c × ((n : ℕ) → CoversAt rules b n → IsAmong c n)
 
@@ -89,7 +89,7 @@ IsLeastCoverIfAny rules i o = AnswersLeast (MakesRedundant rules i) o
 abbrev pub IsRedundantBy : List Rule → ℕ → List ℕ → ℕ → Type 0
 IsRedundantBy rules place places n = MakesRedundant rules place n × Contains places n
 
--- the least such place, if it is below the limit, or else the limit
+-- the least place of the list whose rule makes the one at a place redundant, if it is below the limit, and otherwise the limit
 pub record IsSoonest (rules : List Rule) (place : ℕ) (places : List ℕ) (limit n : ℕ) : Type 0 where
   pub below : n ≤ limit
   pub holds : (n ≡ limit) ⊎ MakesRedundant rules place n

@@ -1,4 +1,4 @@
--- When a rule covers another: it allows whatever the other one does. What is asked for that is finite, the other's samples.
+-- When a rule covers another: it allows everything that the other one does. What has to be asked to decide that is finite: the other's samples.
 use Rattle.std.specs.Prelude.{◌≡◌, ◌≢◌, ℕ, ◌+◌, ◌<◌, ◌⊎◌, List, [], ◌∷◌, ◌++◌, All, Any, Contains, length, replicate, codes}
 use Rattle.rbac_terms.specs.declared.matching.Rule.{Rule}
 use Rattle.rbac_terms.specs.Text.{Text, star, BeginsWith}
@@ -12,12 +12,12 @@ IsResourceText text = (text ≢ []) × (¬ BeginsWith text (codes "/"))
 abbrev pub IsPath : Text → Type 0
 IsPath path = BeginsWith path (codes "/")
 
--- what stands before the star of a URL sample: the word without its stars, or `/`
+-- what comes before the star of a URL sample: the word without its stars, or `/` if nothing is left
 abbrev pub sample_prefix : Text → Text
 sample_prefix [] = codes "/"
 sample_prefix (c ∷ q) = c ∷ q
 
--- a URL word taken as a text: itself, or with one star where it ends in stars; `/*` where it is but stars (own)
+-- a URL word taken as a text: itself, or with only one star if it ends in stars; `/*` if it is nothing but stars (own)
 abbrev pub IsUrlSample : Text → Text → Type 0
 IsUrlSample w x = ((¬ EndsInStar w) × (x ≡ w))
     ⊎ ((q : Text) × (k : ℕ) × (w ≡ q ++ replicate (k + 1) star) × (¬ EndsInStar q) × (x ≡ sample_prefix q ++ star ∷ []))
@@ -26,7 +26,7 @@ IsUrlSample w x = ((¬ EndsInStar w) × (x ≡ w))
 abbrev pub IsLongerThanAll : Text → List Text → Type 0
 IsLongerThanAll n names = All (λ m. length m < length n) names
 
--- a name of b, or where b has none, one longer than all of a's
+-- a name of b or, if b has none, a name longer than all of a's
 abbrev pub IsNameSample : List Text → List Text → Text → Type 0
 IsNameSample mine theirs n = Contains theirs n ⊎ ((theirs ≡ []) × IsLongerThanAll n mine)
 
@@ -42,7 +42,7 @@ AllowsSamples a b = (v : Text) (t : What) → IsSample a b v t → RuleAllows a 
 
 -- ---- covering, list by list
 
--- a allows this word of b, taken as a text; a resource word only where it is a resource text, a URL word only where its sample is a path
+-- a allows this word of b, taken as a text; a resource word has to be allowed only if it is a resource text, a URL word only if its sample is a path
 unfoldable pub AllowsVerb : Rule → Text → Type 0
 AllowsVerb a v = VerbOk a v
 
@@ -58,7 +58,7 @@ AllowsName a n = NameMatches a.resource_names n
 unfoldable pub AllowsUrl : Rule → Text → Type 0
 AllowsUrl a w = (x : Text) → IsUrlSample w x → IsPath x → Any (λ u. UrlWordMatches u x) a.urls
 
--- a allows each such word of b; where b has no names, a has none
+-- a allows each of these words of b; if b has no names, a has none
 unfoldable pub AllowsVerbs : Rule → Rule → Type 0
 AllowsVerbs a b = All (AllowsVerb a) b.verbs
 
@@ -74,15 +74,15 @@ AllowsNames a b = (b.resource_names ≡ [] → a.resource_names ≡ []) × All (
 unfoldable pub AllowsUrls : Rule → Rule → Type 0
 AllowsUrls a b = All (AllowsUrl a) b.urls
 
--- of a URL word there is a sample that is a path
+-- the URL word has a sample that is a path
 unfoldable pub GivesPath : Text → Type 0
 GivesPath w = (x : Text) × IsUrlSample w x × IsPath x
 
--- a word matches `/*`, and so each path
+-- the word matches `/*`, and so every path
 unfoldable pub MatchesEachPath : Text → Type 0
 MatchesEachPath w = UrlWordMatches w (codes "/*")
 
--- but stars, and one at least
+-- nothing but stars, and at least one
 abbrev pub IsStars : Text → Type 0
 IsStars t = (t ≢ []) × All (λ b. b ≡ star) t
 
@@ -93,7 +93,7 @@ HasResource b = (b.verbs ≢ []) × (b.groups ≢ []) × Any IsResourceText b.re
 unfoldable pub HasUrl : Rule → Type 0
 HasUrl b = (b.verbs ≢ []) × Any GivesPath b.urls
 
--- a allows these, list by list
+-- a allows these samples, list by list, if b has any
 abbrev pub CoversResources : Rule → Rule → Type 0
 CoversResources a b = HasResource b → AllowsResources a b × AllowsVerbs a b × AllowsGroups a b × AllowsNames a b
 

@@ -16,14 +16,14 @@ use Rattle.rbac_lint.specs.Replaced.{IsReplaced}
 use Rattle.rbac_model.specs.Places.{rules_of}
 use Rattle.rbac_lint.specs.Roles.{roles_in, IsPlainRole, source_object, binding_object, named_object}
 
--- a line of a role, and of a binding
+-- a line about a role, and one about a binding
 abbrev pub role_line : ℕ → Source → Option ℕ → Text → Line
 role_line code s place other = record { code = code; object = source_object s; place = place; other = other }
 
 abbrev pub binding_line : ℕ → Binding → Option ℕ → Text → Line
 binding_line code b place other = record { code = code; object = binding_object b; place = place; other = other }
 
--- L1: the binding's role isn't among the objects (Using RBAC Authorization, RoleBinding and ClusterRoleBinding); the role that it names is given
+-- L1: the binding's role isn't among the objects (Using RBAC Authorization, RoleBinding and ClusterRoleBinding); the line gives the role that it names
 abbrev pub Dangles : Held → Binding → Type 0
 Dangles h b = (s : Source) → ¬ IsRefTo h b.namespace b.role s
 
@@ -47,7 +47,7 @@ IsUnusedOf h s x = (¬ IsUsed h s) × (x ≡ role_line 2 s None [])
 abbrev pub IsUnused : Held → Line → Type 0
 IsUnused h = OfEach (λ k s. IsUnusedOf h s) (roles_in h)
 
--- L3: another rule of the role covers the rule, and stands before it or isn't covered by it; the least such rule is given, counted from 1 (own)
+-- L3: another rule of the role covers the rule, and comes before it or isn't covered by it; the line gives the first rule that does, counted from 1 (own)
 unfoldable pub CoversAll : Rule → Rule → Type 0
 CoversAll a b = Covers a b
 
@@ -118,7 +118,7 @@ IsStaleOf h r x = IsStaleRole h r × (x ≡ role_line 6 (InClusterRole r) None [
 abbrev pub IsStale : Held → Line → Type 0
 IsStale h = OfEach (λ k r. IsStaleOf h r) h.cluster_roles
 
--- all that lint finds, L7 among it: an object was given by several documents
+-- everything that lint finds, including L7: an object was given by several documents
 abbrev pub IsFinding : Held → List Replaced → Line → Type 0
 IsFinding h rs x =
     IsDangling h x ⊎ (IsUnused h x ⊎ (IsRedundant h x ⊎ (IsEscalation h x ⊎ (IsAccountWithout h x ⊎ (IsStale h x ⊎ IsReplaced rs x)))))

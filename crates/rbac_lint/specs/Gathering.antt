@@ -1,4 +1,4 @@
--- While stale aggregates are looked for: the rules that an aggregated role gathers.
+-- The rules that an aggregated role gathers, for finding stale aggregates.
 use Rattle.std.specs.Prelude.{◌≡◌, ℕ, ◌<◌, ◌↔◌, List, Some, Contains, map, slice_get}
 use Rattle.std.proofs.Common.{Bor}
 use Rattle.rbac_terms.specs.declared.matching.Rule.{Rule}
@@ -6,7 +6,7 @@ use Rattle.rbac_terms.specs.declared.granting.ClusterRole.{ClusterRole}
 use Rattle.rbac_model.specs.Places.{IsReachedAt}
 use Rattle.rbac_model.specs.Policies.{Held, IsPlain}
 
--- the rules that references show
+-- the rules that these references point to
 abbrev pub rules_at : List (Bor Rule) → List Rule
 rules_at rules = map (λ x. x.now) rules
 

@@ -5,7 +5,7 @@ use Rattle.std.specs.Cmp.Lexicographic.{slice_cmp}
 use Rattle.rbac_terms.specs.Text.{Text, text_cmp}
 use Rattle.rbac_lint.specs.declared.finding.Finding.{Finding}
 
--- an object by its kind, its namespace (none of a cluster-scoped object) and its name
+-- an object by its kind, its namespace (none for a cluster-scoped object) and its name
 pub record ObjectName : Type 0 where
   pub kind : Text
   pub namespace : Option Text
@@ -19,14 +19,14 @@ scope_text (Some namespace) = namespace ++ codes "/"
 abbrev pub object_text : ObjectName → Text
 object_text o = o.kind ++ codes "/" ++ scope_text o.namespace ++ o.name
 
--- one line: its code, its object, a place in it counted from 0, and what else
+-- one line: its code, its object, a place in the object counted from 0, and more about it
 pub record Line : Type 0 where
   pub code : ℕ
   pub object : ObjectName
   pub place : Option ℕ
   pub other : Text
 
--- what the program holds of a line
+-- a line as the program holds it
 abbrev pub shown : Line → Finding
 shown x = record { code = x.code; object = object_text x.object; place = x.place; other = x.other }
 
@@ -34,12 +34,12 @@ shown x = record { code = x.code; object = object_text x.object; place = x.place
 abbrev pub object_texts : ObjectName → List Text
 object_texts o = o.kind ∷ unwrap_or o.namespace [] ∷ o.name ∷ []
 
--- no place comes before each place
+-- a missing place comes before every place
 abbrev pub place_key : Option ℕ → ℕ
 place_key None = 0
 place_key (Some i) = i + 1
 
--- the order of lines: by code, then by object, then by place, then by what else (own)
+-- the order of lines: by code, then by object, then by place, then by the last field (own)
 abbrev pub IsBefore : Line → Line → Type 0
 IsBefore a b = (a.code < b.code)
     ⊎ ((a.code ≡ b.code) × ((slice_cmp text_cmp (object_texts a.object) (object_texts b.object) ≡ Less)
@@ -55,11 +55,11 @@ pub record AreExactly (P : Line → Type 0) (xs : List Line) : Type 0 where
 unfoldable pub AreShown : (Line → Type 0) → List Finding → Type 0
 AreShown P found = (xs : List Line) × AreExactly P xs × (found ≡ map shown xs)
 
--- new is old and then exactly those lines, in order
+-- new is old followed by exactly those lines, in order
 unfoldable pub Adds : (Line → Type 0) → List Finding → List Finding → Type 0
 Adds P old new = (xs : List Line) × AreExactly P xs × (new ≡ old ++ map shown xs)
 
--- a line of one of the first n elements, or of each
+-- a line of one of the first n elements, or of any element
 abbrev pub OfFirst : {X : Type 0} → (ℕ → X → Line → Type 0) → List X → ℕ → Line → Type 0
 OfFirst {X} P xs n x = (k : ℕ) × (y : X) × (k < n) × (slice_get xs k ≡ Some y) × P k y x
 

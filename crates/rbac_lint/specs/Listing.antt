@@ -24,12 +24,12 @@ IsAscending places = AllPairs (λ i j. i ≤ j) places
 abbrev pub AreAscending : Lists → Type 0
 AreAscending m = (w : Text) → IsAscending (listed m w)
 
--- a rule without names allows each, as if its name were a star
+-- a rule without names allows every name, as if its name were a star
 abbrev pub names_or_star : List Text → List Text
 names_or_star [] = codes "*" ∷ []
 names_or_star (n ∷ ns) = n ∷ ns
 
--- the words of a rule in one of its lists; its prefixes are those of its URLs
+-- the words of a rule in one of its lists; prefixes come from its URLs
 abbrev pub words_in : Field → Rule → List Text
 words_in Verbs r = r.verbs
 words_in Groups r = r.groups
@@ -38,50 +38,50 @@ words_in Names r = names_or_star r.resource_names
 words_in Urls r = r.urls
 words_in Prefixes r = r.urls
 
--- the prefix of a word that ends in stars: what stands before all of them
+-- the prefix of a word that ends in stars: what comes before all of them
 abbrev pub IsPrefix : Text → Text → Type 0
 IsPrefix w prefix = (k : ℕ) × (w ≡ prefix ++ replicate (k + 1) star) × (¬ EndsInStar prefix)
 
--- a word without the stars at its end, if it has some
+-- a word without the stars at its end, if it has any
 abbrev pub IsStem : Text → Text → Type 0
 IsStem w stem = (k : ℕ) × (w ≡ stem ++ replicate k star)
 
--- under what a word is listed: itself, or its prefix
+-- what a word is listed under: itself, or its prefix
 abbrev pub IsKey : Field → Text → Text → Type 0
 IsKey Prefixes w key = IsPrefix w key
 IsKey field w key = w ≡ key
 
 -- ---- while places are listed
 
--- new has the place at the end of old, unless it stands there already
+-- new is old with the place at the end, unless it is there already
 pub record TakesIn (old new : List ℕ) (place : ℕ) : Type 0 where
   pub kept : (n : ℕ) → Contains old n → Contains new n
   pub has : Contains new place
   pub only : (n : ℕ) → Contains new n → Contains old n ⊎ (n ≡ place)
   pub ascending : IsAscending old → ((n : ℕ) → Contains old n → n ≤ place) → IsAscending new
 
--- the list of that word takes in the place, and the others stay
+-- the list of that word takes in the place, and the other lists stay as they are
 abbrev pub ListsPlace : Lists → Lists → Text → ℕ → Type 0
 ListsPlace old new word place = TakesIn (listed old word) (listed new word) place × ((w : Text) → w ≢ word → listed new w ≡ listed old w)
 
--- under each word the same is listed
+-- new lists the same as old under each word
 abbrev pub IsListedAsBefore : Lists → Lists → Type 0
 IsListedAsBefore old new = (w : Text) → listed new w ≡ listed old w
 
--- the place is listed for each of the words, and nothing else is
+-- the place is listed for each of the words, and no other place is added
 pub record ListsAll (old new : Lists) (field : Field) (words : List Text) (place : ℕ) : Type 0 where
   pub kept : (w : Text) (n : ℕ) → Contains (listed old w) n → Contains (listed new w) n
   pub has : (w key : Text) → Contains words w → IsKey field w key → Contains (listed new key) place
   pub only : (w : Text) (n : ℕ) → Contains (listed new w) n → Contains (listed old w) n ⊎ (n ≡ place)
   pub ascending : AreAscending old → ((w : Text) (n : ℕ) → Contains (listed old w) n → n ≤ place) → AreAscending new
 
--- so many first rules are listed for each of their words in that list, ascending
+-- the first `count` rules are listed for each of their words in that list, ascending
 pub record AreListed (field : Field) (rules : List Rule) (count : ℕ) (m : Lists) : Type 0 where
   pub complete : (n : ℕ) (r : Rule) (w key : Text) → n < count → slice_get rules n ≡ Some r → Contains (words_in field r) w → IsKey field w key → Contains (listed m key) n
   pub below : (w : Text) (n : ℕ) → Contains (listed m w) n → n < count
   pub ascending : AreAscending m
 
--- rules are listed under their prefixes, which stand in order
+-- rules are listed under their prefixes, which are in order
 abbrev pub AreListedAsPrefixes : List Rule → List Prefix → Type 0
 AreListedAsPrefixes rules prefixes = (m : Lists) × AreListed Prefixes rules (length rules) m × AreEntriesOf m prefixes
 
@@ -96,7 +96,7 @@ pub record IsListingOf (rules : List Rule) (l : Listing) : Type 0 where
   pub prefixes : AreListedAsPrefixes rules l.prefixes.items
   pub linked : ArePrefixes l.prefixes.items
 
--- the lists under the words of one of a rule's lists; prefixes stand apart, beside their URLs
+-- the lists under the words of one of a rule's lists; prefixes are kept apart, beside their URLs
 abbrev pub lists_in : Field → Listing → Lists
 lists_in Verbs l = l.verbs
 lists_in Groups l = l.groups

@@ -1,4 +1,4 @@
--- While unused roles are looked for: which roles bindings name.
+-- Which roles bindings name, for finding unused roles.
 use Rattle.std.specs.Prelude.{◌≡◌, ℕ, ◌⊎◌, ◌↔◌, List, Some, Bool, true, false, Contains, length, get_or, slice_get}
 use Rattle.rbac_terms.specs.declared.granting.Binding.{Binding}
 use Rattle.rbac_terms.specs.declared.granting.ClusterRole.{ClusterRole}
@@ -9,21 +9,21 @@ use Rattle.rbac_lint.specs.Lines.{Line, Adds}
 use Rattle.rbac_lint.specs.Roles.{roles_in}
 use Rattle.rbac_lint.specs.Findings.{IsNamed}
 
--- there is a mark for each role, which is set exactly where the role has the property
+-- there is a mark for each role, which is set exactly if the role has the property
 pub record AreMarked (h : Held) (P : Source → Type 0) (marks : List Bool) : Type 0 where
   pub len : length marks ≡ length (roles_in h)
   pub exact : (k : ℕ) (s : Source) → slice_get (roles_in h) k ≡ Some s → (get_or marks k false ≡ true) ↔ P s
 
--- a mark for each role that some binding names
+-- a mark for each role, which is set exactly if some binding names it
 abbrev pub AreNamed : Held → List Bool → Type 0
 AreNamed h marks = AreMarked h (IsNamed h) marks
 
--- places of cluster roles that bindings name, and all those of aggregated ones
+-- places of cluster roles that bindings name, including those of all the aggregated ones
 pub record AreGatherers (h : Held) (places : List ℕ) : Type 0 where
   pub sound : (k : ℕ) → Contains places k → (c : ClusterRole) × (slice_get h.cluster_roles k ≡ Some c) × IsNamed h (InClusterRole c)
   pub complete : (k : ℕ) (c : ClusterRole) → slice_get h.cluster_roles k ≡ Some c → IsNamed h (InClusterRole c) → (¬ IsPlain c) → Contains places k
 
--- the marks, with that of the role that the binding names, if it is there
+-- new has old's marks, and that of the role that the binding names, if it is there
 pub record AreMarkedWith (h : Held) (b : Binding) (old new : List Bool) : Type 0 where
   pub len : length new ≡ length old
   pub exact : (k : ℕ) (s : Source) → slice_get (roles_in h) k ≡ Some s → (get_or new k false ≡ true) ↔ ((get_or old k false ≡ true) ⊎ IsRefTo h b.namespace b.role s)

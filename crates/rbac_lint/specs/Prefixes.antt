@@ -1,27 +1,27 @@
--- The prefixes of a role's URLs in order, each of which leads to those with which it begins.
+-- The prefixes of a role's URLs, in order; each leads to those that it begins with.
 use Rattle.std.specs.Prelude.{◌≡◌, ℕ, ◌<◌, ◌≤◌, List, [], ◌∷◌, ◌++◌, Option, Some, None, IfSome, map, slice_get, true}
 use Rattle.std.specs.BTreeMap.{BTreeMap, IsOrdered}
 use Rattle.std.specs.Ordering.{is_le}
 use Rattle.rbac_terms.specs.Text.{Text, text_cmp, BeginsWith}
 use Rattle.rbac_lint.specs.declared.prefixes.Prefix.{Prefix}
 
--- a prefix with its places, and one that is made of these
+-- a prefix's text with its places, and a prefix that is made of these
 abbrev pub entry_of : Prefix → Text × List ℕ
 entry_of f = (f.text, f.places)
 
 abbrev pub prefix : Text → List ℕ → Option ℕ → Prefix
 prefix text places shorter = record { text = text; places = places; shorter = shorter }
 
--- the text at place j is on the way that begins at that place: what stands there begins with the text, and not before j
+-- the text at place j is on the way from that place: the prefix there begins with the text, and isn't before j
 abbrev pub IsOnWay : List Prefix → Option ℕ → ℕ → Text → Type 0
 IsOnWay prefixes None j text = ⊥
 IsOnWay prefixes (Some i) j text = (f : Prefix) × (slice_get prefixes i ≡ Some f) × (j ≤ i) × BeginsWith f.text text
 
--- on that way are all of the first prefixes with which the text begins
+-- the way has each of the first `count` prefixes that the text begins with
 abbrev pub LeadsTo : List Prefix → ℕ → Text → Option ℕ → Type 0
 LeadsTo prefixes count text way = (j : ℕ) (g : Prefix) → j < count → slice_get prefixes j ≡ Some g → BeginsWith text g.text → IsOnWay prefixes way j g.text
 
--- each prefix leads to all before it with which it begins
+-- each prefix leads to all before it that it begins with
 abbrev pub IsLinkedAt : List Prefix → ℕ → Prefix → Type 0
 IsLinkedAt prefixes i f = LeadsTo prefixes i f.text f.shorter × IfSome f.shorter (λ p. p < i)
 
@@ -37,6 +37,6 @@ pub record ArePrefixes (prefixes : List Prefix) : Type 0 where
 abbrev pub AreEntriesOf : BTreeMap Text (List ℕ) → List Prefix → Type 0
 AreEntriesOf m prefixes = IsOrdered text_cmp m × (map entry_of prefixes ≡ m.entries)
 
--- one more prefix stands at the end
+-- new is old with one more prefix at the end
 abbrev pub PutsPrefix : List Prefix → List Prefix → Text → List ℕ → Type 0
 PutsPrefix old new text places = (way : Option ℕ) × (new ≡ old ++ prefix text places way ∷ []) × ArePrefixes new

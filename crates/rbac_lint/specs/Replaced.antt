@@ -1,4 +1,4 @@
--- L7: what lint finds of replaced documents.
+-- L7: what lint finds about replaced documents.
 use Rattle.std.specs.Prelude.{◌≡◌, List, [], ◌∷◌, Option, Some, None, decimal}
 use Rattle.rbac_terms.specs.Text.{Text}
 use Rattle.rbac_manifest.specs.declared.replacement.Replaced.{Replaced}

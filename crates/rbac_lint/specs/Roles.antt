@@ -11,7 +11,7 @@ use Rattle.rbac_lint.specs.Lines.{ObjectName}
 abbrev pub roles_in : Held → List Source
 roles_in h = map (λ r. InClusterRole r) h.cluster_roles ++ map (λ r. InRole r) h.roles
 
--- where rules are written that are used: a role, or a plain cluster role
+-- a source whose written rules are used: a role, or a plain cluster role
 abbrev pub IsPlainRole : Source → Type 0
 IsPlainRole (InRole r) = Unit {0}
 IsPlainRole (InClusterRole r) = IsPlain r

@@ -1,4 +1,4 @@
--- While stale aggregates are looked for: sets of rules, ordered by their words.
+-- Sets of rules, ordered by their words, for finding stale aggregates.
 use Rattle.std.specs.Prelude.{◌≡◌, ◌↔◌, true, List, [], ◌∷◌, Contains, refl}
 use Rattle.std.specs.BTreeSet.{BTreeSet, contains}
 use Rattle.std.specs.Cmp.{IsTotalOrder, IsEquivalence, IsPartialOrder, partial_order_from_agreeing_total}
@@ -9,15 +9,15 @@ use Rattle.std.proofs.lemmas.Cmp.{nat_list_cmp_total, lists_total, eq_by_cmp_equ
 use Rattle.rbac_terms.specs.Text.{Text, text_cmp}
 use Rattle.rbac_terms.specs.declared.matching.Rule.{Rule}
 
--- a rule by its five lists of words
+-- a rule as its five lists of words
 abbrev pub rule_lists : Rule → List (List Text)
 rule_lists r = r.verbs ∷ r.groups ∷ r.resources ∷ r.resource_names ∷ r.urls ∷ []
 
--- the order of such: list by list, each word by word
+-- the order of rules as these lists: list by list, each word by word
 abbrev pub lists_cmp : List (List Text) → List (List Text) → Ordering
 lists_cmp = slice_cmp (slice_cmp text_cmp)
 
--- this order is total; to tie in it is an equivalence; and it orders what ties alike
+-- this order is total; being tied in it is an equivalence; and it orders tied rules alike
 pub lists_cmp_total : IsTotalOrder lists_cmp
 lists_cmp_total = lists_total (lists_total nat_list_cmp_total)
 

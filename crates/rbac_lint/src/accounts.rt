@@ -10,7 +10,7 @@ use rbac_model::Objects;
 use rbac_terms::{Binding, Subject, Word};
 use std::alloc::{AllocError, Global};
 
-// Those of all bindings.
+// Adds the findings for all bindings.
 pub(crate) fn find_accounts(
     alloc: Global,
     found: &mut Findings,
@@ -25,7 +25,7 @@ pub(crate) fn find_accounts(
     Ok(())
 }
 
-// Those of one binding, if it is a ClusterRoleBinding.
+// Adds the findings for one binding, if it is a ClusterRoleBinding.
 fn find_accounts_of(
     alloc: Global,
     found: &mut Findings,
@@ -43,7 +43,7 @@ fn find_accounts_of(
     Ok(())
 }
 
-// The one that this subject is, if it is one.
+// Adds the finding for this subject, if there is one.
 fn find_account(
     alloc: Global,
     found: &mut Findings,
@@ -66,7 +66,7 @@ fn find_account(
     })
 }
 
-// The name of a ServiceAccount that has no namespace.
+// The name of the subject, if it is a ServiceAccount that has no namespace.
 fn name_without_namespace(subject: &Subject) -> Option<&Word>
     ensures { MatchOption result
         ((name : Text) → subject.now ≢ Subject.Account None name)

@@ -1,6 +1,6 @@
-//! Where to look for the rules that cover a rule. Whatever covers a rule allows each of its words,
-//! taken as a text: so it is listed under one of the few words that match this one, and the word
-//! with the fewest places is asked.
+//! Where to look for the rules that cover a rule. A rule that covers another allows each of the
+//! other's words, taken as a text, so it is listed under one of the few words that match that word.
+//! The word with the fewest places is used.
 
 ghost use Rattle.std.specs.Prelude.{◌≡◌, ◌++◌, ◌∷◌, [], ◌⊎◌, List, Some, IfOk, IfSome, OnOk, IsTrue};
 ghost use Rattle.rbac_terms.specs.declared.matching.Rule.{Rule as RuleView};
@@ -16,7 +16,7 @@ use rbac_terms::{Rule, Word, cut_at_first};
 use std::alloc::{AllocError, Global};
 use std::collections::BTreeMap;
 
-// The places where a word's rules stand, in ascending lists, and how many there are at least.
+// The places of a word's rules, in ascending lists, and how many they hold together.
 #[derive(Drop)]
 pub(crate) struct Candidates<'a> {
     pub(crate) lists: Vec<&'a [usize]>,
@@ -24,7 +24,7 @@ pub(crate) struct Candidates<'a> {
 }
 
 impl<'a> Candidates<'a> {
-    // None, which takes no memory.
+    // No candidates. Doesn't allocate.
     fn new(alloc: Global) -> Self
         ensures { result.lists.items ≡ [] }
     {
@@ -54,7 +54,7 @@ impl<'a> Candidates<'a> {
     }
 }
 
-// The fewest places among which each rule stands that covers this one; none of a rule that allows
+// The fewest places that hold every rule that covers this one; `None` for a rule that allows
 // nothing.
 pub(crate) fn fewest_for<'a>(
     alloc: Global,
@@ -77,7 +77,7 @@ pub(crate) fn fewest_for<'a>(
     Ok(None)
 }
 
-// The fewest places of these and those of the words of one list.
+// The fewest places, out of these and those for each word in one of the rule's lists.
 fn fewest_in<'a>(
     alloc: Global,
     listing: &'a Listing,
@@ -108,7 +108,7 @@ fn is_asked(field: Field, word: &Word) -> bool
     }
 }
 
-// Those that are fewer.
+// The candidates with fewer places.
 fn fewer<'a>(best: Option<Candidates<'a>>, other: Candidates<'a>) -> Candidates<'a>
     ensures { (best.entry ≡ Some result) ⊎ (result ≡ other.entry) }
 {
@@ -134,7 +134,7 @@ fn candidates_for<'a>(
     }
 }
 
-// The places under the words that match this resource text; other texts are matched by fewer.
+// The places under the words that match this resource text; other texts are matched by fewer words.
 fn matching<'a>(
     alloc: Global,
     lists: &'a BTreeMap<Word, Places>,
@@ -150,7 +150,7 @@ fn matching<'a>(
     Ok(candidates)
 }
 
-// Adds the places under the word for each resource with the subresource of this one.
+// Adds the places under the word for every resource that has this one's subresource.
 fn add_of_each<'a>(
     alloc: Global,
     candidates: &mut Candidates<'a>,
@@ -167,7 +167,7 @@ fn add_of_each<'a>(
     candidates.add_under(lists, &of_each)
 }
 
-// The places under a URL word, and under the prefixes with which it begins.
+// The places under a URL word, and under the prefixes that it begins with.
 fn starting<'a>(
     alloc: Global,
     listing: &'a Listing,
@@ -183,7 +183,7 @@ fn starting<'a>(
     Ok(candidates)
 }
 
-// Adds the places of the prefixes with which a text begins, and few others: the shortest come last.
+// Adds the places of the prefixes that a text begins with, and few others: the shortest come last.
 fn add_prefixes<'a>(
     candidates: &mut Candidates<'a>,
     prefixes: &'a [Prefix],

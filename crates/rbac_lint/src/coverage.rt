@@ -1,4 +1,4 @@
-//! Whether a rule allows all that another one does.
+//! Whether a rule allows everything that another one does.
 
 ghost use Rattle.std.specs.Prelude.{◌≡◌, IsTrue, ◌↔◌, ◌++◌, codes, Any, MatchOption};
 ghost use Rattle.rbac_model.specs.Universes.{Covers};
@@ -9,9 +9,10 @@ use rbac_terms::{
     Rule, Word, group_matches, name_matches, resource_matches, url_matches, verb_matches,
 };
 
-/// Whether the first rule allows each verb on each target that the second one allows it on: for
-/// all requests that there can be, whatever a universe lists (own). It is enough to ask the first
-/// rule for samples, which are the second one's own words taken as texts. Takes no memory.
+/// Whether the first rule allows each verb on each target that the second one allows it on: for all
+/// possible requests, whatever a universe lists (own). Asking the first rule about samples is
+/// enough: the second one's own words, taken as texts, and a name longer than all of the first
+/// one's if the second has no names. Doesn't allocate.
 pub fn covers(a: &Rule, b: &Rule) -> bool
     ensures all { IsTrue result ↔ Covers a.now b.now }
     ensures samples { IsTrue result ↔ AllowsSamples a.now b.now }
@@ -19,7 +20,7 @@ pub fn covers(a: &Rule, b: &Rule) -> bool
     covers_resources(a, b) && covers_urls(a, b)
 }
 
-// The resources come first: of many rules few are about the same ones.
+// The resources are checked first: of many rules, few are about the same ones.
 fn covers_resources(a: &Rule, b: &Rule) -> bool
     ensures { IsTrue result ↔ CoversResources a.now b.now }
 {
@@ -104,7 +105,7 @@ fn allows_urls(a: &Rule, b: &Rule) -> bool
     b.urls.as_slice().iter().all(|word| allows_url(a, word))
 }
 
-// Whether the rule allows this URL word, taken as a text. Stars at its end are one star: what
+// Whether the rule allows this URL word, taken as a text. Stars at its end count as one star: what
 // allows the word with all of them allows it with one, and the other way round.
 fn allows_url(a: &Rule, word: &Word) -> bool
     ensures { IsTrue result ↔ AllowsUrl a.now word.now }
@@ -115,14 +116,14 @@ fn allows_url(a: &Rule, word: &Word) -> bool
     !is_path(word.as_bytes()) || url_matches(a, word)
 }
 
-// Whether a word of the rule matches each path.
+// Whether some URL word of the rule matches every path.
 fn allows_each_path(a: &Rule) -> bool
     ensures { IsTrue result ↔ Any MatchesEachPath a.now.urls }
 {
     a.urls.as_slice().iter().any(|word| matches_each_path(word))
 }
 
-// Whether the word is nothing but stars, or that behind a slash.
+// Whether the word consists of stars only, or of a slash and then stars only.
 fn matches_each_path(word: &Word) -> bool
     ensures { IsTrue result ↔ MatchesEachPath word.now }
 {

@@ -1,4 +1,4 @@
-//! Bindings whose role isn't there.
+//! Bindings whose role is missing.
 
 ghost use Rattle.std.specs.Prelude.{OnOk, IsTrue, ◌↔◌};
 ghost use Rattle.rbac_lint.specs.Lines.{Adds};
@@ -9,7 +9,7 @@ use rbac_model::{Objects, ref_place};
 use rbac_terms::{Binding, Word};
 use std::alloc::{AllocError, Global};
 
-// Those of all bindings.
+// Adds the findings for all bindings.
 pub(crate) fn find_dangling(
     alloc: Global,
     found: &mut Findings,
@@ -24,7 +24,7 @@ pub(crate) fn find_dangling(
     Ok(())
 }
 
-// The one that this binding is, if it is one.
+// Adds the finding for this binding, if there is one.
 fn find_dangling_of(
     alloc: Global,
     found: &mut Findings,

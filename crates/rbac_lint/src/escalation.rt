@@ -22,7 +22,7 @@ const BIND: &[u8] = b"bind";
 
 const ESCALATE: &[u8] = b"escalate";
 
-// The verbs that let a subject grant more than it has, and on what.
+// The verbs that let a subject grant more than it has, and what they are used on.
 #[derive(Drop)]
 struct Powers {
     bind: Word,
@@ -44,7 +44,7 @@ fn named_powers(alloc: Global) -> Result<Powers, AllocError>
     })
 }
 
-// Those of all plain roles.
+// Adds the findings for all plain roles.
 pub(crate) fn find_escalations(
     alloc: Global,
     found: &mut Findings,
@@ -74,7 +74,7 @@ fn find_in_role(
     }
 }
 
-// Those of these rules of a role.
+// Adds the findings for these rules of a role.
 fn find_in_rules(
     alloc: Global,
     found: &mut Findings,
@@ -106,7 +106,7 @@ fn find_in_rule(
     find_by_verb(alloc, found, powers, role, place, rule, &powers.escalate)
 }
 
-// The one by this verb, if it is one.
+// Adds the finding for this verb, if there is one.
 fn find_by_verb(
     alloc: Global,
     found: &mut Findings,

@@ -1,4 +1,4 @@
-//! Why lint is refused.
+//! Why lint fails.
 
 ghost use Rattle.std.specs.Prelude.{◌≡◌};
 
@@ -8,7 +8,7 @@ use thiserror::Error;
 /// Why there are no findings (own).
 #[derive(Debug, Drop, Clone, Copy, PartialEq, Eq, Error)]
 pub enum LintFault {
-    /// N1: memory was refused.
+    /// N1: out of memory.
     #[error("out of memory")]
     NoMemory,
 }

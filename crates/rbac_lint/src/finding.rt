@@ -14,19 +14,20 @@ use std::marker::Model;
 /// A finding (own). Its texts aren't escaped.
 #[derive(Debug, Drop)]
 pub struct Finding {
-    /// What is found, from 1: a dangling reference, an unused role, a redundant rule, a rule that
-    /// escalates, an account without a namespace, a stale aggregate, a replaced object.
+    /// What was found, as a number from 1: a dangling reference, an unused role, a redundant rule,
+    /// a rule that escalates, an account without a namespace, a stale aggregate, or a replaced
+    /// object.
     pub code: u8,
     /// The object: its kind, its namespace if it has one, and its name, with a slash between them.
     pub object: Word,
     /// The place of a rule or a subject in the object, from 0.
     pub place: Option<usize>,
-    /// What else: the role named, the number of the covering rule from 1, the verb, the account's
-    /// name, or how many documents were replaced; else empty.
+    /// More about the finding: the role that is named, the number of the covering rule from 1, the
+    /// verb, the account's name, or how many documents were replaced; otherwise empty.
     pub other: Word,
 }
 
-/// Findings, in order: as many as memory holds.
+/// Findings, in order: as many as fit in memory.
 #[derive(Debug, Drop)]
 pub struct Findings {
     findings: Vec<Finding>,
@@ -42,7 +43,7 @@ impl Model for Findings {
 }
 
 impl Findings {
-    // No findings, which takes no memory.
+    // No findings. Doesn't allocate.
     pub(crate) fn new(alloc: Global) -> Self
         ensures { result ≡ [] }
     {
@@ -58,7 +59,7 @@ impl Findings {
         self.findings.as_slice()
     }
 
-    // Adds one at the end.
+    // Adds a finding at the end.
     pub(crate) fn push(&mut self, finding: Finding) -> Result<(), AllocError>
         ensures { OnOk result (self.new ≡ self.old ++ finding ∷ []) }
     {

@@ -1,4 +1,4 @@
-//! What the roles of an export deserve a second look for.
+//! What deserves a second look in the roles of an export.
 #![tactic(auto)]
 
 mod accounts;

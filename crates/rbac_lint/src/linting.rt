@@ -1,4 +1,4 @@
-//! All that lint finds.
+//! Everything that lint finds.
 
 ghost use Rattle.std.specs.Prelude.{◌≡◌, IfOk, IfErr};
 ghost use Rattle.rbac_lint.specs.Findings.{AreFindings};
@@ -15,15 +15,16 @@ use crate::unused_role::find_unused;
 use rbac_manifest::Loaded;
 use std::alloc::Global;
 
-/// What loaded inputs deserve a second look for (own): bindings whose role isn't there, roles that
-/// no binding leads to, rules that another rule of their role covers, rules that let a subject
+/// What deserves a second look in the loaded inputs (own): bindings whose role is missing, roles
+/// that no binding leads to, rules that another rule of their role covers, rules that let a subject
 /// grant more than it has, accounts without a namespace, aggregated roles whose written rules
-/// aren't those that they gather, and objects that were given more than once. In order of these
-/// codes, then of objects by kind, namespace and name, then of places, then of the last field.
+/// aren't those that they gather, and objects that were given more than once. The findings are
+/// ordered by code, as listed here, then by the object's kind, namespace and name, then by place,
+/// then by the last field.
 ///
 /// # Errors
 ///
-/// N1 where memory was refused.
+/// N1 if it runs out of memory.
 pub fn lint(alloc: Global, loaded: &Loaded) -> Result<Findings, LintFault>
     ensures ok { IfOk result (AreFindings loaded.now.policy.held loaded.now.replaced) }
     ensures only_memory { IfErr result (λ e. e ≡ LintFault.NoMemory) }

@@ -27,7 +27,7 @@ impl Model for Places {
 }
 
 impl Places {
-    // No places, which takes no memory.
+    // No places. Doesn't allocate.
     fn new(alloc: Global) -> Self
         ensures { result ≡ [] }
     {
@@ -42,7 +42,7 @@ impl Places {
         self.items.as_slice()
     }
 
-    // Puts a place at the end, unless it stands there.
+    // Adds a place at the end, unless it is there already.
     fn take_in(&mut self, place: usize) -> Result<(), AllocError>
         ensures { OnOk result (TakesIn self.old self.new place) }
     {
@@ -60,8 +60,8 @@ impl Places {
     }
 }
 
-// The lists under whose words rules are listed: those of a rule, and of the URLs that end in stars
-// what stands before these.
+// The lists under whose words rules are listed: those of a rule and, for the URLs that end in
+// stars, what comes before the stars.
 #[derive(Clone, Copy, Debug)]
 pub(crate) enum Field {
     Verbs,
@@ -123,7 +123,7 @@ fn lists_of(
     Ok(lists)
 }
 
-// The words of a rule in one of its lists; a rule without names allows each.
+// The words of a rule in one of its lists; a rule without names allows every name, as a star does.
 pub(crate) fn words_in<'a>(field: Field, rule: &'a Rule, star: &'a Word) -> &'a [Word]
     ensures { star.now ≡ codes "*" → result.now ≡ words_in field rule.now }
 {
@@ -158,7 +158,7 @@ fn list_all(
     Ok(())
 }
 
-// Lists a place for one word. One that has no prefix is put among the prefixes, with no place.
+// Lists a place for one word. A word that has no prefix is put among the prefixes, with no place.
 fn list_for(
     alloc: Global,
     lists: &mut BTreeMap<Word, Places>,
@@ -174,7 +174,7 @@ fn list_for(
     list_under(alloc, lists, Word::from_slice(alloc, key)?, place)
 }
 
-// Under what a word is listed, if it is.
+// What a word is listed under, if it is listed.
 fn key_of(field: Field, word: &[u8]) -> Option<&[u8]>
     ensures { MatchOption result ((key : Text) → ¬ IsKey field word.now key) (λ key. IsKey field word.now key.now) }
 {
@@ -184,7 +184,7 @@ fn key_of(field: Field, word: &[u8]) -> Option<&[u8]>
     }
 }
 
-// What stands before the stars at the end of a word, if there are some.
+// What comes before the stars at the end of a word, if there are any.
 fn prefix_of(word: &[u8]) -> Option<&[u8]>
     ensures { MatchOption result ((prefix : Text) → ¬ IsPrefix word.now prefix) (λ prefix. IsPrefix word.now prefix.now) }
 {
@@ -198,7 +198,7 @@ fn prefix_of(word: &[u8]) -> Option<&[u8]>
     Some(prefix)
 }
 
-// A word without the stars at its end, if it has some.
+// A word without the stars at its end, if it has any.
 pub(crate) fn stem_of(word: &[u8]) -> &[u8]
     ensures { IsStem word.now result.now }
 {
@@ -234,7 +234,7 @@ fn list_under(
     Ok(())
 }
 
-// Puts a word among those that have places, with none of its own if it is new.
+// Adds a word to those that have places, with no place of its own if it is new.
 fn put_in(alloc: Global, lists: &mut BTreeMap<Word, Places>, word: &Word) -> Result<(), AllocError>
     ensures { OnOk result (IsListedAsBefore lists.old lists.new) }
 {
@@ -257,7 +257,7 @@ pub(crate) fn under<'a>(lists: &'a BTreeMap<Word, Places>, word: &Word) -> &'a [
 }
 
 impl Listing {
-    // The places under the words of one list; prefixes stand apart, beside their URLs.
+    // The places under the words of one list; prefixes are kept apart, beside their URLs.
     pub(crate) fn lists(&self, field: Field) -> &BTreeMap<Word, Places>
         ensures { result.now ≡ lists_in field self.now }
     {

@@ -1,7 +1,7 @@
-//! The prefixes of a role's URLs: what stands before the stars at the end of a URL. They stand in
-//! order, and each leads to the longest other one with which it begins. So from the last that isn't
-//! after a text a way leads to all prefixes with which the text begins, and is no longer than the
-//! text where that one is the text itself.
+//! The prefixes of a role's URLs: what comes before the stars at the end of a URL. They are in
+//! order, and each leads to the longest other one that it begins with. So the way from the last one
+//! that isn't after a text leads to all prefixes that the text begins with, and is no longer than
+//! the text if that one is the text itself.
 
 ghost use Rattle.std.specs.Prelude.{◌≡◌, ◌<◌, ℕ, length, slice_get, Some, true, ◌↔◌, IfOk, IfSome, OnOk, IsTrue};
 ghost use Rattle.std.specs.Ordering.{is_le};
@@ -14,12 +14,12 @@ use rbac_terms::Word;
 use std::alloc::{AllocError, Global};
 use std::collections::BTreeMap;
 
-// A prefix and the places of its rules; or a URL without a star, and no places.
+// A prefix and the places of its rules; or a URL that doesn't end in a star, with no places.
 #[derive(Drop)]
 pub(crate) struct Prefix {
     text: Word,
     pub(crate) places: Places,
-    // Where the longest other one stands with which this one begins.
+    // The place of the longest other one that this one begins with.
     pub(crate) shorter: Option<usize>,
 }
 
@@ -54,7 +54,7 @@ fn push_prefix(prefixes: &mut Vec<Prefix>, text: Word, places: Places) -> Result
     Ok(())
 }
 
-// The first on the way from this one with which the text begins.
+// The first prefix, on the way from this one, that the text begins with.
 fn longest_from(prefixes: &[Prefix], from: Option<usize>, text: &[u8]) -> Option<usize>
     requires linked { AreLinked prefixes.now }
     requires leads { LeadsTo prefixes.now (length prefixes.now) text.now from }
@@ -79,7 +79,7 @@ fn begins_with(text: &[u8], prefix: &[u8]) -> bool
     text.starts_with(prefix)
 }
 
-// The last that isn't after the text.
+// The last prefix that isn't after the text.
 pub(crate) fn last_up_to(prefixes: &[Prefix], text: &[u8]) -> Option<usize>
     requires { ArePrefixes prefixes.now }
     ensures leads { LeadsTo prefixes.now (length prefixes.now) text.now result }

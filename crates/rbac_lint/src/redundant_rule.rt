@@ -19,10 +19,10 @@ use rbac_model::{Objects, SourceRole};
 use rbac_terms::Rule;
 use std::alloc::{AllocError, Global};
 
-// From so many rules on a role's rules are listed by their words.
+// A role's rules are listed by their words if there are at least this many.
 const MANY: usize = 16;
 
-// Those of all plain roles.
+// Adds the findings for all plain roles.
 pub(crate) fn find_redundant(
     alloc: Global,
     found: &mut Findings,
@@ -45,7 +45,7 @@ fn find_in_role(alloc: Global, found: &mut Findings, role: SourceRole<'_>) -> Re
     }
 }
 
-// Those of these rules of a role.
+// Adds the findings for these rules of a role.
 fn find_in_rules(
     alloc: Global,
     found: &mut Findings,
@@ -62,7 +62,7 @@ fn find_in_rules(
     Ok(())
 }
 
-// The listing of these rules; a few are compared sooner than listed.
+// The listing of these rules; `None` if there are few, which are compared sooner than listed.
 fn listing_if_many(alloc: Global, rules: &[Rule]) -> Result<Option<Listing>, AllocError>
     ensures { IfOk result (λ l. ForSome l (IsListingOf rules.now)) }
 {
@@ -72,7 +72,7 @@ fn listing_if_many(alloc: Global, rules: &[Rule]) -> Result<Option<Listing>, All
     Ok(Some(listing_of(alloc, rules)?))
 }
 
-// The one that the rule at this place is, if it is one.
+// Adds the finding for the rule at this place, if there is one.
 fn find_at(
     alloc: Global,
     found: &mut Findings,
@@ -132,9 +132,9 @@ fn candidates_if_listed<'a>(
     }
 }
 
-// The first rule among candidates that makes this one redundant. The last lists come first: they
-// are of the shortest prefixes, which cover the most, and a list needs no look from the place on
-// that is found already.
+// The first rule among the candidates that makes this one redundant. The last lists are read first:
+// they are those of the shortest prefixes, which cover the most, and a list is read only up to the
+// place found so far.
 fn first_of(
     rules: &[Rule],
     mut candidates: Candidates<'_>,
@@ -157,7 +157,8 @@ fn first_of(
     }
 }
 
-// The least of these places, below the limit, whose rule makes this one redundant, or the limit.
+// The least of these places below the limit whose rule makes this one redundant; the limit if there
+// is none.
 fn first_listed(rules: &[Rule], listed: &[usize], limit: usize, place: usize, rule: &Rule) -> usize
     requires here { slice_get rules.now place ≡ Some rule.now }
     requires ascending { IsAscending listed.now }
@@ -185,7 +186,7 @@ fn is_redundant_by(rules: &[Rule], place: usize, rule: &Rule, other: usize) -> b
     }
 }
 
-// The first rule of all that makes this one redundant.
+// The first of all rules that makes this one redundant.
 fn first_of_all(rules: &[Rule], place: usize, rule: &Rule) -> Option<usize>
     requires { slice_get rules.now place ≡ Some rule.now }
     ensures least { IsLeastCoverIfAny rules.now place result }
@@ -199,7 +200,7 @@ fn first_of_all(rules: &[Rule], place: usize, rule: &Rule) -> Option<usize>
     None
 }
 
-// Whether this other rule, at its place, makes the rule at that place redundant.
+// Whether the rule `wide`, at place `other`, makes this rule, at `place`, redundant.
 #[tactic(auto, unfolding(crate::specs::Findings::MakesRedundantAt))]
 fn makes_redundant(place: usize, rule: &Rule, other: usize, wide: &Rule) -> bool
     ensures { IsTrue result ↔ MakesRedundantAt place rule.now other wide.now }

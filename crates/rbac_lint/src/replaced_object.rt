@@ -1,4 +1,4 @@
-//! Objects of which several documents were given.
+//! Objects for which several documents were given.
 
 ghost use Rattle.std.specs.Prelude.{◌≡◌, ◌++◌, IfOk, OnOk};
 ghost use Rattle.rbac_model.specs.Lists.{IsAscendingBy};
@@ -11,7 +11,7 @@ use rbac_manifest::Replaced;
 use rbac_terms::Word;
 use std::alloc::{AllocError, Global};
 
-// One for each.
+// Adds a finding for each replaced object.
 pub(crate) fn find_replaced(
     alloc: Global,
     found: &mut Findings,

@@ -83,7 +83,7 @@ impl<'a> Ord for RuleKey<'a> {
     }
 }
 
-// Whether the two hold the same rules, whatever their order and number.
+// Whether the two lists hold the same rules, in whatever order and however often.
 pub(crate) fn has_same_rules<'a>(
     alloc: Global,
     written: &[&'a Rule],
@@ -96,7 +96,7 @@ pub(crate) fn has_same_rules<'a>(
     Ok(hold_the_same(written, &these, gathered, &those))
 }
 
-// Whether the two hold the same rules, by the sets of both.
+// Whether the two lists hold the same rules, given the sets of both.
 fn hold_the_same<'a>(
     written: &[&'a Rule],
     these: &BTreeSet<RuleKey<'a>>,

@@ -13,7 +13,7 @@ use rbac_model::{Policy, SourceRole};
 use rbac_terms::{ClusterRole, Rule, Word};
 use std::alloc::{AllocError, Global};
 
-// Those of all cluster roles.
+// Adds the findings for all cluster roles.
 pub(crate) fn find_stale(
     alloc: Global,
     found: &mut Findings,
@@ -28,7 +28,7 @@ pub(crate) fn find_stale(
     Ok(())
 }
 
-// The one that this role is, if it is one.
+// Adds the finding for this role, if there is one.
 fn find_stale_role<'p>(
     alloc: Global,
     found: &mut Findings,

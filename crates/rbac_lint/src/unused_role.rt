@@ -14,7 +14,7 @@ use rbac_model::{Objects, Policy, RolePlace, ref_place};
 use rbac_terms::{Binding, ClusterRole, Word};
 use std::alloc::{AllocError, Global};
 
-// Those of all roles.
+// Adds the findings for all roles.
 pub(crate) fn find_unused(
     alloc: Global,
     found: &mut Findings,
@@ -38,7 +38,7 @@ pub(crate) fn find_unused(
     Ok(())
 }
 
-// The one that the role at this place is, if it is one.
+// Adds the finding for the role at this place, if there is one.
 fn find_unused_at(
     alloc: Global,
     found: &mut Findings,
@@ -119,7 +119,7 @@ fn is_plain(role: &ClusterRole) -> bool
     role.aggregation.is_none()
 }
 
-// For each role whether some binding names it.
+// One mark for each role: whether some binding names it.
 fn named_roles(alloc: Global, objects: &Objects) -> Result<Vec<bool>, AllocError>
     ensures { IfOk result (λ v. AreNamed objects.now v.items) }
 {
@@ -141,7 +141,7 @@ fn mark_named(objects: &Objects, binding: &Binding, named: &mut Vec<bool>)
     }
 }
 
-// The place of a role of one kind among the roles of both.
+// The place, among the roles of both kinds, of the role at this place of one kind.
 fn place_among(objects: &Objects, place: RolePlace) -> usize
     requires { IsSome (source_at objects.now place) }
     ensures within { result < length (roles_in objects.now) }

@@ -23,7 +23,7 @@ named who (b ∷ bs) = Some (who (b ∷ bs))
 abbrev pub account_principal : Text → Text → Who
 account_principal namespace name = AsUser (account_user namespace name) []
 
--- the principal of a subject of a binding in that namespace, or in none: an account's is its user, and one without any namespace has none
+-- the principal of a subject of a binding in that namespace, or in none: an account's is its user, and an account without any namespace has none
 abbrev pub subject_principal : Option Text → Subject → Option Who
 subject_principal _ (User name) = named (λ n. AsUser n []) name
 subject_principal _ (Group name) = named AsMember name
@@ -31,7 +31,7 @@ subject_principal _ (AccountSubject (Some namespace) name) = Some (account_princ
 subject_principal (Some namespace) (AccountSubject None name) = Some (account_principal namespace name)
 subject_principal None (AccountSubject None name) = None
 
--- those of all subjects, and the users of all service accounts
+-- the principals of all subjects, and the users of all service accounts
 abbrev pub principals_of : Held → List Account → List Who
 principals_of h accounts =
     flat_map (λ b. filter_map (subject_principal b.namespace) b.subjects) h.bindings
@@ -39,14 +39,14 @@ principals_of h accounts =
 
 -- ---- namespaces
 
--- the empty one, those of Role, RoleBinding and ServiceAccount objects, and the names of Namespace objects
+-- the empty namespace, those of Role, RoleBinding and ServiceAccount objects, and the names of Namespace objects
 abbrev pub namespaces_of : Held → List Text → List Account → List Text
 namespaces_of h names accounts =
     [] ∷ map (λ r. r.namespace) h.roles ++ filter_map (λ b. b.namespace) h.bindings ++ map (λ a. a.namespace) accounts ++ names
 
 -- ---- rules, and their verbs
 
--- the rules that are written in roles and in plain cluster roles; those in an aggregated one aren't looked at
+-- the rules that are written in roles and in plain cluster roles; those in an aggregated role aren't looked at
 abbrev pub source_rules : Held → List Rule
 source_rules h = flat_map (λ r. r.rules) h.roles ++ flat_map (λ r. r.rules) (filter (λ r. is_none r.aggregation) h.cluster_roles)
 
@@ -68,7 +68,7 @@ has_star t = list_any (λ b. b == star) t
 abbrev pub begins_with_slash : Text → Bool
 begins_with_slash t = starts_with nat_eq t (codes "/")
 
--- a word that is a resource text: not empty, not begun by a slash, and no `*` in it
+-- a word that is a resource text: it isn't empty, doesn't begin with a slash, and has no `*` in it
 abbrev pub is_resource_text : Text → Bool
 is_resource_text text = not (length text == 0) && not (begins_with_slash text) && not (has_star text)
 
@@ -80,11 +80,11 @@ listed group text namespaced = record { group = group; text = text; namespaced =
 abbrev pub group_resources : List Text → Text → List ListedResource
 group_resources words group = map (λ text. listed group text true) (filter is_resource_text words)
 
--- each group of a rule that doesn't hold a `*`, with its resource words
+-- each group of a rule, unless it contains a `*`, with those of the rule's resource words that are resource texts
 abbrev pub rule_resources : Rule → List ListedResource
 rule_resources r = flat_map (group_resources r.resources) (filter (λ group. not (has_star group)) r.groups)
 
--- the catalogue's resources, each with its own flag; where no API resource list was given, those of rules
+-- the catalogue's resources, each with its own flag; if no API resource list was given, those of rules
 abbrev pub resources_of : Held → CatalogueView → List ListedResource
 resources_of h c =
     if c.is_given then map (λ e. listed e.group e.name e.namespaced) c.entries else flat_map rule_resources (source_rules h)

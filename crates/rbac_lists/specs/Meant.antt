@@ -1,4 +1,4 @@
--- The lists that are meant: each given by a Universe document, or derived.
+-- The lists that a universe is made of: each given by a Universe document, or derived.
 use Rattle.std.specs.Prelude.{List, Option, None, unwrap_or}
 use Rattle.std.specs.List.{filter_map, last_or}
 use Rattle.rbac_terms.specs.Text.{Text}
@@ -9,11 +9,11 @@ use Rattle.rbac_lists.specs.declared.given_lists.Account.{Account}
 use Rattle.rbac_lists.specs.declared.given_lists.GivenLists.{GivenLists}
 use Rattle.rbac_lists.specs.Derived.{principals_of, namespaces_of, verbs_of, resources_of, names_of, urls_of}
 
--- what the last of the documents that has a list gives
+-- the list that the last document that has one gives
 abbrev pub last_given : {X : Type 0} → (GivenLists → Option X) → List GivenLists → Option X
 last_given field documents = last_or None (filter_map field documents)
 
--- a list is that, also where it is empty, and where no document has it what is derived (own)
+-- a list is the last one given, even if it is empty; if no document has it, it is the derived one (own)
 abbrev pub given_or : {X : Type 0} → X → (GivenLists → Option X) → List GivenLists → X
 given_or derived field documents = unwrap_or (last_given field documents) derived
 

@@ -14,7 +14,7 @@ use rbac_terms::{Binding, Role, Word, Words};
 use rbac_universe::{ListedResource, ListedResources, Principals};
 use std::alloc::{AllocError, Global};
 
-// Whom bindings name, and the users of service accounts.
+// The principals that bindings name, and the users of service accounts.
 pub(crate) fn principals_of(
     alloc: Global,
     objects: &Objects,
@@ -30,7 +30,7 @@ pub(crate) fn principals_of(
     Ok(Principals::from_vec(principals))
 }
 
-// The empty namespace, those of objects, and those of these names.
+// The empty namespace, the namespaces of objects and of service accounts, and these names.
 pub(crate) fn namespaces_of(
     alloc: Global,
     objects: &Objects,
@@ -89,7 +89,7 @@ fn put_account_namespaces(
     Ok(())
 }
 
-// The verbs of catalogue entries and of rules.
+// The verbs of catalogue entries and of rules, other than `*`.
 pub(crate) fn verbs_of(
     alloc: Global,
     objects: &Objects,
@@ -113,7 +113,7 @@ fn put_entry_verbs(alloc: Global, entries: &[Entry], list: &mut Vec<Word>) -> Re
     Ok(())
 }
 
-// The resources of the catalogue, or those that rules name.
+// The resources of the catalogue if it is given, otherwise those that rules name.
 pub(crate) fn resources_of(
     alloc: Global,
     objects: &Objects,

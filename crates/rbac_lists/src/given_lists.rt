@@ -1,4 +1,4 @@
-//! What documents give beside roles and bindings: service accounts, and lists of Universe
+//! What documents give besides roles and bindings: service accounts, and the lists of Universe
 //! documents.
 
 use rbac_terms::{Word, Words};
@@ -13,8 +13,8 @@ pub struct Account {
     pub name: Word,
 }
 
-/// The lists that a Universe document gives (own); one that it doesn't give is left to the
-/// documents before it, or else derived.
+/// The lists that a Universe document gives (own). A list that it doesn't give is left to the
+/// documents before it, or is derived if none of them gives it.
 #[derive(Drop)]
 pub struct GivenLists {
     /// Users, with the groups given to them, and members of groups.
@@ -23,7 +23,7 @@ pub struct GivenLists {
     pub namespaces: Option<Words>,
     /// Verbs.
     pub verbs: Option<Words>,
-    /// Resources, each of them asked for by each name.
+    /// Resources, each asked for with each name.
     pub resources: Option<ListedResources>,
     /// Object names; the empty text stands for a request without one.
     pub names: Option<Words>,

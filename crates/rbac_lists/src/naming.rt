@@ -11,7 +11,7 @@ use rbac_terms::{ClusterRole, Role, Rule, Word};
 use rbac_universe::ListedResource;
 use std::alloc::{AllocError, Global};
 
-/// A list to which each rule adds what it names.
+/// A kind of list, to which each rule adds what it names.
 pub(crate) trait Naming {
     type Item;
 
@@ -76,7 +76,7 @@ fn put_of_rules<N: Naming>(
     Ok(())
 }
 
-/// The verbs.
+/// The verbs of rules.
 pub(crate) struct Verbs;
 
 impl Naming for Verbs {
@@ -89,7 +89,7 @@ impl Naming for Verbs {
     }
 }
 
-/// The object names.
+/// The object names of rules.
 pub(crate) struct Names;
 
 impl Naming for Names {
@@ -102,7 +102,7 @@ impl Naming for Names {
     }
 }
 
-/// The URL words.
+/// The URL words of rules.
 pub(crate) struct Urls;
 
 impl Naming for Urls {
@@ -115,7 +115,7 @@ impl Naming for Urls {
     }
 }
 
-/// The resources.
+/// The resources that rules name.
 pub(crate) struct Resources;
 
 impl Naming for Resources {
@@ -133,7 +133,7 @@ impl Naming for Resources {
     }
 }
 
-// Adds the resources of that group that these words are the texts of.
+// Adds a resource of this group for each of these words that is a resource text.
 fn put_of_group(
     alloc: Global,
     group: &Word,

@@ -10,7 +10,7 @@ use crate::given_lists::Account;
 use rbac_terms::{Binding, ModelFault, Principal, Subject, Word, Words, account_user};
 use std::alloc::{AllocError, Global};
 
-// Adds those of the subjects of a binding.
+// Adds the principals of a binding's subjects.
 pub(crate) fn put_subjects(
     alloc: Global,
     binding: &Binding,
@@ -60,7 +60,7 @@ fn subject_principal(
     }
 }
 
-// The user of this name, unless it is empty.
+// The user of this name, unless the name is empty.
 fn user_of(alloc: Global, name: &Word) -> Result<Option<Principal>, AllocError>
     ensures { IfOk result (λ p. p ≡ named (λ n. AsUser n []) name.now) }
 {
@@ -71,7 +71,7 @@ fn user_of(alloc: Global, name: &Word) -> Result<Option<Principal>, AllocError>
     }
 }
 
-// A member of the group of this name, unless it is empty.
+// A member of the group of this name, unless the name is empty.
 fn member_of(alloc: Global, name: &Word) -> Result<Option<Principal>, AllocError>
     ensures { IfOk result (λ p. p ≡ named AsMember name.now) }
 {

@@ -1,4 +1,4 @@
-//! Texts: copies of them, and what they may be.
+//! Copies of texts, and what a text can be.
 
 ghost use Rattle.std.specs.Prelude.{◌≡◌, ◌++◌, OnOk, IfOk};
 ghost use Rattle.rbac_lists.specs.Derived.{is_verb, has_star, begins_with_slash, ends_in_star, is_resource_text, is_path_word};
@@ -6,7 +6,8 @@ ghost use Rattle.rbac_lists.specs.Derived.{is_verb, has_star, begins_with_slash,
 use rbac_terms::Word;
 use std::alloc::{AllocError, Global};
 
-// A copy whose contract speaks of its bytes alone; a derived clone's speaks of its parts.
+// A copy of the text. This contract is about its bytes alone; that of a derived clone is about its
+// parts.
 pub(crate) fn copy_of(alloc: Global, word: &Word) -> Result<Word, AllocError>
     ensures { IfOk result (λ copy. copy ≡ word.now) }
 {
@@ -27,7 +28,7 @@ pub(crate) fn put_words(
     Ok(())
 }
 
-// Whether a verb is another than `*`.
+// Whether a verb isn't `*`.
 pub(crate) fn is_verb(verb: &Word) -> bool
     ensures { result ≡ is_verb verb.now }
 {

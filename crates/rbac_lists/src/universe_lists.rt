@@ -1,4 +1,4 @@
-//! The lists that are meant, each given or derived.
+//! The lists that a universe is made of, each given or derived.
 
 ghost use Rattle.std.specs.Prelude.{◌≡◌, IfOk, unwrap_or};
 ghost use Rattle.std.specs.Option.{option_copied, option_or};
@@ -15,7 +15,7 @@ use rbac_terms::{Word, Words};
 use rbac_universe::{ListedResources, Principals, UniverseLists};
 use std::alloc::{AllocError, Global};
 
-// The lists that some documents give.
+// The lists that some documents give, the last one of each.
 #[derive(Drop)]
 struct LastLists<'a> {
     principals: Option<&'a Principals>,
@@ -26,10 +26,10 @@ struct LastLists<'a> {
     urls: Option<&'a Words>,
 }
 
-/// The lists that a universe is made of (own): each as the last of the Universe documents that has
-/// it gives it, also where that is empty, and where none has it as it is derived from the objects
-/// that are kept, the catalogue, the names of Namespace objects and the ServiceAccount objects.
-/// Fails only where memory is refused.
+/// The lists that a universe is made of (own). Each is the one that the last Universe document with
+/// that list gives, even if that one is empty. If no document has the list, it is derived from the
+/// objects that are kept, the catalogue, the names of Namespace objects and the ServiceAccount
+/// objects. Fails only if it runs out of memory.
 pub fn lists_of(
     alloc: Global,
     objects: &Objects,
@@ -55,7 +55,7 @@ pub fn lists_of(
     })
 }
 
-// Of each list the last that these documents give.
+// The last one of each list that these documents give.
 fn last_lists(documents: &[GivenLists]) -> LastLists<'_>
     ensures principals { option_copied result.principals ≡ last_given (λ d. d.principals) documents.now }
     ensures namespaces { option_copied result.namespaces ≡ last_given (λ d. d.namespaces) documents.now }
@@ -78,7 +78,8 @@ fn last_lists(documents: &[GivenLists]) -> LastLists<'_>
     last
 }
 
-// The lists of this document, and where it has none those of the documents before it.
+// The lists of this document, and for each list that it doesn't have, that of the documents before
+// it.
 fn over<'a>(document: &'a GivenLists, earlier: LastLists<'a>) -> LastLists<'a>
     ensures principals { option_copied result.principals ≡ option_or document.now.principals (option_copied earlier.entry.principals) }
     ensures namespaces { option_copied result.namespaces ≡ option_or document.now.namespaces (option_copied earlier.entry.namespaces) }
@@ -97,8 +98,8 @@ fn over<'a>(document: &'a GivenLists, earlier: LastLists<'a>) -> LastLists<'a>
     }
 }
 
-// A list that can be copied as it is. The contract of a derived clone of one unknown list says too
-// little.
+// A list that can be copied as it is. For a list of unknown type, the contract of a derived clone
+// says too little.
 trait Copied: Drop {
     fn copied(&self) -> Result<Self, AllocError>
         ensures { IfOk result (λ copy. copy ≡ self.now) };
@@ -122,7 +123,7 @@ impl Copied for ListedResources {
     }
 }
 
-// The list that is given, also where it is empty, or else the derived one.
+// The list that is given, even if it is empty, otherwise the derived one.
 fn given_or<T: Copied, F: FnOnce() -> Result<T, AllocError>>(
     given: Option<&T>,
     derive: F,

@@ -1,4 +1,4 @@
--- Which of the objects given stand: of each kind, namespace and name the last one.
+-- Which of the objects given are kept: the last one of each kind, namespace and name.
 use Rattle.std.specs.Prelude.{◌≡◌, ◌≢◌, ◌⊎◌, ◌↔◌, List, [], ◌∷◌, Option, Some, None, All, Contains}
 use Rattle.std.specs.List.{filter_map}
 use Rattle.rbac_terms.specs.Text.{Text}
@@ -15,7 +15,7 @@ abbrev pub IsLastNamed : {X : Type 0} → (X → List Text) → List X → X →
 IsLastNamed name [] x = ⊥
 IsLastNamed name (y ∷ ys) x = ((y ≡ x) × All (λ z. name z ≢ name x) ys) ⊎ IsLastNamed name ys x
 
--- of each name among xs the last that has it, in order of names
+-- for each name in xs, the last element that has it, in order of names
 pub record AreLastNamed {X : Type 0} (name : X → List Text) (xs ys : List X) : Type 0 where
   pub ordered : IsAscendingBy name ys
   pub exact : (x : X) → Contains ys x ↔ IsLastNamed name xs x
@@ -36,7 +36,7 @@ as_binding (ARole r) = None
 as_binding (AClusterRole r) = None
 as_binding (ABinding b) = Some b
 
--- what stands where these were given one after the other: a later object replaces an earlier one of its kind, namespace and name (own)
+-- what is kept if these are given one after the other: a later object replaces an earlier one of its kind, namespace and name (own)
 pub record AreKept (given : List Object) (h : Held) : Type 0 where
   pub roles : AreLastNamed role_name (filter_map as_role given) h.roles
   pub cluster_roles : AreLastNamed cluster_role_name (filter_map as_cluster_role given) h.cluster_roles

@@ -7,11 +7,11 @@ use Rattle.rbac_terms.specs.declared.granting.ClusterRole.{ClusterRole}
 use Rattle.rbac_model.specs.Graphs.{IsMarked}
 use Rattle.rbac_model.specs.Lists.{by_name}
 
--- the role at a place has labels with the property
+-- there is a role at the place, and its labels have the property
 abbrev pub IsWithAt : (LabelTexts → Type 0) → List ClusterRole → ℕ → Type 0
 IsWithAt P roles k = (r : ClusterRole) × (slice_get roles k ≡ Some r) × P r.labels
 
--- the set of the places of all such roles
+-- the set of the places of all roles whose labels have the property
 abbrev pub AreWith : (LabelTexts → Type 0) → List ClusterRole → List ℕ → Type 0
 AreWith P roles marks = (k : ℕ) → IsMarked marks k ↔ IsWithAt P roles k
 
@@ -20,12 +20,12 @@ abbrev pub label_texts : Text → Option Text → List Text
 label_texts key None = key ∷ []
 label_texts key (Some value) = key ∷ value ∷ []
 
--- some label has the key and the value, or, where no value is asked for, the key
+-- some label has the key and the value, or, if no value is asked for, the key
 abbrev pub HasSome : LabelTexts → Text → Option Text → Type 0
 HasSome labels key None = HasKey labels key
 HasSome labels key (Some value) = HasLabel labels key value
 
--- a label, and which places have it among the 64 of one word: those whose bit is 1
+-- a label, and which of the 64 places of one word have it: those whose bit is 1
 pub record LabelEntry : Type 0 where
   pub label : List Text
   pub place : ℕ
@@ -40,6 +40,6 @@ pub record AreLabels (roles : List ClusterRole) (entries : List LabelEntry) : Ty
   pub sorted : IsSorted (by_name (λ e. e.label)) entries
   pub exact : (key : Text) (value : Option Text) (k : ℕ) → Any (λ e. Says e (label_texts key value) k) entries ↔ IsWithAt (λ labels. HasSome labels key value) roles k
 
--- to what old says, new adds the labels of the role at a place
+-- new says what old says, and adds the labels of the role at a place
 abbrev pub Adds : List LabelEntry → List LabelEntry → LabelTexts → ℕ → Type 0
 Adds old new labels place = (key : Text) (value : Option Text) (k : ℕ) → Any (λ e. Says e (label_texts key value) k) new ↔ (Any (λ e. Says e (label_texts key value) k) old ⊎ ((k ≡ place) × HasSome labels key value))

@@ -7,7 +7,7 @@ use Rattle.std.specs.Cmp.Lexicographic.{slice_cmp}
 use Rattle.std.specs.Prelude.{AllPairs, Contains, ◌↔◌, ◌≢◌, ◌≤◌, length}
 use Rattle.rbac_terms.specs.Text.{Text, text_cmp}
 
--- x stands at place i, has the property, and nothing before it has
+-- x is at place i and has the property, and nothing before it has the property
 pub record IsFirstAt {X : Type 0} (P : X → Type 0) (xs : List X) (i : ℕ) (x : X) : Type 0 where
   pub here : slice_get xs i ≡ Some x
   pub holds : P x
@@ -26,7 +26,7 @@ by_name name x y = slice_cmp text_cmp (name x) (name y)
 abbrev pub IsAscendingBy : {X : Type 0} → (X → List Text) → List X → Type 0
 IsAscendingBy name xs = AllPairs (λ x y. by_name name x y ≡ Less) xs
 
--- new holds x in the place of whatever had its name, and else what old holds
+-- new holds x in place of anything that had its name, and otherwise what old holds
 abbrev pub IsPut : {X : Type 0} → (X → List Text) → List X → List X → X → Type 0
 IsPut {X} name old new x = (y : X) → Contains new y ↔ ((y ≡ x) ⊎ (Contains old y × (name y ≢ name x)))
 
@@ -34,11 +34,11 @@ IsPut {X} name old new x = (y : X) → Contains new y ↔ ((y ≡ x) ⊎ (Contai
 abbrev pub IsAtName : {X : Type 0} → (X → List Text) → List X → X → ℕ → Type 0
 IsAtName name xs x i = (i < length xs) × HoldsAt (λ y. by_name name y x ≡ Equal) xs i
 
--- x's name is nowhere, and would go to place i
+-- x's name isn't in the list, and would go to place i
 abbrev pub IsGapForName : {X : Type 0} → (X → List Text) → List X → X → ℕ → Type 0
 IsGapForName name xs x i = (i ≤ length xs) × AllWithin (λ y. by_name name y x ≡ Less) xs 0 i × AllWithin (λ y. by_name name y x ≡ Greater) xs i (length xs)
 
--- ys are the elements of xs, once each and ascending
+-- ys are the elements of xs, each once, ascending
 pub record IsOnceEach {X : Type 0} (cmp : X → X → Ordering) (xs ys : List X) : Type 0 where
   pub ascending : IsStrictlySortedBy cmp ys
   pub same : (x : X) → Contains ys x ↔ Contains xs x

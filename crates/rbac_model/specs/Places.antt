@@ -22,20 +22,20 @@ abbrev pub rules_of : Source → List Rule
 rules_of (InRole r) = r.rules
 rules_of (InClusterRole r) = r.rules
 
--- a reference in that namespace, or in none, is to the role at this place
+-- a reference in that namespace, or in none, refers to the role at this place
 abbrev pub IsRefAt : Held → Option Text → RoleRef → RolePlace → Type 0
 IsRefAt h namespace role place = (source : Source) × (source_at h place ≡ Some source) × IsRefTo h namespace role source
 
--- the places of the first n rules of a role, with a binding's
+-- the places of the first n rules of a role, each with the place of a binding
 abbrev pub places_of : ℕ → RolePlace → ℕ → List GrantPlace
 places_of binding role zero = []
 places_of binding role (suc n) = places_of binding role n ++ record { binding = binding; role = role; rule = n } ∷ []
 
--- the grants of a binding by these rules
+-- the grants of a binding, one for each of these rules
 abbrev pub granted_by : Binding → List SourcedRule → List GrantView
 granted_by b rules = map (λ rule. record { binding = b; rule = rule }) rules
 
--- to the places of grants those by these rules were added
+-- the places of the grants by these rules were added to the old places of grants
 pub record IsAdded (h : Held) (b : Binding) (old new : List GrantPlace) (rules : List SourcedRule) : Type 0 where
   pub grants : grants_at h new ≡ grants_at h old ++ granted_by b rules
   pub held : All (λ g. IsSome (grant_at h g)) new
@@ -47,7 +47,7 @@ roles_at h ps = filter_map (slice_get h.cluster_roles) ps
 abbrev pub rules_in : List ClusterRole → List SourcedRule
 rules_in ss = flat_map (λ s. written_from (InClusterRole s) 0 s.rules) ss
 
--- these are the places of the roles whose rules the cluster role has: its own, or of those that it gathers from
+-- these are the places of the roles whose rules the cluster role has: of itself, or of those that it gathers from
 abbrev pub AreSourcesOf : Held → ClusterRole → List ℕ → Type 0
 AreSourcesOf h r ps =
     All (λ p. p < length h.cluster_roles) ps
@@ -65,11 +65,11 @@ IsPlainAt roles k = (s : ClusterRole) × (slice_get roles k ≡ Some s) × IsPla
 abbrev pub IsStepTo : Held → ClusterRole → ℕ → Type 0
 IsStepTo h r k = (s : ClusterRole) × (slice_get h.cluster_roles k ≡ Some s) × Step h r s
 
--- the set of those that one step leads to from r
+-- the set of the cluster roles that one step leads to from r
 abbrev pub IsRowOf : Held → ClusterRole → List ℕ → Type 0
 IsRowOf h r row = (k : ℕ) → IsMarked row k ↔ IsStepTo h r k
 
--- for each cluster role the set of those that one step leads to
+-- for each cluster role, the set of the cluster roles that one step leads to
 abbrev pub AreSteps : Held → Graph → Type 0
 AreSteps h rows = AllZip (IsRowOf h) h.cluster_roles rows
 
@@ -77,12 +77,12 @@ AreSteps h rows = AllZip (IsRowOf h) h.cluster_roles rows
 abbrev pub IsReachedAt : Held → ClusterRole → ℕ → Type 0
 IsReachedAt h r k = (s : ClusterRole) × (slice_get h.cluster_roles k ≡ Some s) × Reaches h r s
 
--- the set of those that it reaches, for each cluster role
+-- for each cluster role, the set of the cluster roles that it reaches
 pub record AreReaches (h : Held) (rows : Graph) : Type 0 where
   pub len : length rows ≡ length h.cluster_roles
   pub exact : (at : ℕ) (r : ClusterRole) → slice_get h.cluster_roles at ≡ Some r → (k : ℕ) → HasEdge rows at k ↔ IsReachedAt h r k
 
--- the places of the rules of a role, and of those of cluster roles, with a binding's
+-- the places of the rules of a role, or of these cluster roles, each with the place of a binding
 abbrev pub rule_count : Option (List Rule) → ℕ
 rule_count None = 0
 rule_count (Some rules) = length rules

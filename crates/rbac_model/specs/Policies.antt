@@ -43,13 +43,13 @@ binding_name_at (Some namespace) name = codes "RoleBinding" ∷ namespace ∷ na
 abbrev pub binding_name : Binding → List Text
 binding_name b = binding_name_at b.namespace b.name
 
--- one object of a name, in order (own): ClusterRoleBindings by name, then RoleBindings by namespace and name
+-- one object for each name, in order (own): ClusterRoleBindings by name, then RoleBindings by namespace and name
 pub record IsHeld (h : Held) : Type 0 where
   pub roles : IsAscendingBy role_name h.roles
   pub cluster_roles : IsAscendingBy cluster_role_name h.cluster_roles
   pub bindings : IsAscendingBy binding_name h.bindings
 
--- new holds the object in the place of whatever had its kind and name, and else what old holds
+-- new holds the object in place of anything that had its kind and name, and otherwise what old holds
 abbrev pub Puts : Held → Held → Object → Type 0
 Puts old new (ARole r) = IsPut role_name old.roles new.roles r × (new.cluster_roles ≡ old.cluster_roles) × (new.bindings ≡ old.bindings)
 Puts old new (AClusterRole r) = IsPut cluster_role_name old.cluster_roles new.cluster_roles r × (new.roles ≡ old.roles) × (new.bindings ≡ old.bindings)
@@ -83,12 +83,12 @@ IsPath h r (m ∷ ms) s = Step h r m × IsPath h m ms s
 abbrev pub Reaches : Held → ClusterRole → ClusterRole → Type 0
 Reaches h r s = (between : List ClusterRole) × IsPath h r between s
 
--- the names of all that r reaches, ascending
+-- the names of all cluster roles that r reaches, ascending
 pub record AreReachedNames (h : Held) (r : ClusterRole) (ws : List Text) : Type 0 where
   pub ordered : IsAscendingBy (λ w. w ∷ []) ws
   pub exact : (w : Text) → Contains ws w ↔ ((s : ClusterRole) × Reaches h r s × (s.name ≡ w))
 
--- where a rule is written: a role, or a plain cluster role
+-- a role of a namespace, or a cluster role: where a rule is written, or what a reference refers to
 pub data Source : Type 0 where
   InRole : Role → Source
   InClusterRole : ClusterRole → Source
@@ -99,24 +99,24 @@ pub record SourcedRule : Type 0 where
   pub rule : Rule
   pub place : ℕ
 
--- the rules that are written in a role, each with its place, counted from the one given
+-- the rules that are written in a role, each with its place, counted from the place given
 abbrev pub written_from : Source → ℕ → List Rule → List SourcedRule
 written_from source i [] = []
 written_from source i (r ∷ rs) = record { source = source; rule = r; place = i } ∷ written_from source (i + 1) rs
 
--- the roles that r gathers from: the plain ones that it reaches, by name
+-- the roles that r gathers from: the plain ones that it reaches, in order of names
 pub record AreGathered (h : Held) (r : ClusterRole) (ss : List ClusterRole) : Type 0 where
   pub ordered : IsAscendingBy cluster_role_name ss
   pub exact : (s : ClusterRole) → Contains ss s ↔ (IsPlain s × Reaches h r s)
 
--- a plain role has the rules written in it; an aggregated one those of all that it gathers from, in order (own)
+-- a plain role has the rules written in it; an aggregated one has those of all roles that it gathers from, in order (own)
 abbrev pub AreRulesOf : Held → Source → List SourcedRule → Type 0
 AreRulesOf h (InRole r) rules = rules ≡ written_from (InRole r) 0 r.rules
 AreRulesOf h (InClusterRole r) rules =
     (IsPlain r × (rules ≡ written_from (InClusterRole r) 0 r.rules))
     ⊎ ((¬ IsPlain r) × ((ss : List ClusterRole) × AreGathered h r ss × (rules ≡ flat_map (λ s. written_from (InClusterRole s) 0 s.rules) ss)))
 
--- the role that a reference in that namespace, or in none, is to (Using RBAC Authorization, RoleBinding and ClusterRoleBinding); from no namespace none is to a Role
+-- the role that a reference in that namespace, or in none, refers to (Using RBAC Authorization, RoleBinding and ClusterRoleBinding); in none it is never a Role
 abbrev pub IsRefTo : Held → Option Text → RoleRef → Source → Type 0
 IsRefTo h (Some namespace) (ToRole name) (InRole r) = Contains h.roles r × (r.namespace ≡ namespace) × (r.name ≡ name)
 IsRefTo h _ (ToClusterRole name) (InClusterRole r) = Contains h.cluster_roles r × (r.name ≡ name)
@@ -128,7 +128,7 @@ AreRulesFor h b rules =
     ((role : Source) × IsRefTo h b.namespace b.role role × AreRulesOf h role rules)
     ⊎ (((role : Source) → ¬ IsRefTo h b.namespace b.role role) × (rules ≡ []))
 
--- a binding whose role is there, and a rule of that role
+-- a binding whose role is held, and a rule of that role
 pub record GrantView : Type 0 where
   pub binding : Binding
   pub rule : SourcedRule
@@ -144,16 +144,16 @@ AreGrantsOf h (b ∷ bs) gs =
 abbrev pub rule_at : Source → List Rule → ℕ → Option SourcedRule
 rule_at source rules i = option_map (λ r. record { source = source; rule = r; place = i }) (slice_get rules i)
 
--- the rule at that place of the role at that place
+-- the rule at place i of the role at that place
 abbrev pub sourced_at : Held → RolePlace → ℕ → Option SourcedRule
 sourced_at h (RoleAt at) i = option_and_then (λ role. rule_at (InRole role) role.rules i) (slice_get h.roles at)
 sourced_at h (ClusterRoleAt at) i = option_and_then (λ role. rule_at (InClusterRole role) role.rules i) (slice_get h.cluster_roles at)
 
--- the grant of these places, if the parts are there
+-- the grant at these places, if its parts are there
 abbrev pub grant_at : Held → GrantPlace → Option GrantView
 grant_at h g = option_and_then (λ b. option_map (λ rule. record { binding = b; rule = rule }) (sourced_at h g.role g.rule)) (slice_get h.bindings g.binding)
 
--- the grants of such places, in order
+-- the grants at these places, in order
 abbrev pub grants_at : Held → List GrantPlace → List GrantView
 grants_at h gs = filter_map (grant_at h) gs
 
@@ -162,11 +162,11 @@ pub record PolicyView : Type 0 where
   pub held : Held
   pub grants : List GrantView
 
--- the grant of that number is of the binding at that place
+-- the grant with that number is one of the binding at that place
 abbrev pub IsOfBinding : PolicyView → ℕ → ℕ → Type 0
 IsOfBinding p n at = (g : GrantView) × (slice_get p.grants n ≡ Some g) × (slice_get p.held.bindings at ≡ Some g.binding)
 
--- its grants are those of its bindings
+-- a policy's grants are those of its bindings
 abbrev pub IsPolicy : PolicyView → Type 0
 IsPolicy p = IsHeld p.held × AreGrantsOf p.held p.held.bindings p.grants
 
@@ -174,15 +174,15 @@ IsPolicy p = IsHeld p.held × AreGrantsOf p.held p.held.bindings p.grants
 abbrev pub most_grants : ℕ
 most_grants = 1000000
 
--- the grants of the bindings are more (own)
+-- the bindings have more grants than a policy may have (own)
 abbrev pub HasTooMany : Held → Type 0
 HasTooMany h = (gs : List GrantView) × AreGrantsOf h h.bindings gs × (most_grants < length gs)
 
--- the grants of the bindings that are held are one list
+-- the bindings that are held have only one list of grants
 abbrev pub OneListOfGrants : Held → Type 0
 OneListOfGrants h = (gs others : List GrantView) → AreGrantsOf h h.bindings gs → AreGrantsOf h h.bindings others → gs ≡ others
 
--- where a binding in that namespace, or in none, is live (Using RBAC Authorization): everywhere, or for resources of its own namespace
+-- where a binding in that namespace, or in none, is live (Using RBAC Authorization): everywhere if in none, otherwise for resources of its own namespace
 abbrev pub Live : Option Text → Text → What → Type 0
 Live None asked t = Unit {0}
 Live (Some namespace) asked (Resource _ _ _) = (asked ≢ []) × (namespace ≡ asked)
@@ -196,23 +196,23 @@ BindingNames b who = Any (λ subject. Names subject b.namespace who) b.subjects
 abbrev pub Brings : Held → Binding → Text → What → Type 0
 Brings h b verb t = (rules : List SourcedRule) × AreRulesFor h b rules × Any (λ r. RuleAllows r.rule verb t) rules
 
--- a binding grants: it is live, names who asks, and brings a rule that allows (Using RBAC Authorization)
+-- a binding grants a request: it is live, names who asks, and brings a rule that allows the verb on the target (Using RBAC Authorization)
 abbrev pub Grants : Held → Binding → Who → Text → Text → What → Type 0
 Grants h b who namespace verb t = Live b.namespace namespace t × BindingNames b who × Brings h b verb t
 
--- some binding grants; there are no deny rules (Using RBAC Authorization)
+-- some binding grants the request; there are no deny rules (Using RBAC Authorization)
 abbrev pub Allows : Held → Who → Text → Text → What → Type 0
 Allows h who namespace verb t = Any (λ b. Grants h b who namespace verb t) h.bindings
 
--- b is the first binding that grants (own)
+-- b is the first binding that grants the request (own)
 abbrev pub IsFirst : Held → Who → Text → Text → What → Binding → Type 0
 IsFirst h who namespace verb t b = (i : ℕ) × IsFirstAt (λ c. Grants h c who namespace verb t) h.bindings i b
 
--- a grant whose binding is live and names who asks, and whose rule allows
+-- a grant allows a request: its binding is live and names who asks, and its rule allows the verb on the target
 abbrev pub GrantAllows : Who → Text → Text → What → GrantView → Type 0
 GrantAllows who namespace verb t g = Live g.binding.namespace namespace t × BindingNames g.binding who × RuleAllows g.rule.rule verb t
 
--- why it is allowed: the least grant that allows, and the least subject of its binding that names who asks (own)
+-- why a request is allowed: the first grant that allows it, and the first subject of its binding that names who asks (own)
 pub record IsWhy (p : PolicyView) (who : Who) (namespace verb : Text) (t : What) (g : GrantView) (subject_place : ℕ) : Type 0 where
   pub grant : (no : ℕ) × IsFirstAt (GrantAllows who namespace verb t) p.grants no g
   pub subject : (s : Subject) × IsFirstAt (λ s. Names s g.binding.namespace who) g.binding.subjects subject_place s

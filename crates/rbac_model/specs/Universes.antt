@@ -12,7 +12,7 @@ use Rattle.rbac_model.specs.Unions.{who_name}
 use Rattle.rbac_terms.specs.declared.matching.Rule.{Rule}
 use Rattle.rbac_terms.specs.declared.granting.Binding.{Binding}
 
--- a target with whether it is namespaced; a URL isn't
+-- a target, and whether it is namespaced; a URL isn't
 abbrev pub Listed : Type 0
 Listed = What × Bool
 
@@ -23,7 +23,7 @@ pub record UniverseView : Type 0 where
   pub verbs : List Text
   pub targets : List Listed
 
--- how many principals, namespaces and verbs each a universe may have, and how many targets (own)
+-- how many principals, how many namespaces and how many verbs a universe may have, and how many targets (own)
 abbrev pub most_words : ℕ
 most_words = 65535
 
@@ -57,11 +57,11 @@ Fits c = (IsTrue c.target.1) ⊎ (c.namespace ≡ [])
 abbrev pub cell_key : Cell → KeyTexts
 cell_key c = key_of c.who c.namespace c.verb c.target.0
 
--- a request is one of the universe: each of its parts stands in the list of its kind
+-- a request is one of the universe: each of its parts is in the list of its kind
 abbrev pub IsCellOf : UniverseView → Cell → Type 0
 IsCellOf u c = Contains u.principals c.who × Contains u.namespaces c.namespace × Contains u.verbs c.verb × Contains u.targets c.target
 
--- a fitting cell with the first binding that grants it
+-- a request that fits, with the first binding that grants it
 pub record RowView : Type 0 where
   pub cell : Cell
   pub binding : Binding
@@ -75,29 +75,29 @@ pub record IsMatrix (h : Held) (u : UniverseView) (rows : List RowView) : Type 0
   pub ordered : AllPairs (λ a b. IsTrue (is_lt (key_cmp (cell_key a.cell) (cell_key b.cell)))) rows
   pub exact : (row : RowView) → Contains rows row ↔ IsRow h u row
 
--- the rows whose key is greater; all where no key is given
+-- the rows with a key greater than this one; all rows if no key is given
 abbrev pub rows_after : Option KeyTexts → List RowView → List RowView
 rows_after None rows = rows
 rows_after (Some k) rows = filter (λ row. is_gt (key_cmp (cell_key row.cell) k)) rows
 
--- the first n of them, and whether one more exists
+-- the first n of these rows, and whether there is one more
 abbrev pub page : Option KeyTexts → ℕ → List RowView → List RowView × Bool
 page k n rows = (take n (rows_after k rows), nat_lt n (length (rows_after k rows)))
 
--- a allows whatever b allows: every verb, and every target that is proper
+-- a allows whatever b allows, for every verb and every proper target
 abbrev pub Covers : Rule → Rule → Type 0
 Covers a b = (v : Text) (t : What) → IsProper t → RuleAllows b v t → RuleAllows a v t
 
--- a binding is a ClusterRoleBinding, or in that namespace, which is not empty
+-- a binding is a ClusterRoleBinding, or is in that namespace, which isn't empty
 abbrev pub LiveForSome : Option Text → Text → Type 0
 LiveForSome None asked = Unit {0}
 LiveForSome (Some namespace) asked = (asked ≢ []) × (namespace ≡ asked)
 
--- a line of the matrix: who, namespace and verb; the grants that may allow something on it, targets aside
+-- a grant is a cursor of a line of the matrix (who, namespace and verb): it may allow something on that line, targets aside
 abbrev pub IsCursor : Who → Text → Text → GrantView → Type 0
 IsCursor who namespace verb g = VerbOk g.rule.rule verb × BindingNames g.binding who × LiveForSome g.binding.namespace namespace
 
--- how many pairs of such a grant and a target of the universe match, verbs aside
+-- how many pairs of a cursor of the line and a target of the universe match, verbs aside
 abbrev pub AreTouches : PolicyView → UniverseView → Who → Text → Text → ℕ → Type 0
 AreTouches p u who namespace verb n =
     IsCount {X = GrantView × Listed} (λ pair. IsCursor who namespace verb pair.0 × TargetOk pair.0.rule.rule pair.1.0) (flat_map (λ g. map (λ t. (g, t)) u.targets) p.grants) n

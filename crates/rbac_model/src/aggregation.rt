@@ -15,7 +15,7 @@ use crate::references::cluster_role_place;
 use rbac_terms::{ClusterRole, Word, Words};
 use std::alloc::{AllocError, Global};
 
-// For each cluster role the places of those that it reaches.
+// For each cluster role, the places of the cluster roles that it reaches.
 pub(crate) fn reaches_of(alloc: Global, objects: &Objects) -> Result<Vec<Marks>, AllocError>
     ensures { IfOk result (λ rows. AreReaches objects.now rows.items) }
 {
@@ -24,7 +24,7 @@ pub(crate) fn reaches_of(alloc: Global, objects: &Objects) -> Result<Vec<Marks>,
     Ok(rows)
 }
 
-// For each cluster role the places of those that one step leads to.
+// For each cluster role, the places of the cluster roles that one step leads to.
 fn steps_of(alloc: Global, objects: &Objects) -> Result<Vec<Marks>, AllocError>
     ensures { IfOk result (λ rows. AreSteps objects.now rows.items) }
 {
@@ -37,7 +37,7 @@ fn steps_of(alloc: Global, objects: &Objects) -> Result<Vec<Marks>, AllocError>
     Ok(rows)
 }
 
-// The places of those that one step leads to from the cluster role at this place.
+// The places of the cluster roles that one step leads to from the one at this place.
 fn steps_from(
     alloc: Global,
     objects: &Objects,
@@ -60,8 +60,9 @@ fn steps_from(
     Ok(row)
 }
 
-// The places of the cluster roles whose written rules the one at this place has. They are read out
-// of the set when a binding asks for them: lists for all roles may be more than memory holds.
+// The places of the cluster roles whose written rules the one at this place has. Each list is read
+// out of the role's set when a binding asks for it, because the lists of all roles might not fit in
+// memory.
 pub(crate) fn sources_at(
     alloc: Global,
     objects: &Objects,
@@ -98,7 +99,7 @@ fn plain_marked(
     Ok(row)
 }
 
-// Adds those that have their mark in one word.
+// Adds the places of the plain roles that have their mark in one word.
 fn put_plain(
     roles: &[ClusterRole],
     marks: &Marks,
@@ -117,8 +118,8 @@ fn put_plain(
     Ok(())
 }
 
-// The names of those that the cluster role of this name reaches; where no role has the name, none,
-// and no memory is asked for.
+// The names of the cluster roles that the one with this name reaches. If no role has the name,
+// there are none, and nothing is allocated.
 pub(crate) fn names_from(
     alloc: Global,
     objects: &Objects,

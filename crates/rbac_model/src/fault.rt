@@ -12,7 +12,7 @@ pub enum ResolveFault {
     /// P2: more than a million grants.
     #[error("P2 too many grants")]
     TooMany,
-    /// P5: memory was refused.
+    /// P5: out of memory.
     #[error("out of memory")]
     NoMemory,
 }

@@ -63,7 +63,7 @@ fn put_binding(
     }
 }
 
-// Adds the grants of a binding by the rules of a role.
+// Adds the grants of a binding, one for each rule of a role.
 fn put_role(
     objects: &Objects,
     binding: usize,
@@ -81,7 +81,7 @@ fn put_role(
     put_rules(binding, RolePlace::RoleAt(role), count, grants)
 }
 
-// Adds the grants of a binding by the rules of these cluster roles.
+// Adds the grants of a binding, one for each rule of these cluster roles.
 fn put_sources(
     objects: &Objects,
     binding: usize,
@@ -102,8 +102,8 @@ fn put_sources(
     Ok(())
 }
 
-// Adds the grants of a binding by so many rules of a role. Too many are refused before any memory
-// is asked for.
+// Adds the grants of a binding, one for each of this many rules of a role. Too many are refused
+// before anything is allocated.
 fn put_rules(
     binding: usize,
     role: RolePlace,

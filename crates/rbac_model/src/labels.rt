@@ -1,4 +1,4 @@
-//! The labels of all cluster roles, in order: what a selector selects is looked up there, so that
+//! The labels of all cluster roles, in order. What a selector selects is looked up in them, so that
 //! no export can make that slow.
 
 ghost use Rattle.std.specs.Prelude.{◌≡◌, ◌↔◌, ◌⊎◌, ◌≤◌, ◌<◌, ◌/◌, ◌++◌, ◌∷◌, [], ℕ, Any, All, IfOk, OnOk, IsTrue, length, slice_get, Some};
@@ -19,8 +19,8 @@ use std::alloc::{AllocError, Global};
 use std::cmp::Ordering;
 use std::marker::Model;
 
-// A label, and which of 64 neighbouring cluster roles have it: those with a 1 in the word of this
-// place. Without a value it stands for all labels of its key.
+// A label, and which of 64 neighbouring cluster roles have it: those whose bit is 1 in `bits`, the
+// word that `place` is in. Without a value it stands for all labels of its key.
 #[derive(Drop)]
 struct Entry<'a> {
     key: &'a Word,
@@ -39,7 +39,8 @@ impl<'a> Model for Entry<'a> {
 }
 
 impl<'a> Entry<'a> {
-    // How its label stands to this one; a key alone stands before its labels with a value.
+    // How its label compares with this one; a key alone comes before the labels of that key with a
+    // value.
     fn cmp_label(&self, key: &Word, value: Option<&Word>) -> Ordering
         ensures { result ≡ slice_cmp text_cmp self.now.label (label_texts key.now (option_map (λ v. v.now) value.entry)) }
     {
@@ -89,7 +90,7 @@ impl<'a> Labelled<'a> {
         })
     }
 
-    // The cluster roles that one of the selectors selects, or more.
+    // The cluster roles that one or more of the selectors select.
     pub(crate) fn gathered(&self, alloc: Global, selectors: &Selectors) -> Result<Marks, AllocError>
         ensures { IfOk result (AreWith (λ labels. Any (λ selector. Selects selector labels) selectors.now) self.now) }
     {
@@ -112,7 +113,7 @@ impl<'a> Labelled<'a> {
         Ok(marks)
     }
 
-    // Those that have each of these labels.
+    // The cluster roles that have each of these labels.
     fn having_all(&self, alloc: Global, labels: &Labels) -> Result<Marks, AllocError>
         ensures { IfOk result (AreWith (λ own. All (λ label. HasLabel own label.0 label.1) labels.now) self.now) }
     {
@@ -123,7 +124,7 @@ impl<'a> Labelled<'a> {
         Ok(marks)
     }
 
-    // Those that meet each of these requirements.
+    // The cluster roles that meet each of these requirements.
     fn meeting_all(&self, alloc: Global, requirements: &Requirements) -> Result<Marks, AllocError>
         ensures { IfOk result (AreWith (λ own. All (λ requirement. Meets requirement own) requirements.now) self.now) }
     {
@@ -134,7 +135,7 @@ impl<'a> Labelled<'a> {
         Ok(marks)
     }
 
-    // Those that meet the requirement.
+    // The cluster roles that meet the requirement.
     fn meeting(&self, alloc: Global, requirement: &Requirement) -> Result<Marks, AllocError>
         ensures { IfOk result (AreWith (Meets requirement.now) self.now) }
     {
@@ -147,14 +148,14 @@ impl<'a> Labelled<'a> {
         }
     }
 
-    // All of them.
+    // All cluster roles.
     fn everyone(&self) -> Result<Marks, AllocError>
         ensures { IfOk result (λ marks. (k : ℕ) → IsMarked marks k ↔ (k < length self.now)) }
     {
         self.all.clone()
     }
 
-    // All that aren't in this set.
+    // All cluster roles that aren't in this set.
     fn others(&self, marks: &Marks) -> Result<Marks, AllocError>
         ensures { IfOk result (λ others. (k : ℕ) → IsMarked others k ↔ ((k < length self.now) × (¬ IsMarked marks.now k))) }
     {
@@ -163,7 +164,7 @@ impl<'a> Labelled<'a> {
         Ok(others)
     }
 
-    // Those that have a label of this key, with one of these values.
+    // The cluster roles that have a label of this key, with one of these values.
     fn having_one_of(&self, alloc: Global, key: &Word, values: &Words) -> Result<Marks, AllocError>
         ensures { IfOk result (AreWith (λ own. HasOneOf own key.now values.now) self.now) }
     {
@@ -174,7 +175,7 @@ impl<'a> Labelled<'a> {
         Ok(marks)
     }
 
-    // Those that have this label, or where there is no value a label of this key.
+    // The cluster roles that have this label, or, if there is no value, a label of this key.
     fn having(&self, alloc: Global, key: &Word, value: Option<&Word>) -> Result<Marks, AllocError>
         ensures { IfOk result (AreWith (λ own. HasSome own key.now (option_map (λ v. v.now) value.entry)) self.now) }
     {
@@ -183,7 +184,7 @@ impl<'a> Labelled<'a> {
         Ok(marks)
     }
 
-    // Adds those that have this label.
+    // Adds the cluster roles that have this label.
     fn put_having(
         &self,
         key: &Word,
@@ -201,7 +202,7 @@ impl<'a> Labelled<'a> {
     }
 }
 
-// Where the entries of this label stand: from the first place, up to the second.
+// The range of this label's entries: from the first place up to, but not including, the second.
 fn label_range(entries: &[Entry], key: &Word, value: Option<&Word>) -> (usize, usize)
     requires { IsSorted (by_name (λ e. e.label)) entries.now }
     ensures within { result.1 ≤ length entries.now }

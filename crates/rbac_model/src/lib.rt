@@ -1,5 +1,5 @@
-//! Policies: the objects of an export, and the grants that follow from them. The words that they
-//! are made of stand in `rbac_terms`, and are reached from here too.
+//! Policies: the objects of an export, and the grants that follow from them. The terms that they
+//! are made of are defined in `rbac_terms`, and re-exported here.
 #![tactic(auto)]
 
 mod aggregation;

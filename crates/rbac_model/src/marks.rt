@@ -1,4 +1,5 @@
-//! Sets of places, with a bit for each: a place is in the set where its bit is 1, its mark.
+//! Sets of places, with a bit for each place. A place is in the set if its bit is 1, which is its
+//! mark.
 
 ghost use Rattle.std.specs.Prelude.{◌≡◌, ◌+◌, ◌/◌, ◌%◌, ◌<◌, ◌≤◌, ◌⊎◌, ◌↔◌, ℕ, IsTrue, false, IfOk, OnOk, MatchOption, length, vec_len, slice_index_or, []};
 ghost use Rattle.std.specs.Int.{bit_at};
@@ -22,7 +23,7 @@ impl Model for Marks {
 }
 
 impl Marks {
-    // No marks, which takes no memory.
+    // A set without marks. Doesn't allocate.
     pub(crate) fn new(alloc: Global) -> Self
         ensures { result ≡ [] }
     {
@@ -31,7 +32,7 @@ impl Marks {
         }
     }
 
-    // Whether there is room for no mark at all.
+    // Whether there is no room for any mark.
     pub(crate) fn is_empty(&self) -> bool
         ensures { IsTrue result ↔ (self.now ≡ []) }
     {
@@ -45,7 +46,7 @@ impl Marks {
         (self.word(place / 64) >> (place % 64)) & 1 == 1
     }
 
-    // The word at a place, without marks where there is none.
+    // The word at a place, or one without marks if there is none.
     fn word(&self, at: usize) -> u64
         ensures { result ≡ slice_index_or self.now at 0 }
     {
@@ -62,7 +63,7 @@ impl Marks {
         self.word(at) != 0
     }
 
-    // The first place of these, below a bound, that isn't in the other set.
+    // The first place below a bound that is in this set and not in the other one.
     pub(crate) fn first_outside(&self, other: &Marks, bound: usize) -> Option<usize>
         ensures { MatchOption result
             ((k : ℕ) → k < bound → IsMarked self.now k → IsMarked other.now k)
@@ -76,7 +77,7 @@ impl Marks {
         None
     }
 
-    // The first such place in one word.
+    // The first place below a bound, in one word, that is in this set and not in the other one.
     fn outside_in(&self, other: &Marks, at: usize, bound: usize) -> Option<usize>
         requires { at ≤ bound / 64 }
         ensures { MatchOption result
@@ -95,8 +96,8 @@ impl Marks {
         None
     }
 
-    // A place of these that is in the first set and not in the other; the words before this place
-    // aren't looked at.
+    // A place that is in this set and in `with`, but not in `other`. The words before that of
+    // `from` aren't looked at.
     pub(crate) fn shared_outside(&self, with: &Marks, other: &Marks, from: usize) -> Option<usize>
         ensures { MatchOption result (Unit {0}) (λ k. IsMarked self.now k × (¬ IsMarked other.now k)) }
     {
@@ -112,7 +113,7 @@ impl Marks {
         None
     }
 
-    // Marks on all places below this one.
+    // The set of all places below this one.
     pub(crate) fn up_to(alloc: Global, count: usize) -> Result<Self, AllocError>
         ensures { IfOk result (λ marks. (k : ℕ) → IsMarked marks k ↔ (k < count)) }
     {
@@ -133,7 +134,7 @@ impl Marks {
         Ok(())
     }
 
-    // Marks, in the word of this place, those whose bit is 1.
+    // Marks, in the word of this place, the places whose bit is 1.
     pub(crate) fn put(&mut self, place: usize, bits: u64) -> Result<(), AllocError>
         ensures { OnOk result ((k : ℕ) → IsMarked self.new k ↔ (IsMarked self.old k ⊎ ((k / 64 ≡ place / 64) × (bit_at bits (k % 64) ≡ 1)))) }
     {
@@ -143,7 +144,7 @@ impl Marks {
         Ok(())
     }
 
-    // Keeps the marks that are there too.
+    // Keeps only the marks that the other set has too.
     pub(crate) fn keep(&mut self, other: &Marks)
         ensures { (k : ℕ) → IsMarked self.new k ↔ (IsMarked self.old k × IsMarked other.now k) }
     {
@@ -153,7 +154,7 @@ impl Marks {
         }
     }
 
-    // Takes the marks away that are there.
+    // Removes the marks that the other set has.
     pub(crate) fn remove(&mut self, other: &Marks)
         ensures { (k : ℕ) → IsMarked self.new k ↔ (IsMarked self.old k × (¬ IsMarked other.now k)) }
     {
@@ -162,7 +163,7 @@ impl Marks {
         }
     }
 
-    // Marks each place that has a mark there.
+    // Marks each place that has a mark in the other set.
     pub(crate) fn add(&mut self, more: &Marks) -> Result<(), AllocError>
         ensures { OnOk result ((k : ℕ) → IsMarked self.new k ↔ (IsMarked self.old k ⊎ IsMarked more.now k)) }
     {
@@ -172,7 +173,7 @@ impl Marks {
     }
 }
 
-// Makes room for so many words.
+// Makes room for this many words.
 fn widen(words: &mut Vec<u64>, count: usize) -> Result<(), AllocError>
     ensures room { OnOk result (count ≤ vec_len words.new) }
     ensures same { OnOk result ((k : ℕ) → slice_index_or words.new.items k 0 ≡ slice_index_or words.old.items k 0) }
@@ -183,7 +184,7 @@ fn widen(words: &mut Vec<u64>, count: usize) -> Result<(), AllocError>
     Ok(())
 }
 
-// Puts the ones of these words among those of as many words.
+// Sets in `words` each bit that is 1 in `more`.
 fn add_words(words: &mut [u64], more: &[u64])
     requires { length more.now ≤ length words.old }
     ensures len { length words.new ≡ length words.old }

@@ -20,7 +20,7 @@ pub enum Object {
     Binding(Binding),
 }
 
-/// The objects that are held: one for each kind, namespace and name, in order of these.
+/// The objects that are held: one for each kind, namespace and name, ordered by these.
 #[derive(Drop)]
 pub struct Objects {
     roles: Vec<Role>,
@@ -41,7 +41,7 @@ impl Model for Objects {
 impl Objects {
     ghost use Rattle.rbac_model.specs.Policies.{Held, IsHeld, Puts, HasNameOf};
 
-    /// No objects, which takes no memory.
+    /// An empty set of objects. Doesn't allocate.
     pub fn new(alloc: Global) -> Self
         ensures { result ≡ record { roles = []; cluster_roles = []; bindings = [] } }
     {
@@ -52,7 +52,7 @@ impl Objects {
         }
     }
 
-    // Objects of these kinds, each in order of names.
+    // The objects of these lists, one list for each kind and each in order of names.
     pub(crate) fn of_kinds(
         roles: Vec<Role>,
         cluster_roles: Vec<ClusterRole>,
@@ -68,9 +68,10 @@ impl Objects {
         }
     }
 
-    /// Puts an object in the place of the one of its kind, namespace and name, and says whether
-    /// there was one (own: the later object replaces the earlier). A ClusterRoleBinding and a
-    /// RoleBinding are of two kinds. Where memory is refused, the objects stay as they were.
+    /// Adds an object, replacing the one of its kind, namespace and name if there is one, and
+    /// returns whether there was one (own: the later object replaces the earlier). A
+    /// ClusterRoleBinding and a RoleBinding are of different kinds. If it runs out of memory, the
+    /// objects stay as they were.
     pub fn put(&mut self, object: Object) -> Result<bool, ModelFault>
         ensures ok { OnOk result (Puts self.old self.new object) }
         ensures replaced { IfOk result (λ was. IsTrue was ↔ HasNameOf self.old object) }
@@ -110,7 +111,7 @@ impl Objects {
     }
 }
 
-/// What has a name among its kind.
+/// An item that has a name among those of its kind.
 pub(crate) trait Named {
     ghost name: { Self → List Text };
 
@@ -155,7 +156,8 @@ impl Named for Binding {
     }
 }
 
-// Whether the item's name is greater than all of these, as where items come in order of names.
+// Whether the item's name is greater than the names of all of these, as happens if items come in
+// order of names.
 fn comes_last<T: Named>(items: &[T], item: &T) -> bool
     requires { IsAscendingBy T.name items.now }
     ensures { IsTrue result → IsGapForName T.name items.now item.now (length items.now) }
@@ -178,7 +180,8 @@ pub(crate) fn place<T: Named>(items: &[T], item: &T) -> Result<usize, usize>
     items.binary_search_by(|held| held.cmp_name(item))
 }
 
-// Puts an item in its place, over the one of its name if there is one: whether there was.
+// Puts an item in its place, replacing the one of its name if there is one, and returns whether
+// there was one.
 pub(crate) fn put<T: Named + Drop>(items: &mut Vec<T>, item: T) -> Result<bool, AllocError>
     requires { IsAscendingBy T.name items.old.items }
     ensures ok { OnOk result (IsPut T.name items.old.items items.new.items item) }

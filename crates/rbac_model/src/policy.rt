@@ -40,10 +40,11 @@ impl Model for Policy {
 }
 
 impl Policy {
-    /// The grants that follow from these objects. A binding whose role isn't held brings none; an
-    /// aggregated role has the rules of the plain ones that it reaches, in order of their names
-    /// (own: the state in which aggregation settles). More than a million grants are refused as
-    /// `TooMany`, and out of memory as `NoMemory`; the objects aren't handed back.
+    /// The policy of these objects, with the grants that follow from them. A binding whose role
+    /// isn't held brings no grants; an aggregated role has the rules of the plain ones that it
+    /// reaches, in order of their names (own: the state in which aggregation settles). Fails with
+    /// `TooMany` for more than a million grants, and with `NoMemory` if it runs out of memory; the
+    /// objects aren't handed back then.
     pub fn resolve(alloc: Global, objects: Objects) -> Result<Self, ResolveFault>
         ensures held { IfOk result (λ p. p.held ≡ objects) }
         ensures policy { IfOk result (λ p. IsPolicy p) }
@@ -59,9 +60,10 @@ impl Policy {
         })
     }
 
-    /// The names of the cluster roles that the one of this name reaches, by one step of
-    /// aggregation or more, ascending (Using RBAC Authorization, Aggregated ClusterRoles). A plain
-    /// role reaches none; nor does a name that no cluster role has, which takes no memory.
+    /// The names of the cluster roles that the one with this name reaches by one or more steps of
+    /// aggregation, ascending (Using RBAC Authorization, Aggregated ClusterRoles). A plain role
+    /// reaches none. If no cluster role has the name, there are none either, and nothing is
+    /// allocated.
     pub fn reached(&self, alloc: Global, name: &Word) -> Result<Words, ResolveFault>
         ensures reached { IfOk result (λ ws. (r : ClusterRole) → Contains self.now.held.cluster_roles r → r.name ≡ name.now → AreReachedNames self.now.held r ws) }
         ensures none { ¬ Any (λ r. r.name ≡ name.now) self.now.held.cluster_roles → IsOkAnd result (λ ws. ws ≡ []) }
@@ -70,9 +72,9 @@ impl Policy {
         Ok(names_from(alloc, &self.objects, &self.reaches, name)?)
     }
 
-    /// Whether the cluster role at the first place reaches the one at the second, by one step of
-    /// aggregation or more (Using RBAC Authorization, Aggregated ClusterRoles). Places are counted
-    /// from 0, in order of names. Takes no memory.
+    /// Whether the cluster role at the first place reaches the one at the second by one or more
+    /// steps of aggregation (Using RBAC Authorization, Aggregated ClusterRoles). Places are counted
+    /// from 0, in order of names. Doesn't allocate.
     pub fn reaches(&self, from: usize, to: usize) -> bool
         requires { from < length self.now.held.cluster_roles }
         ensures reaches { (r : ClusterRole) → slice_get self.now.held.cluster_roles from ≡ Some r → (IsTrue result ↔ IsReachedAt self.now.held r to) }
@@ -105,7 +107,7 @@ impl Policy {
         self.places().len() as u32
     }
 
-    /// The grant of this number, from 0.
+    /// The grant with this number, counted from 0.
     pub fn grant(&self, no: u32) -> Grant<'_>
         requires { no < length self.now.grants }
         ensures grant { slice_get self.now.grants no ≡ Some (grant_of result) }
@@ -115,8 +117,8 @@ impl Policy {
         grant_from(&self.objects, places[no as usize])
     }
 
-    /// The places of the parts of the grant of this number, from 0: of its binding, of the role
-    /// where its rule is written, and of the rule in it.
+    /// The places of the parts of the grant with this number, counted from 0: of its binding, of
+    /// the role where its rule is written, and of the rule in that role.
     pub fn place(&self, no: u32) -> GrantPlace
         requires { no < length self.now.grants }
         ensures grant { grant_at self.now.held result ≡ slice_get self.now.grants no }
@@ -125,8 +127,9 @@ impl Policy {
         self.places()[no as usize]
     }
 
-    /// The numbers of the grants of the binding at this place: from the first number, up to the
-    /// second. The grants of a binding stand together, in order of bindings. Takes no memory.
+    /// The numbers of the grants of the binding at this place: from the first number up to, but not
+    /// including, the second. Grants are in order of bindings, so those of one binding are next to
+    /// each other. Doesn't allocate.
     pub fn grants_of(&self, place: usize) -> (u32, u32)
         ensures within { result.1 ≤ length self.now.grants }
         ensures between { (n at : ℕ) → IsOfBinding self.now n at → ((result.0 ≤ n) × (n < result.1)) ↔ (at ≡ place) }

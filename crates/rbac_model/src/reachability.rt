@@ -1,4 +1,4 @@
-//! What is reached in a graph, by one edge or more.
+//! What is reached in a graph by one or more edges.
 
 ghost use Rattle.std.specs.Prelude.{◌≡◌, ◌<◌, ◌⊎◌, ◌↔◌, ℕ, IfOk, OnOk, MatchOption, length, vec_len};
 ghost use Rattle.rbac_model.specs.Graphs.{IsGraph, HasEdge, LeadsTo, IsMarked, LeadsAlike, AreFull, AreEnds};
@@ -7,7 +7,7 @@ use crate::marks::Marks;
 use crate::visit_order::order_of;
 use std::alloc::{AllocError, Global};
 
-// Makes of the edges of each vertex all that it leads to.
+// Replaces the edges of each vertex with edges to all vertices that it leads to.
 pub(crate) fn close(alloc: Global, graph: &mut Vec<Marks>) -> Result<(), AllocError>
     requires { IsGraph graph.old.items }
     ensures len { vec_len graph.new ≡ vec_len graph.old }
@@ -56,7 +56,7 @@ fn close_each(
     Ok(())
 }
 
-// Gives a vertex an edge to all that it leads to, if there is such a vertex and it isn't closed.
+// Gives a vertex an edge to each vertex that it leads to, if the vertex exists and isn't closed.
 fn close_at(
     graph: &mut Vec<Marks>,
     closed: &mut Marks,
@@ -81,8 +81,8 @@ fn close_at(
     Ok(())
 }
 
-// All that a vertex leads to: of each vertex that is met the edges are taken, and of a closed one
-// whatever it has edges to needs no visit.
+// All vertices that a vertex leads to. The search takes the edges of each vertex that it visits;
+// what a closed vertex has edges to needs no visit.
 fn reach(graph: &[Marks], closed: &Marks, ends: &Marks, from: usize) -> Result<Marks, AllocError>
     requires graph { IsGraph graph.now }
     requires ends { AreEnds graph.now ends.now }
@@ -100,7 +100,7 @@ fn reach(graph: &[Marks], closed: &Marks, ends: &Marks, from: usize) -> Result<M
     Ok(seen)
 }
 
-// The next vertex to visit: a closed one that isn't far, or else the first.
+// The next vertex to visit: a closed one that isn't far, otherwise the first.
 fn next(seen: &Marks, done: &Marks, closed: &Marks, near: usize, count: usize) -> Option<usize>
     ensures { MatchOption result
         ((k : ℕ) → k < count → IsMarked seen.now k → IsMarked done.now k)
@@ -112,7 +112,8 @@ fn next(seen: &Marks, done: &Marks, closed: &Marks, near: usize, count: usize) -
     }
 }
 
-// Takes the edges of a vertex, which is done then, as is all that a closed one has edges to.
+// Takes the edges of a vertex. Then that vertex is done, and if it is closed, so is everything that
+// it has edges to.
 fn take(
     graph: &[Marks],
     closed: &Marks,

@@ -1,4 +1,4 @@
-//! What the references of bindings stand for.
+//! What the references of bindings refer to.
 
 ghost use Rattle.std.specs.Prelude.{◌≡◌, ◌<◌, Any, HoldsAt, MatchOption, IsSome, Some, length};
 ghost use Rattle.rbac_model.specs.Lists.{IsAscendingBy};
@@ -15,7 +15,7 @@ use rbac_terms::{Binding, ClusterRole, Role, RoleRef, Rule, Word};
 pub enum SourceRole<'a> {
     /// A role of one namespace.
     Role(&'a Role),
-    /// A cluster role: for a rule that an aggregated role gathers, the plain one that has it.
+    /// A cluster role: for a rule that an aggregated role gathers, the plain role that contains it.
     ClusterRole(&'a ClusterRole),
 }
 
@@ -24,7 +24,7 @@ pub enum SourceRole<'a> {
 pub struct Grant<'a> {
     /// The binding that grants.
     pub binding: &'a Binding,
-    /// The place of the binding among the policy's, from 0.
+    /// The place of the binding among the policy's bindings, from 0.
     pub binding_place: usize,
     /// The role where the rule is written.
     pub source: SourceRole<'a>,
@@ -51,7 +51,7 @@ pub(crate) fn grant_from<'a>(objects: &'a Objects, at: GrantPlace) -> Grant<'a>
     }
 }
 
-// The role at a place, and a rule of it.
+// The role at a place, and the rule at a place in it.
 fn sourced<'a>(objects: &'a Objects, role: RolePlace, place: usize) -> (SourceRole<'a>, &'a Rule)
     requires { IsSome (sourced_at objects.now role place) }
     ensures { sourced_at objects.now role place ≡ Some (record { source = source_of result.0; rule = result.1.now; place = place }) }
@@ -68,7 +68,7 @@ fn sourced<'a>(objects: &'a Objects, role: RolePlace, place: usize) -> (SourceRo
     }
 }
 
-// Where the role of that namespace and name is.
+// The place of the role with this namespace and name.
 pub(crate) fn role_place(roles: &[Role], namespace: &Word, name: &Word) -> Option<usize>
     requires { IsAscendingBy role_name roles.now }
     ensures { MatchOption result
@@ -80,7 +80,7 @@ pub(crate) fn role_place(roles: &[Role], namespace: &Word, name: &Word) -> Optio
         .ok()
 }
 
-// Where the cluster role of that name is.
+// The place of the cluster role with this name.
 pub(crate) fn cluster_role_place(roles: &[ClusterRole], name: &Word) -> Option<usize>
     requires { IsAscendingBy cluster_role_name roles.now }
     ensures { MatchOption result
@@ -90,10 +90,10 @@ pub(crate) fn cluster_role_place(roles: &[ClusterRole], name: &Word) -> Option<u
     roles.binary_search_by(|held| held.name.cmp(name)).ok()
 }
 
-/// The place of the role that a binding refers to, if it is held: a RoleBinding to a Role of its
-/// own namespace or to a ClusterRole, a ClusterRoleBinding to a ClusterRole (Using RBAC
+/// The place of the role that a binding refers to, if that role is held. A RoleBinding refers to a
+/// Role of its own namespace or to a ClusterRole, a ClusterRoleBinding to a ClusterRole (Using RBAC
 /// Authorization, RoleBinding and ClusterRoleBinding). A ClusterRoleBinding that names a Role
-/// refers to none. Takes no memory.
+/// refers to none. Doesn't allocate.
 pub fn ref_place(objects: &Objects, binding: &Binding) -> Option<RolePlace>
     ensures { MatchOption result
         ((source : Source) → ¬ IsRefTo objects.now binding.now.namespace binding.now.role source)

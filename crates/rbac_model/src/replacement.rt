@@ -1,4 +1,5 @@
-//! Which of the objects given stand: a later one replaces an earlier one of its kind and name.
+//! Which of the objects given are kept: a later one replaces an earlier one of its kind, namespace
+//! and name.
 
 ghost use Rattle.std.specs.Prelude.{◌≡◌, IfOk, IfErr};
 ghost use Rattle.std.specs.List.{filter_map};
@@ -17,8 +18,8 @@ struct Kinds {
 }
 
 impl Objects {
-    /// The objects that stand where these are given one after the other: of each kind, namespace
-    /// and name the last one. As quick in any order as in the order of names.
+    /// The objects that are kept if these are given one after the other: the last one of each kind,
+    /// namespace and name. Any order is as fast as the order of names.
     pub fn from_given(alloc: Global, given: Vec<Object>) -> Result<Self, ModelFault>
         ensures kept { IfOk result (λ held. AreKept given.items held) }
         ensures only_memory { IfErr result (λ e. e ≡ ModelFault.NoMemory) }
@@ -58,7 +59,8 @@ fn by_kind(alloc: Global, given: Vec<Object>) -> Result<Kinds, AllocError>
     })
 }
 
-// Of each name the last that has it. Sorted first, so that each goes to the end.
+// For each name, the last item that has it. The items are sorted first, so that each one goes at
+// the end.
 fn last_named<T: Named + Drop>(alloc: Global, mut given: Vec<T>) -> Result<Vec<T>, AllocError>
     ensures { IfOk result (λ kept. AreLastNamed T.name given.items kept.items) }
 {

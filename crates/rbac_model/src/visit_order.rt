@@ -1,12 +1,13 @@
-//! In which order the vertices of a graph are closed. It decides how long that takes and nothing
-//! else, so nothing is proved of it.
+//! The order in which the vertices of a graph are closed. It decides only how long that takes, so
+//! nothing is proved about it.
 
 use crate::marks::Marks;
 use std::alloc::{AllocError, Global};
 
-// The vertices that have edges, in an order where a vertex stands behind those that it leads to,
-// but for rings, and each vertex of a ring but the first has an edge to an earlier one: a search in
-// depth goes edges backwards, and what it leaves last comes first (Kosaraju's order).
+// The vertices that have edges, in an order in which a vertex comes after those that it leads to,
+// except within a cycle, where each vertex but the first has an edge to an earlier one. A
+// depth-first search follows edges backwards; the later it leaves a vertex, the earlier the vertex
+// comes (Kosaraju's order).
 pub(crate) fn order_of(alloc: Global, graph: &[Marks]) -> Result<Vec<usize>, AllocError> {
     let waiting = with_edges(alloc, graph)?;
     let turned = turned(alloc, graph, &waiting)?;
@@ -31,7 +32,7 @@ fn with_edges(alloc: Global, graph: &[Marks]) -> Result<Marks, AllocError> {
     Ok(vertices)
 }
 
-// For each of these vertices those that have an edge to it.
+// For each of these vertices, the vertices that have an edge to it.
 fn turned(alloc: Global, graph: &[Marks], vertices: &Marks) -> Result<Vec<Marks>, AllocError> {
     let mut turned = Vec::with_capacity(alloc, graph.len())?;
     for _row in graph {
@@ -45,7 +46,7 @@ fn turned(alloc: Global, graph: &[Marks], vertices: &Marks) -> Result<Vec<Marks>
     Ok(turned)
 }
 
-// Turns the edges of one vertex.
+// Reverses the edges of one vertex.
 fn turn_row(row: &Marks, from: usize, turned: &mut [Marks]) -> Result<(), AllocError> {
     for at in 0..turned.len() / 64 + 1 {
         if row.has_word(at) {
@@ -55,7 +56,7 @@ fn turn_row(row: &Marks, from: usize, turned: &mut [Marks]) -> Result<(), AllocE
     Ok(())
 }
 
-// Turns the edges that have their mark in one word.
+// Reverses the edges that have their mark in one word.
 fn turn_word(row: &Marks, at: usize, from: usize, turned: &mut [Marks]) -> Result<(), AllocError> {
     let first = at.saturating_mul(64);
     for to in first..first.saturating_add(64).min(turned.len()) {
@@ -66,7 +67,8 @@ fn turn_word(row: &Marks, at: usize, from: usize, turned: &mut [Marks]) -> Resul
     Ok(())
 }
 
-// One step of the search: to a vertex that waits and has an edge to the end of the path, or back.
+// Takes one step of the search: to a waiting vertex that has an edge to the end of the path, or
+// back.
 fn walk(
     turned: &[Marks],
     waiting: &Marks,
@@ -92,7 +94,7 @@ fn walk(
     Ok(())
 }
 
-// One that isn't met and has an edge to this vertex.
+// A vertex that isn't met yet and has an edge to this one.
 fn before(turned: &[Marks], met: &Marks, to: usize) -> Option<usize> {
     turned.get(to)?.first_outside(met, turned.len())
 }

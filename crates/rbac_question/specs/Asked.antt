@@ -19,12 +19,12 @@ abbrev pub IsTypeAndName : Text → Text → Text → Type 0
 IsTypeAndName target word name = IsCutAtFirst target slash word name
     ⊎ ((¬ Contains target slash) × (word ≡ target) × (name ≡ []))
 
--- what TARGET and the subresource ask for: a URL where TARGET begins with a slash, else a type
+-- what TARGET and the subresource ask for: a URL if TARGET begins with a slash, otherwise a type
 abbrev pub AsksFor : Text → Text → AskedFor → Type 0
 AsksFor target subresource (ForUrl path) = BeginsWith target (codes "/") × (path ≡ target) × (subresource ≡ [])
 AsksFor target subresource (ForResource word sub name) = (¬ BeginsWith target (codes "/")) × IsTypeAndName target word name × (sub ≡ subresource)
 
--- nothing stands where the type word is, or nothing before its dot
+-- TARGET is empty, or its type word has nothing before its dot
 abbrev pub LacksType : Text → Type 0
 LacksType target = (target ≡ []) ⊎ BeginsWith target (codes ".")
 
@@ -32,7 +32,7 @@ LacksType target = (target ≡ []) ⊎ BeginsWith target (codes ".")
 abbrev pub HasUrlSubresource : Text → Text → Type 0
 HasUrlSubresource target subresource = BeginsWith target (codes "/") × (subresource ≢ [])
 
--- which refusal TARGET and the subresource come to; memory may be refused at any time
+-- which refusal TARGET and the subresource lead to; out of memory may come at any time
 abbrev pub RefusesTarget : Text → Text → QuestionFault → Type 0
 RefusesTarget target subresource EmptyWord = LacksType target
 RefusesTarget target subresource UrlSubresource = HasUrlSubresource target subresource

@@ -11,7 +11,7 @@ fault_text UrlSubresource = codes "U3 subresource with a URL"
 fault_text BadToken = codes "U4 bad token"
 fault_text NoMemory = codes "out of memory"
 
--- why a token stands for no key, as a refusal of the line that holds it
+-- why a text is no token, as the refusal of the line that contains it
 abbrev pub question_fault : TokenFault → QuestionFault
 question_fault token.NotBase64 = BadToken
 question_fault token.BadVersion = BadToken

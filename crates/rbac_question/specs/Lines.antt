@@ -38,7 +38,7 @@ pub record MatrixParts : Type 0 where
 abbrev pub comma : ℕ
 comma = 44
 
--- what stands before, between and after each place of a byte, in order
+-- the parts before, between and after the places of a byte, in order
 abbrev pub parts_between : ℕ → Text → List Text
 parts_between b text = slice_split (λ byte. byte == b) text
 
@@ -60,7 +60,7 @@ pub record IsQuestion (l : QuestionParts) (q : Question) : Type 0 where
   pub verb : q.verb ≡ l.verb
   pub asked : AsksFor l.target l.subresource q.asked
 
--- what a `can-i` line means: the user with these groups asks it
+-- what a `can-i` line means: the user with these groups asks the question
 abbrev pub MeansCanI : CanIParts → Action → Type 0
 MeansCanI l (CanI principal quiet why question) =
     (principal ≡ AsUser l.user (groups_in l.groups)) × (quiet ≡ l.quiet) × (why ≡ l.why) × IsQuestion l.question question
@@ -69,7 +69,7 @@ MeansCanI l (Matrix after limit) = ⊥
 MeansCanI l (Every after limit) = ⊥
 MeansCanI l Lint = ⊥
 
--- what a `who-can` line means: it asks who is allowed this
+-- what a `who-can` line means: it asks who is allowed what the question asks
 abbrev pub MeansWhoCan : QuestionParts → Action → Type 0
 MeansWhoCan l (CanI principal quiet why question) = ⊥
 MeansWhoCan l (WhoCan question) = IsQuestion l question
@@ -77,19 +77,19 @@ MeansWhoCan l (Matrix after limit) = ⊥
 MeansWhoCan l (Every after limit) = ⊥
 MeansWhoCan l Lint = ⊥
 
--- the key is that of the mark whose token is given; none where none is given (own)
+-- the key is that of the mark whose token is given; there is none if no token is given (own)
 abbrev pub IsAfter : Option Text → Option KeyTexts → Type 0
 IsAfter None after = after ≡ None
 IsAfter (Some token) None = ⊥
 IsAfter (Some token) (Some k) = (m : Mark) × IsTokenOfMark token m × (m.key ≡ k)
 
--- the mark is the one whose token is given; none where none is given (own)
+-- the mark is the one whose token is given; there is none if no token is given (own)
 abbrev pub IsAfterMark : Option Text → Option Mark → Type 0
 IsAfterMark None after = after ≡ None
 IsAfterMark (Some token) None = ⊥
 IsAfterMark (Some token) (Some m) = IsTokenOfMark token m
 
--- what a `matrix` line means: it lists what comes after the key of the token's mark, as many rows as the limit says;
+-- what a `matrix` line means: it lists what comes after the key of the token's mark, at most as many rows as the limit says;
 -- with `--every` it lists every binding that grants, after the mark itself
 abbrev pub MeansMatrix : MatrixParts → Action → Type 0
 MeansMatrix l (CanI principal quiet why question) = ⊥
@@ -98,14 +98,14 @@ MeansMatrix l Lint = ⊥
 MeansMatrix l (Matrix after limit) = (l.every ≡ false) × IsAfter l.after after × (limit ≡ l.limit)
 MeansMatrix l (Every after limit) = (l.every ≡ true) × IsAfterMark l.after after × (limit ≡ l.limit)
 
--- which refusal USER comes to
+-- which refusal USER leads to
 abbrev pub RefusesUser : Text → QuestionFault → Type 0
 RefusesUser user EmptyWord = user ≡ []
 RefusesUser user UrlSubresource = ⊥
 RefusesUser user BadToken = ⊥
 RefusesUser user NoMemory = Unit {0}
 
--- U2 of a question: VERB or TARGET is empty, or nothing stands before the dot of the type word (own)
+-- U2 of a question: VERB or TARGET is empty, or the type word has nothing before its dot (own)
 abbrev pub LacksWord : QuestionParts → Type 0
 LacksWord l = (l.verb ≡ []) ⊎ LacksType l.target
 
@@ -120,23 +120,23 @@ RefusesQuestion l UrlSubresource = (¬ LacksWord l) × HasUrlSubresource l.targe
 RefusesQuestion l BadToken = ⊥
 RefusesQuestion l NoMemory = Unit {0}
 
--- a line without U2 and U3: U2 of `can-i` is an empty USER too (own)
+-- a `can-i` line without U2 and U3; here an empty USER is U2 too (own)
 abbrev pub AcceptsCanI : CanIParts → Type 0
 AcceptsCanI l = (l.user ≢ []) × AcceptsQuestion l.question
 
--- the least refusal of a line; memory may be refused at any time
+-- the least refusal of a `can-i` line; out of memory may come at any time
 abbrev pub RefusesCanI : CanIParts → QuestionFault → Type 0
 RefusesCanI l EmptyWord = (l.user ≡ []) ⊎ LacksWord l.question
 RefusesCanI l UrlSubresource = (l.user ≢ []) × RefusesQuestion l.question UrlSubresource
 RefusesCanI l BadToken = ⊥
 RefusesCanI l NoMemory = Unit {0}
 
--- U4: a token is given that no mark has, with `--every` and without (own)
+-- U4: a text is given that isn't the token of any mark, with or without `--every` (own)
 abbrev pub HasBadToken : Option Text → Type 0
 HasBadToken None = ⊥
 HasBadToken (Some token) = (m : Mark) → ¬ IsTokenOfMark token m
 
--- the refusal of a `matrix` line; memory may be refused at any time
+-- the refusal of a `matrix` line; out of memory may come at any time
 abbrev pub RefusesMatrix : MatrixParts → QuestionFault → Type 0
 RefusesMatrix l EmptyWord = ⊥
 RefusesMatrix l UrlSubresource = ⊥

@@ -13,11 +13,11 @@ use std::marker::Model;
 /// What a question asks for (own).
 #[derive(Drop)]
 pub enum AskedFor {
-    /// A URL, by its path: it begins with a slash.
+    /// A URL, given by its path, which begins with a slash.
     Url(Word),
-    /// A type of resource, with a subresource and an object name, each of which may be empty.
+    /// A type of resource, with a subresource and an object name, which may each be empty.
     Resource {
-        /// The type word: not empty, without a slash, and not begun by a dot.
+        /// The type word: it isn't empty, has no slash and doesn't begin with a dot.
         word: Word,
         /// The subresource.
         subresource: Word,
@@ -26,7 +26,7 @@ pub enum AskedFor {
     },
 }
 
-/// What a question can ask for: as [`AskedFor`] says of a path and of a type word (own).
+/// What a question can ask for, with its path or type word as [`AskedFor`] says (own).
 #[derive(Drop)]
 pub struct Asked {
     what: AskedFor,
@@ -44,12 +44,12 @@ impl Model for Asked {
 }
 
 impl Asked {
-    // What TARGET and `--subresource` ask for (own): a URL where TARGET begins with `/`, else a
-    // type, split at its first `/` into type word and object name. A missing name is the empty
-    // text.
+    // What TARGET and `--subresource` ask for (own): a URL if TARGET begins with `/`, otherwise a
+    // type, with TARGET split at its first `/` into type word and object name. A missing name is
+    // the empty text.
     //
-    // U2 where TARGET is empty or begins with `.`, U3 where a URL has a subresource. Both are
-    // refused before any memory is asked for.
+    // U2 if TARGET is empty or begins with `.`, U3 if a URL has a subresource. Both are refused
+    // before anything is allocated.
     pub(crate) fn from_target(
         alloc: Global,
         target: &str,

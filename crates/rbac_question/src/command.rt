@@ -10,7 +10,7 @@ use rbac_token::Mark;
 pub struct Question {
     /// What `-n` names, or `default`; empty with `-A`.
     pub namespace: Word,
-    /// Never empty where a line was accepted.
+    /// Never empty if the line was accepted.
     pub verb: Word,
     /// What TARGET and `--subresource` ask for.
     pub asked: Asked,
@@ -19,13 +19,13 @@ pub struct Question {
 /// What to do.
 #[derive(Drop)]
 pub enum Action {
-    /// Answers yes or no, whether the principal is allowed what is asked.
+    /// Answers whether the principal is allowed what is asked: yes or no.
     CanI {
         /// The user of `--as`, with the groups of `--groups`.
         principal: Principal,
         /// Whether the answer is the exit status alone.
         quiet: bool,
-        /// Whether a second line explains it, after yes.
+        /// Whether a second line explains a yes.
         why: bool,
         /// What is asked.
         question: Question,
@@ -35,18 +35,18 @@ pub enum Action {
         /// What is asked.
         question: Question,
     },
-    /// Lists all that anyone may do.
+    /// Lists everything that anyone may do.
     Matrix {
         /// The key of `--after`: only what comes after it is listed.
         after: Option<Key>,
-        /// The most rows, as `--limit` gives it.
+        /// The most rows to list, from `--limit`.
         limit: Option<u32>,
     },
-    /// Lists every binding that grants, for all that anyone may do.
+    /// Lists every binding that grants, for everything that anyone may do.
     Every {
         /// The mark of `--after`: only what comes after it is listed.
         after: Option<Mark>,
-        /// The most rows, as `--limit` gives it.
+        /// The most rows to list, from `--limit`.
         limit: Option<u32>,
     },
     /// Lists what is wrong with the roles.

@@ -1,4 +1,4 @@
-//! Why the texts of a line ask nothing.
+//! Why the texts of a line are refused.
 
 ghost use Rattle.std.specs.Prelude.{◌≡◌};
 
@@ -7,16 +7,16 @@ use std::alloc::{AllocError, AllocFailed};
 use std::error::Error;
 use std::fmt;
 
-/// Why the texts of a line ask nothing (own).
+/// Why the texts of a line are refused (own).
 #[derive(Debug, Drop, Clone, Copy, PartialEq, Eq)]
 pub enum QuestionFault {
-    /// U2: USER, VERB or TARGET is empty, or nothing stands before the dot of a type word.
+    /// U2: USER, VERB or TARGET is empty, or a type word has nothing before its dot.
     EmptyWord,
     /// U3: a subresource is asked for with a URL.
     UrlSubresource,
-    /// U4: what follows `--after` is the token of no mark.
+    /// U4: what follows `--after` isn't the token of any mark.
     BadToken,
-    /// Memory was refused.
+    /// Out of memory.
     NoMemory,
 }
 

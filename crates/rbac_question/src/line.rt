@@ -13,11 +13,11 @@ use rbac_token::{Mark, mark_of_token};
 use std::alloc::{AllocError, Global};
 use std::marker::Model;
 
-/// The parts of a line that ask a question, whoever asks it; the text of an option that isn't given
-/// is empty.
+/// The parts of a line that ask a question, apart from who asks it; the text of an option that
+/// isn't given is empty.
 #[derive(Drop)]
 pub struct QuestionLine<'a> {
-    /// Whether `-A` stands.
+    /// Whether `-A` is given.
     pub all_namespaces: bool,
     /// The name after `-n`.
     pub namespace: &'a str,
@@ -50,9 +50,9 @@ pub struct CanILine<'a> {
     pub user: &'a str,
     /// The names after `--groups`, not yet split.
     pub groups: &'a str,
-    /// Whether `-q` stands.
+    /// Whether `-q` is given.
     pub quiet: bool,
-    /// Whether `--why` stands.
+    /// Whether `--why` is given.
     pub why: bool,
     /// The parts that ask the question.
     pub question: QuestionLine<'a>,
@@ -75,7 +75,7 @@ impl<'a> Model for CanILine<'a> {
 /// The parts of a `matrix` line.
 #[derive(Drop)]
 pub struct MatrixLine<'a> {
-    /// Whether `--every` stands.
+    /// Whether `--every` is given.
     pub every: bool,
     /// The token after `--after`.
     pub after: Option<&'a str>,
@@ -116,8 +116,8 @@ fn groups_from(alloc: Global, text: &str) -> Result<Words, AllocError>
     Ok(Words::from_vec(groups))
 }
 
-// The namespace of `-A` and `-n` (own): with `-A` the empty one, else the one given, and `default`
-// where none is.
+// The namespace that `-A` and `-n` mean (own): with `-A` the empty one, otherwise the one given, or
+// `default` if none is given.
 fn namespace_from(alloc: Global, all: bool, given: &str) -> Result<Word, AllocError>
     ensures { IfOk result (λ namespace. namespace ≡ namespace_meant all given.now) }
 {
@@ -130,7 +130,7 @@ fn namespace_from(alloc: Global, all: bool, given: &str) -> Result<Word, AllocEr
     Word::from_slice(alloc, given.as_bytes())
 }
 
-// The user that asks, with the groups given.
+// The user who asks, with the groups given.
 fn principal_from(alloc: Global, user: &str, groups: &str) -> Result<Principal, QuestionFault>
     ensures { MatchResult result
         (λ principal. (principal ≡ AsUser user.now (groups_in groups.now)) × (user.now ≢ []))
@@ -156,7 +156,7 @@ fn mark_after(alloc: Global, token: &str) -> Result<Mark, QuestionFault>
     Ok(mark_of_token(alloc, &token)?)
 }
 
-// The question that a line asks, whoever asks it.
+// The question that a line asks, apart from who asks it.
 fn question_of(alloc: Global, line: &QuestionLine<'_>) -> Result<Question, QuestionFault>
     ensures answer { MatchResult result (λ question. AcceptsQuestion line.now × IsQuestion line.now question)
         (RefusesQuestion line.now) }
@@ -177,8 +177,8 @@ fn question_of(alloc: Global, line: &QuestionLine<'_>) -> Result<Question, Quest
 impl Action {
     /// What a `can-i` line means.
     ///
-    /// U2 where USER, VERB or TARGET is empty, or TARGET begins with `.`; else U3 where a URL has a
-    /// subresource. Both are refused before any memory is asked for.
+    /// U2 if USER, VERB or TARGET is empty, or TARGET begins with `.`; otherwise U3 if a URL has a
+    /// subresource. Both are refused before anything is allocated.
     pub fn can_i(alloc: Global, line: &CanILine<'_>) -> Result<Self, QuestionFault>
         ensures answer { MatchResult result (λ action. AcceptsCanI line.now × MeansCanI line.now action)
             (RefusesCanI line.now) }
@@ -200,8 +200,8 @@ impl Action {
 
     /// What a `who-can` line means.
     ///
-    /// U2 where VERB or TARGET is empty, or TARGET begins with `.`; else U3 where a URL has a
-    /// subresource. Both are refused before any memory is asked for.
+    /// U2 if VERB or TARGET is empty, or TARGET begins with `.`; otherwise U3 if a URL has a
+    /// subresource. Both are refused before anything is allocated.
     pub fn who_can(alloc: Global, line: &QuestionLine<'_>) -> Result<Self, QuestionFault>
         ensures answer { MatchResult result
             (λ action. AcceptsQuestion line.now × MeansWhoCan line.now action)
@@ -216,8 +216,8 @@ impl Action {
 
     /// What a `matrix` line means.
     ///
-    /// Without `--every` a mark stands for its key. U4 where what follows `--after` is the token of
-    /// no mark, with `--every` and without.
+    /// Without `--every`, only the key of a mark counts. U4 if what follows `--after` isn't the
+    /// token of any mark, with or without `--every`.
     pub fn matrix(alloc: Global, line: &MatrixLine<'_>) -> Result<Self, QuestionFault>
         ensures { MatchResult result (MeansMatrix line.now) (RefusesMatrix line.now) }
     {

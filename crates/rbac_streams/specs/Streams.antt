@@ -1,7 +1,7 @@
--- What contracts see of a reader, of a writer and of text on its way.
+-- What contracts see of a reader, of a writer and of text on its way to a sink.
 use Rattle.std.specs.Prelude.{ℕ, Bool, List}
 
--- how many bytes an input may have: 64 MiB (own)
+-- the most bytes that an input may have: 64 MiB (own)
 abbrev pub most_bytes : ℕ
 most_bytes = 67108864
 
@@ -17,7 +17,7 @@ pub record SinkView (W : Type 0) : Type 0 where
   pub has_failed : Bool
   pub taken : ℕ
 
--- text that wasn't written to a sink yet, and how many bytes of the text before it a sink took
+-- text that hasn't been written to a sink yet, and how many bytes of the text before it a sink took
 pub record PageView : Type 0 where
   pub pending : List ℕ
   pub written : ℕ

@@ -4,7 +4,7 @@ ghost use Rattle.std.specs.Prelude.{◌≡◌};
 
 use std::marker::Model;
 
-/// One input, a file's or standard input's, read whole: its bytes, whatever they say.
+/// One input, from a file or standard input, read whole: its bytes, whatever they say.
 #[derive(Clone, Debug, Drop)]
 pub struct Input {
     bytes: Vec<u8>,
@@ -19,7 +19,7 @@ impl Model for Input {
 }
 
 impl Input {
-    /// An input of these bytes; takes no memory.
+    /// An input of these bytes. Doesn't allocate.
     pub fn from_bytes(bytes: Vec<u8>) -> Input
         ensures { result ≡ bytes.items }
     {

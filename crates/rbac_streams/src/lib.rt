@@ -1,4 +1,4 @@
-//! A reader and a writer that stay failed, and reading an input whole.
+//! A reader and a writer that stay failed once they have failed, and reading an input whole.
 #![tactic(auto)]
 
 mod input;

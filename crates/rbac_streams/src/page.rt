@@ -1,4 +1,4 @@
-//! Text on its way to a sink, which is written in large pieces.
+//! Text on its way to a sink, written in large pieces.
 
 ghost use Rattle.std.specs.Prelude.{◌≡◌, ◌++◌, List, ℕ, [], true, false, OnOk, OnErr, IsErrOf};
 ghost use Rattle.rbac_streams.specs.Streams.{SinkView};
@@ -9,11 +9,11 @@ use std::alloc::Global;
 use std::io::Write;
 use std::marker::Model;
 
-// From how many bytes on the text is written to the sink.
+// The text is written to the sink once this many bytes of it are pending.
 const FULL: usize = 65_536;
 
-/// Text that is printed bit by bit and written to a sink in pieces of 64 KiB or more, with the
-/// number of bytes that the sink took of it.
+/// Text that is printed bit by bit and written to a sink in pieces of 64 KiB or more, the last of
+/// which may be shorter, with the number of its bytes that the sink took.
 #[derive(Drop)]
 pub struct Page {
     pending: Vec<u8>,
@@ -33,13 +33,13 @@ impl Model for Page {
 pub enum PrintFault {
     /// The sink failed, before or in this call.
     SinkFailed,
-    /// Memory for the text was refused.
+    /// Out of memory for the text.
     NoMemory,
 }
 
 impl Page {
-    /// An empty page for text that begins at this sink; takes no memory. The sink is named so that
-    /// what is printed counts from here.
+    /// An empty page for text that begins at this sink. Doesn't allocate. The sink is passed so
+    /// that what is printed counts from here.
     pub fn start<W: Write + Drop>(alloc: Global, _sink: &Sink<W>) -> Page
         ensures printed { Printed W.contents _sink.now _sink.now result [] }
         ensures took { Took W.contents _sink.now _sink.now [] }
@@ -51,15 +51,15 @@ impl Page {
         }
     }
 
-    /// How many bytes of the text the sink took, at most the last value of `u128`.
+    /// How many bytes of the text the sink took, at most `u128::MAX`.
     pub fn written(&self) -> u128
         ensures { result ≡ self.now.written }
     {
         self.written
     }
 
-    /// Writes all that is pending to the sink. Where the sink fails, all of it stays pending, also
-    /// the prefix that was taken.
+    /// Writes everything that is pending to the sink. If the sink fails, all of it stays pending,
+    /// including the prefix that was taken.
     pub fn flush<W: Write + Drop>(&mut self, sink: &mut Sink<W>) -> Result<(), PrintFault>
         requires { sink.old.has_failed ≡ false }
         ensures ok { OnOk result ((start : SinkView W) (text : List ℕ)
@@ -86,8 +86,8 @@ impl Page {
         }
     }
 
-    /// Adds to the text, and writes it to the sink once it is long. Where memory is refused,
-    /// nothing changes; where the sink fails, the text is pending with what was added.
+    /// Adds to the text, and writes it to the sink once it is long. If it runs out of memory,
+    /// nothing changes; if the sink fails, the text is pending with what was added.
     pub fn print<W: Write + Drop>(
         &mut self,
         sink: &mut Sink<W>,

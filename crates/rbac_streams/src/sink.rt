@@ -1,4 +1,4 @@
-//! A writer that stays failed, and counts what it took.
+//! A writer that stays failed once it has failed, and counts what it took.
 
 ghost use Rattle.std.specs.Prelude.{◌≡◌, ◌<◌, ◌≤◌, [], length, take, true, false, IfOk, IfErr, OnOk, OnErr};
 ghost use Rattle.rbac_streams.specs.Taken.{Took};
@@ -6,14 +6,14 @@ ghost use Rattle.rbac_streams.specs.Taken.{Took};
 use std::io::Write;
 use std::marker::Model;
 
-/// A call of the reader or the writer answered an error, or the writer took nothing of a piece.
+/// A call of the reader or the writer returned an error, or the writer took nothing of a piece.
 #[derive(Clone, Copy, Debug, PartialEq, Eq)]
 pub struct Failed;
 
-/// A writer that isn't called again once a call of it failed, with the number of bytes that it
+/// A writer that isn't called again once a call of it has failed, with the number of bytes that it
 /// took.
 ///
-/// An interruption is such a failure too, and so is a call that takes nothing of a piece (own).
+/// An interruption is a failure too, and so is a call that takes nothing of a piece (own).
 #[derive(Drop)]
 pub struct Sink<W> {
     writer: W,
@@ -30,7 +30,7 @@ impl<W> Model for Sink<W> {
 }
 
 impl<W: Write + Drop> Sink<W> {
-    /// A writer that hasn't failed and took nothing yet.
+    /// A writer that hasn't failed or taken anything yet.
     pub fn new(writer: W) -> Sink<W>
         ensures { result ≡ record { writer = writer; has_failed = false; taken = 0 } }
     {
@@ -41,24 +41,24 @@ impl<W: Write + Drop> Sink<W> {
         }
     }
 
-    /// Whether a call of the writer failed.
+    /// Whether a call of the writer has failed.
     pub fn failed(&self) -> bool
         ensures { result ≡ self.now.has_failed }
     {
         self.has_failed
     }
 
-    /// How many bytes the writer took, at most the last value of `u128`.
+    /// How many bytes the writer took, at most `u128::MAX`.
     pub fn taken(&self) -> u128
         ensures { result ≡ self.now.taken }
     {
         self.taken
     }
 
-    /// Hands the writer a piece once, and says how long a prefix of it was taken: at least one
-    /// byte.
+    /// Hands the writer a piece once, and returns the length of the prefix that it took: at least
+    /// one byte.
     ///
-    /// Where the writer has failed, it isn't called, and nothing changes.
+    /// If the writer has already failed, it isn't called, and nothing changes.
     pub fn write(&mut self, piece: &[u8]) -> Result<usize, Failed>
         requires { 0 < length piece.now }
         ensures ok { IfOk result (λ n. (0 < n) × (n ≤ length piece.now)
@@ -82,7 +82,7 @@ impl<W: Write + Drop> Sink<W> {
         }
     }
 
-    /// Hands the writer all the bytes, or fails and says how many of them it took.
+    /// Hands the writer all the bytes, or fails and returns how many of them the writer took.
     pub fn put(&mut self, bytes: &[u8]) -> Result<(), usize>
         requires { self.old.has_failed ≡ false }
         ensures ok { OnOk result (Took W.contents self.old self.new bytes.now

@@ -1,4 +1,4 @@
-//! A reader that stays failed, and reading an input whole.
+//! A reader that stays failed once it has failed, and reading an input whole.
 
 ghost use Rattle.std.specs.Prelude.{◌≡◌, ℕ, ◌+◌, ◌<◌, ◌≤◌, List, [], length, take, true, false, IfOk, OnOk, OnErr, IsErrOf};
 ghost use Rattle.std.specs.Io.KnownBytes.{Consumes, IsAtEnd, Keeps};
@@ -15,12 +15,12 @@ use std::marker::Model;
 use std::rt::Files;
 use thiserror::Error;
 
-/// How many bytes an input may have: 64 MiB (own).
+/// The most bytes that an input may have: 64 MiB (own).
 pub const MOST_BYTES: usize = 67_108_864;
 
-/// A reader that isn't called again once a read of it failed, with the number of reads.
+/// A reader that isn't called again once a read of it has failed, with the number of reads.
 ///
-/// An interruption is such a failure too (own).
+/// An interruption is a failure too (own).
 #[derive(Drop)]
 pub struct Source<R> {
     reader: R,
@@ -42,16 +42,16 @@ pub enum InputFault {
     /// I1: a read failed, or the file couldn't be opened.
     #[error("I1 read fault")]
     ReadFault,
-    /// I2: more than [`MOST_BYTES`] came.
+    /// I2: there were more than [`MOST_BYTES`] bytes.
     #[error("I2 too long")]
     TooLong,
-    /// I3: memory was refused.
+    /// I3: out of memory.
     #[error("out of memory")]
     NoMemory,
 }
 
 impl<R: Read + Drop> Source<R> {
-    /// A reader that hasn't failed and wasn't read yet.
+    /// A reader that hasn't failed or been read yet.
     pub fn new(reader: R) -> Source<R>
         ensures { result ≡ record { reader = reader; has_failed = false; reads = 0 } }
     {
@@ -62,16 +62,17 @@ impl<R: Read + Drop> Source<R> {
         }
     }
 
-    /// Whether a read failed.
+    /// Whether a read has failed.
     pub fn failed(&self) -> bool
         ensures { result ≡ self.now.has_failed }
     {
         self.has_failed
     }
 
-    /// Reads once, to the start of the buffer, and says how many bytes: none only at the end.
+    /// Reads once, into the start of the buffer, and returns how many bytes were read: 0 only at
+    /// the end.
     ///
-    /// Where the reader has failed, it isn't called, and nothing changes.
+    /// If the reader has already failed, it isn't called, and nothing changes.
     pub fn read(&mut self, room: &mut [u8]) -> Result<usize, Failed>
         requires { 0 < length room.old }
         ensures ok { IfOk result (λ n. (n ≤ length room.new)
@@ -97,9 +98,9 @@ impl<R: Read + Drop> Source<R> {
     }
 }
 
-/// Reads all there is, at most [`MOST_BYTES`], by at most 67,108,865 reads.
+/// Reads everything there is, at most [`MOST_BYTES`] bytes, in at most 67,108,865 reads.
 ///
-/// I1 where a read failed, I2 where more bytes came, I3 where memory was refused.
+/// I1 if a read failed, I2 if there were more bytes, I3 if it ran out of memory.
 pub fn read_input<R: Read + Drop>(
     alloc: Global,
     source: &mut Source<R>,
@@ -131,10 +132,11 @@ pub fn read_input<R: Read + Drop>(
     }
 }
 
-/// Reads all that a slice has left, as [`read_input`] reads any reader: by its contract alone.
+/// Reads everything that a slice has left, as [`read_input`] does for any reader. This contract
+/// follows from the contract of `read_input` alone.
 ///
-/// A slice shows its bytes, so here it is plain which bytes an input has. A file doesn't, and for
-/// it the same holds as far as its reads give what it has.
+/// A slice shows its bytes, so here the contract says plainly which bytes an input has. A file
+/// doesn't show its bytes; for it the same holds as far as its reads return what it has.
 pub fn read_slice(alloc: Global, source: &mut Source<&[u8]>) -> Result<Input, InputFault>
     requires { source.old.has_failed ≡ false }
     ensures ok { IfOk result (λ input. (input ≡ source.old.reader.now) × (length input ≤ most_bytes)) }
@@ -145,7 +147,7 @@ pub fn read_slice(alloc: Global, source: &mut Source<&[u8]>) -> Result<Input, In
     read_input(alloc, source)
 }
 
-/// Reads the file at `path` whole, as [`read_input`] does; I1 also where it can't be opened.
+/// Reads the file at `path` whole, as [`read_input`] does; I1 also if the file can't be opened.
 pub fn read_file<R: Files>(rt: &R, alloc: Global, path: &str) -> Result<Input, InputFault>
     ensures ok { IfOk result (λ input. (length input ≤ most_bytes) × ((file after : R.File)
         × Consumes (R.File.remaining file) (R.File.remaining after) input × IsAtEnd (R.File.remaining after))) }

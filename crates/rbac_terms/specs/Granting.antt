@@ -4,7 +4,7 @@ use Rattle.rbac_terms.specs.Principals.{Who, AsUser, AsMember, who_key, IsUserNa
 use Rattle.rbac_terms.specs.declared.granting.Subject.{Subject}
 use Rattle.rbac_terms.specs.declared.granting.Subject.TheVariants.{User, Group, Account}
 
--- a subject of a binding in that namespace, or in none, names who asks: the user of that name, whoever is in the group, the user of the service account (Using RBAC Authorization, Referring to subjects); an account without a namespace is of the binding's, and names nobody where that has none (own)
+-- a subject of a binding in that namespace, or in none, names who asks: the user of that name, anyone in the group, or the user of the service account (Using RBAC Authorization, Referring to subjects); an account without a namespace is in the binding's, and names nobody if the binding has none (own)
 abbrev pub Names : Subject → Option Text → Who → Type 0
 Names (User name) _ who = IsUserNamed who name
 Names (Group name) _ who = IsInGroup who name
@@ -12,7 +12,7 @@ Names (Account (Some namespace) name) _ who = IsUserNamed who (account_user name
 Names (Account None name) (Some namespace) who = IsUserNamed who (account_user namespace name)
 Names (Account None name) None _ = ⊥
 
--- the key of the principal that a subject stands for, if it does (own): an account's is its user's, and one without any namespace has none
+-- the key of the principal that a subject stands for, if any (own): an account's key is its user's, and an account without any namespace has none
 abbrev pub IsSubjectKey : Subject → Option Text → Text → Type 0
 IsSubjectKey (User name) _ key = key ≡ who_key (AsUser name [])
 IsSubjectKey (Group name) _ key = key ≡ who_key (AsMember name)

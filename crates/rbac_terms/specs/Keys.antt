@@ -5,7 +5,7 @@ use Rattle.rbac_terms.specs.Text.{Text, text_cmp}
 use Rattle.rbac_terms.specs.Principals.{Who, who_key}
 use Rattle.rbac_terms.specs.Targets.{What, Resource, Url, group_of, text_of, name_of}
 
--- the key of a request: six texts, the principal's key, namespace, verb, API group, resource text or URL, object name (own)
+-- the key of a request: six texts, which are the principal's key, the namespace, verb, API group, resource text or URL, and object name (own)
 pub record KeyTexts : Type 0 where
   pub principal : Text
   pub namespace : Text
@@ -18,12 +18,12 @@ pub record KeyTexts : Type 0 where
 abbrev pub texts : KeyTexts → List Text
 texts k = k.principal ∷ k.namespace ∷ k.verb ∷ k.group ∷ k.resource ∷ k.name ∷ []
 
--- the namespace of a request; a URL request has the empty one, whatever is handed in (own)
+-- the namespace of a request; a request for a URL has the empty one, whatever is passed in (own)
 abbrev pub namespace_at : Text → What → Text
 namespace_at namespace (Resource group text name) = namespace
 namespace_at namespace (Url path) = []
 
--- the key of the request of someone, in a namespace, for a verb on what is asked for (own)
+-- the key of someone's request, in a namespace, for a verb on a target (own)
 abbrev pub key_of : Who → Text → Text → What → KeyTexts
 key_of who namespace verb t = record {
   principal = who_key who;
@@ -34,6 +34,6 @@ key_of who namespace verb t = record {
   name = name_of t;
 }
 
--- the order of keys: text by text, each byte by byte (own)
+-- the order of keys: text by text, each text byte by byte (own)
 abbrev pub key_cmp : KeyTexts → KeyTexts → Ordering
 key_cmp a b = slice_cmp text_cmp (texts a) (texts b)

@@ -11,7 +11,7 @@ WordMatches w x = (w ≡ codes "*") ⊎ (w ≡ x)
 abbrev pub FollowsFirstSlash : Text → Text → Type 0
 FollowsFirstSlash x s = (m : Text) × IsCutAtFirst x slash m s
 
--- a rule's word matches a resource text: as above, or it is `*/` and the text's subresource, which isn't empty (rbac/v1 evaluation helpers)
+-- a rule's word matches a resource text: it is `*`, the text itself, or `*/` followed by the text's subresource, which isn't empty (rbac/v1 evaluation helpers)
 abbrev pub ResourceWordMatches : Text → Text → Type 0
 ResourceWordMatches w x = WordMatches w x ⊎ ((s : Text) × (w ≡ codes "*/" ++ s) × (s ≢ []) × FollowsFirstSlash x s)
 
@@ -23,21 +23,21 @@ NameMatches names x = (names ≡ []) ⊎ Contains names x
 abbrev pub EndsInStar : Text → Type 0
 EndsInStar t = (r : Text) × (t ≡ r ++ star ∷ [])
 
--- a rule's word matches a URL path: it is the path, or it ends in stars and the path begins with what stands before all of them (rbac/v1 evaluation helpers; more than one star: own)
+-- a rule's word matches a URL path: it is the path, or it ends in stars and the path begins with what comes before all of them (rbac/v1 evaluation helpers; more than one star: own)
 abbrev pub UrlWordMatches : Text → Text → Type 0
 UrlWordMatches w x = (w ≡ x)
     ⊎ ((q : Text) × (k : ℕ) × (w ≡ q ++ replicate (k + 1) star) × (¬ EndsInStar q) × BeginsWith x q)
 
--- some verb word of the rule matches (rbac/v1 evaluation helpers)
+-- some verb word of the rule matches the verb (rbac/v1 evaluation helpers)
 abbrev pub VerbOk : Rule → Text → Type 0
 VerbOk r v = Any (λ w. WordMatches w v) r.verbs
 
--- the rule matches what is asked for, verbs aside: a resource by some group word, some resource word and the names; a URL by some URL word (rbac/v1 evaluation helpers)
+-- the rule matches the target, verbs aside: a resource by some group word, some resource word and the names; a URL by some URL word (rbac/v1 evaluation helpers)
 abbrev pub TargetOk : Rule → What → Type 0
 TargetOk r (Resource group text name) =
     Any (λ w. WordMatches w group) r.groups × Any (λ w. ResourceWordMatches w text) r.resources × NameMatches r.resource_names name
 TargetOk r (Url path) = Any (λ w. UrlWordMatches w path) r.urls
 
--- the rule allows the verb on what is asked for: it matches both (rbac/v1 evaluation helpers)
+-- the rule allows the verb on the target: it matches both (rbac/v1 evaluation helpers)
 abbrev pub RuleAllows : Rule → Text → What → Type 0
 RuleAllows r v t = VerbOk r v × TargetOk r t

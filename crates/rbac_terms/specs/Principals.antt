@@ -15,7 +15,7 @@ who_key (AsMember group) = codes "g:" ++ group
 abbrev pub account_user : Text → Text → Text
 account_user namespace name = codes "system:serviceaccount:" ++ namespace ++ codes ":" ++ name
 
--- a part of such a name, as a namespace or an account's name: not empty, and without a colon (own)
+-- a part of a service account's user name, the namespace or the account's name: not empty and without a colon (own)
 abbrev pub IsPart : Text → Type 0
 IsPart t = (t ≢ []) × (¬ Contains t colon)
 
@@ -23,7 +23,7 @@ IsPart t = (t ≢ []) × (¬ Contains t colon)
 abbrev pub IsAccountOf : Text → Text → Type 0
 IsAccountOf user namespace = (name : Text) × (user ≡ account_user namespace name) × IsPart namespace × IsPart name
 
--- the groups that the service accounts of a namespace are in: that of all, and that of the namespace (Using RBAC Authorization, Referring to subjects)
+-- the groups that the service accounts of a namespace are in: that of all service accounts, and that of those in the namespace (Using RBAC Authorization, Referring to subjects)
 abbrev pub IsGroupOfAccounts : Text → Text → Type 0
 IsGroupOfAccounts namespace g = (g ≡ codes "system:serviceaccounts") ⊎ (g ≡ codes "system:serviceaccounts:" ++ namespace)
 
@@ -31,32 +31,32 @@ IsGroupOfAccounts namespace g = (g ≡ codes "system:serviceaccounts") ⊎ (g �
 abbrev pub IsAccountGroup : Text → Text → Type 0
 IsAccountGroup user g = (namespace : Text) × IsAccountOf user namespace × IsGroupOfAccounts namespace g
 
--- the group that says whether a user has signed in: `system:unauthenticated` of the anonymous user, `system:authenticated` of any other (Using RBAC Authorization), save of one that was given `system:unauthenticated` (own)
+-- the group that says whether a user has signed in: `system:unauthenticated` for the anonymous user, `system:authenticated` for any other (Using RBAC Authorization), except one that is given `system:unauthenticated` (own)
 abbrev pub IsSignInGroup : Text → List Text → Text → Type 0
 IsSignInGroup user given g =
     ((user ≡ codes "system:anonymous") × (g ≡ codes "system:unauthenticated"))
     ⊎ ((user ≢ codes "system:anonymous") × (¬ Contains given (codes "system:unauthenticated")) × (g ≡ codes "system:authenticated"))
 
--- the groups that a user is in beside those given: as a service account, and as one that has signed in or hasn't (Using RBAC Authorization)
+-- the groups that a user is in besides those given: as a service account, and as a user that has signed in or hasn't (Using RBAC Authorization)
 abbrev pub IsImpliedGroup : Text → List Text → Text → Type 0
 IsImpliedGroup user given g = IsAccountGroup user g ⊎ IsSignInGroup user given g
 
--- the groups of who asks: a user's given and implied ones (Using RBAC Authorization); a member's one group alone (own)
+-- the groups of who asks: for a user, those given and the implied ones (Using RBAC Authorization); for a member, its one group alone (own)
 abbrev pub IsInGroup : Who → Text → Type 0
 IsInGroup (AsUser name given) g = Contains given g ⊎ IsImpliedGroup name given g
 IsInGroup (AsMember group) g = g ≡ group
 
--- the name that stands in the key: the user's, or the one group's (own)
+-- the name in the key: the user's, or the group's (own)
 abbrev pub name_of : Who → Text
 name_of (AsUser name given) = name
 name_of (AsMember group) = group
 
--- the groups that are given: a user's; a member of one group is given none (own)
+-- the groups that a user is given; a member of one group is given none (own)
 abbrev pub given_of : Who → List Text
 given_of (AsUser name given) = given
 given_of (AsMember group) = []
 
--- who asks is the user of that name, with whatever groups (Using RBAC Authorization, Referring to subjects)
+-- who asks is the user of that name, whatever its groups (Using RBAC Authorization, Referring to subjects)
 abbrev pub IsUserNamed : Who → Text → Type 0
 IsUserNamed (AsUser name given) wanted = name ≡ wanted
 IsUserNamed (AsMember group) wanted = ⊥
@@ -66,12 +66,12 @@ abbrev pub IsAccountIn : Who → Text → Type 0
 IsAccountIn (AsUser name given) namespace = IsAccountOf name namespace
 IsAccountIn (AsMember group) namespace = ⊥
 
--- the group says whether who asks has signed in, which is so for users alone (own)
+-- the group that says whether who asks has signed in; a member of one group has none (own)
 abbrev pub SignsInAs : Who → Text → Type 0
 SignsInAs (AsUser name given) g = IsSignInGroup name given g
 SignsInAs (AsMember group) g = ⊥
 
--- who asks, where the program holds a mark, true of a user, the key, and the groups given
+-- who asks, as the program holds it: a flag that is true for a user, the key, and the groups given
 abbrev pub who_of : Bool → Text → List Text → Who
 who_of true key given = AsUser (drop 2 key) given
 who_of false key given = AsMember (drop 2 key)

@@ -6,35 +6,35 @@ pub data What : Type 0 where
   Resource : (group text name : Text) → What
   Url : (path : Text) → What
 
--- a resource text isn't empty and doesn't begin with a slash; a URL does (own, after the paths of API requests)
+-- a resource text isn't empty and doesn't begin with a slash; a URL begins with one (own, after the paths of API requests)
 abbrev pub IsProper : What → Type 0
 IsProper (Resource group text name) = (text ≢ []) × (¬ BeginsWith text (codes "/"))
 IsProper (Url path) = BeginsWith path (codes "/")
 
--- its API group; the core group and a URL's are empty
+-- the API group of a target; empty for the core group and for a URL
 abbrev pub group_of : What → Text
 group_of (Resource group text name) = group
 group_of (Url path) = []
 
--- its resource text, or its path
+-- the resource text of a target, or its path
 abbrev pub text_of : What → Text
 text_of (Resource group text name) = text
 text_of (Url path) = path
 
--- its object name, empty where no object is named, and a URL's
+-- the object name of a target; empty if no object is named, and for a URL
 abbrev pub name_of : What → Text
 name_of (Resource group text name) = name
 name_of (Url path) = []
 
--- what is asked for is a URL
+-- the target is a URL
 abbrev pub IsUrl : What → Type 0
 IsUrl t = t ≡ Url (text_of t)
 
--- what is asked for is a resource
+-- the target is a resource
 abbrev pub IsResource : What → Type 0
 IsResource t = t ≡ Resource (group_of t) (text_of t) (name_of t)
 
--- what is requested, where the program holds a mark, true of a URL, and three texts
+-- the target, as the program holds it: a flag that is true for a URL, and three texts
 abbrev pub what_of : Bool → Text → Text → Text → What
 what_of true group text name = Url text
 what_of false group text name = Resource group text name

@@ -1,21 +1,22 @@
-//! Why a word of the field can't be made.
+//! Why a term can't be made.
 
 ghost use Rattle.std.specs.Prelude.{◌≡◌};
 
 use std::alloc::{AllocError, AllocFailed};
 use thiserror::Error;
 
-/// Why a principal, a target or a key isn't made, or an object isn't put (own). Its text is the
-/// number and name of the refusal; out of memory has no number there.
+/// Why a principal, a target or a key can't be made, or putting an object fails (own). The fault's
+/// text is the number and name of the refusal; out of memory has no number there.
 #[derive(Debug, Drop, Clone, Copy, PartialEq, Eq, Error)]
 pub enum ModelFault {
     /// P1: a principal without a name.
     #[error("P1 empty name")]
     EmptyName,
-    /// P3: a resource text that is empty or begins with a slash, or a URL that doesn't.
+    /// P3: a resource text that is empty or begins with a slash, or a URL that doesn't begin with
+    /// one.
     #[error("P3 bad target")]
     BadTarget,
-    /// P5: memory was refused.
+    /// P5: out of memory.
     #[error("out of memory")]
     NoMemory,
 }

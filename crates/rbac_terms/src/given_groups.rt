@@ -9,15 +9,14 @@ use crate::text::{Word, Words};
 use std::alloc::{AllocError, Global};
 use std::marker::Model;
 
-// The groups that a user is given, as they are given: in order, with repeats. Contracts see the
-// list of them.
+// The groups that a user is given, as given: in order, with repeats. Contracts see them as a list.
 #[derive(Drop)]
 pub(crate) struct GivenGroups {
     given: Words,
-    // The texts once more, sorted, since a user of thousands of groups is looked up for each
-    // subject of a million. None for a member of a group, who is given none, and where those of
-    // another entry were added: a user may have a million entries, and a sort at each would take
-    // the square of that.
+    // The texts again, sorted, because a user with thousands of groups may be looked up for each of
+    // a million subjects. `None` for a member of a group, who is given no groups, and once the
+    // groups of another entry were added: a user may have a million entries, and sorting at each
+    // would take time quadratic in their number.
     sorted: Option<Vec<Word>>,
 }
 
@@ -33,7 +32,7 @@ impl Model for GivenGroups {
 }
 
 impl GivenGroups {
-    // No groups. Takes no memory.
+    // No groups. Doesn't allocate.
     pub(crate) fn new(alloc: Global) -> Self
         ensures { result ≡ [] }
     {
@@ -43,7 +42,7 @@ impl GivenGroups {
         }
     }
 
-    // Copies of these groups. Fails only where memory is refused.
+    // Copies of these groups. Fails only if it runs out of memory.
     pub(crate) fn of(groups: &Words) -> Result<Self, AllocError>
         ensures { IfOk result (λ given. given ≡ groups.now) }
     {
@@ -62,7 +61,7 @@ impl GivenGroups {
         self.given.as_slice()
     }
 
-    // Whether the group of this name is among them.
+    // Whether the group of this name is among those given.
     pub(crate) fn contains(&self, group: &[u8]) -> bool
         ensures { IsTrue result ↔ Contains self.now group.now }
     {
@@ -72,8 +71,8 @@ impl GivenGroups {
         }
     }
 
-    // Adds all of these at the end, in order. Fails only where memory is refused, and the groups
-    // are then as before.
+    // Adds all of these groups at the end, in order. Fails only if it runs out of memory, and then
+    // leaves the groups unchanged.
     pub(crate) fn append(&mut self, more: Self) -> Result<(), AllocError>
         ensures ok { OnOk result (self.new ≡ self.old ++ more) }
         ensures err { OnErr result (self.new ≡ self.old) }
@@ -102,7 +101,7 @@ fn sorted_copy(words: &Words) -> Result<Vec<Word>, AllocError>
     Ok(sorted)
 }
 
-// Whether the text is among these.
+// Whether the text is among these sorted ones.
 fn is_among(sorted: &[Word], text: &[u8]) -> bool
     requires { IsSorted text_cmp sorted.now }
     ensures { IsTrue result ↔ Contains sorted.now text.now }

@@ -16,7 +16,7 @@ use std::alloc::{AllocError, Global};
 pub struct Role {
     /// The role's namespace.
     pub namespace: Word,
-    /// The role's name, which is its own within the namespace.
+    /// The role's name, unique within the namespace.
     pub name: Word,
     /// The rules, in their written order.
     pub rules: Rules,
@@ -26,13 +26,14 @@ pub struct Role {
 /// "Role and ClusterRole", "Aggregated ClusterRoles").
 #[derive(Drop)]
 pub struct ClusterRole {
-    /// The role's name, which is its own within the cluster.
+    /// The role's name, unique within the cluster.
     pub name: Word,
     /// The labels by which aggregated roles select it.
     pub labels: Labels,
     /// The rules, in their written order; those of an aggregated role aren't used.
     pub rules: Rules,
-    /// What an aggregated role gathers its rules from; a plain role has none.
+    /// The selectors of the roles that an aggregated role gathers its rules from; a plain role has
+    /// none.
     pub aggregation: Option<Selectors>,
 }
 
@@ -46,23 +47,23 @@ pub enum RoleRef {
     ClusterRole(Word),
 }
 
-/// Whom a binding grants its role to (Using RBAC Authorization, "Referring to subjects").
+/// Who a binding grants its role to (Using RBAC Authorization, "Referring to subjects").
 #[derive(Drop)]
 pub enum Subject {
     /// The user of this name.
     User(Word),
-    /// Whoever is in this group.
+    /// Everyone in this group.
     Group(Word),
     /// A service account.
     Account {
-        /// Its namespace; where there is none, that of the binding.
+        /// Its namespace; if there is none, the binding's.
         namespace: Option<Word>,
         /// Its name within the namespace.
         name: Word,
     },
 }
 
-/// The subjects of a binding in their written order: as many as memory holds.
+/// The subjects of a binding in their written order: as many as fit in memory.
 pub type Subjects = Items<Subject>;
 
 /// A binding of a role to subjects (Using RBAC Authorization, "RoleBinding and
@@ -71,18 +72,18 @@ pub type Subjects = Items<Subject>;
 pub struct Binding {
     /// A RoleBinding's namespace; a ClusterRoleBinding has none.
     pub namespace: Option<Word>,
-    /// The binding's name, which is its own within the namespace, or within the cluster.
+    /// The binding's name, unique within the namespace, or within the cluster.
     pub name: Word,
     /// The role that it grants.
     pub role: RoleRef,
-    /// Whom it grants the role to.
+    /// The subjects that it grants the role to.
     pub subjects: Subjects,
 }
 
-/// Whether a subject of a binding in that namespace, or of a ClusterRoleBinding where there is
-/// none, names this principal: the user of its name, a member of its group, or the user of its
-/// service account (Using RBAC Authorization, "Referring to subjects"). An account without a
-/// namespace is of the binding's; in a ClusterRoleBinding it names nobody (own). Takes no memory.
+/// Whether a subject of a binding in that namespace, or of a ClusterRoleBinding if there is none,
+/// names this principal: as the user of the subject's name, a member of its group, or the user of
+/// its service account (Using RBAC Authorization, "Referring to subjects"). An account without a
+/// namespace is in the binding's; in a ClusterRoleBinding it names nobody (own). Doesn't allocate.
 pub fn names(subject: &Subject, binding_namespace: Option<&Word>, principal: &Principal) -> bool
     ensures { IsTrue result ↔ Names subject.now (option_copied binding_namespace.entry) principal.now }
 {
@@ -97,9 +98,9 @@ pub fn names(subject: &Subject, binding_namespace: Option<&Word>, principal: &Pr
 }
 
 /// The key of the principal that a subject stands for, in a binding in that namespace, or in a
-/// ClusterRoleBinding where there is none (own): an account's is its user's. An account without a
-/// namespace is of the binding's; in a ClusterRoleBinding it stands for nobody. Fails only where
-/// memory is refused.
+/// ClusterRoleBinding if there is none (own): an account's key is its user's. An account without a
+/// namespace is in the binding's; in a ClusterRoleBinding it stands for nobody. Fails only if it
+/// runs out of memory.
 pub fn subject_key(
     alloc: Global,
     subject: &Subject,

@@ -5,7 +5,7 @@ ghost use Rattle.std.specs.Prelude.{◌≡◌, ◌++◌, ◌∷◌, [], IfOk, If
 use std::alloc::{AllocError, AllocFailed, Global};
 use std::marker::Model;
 
-/// A list of items, in order, with repeats: as many as memory holds. Contracts see the list of the
+/// A list of items, in order, with repeats: as many as fit in memory. Contracts see the list of
 /// items.
 #[derive(Clone, Drop)]
 pub struct Items<T> {
@@ -21,7 +21,7 @@ impl<T> Model for Items<T> {
 }
 
 impl<T> Items<T> {
-    /// The empty list. Takes no memory.
+    /// The empty list. Doesn't allocate.
     pub fn new(alloc: Global) -> Self
         ensures { result ≡ [] }
     {
@@ -30,14 +30,14 @@ impl<T> Items<T> {
         }
     }
 
-    /// The list of these items. Takes no memory.
+    /// The list of these items. Doesn't allocate.
     pub fn from_vec(items: Vec<T>) -> Self
         ensures { result ≡ items.items }
     {
         Items { items }
     }
 
-    /// The items, in order, to be taken over. Takes no memory.
+    /// The items, in order, handed over to the caller. Doesn't allocate.
     pub fn into_vec(self) -> Vec<T>
         ensures { result.items ≡ self }
     {
@@ -61,8 +61,8 @@ impl<T> Items<T> {
 }
 
 impl<T: Drop> Items<T> {
-    /// Adds an item at the end. Fails only where memory is refused: the item then comes back in the
-    /// error, and the list is as before.
+    /// Adds an item at the end. Fails only if it runs out of memory: the item then comes back in
+    /// the error, and the list is unchanged.
     pub fn push(&mut self, item: T) -> Result<(), AllocFailed<T>>
         ensures ok { OnOk result (self.new ≡ self.old ++ item ∷ []) }
         ensures err { OnErr result (self.new ≡ self.old) }
@@ -71,8 +71,8 @@ impl<T: Drop> Items<T> {
         self.items.push(item)
     }
 
-    // Adds all of these at the end, in order. Fails only where memory is refused, and the list is
-    // then as before.
+    // Adds all of these items at the end, in order. Fails only if it runs out of memory, and then
+    // leaves the list unchanged.
     pub(crate) fn append(&mut self, mut more: Items<T>) -> Result<(), AllocError>
         ensures ok { OnOk result (self.new ≡ self.old ++ more) }
         ensures err { OnErr result (self.new ≡ self.old) }

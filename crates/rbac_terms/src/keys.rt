@@ -10,9 +10,9 @@ use std::alloc::Global;
 use std::cmp::Ordering;
 use std::marker::Model;
 
-/// The key of a request: the principal's key, namespace, verb, API group, resource text or URL, and
-/// object name. A request for a URL has no namespace, group and name. Keys are ordered text by text
-/// in this order, each byte by byte (own).
+/// The key of a request: the principal's key, the namespace, verb, API group, resource text or URL,
+/// and object name. A request for a URL has no namespace, API group or object name. Keys are
+/// ordered text by text in this order, each text byte by byte (own).
 #[derive(Drop)]
 pub struct Key {
     principal: Word,
@@ -32,7 +32,7 @@ impl Model for Key {
 }
 
 impl Key {
-    /// The key of this request. Fails with P5 NoMemory, and only where memory is refused.
+    /// The key of this request. Fails only if it runs out of memory, with P5 NoMemory.
     pub fn of(
         alloc: Global,
         principal: &Principal,
@@ -58,7 +58,7 @@ impl Key {
         })
     }
 
-    /// The text at this place, from 0 to 5 in the key's order. Takes no memory.
+    /// The text at this place, from 0 to 5 in the key's order. Doesn't allocate.
     pub fn field(&self, place: usize) -> &Word
         requires { place < 6 }
         ensures { slice_get (texts self.now) place ≡ Some result.now }

@@ -1,6 +1,6 @@
-//! The words of role-based access control (texts, rules, subjects, principals, targets, selectors,
-//! keys), and what each of them matches. `rbac_model` builds policies of them, and re-exports their
-//! names.
+//! The terms of role-based access control (texts, rules, subjects, principals, targets, selectors,
+//! keys), and what each of them matches. `rbac_model` builds policies from them and re-exports
+//! their names.
 #![tactic(auto)]
 
 mod fault;

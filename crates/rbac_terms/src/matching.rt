@@ -10,45 +10,45 @@ use crate::request::Target;
 use crate::text::{Word, Words, cut_at_first};
 
 /// A rule of a role: which verbs may be used on which resources or URLs (Using RBAC Authorization,
-/// "API objects"). Any lists of words are accepted here; what a manifest may hold is the loader's
-/// concern.
+/// "API objects"). Any lists of words are accepted here; the loader decides what a manifest may
+/// contain.
 #[derive(Drop)]
 pub struct Rule {
-    /// Verbs, or `*` for each verb.
+    /// Verbs, or `*` for every verb.
     pub verbs: Words,
-    /// API groups, the core group as the empty text, or `*` for each group.
+    /// API groups, with the core group as the empty text, or `*` for every group.
     pub groups: Words,
-    /// Resources as `pods` or `pods/log`, `*/log` for a subresource of each resource, or `*` for
+    /// Resources like `pods` or `pods/log`, `*/log` for a subresource of every resource, or `*` for
     /// all.
     pub resources: Words,
-    /// Names of objects; no names at all stand for every name.
+    /// Object names; an empty list stands for every name.
     pub resource_names: Words,
-    /// URL paths, where a `*` at the end stands for any end.
+    /// URL paths; a `*` at the end of one stands for any ending.
     pub urls: Words,
 }
 
-/// The rules of a role in their written order: as many as memory holds.
+/// The rules of a role in their written order: as many as fit in memory.
 pub type Rules = Items<Rule>;
 
 /// Whether a word of the rule matches this verb: it is `*` or the verb itself (rbac/v1 evaluation
-/// helpers, VerbMatches). Takes no memory.
+/// helpers, VerbMatches). Doesn't allocate.
 pub fn verb_matches(rule: &Rule, verb: &Word) -> bool
     ensures { IsTrue result ↔ Any (λ w. WordMatches w verb.now) rule.now.verbs }
 {
     some_word_matches(&rule.verbs, verb)
 }
 
-/// Whether a word of the rule matches this API group, where the empty text is the core group: it is
-/// `*` or the group itself (rbac/v1 evaluation helpers, APIGroupMatches). Takes no memory.
+/// Whether a word of the rule matches this API group: it is `*` or the group itself (rbac/v1
+/// evaluation helpers, APIGroupMatches). The empty text is the core group. Doesn't allocate.
 pub fn group_matches(rule: &Rule, group: &Word) -> bool
     ensures { IsTrue result ↔ Any (λ w. WordMatches w group.now) rule.now.groups }
 {
     some_word_matches(&rule.groups, group)
 }
 
-/// Whether a word of the rule matches this resource text, as `pods` or `pods/log`: it is `*`, the
-/// text itself, or `*/` and the text's subresource (rbac/v1 evaluation helpers, ResourceMatches).
-/// Takes no memory.
+/// Whether a word of the rule matches this resource text, like `pods` or `pods/log`: it is `*`, the
+/// text itself, or `*/` followed by the text's subresource (rbac/v1 evaluation helpers,
+/// ResourceMatches). Doesn't allocate.
 pub fn resource_matches(rule: &Rule, text: &Word) -> bool
     ensures { IsTrue result ↔ Any (λ w. ResourceWordMatches w text.now) rule.now.resources }
 {
@@ -58,9 +58,9 @@ pub fn resource_matches(rule: &Rule, text: &Word) -> bool
     ))
 }
 
-/// Whether the rule's names match this object name, which is empty where a request names no object:
-/// the rule has no names, or this one (rbac/v1 evaluation helpers, ResourceNameMatches). Takes no
-/// memory.
+/// Whether the rule's names match this object name, which is empty if the request names no object:
+/// the rule has no names, or this one is among them (rbac/v1 evaluation helpers,
+/// ResourceNameMatches). Doesn't allocate.
 pub fn name_matches(rule: &Rule, name: &Word) -> bool
     ensures { IsTrue result ↔ NameMatches rule.now.resource_names name.now }
 {
@@ -68,8 +68,8 @@ pub fn name_matches(rule: &Rule, name: &Word) -> bool
 }
 
 /// Whether a word of the rule matches this URL path: it is the path itself, or it ends in `*` and
-/// the path begins with the word without the stars at its end (rbac/v1 evaluation helpers,
-/// NonResourceURLMatches; more than one star: own). Takes no memory.
+/// the path begins with the word without its trailing stars (rbac/v1 evaluation helpers,
+/// NonResourceURLMatches; more than one star: own). Doesn't allocate.
 pub fn url_matches(rule: &Rule, path: &Word) -> bool
     ensures { IsTrue result ↔ Any (λ w. UrlWordMatches w path.now) rule.now.urls }
 {
@@ -79,16 +79,16 @@ pub fn url_matches(rule: &Rule, path: &Word) -> bool
         .any(|word| url_word_matches(word.as_bytes(), path.as_bytes()))
 }
 
-/// Whether the rule allows this verb on this target (rbac/v1 evaluation helpers, RuleAllows). Takes
-/// no memory.
+/// Whether the rule allows this verb on this target (rbac/v1 evaluation helpers, RuleAllows).
+/// Doesn't allocate.
 pub fn rule_allows(rule: &Rule, verb: &Word, target: &Target) -> bool
     ensures { IsTrue result ↔ RuleAllows rule.now verb.now target.now }
 {
     verb_matches(rule, verb) && target_matches(rule, target)
 }
 
-/// Whether the rule matches this target, verbs aside: a resource by group, resource text and name,
-/// a URL by its path (rbac/v1 evaluation helpers, RuleAllows). Takes no memory.
+/// Whether the rule matches this target, verbs aside: a resource by API group, resource text and
+/// object name, a URL by its path (rbac/v1 evaluation helpers, RuleAllows). Doesn't allocate.
 pub fn target_matches(rule: &Rule, target: &Target) -> bool
     ensures { IsTrue result ↔ TargetOk rule.now target.now }
 {
@@ -132,7 +132,7 @@ fn resource_word_matches(word: &[u8], text: &[u8]) -> bool
     }
 }
 
-// Whether this is what follows the first slash.
+// Whether `rest` is what follows the first slash of the text.
 fn follows_first_slash(text: &[u8], rest: &[u8]) -> bool
     ensures { IsTrue result ↔ FollowsFirstSlash text.now rest.now }
 {

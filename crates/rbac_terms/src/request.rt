@@ -11,22 +11,22 @@ use crate::text::{Word, Words, after_prefix, cut_at_first, is_joined};
 use std::alloc::{AllocError, Global};
 use std::marker::Model;
 
-// What the key of a user begins with.
+// The prefix of a user's key.
 const USER: &[u8] = b"u:";
 
-// What the key of a member of a group begins with.
+// The prefix of the key of a member of a group.
 const MEMBER: &[u8] = b"g:";
 
-// What stands between the parts of a service account's user name.
+// The separator of the parts of a service account's user name.
 const COLON: &[u8] = b":";
 
-// What the user name of a service account begins with.
+// The prefix of a service account's user name.
 const ACCOUNT: &[u8] = b"system:serviceaccount:";
 
 // The group of all service accounts.
 const ACCOUNTS: &[u8] = b"system:serviceaccounts";
 
-// What the group of a namespace's service accounts begins with.
+// The prefix of the group of a namespace's service accounts.
 const ACCOUNTS_OF: &[u8] = b"system:serviceaccounts:";
 
 // The user of a request without credentials.
@@ -35,12 +35,13 @@ const ANONYMOUS: &[u8] = b"system:anonymous";
 // The group of the users who have signed in.
 const AUTHENTICATED: &[u8] = b"system:authenticated";
 
-// The group of those who haven't.
+// The group of the users who haven't signed in.
 const UNAUTHENTICATED: &[u8] = b"system:unauthenticated";
 
 /// What a request is for: a resource by API group, resource text and object name, or a URL by its
-/// path. A resource text isn't empty and doesn't begin with a slash, and a URL does (own, after the
-/// paths of API requests). What follows the first slash of a resource text is its subresource.
+/// path. A resource text isn't empty and doesn't begin with a slash; a URL begins with one (own,
+/// after the paths of API requests). What follows the first slash of a resource text is its
+/// subresource.
 #[derive(Drop)]
 pub struct Target {
     is_url: bool,
@@ -61,9 +62,9 @@ impl Model for Target {
 }
 
 impl Target {
-    /// A resource by group (the core group is the empty text), resource text and object name (empty
-    /// where the request names no object). Takes no memory. P3 BadTarget exactly where the resource
-    /// text is empty or begins with a slash.
+    /// A resource by API group (the core group is the empty text), resource text and object name
+    /// (empty if the request names no object). Doesn't allocate. P3 BadTarget exactly if the
+    /// resource text is empty or begins with a slash.
     pub fn resource(group: Word, text: Word, name: Word) -> Result<Self, ModelFault>
         ensures { MatchResult result
             (λ t. (t ≡ Resource group text name) × IsProper t)
@@ -80,7 +81,7 @@ impl Target {
         })
     }
 
-    /// A URL by its path. Takes no memory. P3 BadTarget exactly where the path doesn't begin with a
+    /// A URL by its path. Doesn't allocate. P3 BadTarget exactly if the path doesn't begin with a
     /// slash.
     pub fn url(alloc: Global, path: Word) -> Result<Self, ModelFault>
         ensures { MatchResult result
@@ -113,7 +114,7 @@ impl Target {
         &self.group
     }
 
-    /// The resource text, with its subresource, or the path of a URL. It is never empty.
+    /// The resource text, with its subresource, or the path of a URL; never empty.
     pub fn text(&self) -> &Word
         ensures text { result.now ≡ text_of self.now }
         ensures proper { IsProper self.now }
@@ -121,7 +122,7 @@ impl Target {
         &self.text
     }
 
-    /// The object name: the empty text where the request names no object, and for a URL.
+    /// The object name: the empty text if the request names no object, and for a URL.
     pub fn name(&self) -> &Word
         ensures name { result.now ≡ name_of self.now }
         ensures proper { IsProper self.now }
@@ -130,9 +131,10 @@ impl Target {
     }
 }
 
-/// Who asks: a user of a name with the groups given, or a member of one group without a name of
-/// its own. A service account asks as the user `system:serviceaccount:NAMESPACE:NAME` (Using RBAC
-/// Authorization, "Referring to subjects"; members of a group: own). Neither name is empty.
+/// Who asks: a user by name, with the groups given, or a member of one group, without a name of its
+/// own. A service account asks as the user `system:serviceaccount:NAMESPACE:NAME` (Using RBAC
+/// Authorization, "Referring to subjects"; members of a group: own). Neither the user's name nor
+/// the group's is empty.
 #[derive(Clone, Drop)]
 pub struct Principal {
     is_user: bool,
@@ -152,8 +154,8 @@ impl Model for Principal {
 }
 
 impl Principal {
-    /// The user of this name, with these groups beside the implied ones. P1 EmptyName exactly for
-    /// the empty name; else P5 NoMemory where memory is refused.
+    /// The user of this name, with these groups besides the implied ones. P1 EmptyName exactly for
+    /// the empty name; otherwise P5 NoMemory if the call runs out of memory.
     pub fn user(alloc: Global, name: &Word, given: &Words) -> Result<Self, ModelFault>
         ensures ok { IfOk result (λ p. p ≡ AsUser name.now given.now) }
         ensures empty { (result ≡ Err ModelFault.EmptyName) ↔ (name.now ≡ []) }
@@ -167,7 +169,7 @@ impl Principal {
     }
 
     /// A member of this group, who is in no other (own). P1 EmptyName exactly for the empty name;
-    /// else P5 NoMemory where memory is refused.
+    /// otherwise P5 NoMemory if the call runs out of memory.
     pub fn group(alloc: Global, name: &Word) -> Result<Self, ModelFault>
         ensures ok { IfOk result (λ p. p ≡ AsMember name.now) }
         ensures empty { (result ≡ Err ModelFault.EmptyName) ↔ (name.now ≡ []) }
@@ -180,8 +182,8 @@ impl Principal {
         })
     }
 
-    /// Gives a user the groups that are given to another of its key; a group has none (own). After
-    /// an error nothing is changed.
+    /// Gives a user, in addition, the groups that another principal of the same key is given; a
+    /// member of a group is given none (own). After an error nothing has changed.
     pub fn give(&mut self, more: Self) -> Result<(), AllocError>
         requires { who_key more ≡ who_key self.old }
         ensures key { who_key self.new ≡ who_key self.old }
@@ -196,15 +198,15 @@ impl Principal {
         self.given.append(given)
     }
 
-    /// The principal's key: `u:` and the user's name, or `g:` and the group's (own). Takes no
-    /// memory.
+    /// The principal's key: `u:` and the user's name, or `g:` and the group's (own). Doesn't
+    /// allocate.
     pub fn key(&self) -> &Word
         ensures { result.now ≡ who_key self.now }
     {
         &self.key
     }
 
-    /// The user's name, or the group's. It is never empty.
+    /// The user's name, or the group's; never empty.
     pub fn name(&self) -> &[u8]
         ensures name { result.now ≡ who_name self.now }
         ensures not_empty { result.now ≢ [] }
@@ -213,7 +215,7 @@ impl Principal {
         &key[2..]
     }
 
-    // Whether this is the user of that name, with whatever groups. Takes no memory.
+    // Whether this is the user of that name, whatever its groups. Doesn't allocate.
     pub(crate) fn is_user_named(&self, name: &Word) -> bool
         ensures { IsTrue result ↔ IsUserNamed self.now name.now }
     {
@@ -221,15 +223,15 @@ impl Principal {
     }
 
     // Whether this is the user of that service account, `system:serviceaccount:NAMESPACE:NAME`
-    // (Using RBAC Authorization, "Referring to subjects"). Takes no memory.
+    // (Using RBAC Authorization, "Referring to subjects"). Doesn't allocate.
     pub(crate) fn is_account(&self, namespace: &Word, name: &Word) -> bool
         ensures { IsTrue result ↔ IsUserNamed self.now (account_user namespace.now name.now) }
     {
         self.is_user && is_account_user(self.name(), namespace.as_bytes(), name.as_bytes())
     }
 
-    /// The groups that a user is given beside the implied ones, in order, with repeats; a group's
-    /// member is given none (own). Takes no memory.
+    /// The groups that a user is given besides the implied ones, in order, with repeats; a member
+    /// of a group is given none (own). Doesn't allocate.
     pub fn given(&self) -> &[Word]
         ensures { result.now ≡ given_of self.now }
     {
@@ -240,8 +242,8 @@ impl Principal {
         }
     }
 
-    /// The namespace of the service account as which a user asks; none where it asks as none (Using
-    /// RBAC Authorization, "Referring to subjects"). Takes no memory.
+    /// The namespace of the service account that the principal asks as; `None` if it doesn't ask as
+    /// one (Using RBAC Authorization, "Referring to subjects"). Doesn't allocate.
     pub fn account_namespace(&self) -> Option<&[u8]>
         ensures { MatchOption result
             ((namespace : Text) → ¬ IsAccountIn self.now namespace)
@@ -255,8 +257,9 @@ impl Principal {
     }
 
     /// The group that says whether a user has signed in: `system:authenticated` or
-    /// `system:unauthenticated` (Using RBAC Authorization); none where the second is given, and for
-    /// a group's member (own). Takes no memory.
+    /// `system:unauthenticated` (Using RBAC Authorization); `None` for a user other than
+    /// `system:anonymous` who is given the second, and for a member of a group (own). Doesn't
+    /// allocate.
     pub fn sign_in_group(&self) -> Option<&'static [u8]>
         ensures { MatchOption result
             ((group : Text) → ¬ SignsInAs self.now group)
@@ -271,8 +274,8 @@ impl Principal {
 
     /// Whether the principal is in this group: a user is in the groups given and in the implied
     /// ones, which are those of service accounts, `system:authenticated` and
-    /// `system:unauthenticated` (Using RBAC Authorization); a group's member is in that group alone
-    /// (own). Takes no memory.
+    /// `system:unauthenticated` (Using RBAC Authorization); a member of a group is in that group
+    /// alone (own). Doesn't allocate.
     pub fn in_group(&self, group: &Word) -> bool
         ensures { IsTrue result ↔ IsInGroup self.now group.now }
     {
@@ -284,7 +287,7 @@ impl Principal {
     }
 }
 
-// The key of a principal of this name, which may not be empty.
+// The key of a principal of this name; an empty name is refused.
 fn named_key(alloc: Global, prefix: &[u8], name: &Word) -> Result<Word, ModelFault>
     ensures ok { IfOk result (λ key. key ≡ prefix.now ++ name.now) }
     ensures empty { (result ≡ Err ModelFault.EmptyName) ↔ (name.now ≡ []) }
@@ -319,7 +322,7 @@ pub(crate) fn member_key(alloc: Global, name: &Word) -> Result<Word, AllocError>
 }
 
 /// The user name of a service account, `system:serviceaccount:NAMESPACE:NAME` (Using RBAC
-/// Authorization, "Referring to subjects"). Fails only where memory is refused.
+/// Authorization, "Referring to subjects"). Fails only if it runs out of memory.
 pub fn account_user(alloc: Global, namespace: &Word, name: &Word) -> Result<Word, AllocError>
     ensures { IfOk result (λ user. user ≡ account_user namespace.now name.now) }
 {

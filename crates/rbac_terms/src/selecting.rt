@@ -6,20 +6,20 @@ ghost use Rattle.rbac_terms.specs.Selecting.{Selects, Meets, HasLabel, HasKey, H
 use crate::items::Items;
 use crate::text::{Word, Words};
 
-/// Labels as pairs of a key and a value (Labels and Selectors): as many as memory holds. A manifest
-/// gives each key once, and nothing here asks for that.
+/// Labels as pairs of a key and a value (Labels and Selectors): as many as fit in memory. A
+/// manifest gives each key once; nothing here requires that.
 pub type Labels = Items<(Word, Word)>;
 
 /// What a requirement asks of a key (Labels and Selectors, "Set-based requirement").
 #[derive(Drop, Clone, Copy)]
 pub enum SelectOp {
-    /// `In`: there is a label of the key, with one of the values.
+    /// `In`: there is a label with the key and one of the values.
     OneOf,
-    /// `NotIn`: there is no label of the key, or its value isn't one of these.
+    /// `NotIn`: there is no label with the key, or its value isn't one of the values.
     NoneOf,
-    /// `Exists`: there is a label of the key.
+    /// `Exists`: there is a label with the key.
     Present,
-    /// `DoesNotExist`: there is no label of the key.
+    /// `DoesNotExist`: there is no label with the key.
     Absent,
 }
 
@@ -34,11 +34,11 @@ pub struct Requirement {
     pub values: Words,
 }
 
-/// A list of requirements, each of which is asked for: as many as memory holds.
+/// A list of requirements, all to be met: as many as fit in memory.
 pub type Requirements = Items<Requirement>;
 
-/// A label selector, which asks for all that it lists; the empty one selects everything (Labels and
-/// Selectors).
+/// A label selector, which asks for everything that it lists; the empty one selects everything
+/// (Labels and Selectors).
 #[derive(Drop)]
 pub struct Selector {
     /// `matchLabels`: labels that an object must have.
@@ -47,12 +47,12 @@ pub struct Selector {
     pub requirements: Requirements,
 }
 
-/// The selectors of an aggregated cluster role, any of which may select (Using RBAC Authorization,
-/// "Aggregated ClusterRoles"): as many as memory holds.
+/// The selectors of an aggregated cluster role, which together select what any of them selects
+/// (Using RBAC Authorization, "Aggregated ClusterRoles"): as many as fit in memory.
 pub type Selectors = Items<Selector>;
 
-/// Whether the selector selects what has these labels: they hold each label of the selector, and
-/// meet each of its requirements (Labels and Selectors). Takes no memory.
+/// Whether the selector selects an object with these labels: they contain each label of the
+/// selector and meet each of its requirements (Labels and Selectors). Doesn't allocate.
 pub fn selects(selector: &Selector, labels: &Labels) -> bool
     ensures { IsTrue result ↔ Selects selector.now labels.now }
 {
@@ -89,14 +89,14 @@ fn meets(requirement: &Requirement, labels: &Labels) -> bool
     }
 }
 
-// Whether there is a label of this key.
+// Whether there is a label with this key.
 fn has_key(labels: &Labels, key: &Word) -> bool
     ensures { IsTrue result ↔ HasKey labels.now key.now }
 {
     labels.as_slice().iter().any(|label| label.0 == *key)
 }
 
-// Whether there is a label of this key and this value.
+// Whether there is a label with this key and this value.
 #[tactic(auto, unfolding(crate::specs::Selecting::HasLabel))]
 fn has_label(labels: &Labels, key: &Word, value: &Word) -> bool
     ensures { IsTrue result ↔ HasLabel labels.now key.now value.now }
@@ -107,7 +107,7 @@ fn has_label(labels: &Labels, key: &Word, value: &Word) -> bool
         .any(|label| label.0 == *key && label.1 == *value)
 }
 
-// Whether there is a label of this key, with one of these values.
+// Whether there is a label with this key and one of these values.
 fn has_one_of(labels: &Labels, key: &Word, values: &Words) -> bool
     ensures { IsTrue result ↔ HasOneOf labels.now key.now values.now }
 {

@@ -11,15 +11,16 @@ use std::cmp::Ordering;
 use std::hash::{Hash, Hasher};
 use std::marker::Model;
 
-// How many bytes a text has at most without an allocation.
+// The most bytes that a text can have without an allocation.
 const INLINE: usize = 24;
 
-// How many bytes a text has at most where each copy has its own.
+// The most bytes that a text can have without its copies sharing them.
 const MOST_COPIED: usize = 1_024;
 
-/// A text of a manifest or of a request, as a name, a verb or an API group: any bytes, as many as
-/// memory holds. Texts are equal where their bytes are, and ordered byte by byte, a proper prefix
-/// first (own). Copies of a long text share its bytes. Contracts see the list of its bytes.
+/// A text of a manifest or of a request, like a name, a verb or an API group: any bytes, as many as
+/// fit in memory. Texts are equal if their bytes are, and are ordered byte by byte, a proper prefix
+/// first (own). Copies of a long text may share its bytes. Contracts see a text as the list of its
+/// bytes.
 #[derive(Debug, Drop)]
 pub struct Word {
     held: Held,
@@ -28,15 +29,15 @@ pub struct Word {
 // Where the bytes of a text are.
 #[derive(Debug)]
 enum Held {
-    // Most texts are short, and stand in the value itself: no allocation, and no look elsewhere.
+    // Most texts are short and are kept in the value itself: no allocation and no indirection.
     Own(SmallVec<u8, INLINE>),
-    // A name of a megabyte may be in thousands of targets. Beside it what gives memory to a copy of
-    // its own, when bytes are added.
+    // A name of a megabyte may be in thousands of targets. The allocator is for the text's own
+    // copy, which is made when bytes are added.
     Shared(Bytes, Global),
 }
 
-// Written out, since a derived drop is split into its cases wherever a text is dropped: two for
-// each text, in each proof.
+// Written by hand, because a derived drop is split into its cases wherever a text is dropped: two
+// for each text, in each proof.
 impl Drop for Held {
     fn drop(self) {
         match self {
@@ -56,7 +57,7 @@ impl Model for Word {
 }
 
 impl Word {
-    /// The empty text. Takes no memory.
+    /// The empty text. Doesn't allocate.
     pub fn new(alloc: Global) -> Self
         ensures { result ≡ [] }
     {
@@ -65,7 +66,7 @@ impl Word {
         }
     }
 
-    /// A copy of these bytes. Fails only where memory is refused.
+    /// A copy of these bytes. Fails only if it runs out of memory.
     pub fn from_slice(alloc: Global, bytes: &[u8]) -> Result<Self, AllocError>
         ensures { IfOk result (λ w. w ≡ bytes.now) }
     {
@@ -94,7 +95,8 @@ impl Word {
         self.as_bytes().is_empty()
     }
 
-    /// Adds a byte at the end. Fails only where memory is refused, and the text is then as before.
+    /// Adds a byte at the end. Fails only if it runs out of memory, and then leaves the text
+    /// unchanged.
     pub fn push(&mut self, byte: u8) -> Result<(), AllocError>
         ensures ok { OnOk result (self.new ≡ self.old ++ byte ∷ []) }
         ensures err { OnErr result (self.new ≡ self.old) }
@@ -102,8 +104,8 @@ impl Word {
         self.push_slice(&[byte])
     }
 
-    /// Adds these bytes at the end, in order. Fails only where memory is refused, and the text is
-    /// then as before.
+    /// Adds these bytes at the end, in order. Fails only if it runs out of memory, and then leaves
+    /// the text unchanged.
     pub fn push_slice(&mut self, bytes: &[u8]) -> Result<(), AllocError>
         ensures ok { OnOk result (self.new ≡ self.old ++ bytes.now) }
         ensures err { OnErr result (self.new ≡ self.old) }
@@ -207,18 +209,18 @@ impl Hash for Word {
     }
 }
 
-/// A list of texts, in order, with repeats: as many as memory holds.
+/// A list of texts, in order, with repeats: as many as fit in memory.
 pub type Words = Items<Word>;
 
 impl Items<Word> {
-    /// Whether this text is among them.
+    /// Whether the list contains this text.
     pub fn contains(&self, word: &Word) -> bool
         ensures { IsTrue result ↔ Contains self.now word.now }
     {
         self.as_slice().contains(word)
     }
 
-    /// Whether the text of these bytes is among them.
+    /// Whether the list contains the text of these bytes.
     pub fn contains_bytes(&self, bytes: &[u8]) -> bool
         ensures { IsTrue result ↔ Contains self.now bytes.now }
     {
@@ -226,7 +228,8 @@ impl Items<Word> {
     }
 }
 
-/// The parts before and after the first place of a byte; none where it has none. Takes no memory.
+/// The parts of the text before and after the first occurrence of a byte; `None` if the byte
+/// doesn't occur in it. Doesn't allocate.
 pub fn cut_at_first(text: &[u8], byte: u8) -> Option<(&[u8], &[u8])>
     ensures { MatchOption result (¬ Contains text.now byte)
         (λ parts. IsCutAtFirst text.now byte parts.0.now parts.1.now) }
@@ -235,7 +238,7 @@ pub fn cut_at_first(text: &[u8], byte: u8) -> Option<(&[u8], &[u8])>
     Some((&text[..at], &text[at + 1..]))
 }
 
-// The first place of a byte.
+// The index of the first occurrence of a byte.
 fn first_place(text: &[u8], byte: u8) -> Option<usize>
     ensures { MatchOption result (¬ Contains text.now byte)
         (λ i. (i < length text.now) × (slice_index text.now i ≡ byte)
@@ -244,7 +247,7 @@ fn first_place(text: &[u8], byte: u8) -> Option<usize>
     text.iter().position(|b| *b == byte)
 }
 
-// What follows this prefix.
+// What follows this prefix, if the text begins with it.
 pub(crate) fn after_prefix<'a>(text: &'a [u8], prefix: &[u8]) -> Option<&'a [u8]>
     ensures { MatchOption result (¬ BeginsWith text.now prefix.now)
         (λ rest. text.now ≡ prefix.now ++ rest.now) }
@@ -252,7 +255,7 @@ pub(crate) fn after_prefix<'a>(text: &'a [u8], prefix: &[u8]) -> Option<&'a [u8]
     text.strip_prefix(prefix)
 }
 
-// Whether the text is these two, one after the other.
+// Whether the text is the prefix followed by the rest.
 pub(crate) fn is_joined(text: &[u8], prefix: &[u8], rest: &[u8]) -> bool
     ensures { IsTrue result ↔ (text.now ≡ prefix.now ++ rest.now) }
 {

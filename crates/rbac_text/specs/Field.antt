@@ -15,11 +15,11 @@ is_control b = nat_lt b 32 || (b == 127)
 abbrev pub code_text : ℕ → Text
 code_text b = 92 ∷ 120 ∷ hex_digit (b / 16) ∷ hex_digit (b % 16) ∷ []
 
--- a backslash is doubled, a control byte is printed by its code, and other bytes stand
+-- a backslash is doubled, a control byte is printed by its code, and any other byte is printed as it is
 abbrev pub byte_text : ℕ → Text
 byte_text b = if b == 92 then 92 ∷ 92 ∷ [] else if is_control b then code_text b else b ∷ []
 
--- the empty field is `-`, the field `-` is printed by its code, and else byte follows byte
+-- the empty field is printed as `-`, the field `-` by its code, and any other field byte by byte
 abbrev pub field_text : Text → Text
 field_text [] = codes "-"
 field_text (b ∷ []) = if b == 45 then code_text b else byte_text b

@@ -5,7 +5,7 @@ use Rattle.rbac_text.specs.Field.{field_text}
 use Rattle.rbac_text.specs.Row.{tab, newline, field_and_tab}
 use Rattle.rbac_text.specs.Why.{place_text}
 
--- what a finding of that code is called; another number has no word
+-- what a finding of that code is called; any other number has no word
 unfoldable pub finding_word : ℕ → Text
 finding_word code =
     if code == 1 then codes "dangling-role"
@@ -17,12 +17,12 @@ finding_word code =
     else if code == 7 then codes "replaced-object"
     else []
 
--- a place counted from 0 is printed from 1, and none as the empty field
+-- a place counted from 0 is printed as counted from 1, and no place as the empty field
 abbrev pub place_field : Option ℕ → Text
 place_field None = field_text []
 place_field (Some place) = place_text place
 
--- the line of a finding: its code and word, its object, the place and what else, joined by tabs
+-- the line of a finding: its code and word, its object, the place and the last field, joined by tabs
 abbrev pub finding_text : ℕ → Text → Option ℕ → Text → Text
 finding_text code object place other =
     codes "L" ++ decimal code ++ tab ∷ field_and_tab (finding_word code) ++ field_and_tab object

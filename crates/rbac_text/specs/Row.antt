@@ -5,7 +5,7 @@ use Rattle.rbac_terms.specs.Keys.{KeyTexts}
 use Rattle.rbac_terms.specs.declared.granting.Binding.{Binding}
 use Rattle.rbac_text.specs.Field.{field_text}
 
--- the bytes that end a field, and a line
+-- the byte that ends a field, and the one that ends a line
 abbrev pub tab : ℕ
 tab = 9
 
@@ -17,7 +17,7 @@ abbrev pub binding_scope : Option Text → Text
 binding_scope None = codes "ClusterRoleBinding/"
 binding_scope (Some namespace) = codes "RoleBinding/" ++ namespace ++ codes "/"
 
--- the binding's name after these, as one field
+-- the binding's name after its kind and namespace, as one field
 abbrev pub binding_text : Binding → Text
 binding_text b = field_text (binding_scope b.namespace ++ b.name)
 
@@ -32,6 +32,6 @@ row_text k b =
     ++ field_and_tab k.group ++ field_and_tab k.resource ++ field_and_tab k.name
     ++ binding_text b ++ newline ∷ []
 
--- the line of a holder: its key, and the binding that lets it
+-- the line of a holder: its key, and the binding that grants it the permission
 abbrev pub holder_text : Text → Binding → Text
 holder_text key b = field_and_tab key ++ binding_text b ++ newline ∷ []

@@ -1,4 +1,4 @@
--- How the reason of a permission is printed (own).
+-- How the reason for a permission is printed (own).
 use Rattle.std.specs.Prelude.{ℕ, ◌+◌, [], ◌∷◌, ◌++◌, codes, decimal, unwrap_or, Option}
 use Rattle.rbac_terms.specs.Text.{Text}
 use Rattle.rbac_terms.specs.declared.granting.Binding.{Binding}
@@ -16,7 +16,7 @@ role_text namespace name = field_text (codes "Role/" ++ namespace ++ codes "/" +
 abbrev pub cluster_role_text : Text → Text
 cluster_role_text name = field_text (codes "ClusterRole/" ++ name)
 
--- the role that a binding in that namespace names; a Role named with no namespace has the empty one
+-- the role that a binding in that namespace names; a Role named without a namespace has the empty one
 abbrev pub named_text : Option Text → RoleRef → Text
 named_text namespace (Role name) = role_text (unwrap_or namespace []) name
 named_text namespace (ClusterRole name) = cluster_role_text name
@@ -26,7 +26,7 @@ abbrev pub source_text : Source → Text
 source_text (InRole r) = role_text r.namespace r.name
 source_text (InClusterRole r) = cluster_role_text r.name
 
--- a place counted from 0 is printed from 1
+-- a place counted from 0 is printed as counted from 1
 abbrev pub place_text : ℕ → Text
 place_text place = decimal (place + 1)
 

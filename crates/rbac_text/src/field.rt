@@ -6,9 +6,9 @@ ghost use Rattle.rbac_text.specs.Field.{hex_digit, is_control, code_text, byte_t
 
 use std::alloc::AllocError;
 
-/// Adds a field to a line (own): the empty text as `-`, the text `-` as `\x2d`, and else the text
-/// with backslashes doubled and bytes below 32 and byte 127 as `\x` and two lower-case hexadecimal
-/// digits. Where memory is refused a prefix of the field may have been added.
+/// Adds a field to a line (own): the empty text as `-`, the text `-` as `\x2d`, and any other text
+/// with backslashes doubled, and bytes below 32 and byte 127 as `\x` and two lower-case hexadecimal
+/// digits. If it runs out of memory, a prefix of the field may have been added.
 pub fn put_field(line: &mut Vec<u8>, field: &[u8]) -> Result<(), AllocError>
     ensures { OnOk result (line.new.items ≡ line.old.items ++ field_text field.now) }
 {
@@ -19,11 +19,11 @@ pub fn put_field(line: &mut Vec<u8>, field: &[u8]) -> Result<(), AllocError>
     }
 }
 
-// Adds a text byte by byte, as it stands in a field of two bytes or more.
+// Adds a text byte by byte, as it is printed in a field of two bytes or more.
 pub(crate) fn put_text(line: &mut Vec<u8>, text: &[u8]) -> Result<(), AllocError>
     ensures { OnOk result (line.new.items ≡ line.old.items ++ flat_map byte_text text.now) }
 {
-    // Nearly every text stands as it is.
+    // Nearly every text is printed as it is.
     if is_plain_text(text) {
         return line.extend_from_slice(text);
     }
@@ -39,7 +39,7 @@ fn is_plain_text(text: &[u8]) -> bool
     text.iter().all(|byte| is_plain(*byte))
 }
 
-// Whether the byte stands as it is.
+// Whether the byte is printed as it is.
 fn is_plain(byte: u8) -> bool
     ensures { IsTrue result ↔ (byte_text byte ≡ byte ∷ []) }
 {

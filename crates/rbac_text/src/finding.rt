@@ -1,4 +1,4 @@
-//! Lines of what lint finds.
+//! Lines of lint findings.
 
 ghost use Rattle.std.specs.Prelude.{◌≡◌, ◌++◌, ◌∷◌, [], codes, decimal, OnOk};
 ghost use Rattle.rbac_text.specs.Row.{tab, newline};
@@ -14,8 +14,8 @@ use rbac_terms::Word;
 use std::alloc::AllocError;
 
 /// Adds the line of a finding (own): its code and the word for it, the object, the place counted
-/// from 1, and the last field, joined by tabs, with the line's end. Where memory is refused a
-/// prefix of it may have been added.
+/// from 1, and the last field, joined by tabs, with a newline at the end. If it runs out of memory,
+/// a prefix of the line may have been added.
 pub fn put_finding(
     line: &mut Vec<u8>,
     code: u8,
@@ -58,7 +58,7 @@ fn word_of(code: u8) -> &'static [u8]
     }
 }
 
-// Adds a place, or the empty field where there is none.
+// Adds a place, or the empty field if there is none.
 fn put_place_if_any(line: &mut Vec<u8>, place: Option<usize>) -> Result<(), AllocError>
     ensures { OnOk result (line.new.items ≡ line.old.items ++ place_field place) }
 {
@@ -68,7 +68,7 @@ fn put_place_if_any(line: &mut Vec<u8>, place: Option<usize>) -> Result<(), Allo
     }
 }
 
-// Adds the last field, after a tab, and the line's end.
+// Adds a tab, the last field and a newline.
 fn put_rest(line: &mut Vec<u8>, other: &Word) -> Result<(), AllocError>
     ensures { OnOk result (line.new.items ≡ line.old.items ++ tab ∷ field_text other.now ++ newline ∷ []) }
 {

@@ -1,4 +1,4 @@
-//! Lines of those who hold a permission.
+//! Lines of the holders of a permission.
 
 ghost use Rattle.std.specs.Prelude.{◌≡◌, ◌++◌, OnOk};
 ghost use Rattle.rbac_text.specs.Row.{holder_text};
@@ -7,8 +7,9 @@ use crate::row::{put_binding, put_field_and_tab};
 use rbac_terms::{Binding, Word};
 use std::alloc::AllocError;
 
-/// Adds the line of a holder (own): its key and the binding that lets it, joined by a tab, with the
-/// line's end. Where memory is refused a prefix of it may have been added.
+/// Adds the line of a holder (own): its key and the binding that grants it the permission, joined
+/// by a tab, with a newline at the end. If it runs out of memory, a prefix of the line may have
+/// been added.
 pub fn put_holder(line: &mut Vec<u8>, key: &Word, binding: &Binding) -> Result<(), AllocError>
     ensures { OnOk result (line.new.items ≡ line.old.items ++ holder_text key.now binding.now) }
 {

@@ -13,7 +13,8 @@ use rbac_terms::{Binding, Principal, Target, Word};
 use std::alloc::AllocError;
 
 /// Adds the name of a binding to a line as one field (own): `ClusterRoleBinding/NAME` or
-/// `RoleBinding/NAMESPACE/NAME`. Where memory is refused a prefix of it may have been added.
+/// `RoleBinding/NAMESPACE/NAME`. If it runs out of memory, a prefix of the field may have been
+/// added.
 pub fn put_binding(line: &mut Vec<u8>, binding: &Binding) -> Result<(), AllocError>
     ensures { OnOk result (line.new.items ≡ line.old.items ++ binding_text binding.now) }
 {
@@ -21,7 +22,7 @@ pub fn put_binding(line: &mut Vec<u8>, binding: &Binding) -> Result<(), AllocErr
     put_text(line, binding.name.as_bytes())
 }
 
-// Adds what stands before a binding's name.
+// Adds what comes before a binding's name.
 fn put_scope(line: &mut Vec<u8>, namespace: Option<&Word>) -> Result<(), AllocError>
     ensures { OnOk result (line.new.items
         ≡ line.old.items ++ flat_map byte_text (binding_scope (option_copied namespace.entry))) }
@@ -38,8 +39,8 @@ fn put_scope(line: &mut Vec<u8>, namespace: Option<&Word>) -> Result<(), AllocEr
 }
 
 /// Adds the line of a row of the matrix (own): the six fields of the request's key and the binding
-/// that grants it, joined by tabs, with the line's end. Where memory is refused a prefix of it may
-/// have been added.
+/// that grants it, joined by tabs, with a newline at the end. If it runs out of memory, a prefix of
+/// the line may have been added.
 pub fn put_row(
     line: &mut Vec<u8>,
     principal: &Principal,

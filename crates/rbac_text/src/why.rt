@@ -12,8 +12,8 @@ use rbac_model::SourceRole;
 use rbac_terms::{Binding, RoleRef, Word};
 use std::alloc::AllocError;
 
-/// Adds the name of a role of a namespace as one field (own): `Role/NAMESPACE/NAME`. Where memory
-/// is refused a prefix of it may have been added.
+/// Adds the name of a role of a namespace as one field (own): `Role/NAMESPACE/NAME`. If it runs out
+/// of memory, a prefix of the field may have been added.
 pub fn put_role(line: &mut Vec<u8>, namespace: &Word, name: &Word) -> Result<(), AllocError>
     ensures { OnOk result (line.new.items ≡ line.old.items ++ role_text namespace.now name.now) }
 {
@@ -23,8 +23,8 @@ pub fn put_role(line: &mut Vec<u8>, namespace: &Word, name: &Word) -> Result<(),
     put_text(line, name.as_bytes())
 }
 
-// Adds the name of a role of the whole cluster as one field (own): `ClusterRole/NAME`. Where memory
-// is refused a prefix of it may have been added.
+// Adds the name of a role of the whole cluster as one field (own): `ClusterRole/NAME`. If it runs
+// out of memory, a prefix of the field may have been added.
 fn put_cluster_role(line: &mut Vec<u8>, name: &Word) -> Result<(), AllocError>
     ensures { OnOk result (line.new.items ≡ line.old.items ++ cluster_role_text name.now) }
 {
@@ -32,13 +32,13 @@ fn put_cluster_role(line: &mut Vec<u8>, name: &Word) -> Result<(), AllocError>
     put_text(line, name.as_bytes())
 }
 
-/// Adds a place that is counted from 0 as one field (own): from 1, in decimal digits. Where memory
-/// is refused nothing is added.
+/// Adds a place, given as counted from 0, as one field (own): counted from 1, in decimal digits. If
+/// it runs out of memory, nothing is added.
 pub fn put_place(line: &mut Vec<u8>, place: usize) -> Result<(), AllocError>
     ensures added { OnOk result (line.new.items ≡ line.old.items ++ place_text place) }
     ensures kept { OnErr result (line.new.items ≡ line.old.items) }
 {
-    // The greatest place has a number too.
+    // Even the greatest place has a number in a `u128`.
     let number = place as u128 + 1;
     let mut buffer = Buffer::new();
     line.extend_from_slice(buffer.format(number).as_bytes())
@@ -46,8 +46,8 @@ pub fn put_place(line: &mut Vec<u8>, place: usize) -> Result<(), AllocError>
 
 /// Adds the line that explains why a request is allowed (own): the binding that grants it, the role
 /// that this binding names, the role where the rule is written, and the places of the rule there
-/// and of the subject in the binding, joined by tabs, with the line's end. Where memory is refused
-/// a prefix of it may have been added.
+/// and of the subject in the binding, joined by tabs, with a newline at the end. If it runs out of
+/// memory, a prefix of the line may have been added.
 pub fn put_why(
     line: &mut Vec<u8>,
     binding: &Binding,

@@ -9,7 +9,7 @@ use Rattle.rbac_token.specs.declared.mark.Mark.{Mark}
 use Rattle.rbac_token.specs.declared.fault.TokenFault.{TokenFault}
 use Rattle.rbac_token.specs.declared.fault.TokenFault.TheVariants.{NotBase64, BadVersion, NotCanonical, NoMemory}
 
--- which refusal a token comes to (own): it is no such base64; else its version is another; else nothing is printed so; memory may be refused at any time
+-- why a token is refused (own): it isn't unpadded URL-safe base64; otherwise its version is another; otherwise nothing is printed as its bytes; out of memory may come at any time
 abbrev pub IsRefusal : (Text → Type 0) → Type 0 → Text → TokenFault → Type 0
 IsRefusal IsVersion none token NotBase64 = (bytes : Text) → ¬ Encodes token bytes
 IsRefusal IsVersion none token BadVersion = (bytes : Text) × Encodes token bytes × (¬ IsVersion bytes)
@@ -20,7 +20,7 @@ IsRefusal IsVersion none token NoMemory = Unit {0}
 abbrev pub IsTokenFault : Text → TokenFault → Type 0
 IsTokenFault token fault = IsRefusal HasKeyVersion ((k : KeyTexts) → ¬ IsTokenOf token k) token fault
 
--- why it stands for no mark: the version is neither `1` nor `2`, or no mark is printed so
+-- why a token stands for no mark: the version is neither `1` nor `2`, or no mark is printed so
 abbrev pub IsMarkFault : Text → TokenFault → Type 0
 IsMarkFault token fault = IsRefusal HasMarkVersion ((m : Mark) → ¬ IsTokenOfMark token m) token fault
 
@@ -30,13 +30,13 @@ token_fault model.EmptyName = NotCanonical
 token_fault model.BadTarget = NotCanonical
 token_fault model.NoMemory = NoMemory
 
--- a text is refused with K3 only for this reason; memory may be refused at any time
+-- a text is refused with K3 only for this reason; out of memory may come at any time
 abbrev pub RefusesIf : Type 0 → TokenFault → Type 0
 RefusesIf reason NotBase64 = ⊥
 RefusesIf reason BadVersion = ⊥
 RefusesIf reason NotCanonical = reason
 RefusesIf reason NoMemory = Unit {0}
 
--- the refusals of one who reads printed fields
+-- the refusals that reading printed fields may end in
 abbrev pub IsReadFault : TokenFault → Type 0
 IsReadFault fault = (fault ≡ NotCanonical) ⊎ (fault ≡ NoMemory)

@@ -10,7 +10,7 @@ use Rattle.rbac_token.specs.Token.{Encodes, HasVersion, IsKey, after_tab}
 use Rattle.rbac_token.specs.declared.mark.BindingName.{BindingName}
 use Rattle.rbac_token.specs.declared.mark.Mark.{Mark}
 
--- the version of a mark's token: `1`, as that of its key, and with a binding `2`
+-- the version of a mark's token: `1`, like that of its key, or with a binding `2`
 abbrev pub version_of : Option BindingName → Text
 version_of None = codes "1"
 version_of (Some b) = codes "2"
@@ -24,11 +24,11 @@ name_texts (Some b) = binding_name_at b.namespace b.name
 abbrev pub printed_mark : KeyTexts → Option BindingName → Text
 printed_mark k b = version_of b ++ flat_map after_tab (texts k ++ name_texts b)
 
--- the token of a mark: unpadded URL-safe base64 of its printed fields after the version
+-- the token of a mark: unpadded URL-safe base64 of the version followed by its printed fields
 abbrev pub mark_text : Mark → Text
 mark_text m = encode_of url_safe_no_pad (printed_mark m.key m.binding)
 
--- the bytes are the printed mark of a request, and of any binding's name
+-- the bytes are this mark as it is printed, with the key of a request, and with any binding's name or none
 abbrev pub IsMarkPrintedAs : Text → Mark → Type 0
 IsMarkPrintedAs bytes m = IsKey m.key × (bytes ≡ printed_mark m.key m.binding)
 
@@ -36,6 +36,6 @@ IsMarkPrintedAs bytes m = IsKey m.key × (bytes ≡ printed_mark m.key m.binding
 abbrev pub IsTokenOfMark : Text → Mark → Type 0
 IsTokenOfMark token m = IsKey m.key × Encodes token (printed_mark m.key m.binding)
 
--- what stands before the first tab, or all where there is none, is the version `1` or `2`
+-- what comes before the first tab, or everything if there is no tab, is the version `1` or `2`
 abbrev pub HasMarkVersion : Text → Type 0
 HasMarkVersion bytes = HasVersion (codes "1") bytes ⊎ HasVersion (codes "2") bytes

@@ -18,7 +18,7 @@ after_tab t = tab ∷ field_text t
 abbrev pub printed_key : KeyTexts → Text
 printed_key k = codes "1" ++ flat_map after_tab (texts k)
 
--- the token of a key: unpadded URL-safe base64 of its printed fields after the version
+-- the token of a key: unpadded URL-safe base64 of the version followed by its printed fields
 abbrev pub token_text : KeyTexts → Text
 token_text k = encode_of url_safe_no_pad (printed_key k)
 
@@ -48,7 +48,7 @@ Encodes token bytes = IsBytes bytes × (token ≡ encode_of url_safe_no_pad byte
 abbrev pub IsTokenOf : Text → KeyTexts → Type 0
 IsTokenOf token k = IsKey k × Encodes token (printed_key k)
 
--- what stands before the first tab, or all where there is none, is that version
+-- what comes before the first tab, or everything if there is no tab, is that version
 abbrev pub HasVersion : Text → Text → Type 0
 HasVersion version bytes = (bytes ≡ version) ⊎ BeginsWith bytes (version ++ tab ∷ [])
 

@@ -1,4 +1,4 @@
-//! Why a text is no token.
+//! Why a text isn't a token.
 
 ghost use Rattle.std.specs.Prelude.{◌≡◌};
 
@@ -6,21 +6,21 @@ use rbac_terms::ModelFault;
 use std::alloc::{AllocError, AllocFailed};
 use thiserror::Error;
 
-/// Why a text is no token, of a key or of a mark (own). Its text is the number and name of the
-/// refusal; out of memory has no number there.
+/// Why a text isn't the token of a key or of a mark (own). The fault's text is the number and name
+/// of the refusal; out of memory has no number there.
 #[derive(Debug, Drop, Clone, Copy, PartialEq, Eq, Error)]
 pub enum TokenFault {
     /// K1: it isn't unpadded URL-safe base64.
     #[error("K1 not base64")]
     NotBase64,
-    /// K2: what stands before the first tab of its bytes, or all of them, is no version: a key's
-    /// token has `1`, and a mark's `1` or `2`.
+    /// K2: what comes before the first tab of its bytes, or all of them if there is no tab, isn't a
+    /// version: a key's token has `1`, and a mark's `1` or `2`.
     #[error("K2 bad version")]
     BadVersion,
-    /// K3: no key or mark is printed so.
+    /// K3: no key or mark is printed like this.
     #[error("K3 not canonical")]
     NotCanonical,
-    /// K4: memory was refused.
+    /// K4: out of memory.
     #[error("out of memory")]
     NoMemory,
 }

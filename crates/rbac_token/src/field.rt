@@ -7,8 +7,8 @@ ghost use Rattle.rbac_text.specs.Field.{hex_digit, code_text, byte_text, field_t
 use rbac_terms::Word;
 use std::alloc::{AllocError, Global};
 
-// The text whose field this is. What no text is printed as gives any text: to print it again shows
-// it.
+// The text whose field this is. Bytes that no text is printed as may give any text: printing it
+// again reveals that.
 pub(crate) fn read_field(alloc: Global, field: &[u8]) -> Result<Word, AllocError>
     ensures { (text : Text) → field.now ≡ field_text text → IfOk result (λ read. read ≡ text) }
 {
@@ -24,7 +24,7 @@ pub(crate) fn read_field(alloc: Global, field: &[u8]) -> Result<Word, AllocError
     Ok(text)
 }
 
-// The byte that is printed first, and what follows it.
+// The byte whose printed form comes first, and what follows that form.
 fn next_byte(field: &[u8]) -> Option<(u8, &[u8])>
     ensures stands { (byte : ℕ) (rest : Text) → field.now ≡ byte_text byte ++ rest
         → IsSomeAnd result (λ found. (found.0 ≡ byte) × (found.1.now ≡ rest)) }
@@ -42,7 +42,7 @@ fn next_byte(field: &[u8]) -> Option<(u8, &[u8])>
     }
 }
 
-// The number of a hexadecimal digit.
+// The value of a hexadecimal digit.
 fn hex_value(digit: u8) -> u8
     ensures value { (number : ℕ) → number < 16 → digit ≡ hex_digit number → result ≡ number }
     ensures small { result < 16 }

@@ -1,5 +1,5 @@
-//! Tokens: a key, or a key and a binding, as one word, by which a listing is taken up again. Each
-//! has one spelling.
+//! Tokens: a key, or a key and a binding, as one word, from which a listing continues. Each has one
+//! spelling.
 #![tactic(auto)]
 
 mod fault;

@@ -20,7 +20,7 @@ const CLUSTER_ROLE_BINDING: &[u8] = b"ClusterRoleBinding";
 
 pub(crate) const ROLE_BINDING: &[u8] = b"RoleBinding";
 
-// The version and the printed fields of a key, and those of a binding's name where there is one.
+// The version, the printed fields of a key, and those of a binding's name if there is one.
 pub(crate) fn print_mark(
     alloc: Global,
     key: &Key,
@@ -37,7 +37,7 @@ pub(crate) fn print_mark(
     Ok(printed)
 }
 
-// The version of a token with this binding, and without one.
+// The version of a token with this binding, or without one.
 fn version_of(binding: Option<&BindingName>) -> u8
     ensures { result ∷ [] ≡ version_of (option_copied binding.entry) }
 {
@@ -67,7 +67,7 @@ fn put_name(printed: &mut Vec<u8>, name: &BindingName) -> Result<(), AllocError>
     put_next(printed, name.name.as_bytes())
 }
 
-// The kind word and the namespace of a binding; a ClusterRoleBinding has the empty one.
+// The kind word and the namespace of a binding; a ClusterRoleBinding has the empty namespace.
 fn scope_of(name: &BindingName) -> (&[u8], &[u8])
     ensures { result.0.now ∷ result.1.now ∷ name.now.name ∷ [] ≡ name_texts (Some name.now) }
 {

@@ -21,7 +21,8 @@ use crate::print::ROLE_BINDING;
 use rbac_terms::{Key, ModelFault, Principal, Target, Word, Words};
 use std::alloc::{AllocError, Global};
 
-// The mark that is printed so. What no mark is printed as gives any mark, or K3.
+// The mark that is printed as these bytes. Bytes that no mark is printed as may give any mark, or
+// K3.
 pub(crate) fn read_mark(alloc: Global, bytes: &[u8]) -> Result<Mark, TokenFault>
     ensures whole { (m : Mark) → IsKey m.key → bytes.now ≡ printed_mark m.key m.binding
         → MatchResult result (λ read. read ≡ m) (λ e. e ≡ TokenFault.NoMemory) }
@@ -39,7 +40,7 @@ pub(crate) fn read_mark(alloc: Global, bytes: &[u8]) -> Result<Mark, TokenFault>
     Ok(Mark { key, binding })
 }
 
-// The six texts of a key after the version, and those after them.
+// The six texts of a key after the version, and the texts after them.
 fn after_version(texts: &[Word]) -> Option<(&Word, &Word, &Word, &Word, &Word, &Word, &[Word])>
     ensures { (version : Text) (k : KeyTexts) (others : List Text) → texts.now ≡ version ∷ texts_of k ++ others
         → IsSomeAnd result (λ found. ((found.0.now ∷ found.1.now ∷ found.2.now ∷ found.3.now ∷ found.4.now
@@ -53,7 +54,7 @@ fn after_version(texts: &[Word]) -> Option<(&Word, &Word, &Word, &Word, &Word, &
     }
 }
 
-// The name of a binding that these texts are; none where there are none.
+// The name of a binding that these texts are; `None` if there are no texts.
 fn binding_of_texts(texts: &[Word]) -> Result<Option<BindingName>, TokenFault>
     ensures whole { (b : Option BindingName) → texts.now ≡ name_texts b
         → MatchResult result (λ read. read ≡ b) (λ e. e ≡ TokenFault.NoMemory) }
@@ -66,8 +67,8 @@ fn binding_of_texts(texts: &[Word]) -> Result<Option<BindingName>, TokenFault>
     }
 }
 
-// The name of a binding of this kind. Another kind word is taken for a ClusterRoleBinding's, and
-// the namespace of one is passed over: to print it again shows both.
+// The name of a binding of this kind. Any other kind word is taken for a ClusterRoleBinding's, and
+// a ClusterRoleBinding's namespace is ignored: printing the name again reveals both.
 fn name_of(kind: &Word, namespace: &Word, name: &Word) -> Result<BindingName, AllocError>
     ensures { (b : BindingName) → kind.now ∷ namespace.now ∷ name.now ∷ [] ≡ name_texts (Some b) → IfOk result (λ read. read ≡ b) }
 {
@@ -95,7 +96,7 @@ fn key_of_texts(alloc: Global, texts: [&Word; 6]) -> Result<Key, TokenFault>
     Ok(Key::of(alloc, &principal, namespace, verb, &target)?)
 }
 
-// The texts whose fields stand between the tabs.
+// The texts whose fields are between the tabs.
 fn texts_of(alloc: Global, bytes: &[u8]) -> Result<Vec<Word>, AllocError>
     ensures { (texts : List Text)
         → slice_split (λ byte. byte == tab) bytes.now ≡ map field_text texts
@@ -108,7 +109,7 @@ fn texts_of(alloc: Global, bytes: &[u8]) -> Result<Vec<Word>, AllocError>
     Ok(texts)
 }
 
-// What stands between the tabs.
+// What is between the tabs.
 fn fields_of(alloc: Global, bytes: &[u8]) -> Result<Vec<&[u8]>, AllocError>
     ensures { IfOk result (λ v. map (λ field. field.now) v.items
         ≡ slice_split (λ byte. byte == tab) bytes.now) }
@@ -144,7 +145,8 @@ fn member_of(alloc: Global, name: &[u8]) -> Result<Principal, TokenFault>
     Ok(Principal::group(alloc, &name)?)
 }
 
-// The target of these texts. A URL has no group and name: what stands there is passed over.
+// The target of these texts. A URL has no API group or object name: what is given for them is
+// ignored.
 fn target_of(alloc: Global, group: &Word, text: &Word, name: &Word) -> Result<Target, ModelFault>
     ensures whole { (t : What) → IsProper t → group.now ≡ group_of t → text.now ≡ text_of t
         → name.now ≡ name_of t

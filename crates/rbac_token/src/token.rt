@@ -19,8 +19,7 @@ use rbac_terms::{Key, Word};
 use std::alloc::{AllocError, Global};
 
 /// The token of a key (own): unpadded URL-safe base64 of the version `1` and the key's six texts,
-/// each printed as a field, joined by tabs. Fails with K4 NoMemory, and only where memory is
-/// refused.
+/// each printed as a field, joined by tabs. Fails only if it runs out of memory, with K4 NoMemory.
 pub fn token_of(alloc: Global, key: &Key) -> Result<Word, TokenFault>
     ensures ok { IfOk result (λ token. token ≡ token_text key.now) }
     ensures only_memory { IfErr result (λ e. e ≡ TokenFault.NoMemory) }
@@ -29,10 +28,10 @@ pub fn token_of(alloc: Global, key: &Key) -> Result<Word, TokenFault>
     Ok(encoded(alloc, printed.as_slice())?)
 }
 
-/// The token of a mark (own): that of its key, where it has no binding. With one it is unpadded
-/// URL-safe base64 of the version `2`, the key's six texts and the binding's kind word, namespace
-/// and name, each printed as a field, joined by tabs; a ClusterRoleBinding has the empty namespace.
-/// Fails with K4 NoMemory, and only where memory is refused.
+/// The token of a mark (own): that of its key if the mark has no binding. With a binding, the token
+/// is unpadded URL-safe base64 of the version `2`, the key's six texts and the binding's kind word,
+/// namespace and name, each printed as a field, joined by tabs; a ClusterRoleBinding has the empty
+/// namespace. Fails only if it runs out of memory, with K4 NoMemory.
 pub fn token_of_mark(alloc: Global, mark: &Mark) -> Result<Word, TokenFault>
     ensures ok { IfOk result (λ token. token ≡ mark_text mark.now) }
     ensures only_memory { IfErr result (λ e. e ≡ TokenFault.NoMemory) }
@@ -41,10 +40,10 @@ pub fn token_of_mark(alloc: Global, mark: &Mark) -> Result<Word, TokenFault>
     Ok(encoded(alloc, printed.as_slice())?)
 }
 
-/// The key whose token this is (own). K1 NotBase64 where it isn't unpadded URL-safe base64, of
-/// which each text of bytes has one spelling; else K2 BadVersion where what stands before the first
-/// tab of its bytes, or all of them where there is none, isn't `1`; else K3 NotCanonical where it
-/// is the token of no key. K4 NoMemory only where memory is refused.
+/// The key whose token this is (own). K1 NotBase64 if it isn't unpadded URL-safe base64, in which
+/// each sequence of bytes has one spelling; otherwise K2 BadVersion if what comes before the first
+/// tab of its bytes, or all of them if there is no tab, isn't `1`; otherwise K3 NotCanonical if it
+/// isn't the token of any key. K4 NoMemory only if the call runs out of memory.
 pub fn key_of_token(alloc: Global, token: &Word) -> Result<Key, TokenFault>
     ensures key { MatchResult result (IsTokenOf token.now) (IsTokenFault token.now) }
     ensures no_key { IfErr result (λ e. (e ≡ TokenFault.NoMemory)
@@ -59,10 +58,10 @@ pub fn key_of_token(alloc: Global, token: &Word) -> Result<Key, TokenFault>
 }
 
 /// The mark whose token this is (own), that of a key or that of a key and a binding. K1 NotBase64
-/// as for a key; else K2 BadVersion where what stands before the first tab of its bytes, or all of
-/// them where there is none, is neither `1` nor `2`; else K3 NotCanonical where it is the token of
-/// no mark: so also with another kind word, or with a ClusterRoleBinding in a namespace. K4
-/// NoMemory only where memory is refused.
+/// as for a key; otherwise K2 BadVersion if what comes before the first tab of its bytes, or all of
+/// them if there is no tab, is neither `1` nor `2`; otherwise K3 NotCanonical if it isn't the token
+/// of any mark, for example with another kind word, or with a ClusterRoleBinding in a namespace. K4
+/// NoMemory only if the call runs out of memory.
 pub fn mark_of_token(alloc: Global, token: &Word) -> Result<Mark, TokenFault>
     ensures mark { MatchResult result (IsTokenOfMark token.now) (IsMarkFault token.now) }
     ensures no_mark { IfErr result (λ e. (e ≡ TokenFault.NoMemory)
@@ -76,7 +75,7 @@ pub fn mark_of_token(alloc: Global, token: &Word) -> Result<Mark, TokenFault>
     mark_printed_as(alloc, &bytes)
 }
 
-// The mark that is printed so, and no other spelling of it.
+// The mark that is printed exactly as these bytes; any other spelling of it is refused.
 fn mark_printed_as(alloc: Global, bytes: &[u8]) -> Result<Mark, TokenFault>
     ensures mark { MatchResult result (IsMarkPrintedAs bytes.now)
         (RefusesIf ((m : Mark) → ¬ IsMarkPrintedAs bytes.now m)) }
@@ -116,7 +115,7 @@ fn has_mark_version(bytes: &[u8]) -> bool
     has_version(bytes, b'1') || has_version(bytes, b'2')
 }
 
-// Whether this version stands before the first tab, or alone.
+// Whether the bytes are this version alone, or begin with it and a tab.
 fn has_version(bytes: &[u8], version: u8) -> bool
     ensures { IsTrue result ↔ HasVersion (version ∷ []) bytes.now }
 {

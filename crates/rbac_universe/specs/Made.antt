@@ -1,4 +1,4 @@
--- What a universe is, and what is known of it: four ascending lists within the limits.
+-- What a universe is, and what is known about it: four ascending lists within the limits.
 use Rattle.std.specs.Prelude.{List, Bool}
 use Rattle.std.specs.List.{zip}
 use Rattle.rbac_terms.specs.Text.{Text}
@@ -7,7 +7,7 @@ use Rattle.rbac_terms.specs.Principals.{Who}
 use Rattle.rbac_model.specs.Universes.{UniverseView, IsUniverse}
 use Rattle.rbac_universe.specs.Sets.{IsWithinLimits}
 
--- the targets go with their marks, place by place
+-- the targets are paired with their flags, place by place
 abbrev pub view_of : List Who → List Text → List Text → List What → List Bool → UniverseView
 view_of principals namespaces verbs targets namespaced = record {
   principals = principals;

@@ -19,7 +19,7 @@ abbrev pub IsTarget : UniverseLists → What → Type 0
 IsTarget lists (Resource group text name) = Any (λ r. (r.group ≡ group) × (r.text ≡ text)) lists.resources × Contains lists.names name
 IsTarget lists (Url path) = Contains lists.urls path
 
--- a resource is namespaced where some entry of its group and text is; a URL isn't (own)
+-- a resource is namespaced if some entry of its group and text is; a URL isn't (own)
 abbrev pub IsNamespaced : UniverseLists → What → Type 0
 IsNamespaced lists (Resource group text name) = Any (λ r. (r.group ≡ group) × (r.text ≡ text) × IsTrue r.namespaced) lists.resources
 IsNamespaced lists (Url path) = ⊥
@@ -45,7 +45,7 @@ pub record IsUniverseOf (lists : UniverseLists) (u : UniverseView) : Type 0 wher
   pub sets : AreSets lists u
   pub few : IsWithinLimits u
 
--- why there is none: a bad target first, then sets that are too large
+-- why the lists make no universe: a bad target first, then sets that are too large
 abbrev pub HasUniverseFault : UniverseLists → UniverseFault → Type 0
 HasUniverseFault lists BadTarget = ¬ AreProper lists
 HasUniverseFault lists TooLarge = AreProper lists × ((u : UniverseView) × AreSets lists u × (¬ IsWithinLimits u))

@@ -1,4 +1,4 @@
--- Stems, of which targets are made: a resource, which takes each name, or a URL.
+-- Stems, from which targets are made: a resource, which is combined with each name, or a URL.
 use Rattle.std.specs.Prelude.{◌≡◌, ◌≢◌, List, [], IsTrue, ◌∷◌, ◌++◌, Bool, false, cond, map, ◌==◌}
 use Rattle.rbac_terms.specs.Text.{Text, slash}
 use Rattle.rbac_terms.specs.Targets.{What, Resource, Url}
@@ -31,6 +31,6 @@ listed_of names s = map (λ t. (t, s.namespaced)) (targets_of names s)
 abbrev pub flags_of : List Text → ListedResource → List Bool
 flags_of names s = map (λ t. s.namespaced) (targets_of names s)
 
--- a URL without group, or a resource with a text
+-- a URL without a group, or a resource with a text
 abbrev pub IsStem : ListedResource → Type 0
 IsStem s = (s.text ≢ []) × (IsTrue (is_path s.text) → s.group ≡ [])

@@ -1,4 +1,4 @@
--- The sets of a universe before its targets are made of stems and names.
+-- The sets of a universe, before its targets are made from stems and names.
 use Rattle.std.specs.Prelude.{All}
 use Rattle.std.specs.List.{flat_map}
 use Rattle.rbac_model.specs.Universes.{UniverseView}
@@ -7,7 +7,7 @@ use Rattle.rbac_universe.specs.declared.sets.UniverseSets.{UniverseSets}
 use Rattle.rbac_universe.specs.Sets.{AreSets}
 use Rattle.rbac_universe.specs.Stems.{IsStem, listed_of}
 
--- the universe that they make
+-- the universe that the sets make
 abbrev pub universe_of : UniverseSets → UniverseView
 universe_of g = record {
   principals = g.principals.items;

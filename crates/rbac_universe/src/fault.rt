@@ -10,13 +10,14 @@ use thiserror::Error;
 #[derive(Debug, Drop, Clone, Copy, PartialEq, Eq, Error)]
 pub enum UniverseFault {
     /// P3: a listed resource whose text is empty or begins with a slash, or a listed URL that
-    /// doesn't begin with one. It stands before P4, and also where there are no names.
+    /// doesn't begin with one. Comes before P4, and applies even if there are no names.
     #[error("P3 bad target")]
     BadTarget,
-    /// P4: over 65,535 principals, namespaces or verbs, or over 1,000,000 targets, without repeats.
+    /// P4: more than 65,535 principals, namespaces or verbs, or more than 1,000,000 targets,
+    /// counted without repeats.
     #[error("P4 universe too large")]
     TooLarge,
-    /// P5: memory was refused.
+    /// P5: out of memory.
     #[error("out of memory")]
     NoMemory,
 }

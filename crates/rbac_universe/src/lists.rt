@@ -2,17 +2,17 @@
 
 use rbac_terms::{Items, Principal, Word, Words};
 
-/// What a universe is made of: who asks, where, to do what, for which resources by which object
+/// What a universe is made of: who asks, where, to do what, for which resources with which object
 /// names, and for which URLs (own).
 #[derive(Drop)]
 pub struct UniverseLists {
-    /// Users and groups; the groups that are given to one user are united.
+    /// Users and groups. All groups that are given to the same user are united.
     pub principals: Principals,
     /// Namespaces; the empty text stands for a request without one.
     pub namespaces: Words,
     /// Verbs.
     pub verbs: Words,
-    /// Resources, each of them asked for by each name.
+    /// Resources, each asked for with each name.
     pub resources: ListedResources,
     /// Object names; the empty text stands for a request without one.
     pub names: Words,
@@ -28,7 +28,7 @@ pub type Principals = Items<Principal>;
 pub struct ListedResource {
     /// The API group, empty for the core group.
     pub group: Word,
-    /// The resource, with `/` and its subresource where it has one.
+    /// The resource, with `/` and its subresource if it has one.
     pub text: Word,
     /// Whether this entry says that its objects live in namespaces.
     pub namespaced: bool,

@@ -14,7 +14,7 @@ use crate::unions::united;
 use rbac_terms::{Principal, Word, Words};
 use std::alloc::{AllocError, Global};
 
-/// The sets of a universe, with the stems and names of which its targets are made.
+/// The sets of a universe, with the stems and names from which its targets are made.
 #[derive(Drop)]
 pub(crate) struct UniverseSets {
     pub(crate) principals: Vec<Principal>,
@@ -24,8 +24,8 @@ pub(crate) struct UniverseSets {
     pub(crate) names: Vec<Word>,
 }
 
-// The limits of a universe, without repeats: of principals, namespaces and verbs, and of targets
-// (own).
+// The limits of a universe, counted without repeats: for principals, namespaces and verbs each, and
+// for targets (own).
 const MOST_WORDS: usize = 65_535;
 
 const MOST_TARGETS: u128 = 1_000_000;
@@ -48,7 +48,7 @@ impl UniverseSets {
         })
     }
 
-    // Whether none of them is too large.
+    // Whether none of the sets is too large.
     pub(crate) fn is_within_limits(&self) -> bool
         ensures { IsTrue result ↔ IsWithinLimits (universe_of self.now) }
     {
@@ -77,7 +77,7 @@ fn principals_of(lists: &UniverseLists) -> Result<Vec<Principal>, AllocError>
     Ok(lists.principals.clone()?.into_vec())
 }
 
-// The texts once each, in order.
+// The texts, each once, in order.
 fn once_each(alloc: Global, words: &Words) -> Result<Vec<Word>, AllocError>
     ensures { IfOk result (λ once. IsOnceEach text_cmp words.now once.items) }
 {
@@ -93,7 +93,7 @@ fn copies_of(alloc: Global, words: &[Word]) -> Result<Vec<Word>, AllocError>
     Vec::from_clones(alloc, words)
 }
 
-// Whether the resources and URLs can be asked for.
+// Whether all listed resources and URLs can be asked for.
 pub(crate) fn are_proper(lists: &UniverseLists) -> bool
     ensures { IsTrue result ↔ AreProper lists.now }
 {

@@ -1,5 +1,5 @@
-//! Stems, of which targets are made: a resource, which takes each name, or a URL. A URL begins with
-//! a slash, which a resource doesn't, so a stem needs no mark.
+//! Stems, from which targets are made: a resource, which is combined with each name, or a URL. A
+//! URL begins with a slash and a resource doesn't, so a stem needs no flag to say which it is.
 
 ghost use Rattle.std.specs.Prelude.{◌≡◌, ◌++◌, length, All, IfOk, OnOk, IsTrue};
 ghost use Rattle.std.specs.List.{flat_map};
@@ -84,7 +84,7 @@ pub(crate) fn count_targets(stems: &[ListedResource], names: &[Word]) -> u128
     count
 }
 
-// How many of them one stem has.
+// How many targets one stem has with these names.
 fn count_at(stem: &ListedResource, names: &[Word]) -> usize
     ensures { result ≡ length (targets_of names.now stem.now) }
 {
@@ -146,7 +146,7 @@ fn resource_at(stem: &ListedResource, name: &Word) -> Result<Target, AllocError>
     }
 }
 
-// For each of these targets whether its stem is namespaced.
+// For each of these targets, whether its stem is namespaced.
 pub(crate) fn all_flags(
     alloc: Global,
     stems: &[ListedResource],

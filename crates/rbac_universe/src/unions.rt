@@ -1,4 +1,4 @@
-//! One element of each name, with the texts of all of that name.
+//! One element for each name, with the texts of all elements of that name.
 
 ghost use Rattle.std.specs.Prelude.{◌≡◌, ◌≢◌, ◌↔◌, ◌⊎◌, List, All, IfOk, OnOk};
 ghost use Rattle.std.specs.declared.cmp.Ordering.TheVariants.{Less, Equal};
@@ -9,7 +9,7 @@ ghost use Rattle.rbac_universe.specs.Uniting.{AreUnitedBy, IsOneMore};
 use std::alloc::{AllocError, Global};
 use std::cmp::Ordering;
 
-/// What has a name and texts, and takes over the texts of another of its name.
+/// An element that has a name and texts, and can take over the texts of another of its name.
 pub(crate) trait Unites {
     ghost name: { Self → List Text };
 
@@ -18,14 +18,15 @@ pub(crate) trait Unites {
     fn cmp_name(&self, other: &Self) -> Ordering
         ensures { result ≡ by_name name self.now other.now };
 
-    /// Takes over the texts of one of the same name.
+    /// Takes over the texts of another element of the same name.
     fn unite(&mut self, more: Self) -> Result<(), AllocError>
         requires { name more ≡ name self.old }
         ensures name { OnOk result (name self.new ≡ name self.old) }
         ensures texts { OnOk result ((t : Text) → has self.new t ↔ (has self.old t ⊎ has more t)) };
 }
 
-// One of each name, in order of names. Sorted first, so that those of one name stand together.
+// One element for each name, in order of names. The elements are sorted first, so that those of one
+// name are next to each other.
 pub(crate) fn united<T: Unites + Drop>(
     alloc: Global,
     mut listed: Vec<T>,
@@ -40,7 +41,7 @@ pub(crate) fn united<T: Unites + Drop>(
     Ok(united)
 }
 
-// Puts one more to those of lesser names, or of its name.
+// Adds an element to those with lesser names or its own name.
 fn put<T: Unites + Drop>(united: &mut Vec<T>, item: T) -> Result<(), AllocError>
     requires ascending { IsAscendingBy T.name united.old.items }
     requires not_below { All (λ y. by_name T.name item y ≢ Less) united.old.items }

@@ -40,13 +40,13 @@ impl Model for Universe {
 impl Universe {
     ghost use Rattle.rbac_universe.specs.Made.{IsMade};
 
-    /// The universe of these lists, each taken as a set: a principal once for its key, with all
+    /// The universe of these lists, each taken as a set: one principal for each key, with all
     /// groups that are given under it; each resource with each name, and each URL. A resource is
-    /// namespaced where one of its entries is, and a URL isn't.
+    /// namespaced if one of its entries is, and a URL isn't.
     ///
     /// A bad resource or URL is refused first, whatever the names, and then sets beyond the limits:
-    /// 65,535 principals, namespaces and verbs, 1,000,000 targets (own). Targets are counted before
-    /// any of them is made. Refusing a bad resource or URL takes no memory.
+    /// 65,535 each of principals, namespaces and verbs, and 1,000,000 targets (own). Targets are
+    /// counted before any of them is made. Refusing a bad resource or URL doesn't allocate.
     pub fn build(alloc: Global, lists: &UniverseLists) -> Result<Self, UniverseFault>
         ensures ok { IfOk result (IsUniverseOf lists.now) }
         ensures fault { IfErr result (HasUniverseFault lists.now) }
@@ -124,7 +124,7 @@ impl Universe {
         self.targets.as_slice()
     }
 
-    /// Whether the target of that place is namespaced.
+    /// Whether the target at this place is namespaced.
     pub fn namespaced(&self, place: usize) -> bool
         requires { place < length self.now.targets }
         ensures { slice_get (map (λ t. t.1) self.now.targets) place ≡ Some result }

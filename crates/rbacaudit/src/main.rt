@@ -1,8 +1,8 @@
 //! `rbacaudit`: answers questions about exported Kubernetes roles.
 //!
-//! Reads the command line, then each FILE in order or standard input, runs the command to standard
-//! output, and reports a fault on standard error. The status is 0, or 1 for `no` and for findings,
-//! or 2 for a fault.
+//! Reads the command line, then each FILE in order or standard input, runs the command with its
+//! answer on standard output, and reports a fault on standard error. The exit status is 0, or 1 for
+//! `no` and for findings, or 2 for a fault.
 #![tactic(auto)]
 
 use rbac_cli::{
@@ -20,12 +20,12 @@ const MOST_WORD: usize = 131_072;
 // Why there is no answer.
 #[derive(Drop)]
 enum Fault {
-    // The words of the command line couldn't be had.
+    // The words of the command line couldn't be read.
     Words(io::Error),
-    // The word at this place isn't UTF-8; that at place 0 is the program's name.
+    // The word at this place isn't UTF-8; the one at place 0 is the program's name.
     NotUtf8(usize),
     Usage(UsageFault),
-    // Of the input at this place, from 0.
+    // A fault of the input at this place, counted from 0.
     Input { place: usize, fault: InputFault },
     Run(RunFault),
 }
@@ -59,7 +59,7 @@ fn main(rt: HostRuntime) -> ExitCode {
             }
         }
         Err(fault) => {
-            // A fault that can't be reported has its status all the same.
+            // A fault that can't be reported still has its status.
             let _ = eprintln!(&rt; "rbacaudit: {fault}");
             ExitCode::from(2)
         }
@@ -112,7 +112,7 @@ fn bad_word(rt: &HostRuntime) -> Result<Option<usize>, AllocError> {
     Ok(None)
 }
 
-// The inputs of a command: its files, or standard input where it names none.
+// The inputs of a command: its files, or standard input if it names none.
 fn inputs_of(rt: &HostRuntime, files: &[String]) -> Result<Vec<Input>, Fault> {
     let mut inputs = Vec::new(rt.alloc());
     if files.is_empty() {
@@ -127,7 +127,7 @@ fn inputs_of(rt: &HostRuntime, files: &[String]) -> Result<Vec<Input>, Fault> {
     Ok(inputs)
 }
 
-// Adds an input that was read, in its place.
+// Adds an input that was read, at the next place.
 fn add(inputs: &mut Vec<Input>, read: Result<Input, InputFault>) -> Result<(), Fault> {
     let place = inputs.len();
     match read {
