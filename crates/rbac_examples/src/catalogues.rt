@@ -1,5 +1,4 @@
-//! Type words that no command passes on: one with a slash, and those that are empty before their
-//! dot.
+//! Type words that no command passes on: one with a slash, and those with nothing before their dot.
 
 use crate::words::{is, word};
 use rbac_catalogue::{Catalogue, Entries, Entry};

@@ -31,10 +31,10 @@ const FOUR_TARGETS: Listed<'static> = Listed {
     urls: &["/x"],
 };
 
-// Stands after the candidates of each request.
+// Comes after the candidates of each request.
 const END: u32 = 100;
 
-// For get and then for list, the numbers of the grants that allow it on `/x`, nodes, pods and
+// The numbers of the grants that allow get, then of those that allow list, on `/x`, nodes, pods and
 // pods/log.
 const CANDIDATES: &[u32] = &[
     END, 0, END, 0, 1, END, 0, 3, END, END, END, 1, 2, END, 3, END,
@@ -57,7 +57,7 @@ fn put_candidates(
     }
 }
 
-// Whether they are the wanted ones.
+// Whether the candidates are the wanted ones.
 fn has_candidates(rt: &impl Abort, alloc: Global, index: &Index<'_>) -> bool {
     let universe = universe(rt, alloc, &FOUR_TARGETS);
     let mut got = Vec::new(alloc);
@@ -65,7 +65,7 @@ fn has_candidates(rt: &impl Abort, alloc: Global, index: &Index<'_>) -> bool {
     got.as_slice() == CANDIDATES
 }
 
-// Whether each grant is by the one binding and by the rule of its number.
+// Whether each grant is by the one binding and by the rule with the grant's number.
 fn are_by_their_rules(index: &Index<'_>) -> bool {
     for no in 0..index.len() {
         let grant = index.grant(no);
@@ -86,7 +86,7 @@ fn candidates_are_the_grants_whose_rule_allows(rt: HostRuntime) {
 
 const GETS_PODS: &[RuleRow<'static>] = &[[&["get"], &[""], &["pods"], &[]]];
 
-// The first binding has no role that is held; tests/rows.json has the matrix of these objects.
+// The first binding's role isn't held; tests/rows.json has the matrix of these objects.
 const AMONG_OTHERS: &[BindingRow<'static>] = &[
     (None, "a", "missing", &["bob"]),
     (None, "z", "r", &["alice"]),
@@ -104,11 +104,11 @@ const THREE_NAMESPACES: Listed<'static> = Listed {
     urls: &["/healthz"],
 };
 
-// The binding that allows each request of the universe that is allowed, in order: alice gets pods
+// The first binding that allows each allowed request of the universe, in order: alice may get pods
 // in each namespace, and bob in the last one.
 const FIRST_BINDINGS: &[&str] = &["z", "z", "z", "b"];
 
-// Adds the names of the bindings that allow what the principal asks in this namespace.
+// Adds the names of the bindings that allow the principal's requests in this namespace.
 fn put_bindings<'p>(
     rt: &impl Abort,
     index: &Index<'p>,

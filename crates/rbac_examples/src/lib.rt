@@ -1,4 +1,5 @@
-//! Worked examples as tests over single public calls; tests/rows.json has all that a command shows.
+//! Worked examples as tests of single public calls; tests/rows.json has everything that a command
+//! shows.
 #![tactic(auto)]
 
 #[cfg(test)]

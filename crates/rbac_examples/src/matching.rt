@@ -7,7 +7,7 @@ use rbac_terms::{
 use std::alloc::Global;
 use std::process::Abort;
 
-// The list of a rule that is asked.
+// The list of a rule that a text is matched against.
 #[derive(Clone, Copy)]
 enum Part {
     Verbs,
@@ -51,7 +51,7 @@ fn matches(rt: &impl Abort, alloc: Global, part: Part, listed: &[&str], text: &s
     part_matches(&rule, part, &word(rt, alloc, text))
 }
 
-// The list of a rule, its words, a text, and whether they match it.
+// The list of a rule, its words, a text, and whether the words match the text.
 type Row<'a> = (Part, &'a [&'a str], &'a str, bool);
 
 const ROWS: &[Row<'static>] = &[
@@ -80,14 +80,14 @@ const ROWS: &[Row<'static>] = &[
     (Part::Resources, &["*/scale"], "x/autoscale", false),
     (Part::Resources, &["*/scale"], "scale", false),
     (Part::Resources, &["pods/*"], "pods/log", false),
-    // No names match every name.
+    // An empty list of names matches every name.
     (Part::Names, &["b", "a"], "a", true),
     (Part::Names, &["b"], "a", false),
     (Part::Names, &["b"], "", false),
     (Part::Names, &["*"], "a", false),
     (Part::Names, &[], "a", true),
     (Part::Names, &[], "", true),
-    // Stars at the end of a URL word stand for any end.
+    // Stars at the end of a URL word match any ending.
     (Part::Urls, &["/healthz/**"], "/healthz/", true),
     (Part::Urls, &["/healthz/**"], "/healthz/x", true),
     (Part::Urls, &["/healthz/**"], "/healthz", false),

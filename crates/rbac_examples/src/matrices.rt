@@ -14,15 +14,14 @@ use rbac_universe::{ListedResource, ListedResources, Universe, UniverseLists};
 use std::alloc::Global;
 use std::process::Abort;
 
-// The resource of a row, if there is one, and how many entries were read by then, at least and at
-// most.
+// The resource of a row, if there is one, and the least and the most entries that are read by then.
 type Step<'a> = (Option<&'a str>, u128, u128);
 
 fn read_within(meter: &Meter, least: u128, most: u128) -> bool {
     least <= meter.count() && meter.count() <= most
 }
 
-// Whether the next row is the wanted one, after that many reads.
+// Whether the next row is the wanted one, and the number of reads by then is within its bounds.
 fn gives(rows: &mut Rows<'_, '_>, wanted: Step<'_>) -> bool
     requires { IsGoing rows.old }
     ensures { IsGoing rows.new }
@@ -36,7 +35,8 @@ fn gives(rows: &mut Rows<'_, '_>, wanted: Step<'_>) -> bool
     got && read_within(rows.meter(), least, most)
 }
 
-// Whether three calls of `next` give this, and before them at most so many entries are read.
+// Whether three calls of `next` give these steps, and at most `before` entries are read before
+// them.
 fn gives_all(
     index: &Index<'_>,
     universe: &Universe,
@@ -77,7 +77,8 @@ fn index_gives(
     )
 }
 
-// Whether they do in the matrix of what these rules grant to alice.
+// Whether three calls of `next` give these steps in the matrix of what these rules grant to alice,
+// and at most `before` entries are read before them.
 fn matrix_gives(
     rt: &impl Abort,
     alloc: Global,
@@ -91,7 +92,7 @@ fn matrix_gives(
     index_gives(rt, alloc, &index, universe, before, steps)
 }
 
-// Two rules, the reaches of whose grants have three places together.
+// Two rules whose grants have reaches with three places in all.
 const TWO_RULES: &[RuleRow<'static>] = &[
     [&["get"], &[""], &["pods"], &[]],
     [&["get"], &[""], &["*"], &[]],
@@ -141,7 +142,7 @@ fn resources(rt: &impl Abort, alloc: Global, texts: Words) -> ListedResources {
     all
 }
 
-// The verbs v1, v2, .., and as many targets as there may be.
+// A universe with the verbs v1, v2, .., and as many targets as a universe may have.
 fn wide(rt: &impl Abort, alloc: Global) -> Universe {
     let wide = UniverseLists {
         principals: principals(rt, alloc, &["alice"], &[]),

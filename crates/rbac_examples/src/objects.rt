@@ -18,8 +18,8 @@ enum Kind {
     ClusterRoleBinding,
 }
 
-// Kind, namespace, name, the name of the role that it binds or the verb of its rule, and whether it
-// replaces an earlier object.
+// An object's kind, namespace and name, the name of the role that it binds or the verb of its rule,
+// and whether it replaces an earlier object.
 type Row<'a> = (Kind, &'a str, &'a str, &'a str, bool);
 
 const GIVEN: &[Row<'static>] = &[
@@ -77,21 +77,21 @@ fn object(rt: &impl Abort, alloc: Global, row: &Row<'_>) -> Object {
     }
 }
 
-// Of the objects given the ones that stand, in order of their kinds, namespaces and names:
-// namespace or name, and the verb of its rule or the role that it binds.
+// The given objects that are kept, in order of kinds, namespaces and names: an object's namespace
+// or name, and the verb of its rule or the role that it binds.
 
 const ROLES: &[(&str, &str)] = &[("Prod", "get"), ("dev", "list")];
 
 const CLUSTER_ROLES: &[(&str, &str)] = &[("B", "get"), ("a", "list")];
 
-// Without a namespace the binding is a ClusterRoleBinding.
+// A binding without a namespace is a ClusterRoleBinding.
 const BINDINGS: &[(Option<&str>, &str)] = &[
     (None, "second"),
     (Some("Prod"), "first"),
     (Some("dev"), "second"),
 ];
 
-// Whether this is the one verb of the one rule.
+// Whether there is one rule, and this is its one verb.
 fn has_verb(rules: &Rules, verb: &str) -> bool {
     let verbs = |rule: &Rule| rule.verbs.as_slice().iter().all(|word| is(word, verb));
     rules.as_slice().len() == 1 && rules.as_slice().iter().all(verbs)
@@ -153,7 +153,7 @@ fn objects_given_at_once_are_those_put_in_turn(rt: HostRuntime) {
     assert!(rt; has_last_objects(&objects));
 }
 
-// The policy of a role and a binding to it in this namespace.
+// The policy of a role and a binding to it, both in this namespace.
 fn bound_role(rt: &impl Abort, alloc: Global, namespace: &str) -> Policy {
     let mut objects = Objects::new(alloc);
     objects
@@ -175,7 +175,8 @@ const ALICE_GETS_PODS: Listed<'static> = Listed {
     urls: &[],
 };
 
-// In how many of these namespaces the policy allows a request for a target of the universe.
+// In how many of the universe's namespaces the policy allows a request for a target of the
+// universe.
 fn counted(universe: &Universe, policy: &Policy, asker: &Principal, verb: &Word) -> u32 {
     let mut count = 0u32;
     for namespace in universe.namespaces() {
@@ -187,17 +188,17 @@ fn counted(universe: &Universe, policy: &Policy, asker: &Principal, verb: &Word)
     count
 }
 
-// Whether alice gets pods in this many namespaces.
+// Whether alice may get pods in this many namespaces.
 fn gets_in(universe: &Universe, policy: &Policy, wanted: u32) -> bool {
     let mut askers = universe.principals().iter().zip(universe.verbs());
     policy.len() == 1
         && askers.all(|(asker, verb)| counted(universe, policy, asker, verb) == wanted)
 }
 
-// The namespace of a role and its binding, and in how many namespaces alice gets pods by them.
+// The namespace of a role and its binding, and in how many namespaces alice may get pods by them.
 const LIVES_IN: &[(&str, u32)] = &[("dev", 1), ("", 0)];
 
-// No document makes such a binding, since `default` stands for a missing namespace.
+// No document makes a RoleBinding of the empty namespace: a missing one is read as `default`.
 #[test]
 fn a_role_binding_of_the_empty_namespace_never_lives(rt: HostRuntime) {
     let universe = universe(&rt, rt.alloc(), &ALICE_GETS_PODS);

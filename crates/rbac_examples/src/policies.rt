@@ -1,4 +1,4 @@
-//! Policies, which other tests ask about: bindings of one role.
+//! Policies that other tests ask about: bindings of one role.
 
 use crate::words::{word, words};
 use rbac_model::{Object, Objects, Policy};
@@ -45,7 +45,7 @@ pub(crate) fn users(rt: &impl Abort, alloc: Global, names: &[&str]) -> Subjects 
     all
 }
 
-// Namespace, name, the cluster role that it binds, and users.
+// A binding's namespace and name, the cluster role that it binds, and its users.
 pub(crate) type BindingRow<'a> = (Option<&'a str>, &'a str, &'a str, &'a [&'a str]);
 
 // A binding of `r` to alice.

@@ -25,7 +25,7 @@ fn labels(rt: &impl Abort, alloc: Global, value: &str) -> Labels {
     one
 }
 
-// What selects the roles with that label.
+// Selectors for the roles with that label.
 fn selectors(rt: &impl Abort, alloc: Global, value: &str) -> Selectors {
     let mut one = Selectors::new(alloc);
     let selector = Selector {
@@ -51,8 +51,9 @@ fn role(
     })
 }
 
-// Edit, view and admin select one another in a ring, and view the plain role q too; alone selects
-// itself alone. The name of each, its label, and the label of those that it selects.
+// The roles edit, view and admin select one another in a ring, and view selects the plain role q
+// too; the role alone selects only itself. The name of each, its label, and the label of the roles
+// that it selects.
 const SMALL_RING: &[(&str, &str, &str)] = &[
     ("edit", "admin", "edit"),
     ("view", "edit", "view"),
@@ -98,19 +99,19 @@ fn roles_that_select_one_another_reach_themselves(rt: HostRuntime) {
 // How many roles are in the great ring.
 const RING: u32 = 200;
 
-// The name of the role of this number, which is its label too.
+// The name of the role with this number, which is its label too.
 fn ring_name(rt: &impl Abort, alloc: Global, number: u32) -> String {
     format!(in alloc; "r{number:03}").expect(rt, "memory")
 }
 
-// The role of this number, which selects the next one by its label.
+// The role with this number, which selects the next one by its label.
 fn ring_role(rt: &impl Abort, alloc: Global, number: u32, next: u32) -> Object {
     let name = ring_name(rt, alloc, number);
     let next = selectors(rt, alloc, ring_name(rt, alloc, next).as_str());
     role(rt, alloc, name.as_str(), name.as_str(), Some(next))
 }
 
-// A ring of roles, the last of which selects the first one, and a plain role with its label.
+// A ring of roles whose last one selects the first, and a plain role with the first one's label.
 fn great_ring(rt: &impl Abort, alloc: Global) -> Policy {
     let mut objects = Objects::new(alloc);
     for number in 0..RING {

@@ -59,7 +59,7 @@ fn a_slash_tells_urls_from_resources(rt: HostRuntime) {
     }
 }
 
-// The keys of a user's requests in a namespace, verb by verb and target by target.
+// Adds the keys of a principal's requests in a namespace, verb by verb and target by target.
 fn add_keys(
     rt: &impl Abort,
     alloc: Global,
@@ -76,7 +76,7 @@ fn add_keys(
     }
 }
 
-// The keys of all requests of the universe of these lists.
+// The keys of all requests of the universe made of these lists.
 pub(crate) fn keys_of(rt: &impl Abort, alloc: Global, listed: &Listed<'_>) -> Vec<Key> {
     let universe = universe(rt, alloc, listed);
     let mut keys = Vec::new(alloc);
@@ -122,7 +122,7 @@ const ONE_REQUEST: &[(Listed<'static>, [&str; 6])] = &[
     (A_URL, ["u:alice", "", "get", "", "/healthz", ""]),
 ];
 
-// Whether this is the key of one request, with the wanted fields.
+// Whether there is one key, and it has the wanted fields.
 fn is_one(keys: &[Key], wanted: &[&str; 6]) -> bool {
     keys.len() == 1 && has_fields(&keys[0], wanted)
 }
@@ -135,7 +135,8 @@ fn a_key_has_six_fields_of_which_a_url_fills_three(rt: HostRuntime) {
     }
 }
 
-// Two texts for each field, and more for the last, each list from its greatest text to its least.
+// Two texts for each field, and more for the last; each list runs from its greatest text to its
+// least.
 const PAIRS: Listed<'static> = Listed {
     users: &["b", "a"],
     groups: &[],
@@ -151,7 +152,7 @@ const PAIRS: Listed<'static> = Listed {
     urls: &[],
 };
 
-// The names in order, so that each field of a key shows where its request stands.
+// The names in order, so that each field of a key shows where its request comes in the order.
 const NAMES: &[&str] = &["Z", "a", "aa", "b", "é"];
 
 fn is_less(key: &Key, next: &Key) -> bool {

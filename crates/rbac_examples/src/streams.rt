@@ -1,11 +1,11 @@
-//! Readers and writers that fail, and count their calls: none is made twice, and none after one
+//! Readers and writers that fail and count their calls: no call is made twice, and none after one
 //! that failed.
 
 use rbac_streams::{Failed, InputFault, Sink, Source, read_input, read_slice};
 use std::io;
 use std::io::{ErrorKind, Read, Write};
 
-// Gives its bytes one at a time, and is interrupted at call `fails_at`, from 1.
+// Gives its bytes one at a time, and is interrupted at call `fails_at`, counted from 1.
 #[derive(Drop)]
 struct Drip<'a> {
     rest: &'a [u8],
@@ -26,7 +26,7 @@ impl Read for Drip<'_> {
     }
 }
 
-// Takes `most` bytes at a time and is interrupted at call `fails_at`, from 1.
+// Takes `most` bytes at a time, and is interrupted at call `fails_at`, counted from 1.
 #[derive(Drop)]
 struct Sip<'a> {
     most: usize,
@@ -71,7 +71,7 @@ fn reads_until_the_end(rt: HostRuntime) {
                 assert!(rt; source.read(&mut [0u8; 4]) == Err(Failed));
             }
         }
-        // (15 bytes, and one read that finds the end)
+        // 15 reads of a byte each, and one that finds the end.
         assert!(rt; calls == fails_at.min(16));
     }
 }
@@ -83,8 +83,8 @@ fn a_slice_is_read_whole(rt: HostRuntime) {
     assert!(rt; input.as_bytes() == LIST);
 }
 
-// How many bytes a writer takes at a time, at which call it fails, how many of four it has taken,
-// and how often it was called.
+// How many bytes a writer takes at a time, at which call it fails, how many of four bytes it has
+// taken, and how often it was called.
 const SIPS: &[(usize, usize, usize, usize)] = &[(1, 4, 3, 4), (0, 9, 0, 1), (64, 1, 0, 1)];
 
 #[test]

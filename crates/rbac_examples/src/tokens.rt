@@ -1,4 +1,4 @@
-//! Tokens of keys and marks: the worked ones, and which refusal each other text gets.
+//! Tokens of keys and marks: worked ones, and the fault that any other text gets.
 
 use crate::requests::keys_of;
 use crate::universes::Listed;
@@ -103,19 +103,20 @@ const NO_TOKENS: &[(&str, TokenFault)] = &[
         TokenFault::BadVersion,
     ),
     ("MQ", TokenFault::NotCanonical),
-    // A byte by its code that stands as it is; digits in upper case; a backslash alone.
+    // A byte written by its code that is to be written as itself; digits in upper case; a backslash
+    // alone.
     (
         "MQl1OmFsaWNlCS0JZ2V0CS0JcG9kcwlceDYx",
         TokenFault::NotCanonical,
     ),
     ("MQl1OmEJLQlnZXQJLQlwb2RzCVx4MEE", TokenFault::NotCanonical),
     ("MQl1OmEJLQlnZXQJLQlwb2RzCVw", TokenFault::NotCanonical),
-    // A user without a name, neither user nor group, a URL in a namespace, no resource.
+    // A user without a name; neither a user nor a group; a URL in a namespace; no resource.
     ("MQl1OgktCWdldAktCXBvZHMJLQ", TokenFault::NotCanonical),
     ("MQl4OmEJLQlnZXQJLQlwb2RzCS0", TokenFault::NotCanonical),
     ("MQl1OmEJZGV2CWdldAktCS94CS0", TokenFault::NotCanonical),
     ("MQl1OmEJLQlnZXQJLQktCS0", TokenFault::NotCanonical),
-    // An empty field, one too few, one too many.
+    // An empty field; one field too few; one field too many.
     ("MQl1OmFsaWNlCS0JZ2V0CS0JcG9kcwk", TokenFault::NotCanonical),
     ("MQl1OmFsaWNlCS0JZ2V0CS0JcG9kcw", TokenFault::NotCanonical),
     (
@@ -133,8 +134,8 @@ fn another_text_is_no_token(rt: HostRuntime) {
     }
 }
 
-// The tokens of marks of one key: without a binding, and with the ClusterRoleBinding `z`, the
-// RoleBinding `a` of `dev`, and a RoleBinding whose namespace and name are empty.
+// The tokens of marks of one key: without a binding, with the ClusterRoleBinding `z`, with the
+// RoleBinding `a` of `dev`, and with a RoleBinding whose namespace and name are empty.
 const OF_A_KEY: &str = "MQl1OmFsaWNlCWRldglnZXQJLQlwb2RzCS0";
 
 const OF_Z: &str = "Mgl1OmFsaWNlCWRldglnZXQJLQlwb2RzCS0JQ2x1c3RlclJvbGVCaW5kaW5nCS0Jeg";
@@ -200,7 +201,7 @@ const NO_MARKS: &[(&str, TokenFault)] = &[
     ("Mw", TokenFault::BadVersion),
     ("MQ", TokenFault::NotCanonical),
     ("Mg", TokenFault::NotCanonical),
-    // A version 2 without a binding, and a version 1 with one.
+    // Version 2 without a binding, and version 1 with one.
     (
         "Mgl1OmFsaWNlCWRldglnZXQJLQlwb2RzCS0",
         TokenFault::NotCanonical,

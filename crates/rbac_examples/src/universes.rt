@@ -1,4 +1,4 @@
-//! Universes, which other tests ask about.
+//! Universes that other tests ask about.
 
 use crate::words::{word, words};
 use rbac_terms::{Principal, Words};

@@ -1,5 +1,6 @@
-//! Texts and lists of them, which the other tests are made of. What tests build stops where memory
-//! is refused: with `?` each early return would drop all that is built so far, which is proved too.
+//! Texts and lists of them, which the other tests are made of. Tests stop if they run out of memory
+//! while building: with `?` each early return would drop everything built so far, which would be
+//! proved too.
 
 use rbac_terms::{Word, Words};
 use std::alloc::Global;
@@ -23,7 +24,7 @@ pub(crate) fn is(word: &Word, wanted: &str) -> bool {
     word.as_bytes() == wanted.as_bytes()
 }
 
-// Whether this is the wanted text, or none where none is wanted.
+// Whether this is the wanted text, or there is none and none is wanted.
 pub(crate) fn is_of(word: Option<&Word>, wanted: Option<&str>) -> bool {
     match (word, wanted) {
         (Some(word), Some(wanted)) => is(word, wanted),

@@ -10,7 +10,7 @@ use Rattle.rbac_model.specs.Universes.{UniverseView, Listed, Cell, RowView, Fits
 abbrev pub cell_at : Who → Text → Text → Listed → Cell
 cell_at who namespace verb t = record { who = who; namespace = namespace; verb = verb; target = t }
 
--- the requests of someone in a namespace for a verb, of someone in a namespace, of someone, and all
+-- the requests of a principal in a namespace for a verb; of a principal in a namespace; of a principal; and all of them
 abbrev pub line_cells : UniverseView → Who → Text → Text → List Cell
 line_cells u who namespace verb = map (cell_at who namespace verb) u.targets
 
@@ -23,11 +23,11 @@ principal_cells u who = flat_map (namespace_cells u who) u.namespaces
 abbrev pub cells_of : UniverseView → List Cell
 cells_of u = flat_map (principal_cells u) u.principals
 
--- a request fits, and that binding is the first that grants it
+-- the request fits, and this binding is the first that grants it
 abbrev pub HasRow : Held → Cell → Binding → Type 0
 HasRow h c b = Fits c × IsFirst h c.who c.namespace c.verb c.target.0 b
 
--- the rows of requests, in order: one for each that has one
+-- the rows of these requests, in order: one for each request that has one
 abbrev pub AreRowsOf : Held → List Cell → List RowView → Type 0
 AreRowsOf h [] rows = rows ≡ []
 AreRowsOf h (c ∷ cs) rows =

@@ -9,52 +9,52 @@ use Rattle.rbac_matrix.specs.declared.bound_runs.Runs.{Runs}
 use Rattle.rbac_matrix.specs.declared.line.Place.{Place}
 use Rattle.rbac_matrix.specs.declared.walk.Walk.{Walk}
 
--- the grant of that number is a cursor of the line
+-- the grant with that number is a cursor of the line
 pub record IsCursorAt (p : PolicyView) (l : LineView) (number : ℕ) : Type 0 where
   pub grant : GrantView
   pub at : slice_get p.grants number ≡ Some grant
   pub is : IsCursor l.who l.namespace l.verb grant
 
--- the grant of that number is of a binding that names who asks, and may be live on the line
+-- the grant with that number belongs to a binding that names who asks and may be live on the line
 unfoldable pub IsBoundOn : PolicyView → LineView → ℕ → Type 0
 IsBoundOn p l number = IsBoundTo p l.who l.namespace number
 
--- these are the first runs of such grants from a number on, and where they are all there are no others
+-- these are the first runs, from a number on, of the grants for which `IsBoundOn` holds; if `are_all` is true, there are no others
 abbrev pub AreRunsFrom : PolicyView → LineView → Bool → ℕ → List Run → Type 0
 AreRunsFrom p l are_all from [] = IsTrue are_all → (number : ℕ) → from ≤ number → ¬ IsBoundOn p l number
 AreRunsFrom p l are_all from (run ∷ runs) = IsNextRun p l.who l.namespace from run.start run.end × AreRunsFrom p l are_all run.end runs
 
--- the first runs of a line
+-- these are the first runs of the line
 abbrev pub AreRuns : PolicyView → LineView → Runs → Type 0
 AreRuns p l runs = AreRunsFrom p l runs.are_all 0 runs.kept.items
 
--- the runs are those of the line at the place, if there is one
+-- the runs are those of the line at the place, if there is a line there
 abbrev pub AreRunsAt : PolicyView → UniverseView → Place → Runs → Type 0
 AreRunsAt p u at runs = (l : LineView) (ls : List LineView) → lines_from u at ≡ l ∷ ls → AreRuns p l runs
 
--- a walk will come to the cursor of that number
+-- the walk will still come to the cursor with that number
 abbrev pub IsAhead : PolicyView → LineView → Walk → ℕ → Type 0
 IsAhead p l w number = IsCursorAt p l number × (w.next ≤ number)
 
--- a walk stands in a run of such grants, and has the runs after it
+-- the walk is in a run of grants for which `IsBoundOn` holds, and has the runs after that one
 pub record IsWithin (p : PolicyView) (l : LineView) (runs : Runs) (w : Walk) : Type 0 where
   pub order : w.next ≤ w.end
   pub bound : (number : ℕ) → w.next ≤ number → number < w.end → IsBoundOn p l number
   pub later : AreRunsFrom p l runs.are_all w.end (drop w.later runs.kept.items)
 
--- from one step of a walk to another the run was the next one, and the runs after it are left
+-- from one step of a walk to another, this run was the next one, and the runs after it are left
 pub record IsNextRunOn (p : PolicyView) (l : LineView) (runs : Runs) (old new : Walk) (run : Run) : Type 0 where
   pub next : IsNextRun p l.who l.namespace old.end run.start run.end
   pub later : AreRunsFrom p l runs.are_all run.end (drop new.later runs.kept.items)
   pub same : new.next ≡ old.next
 
--- from one step of a walk to the next that number was the first of such grants
+-- from one step of a walk to the next, that number was the first for which `IsBoundOn` holds
 pub record IsNextBound (p : PolicyView) (l : LineView) (old new : Walk) (number : ℕ) : Type 0 where
   pub bound : IsBoundOn p l number
   pub on : old.next ≤ number
   pub passed : new.next ≡ number + 1
   pub first : (other : ℕ) → old.next ≤ other → other < number → ¬ IsBoundOn p l other
 
--- how many grants it will look at, at most
+-- how many grants the walk will still look at, at most
 abbrev pub steps_left : PolicyView → Walk → ℕ
 steps_left p w = length p.grants - w.next

@@ -1,4 +1,4 @@
--- An enumeration: the rows that it has left, and what holds of it between two calls.
+-- An enumeration: the rows that it has left, and what holds between two calls.
 use Rattle.std.specs.Prelude.{◌≡◌, ℕ, ◌↔◌, List, [], ◌∷◌, ◌++◌, Option, MatchOption, length}
 use Rattle.std.specs.Iterator.{Count, at_most}
 use Rattle.rbac_model.specs.Policies.{IsPolicy}
@@ -14,11 +14,11 @@ use Rattle.rbac_matrix.specs.declared.row.Row.{Row}
 use Rattle.rbac_matrix.specs.declared.enumeration.Rows.{Rows}
 use Rattle.rbac_matrix.specs.declared.start.Start.{Start}
 
--- these rows are left: those of the requests from its place on
+-- these rows are left: those of the requests from the enumeration's place on
 unfoldable pub AreLeft : Rows → List RowView → Type 0
 AreLeft s rows = AreRowsOf s.index.now.held (cells_left s.universe.now s.at s.from) rows
 
--- how many requests are left; no more rows are
+-- how many requests are left; at most as many rows are left
 unfoldable pub requests_left : Rows → ℕ
 requests_left s = length (cells_left s.universe.now s.at s.from)
 
@@ -29,23 +29,23 @@ left_at_most s = at_most (requests_left s)
 abbrev pub IsOnLine : Rows → Cell → Type 0
 IsOnLine s c = (ls : List LineView) × (lines_from s.universe.now s.at ≡ line c.who c.namespace c.verb ∷ ls)
 
--- a row was given, which is the first of those that are left, and the others are left; no line past its own was entered
+-- a row was given: the first of those that were left; the others are left, and no line past the row's own was entered
 pub record GivesRow (s : Rows) (r : Row) (t : Rows) : Type 0 where
   pub row : RowView
   pub shows : Shows r row
   pub on : IsOnLine t row.cell
   pub left : (all : List RowView) → AreLeft s all ↔ ((others : List RowView) × (all ≡ row ∷ others) × AreLeft t others)
 
--- a call gave the first row of those that are left, or nothing where none is left
+-- a call gave the first of the rows that were left, or nothing if none was left
 abbrev pub Gives : Rows → Option Row → Rows → Type 0
 Gives s r t = MatchOption r (AreLeft s [] × AreLeft t []) (λ row. GivesRow s row t)
 
--- behind the line of the seats, and that line, if there is one
+-- the lines entered are those in `behind`, then the line of the seats, if there is one
 abbrev pub EntersLast : List LineView → List LineView → List LineView → Type 0
 EntersLast [] behind entered = entered ≡ behind
 EntersLast (l ∷ ls) behind entered = entered ≡ behind ++ l ∷ []
 
--- what holds between two calls, where the grants below `upto` are past the place
+-- what holds between two calls, with the seats of the grants below `upto` past the place
 pub record IsUnderWay (s : Rows) (upto : ℕ) : Type 0 where
   pub policy : IsPolicy s.index.now
   pub universe : IsUniverse s.universe.now
@@ -60,7 +60,7 @@ pub record IsUnderWay (s : Rows) (upto : ℕ) : Type 0 where
 abbrev pub IsGoing : Rows → Type 0
 IsGoing s = IsUnderWay s 0
 
--- an enumeration begins there, with no row given; and no more cursors were sought than that line has, none where all its rows are meant
+-- the enumeration begins at `start`, with no row given; no more cursors were sought than that line has, and none if all of its rows are included
 pub record BeginsAt (s : Rows) (start : Start) : Type 0 where
   pub at : s.at ≡ start.at
   pub from : s.from ≡ start.from
@@ -69,13 +69,13 @@ pub record BeginsAt (s : Rows) (start : Start) : Type 0 where
   pub whole : start.from ≡ 0 → s.sought ≡ 0
   pub sought : AreSought s.index.now s.universe.now s.start s.sought
 
--- the lines that were entered: those from the first one up to that of the seats
+-- the lines that were entered: those from the first one to that of the seats, inclusive
 pub record AreEntered (s : Rows) (entered : List LineView) : Type 0 where
   pub behind : List LineView
   pub whole : lines_from s.universe.now s.start ≡ behind ++ lines_from s.universe.now s.at
   pub last : EntersLast (lines_from s.universe.now s.at) behind entered
 
--- new is the enumeration old, further on
+-- `new` is the enumeration `old`, further on
 pub record GoesOn (old new : Rows) : Type 0 where
   pub index : new.index.now ≡ old.index.now
   pub universe : new.universe.now ≡ old.universe.now

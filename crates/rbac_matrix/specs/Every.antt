@@ -13,38 +13,38 @@ use Rattle.rbac_token.specs.Marks.{name_texts}
 use Rattle.rbac_token.specs.declared.mark.BindingName.{BindingName}
 use Rattle.rbac_token.specs.declared.mark.Mark.{Mark}
 
--- a binding that is held grants a request of the universe that fits
+-- the row's binding is held, and it grants the row's request, which is one of the universe and fits
 abbrev pub IsEveryRow : Held → UniverseView → RowView → Type 0
 IsEveryRow h u row =
     IsCellOf u row.cell × Fits row.cell × Contains h.bindings row.binding
     × Grants h row.binding row.cell.who row.cell.namespace row.cell.verb row.cell.target.0
 
--- the texts by which such rows are in order: the six of the key, then kind word, namespace and name of the binding, by which bindings are in order
+-- the texts by which these rows are ordered: the six of the key, then the binding's kind word, namespace and name, by which bindings are ordered
 abbrev pub every_name : RowView → List Text
 every_name row = texts (cell_key row.cell) ++ binding_name row.binding
 
--- all such rows, by key, then in order of bindings (own)
+-- all these rows, in order of keys, then of bindings (own)
 pub record IsEvery (h : Held) (u : UniverseView) (rows : List RowView) : Type 0 where
   pub ordered : IsAscendingBy every_name rows
   pub exact : (row : RowView) → Contains rows row ↔ IsEveryRow h u row
 
--- a row comes after a mark whose key is less; with a binding also after one of its own request whose binding stands before the row's (own)
+-- a row comes after a mark whose key is less; also after a mark that has the row's own key, and a binding that comes before the row's (own)
 abbrev pub comes_after : KeyTexts → Option BindingName → RowView → Bool
 comes_after k None row = is_gt (key_cmp (cell_key row.cell) k)
 comes_after k (Some b) row = is_gt (slice_cmp text_cmp (every_name row) (texts k ++ name_texts (Some b)))
 
--- a row comes after a mark with a binding, part by part: its key is greater, or it is the mark's and its binding stands past the mark's
+-- a row comes after a mark with a binding, part by part: its key is greater, or its key is the mark's and its binding comes after the mark's
 abbrev pub StandsPast : KeyTexts → BindingName → RowView → Type 0
 StandsPast k b row =
     (key_cmp (cell_key row.cell) k ≡ Greater)
     ⊎ ((cell_key row.cell ≡ k) × (slice_cmp text_cmp (binding_name row.binding) (name_texts (Some b)) ≡ Greater))
 
--- the rows that come after it; all where no mark is given
+-- the rows that come after the mark; all rows if no mark is given
 abbrev pub every_after : Option Mark → List RowView → List RowView
 every_after None rows = rows
 every_after (Some m) rows = filter (comes_after m.key m.binding) rows
 
--- the first n of them, and whether one more exists
+-- the first n rows after the mark, and whether there is one more
 abbrev pub every_page : Option Mark → ℕ → List RowView → List RowView × Bool
 every_page m n rows = (take n (every_after m rows), nat_lt n (length (every_after m rows)))
 
@@ -55,14 +55,13 @@ name_of b = record { namespace = b.namespace; name = b.name }
 abbrev pub mark_of : RowView → Mark
 mark_of row = record { key = cell_key row.cell; binding = Some (name_of row.binding) }
 
--- what comes after a mark is its page and then what comes after the mark of the page's last row, and the page says that more follows exactly
--- where something does (own)
+-- the rows after a mark are its page, then the rows after the mark of the page's last row; the page says that more follow exactly if some do (own)
 abbrev pub EveryPageJoins : Option Mark → ℕ → List RowView → RowView → Type 0
 EveryPageJoins m n rows last =
     (every_after m rows ≡ (every_page m n rows).0 ++ every_after (Some (mark_of last)) rows)
     × (((every_page m n rows).1 ≡ true) ↔ (every_after (Some (mark_of last)) rows ≢ []))
 
--- of such rows each page that isn't empty, at any limit, joins so by its last row's mark (own)
+-- each page of every granting binding's rows that isn't empty, at any limit, joins the rows after it by its last row's mark (own)
 abbrev pub EveryPagesJoin : Type 0
 EveryPagesJoin =
     (held : Held) (u : UniverseView) (rows : List RowView) → IsEvery held u rows

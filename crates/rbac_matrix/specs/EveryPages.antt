@@ -12,7 +12,7 @@ use Rattle.rbac_matrix.specs.Pages.{cut_at}
 use Rattle.rbac_matrix.specs.Printed.{StopsWithin, rows_text}
 use Rattle.rbac_matrix.specs.declared.every_rows.EveryRows.{EveryRows}
 
--- what stands on the last line: where more rows follow, `next` and the token of the last row's mark; else `end` (own)
+-- what the last line says: `next` and the token of the last row's mark if more rows follow it, otherwise `end` (own)
 abbrev pub every_last_words : Option RowView → Bool → Text
 every_last_words (Some row) true = codes "next" ++ tab ∷ mark_text (mark_of row)
 every_last_words (Some row) false = codes "end"

@@ -1,4 +1,4 @@
--- Where the rows of every granting binding after a mark begin.
+-- Where the rows of every granting binding that come after a mark begin.
 use Rattle.std.specs.Prelude.{◌≡◌, ℕ, ◌<◌, ◌≤◌, ◌⊎◌, List, ◌++◌, Contains, Option, Some, None, slice_get, true}
 use Rattle.std.specs.declared.cmp.Ordering.TheVariants.{Greater}
 use Rattle.std.specs.Cmp.Lexicographic.{slice_cmp}
@@ -26,33 +26,33 @@ abbrev pub key_of_mark : Option Mark → Option KeyTexts
 key_of_mark None = None
 key_of_mark (Some m) = Some m.key
 
--- a row comes after the mark; without one all do
+-- a row comes after the mark; without a mark all rows do
 abbrev pub ComesAfter : Option Mark → RowView → Type 0
 ComesAfter None row = Unit {0}
 ComesAfter (Some m) row = comes_after m.key m.binding row ≡ true
 
--- of the pairs from the place, a target's and a binding's place on those that are granted come after the mark, and of those before it none
+-- the granted pairs from this place of a line, a target and a binding on come after the mark, and none of the granted pairs before it does
 pub record IsEveryStart (h : Held) (u : UniverseView) (m : Option Mark) (at : Place) (from place : ℕ) : Type 0 where
   pub before : List RowView
   pub whole : pairs_of h.bindings (cells_of u) ≡ before ++ pairs_from h.bindings place (cells_left u at from)
   pub early : (r : RowView) → Contains before r → IsGranted h r → ComesAfter m r → ⊥
   pub late : (r : RowView) → Contains (pairs_from h.bindings place (cells_left u at from)) r → IsGranted h r → ComesAfter m r
 
--- the line is that from which the requests after the key begin, and within it no later place is meant
+-- the requests after the key begin on this line, and the place within the line is no later than where they begin
 pub record IsKeyStart (u : UniverseView) (k : Option KeyTexts) (at : Place) (from : ℕ) : Type 0 where
   pub first : ℕ
   pub start : IsStart u k at first
   pub own : (first ≡ 0) ⊎ IsOwnLine u k at
   pub within : from ≤ first
 
--- the rows begin at the first line, that of the key; within a line only where it is the key's own, and then no more cursors were sought than that line has
+-- the rows begin at the first line, as do the requests after the key; within a line only if it is the key's own, and then no more cursors were sought than that line has
 pub record EveryStarts (s : EveryRows) (k : Option KeyTexts) : Type 0 where
   pub start : IsKeyStart s.rows.universe.now k s.rows.start s.rows.from
   pub here : s.rows.at ≡ s.rows.start
   pub whole : s.rows.from ≡ 0 → s.rows.sought ≡ 0
   pub sought : AreSought s.rows.index.now s.rows.universe.now s.rows.start s.rows.sought
 
--- the request of the key stands at the place and at that of its target
+-- the key's request is at this place of a line and this place of a target
 pub record IsOwnRequest (u : UniverseView) (k : KeyTexts) (at : Place) (place : ℕ) : Type 0 where
   pub line : IsOwnPlace u k at
   pub target : IsFoundAt (slice_cmp text_cmp) what_texts (whats u) (target_part k) place
@@ -61,7 +61,7 @@ pub record IsOwnRequest (u : UniverseView) (k : KeyTexts) (at : Place) (place : 
 abbrev pub HasNoRequest : UniverseView → KeyTexts → Type 0
 HasNoRequest u k = (c : Cell) → IsCellOf u c → cell_name c ≡ texts k → ⊥
 
--- those of the bindings before the place stand no later than the name, and the others past it
+-- the bindings before the place come no later than the name, and the others come after it
 pub record ArePastName (bs : List Binding) (b : BindingName) (place : ℕ) : Type 0 where
   pub below : (j : ℕ) (x : Binding) → j < place → slice_get bs j ≡ Some x → slice_cmp text_cmp (binding_name x) (name_texts (Some b)) ≡ Greater → ⊥
   pub above : (j : ℕ) (x : Binding) → place ≤ j → slice_get bs j ≡ Some x → slice_cmp text_cmp (binding_name x) (name_texts (Some b)) ≡ Greater

@@ -7,13 +7,13 @@ use Rattle.rbac_matrix.specs.Starting.{IsOwnLine, IsStart}
 use Rattle.rbac_matrix.specs.declared.matrix.Matrix.{Matrix}
 use Rattle.rbac_matrix.specs.declared.enumeration.Rows.{Rows}
 
--- as many reaches and seats as grants, each reach that of its grant
+-- there are as many reaches and as many seats as grants, and each reach is that of its grant
 pub record AreLent (m : Matrix) : Type 0 where
   pub reaches : AreReaches m.index.now m.universe.now m.reaches.now
   pub seats : length m.seats.now ≡ length m.index.now.grants
 
--- the rows begin at the first line, from a place on, at which the requests after the key begin; within a line only where it is the key's own, and
--- then no more cursors were sought than that line has
+-- the rows begin at the first line, from the place on where the requests after the key begin; within a line only if it is the key's own, and then no
+-- more cursors were sought than that line has
 pub record Starts (s : Rows) (k : Option KeyTexts) : Type 0 where
   pub start : IsStart s.universe.now k s.start s.from
   pub here : s.at ≡ s.start

@@ -16,12 +16,12 @@ pub record LineView : Type 0 where
 abbrev pub line : Who → Text → Text → LineView
 line who namespace verb = record { who = who; namespace = namespace; verb = verb }
 
--- what the first brings from somewhere on, then all that the others bring
+-- what `first` gives for the first element, then what `whole` gives for each of the others
 abbrev pub onward : {A B : Type 0} → (A → List B) → (A → List B) → List A → List B
 onward first whole [] = []
 onward first whole (x ∷ xs) = first x ++ flat_map whole xs
 
--- the lines of someone in a namespace from a verb on, of someone from a namespace and a verb on, and all from a place on
+-- the lines of a principal in a namespace from a verb on; those of a principal from a namespace and a verb on; and all lines from a place on
 abbrev pub verb_lines : UniverseView → Who → ℕ → Text → List LineView
 verb_lines u who v namespace = map (line who namespace) (drop v u.verbs)
 
@@ -31,7 +31,7 @@ namespace_lines u n v who = onward (verb_lines u who v) (verb_lines u who 0) (dr
 unfoldable pub lines_from : UniverseView → Place → List LineView
 lines_from u at = onward (namespace_lines u at.namespace at.verb) (namespace_lines u 0 0) (drop at.principal u.principals)
 
--- the place of a principal, a namespace and a verb, and the one after a line
+-- the place of a principal, a namespace and a verb; and the place after that of a line
 abbrev pub place : ℕ → ℕ → ℕ → Place
 place p n v = record { principal = p; namespace = n; verb = v }
 
@@ -44,7 +44,7 @@ pub record IsLineAt (u : UniverseView) (at : Place) (l : LineView) : Type 0 wher
   pub namespace : slice_get u.namespaces at.namespace ≡ Some l.namespace
   pub verb : slice_get u.verbs at.verb ≡ Some l.verb
 
--- a place of a line, or past all lines
+-- the place is that of a line, or past all lines
 abbrev pub IsSettled : UniverseView → Place → Type 0
 IsSettled u at =
     ((at.principal < length u.principals) × (at.namespace < length u.namespaces) × (at.verb < length u.verbs))
@@ -54,6 +54,6 @@ IsSettled u at =
 unfoldable pub line_cells_from : UniverseView → ℕ → LineView → List Cell
 line_cells_from u from l = map (cell_at l.who l.namespace l.verb) (drop from u.targets)
 
--- the requests of these lines, of the first from a target's place on
+-- the requests of these lines; those of the first line only from a target's place on
 abbrev pub cells_of_lines : UniverseView → ℕ → List LineView → List Cell
 cells_of_lines u from ls = onward (line_cells_from u from) (line_cells_from u 0) ls

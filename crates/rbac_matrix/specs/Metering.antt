@@ -1,4 +1,4 @@
--- How many entries an enumeration has read, between the rows given and the entries that its lines have.
+-- How many entries an enumeration has read: between the number of rows given and the number of entries that its lines have.
 use Rattle.std.specs.Prelude.{◌≡◌, ℕ, ◌+◌, ◌*◌, ◌≤◌, List, [], ◌∷◌, ◌++◌, length}
 use Rattle.std.specs.List.{flat_map}
 use Rattle.rbac_model.specs.Policies.{Held, PolicyView}
@@ -11,12 +11,12 @@ use Rattle.rbac_matrix.specs.Seats.{AreEmpty, AreSeated, passed, standing}
 use Rattle.rbac_matrix.specs.declared.line.Place.{Place}
 use Rattle.rbac_matrix.specs.declared.seat.Seat.{Seat}
 
--- the pairs of a cursor and a target that its rule matches, verbs aside, over these lines
+-- how many pairs there are, over these lines, of a cursor and a target that its rule matches, verbs aside
 abbrev pub AreTouched : PolicyView → UniverseView → List LineView → ℕ → Type 0
 AreTouched p u [] n = n ≡ 0
 AreTouched p u (l ∷ ls) n = (here : ℕ) × (later : ℕ) × AreTouches p u l.who l.namespace l.verb here × AreTouched p u ls later × (n ≡ here + later)
 
--- from a place on to another there are lines without rows alone
+-- from one place up to another there are only lines without rows
 pub record Skips (h : Held) (u : UniverseView) (at to : Place) : Type 0 where
   pub between : List LineView
   pub whole : lines_from u at ≡ between ++ lines_from u to

@@ -11,7 +11,7 @@ use Rattle.rbac_matrix.specs.Enumeration.{AreLeft}
 use Rattle.rbac_matrix.specs.Printed.{StopsWithin, rows_text}
 use Rattle.rbac_matrix.specs.declared.enumeration.Rows.{Rows}
 
--- of these rows those that the limit leaves, and whether more follow; without a limit all of them
+-- those of these rows that the limit leaves, and whether more follow; all of them if there is no limit
 abbrev pub cut_at : Option ℕ → List RowView → List RowView × Bool
 cut_at None rows = (rows, false)
 cut_at (Some n) rows = page None n rows
@@ -20,7 +20,7 @@ cut_at (Some n) rows = page None n rows
 abbrev pub next_words : KeyTexts → Text
 next_words k = codes "next" ++ tab ∷ token_text k
 
--- what stands on the last line: where more rows follow, `next` and the token of the last row; else `end` (own)
+-- what the last line says: `next` and the token of the last row if more rows follow it, otherwise `end` (own)
 abbrev pub last_words : Option RowView → Bool → Text
 last_words (Some row) true = next_words (cell_key row.cell)
 last_words (Some row) false = codes "end"

@@ -10,7 +10,7 @@ abbrev pub AreThose : {X : Type 0} → (X → Type 0) → List X → List X → 
 AreThose P [] ys = ys ≡ []
 AreThose {X} P (x ∷ xs) ys = (P x × ((rest : List X) × AreThose P xs rest × (ys ≡ x ∷ rest))) ⊎ ((¬ P x) × AreThose P xs ys)
 
--- a request with each of these bindings, and each of these requests so
+-- a request with a binding; with each of these bindings; and each of these requests with each of these bindings
 abbrev pub pair_of : Cell → Binding → RowView
 pair_of c b = record { cell = c; binding = b }
 

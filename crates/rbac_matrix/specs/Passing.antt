@@ -1,4 +1,4 @@
--- How the requests of a universe are passed, and which rows they give.
+-- How the requests of a universe are gone through, and which rows they give.
 use Rattle.std.specs.Prelude.{◌≡◌, ℕ, ◌<◌, ◌≤◌, ◌⊎◌, Some, List, [], ◌∷◌, ◌++◌, slice_get}
 use Rattle.rbac_model.specs.Policies.{Held, PolicyView, GrantView, GrantAllows}
 use Rattle.rbac_model.specs.Universes.{UniverseView, Listed, Cell, RowView, Fits}
@@ -10,7 +10,7 @@ use Rattle.rbac_matrix.specs.declared.line.Place.{Place}
 use Rattle.rbac_matrix.specs.Seats.{ArePast, AreSeated, AreSeatedAbout, seat_at}
 use Rattle.rbac_matrix.specs.declared.seat.Seat.{Seat}
 
--- from requests to those that are left: these rows were given between
+-- from these requests to those that are left, these rows were given
 pub record Passes (h : Held) (cs ds : List Cell) (rows : List RowView) : Type 0 where
   pub between : List Cell
   pub whole : cs ≡ between ++ ds
@@ -20,7 +20,7 @@ pub record Passes (h : Held) (cs ds : List Cell) (rows : List RowView) : Type 0 
 abbrev pub cell_of : LineView → Listed → Cell
 cell_of l t = cell_at l.who l.namespace l.verb t
 
--- a rule's grant of that number allows the line's request for the target at that place, which fits
+-- the grant with that number allows the line's request for the target at that place, and the request fits
 pub record IsHit (p : PolicyView) (u : UniverseView) (l : LineView) (place number : ℕ) : Type 0 where
   pub target : Listed
   pub grant : GrantView
@@ -29,32 +29,32 @@ pub record IsHit (p : PolicyView) (u : UniverseView) (l : LineView) (place numbe
   pub fits : Fits (cell_of l target)
   pub allows : GrantAllows l.who l.namespace l.verb target.0 grant
 
--- its row
+-- the row of a hit
 abbrev pub row_on : (p : PolicyView) (u : UniverseView) (l : LineView) (place number : ℕ) → IsHit p u l place number → RowView
 row_on p u l place number r = record { cell = cell_of l r.target; binding = r.grant.binding }
 
--- a place and a number aren't before others
+-- `place` and `number` don't come before `from` and `upto`
 abbrev pub IsFrom : ℕ → ℕ → ℕ → ℕ → Type 0
 IsFrom place number from upto = (from < place) ⊎ ((from ≡ place) × (upto ≤ number))
 
--- the first that allows, by place and then by number, from a place and a number on
+-- the first hit, by place and then by number, from a place and a number on
 pub record IsNextHit (p : PolicyView) (u : UniverseView) (l : LineView) (from upto place number : ℕ) : Type 0 where
   pub hit : IsHit p u l place number
   pub onward : IsFrom place number from upto
   pub first : (q k : ℕ) → IsHit p u l q k → IsFrom q k from upto → IsFrom q k place number
 
--- none allows from a place and a number on
+-- there is no hit from a place and a number on
 abbrev pub HasNoHit : PolicyView → UniverseView → LineView → ℕ → ℕ → Type 0
 HasNoHit p u l from upto = (q k : ℕ) → IsHit p u l q k → IsFrom q k from upto → ⊥
 
--- the next of a line, at which the seat of its grant stands
+-- the next hit of a line, with the seat of its grant at its place
 pub record FindsRow (p : PolicyView) (u : UniverseView) (rs : List (List ℕ)) (l : LineView) (from upto : ℕ) (seats : List Seat) (place number : ℕ) : Type 0 where
   pub next : IsNextHit p u l from upto place number
   pub cursor : IsCursorAt p l number
   pub stands : (seat_at seats number).place ≡ place
   pub about : (end : ℕ) → number < end → AreSeatedAbout p l rs place end seats
 
--- a line has no further one
+-- the line has no further hit
 pub record EndsLine (p : PolicyView) (u : UniverseView) (rs : List (List ℕ)) (l : LineView) (from upto : ℕ) (seats : List Seat) : Type 0 where
   pub none : HasNoHit p u l from upto
   pub reached : ℕ
@@ -62,11 +62,11 @@ pub record EndsLine (p : PolicyView) (u : UniverseView) (rs : List (List ℕ)) (
   pub seated : AreSeated p l rs reached low seats
   pub past : ArePast seats
 
--- the requests that are left from a place and a target's place on
+-- the requests that are left from a line's place and a target's place on
 abbrev pub cells_left : UniverseView → Place → ℕ → List Cell
 cells_left u at from = cells_of_lines u from (lines_from u at)
 
--- on a later line's first place, where nothing is allowed between
+-- on a later line, at its first place, with nothing allowed in between
 pub record ComesTo (p : PolicyView) (u : UniverseView) (at : Place) (from upto : ℕ) (to : Place) : Type 0 where
   pub line : LineView
   pub next : Place
@@ -74,12 +74,12 @@ pub record ComesTo (p : PolicyView) (u : UniverseView) (at : Place) (from upto :
   pub none : HasNoHit p u line from upto
   pub skips : Skips p.held u next to
 
--- still at a place of a line, or on a later one's first
+-- still at the same place of a line, or at the first place of a later line
 abbrev pub Leads : PolicyView → UniverseView → Place → ℕ → ℕ → Place → ℕ → ℕ → Type 0
 Leads p u at from upto to begin low =
     ((to ≡ at) × (begin ≡ from) × (low ≡ upto)) ⊎ ((begin ≡ 0) × (low ≡ 0) × ComesTo p u at from upto to)
 
--- from a place, a target's place and a grant's number on the next that is allowed was that of a target and a grant, on the line at another place
+-- from line place `at`, target place `from` and grant number `upto` on, the next hit was that of target `place` and grant `number`, on the line at `to`
 pub record FindsCell (p : PolicyView) (u : UniverseView) (rs : List (List ℕ)) (at : Place) (from upto : ℕ) (to : Place) (seats : List Seat) (place number : ℕ) : Type 0 where
   pub line : LineView
   pub others : List LineView
@@ -90,7 +90,7 @@ pub record FindsCell (p : PolicyView) (u : UniverseView) (rs : List (List ℕ)) 
   pub found : FindsRow p u rs line begin low seats place number
   pub settled : IsSettled u to
 
--- there was no further one
+-- there was no further hit
 pub record EndsAll (p : PolicyView) (u : UniverseView) (rs : List (List ℕ)) (at : Place) (from upto : ℕ) (to : Place) (seats : List Seat) : Type 0 where
   pub ended : lines_from u to ≡ []
   pub begin : ℕ

@@ -1,4 +1,4 @@
--- What seats say of the reaches of a line's cursors, and how many entries were read for them.
+-- What seats say about the reaches of a line's cursors, and how many entries were read for them.
 use Rattle.std.specs.Prelude.{◌≡◌, ℕ, ◌+◌, ◌<◌, ◌≤◌, ◌^◌, ◌-◌, ◌⊎◌, min, List, [], length, sum_by}
 use Rattle.std.specs.List.{slice_index_or}
 use Rattle.rbac_model.specs.Policies.{PolicyView}
@@ -14,14 +14,14 @@ past_all = 2 ^ 32 - 1
 abbrev pub empty_seat : Seat
 empty_seat = record { position = 0; place = past_all }
 
--- the seat stands at the first entry of a reach that is at least `from`, and has its place
+-- the seat is at the first entry of the reach that is at least `from`, and has that entry's place
 pub record IsSeated (r : List ℕ) (from : ℕ) (seat : Seat) : Type 0 where
   pub within : seat.position ≤ length r
   pub place : seat.place ≡ slice_index_or r seat.position past_all
   pub passed : (k : ℕ) → k < seat.position → slice_index_or r k 0 < from
   pub ahead : from ≤ seat.place
 
--- the seat of a number; past the end there is none
+-- the seat of a number; past the end it is `no_seat`
 abbrev pub no_seat : Seat
 no_seat = record { position = 0; place = 0 }
 
@@ -31,16 +31,16 @@ seat_at seats k = slice_index_or seats k no_seat
 abbrev pub reach_at : List (List ℕ) → ℕ → List ℕ
 reach_at rs k = slice_index_or rs k []
 
--- from where a grant's entries are left: from the place on, and past it for the grants below `upto`
+-- where a grant's remaining entries begin: at the place, or past it for the grants below `upto`
 abbrev pub start_at : ℕ → ℕ → ℕ → ℕ
 start_at from upto k = from + min 1 (upto - k)
 
--- each cursor of the line has a seat from where its entries are left, and all other seats are empty
+-- each cursor of the line has its seat where its remaining entries begin, and all other seats are empty
 pub record AreSeated (p : PolicyView) (l : LineView) (rs : List (List ℕ)) (from upto : ℕ) (seats : List Seat) : Type 0 where
   pub count : length seats ≡ length p.grants
   pub each : (k : ℕ) → k < length seats → (IsCursorAt p l k × IsSeated (reach_at rs k) (start_at from upto k) (seat_at seats k)) ⊎ ((IsCursorAt p l k → ⊥) × (seat_at seats k ≡ empty_seat))
 
--- each cursor of the line has a seat at the place, or past it already if its number is below `end`, and all other seats are empty
+-- each cursor of the line has a seat at the place, or, only if its number is below `end`, already past it, and all other seats are empty
 pub record AreSeatedAbout (p : PolicyView) (l : LineView) (rs : List (List ℕ)) (place end : ℕ) (seats : List Seat) : Type 0 where
   pub count : length seats ≡ length p.grants
   pub each : (k : ℕ) → k < length seats
@@ -56,11 +56,11 @@ pub record AreEmpty (p : PolicyView) (seats : List Seat) : Type 0 where
 pub record ArePast (seats : List Seat) : Type 0 where
   pub each : (k : ℕ) → k < length seats → past_all ≤ (seat_at seats k).place
 
--- one where a seat stands at an entry
+-- 1 if a seat is at an entry, otherwise 0
 abbrev pub stand_of : Seat → ℕ
 stand_of seat = min 1 (past_all - seat.place)
 
--- how many entries seats have passed, and how many seats stand at one
+-- how many entries the seats have passed, and how many seats are at an entry
 unfoldable pub passed : List Seat → ℕ
 passed seats = sum_by (λ s. s.position) seats
 
@@ -71,37 +71,37 @@ standing seats = sum_by stand_of seats
 unfoldable pub filled : List Seat → ℕ
 filled seats = sum_by (λ s. min 1 (s.position + stand_of s)) seats
 
--- each entry of the reaches is less than the place of a seat that has none
+-- each entry of the reaches is less than the place of a seat that has no further entry
 abbrev pub AreReal : List (List ℕ) → Type 0
 AreReal rs = (k i : ℕ) → i < length (reach_at rs k) → slice_index_or (reach_at rs k) i 0 < past_all
 
--- a step that took `old` to `new`, and the meter on: it read an entry for each seat that stands at a new one, left `gain` entries behind, and read no more than the entries come to, and `limit`
+-- a step from `old` to `new` that moved the meter on: it read an entry for each seat at a new one, left `gain` entries behind, and read no more than the entries it came to, plus `limit`
 pub record Costs (limit gain : ℕ) (old new : List Seat) (before after : ℕ) : Type 0 where
   pub total : ℕ
   pub meter : after ≡ raised before total
   pub low : gain + standing new ≤ standing old + total
   pub high : total + passed old + standing old ≤ limit + passed new + standing new
 
--- a step that took one seat from `old` to `new`, and the meter on: what it read, left behind, and read at most
+-- a step of one seat from `old` to `new` that moved the meter on: what it read at least, left behind, and read at most
 pub record SeatCosts (limit gain : ℕ) (old new : Seat) (before after : ℕ) : Type 0 where
   pub total : ℕ
   pub meter : after ≡ raised before total
   pub low : gain + stand_of new ≤ stand_of old + total
   pub high : total + old.position + stand_of old ≤ limit + new.position + stand_of new
 
--- a place and a number come before others, or are these
+-- a place and a number come before the other ones, or are the same
 pub record ComesFirst (place number other_place other : ℕ) : Type 0 where
   pub least : place ≤ other_place
   pub first : other_place ≤ place → place < past_all → number ≤ other
 
--- the first cursor with the least place, which is one
+-- the first cursor with the least place, which is that of an entry
 pub record IsLeastSeat (p : PolicyView) (l : LineView) (seats : List Seat) (place number : ℕ) : Type 0 where
   pub cursor : IsCursorAt p l number
   pub at : (seat_at seats number).place ≡ place
   pub real : place < past_all
   pub least : (k : ℕ) → IsCursorAt p l k → ComesFirst place number (seat_at seats k).place k
 
--- at most so many entries were read
+-- at most `limit` entries were read
 pub record ReadsAtMost (limit before after : ℕ) : Type 0 where
   pub total : ℕ
   pub most : total ≤ limit

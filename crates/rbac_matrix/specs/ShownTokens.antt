@@ -15,16 +15,16 @@ use Rattle.rbac_matrix.specs.declared.token.TokenOf.TheVariants.{Key, Mark}
 abbrev pub mark_shown : Row → RowMark
 mark_shown row = record { key = key_shown row; binding = Some (name_of row.binding.now) }
 
--- the token of its key, or that of its mark
+-- the token of the row's key, or that of its mark
 abbrev pub token_shown : TokenOf → Row → Text
 token_shown Key row = token_text (key_shown row)
 token_shown Mark row = mark_text (mark_shown row)
 
--- `next` and that token
+-- `next` and that token, joined by a tab
 abbrev pub next_token : TokenOf → Row → Text
 next_token of row = codes "next" ++ tab ∷ token_shown of row
 
--- the last line of a page: for the row after which more follow, and without one
+-- the last line of a page: for the row after which more follow, or for the end if there is none
 abbrev pub last_line : TokenOf → Option Row → Text
 last_line of (Some row) = next_token of row ++ newline ∷ []
 last_line of None = codes "end" ++ newline ∷ []

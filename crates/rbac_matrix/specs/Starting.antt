@@ -13,11 +13,11 @@ use Rattle.rbac_matrix.specs.Lines.{LineView, lines_from}
 use Rattle.rbac_matrix.specs.Passing.{cells_left}
 use Rattle.rbac_matrix.specs.declared.line.Place.{Place}
 
--- the texts by which requests are in order: those of its key, but with the namespace also where it is for a URL
+-- the texts by which requests are ordered: those of the request's key, but with the namespace even if the request is for a URL
 abbrev pub cell_name : Cell → List Text
 cell_name c = who_key c.who ∷ c.namespace ∷ c.verb ∷ target_texts c.target
 
--- a request comes after the key; without one all do
+-- a request comes after the key; without a key all requests do
 abbrev pub IsAfter : Option KeyTexts → Cell → Type 0
 IsAfter None c = Unit {0}
 IsAfter (Some k) c = slice_cmp text_cmp (cell_name c) (texts k) ≡ Greater
@@ -35,25 +35,25 @@ IsOwnLine u None at = ⊥
 IsOwnLine u (Some k) at =
     (l : LineView) × (ls : List LineView) × (lines_from u at ≡ l ∷ ls) × (who_key l.who ≡ k.principal) × (l.namespace ≡ k.namespace) × (l.verb ≡ k.verb)
 
--- what ties with t stands at that place of an ascending list
+-- the element at that place of an ascending list compares equal to t
 pub record IsFoundAt {X K : Type 0} (cmp : K → K → Ordering) (name : X → K) (xs : List X) (t : K) (i : ℕ) : Type 0 where
   pub here : (x : X) × (slice_get xs i ≡ Some x) × (cmp (name x) t ≡ Equal)
   pub below : (x : X) → Contains (take i xs) x → cmp (name x) t ≡ Less
   pub above : (x : X) → Contains (drop (i + 1) xs) x → cmp (name x) t ≡ Greater
 
--- nothing ties with t, which would go to that place
+-- no element compares equal to t, which would go to that place
 pub record IsGapAt {X K : Type 0} (cmp : K → K → Ordering) (name : X → K) (xs : List X) (t : K) (i : ℕ) : Type 0 where
   pub within : i ≤ length xs
   pub below : (x : X) → Contains (take i xs) x → cmp (name x) t ≡ Less
   pub above : (x : X) → Contains (drop i xs) x → cmp (name x) t ≡ Greater
 
--- the principal, the namespace and the verb of a key stand at that place
+-- the principal, the namespace and the verb of a key are at that place
 pub record IsOwnPlace (u : UniverseView) (k : KeyTexts) (at : Place) : Type 0 where
   pub principal : IsFoundAt text_cmp who_key u.principals k.principal at.principal
   pub namespace : IsFoundAt text_cmp (λ n. n) u.namespaces k.namespace at.namespace
   pub verb : IsFoundAt text_cmp (λ v. v) u.verbs k.verb at.verb
 
--- the texts by which targets are ordered, and those of a key
+-- the texts by which targets are ordered, and those of a key's target
 abbrev pub what_texts : What → List Text
 what_texts t = group_of t ∷ text_of t ∷ name_of t ∷ []
 
@@ -63,12 +63,12 @@ whats u = map (λ t. t.0) u.targets
 abbrev pub target_part : KeyTexts → List Text
 target_part k = k.group ∷ k.resource ∷ k.name ∷ []
 
--- the targets from that place on are past that of the key, and those before it aren't
+-- the targets from that place on come after the key's target, and those before that place don't
 pub record IsTargetPlace (u : UniverseView) (k : KeyTexts) (place : ℕ) : Type 0 where
   pub within : place ≤ length u.targets
   pub below : (t : Listed) → Contains (take place u.targets) t → slice_cmp text_cmp (target_texts t) (target_part k) ≡ Greater → ⊥
   pub above : (t : Listed) → Contains (drop place u.targets) t → slice_cmp text_cmp (target_texts t) (target_part k) ≡ Greater
 
--- no request of the universe is by the principal, in the namespace and for the verb of a key
+-- no request of the universe has the principal, the namespace and the verb of a key
 abbrev pub HasNoLine : UniverseView → KeyTexts → Type 0
 HasNoLine u k = (c : Cell) → IsCellOf u c → who_key c.who ≡ k.principal → c.namespace ≡ k.namespace → c.verb ≡ k.verb → ⊥

@@ -1,4 +1,4 @@
-//! The grants of bindings that name someone and may be live in a namespace, in runs.
+//! The grants of the bindings that name a principal and may be live in a namespace, in runs.
 
 ghost use Rattle.std.specs.Prelude.{◌≡◌, ◌↔◌, [], IsTrue};
 ghost use Rattle.rbac_matrix.specs.Shown.{line_of};
@@ -8,26 +8,26 @@ use crate::line::Line;
 use arrayvec::ArrayVec;
 use rbac_index::Index;
 
-// How many runs of a line are kept. The others are looked up again by each walk.
+// The most runs of a line that are kept. Each walk looks up the others again.
 const MOST_KEPT: usize = 64;
 
-/// Grants of a binding, which stand together: those from one number up to another.
+/// Consecutive grants of a binding: those with the numbers `start..end`.
 #[derive(Clone, Copy, Default)]
 pub(crate) struct Run {
     pub(crate) start: u32,
     pub(crate) end: u32,
 }
 
-/// The first runs of grants of bindings that name who asks and may be live on a line.
+/// The first runs of the grants whose bindings name who asks and may be live on a line.
 #[derive(Drop)]
 pub(crate) struct Runs {
     kept: ArrayVec<Run, MOST_KEPT>,
-    // Whether there are no others.
+    // Whether there are no other runs.
     are_all: bool,
 }
 
 impl Runs {
-    // No runs, of a line that is none.
+    // No runs, for when there is no line.
     pub(crate) fn new() -> Self {
         Runs {
             kept: ArrayVec::new(),
@@ -64,14 +64,14 @@ impl Runs {
         self.kept.as_slice()
     }
 
-    // Whether these are all.
+    // Whether these are all the runs.
     pub(crate) fn are_all(&self) -> bool
         ensures { result ≡ self.now.are_all }
     {
         self.are_all
     }
 
-    // Whether there are none.
+    // Whether there are no runs at all.
     pub(crate) fn is_empty(&self) -> bool
         ensures { IsTrue result ↔ ((self.now.kept.items ≡ []) × IsTrue self.now.are_all) }
     {

@@ -21,15 +21,15 @@ use crate::steps::next_cell;
 use rbac_index::{Index, Meter, Reach};
 use rbac_universe::Universe;
 
-/// The rows of a matrix from some key on, in order of keys. It holds the loans, and a few numbers:
-/// the rows that are left stand nowhere.
+/// The rows of a matrix from some key on, in order of keys. Holds what it borrows and a few
+/// numbers: the rows that are left aren't stored anywhere.
 #[derive(Drop)]
 pub struct Rows<'r, 'm> {
     pub(crate) index: &'m Index<'m>,
     pub(crate) universe: &'m Universe,
     pub(crate) reaches: &'m [Reach],
     pub(crate) seats: &'r mut [Seat],
-    // The line of the seats, and the place of the target from which its rows are left.
+    // The line of the seats, and the place of the target from which that line's rows are left.
     pub(crate) at: Place,
     pub(crate) from: u32,
     // The first runs of grants of that line.
@@ -41,7 +41,7 @@ pub struct Rows<'r, 'm> {
     pub(crate) meter: Meter,
 }
 
-// The rows from a start on, over seats that are lent.
+// The rows from a start on, over borrowed seats.
 pub(crate) fn rows_from<'r, 'm>(
     index: &'m Index<'m>,
     universe: &'m Universe,
@@ -103,8 +103,8 @@ impl Rows<'_, '_> {
     }
 
     /// How many entries of reaches were read: no fewer than the rows that were returned, and no
-    /// more than the entries of the lines that were entered, and 20 for each cursor of the first
-    /// line that was sought. Takes no memory.
+    /// more than the entries of the lines that were entered, plus 20 for each cursor that was
+    /// sought on the first line. Doesn't allocate.
     pub fn meter(&self) -> &Meter
         requires { IsGoing self.now }
         ensures meter { result.now ≡ self.now.meter }

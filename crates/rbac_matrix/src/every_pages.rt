@@ -14,11 +14,11 @@ use rbac_streams::{Page, PrintFault, Sink};
 use std::alloc::Global;
 use std::io::Write;
 
-/// Prints a page of the rows of every granting binding (own): as `print_page` does, but the token
-/// of the last line is that of the last row's mark, so that the next page goes on with the next
-/// binding of the same request. Keeps no list of rows.
+/// Prints a page of the rows of every granting binding (own) as `print_page` does, except that the
+/// token on the last line is that of the last row's mark, so that the next page goes on with the
+/// next binding of the same request. Keeps no list of rows.
 ///
-/// Where the sink fails, or memory for a line is refused, a prefix of the page was printed.
+/// If the sink fails, or memory for a line runs out, a prefix of the page was printed.
 pub fn print_every_page<W: Write + Drop>(
     alloc: Global,
     rows: &mut EveryRows<'_, '_>,

@@ -16,8 +16,8 @@ use crate::steps::next_cell;
 use rbac_index::{Index, Meter};
 
 /// The rows of every granting binding from some mark on, in order of keys, then of bindings: one
-/// for each binding that grants a request. It holds the loans, and a few numbers: the rows that are
-/// left stand nowhere.
+/// for each binding that grants a request. Holds what it borrows and a few numbers: the rows that
+/// are left aren't stored anywhere.
 #[derive(Drop)]
 pub struct EveryRows<'r, 'm> {
     // The line and its seats, and the place of the request from which rows are left.
@@ -42,8 +42,8 @@ fn after_binding(index: &Index<'_>, no: u32) -> (usize, u32)
 
 impl EveryRows<'_, '_> {
     /// How many entries of reaches were read: no fewer than the rows that were returned, and no
-    /// more than the entries of the lines that were entered, and 20 for each cursor of the first
-    /// line that was sought. Takes no memory.
+    /// more than the entries of the lines that were entered, plus 20 for each cursor that was
+    /// sought on the first line. Doesn't allocate.
     pub fn meter(&self) -> &Meter
         requires { IsGoingEvery self.now }
         ensures meter { result.now ≡ self.now.rows.meter }

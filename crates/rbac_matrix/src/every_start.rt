@@ -1,4 +1,4 @@
-//! Where the rows of every granting binding after a mark begin.
+//! Where the rows of every granting binding that come after a mark begin.
 
 ghost use Rattle.std.specs.Prelude.{Some, ◌≡◌, ◌⊎◌, ◌<◌, ◌≤◌, MatchOption, length};
 ghost use Rattle.std.specs.Option.{option_copied};
@@ -20,8 +20,8 @@ use rbac_token::{BindingName, Mark};
 use rbac_universe::Universe;
 use std::cmp::Ordering;
 
-/// The start of a request, the place of the binding from which its rows are meant, and where the
-/// grants of the bindings before it end.
+/// The start of a request, the place of the binding from which that request's rows are included,
+/// and where the grants of the bindings before that one end.
 #[derive(Clone, Copy)]
 pub(crate) struct EveryStart {
     pub(crate) request: Start,
@@ -29,7 +29,7 @@ pub(crate) struct EveryStart {
     pub(crate) upto: u32,
 }
 
-// How the binding stands to the name.
+// How the binding compares to the name.
 fn cmp_binding(binding: &Binding, name: &BindingName) -> Ordering
     ensures { result ≡ slice_cmp text_cmp (binding_name binding.now) (name_texts (Some name.now)) }
 {
@@ -41,7 +41,7 @@ fn cmp_binding(binding: &Binding, name: &BindingName) -> Ordering
     }
 }
 
-// The place of the first binding past the name.
+// The place of the first binding after the name.
 fn place_past(bindings: &[Binding], name: &BindingName) -> usize
     requires { IsAscendingBy binding_name bindings.now }
     ensures { ArePastName bindings.now name.now result }
@@ -63,7 +63,7 @@ fn grants_before(index: &Index<'_>, place: usize) -> u32
     end
 }
 
-// Where the request of the key stands, if it is one of the universe.
+// Where the key's request is, if it is one of the universe.
 fn own_request(universe: &Universe, key: &Key) -> Option<Start>
     ensures found { MatchOption result (HasNoRequest universe.now key.now) (λ own. IsOwnRequest universe.now key.now own.at own.from) }
     ensures universe { IsUniverse universe.now }
@@ -97,7 +97,7 @@ fn whole_start(universe: &Universe, key: Option<&Key>) -> EveryStart
     }
 }
 
-// Where the rows after this mark begin; without one, where all begin.
+// Where the rows after this mark begin; without a mark, where all rows begin.
 pub(crate) fn every_start(index: &Index<'_>, universe: &Universe, mark: Option<&Mark>) -> EveryStart
     ensures settled { IsSettled universe.now result.request.at }
     ensures few { result.request.from ≤ most_targets }

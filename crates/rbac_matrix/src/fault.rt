@@ -7,10 +7,10 @@ use rbac_token::TokenFault;
 use std::alloc::{AllocError, AllocFailed};
 use thiserror::Error;
 
-/// Why the key of a row isn't made: Y1 NoMemory, where memory is refused.
+/// Why the key of a row can't be made: Y1 NoMemory if it runs out of memory.
 #[derive(Debug, Drop, Clone, Copy, PartialEq, Eq, Error)]
 pub enum MatrixFault {
-    /// Y1: memory was refused.
+    /// Y1: out of memory.
     #[error("out of memory")]
     NoMemory,
 }

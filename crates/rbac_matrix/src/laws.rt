@@ -8,43 +8,46 @@ ghost use Rattle.rbac_token.specs.declared.mark.BindingName.{BindingName};
 ghost use Rattle.rbac_matrix.specs.Every.{EveryPagesJoin, IsEvery, StandsPast, comes_after};
 ghost use Rattle.rbac_matrix.specs.Paging.{PagesJoin};
 
-/// The matrix of held objects over a universe is one list of rows (own).
+/// The matrix of held objects over a universe is unique: one list of rows (own).
 pub fn the_matrix_is_one()
     ensures { (held : Held) (u : UniverseView) (rows others : List RowView) → IsMatrix held u rows → IsMatrix held u others → rows ≡ others }
 {}
 
-/// There is a matrix of a policy over a universe. So what is written of a matrix that stopped is a
-/// prefix of one (own).
+/// Each policy has a matrix over each universe. So what was written of a matrix when printing
+/// stopped is a prefix of one (own).
 pub fn a_matrix_is_there()
     ensures { (p : PolicyView) (u : UniverseView) → IsPolicy p → IsUniverse u → (rows : List RowView) × IsMatrix p.held u rows }
 {}
 
-/// Each page of a matrix that isn't empty, at any limit, is followed by what comes after the key of
-/// its last row, and says that more follows exactly where something does: so pages taken by their
-/// own tokens join to all that comes after the first token (own).
+/// Each page of a matrix that isn't empty, at any limit, is followed by the rows after the key of
+/// its last row, and says that more follow exactly if some do. So pages that are each taken by the
+/// token of the page before join to all the rows after the first token (own).
 pub fn pages_join()
     ensures { PagesJoin }
 {}
 
-/// The rows of every granting binding, of held objects over a universe, are one list (own).
+/// The list of the rows of every granting binding, of held objects over a universe, is unique
+/// (own).
 pub fn every_rows_are_one()
     ensures { (held : Held) (u : UniverseView) (rows others : List RowView) → IsEvery held u rows → IsEvery held u others → rows ≡ others }
 {}
 
-/// There is a list of the rows of every granting binding, of a policy over a universe (own).
+/// Each policy has a list of the rows of every granting binding over each universe (own).
 pub fn every_rows_are_there()
     ensures { (p : PolicyView) (u : UniverseView) → IsPolicy p → IsUniverse u → (rows : List RowView) × IsEvery p.held u rows }
 {}
 
 /// Each page of the rows of every granting binding that isn't empty, at any limit, is followed by
-/// what comes after the mark of its last row, and says that more follows exactly where something
-/// does: so pages taken by their own tokens join to all that comes after the first token (own).
+/// the rows after the mark of its last row, and says that more follow exactly if some do. So pages
+/// that are each taken by the token of the page before join to all the rows after the first token
+/// (own).
 pub fn every_pages_join()
     ensures { EveryPagesJoin }
 {}
 
-/// A row comes after a mark with a binding exactly where its key is greater, or where its key is
-/// the mark's and its binding stands past the mark's in order of bindings, there or not (own).
+/// A row comes after a mark with a binding exactly if its key is greater, or if its key is the
+/// mark's and its binding comes after the mark's in order of bindings, whether the mark's binding
+/// exists or not (own).
 pub fn rows_after_a_binding()
     ensures { (k : KeyTexts) (b : BindingName) (row : RowView) → (comes_after k (Some b) row ≡ true) ↔ StandsPast k b row }
 {}

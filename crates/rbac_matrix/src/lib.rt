@@ -1,4 +1,5 @@
-//! The matrix: all that anyone may do, in order of keys, each with its first granting binding.
+//! The matrix: everything that anyone may do, in order of keys, each request with the first binding
+//! that grants it.
 #![tactic(auto)]
 
 mod bound_runs;

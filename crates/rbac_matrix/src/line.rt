@@ -18,14 +18,14 @@ pub(crate) struct Place {
 }
 
 impl Place {
-    // That of the first line of a principal.
+    // The place of the first line of a principal.
     pub(crate) fn of_principal(principal: usize) -> Self
         ensures { result ≡ place principal 0 0 }
     {
         Place::of_namespace(principal, 0)
     }
 
-    // That of the first line of a principal in a namespace.
+    // The place of the first line of a principal in a namespace.
     pub(crate) fn of_namespace(principal: usize, namespace: usize) -> Self
         ensures { result ≡ place principal namespace 0 }
     {
@@ -37,7 +37,7 @@ impl Place {
     }
 }
 
-/// Who, where, and to do what.
+/// Who asks, in which namespace, and for which verb.
 #[derive(Clone, Copy)]
 pub(crate) struct Line<'a> {
     pub(crate) principal: &'a Principal,
@@ -45,7 +45,7 @@ pub(crate) struct Line<'a> {
     pub(crate) verb: &'a Word,
 }
 
-// The line at this place; none past the last.
+// The line at this place; `None` past the last line.
 pub(crate) fn line_at<'a>(universe: &'a Universe, at: Place) -> Option<Line<'a>>
     requires { IsSettled universe.now at }
     ensures universe { IsUniverse universe.now }
@@ -63,7 +63,7 @@ pub(crate) fn line_at<'a>(universe: &'a Universe, at: Place) -> Option<Line<'a>>
     })
 }
 
-// The place after a line's.
+// The place after that of a line.
 pub(crate) fn after(at: Place) -> Place
     requires { at.verb < most_words }
     ensures { result ≡ next_verb at }
@@ -75,7 +75,7 @@ pub(crate) fn after(at: Place) -> Place
     }
 }
 
-// The place, in the next namespace where its verbs are over.
+// The place, or the first place in the next namespace if it is past the last verb.
 fn after_verbs(universe: &Universe, at: Place) -> Place
     ensures same { lines_from universe.now result ≡ lines_from universe.now at }
     ensures verb { 0 < length universe.now.verbs → result.namespace < length universe.now.namespaces → result.verb < length universe.now.verbs }
@@ -88,7 +88,7 @@ fn after_verbs(universe: &Universe, at: Place) -> Place
     at
 }
 
-// The place, with the next principal where its namespaces are over.
+// The place, or the next principal's first place if it is past the last namespace.
 fn after_namespaces(universe: &Universe, at: Place) -> Place
     requires { at.namespace < length universe.now.namespaces → at.verb < length universe.now.verbs }
     ensures same { lines_from universe.now result ≡ lines_from universe.now at }
@@ -102,7 +102,7 @@ fn after_namespaces(universe: &Universe, at: Place) -> Place
     at
 }
 
-// The place as it is where it is a line's, else that of the next line.
+// The place itself if it is that of a line, otherwise that of the next line.
 pub(crate) fn settled(universe: &Universe, at: Place) -> Place
     ensures settled { IsSettled universe.now result }
     ensures same { lines_from universe.now result ≡ lines_from universe.now at }

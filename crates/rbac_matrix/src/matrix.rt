@@ -1,4 +1,4 @@
-//! A matrix over seats that are lent.
+//! A matrix over borrowed seats.
 
 ghost use Rattle.std.specs.Prelude.{◌≡◌, ◌≤◌, ℕ, List, length};
 ghost use Rattle.std.specs.Option.{option_copied};
@@ -20,8 +20,8 @@ use rbac_terms::Key;
 use rbac_token::Mark;
 use rbac_universe::Universe;
 
-/// All that anyone may do: the requests of a universe that fit and are allowed. It borrows an
-/// index, a universe, a reach for each grant over this universe, and a seat for each grant.
+/// Everything that anyone may do: the requests of a universe that fit and are allowed. Borrows an
+/// index, a universe, a reach over that universe for each grant, and a seat for each grant.
 #[derive(Drop)]
 pub struct Matrix<'m, 's> {
     index: &'m Index<'m>,
@@ -31,7 +31,7 @@ pub struct Matrix<'m, 's> {
 }
 
 impl<'m, 's> Matrix<'m, 's> {
-    /// The matrix over these four. Takes no memory.
+    /// The matrix over these four. Doesn't allocate.
     pub fn build(
         index: &'m Index<'m>,
         universe: &'m Universe,
@@ -52,8 +52,8 @@ impl<'m, 's> Matrix<'m, 's> {
         }
     }
 
-    /// The rows whose key is greater than this one, of the universe or not; all rows without one.
-    /// They come in order of keys, each once. Takes no memory.
+    /// The rows whose key is greater than this one, which may be of the universe or not; without a
+    /// key, all rows. Rows come in order of keys, each once. Doesn't allocate.
     pub fn rows_after(&mut self, key: Option<&Key>) -> Rows<'_, 'm>
         requires { AreLent self.old }
         ensures going { IsGoing result }
@@ -72,8 +72,8 @@ impl<'m, 's> Matrix<'m, 's> {
     }
 
     /// The rows of every granting binding that come after this mark, whose request and binding may
-    /// be there or not; all such rows without one. They come in order of keys, then of bindings,
-    /// each once. Takes no memory.
+    /// exist or not; without a mark, all of them. Rows come in order of keys, then of bindings,
+    /// each once. Doesn't allocate.
     pub fn every_after(&mut self, mark: Option<&Mark>) -> EveryRows<'_, 'm>
         requires { AreLent self.old }
         ensures going { IsGoingEvery result }

@@ -19,16 +19,16 @@ use rbac_streams::{Page, PrintFault, Sink};
 use std::alloc::Global;
 use std::io::Write;
 
-// What stands before the token where more rows follow, and the last line where none does.
+// What comes before the token if more rows follow, and the last line if none does.
 const NEXT: &[u8] = b"next\t";
 
 const END: &[u8] = b"end\n";
 
-/// Prints a page of these rows (own): a line for each row that the limit leaves, and the last line,
-/// which is `next` and the token of the last row, joined by a tab, where more rows follow, and else
-/// `end`. Keeps no list of rows.
+/// Prints a page of these rows (own): a line for each row that the limit leaves, and the last line.
+/// If more rows follow, the last line is `next` and the token of the last row, joined by a tab;
+/// otherwise it is `end`. Keeps no list of rows.
 ///
-/// Where the sink fails, or memory for a line is refused, a prefix of the page was printed.
+/// If the sink fails, or memory for a line runs out, a prefix of the page was printed.
 pub fn print_page<W: Write + Drop>(
     alloc: Global,
     rows: &mut Rows<'_, '_>,
@@ -58,7 +58,7 @@ pub fn print_page<W: Write + Drop>(
     print_last(alloc, TokenOf::Key, None, &mut text, sink, page)
 }
 
-// How many rows are left to be printed after one more.
+// How many rows are left to print after one more.
 pub(crate) fn one_less(left: Option<u32>) -> Option<u32>
     requires { left ≢ Some 0 }
     ensures { result ≡ option_map (λ count. count - 1) left }
@@ -66,7 +66,7 @@ pub(crate) fn one_less(left: Option<u32>) -> Option<u32>
     Some(left? - 1)
 }
 
-// Prints a row, whose line is put together in `text`.
+// Prints a row, whose line is built in `text`.
 pub(crate) fn print_row<W: Write + Drop>(
     row: Row<'_>,
     text: &mut Vec<u8>,
@@ -84,7 +84,8 @@ pub(crate) fn print_row<W: Write + Drop>(
     page.print(sink, text.as_slice())
 }
 
-// Prints the last line of a page, for the row after which more follow; without one for the end.
+// Prints the last line of a page: for the row after which more follow, or for the end if there is
+// none.
 pub(crate) fn print_last<W: Write + Drop>(
     alloc: Global,
     of: TokenOf,
@@ -107,7 +108,7 @@ pub(crate) fn print_last<W: Write + Drop>(
     page.print(sink, text.as_slice())
 }
 
-// Puts `next`, the token of the row and the line's end in place of what was there.
+// Replaces what `line` held with `next`, the token of the row and the end of the line.
 fn put_next(alloc: Global, of: TokenOf, row: Row<'_>, line: &mut Vec<u8>) -> Result<(), MatrixFault>
     ensures { OnOk result (line.new.items ≡ next_token of row.entry ++ newline ∷ []) }
 {

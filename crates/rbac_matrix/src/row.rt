@@ -11,9 +11,9 @@ use rbac_terms::{Binding, Key, Principal, Target, Word};
 use rbac_text::put_row;
 use std::alloc::{AllocError, Global};
 
-/// A row of the matrix: a request that fits and is allowed, by the six texts of its key, with the
-/// first binding that grants it. It borrows from the index and the universe, and may be kept while
-/// they are.
+/// A row of the matrix: a request that fits and is allowed, given by the six texts of its key, with
+/// the first binding that grants it, or, among the rows of every granting binding, one that does.
+/// Borrows from the index and the universe, and may be kept as long as they are.
 #[derive(Clone, Copy)]
 pub struct Row<'m> {
     /// The principal's key.
@@ -26,16 +26,16 @@ pub struct Row<'m> {
     pub group: &'m Word,
     /// The resource text, or the URL.
     pub resource: &'m Word,
-    /// The object name; empty for none and for a URL.
+    /// The object name; empty if there is none, and for a URL.
     pub name: &'m Word,
-    /// The first binding, in order, that grants the request.
+    /// The binding that grants the request: the first in order, or any of them.
     pub binding: &'m Binding,
     who: &'m Principal,
     target: &'m Target,
 }
 
 impl Row<'_> {
-    /// The key of the row's request. Y1 NoMemory where memory is refused.
+    /// The key of the row's request. Y1 NoMemory if it runs out of memory.
     pub fn key(&self, alloc: Global) -> Result<Key, MatrixFault>
         ensures ok { IfOk result (λ k. k ≡ key_shown self.now) }
         ensures only_memory { IfErr result (λ e. e ≡ MatrixFault.NoMemory) }
@@ -43,7 +43,7 @@ impl Row<'_> {
         Ok(Key::of(alloc, self.who, self.namespace, self.verb, self.target)?)
     }
 
-    // Puts the row's line in place of what was there.
+    // Replaces what `line` held with the row's line.
     pub(crate) fn put(&self, line: &mut Vec<u8>) -> Result<(), AllocError>
         ensures { OnOk result (line.new.items ≡ row_text (key_shown self.now) self.now.binding.now) }
     {
@@ -59,7 +59,7 @@ impl Row<'_> {
     }
 }
 
-// The row of a request of a line.
+// The row of a line's request.
 pub(crate) fn row_of<'m>(line: Line<'m>, target: &'m Target, binding: &'m Binding) -> Row<'m>
     requires { namespace_at line.namespace.now target.now ≡ line.namespace.now }
     ensures key { key_shown result ≡ key_of line.entry.principal.now line.entry.namespace.now line.entry.verb.now target.now }

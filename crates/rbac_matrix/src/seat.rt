@@ -1,4 +1,4 @@
-//! Seats: where a grant stands in its reach.
+//! Seats: where a grant is in its reach.
 
 ghost use Rattle.std.specs.Prelude.{◌≡◌, ◌+◌, ◌<◌, ◌≤◌, ◌↔◌, ℕ, IsTrue, length};
 ghost use Rattle.std.specs.List.{slice_index_or};
@@ -9,8 +9,8 @@ ghost use Rattle.rbac_model.specs.Universes.{most_targets};
 
 use rbac_index::{Meter, Reach};
 
-/// The seat of a grant: its position in its reach, and the place that was read there. It belongs to
-/// an enumeration, which says what stands in it.
+/// The seat of a grant: its position in its reach, and the place that was read there. A seat
+/// belongs to an enumeration, which determines what it holds.
 #[derive(Clone, Copy)]
 pub struct Seat {
     position: u32,
@@ -18,7 +18,7 @@ pub struct Seat {
 }
 
 impl Seat {
-    /// An empty seat. Takes no memory.
+    /// An empty seat. Doesn't allocate.
     pub fn new() -> Self
         ensures { result ≡ empty_seat }
     {
@@ -28,14 +28,14 @@ impl Seat {
         }
     }
 
-    // Whether nothing was seated here, or a grant without a reach.
+    // Whether nothing was seated here, or a grant whose reach is empty.
     pub(crate) fn is_empty(self) -> bool
         ensures { IsTrue result ↔ (self ≡ empty_seat) }
     {
         self.position == 0 && self.place == u32::MAX
     }
 
-    // The place of the entry at which the seat stands; the greatest number where there is none.
+    // The place of the entry that the seat is at; the greatest number if there is none.
     pub(crate) fn place(self) -> u32
         ensures { result ≡ self.place }
     {
@@ -43,7 +43,7 @@ impl Seat {
     }
 }
 
-// The seat at this position, whose entry is read, if there is one.
+// The seat at this position; reads the entry there, if there is one.
 fn seat_in(reach: &Reach, position: usize, meter: &mut Meter) -> Seat
     requires { position ≤ length reach.now }
     ensures position { result.position ≡ position }
@@ -65,7 +65,7 @@ fn seat_in(reach: &Reach, position: usize, meter: &mut Meter) -> Seat
     }
 }
 
-// The position of the first entry that is at least `from`, by at most 20 reads.
+// The position of the first entry that is at least `from`, found by at most 20 reads.
 fn seek(reach: &Reach, from: u32, meter: &mut Meter) -> usize
     ensures first { IsFirstFrom reach.now from result }
     ensures reads { ReadsAtMost 20 meter.old meter.new }
@@ -99,7 +99,7 @@ pub(crate) fn seat_from(reach: &Reach, from: u32, meter: &mut Meter) -> Seat
     seat_in(reach, position, meter)
 }
 
-// The seat at the entry after the one at which it stands.
+// The seat at the entry after the one that this seat is at.
 pub(crate) fn seat_after(reach: &Reach, seat: Seat, meter: &mut Meter) -> Seat
     requires seated { IsSeated reach.now seat.place seat }
     requires stands { seat.place < past_all }

@@ -12,22 +12,22 @@ use crate::seat::{Seat, seat_after, seat_from};
 use crate::walk::{next_bound, next_cursor, whole_walk};
 use rbac_index::{Index, Meter, Reach};
 
-// Whether nothing was seated here, of a reach that has places.
+// Whether nothing was seated here and the reach has places.
 fn is_untaken(seat: Seat, reach: &Reach) -> bool
     ensures { IsTrue result ↔ ((seat ≡ empty_seat) × (0 < length reach.now)) }
 {
     seat.is_empty() && 0 < reach.len()
 }
 
-// Whether a place and a number come before others.
+// Whether a place and a number come before the other ones.
 fn comes_before(place: u32, number: u32, other_place: u32, other: u32) -> bool
     ensures { IsTrue result ↔ ((place < other_place) ⊎ ((place ≡ other_place) × (number < other))) }
 {
     place < other_place || (place == other_place && number < other)
 }
 
-// Seats each cursor of the line at its first entry that is at least `from`. Answers how many have
-// an entry, or had one.
+// Seats each cursor of the line at its first entry that is at least `from`. Returns how many
+// cursors have an entry, or had one.
 pub(crate) fn seat_line(
     index: &Index<'_>,
     reaches: &[Reach],
@@ -59,7 +59,7 @@ pub(crate) fn seat_line(
     filled
 }
 
-// The least place at which a seat of the line stands, with the first grant that stands there.
+// The least place that a seat of the line is at, with the first grant whose seat is there.
 pub(crate) fn least_seat(
     index: &Index<'_>,
     line: Line<'_>,
@@ -89,15 +89,14 @@ pub(crate) fn least_seat(
     }
 }
 
-// Whether a seat stands at the place, and its number is below `end`.
+// Whether a seat is at the place and its number is below `end`.
 fn stands_below(seat: Seat, no: u32, place: u32, end: u32) -> bool
     ensures { IsTrue result ↔ ((no < end) × (seat.place ≡ place)) }
 {
     no < end && seat.place() == place
 }
 
-// Moves each seat that stands at the place on by one entry, of the grants whose number is below
-// `end`.
+// Moves each seat that is at the place on by one entry, if its grant's number is below `end`.
 pub(crate) fn advance(
     index: &Index<'_>,
     reaches: &[Reach],

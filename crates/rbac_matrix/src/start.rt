@@ -24,14 +24,14 @@ use rbac_terms::{Key, Target, Word};
 use rbac_universe::Universe;
 use std::cmp::Ordering;
 
-/// The place of a line, and that of the target from which its rows are meant.
+/// The place of a line, and that of the target from which the line's rows are included.
 #[derive(Clone, Copy)]
 pub(crate) struct Start {
     pub(crate) at: Place,
     pub(crate) from: u32,
 }
 
-// Where the principal of the key stands, or would go.
+// Where the key's principal is, or would go.
 fn principal_place(universe: &Universe, key: &Key) -> Result<usize, usize>
     ensures found { IfOk result (IsFoundAt text_cmp who_key universe.now.principals key.now.principal) }
     ensures gap { IfErr result (IsGapAt text_cmp who_key universe.now.principals key.now.principal) }
@@ -42,7 +42,7 @@ fn principal_place(universe: &Universe, key: &Key) -> Result<usize, usize>
     principals.binary_search_by(|principal| principal.key().cmp(wanted))
 }
 
-// Where the word stands, or would go.
+// Where the word is, or would go.
 fn word_place(words: &[Word], word: &Word) -> Result<usize, usize>
     requires { IsAscendingBy (λ w. w ∷ []) words.now }
     ensures found { IfOk result (IsFoundAt text_cmp (λ w. w) words.now word.now) }
@@ -51,7 +51,7 @@ fn word_place(words: &[Word], word: &Word) -> Result<usize, usize>
     words.binary_search_by(|held| held.cmp(word))
 }
 
-// How the target stands to that of the key.
+// How the target compares to the key's.
 fn cmp_target(target: &Target, key: &Key) -> Ordering
     ensures { result ≡ slice_cmp text_cmp (what_texts target.now) (target_part key.now) }
 {
@@ -60,7 +60,7 @@ fn cmp_target(target: &Target, key: &Key) -> Ordering
     target.group().cmp(key.field(3)).then(by_text.then(by_name))
 }
 
-// Where the target of the key stands, or would go.
+// Where the key's target is, or would go.
 pub(crate) fn target_place(universe: &Universe, key: &Key) -> Result<usize, usize>
     ensures found { IfOk result (IsFoundAt (slice_cmp text_cmp) what_texts (whats universe.now) (target_part key.now)) }
     ensures gap { IfErr result (IsGapAt (slice_cmp text_cmp) what_texts (whats universe.now) (target_part key.now)) }
@@ -71,7 +71,7 @@ pub(crate) fn target_place(universe: &Universe, key: &Key) -> Result<usize, usiz
     targets.binary_search_by(|target| cmp_target(target, key))
 }
 
-// The place after the targets that aren't past that of the key.
+// The place after the targets that don't come after the key's.
 fn place_after(universe: &Universe, key: &Key) -> usize
     ensures place { IsTargetPlace universe.now key.now result }
     ensures few { result ≤ most_targets }
@@ -82,7 +82,7 @@ fn place_after(universe: &Universe, key: &Key) -> usize
     }
 }
 
-// The place of the key's own line; where there is none, that from which the lines past it stand.
+// The place of the key's own line; if there is none, the place where the lines after it begin.
 pub(crate) fn line_place(universe: &Universe, key: &Key) -> Result<Place, Place>
     ensures found { IfOk result (IsOwnPlace universe.now key.now) }
     ensures gap { IfErr result (λ at. IsStart universe.now (Some key.now) at 0) }
@@ -114,7 +114,7 @@ pub(crate) fn line_place(universe: &Universe, key: &Key) -> Result<Place, Place>
     })
 }
 
-// The start of a line, of the next one where there is none at the place.
+// The start of the line at the place, or of the next line if there is none there.
 fn line_start(universe: &Universe, at: Place) -> Start
     ensures settled { IsSettled universe.now result.at }
     ensures same { lines_from universe.now result.at ≡ lines_from universe.now at }
@@ -142,7 +142,7 @@ fn start_at(universe: &Universe, key: &Key) -> Start
     }
 }
 
-// Where the rows after this key begin; without one, where all begin.
+// Where the rows after this key begin; without a key, where all rows begin.
 pub(crate) fn start_after(universe: &Universe, key: Option<&Key>) -> Start
     ensures settled { IsSettled universe.now result.at }
     ensures start { IsStart universe.now (option_copied key.entry) result.at result.from }
@@ -155,8 +155,8 @@ pub(crate) fn start_after(universe: &Universe, key: Option<&Key>) -> Start
     }
 }
 
-// Seats the cursors of the line at which the rows begin, if there is one. Answers how many were
-// sought. All seats are empty before.
+// Seats the cursors of the line where the rows begin, if there is one. Returns how many were
+// sought. Expects all seats to be empty.
 pub(crate) fn seat_start(
     index: &Index<'_>,
     universe: &Universe,

@@ -21,16 +21,16 @@ use rbac_index::{Index, Meter, Reach};
 use rbac_terms::Word;
 use rbac_universe::Universe;
 
-// Whether a target that is namespaced, or isn't, is asked for in this namespace (own).
+// Whether a target is asked for in this namespace, given whether it is namespaced (own).
 fn fits(namespace: &Word, namespaced: bool) -> bool
     ensures { IsTrue result ↔ (IsTrue namespaced ⊎ (namespace.now ≡ [])) }
 {
     namespaced || namespace.is_empty()
 }
 
-// The next row of a line, from a place on and past it for the grants below `upto`: the place of its
+// The next row of a line, from a place on, or past it for the grants below `upto`: the place of its
 // target, and the first grant that allows it. Entries of requests that don't fit are read and
-// passed over; the seats that stand at the row are left there.
+// skipped; the seats that are at the row are left there.
 pub(crate) fn next_in_line(
     index: &Index<'_>,
     universe: &Universe,
@@ -67,8 +67,9 @@ pub(crate) fn next_in_line(
     None
 }
 
-// The next line that has cursors with an entry, from this place on, with its cursors seated; the
-// place past all lines where there is none. All seats are empty before.
+// Seats the cursors of the next line, from this place on, that has cursors with an entry, and
+// returns its place; if there is none, returns the place past all lines. Expects all seats to be
+// empty.
 fn next_line(
     index: &Index<'_>,
     universe: &Universe,
@@ -100,8 +101,8 @@ fn next_line(
     at
 }
 
-// The place after the lines of a namespace in which none of somebody's grants may be live; after
-// all lines of somebody who has none.
+// The place after a principal's lines in a namespace where none of the principal's grants may be
+// live; after all the principal's lines if it has no grants.
 fn past_idle(index: &Index<'_>, line: Line<'_>, at: Place) -> Place
     requires policy { IsPolicy index.now }
     requires idle { (k : ℕ) → ¬ IsBoundOn index.now (line_of line) k }
@@ -115,8 +116,9 @@ fn past_idle(index: &Index<'_>, line: Line<'_>, at: Place) -> Place
     Place::of_namespace(at.principal, at.namespace + 1)
 }
 
-// The next row from a place and a target's place on, and past it for the grants below `upto`: the
-// place of its line, and the place of its target with the first grant that allows it.
+// The next row from a line's place and a target's place on, or past that target for the grants
+// below `upto`: the place of its line, and the place of its target with the first grant that allows
+// it.
 pub(crate) fn next_cell(
     index: &Index<'_>,
     universe: &Universe,

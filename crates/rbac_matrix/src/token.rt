@@ -1,4 +1,4 @@
-//! The tokens of rows, by which a listing is taken up again.
+//! The tokens of rows, by which a listing is resumed.
 
 ghost use Rattle.std.specs.Prelude.{◌≡◌, IfOk};
 ghost use Rattle.rbac_token.specs.Marks.{mark_text};
@@ -13,12 +13,12 @@ use rbac_terms::{Binding, Word};
 use rbac_token::{BindingName, Mark, token_of, token_of_mark};
 use std::alloc::{AllocError, Global};
 
-/// Of what of a row a token is made.
+/// The part of a row that a token is made from.
 #[derive(Clone, Copy, Drop)]
 pub(crate) enum TokenOf {
     /// The key: the listing goes on after all rows of the request.
     Key,
-    /// The mark, which has the binding too: it goes on after this very row.
+    /// The mark, which has the binding too: the listing goes on after this very row.
     Mark,
 }
 

@@ -1,4 +1,4 @@
-//! Walks along the grants of a line that may be live and name who asks.
+//! Walks along a line's grants whose bindings name who asks and may be live.
 
 ghost use Rattle.std.specs.Prelude.{◌≡◌, ◌<◌, ◌≤◌, ◌⊎◌, ℕ, IfSome, MatchOption, drop, length};
 ghost use Rattle.rbac_model.specs.Policies.{PolicyView};
@@ -14,10 +14,10 @@ use rbac_terms::verb_matches;
 /// A walk along the grants of a line, run by run.
 #[derive(Drop)]
 pub(crate) struct Walk {
-    // What is left of the run in which the walk stands: from a number up to another.
+    // What is left of the run that the walk is in: the numbers `next..end`.
     next: u32,
     end: u32,
-    // The place of the run after it, among those that are kept.
+    // The place of the run after that one, among those that are kept.
     later: usize,
 }
 
@@ -33,7 +33,7 @@ pub(crate) fn whole_walk() -> Walk
     }
 }
 
-// The number of a cursor, and on to the others; none where all were answered.
+// Returns the number of a cursor and moves on to the others; `None` if all were returned.
 pub(crate) fn next_cursor(
     index: &Index<'_>,
     line: Line<'_>,
@@ -56,7 +56,7 @@ pub(crate) fn next_cursor(
     None
 }
 
-// The next grant of a binding that names who asks and may be live, whatever its verbs.
+// The next grant of a binding that names who asks and may be live, whatever the grant's verbs.
 pub(crate) fn next_bound(
     index: &Index<'_>,
     line: Line<'_>,
@@ -84,7 +84,7 @@ pub(crate) fn next_bound(
     Some(no)
 }
 
-// The run after the one in which the walk stands.
+// The run after the one that the walk is in.
 fn next_run(index: &Index<'_>, line: Line<'_>, runs: &Runs, walk: &mut Walk) -> Option<Run>
     requires { AreRunsFrom index.now (line_of line) runs.now.are_all walk.old.end (drop walk.old.later runs.now.kept.items) }
     ensures found { MatchOption result
