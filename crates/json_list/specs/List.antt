@@ -1,4 +1,4 @@
--- Which texts are a list, what its items are, and what stands beside them.
+-- Which texts are lists, what the items of a list are, and what its other members are.
 use Rattle.std.specs.Prelude.{◌≡◌, ℕ, List, [], ◌∷◌, length, bytes_eq, cond, codes, Option, Some, None, option_and_then}
 use Rattle.json.specs.Token.{Token}
 use Rattle.json.specs.Lex.{tokens}
@@ -6,15 +6,15 @@ use Rattle.json.specs.Json as json
 use Rattle.serde_json.specs.Data.{Data, array, object, Items, Members, put}
 use Rattle.serde_json.specs.Read.{max_depth, of_json, of_items}
 
--- the name of the member that has the items
+-- the name of the member that holds the items
 abbrev pub items_name : List ℕ
 items_name = codes "items"
 
--- the JSON that a text is, nested no deeper than `serde_json` reads it
+-- the JSON that a text is, if it nests no deeper than `serde_json` reads
 abbrev pub json_of : List ℕ → Option json.Json
 json_of text = option_and_then (λ p. json.if_last p.0 p.1) (json.value max_depth (tokens text))
 
--- the values of the members of a name, in order
+-- the values of the members of this name, in order
 abbrev pub values_of : List ℕ → json.Members → List json.Json
 values_of name json.no_members = []
 values_of name (json.member k j ms) = cond (bytes_eq k name) (j ∷ values_of name ms) (values_of name ms)
@@ -23,21 +23,21 @@ values_of name (json.member k j ms) = cond (bytes_eq k name) (j ∷ values_of na
 abbrev pub HaveOneList : json.Members → Type 0
 HaveOneList ms = (js : json.Items) × (values_of items_name ms ≡ json.array js ∷ [])
 
--- a text is a list: an object that has `items` once, which is a list
+-- a text is a list: an object that has `items` once, and it is a list
 abbrev pub IsList : List ℕ → Type 0
 IsList text = (ms : json.Members) × (json_of text ≡ Some (json.object ms)) × HaveOneList ms
 
--- the object of these members and these items
+-- the object with these members, and these items under `items`
 abbrev pub with_items : Members → Items → Data
 with_items ms ds = object (put items_name (array ds) ms)
 
--- the items up to the bracket that closes their list; None where one of them can't be read
+-- the items up to the bracket that closes their list; None if one of them can't be read
 abbrev pub items_ahead : List Token → Option Items
 items_ahead ts = option_and_then (λ p. of_items p.0) (json.items (json.value 125) (length ts) ts)
 
 -- ---- one value; for private clauses
 
--- this value is read from the tokens, and those are left
+-- this value is read from the tokens `old`, and the tokens `new` are left
 abbrev pub IsRead : ℕ → List Token → Data → List Token → Type 0
 IsRead depth old d new = (j : json.Json) × (json.value depth old ≡ Some (j, new)) × (of_json j ≡ Some d)
 

@@ -1,4 +1,4 @@
--- Where a reader stands in an object or in its list of items; for private clauses.
+-- Where a reader is in an object or in its list of items; for private clauses.
 use Rattle.std.specs.Prelude.{◌≡◌, ℕ, List, [], ◌∷◌, length, Option, Some, None, option_map}
 use Rattle.json.specs.Token.{Token}
 use Rattle.json.specs.Lex.{tokens}
@@ -9,13 +9,13 @@ use Rattle.json_list.specs.List.{items_name, values_of, HaveOneList, with_items,
 use Rattle.json_list.specs.declared.items.Place.{Place}
 use Rattle.json_list.specs.declared.items.Place.TheVariants.{Inside, Past, Stopped}
 
--- the tokens that a reader is seen to have at a place in a list
+-- the tokens that a clause sees in a reader at this place in a list
 abbrev pub tokens_at : Place → List Token → List Token
 tokens_at Inside ts = ts
 tokens_at Past ts = Token.end_array ∷ []
 tokens_at Stopped ts = []
 
--- the members that are read from inside an object, and what follows it
+-- the members that are read from inside an object, and the tokens that follow the object
 abbrev pub members_in : List Token → Option (json.Members × List Token)
 members_in ts = json.members (json.value 126) (length ts) ts
 
@@ -27,11 +27,11 @@ AreRefused old = (ms : json.Members) (new : List Token) → members_in old ≡ S
 abbrev pub HasOneList : List Token → Type 0
 HasOneList old = (ms : json.Members) × (new : List Token) × (members_in old ≡ Some (ms, new)) × HaveOneList ms
 
--- these are the tokens behind the bracket that opens the items, where the object has `items` once
+-- if the object has `items` once, these are the tokens after the bracket that opens the items
 abbrev pub IsAtItems : List Token → List Token → Type 0
 IsAtItems old at = (ms : json.Members) (new : List Token) (j : json.Json) → members_in old ≡ Some (ms, new) → values_of items_name ms ≡ j ∷ [] → of_json j ≡ option_map array (items_ahead at)
 
--- the object has `items` once, these members beside it, and is followed by those tokens
+-- the object has `items` once, `others` are its other members, and the tokens `new` follow it
 abbrev pub AreOthers : List Token → Members → List Token → Type 0
 AreOthers old others new =
     (ms : json.Members) × (j : json.Json) × (members_in old ≡ Some (ms, new)) × (values_of items_name ms ≡ j ∷ [])
@@ -41,6 +41,6 @@ AreOthers old others new =
 abbrev pub IsAtItemsOf : List ℕ → List Token → Type 0
 IsAtItemsOf text at = (ts : List Token) × (tokens text ≡ Token.begin_object ∷ ts) × IsAtItems ts at
 
--- these members stand beside the items that a text is read to
+-- these are the members other than `items` of the object that a text is read as
 abbrev pub AreOthersOf : List ℕ → Members → Type 0
 AreOthersOf text others = (at : List Token) → IsAtItemsOf text at → read text ≡ option_map (with_items others) (items_ahead at)

@@ -1,16 +1,16 @@
-//! Why a text was not read.
+//! Why a text wasn't read.
 
 ghost use Rattle.std.specs.Prelude.{◌≡◌, ◌≢◌};
 
 use std::alloc::{AllocError, AllocFailed};
 
-/// Why a text was not read (own).
+/// Why a text wasn't read (own).
 #[derive(Clone, Copy, Debug, Drop, PartialEq, Eq)]
 pub enum ReadFault {
     /// `serde_json` doesn't read the text either: it isn't JSON, nests more than 127 deep, or has a
     /// number beyond the range of a float.
     Refused,
-    /// Memory was refused.
+    /// Out of memory.
     NoMemory,
 }
 

@@ -16,18 +16,18 @@ use std::marker::Model;
 // `serde_json` reads 127 levels, of which the object and its list are two.
 const ITEM_DEPTH: usize = 125;
 
-// Where in its list a reader stands.
+// Where a reader is in its list.
 #[derive(Clone, Copy, Drop)]
 pub(crate) enum Place {
     Inside,
-    // Behind the bracket that closes the list.
+    // After the bracket that closes the list.
     Past,
-    // Something was refused.
+    // After an error.
     Stopped,
 }
 
-/// The items of a list that are still to come. A clause sees the tokens that it reads them from,
-/// none after an error, and after the last item the closing bracket for good.
+/// The items of a list that are still to come. A clause sees the tokens that they are read from:
+/// none after an error, and just the closing bracket, for good, once the list has ended.
 #[derive(Drop)]
 pub struct Items<'a> {
     reader: Reader<'a>,
@@ -48,7 +48,7 @@ impl<'a> Model for Items<'a> {
 }
 
 impl<'a> Items<'a> {
-    // The items that a reader comes to behind the bracket that opens their list.
+    // The items that a reader has ahead of it, after the bracket that opens their list.
     pub(crate) fn new(reader: Reader<'a>) -> Self
         ensures { result ≡ reader.entry }
     {
@@ -58,12 +58,12 @@ impl<'a> Items<'a> {
         }
     }
 
-    /// The next item, and None, again whenever asked, after the last (own).
+    /// The next item; after the last one, None, on every further call (own).
     ///
     /// # Errors
     ///
-    /// Refused only where the rest of the list can't be read; some item may have been given before
-    /// that is known. After any error every further call is refused.
+    /// Refused only if the rest of the list can't be read; some items may have been given before
+    /// that is known. After any error, every further call is refused.
     pub fn next_item(&mut self, alloc: Global) -> Result<Option<Value>, ReadFault>
         ensures next { IfOk result (λ next. MatchOption next
             ((items_ahead self.old ≡ Some no_items) × (items_ahead self.new ≡ Some no_items))

@@ -1,5 +1,5 @@
-//! A large JSON list, read item by item, so that one item's value is in memory at a time. What a
-//! text means is what `serde_json` reads it as.
+//! A large JSON list, read item by item, so that only one item's value is in memory at a time. A
+//! text means what `serde_json` reads it as.
 #![tactic(auto)]
 
 mod fault;

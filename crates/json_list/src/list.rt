@@ -1,4 +1,4 @@
-//! An object with a list under `items`: the items, and the members beside them.
+//! An object with a list under `items`: the items, and the other members.
 
 ghost use Rattle.std.specs.Prelude.{◌≡◌, List, ◌∷◌, option_map, Some, None, Err, IfOk, IfSome, MatchOption, OnErr};
 ghost use Rattle.std.specs.Bool.{MatchBool};
@@ -25,13 +25,13 @@ const MEMBER_DEPTH: usize = 126;
 /// An object with one member `items`, which is a list.
 #[derive(Drop)]
 pub struct OpenList<'a> {
-    /// The members beside `items`.
+    /// The members other than `items`.
     pub others: Map<String, Value>,
     /// The items, which haven't been read yet.
     pub items: Items<'a>,
 }
 
-// A reader behind the brace that opens an object, if a text begins with one.
+// A reader just after the brace that opens an object, if a text begins with one.
 fn object_in<'a>(text: &'a str, scratch: &'a mut Scratch) -> Result<Option<Reader<'a>>, AllocError>
     ensures { IfOk result (λ o. MatchOption o
         ((ts : List SpecToken) → tokens text.now ≡ begin_object ∷ ts → ⊥)
@@ -68,7 +68,7 @@ fn seek_items(reader: &mut Reader<'_>) -> Result<bool, Invalid>
     Ok(false)
 }
 
-// The members of an object beside `items`, if it has one member of that name.
+// The members of an object other than `items`, if it has exactly one member of that name.
 fn read_others(
     alloc: Global,
     reader: &mut Reader<'_>,
@@ -99,7 +99,7 @@ fn read_others(
     }
 }
 
-// The items of the list that a text is, if the first member `items` is a list.
+// The items of the list that a text is, if the first member named `items` is a list.
 fn items_in<'a>(text: &'a str, scratch: &'a mut Scratch) -> Result<Option<Items<'a>>, ReadFault>
     ensures items { IfOk result (λ o. MatchOption o (¬ IsList text.now) (λ items. IsAtItemsOf text.now items)) }
     ensures refused { result ≡ Err Refused → read text.now ≡ None }
@@ -114,7 +114,8 @@ fn items_in<'a>(text: &'a str, scratch: &'a mut Scratch) -> Result<Option<Items<
     }
 }
 
-// The members beside `items` of the object that a text is, if it has one member of that name.
+// The members other than `items` of the object that a text is, if it has exactly one member of that
+// name.
 fn others_in(
     alloc: Global,
     text: &str,
@@ -136,13 +137,13 @@ fn others_in(
     Ok(Some(others))
 }
 
-/// The list that a text is: an object with one member `items`, which is a list (own). None only
-/// where the text is no such object; then `serde_json` has to read it as a whole. `scratch` is
+/// The list that a text is: an object with one member `items`, which is a list (own). None only if
+/// the text isn't a list in this sense; then `serde_json` has to read it as a whole. `scratch` is
 /// where texts with escapes are kept; it grows to the length of the text.
 ///
 /// # Errors
 ///
-/// Refused only where `serde_json` doesn't read the text either.
+/// Refused only if `serde_json` doesn't read the text either.
 pub fn open_list<'a>(
     alloc: Global,
     text: &'a str,
@@ -153,7 +154,7 @@ pub fn open_list<'a>(
     ensures whole { IfOk result (λ o. o ≡ None → ¬ IsList text.now) }
     ensures refused { result ≡ Err Refused → read text.now ≡ None }
 {
-    // Told before the other members are read, of which a document of another kind may have many.
+    // Checked before the other members are read: a document of another kind may have many of them.
     if items_in(text, scratch)?.is_none() {
         return Ok(None);
     }

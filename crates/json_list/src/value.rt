@@ -75,7 +75,7 @@ fn value_from(alloc: Global, reader: &mut Reader<'_>, depth: usize) -> Result<Va
     }
 }
 
-// The items of an array, behind the bracket that opens it.
+// The items of an array, after the bracket that opens it.
 #[cycle(value_from)]
 fn items_from(alloc: Global, reader: &mut Reader<'_>, depth: usize) -> Result<Vec<Value>, ReadFault>
     ensures read { IfOk result (λ v. items_read depth (length reader.old) reader.old
@@ -91,7 +91,8 @@ fn items_from(alloc: Global, reader: &mut Reader<'_>, depth: usize) -> Result<Ve
     Ok(found)
 }
 
-// The members of an object, behind the brace that opens it. The last of those with one name stands.
+// The members of an object, after the brace that opens it. The last of those with the same name
+// counts.
 #[cycle(value_from)]
 fn members_from(
     alloc: Global,

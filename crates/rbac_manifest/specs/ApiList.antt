@@ -11,21 +11,21 @@ use Rattle.rbac_catalogue.specs.declared.entry.Entry.{Entry}
 abbrev pub parts : Text → List Text
 parts text = slice_split (λ b. b == slash) text
 
--- the group of VERSION or GROUP/VERSION by its parts; VERSION alone is of the core group, which is the empty text
+-- the group of VERSION or GROUP/VERSION, by its parts; VERSION alone belongs to the core group, which is the empty text
 abbrev pub group_by : List Text → Option Text
 group_by (version ∷ []) = Some []
 group_by (group ∷ version ∷ []) = Some group
 group_by others = None
 
--- the group that a group version names, unless it has another form; none of its parts is empty
+-- the group that a group version names, unless it has another form; none of its parts may be empty
 unfoldable pub group_of : Text → Option Text
 group_of version = if list_any is_empty (parts version) then None else group_by (parts version)
 
--- the name of an entry, as `pods` or `pods/log`: a text that isn't empty and doesn't begin with a slash (own)
+-- the name of an entry, like `pods` or `pods/log`: a text that isn't empty and doesn't begin with a slash (own)
 unfoldable pub resource_name_at : Data → Option Text
 resource_name_at d = name_at d >>= λ name. if starts_with nat_eq name (codes "/") then None else Some name
 
--- the entry that an item gives, unless it is bad: its group is that of the list, and where it doesn't say otherwise it isn't namespaced
+-- the entry that an item gives, unless it is bad; its group is that of the list, and it isn't namespaced unless it says so
 unfoldable pub entry_at : Text → Data → Option Entry
 entry_at group d =
     resource_name_at d >>= λ name.

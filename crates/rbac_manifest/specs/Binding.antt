@@ -11,11 +11,11 @@ use Rattle.rbac_terms.specs.declared.granting.Subject.TheVariants.{User, Group, 
 use Rattle.rbac_manifest.specs.declared.fault.Cause.{Cause}
 use Rattle.rbac_manifest.specs.declared.fault.Cause.TheVariants.{BadSubject}
 
--- the group of RBAC, also by default
+-- whether this is the RBAC group, which is also the default
 unfoldable pub is_rbac_group : List ℕ → Bool
 is_rbac_group group = is_empty group || bytes_eq group (codes "rbac.authorization.k8s.io")
 
--- the role of this kind, group and name; a Role only in a namespace
+-- the role of this kind, group and name; a Role only if the binding is in a namespace
 unfoldable pub role_named : Bool → List ℕ → List ℕ → List ℕ → Option RoleRef
 role_named in_namespace kind group name =
     if not (is_rbac_group group) then None
@@ -56,7 +56,7 @@ subject_from d =
 unfoldable pub subject_at : Data → Option Subject
 subject_at d = if is_object d then subject_from d else None
 
--- the first bad subject of a binding, at its place
+-- the first bad subject of a binding, with its place
 unfoldable pub bad_subjects : Data → Option Cause
 bad_subjects d = option_map BadSubject (bad_item subject_at (list_field (codes "subjects") d))
 

@@ -1,4 +1,4 @@
--- What documents give, sorted by its use.
+-- What documents give, sorted by what it is used for.
 use Rattle.std.specs.Prelude.{◌||◌, Bool, true, false, List, [], ◌++◌, Option, Some, None}
 use Rattle.std.specs.List.{filter_map, flat_map, list_any}
 use Rattle.rbac_terms.specs.Text.{Text}
@@ -47,7 +47,7 @@ abbrev pub api_entries : Content → List Entry
 api_entries (contents.ApiList entries) = entries
 api_entries g = []
 
--- the catalogue: whether an API resource list is given, be it without entries, and the entries of all of them in order
+-- the catalogue: whether an API resource list is given, even one without entries, and the entries of all of them in order
 abbrev pub catalogue_in : List Content → CatalogueView
 catalogue_in gs = record { is_given = list_any is_api_list gs; entries = flat_map api_entries gs }
 
@@ -80,7 +80,7 @@ sorted_contents gs = record {
   documents = documents_in gs;
 }
 
--- the catalogue with what later lists say
+-- the catalogue, with what later API resource lists add
 abbrev pub catalogue_with : CatalogueView → List Content → CatalogueView
 catalogue_with c gs = record { is_given = c.is_given || list_any is_api_list gs; entries = c.entries ++ flat_map api_entries gs }
 

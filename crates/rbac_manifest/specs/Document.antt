@@ -39,11 +39,11 @@ first_of [] = None
 first_of (None ∷ rows) = first_of rows
 first_of (Some cause ∷ rows) = Some cause
 
--- M2: no object, or its kind is missing where none is implied, or isn't a text
+-- M2: it isn't an object, or its kind is missing and none is implied, or its kind isn't a text
 unfoldable pub not_an_object : Implied → Data → Option Cause
 not_an_object implied d = when (not (is_object d) || is_none (kind_at implied d)) NotAnObject
 
--- M3: the version is missing where the kind needs one and none is implied, isn't a text, or isn't read
+-- M3: the version is missing although the kind needs one and none is implied, or it isn't a text, or it isn't read
 unfoldable pub bad_version : Implied → Data → Option Cause
 bad_version implied d = when (is_none (version_at implied (unwrap_or (kind_at implied d) []) d)) BadVersion
 
@@ -68,7 +68,7 @@ bad_metadata d = when (is_none (metadata_at d)) BadMetadata
 abbrev pub metadata_row : Kind → Data → Option Cause
 metadata_row kind d = if has_metadata kind then bad_metadata d else None
 
--- M5: the first bad rule; only a ClusterRole may be for URLs
+-- M5: the first bad rule; only a rule of a ClusterRole may be for URLs
 abbrev pub rules_row : Kind → Data → Option Cause
 rules_row kinds.Role d = bad_rules true d
 rules_row kinds.ClusterRole d = bad_rules false d
@@ -101,7 +101,7 @@ abbrev pub universe_row : Kind → Data → Option Cause
 universe_row kinds.Universe d = when (is_none (given_lists_at d)) BadUniverse
 universe_row kind d = None
 
--- why a document is refused, if it is: the least number whose condition holds (own)
+-- why a document is refused, if it is: the lowest number whose condition holds (own)
 unfoldable pub fault : Implied → Data → Option Cause
 fault implied d =
     let kind = kind_of implied d in
@@ -119,7 +119,7 @@ fault implied d =
 
 -- ---- what a document gives
 
--- the namespace of an object, `default` where none is given (own)
+-- the namespace of an object, `default` if none is given (own)
 unfoldable pub namespace_or_default : List ℕ → List ℕ
 namespace_or_default namespace = if is_empty namespace then codes "default" else namespace
 
@@ -127,7 +127,7 @@ namespace_or_default namespace = if is_empty namespace then codes "default" else
 unfoldable pub role_in : Data → Option Role
 role_in d = option_map (λ m. record { namespace = namespace_or_default m.namespace; name = m.name; rules = rules_in true d }) (metadata_at d)
 
--- a ClusterRole with its parts; its namespace isn't used
+-- a ClusterRole from its parts; its namespace isn't used
 abbrev pub cluster_role_from : Metadata → List Rule → Option (List Selector) → ClusterRole
 cluster_role_from m rules a = record { name = m.name; labels = m.labels; rules = rules; aggregation = a }
 
@@ -135,7 +135,7 @@ cluster_role_from m rules a = record { name = m.name; labels = m.labels; rules =
 unfoldable pub cluster_role_in : Data → Option ClusterRole
 cluster_role_in d = option_and_then (λ m. option_map (λ a. cluster_role_from m (rules_in false d) a) (aggregation_at d)) (metadata_at d)
 
--- a binding with its parts; a ClusterRoleBinding has no namespace
+-- a binding from its parts; a ClusterRoleBinding has no namespace
 abbrev pub binding_from : Bool → Metadata → RoleRef → List Subject → Binding
 binding_from in_namespace m r ss = record {
   namespace = if in_namespace then Some (namespace_or_default m.namespace) else None;
@@ -144,7 +144,7 @@ binding_from in_namespace m r ss = record {
   subjects = ss;
 }
 
--- a RoleBinding, or a ClusterRoleBinding where it is in no namespace
+-- a RoleBinding, or a ClusterRoleBinding if it isn't in a namespace
 unfoldable pub binding_in : Bool → Data → Option Binding
 binding_in in_namespace d = option_and_then (λ m. option_map (λ r. binding_from in_namespace m r (subjects_in d)) (role_ref_at in_namespace d)) (metadata_at d)
 
@@ -152,7 +152,7 @@ binding_in in_namespace d = option_and_then (λ m. option_map (λ r. binding_fro
 abbrev pub account_from : Metadata → Account
 account_from m = record { namespace = namespace_or_default m.namespace; name = m.name }
 
--- what a document of this kind gives; of a Namespace its name alone
+-- what a document of this kind gives; a Namespace gives only its name
 abbrev pub content_in : Kind → Data → Option Content
 content_in kinds.Role d = option_map (λ r. contents.Object (object.Role r)) (role_in d)
 content_in kinds.ClusterRole d = option_map (λ r. contents.Object (object.ClusterRole r)) (cluster_role_in d)

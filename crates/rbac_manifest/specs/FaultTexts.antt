@@ -6,7 +6,7 @@ use Rattle.rbac_manifest.specs.declared.fault.Cause.TheVariants.{NotJson, NotAnO
 use Rattle.rbac_manifest.specs.declared.fault.At.{At}
 use Rattle.rbac_manifest.specs.declared.fault.LoadFault.{LoadFault}
 
--- its number and name, and for a rule or a subject its place
+-- the number and name of a cause, and for a rule or a subject its place
 abbrev pub cause_text : Cause → List ℕ
 cause_text NotJson = codes "M1 not JSON"
 cause_text NotAnObject = codes "M2 not an object"
@@ -21,7 +21,7 @@ cause_text BadUniverse = codes "M10 bad universe"
 cause_text TooMany = codes "M11 too many grants"
 cause_text NoMemory = codes "out of memory"
 
--- the item, where there is one
+-- the item, if there is one
 abbrev pub item_text : Option ℕ → List ℕ
 item_text None = []
 item_text (Some item) = codes " item " ++ decimal (item + 1)
@@ -30,7 +30,7 @@ item_text (Some item) = codes " item " ++ decimal (item + 1)
 abbrev pub at_text : At → List ℕ
 at_text at = codes "file " ++ decimal (at.file + 1) ++ item_text at.item
 
--- what stands before the cause
+-- what comes before the cause
 abbrev pub place_text : Option At → List ℕ
 place_text None = []
 place_text (Some at) = at_text at ++ codes ": "

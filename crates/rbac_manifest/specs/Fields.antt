@@ -4,7 +4,7 @@ use Rattle.std.specs.List.{list_all}
 use Rattle.serde_json.specs.Data.{Data, null, boolean, number, string, array, object, Items, no_items, item}
 use Rattle.serde_json.specs.Find.{get, as_bool, as_str, as_array, as_object}
 
--- what follows, where there is a value
+-- what follows from a value, if there is one
 infixr 5 ◌>>=◌
 abbrev pub ◌>>=◌ : {A B : Type 0} → Option A → (A → Option B) → Option B
 None >>= f = None
@@ -32,7 +32,7 @@ elements (item d ds) = d ∷ elements ds
 unfoldable pub as_list : Data → Option (List Data)
 as_list d = option_map elements (as_array d)
 
--- a list that may be missing, and then is empty
+-- a list, empty if it is missing
 abbrev pub list_or_empty : Option Data → Option (List Data)
 list_or_empty None = Some []
 list_or_empty (Some d) = as_list d
@@ -49,7 +49,7 @@ is_text d = is_some (as_str d)
 abbrev pub text_in : Data → List ℕ
 text_in d = unwrap_or (as_str d) []
 
--- texts, if each item is one
+-- the texts that the items are, if each is one
 unfoldable pub all_texts : List Data → Option (List (List ℕ))
 all_texts ds = if list_all is_text ds then Some (map text_in ds) else None
 
@@ -65,7 +65,7 @@ is_object d = is_some (as_object d)
 abbrev pub is_empty : {A : Type 0} → List A → Bool
 is_empty xs = length xs == 0
 
--- a text that may be missing, and then is empty
+-- a text, empty if it is missing
 abbrev pub text_or_empty : Option Data → Option (List ℕ)
 text_or_empty None = Some []
 text_or_empty (Some d) = as_str d
@@ -82,7 +82,7 @@ non_empty t = if is_empty t then None else Some t
 unfoldable pub name_at : Data → Option (List ℕ)
 name_at d = option_and_then non_empty (text_at (codes "name") d)
 
--- a yes or no that may be missing, and then is as this says
+-- a yes or no; if it is missing, `missing` says which
 abbrev pub flag_or : Bool → Option Data → Option Bool
 flag_or missing None = Some missing
 flag_or missing (Some d) = as_bool d

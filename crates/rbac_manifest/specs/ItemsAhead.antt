@@ -1,4 +1,4 @@
--- The items of a list that are still to come, where they can be read.
+-- The items of a list that are still to come, if they can be read.
 use Rattle.std.specs.Prelude.{◌≡◌, ℕ, List, [], Option, Some, None}
 use Rattle.serde_json.specs.Data.{Data, Items}
 use Rattle.rbac_manifest.specs.Fields.{elements}
@@ -12,7 +12,7 @@ use Rattle.rbac_manifest.specs.declared.kind.Implied.TheVariants as lists
 use Rattle.rbac_manifest.specs.declared.fault.Cause.TheVariants.{NotJson}
 use Rattle.rbac_manifest.specs.declared.fault.Refusal.{Refusal}
 
--- why items are refused, the first of them at a place: one can't be read (M1), or the first that has a fault
+-- why items are refused, with the first of them at this place: one can't be read (M1), otherwise the first that has a fault
 abbrev pub ahead_refusal : Implied → ℕ → Option Items → Option Refusal
 ahead_refusal implied place None = Some (as_whole NotJson)
 ahead_refusal implied place (Some ds) = first_refusal implied place (elements ds)
@@ -22,6 +22,6 @@ abbrev pub contents_ahead : Implied → Option Items → List Content
 contents_ahead implied None = []
 contents_ahead implied (Some ds) = contents_of_items implied (elements ds)
 
--- a document is a list of sound kind and version, which implies this of its items
+-- a document is a list of sound kind and version, and implies this for its items
 abbrev pub IsListOf : Implied → Data → Type 0
 IsListOf implied d = (bad_header lists.Nothing d ≡ None) × (kind_of lists.Nothing d ≡ kinds.List implied)

@@ -1,4 +1,4 @@
--- Kind and version of a document, which a list may imply for its items.
+-- The kind and version of a document; a list may imply them for its items.
 use Rattle.std.specs.Prelude.{ℕ, ◌&&◌, ◌||◌, Bool, true, false, not, nat_eq, List, [], ◌∷◌, codes, Option, Some, None, option_map, unwrap_or, if◌then◌else◌}
 use Rattle.std.specs.Str.{bytes_eq}
 use Rattle.std.specs.List.{starts_with, list_any, find}
@@ -19,11 +19,11 @@ rbac_v1 = codes "rbac.authorization.k8s.io/v1"
 abbrev pub rbac_v1beta1 : List ℕ
 rbac_v1beta1 = codes "rbac.authorization.k8s.io/v1beta1"
 
--- a version of the group as it is read: both of these as the table's, and no other
+-- how a version of the group is read: each of these two as the one that the table names, any other not at all
 abbrev pub rbac_version : List ℕ → Option (List ℕ)
 rbac_version v = if bytes_eq v rbac_v1 || bytes_eq v rbac_v1beta1 then Some rbac_v1 else None
 
--- a version as it is read, unless it is one of the RBAC group that isn't
+-- a version as it is read; None if it is a version of the RBAC group that isn't read
 unfoldable pub version_read : List ℕ → Option (List ℕ)
 version_read v = if starts_with nat_eq v (codes "rbac.authorization.k8s.io/") then rbac_version v else Some v
 
@@ -47,16 +47,16 @@ implied_version lists.ClusterRoleBinding = Some rbac_v1
 implied_version lists.Namespace = Some (codes "v1")
 implied_version lists.ServiceAccount = Some (codes "v1")
 
--- a field's own text, or where the field is missing the implied one
+-- a field's own text, or the implied one if the field is missing
 abbrev pub own_or : Option (List ℕ) → Option Data → Option (List ℕ)
 own_or implied None = implied
 own_or implied (Some d) = as_str d
 
--- the kind of a document; none where it is missing or no text
+-- the kind of a document; None if it is missing and none is implied, or if it isn't a text
 unfoldable pub kind_at : Implied → Data → Option (List ℕ)
 kind_at implied d = own_or (implied_kind implied) (field (codes "kind") d)
 
--- a pair of version and kind that is read, and what a document of it is
+-- a pair of version and kind that is read, and what a document with that pair is
 pub record Reading : Type 0 where
   pub version : List ℕ
   pub kind : List ℕ
@@ -82,25 +82,25 @@ kinds_read =
     ∷ record { version = codes "rbacaudit/v1"; kind = codes "Universe"; means = kinds.Universe }
     ∷ []
 
--- API resource lists, whose version may be missing (own)
+-- whether this is an API resource list, whose version may be missing (own)
 abbrev pub is_api_list : Kind → Bool
 is_api_list kinds.ApiList = true
 is_api_list _ = false
 
--- a row of this kind that needs a version
+-- whether a row is of this kind and needs a version
 abbrev pub asks_version : List ℕ → Reading → Bool
 asks_version kind row = bytes_eq kind row.kind && not (is_api_list row.means)
 
--- the kinds that need a version: those that are read, API resource lists aside (own)
+-- the kinds that need a version: those that are read, except API resource lists (own)
 unfoldable pub needs_version : List ℕ → Bool
 needs_version kind = list_any (asks_version kind) kinds_read
 
--- the implied version, or where the kind needs none `v1`, which an API resource list is of (own)
+-- the implied version, or, if none is implied and the kind needs none, `v1`, the version of an API resource list (own)
 abbrev pub version_implied : Bool → Option (List ℕ) → Option (List ℕ)
 version_implied needed None = if needed then None else Some (codes "v1")
 version_implied needed (Some v) = Some v
 
--- a field's own version, or where the field is missing the implied one
+-- a field's own version, or the implied one if the field is missing
 abbrev pub version_or : Bool → Option (List ℕ) → Option Data → Option (List ℕ)
 version_or needed implied None = version_implied needed implied
 version_or needed implied (Some d) = as_str d >>= version_read
@@ -109,7 +109,7 @@ version_or needed implied (Some d) = as_str d >>= version_read
 unfoldable pub version_at : Implied → List ℕ → Data → Option (List ℕ)
 version_at implied kind d = version_or (needs_version kind) (implied_version implied) (field (codes "apiVersion") d)
 
--- the row of this version and kind
+-- whether a row has this version and kind
 abbrev pub is_row : List ℕ → List ℕ → Reading → Bool
 is_row version kind row = bytes_eq version row.version && bytes_eq kind row.kind
 
@@ -117,7 +117,7 @@ is_row version kind row = bytes_eq version row.version && bytes_eq kind row.kind
 abbrev pub as_reading : Row → Reading
 as_reading row = record { version = row.version.now; kind = row.kind.now; means = row.means }
 
--- what a document of this version and kind is by these rows; every pair that has none is passed over
+-- what a document of this version and kind is by these rows; every pair that has no row is passed over
 abbrev pub meaning_in : List Reading → List ℕ → List ℕ → Kind
 meaning_in rows version kind = unwrap_or (option_map (λ row. row.means) (find (is_row version kind) rows)) kinds.Other
 
@@ -125,7 +125,7 @@ meaning_in rows version kind = unwrap_or (option_map (λ row. row.means) (find (
 unfoldable pub kind_named : List ℕ → List ℕ → Kind
 kind_named version kind = meaning_in kinds_read version kind
 
--- the kind of a document by its kind and version texts
+-- the kind of a document, by the texts of its kind and version
 unfoldable pub kind_of : Implied → Data → Kind
 kind_of implied d =
     let kind = unwrap_or (kind_at implied d) [] in

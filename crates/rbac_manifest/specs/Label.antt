@@ -28,7 +28,7 @@ abbrev pub entry_labels : List (String Global × Value) → Option (List (Text �
 entry_labels [] = Some []
 entry_labels (e ∷ es) = cons_if (label_of (string_bytes e.0) (view e.1)) (entry_labels es)
 
--- labels that may be missing, and then are none
+-- the labels that a value gives; none if it is missing
 abbrev pub labels_or_empty : Option Data → Option (List (Text × Text))
 labels_or_empty None = Some []
 labels_or_empty (Some d) = option_and_then labels_of (as_object d)
@@ -39,7 +39,7 @@ labels_at name d = labels_or_empty (field name d)
 
 -- ---- selectors
 
--- an operator with as many values as it takes
+-- the operator of this name, if these are as many values as it takes
 unfoldable pub operator_named : List ℕ → List (List ℕ) → Option SelectOp
 operator_named name values =
     if bytes_eq name (codes "In") && not (is_empty values) then Some OneOf
@@ -61,7 +61,7 @@ requirement_from d =
 unfoldable pub requirement_at : Data → Option Requirement
 requirement_at d = if is_object d then requirement_from d else None
 
--- a selector is the labels and the requirements that it asks for, all together; missing ones ask for nothing
+-- a selector asks for all of its labels and all of its requirements together; missing ones ask for nothing
 unfoldable pub selector_from : Data → Option Selector
 selector_from d =
     labels_at (codes "matchLabels") d >>= λ labels.
@@ -72,7 +72,7 @@ selector_from d =
 unfoldable pub selector_at : Data → Option Selector
 selector_at d = if is_object d then selector_from d else None
 
--- the selectors of an aggregation rule; missing ones are none
+-- the selectors of an aggregation rule; if they are missing, there are none
 unfoldable pub selectors_from : Data → Option (List Selector)
 selectors_from d = if is_object d then option_and_then (all_at selector_at) (list_field (codes "clusterRoleSelectors") d) else None
 
@@ -81,6 +81,6 @@ abbrev pub aggregation_of : Option Data → Option (Option (List Selector))
 aggregation_of None = Some None
 aggregation_of (Some d) = option_map Some (selectors_from d)
 
--- the selectors of an aggregated role; none where they are bad
+-- the selectors of an aggregated role; None if they are bad
 unfoldable pub aggregation_at : Data → Option (Option (List Selector))
 aggregation_at d = aggregation_of (field (codes "aggregationRule") d)

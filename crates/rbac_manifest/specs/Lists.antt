@@ -16,17 +16,17 @@ bad_place read i ds = position_from (λ d. is_none (read d)) i ds
 unfoldable pub given_by : {X : Type 0} → (Data → Option X) → List Data → List X
 given_by read ds = filter_map read ds
 
--- the place of the first bad item, or 0 where it is no list
+-- the place of the first bad item, or 0 if there is no list
 abbrev pub bad_item : {X : Type 0} → (Data → Option X) → Option (List Data) → Option ℕ
 bad_item read None = Some 0
 bad_item read (Some ds) = bad_place read 0 ds
 
--- what the items of a list give, nothing where it is no list
+-- what the items of a list give, nothing if there is no list
 abbrev pub items_given : {X : Type 0} → (Data → Option X) → Option (List Data) → List X
 items_given read None = []
 items_given read (Some ds) = given_by read ds
 
--- one more, if both are there
+-- this value before the rest, if both are there
 abbrev pub cons_if : {X : Type 0} → Option X → Option (List X) → Option (List X)
 cons_if None rest = None
 cons_if (Some x) rest = option_map (λ xs. x ∷ xs) rest
@@ -41,12 +41,12 @@ abbrev pub item_fault : Trouble → ℕ → ItemFault
 item_fault Shape place = Bad place
 item_fault Memory place = WithoutMemory
 
--- the trouble that an item's fault is, wherever it stands
+-- the trouble that an item's fault is, whatever its place
 abbrev pub trouble_with : ItemFault → Trouble
 trouble_with (Bad place) = Shape
 trouble_with WithoutMemory = Memory
 
--- All items were read, and so none is bad; or the first bad one is named; out of memory aside.
+-- All items were read, and none is bad; or the first bad one is named; nothing is said if it ran out of memory.
 abbrev pub ReadsAll : {X : Type 0} → Result (Vec X Global) ItemFault → (Data → Option X) → List Data → Type 0
 ReadsAll (Ok xs) read ds = (all_at read ds ≡ Some xs.items) × (bad_place read 0 ds ≡ None) × (given_by read ds ≡ xs.items)
 ReadsAll (Err (Bad place)) read ds = (all_at read ds ≡ None) × (bad_place read 0 ds ≡ Some place)

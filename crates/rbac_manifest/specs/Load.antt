@@ -39,12 +39,12 @@ in_item place cause = record { item = Some place; cause = cause }
 abbrev pub as_whole : Cause → Refusal
 as_whole cause = record { item = None; cause = cause }
 
--- a fault of this item, or else what the later ones have
+-- the refusal for this item's fault, or that of the later items if it has none
 abbrev pub item_or : ℕ → Option Cause → Option Refusal → Option Refusal
 item_or place None later = later
 item_or place (Some cause) later = Some (in_item place cause)
 
--- the first item with a fault, counted from a place
+-- the refusal of the first item with a fault, with items counted from a place
 abbrev pub first_refusal : Implied → ℕ → List Data → Option Refusal
 first_refusal implied place [] = None
 first_refusal implied place (d ∷ ds) = item_or place (fault implied d) (first_refusal implied (place + 1) ds)
@@ -63,7 +63,7 @@ abbrev pub contents_of_list : Implied → Option (List Data) → List Content
 contents_of_list implied None = []
 contents_of_list implied (Some ds) = contents_of_items implied ds
 
--- why an input is refused for its items, where it is a list
+-- why an input is refused for its items, if it is a list
 abbrev pub items_refusal : Kind → Data → Option Refusal
 items_refusal (kinds.List implied) d = list_refusal implied (list_field (codes "items") d)
 items_refusal kind d = None
@@ -73,12 +73,12 @@ abbrev pub contents_of_body : Kind → Data → List Content
 contents_of_body (kinds.List implied) d = contents_of_list implied (list_field (codes "items") d)
 contents_of_body kind d = option_to_list (content_in kind d)
 
--- a fault of the whole input, or else of its items
+-- the refusal for a fault of the whole input, or that of its items if it has none
 abbrev pub whole_or : Option Cause → Option Refusal → Option Refusal
 whole_or None items = items
 whole_or (Some cause) items = Some (as_whole cause)
 
--- why an input is refused, if it is: for a fault of its own, or of the first item that has one
+-- why an input is refused, if it is: for a fault of its own, otherwise for that of the first item that has one
 unfoldable pub refusal_in : Data → Option Refusal
 refusal_in d = whole_or (fault lists.Nothing d) (items_refusal (kind_of lists.Nothing d) d)
 
@@ -96,12 +96,12 @@ json_in bytes = if is_utf8 bytes then read bytes else None
 abbrev pub in_file : ℕ → Refusal → LoadFault
 in_file file r = record { at = Some (record { file = file; item = r.item }); cause = r.cause }
 
--- why a text is refused that wasn't read
+-- why a text that wasn't read is refused
 abbrev pub unread_cause : ReadFault → Cause
 unread_cause unread.Refused = NotJson
 unread_cause unread.NoMemory = NoMemory
 
--- why the value of a file is refused; bytes that spell none are M1
+-- why the value of a file is refused; bytes that spell no value are M1
 abbrev pub refusal_of : Option Data → Option Refusal
 refusal_of None = Some (as_whole NotJson)
 refusal_of (Some d) = refusal_in d
@@ -119,7 +119,7 @@ file_refusal bytes = refusal_of (json_in bytes)
 unfoldable pub contents_of_file : List ℕ → List Content
 contents_of_file bytes = contents_of_value (json_in bytes)
 
--- a fault of this file, or else what the later ones have
+-- the fault of this file, or that of the later files if it has none
 abbrev pub file_or : ℕ → Option Refusal → Option LoadFault → Option LoadFault
 file_or file None later = later
 file_or file (Some r) later = Some (in_file file r)
@@ -146,9 +146,9 @@ pub record LoadedView : Type 0 where
   pub lists : UniverseLists
   pub replaced : List Replaced
 
--- every document is accepted, of each kind, namespace and name the last object is kept (own), the grants
--- follow from what is kept and are no more than there may be, the catalogue is that of all API resource
--- lists, the lists are those that all of it means, and those objects are listed as replaced of which several documents were given
+-- every document is accepted; of each kind, namespace and name the last object is kept (own); the grants
+-- follow from what is kept, and there are no more than there may be; the catalogue is that of all API resource
+-- lists; the lists are those that all of this means; and the objects listed as replaced are those that several documents give
 pub record IsLoaded (inputs : List (List ℕ)) (l : LoadedView) : Type 0 where
   pub accepted : document_fault inputs ≡ None
   pub kept : AreKept (objects_in (all_contents inputs)) l.policy.held
@@ -158,11 +158,11 @@ pub record IsLoaded (inputs : List (List ℕ)) (l : LoadedView) : Type 0 where
   pub lists : l.lists ≡ lists_meant l.policy.held l.catalogue (namespaces_in (all_contents inputs)) (accounts_in (all_contents inputs)) (documents_in (all_contents inputs))
   pub replaced : AreReplaced (names_given (objects_in (all_contents inputs)) (namespaces_in (all_contents inputs)) (accounts_in (all_contents inputs))) l.replaced
 
--- more grants than there may be, of all inputs together; this fault has no place
+-- all inputs together give more grants than there may be; this fault has no place
 abbrev pub too_many : LoadFault
 too_many = record { at = None; cause = TooMany }
 
--- the fault of the first document that has one, or else that what is kept gives too many grants
+-- the fault is that of the first document that has one, or, if none has, that what is kept gives too many grants
 abbrev pub HasFault : List (List ℕ) → LoadFault → Type 0
 HasFault inputs f =
     (document_fault inputs ≡ Some f)

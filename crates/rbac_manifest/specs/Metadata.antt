@@ -5,7 +5,7 @@ use Rattle.rbac_manifest.specs.Fields.{field, text_at, name_at, is_object}
 use Rattle.rbac_manifest.specs.Label.{labels_at}
 use Rattle.rbac_manifest.specs.declared.metadata.Metadata.{Metadata}
 
--- metadata has a name that isn't empty; a namespace that is there is a text, and labels are texts by texts
+-- metadata must have a name that isn't empty; a namespace that is there must be a text, and labels must map texts to texts
 abbrev pub is_bad_metadata : Data → Bool
 is_bad_metadata m = not (is_object m) || is_none (labels_at (codes "labels") m) || is_none (name_at m) || is_none (text_at (codes "namespace") m)
 

@@ -1,4 +1,4 @@
--- The names of the objects that documents give: kind, namespace (empty where cluster-scoped) and name.
+-- The names of the objects that documents give: kind, namespace (empty if cluster-scoped) and name.
 use Rattle.std.specs.Prelude.{List, [], ◌∷◌, ◌++◌, codes, map}
 use Rattle.std.specs.declared.cmp.Ordering.{Ordering}
 use Rattle.std.specs.Cmp.Lexicographic.{slice_cmp}

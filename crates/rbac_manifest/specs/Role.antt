@@ -8,7 +8,7 @@ use Rattle.rbac_terms.specs.declared.matching.Rule.{Rule}
 use Rattle.rbac_manifest.specs.declared.fault.Cause.{Cause}
 use Rattle.rbac_manifest.specs.declared.fault.Cause.TheVariants.{BadRule}
 
--- the first bad rule of a role, at its place
+-- the first bad rule of a role, with its place
 unfoldable pub bad_rules : Bool → Data → Option Cause
 bad_rules in_role d = option_map BadRule (bad_item (rule_at in_role) (list_field (codes "rules") d))
 

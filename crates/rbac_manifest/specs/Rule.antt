@@ -1,14 +1,14 @@
--- Which rule an object gives, and which is bad (Using RBAC Authorization, Role and ClusterRole).
+-- The rule that an object gives, and which rules are bad (Using RBAC Authorization, Role and ClusterRole).
 use Rattle.std.specs.Prelude.{ℕ, ◌||◌, ◌&&◌, Bool, not, List, [], codes, Option, Some, None, unwrap_or, is_none, if◌then◌else◌}
 use Rattle.serde_json.specs.Data.{Data}
 use Rattle.rbac_manifest.specs.Fields.{texts_field, is_object, is_empty}
 use Rattle.rbac_terms.specs.declared.matching.Rule.{Rule}
 
--- the texts of a field, none where it is missing
+-- the texts of a field, none if it is missing
 abbrev pub texts : List ℕ → Data → List (List ℕ)
 texts name d = unwrap_or (texts_field name d) []
 
--- a field is there and isn't a list of texts
+-- a field is there but isn't a list of texts
 abbrev pub is_no_texts : List ℕ → Data → Bool
 is_no_texts name d = is_none (texts_field name d)
 
@@ -28,7 +28,7 @@ has_bad_field d =
     is_no_texts (codes "verbs") d || is_no_texts (codes "apiGroups") d || is_no_texts (codes "resources") d
     || is_no_texts (codes "resourceNames") d || is_no_texts (codes "nonResourceURLs") d
 
--- a rule without verbs, for nothing, for both resources and URLs, or in a Role for URLs
+-- a rule that has no verbs, is for nothing, is for both resources and URLs, or is for URLs in a Role
 unfoldable pub is_bad_target : Bool → Rule → Bool
 is_bad_target in_role r =
     is_empty r.verbs
@@ -36,7 +36,7 @@ is_bad_target in_role r =
     || (not (is_empty r.urls) && (not (is_empty r.groups) || not (is_empty r.resources) || not (is_empty r.resource_names)))
     || (not (is_empty r.urls) && in_role)
 
--- no object, a field of another shape, or a bad target
+-- not an object, a field of another shape, or a bad target
 abbrev pub is_bad_rule : Bool → Data → Bool
 is_bad_rule in_role d = not (is_object d) || has_bad_field d || is_bad_target in_role (rule_in d)
 

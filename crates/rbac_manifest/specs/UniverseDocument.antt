@@ -13,7 +13,7 @@ use Rattle.rbac_terms.specs.declared.fault.ModelFault.TheVariants.{EmptyName, Ba
 use Rattle.rbac_universe.specs.declared.lists.ListedResource.{ListedResource}
 use Rattle.rbac_lists.specs.declared.given_lists.GivenLists.{GivenLists}
 
--- a principal is refused for its name, which is of the wrong shape, or because memory ran out
+-- why a principal is refused: its name has the wrong shape, or reading it ran out of memory
 abbrev pub trouble_of : ModelFault → Trouble
 trouble_of EmptyName = Shape
 trouble_of BadTarget = Shape
@@ -25,7 +25,7 @@ trouble_of NoMemory = Memory
 abbrev pub name_in : Data → Option Text
 name_in d = as_str d >>= non_empty
 
--- the user of this name, with the groups that the item gives; missing ones are none
+-- the user of this name, with the groups that the item gives; if they are missing, there are none
 unfoldable pub user_at : Data → Data → Option Who
 user_at name d =
     name_in name >>= λ user.
@@ -36,7 +36,7 @@ user_at name d =
 unfoldable pub member_at : Data → Option Who
 member_at name = option_map AsMember (name_in name)
 
--- a user, perhaps with groups, or a member of one group: exactly one of the two is there, and no groups beside a group
+-- a user, perhaps with groups, or a member of one group: exactly one of `user` and `group` is there, and no `groups` if `group` is
 abbrev pub principal_by : (user group groups : Option Data) → Data → Option Who
 principal_by (Some user) None groups d = user_at user d
 principal_by None (Some group) None d = member_at group
@@ -48,7 +48,7 @@ principal_at d = principal_by (field (codes "user") d) (field (codes "group") d)
 
 -- ---- resources
 
--- the resource that an item gives, unless it is bad: its text must be there, a missing group is the core group, and where it doesn't say otherwise it is namespaced
+-- the resource that an item gives, unless it is bad; its text must be there, a missing group is the core group, and it is namespaced unless it says otherwise
 unfoldable pub resource_at : Data → Option ListedResource
 resource_at d =
     field (codes "resource") d >>= λ resource.
@@ -63,7 +63,7 @@ resource_at d =
 abbrev pub items_field : {X : Type 0} → (Data → Option X) → Text → Data → Option (List X)
 items_field read name d = list_field name d >>= λ items. all_at read items
 
--- what a field gives where it is there, be it an empty list; a missing one isn't given
+-- what a field gives if it is there, even if it is an empty list; a missing one isn't given
 abbrev pub where_given : {X : Type 0} → (Text → Data → Option X) → Text → Data → Option (Option X)
 where_given read name d = if is_none (field name d) then Some None else option_map Some (read name d)
 

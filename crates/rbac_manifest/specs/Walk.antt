@@ -21,7 +21,7 @@ bad_header implied d = first_of (not_an_object implied d ∷ bad_version implied
 unfoldable pub bad_role : Data → Option Cause
 bad_role d = first_of (bad_metadata d ∷ bad_rules true d ∷ [])
 
--- what is wrong with such a ClusterRole
+-- what is wrong with a ClusterRole of sound kind and version
 unfoldable pub bad_cluster_role : Data → Option Cause
 bad_cluster_role d = first_of (
     bad_metadata d
@@ -29,7 +29,7 @@ bad_cluster_role d = first_of (
     ∷ when (is_none (aggregation_at d)) BadSelector
     ∷ [])
 
--- what is wrong with such a binding, in a namespace or in none
+-- what is wrong with a binding of sound kind and version, in a namespace or not
 unfoldable pub bad_binding : Bool → Data → Option Cause
 bad_binding in_namespace d = first_of (
     bad_metadata d

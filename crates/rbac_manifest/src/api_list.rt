@@ -50,7 +50,7 @@ fn resource_name_of(alloc: Global, value: &Value) -> Result<Word, Trouble>
     }
 }
 
-// The entry of a list of this group that an item gives.
+// The entry that an item gives in a list of this group.
 #[tactic(auto, unfolding(crate::specs::ApiList::entry_at))]
 fn entry_of(alloc: Global, group: &[u8], value: &Value) -> Result<Entry, Trouble>
     ensures { Reads result (entry_at group.now (view value.now)) }

@@ -12,7 +12,7 @@ use rbac_terms::RoleRef;
 use serde_json::Value;
 use std::alloc::Global;
 
-// The group of RBAC, which an empty one stands for.
+// Whether this is the RBAC group. An empty group counts as the RBAC group.
 #[tactic(auto, unfolding(crate::specs::Binding::is_rbac_group))]
 pub(crate) fn is_rbac_group(group: &str) -> bool
     ensures { result ≡ is_rbac_group group.now }
@@ -54,7 +54,7 @@ fn role_ref_from(alloc: Global, value: &Value, in_namespace: bool) -> Result<Rol
     role_named(alloc, in_namespace, kind, group, name)
 }
 
-// The role that a binding names; a Role only where the binding is in a namespace.
+// The role that a binding names; a Role only if the binding is in a namespace.
 #[tactic(auto, unfolding(crate::specs::Binding::role_ref_at))]
 pub(crate) fn role_ref_of(
     alloc: Global,

@@ -1,4 +1,4 @@
-//! What documents gave so far, sorted by its use.
+//! What documents gave so far, grouped by its use.
 
 ghost use Rattle.std.specs.Prelude.{◌≡◌, OnOk, []};
 ghost use Rattle.std.specs.Option.{option_to_list};
@@ -12,7 +12,7 @@ use rbac_terms::Word;
 use std::alloc::{AllocError, Global};
 use std::marker::Model;
 
-// What documents gave, each kind of it in order.
+// What documents gave, each kind in the order of the documents.
 #[derive(Drop)]
 pub(crate) struct Contents {
     pub objects: Vec<Object>,
@@ -37,7 +37,7 @@ impl Model for Contents {
 }
 
 impl Contents {
-    // Nothing yet, which takes no memory.
+    // Nothing yet. Doesn't allocate.
     #[tactic(auto, unfolding(crate::specs::Contents::sorted_contents))]
     pub(crate) fn new(alloc: Global) -> Self
         ensures { result ≡ sorted_contents [] }
@@ -51,14 +51,14 @@ impl Contents {
         }
     }
 
-    // Room for so many more objects.
+    // Reserves room for this many more objects.
     pub(crate) fn reserve(&mut self, count: usize) -> Result<(), AllocError>
         ensures { OnOk result (self.new ≡ self.old) }
     {
         self.objects.reserve(count)
     }
 
-    // Takes over what a document gave, if it gave anything.
+    // Adds what a document gave, if it gave anything.
     #[tactic(auto, unfolding(crate::specs::Contents::with_contents))]
     pub(crate) fn take(&mut self, content: Option<Content>) -> Result<(), AllocError>
         ensures { OnOk result (self.new ≡ with_contents self.old (option_to_list content)) }

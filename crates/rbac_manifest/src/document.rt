@@ -25,7 +25,7 @@ use rbac_terms::{Binding, ClusterRole, Role, Word};
 use serde_json::Value;
 use std::alloc::{AllocError, Global};
 
-// The namespace of an object, `default` where none is given.
+// The namespace of an object, or `default` if none is given.
 #[tactic(auto, unfolding(crate::specs::Document::namespace_or_default))]
 fn namespace_or_default(alloc: Global, namespace: Word) -> Result<Word, AllocError>
     ensures { IfOk result (λ w. w ≡ namespace_or_default namespace) }
@@ -74,7 +74,8 @@ fn cluster_role_of(alloc: Global, document: &Value) -> Result<ClusterRole, Cause
     })
 }
 
-// The RoleBinding that a document gives, or the ClusterRoleBinding where it is in no namespace.
+// The binding that a document gives: a RoleBinding if it is in a namespace, otherwise a
+// ClusterRoleBinding.
 #[tactic(auto, unfolding(crate::specs::Walk::bad_binding, crate::specs::Document::binding_in))]
 fn binding_of(alloc: Global, document: &Value, in_namespace: bool) -> Result<Binding, Cause>
     ensures { Gives result (bad_binding in_namespace (view document.now))
@@ -156,7 +157,7 @@ pub(crate) fn content_of(
     }))
 }
 
-// What a document gives. A bad kind or version is refused before any memory is asked for.
+// What a document gives. A bad kind or version is refused before anything is allocated.
 #[tactic(auto, using(crate::proofs::Faults::fault_by_kind), unfolding(crate::specs::Document::stands))]
 pub(crate) fn document_of(
     alloc: Global,

@@ -11,18 +11,18 @@ use std::alloc::{AllocError, AllocFailed};
 use std::error::Error;
 use std::fmt;
 
-// Why a value was not read.
+// Why a value wasn't read.
 #[derive(Clone, Copy, Debug, Drop)]
 pub(crate) enum Trouble {
-    // The value has another shape than the format says.
+    // The value doesn't have the shape that the format says.
     Shape,
     Memory,
 }
 
-// Why the items of a list were not all read.
+// Why not all items of a list were read.
 #[derive(Clone, Copy, Debug, Drop)]
 pub(crate) enum ItemFault {
-    // The item at this place is the first that has another shape.
+    // The item at this place is the first with the wrong shape.
     Bad(usize),
     WithoutMemory,
 }
@@ -67,7 +67,7 @@ impl<T: Drop> From<AllocFailed<T>> for Trouble {
 impl Trouble {
     ghost use Rattle.rbac_manifest.specs.Lists.{item_fault};
 
-    // This trouble with the item at a place.
+    // This trouble as a fault of the item at a place.
     pub(crate) fn at(self, place: usize) -> ItemFault
         ensures { result ≡ item_fault self place }
     {
@@ -77,7 +77,7 @@ impl Trouble {
         }
     }
 
-    // This cause where the shape is wrong.
+    // The cause `refused` if the shape is wrong, otherwise out of memory.
     pub(crate) fn cause(self, refused: Cause) -> Cause
         ensures { result ≡ cause_of self refused }
     {
@@ -88,33 +88,34 @@ impl Trouble {
     }
 }
 
-/// Why a document is refused (own): M1 to M12. Within a document the least number stands. Places of
-/// rules and subjects count from 0; where the field isn't a list the place is 0.
+/// Why a document is refused (own): M1 to M12. If a document has several faults, the one with the
+/// least number is reported. Places of rules and subjects count from 0; if the field isn't a list,
+/// the place is 0.
 #[derive(Clone, Copy, Debug, Drop, PartialEq, Eq)]
 pub enum Cause {
     /// M1: the bytes of the input aren't JSON.
     NotJson,
     /// M2: the document isn't an object that says its kind, or the items of a list aren't a list.
     NotAnObject,
-    /// M3: the version is missing, isn't a text, or is one of the RBAC group that isn't read.
+    /// M3: the version is missing, isn't a text, or is a version of the RBAC group that isn't read.
     BadVersion,
-    /// M4: the metadata has no name, or another shape.
+    /// M4: the metadata has no name or has the wrong shape.
     BadMetadata,
     /// M5: the rule at this place is the first bad one.
     BadRule(usize),
-    /// M6: the role that a binding names is missing, of a wrong kind, or has another shape.
+    /// M6: the role that a binding names is missing, or has the wrong kind or the wrong shape.
     BadRoleRef,
     /// M7: the subject at this place is the first bad one.
     BadSubject(usize),
-    /// M8: the selectors of an aggregated role have another shape.
+    /// M8: the selectors of an aggregated role have the wrong shape.
     BadSelector,
-    /// M9: an API resource list has another shape.
+    /// M9: an API resource list has the wrong shape.
     BadCatalogue,
-    /// M10: a Universe document has a field of another shape.
+    /// M10: a Universe document has a field of the wrong shape.
     BadUniverse,
     /// M11: there are more than a million grants.
     TooMany,
-    /// M12: memory was refused.
+    /// M12: out of memory.
     NoMemory,
 }
 
@@ -165,7 +166,7 @@ fn from_one(place: usize) -> u128
     place as u128 + 1
 }
 
-// Why an input is refused, and which item of it, where it is a list.
+// Why an input is refused and, if the fault is that of an item in a list, which item.
 #[derive(Drop)]
 pub(crate) struct Refusal {
     pub item: Option<usize>,
@@ -214,8 +215,8 @@ impl From<ReadFault> for Refusal {
     }
 }
 
-/// The place of a document, from 0: its file, and its item where the file holds a list. A fault of
-/// the list itself has no item.
+/// The place of a document, counted from 0: its file and, if the file holds a list, its item. A
+/// fault of the list itself has no item.
 #[derive(Clone, Copy, Debug, Drop, PartialEq, Eq)]
 pub struct At {
     /// The file, in the order of the inputs.
@@ -239,8 +240,8 @@ impl fmt::Display for At {
     }
 }
 
-/// Why inputs are refused: where, and for which cause. Too many grants and out of memory have no
-/// place. It prints as `file F item I: CAUSE`, all numbers from 1.
+/// Why inputs are refused: the place and the cause. Too many grants and out of memory have no
+/// place. Prints as `file F item I: CAUSE`, with all numbers counted from 1.
 #[derive(Clone, Copy, Debug, Drop, PartialEq, Eq)]
 pub struct LoadFault {
     /// The document that is refused.
@@ -253,7 +254,7 @@ impl LoadFault {
     ghost use Rattle.std.specs.Prelude.{◌≢◌, None};
     ghost use Rattle.rbac_manifest.specs.Load.{in_file, too_many};
 
-    // A refusal of the whole file, or of an item of it. Out of memory has no place.
+    // A refusal of the whole file or of one of its items. Out of memory has no place.
     pub(crate) fn in_file(file: usize, refusal: Refusal) -> LoadFault
         ensures cause { result.cause ≡ refusal.cause }
         ensures place { refusal.cause ≢ NoMemory → result ≡ in_file file refusal }
@@ -271,7 +272,7 @@ impl LoadFault {
         }
     }
 
-    // More grants than there may be, of all inputs together.
+    // More grants than are allowed, in all inputs together.
     pub(crate) fn too_many() -> LoadFault
         ensures { result ≡ too_many }
     {
@@ -281,7 +282,7 @@ impl LoadFault {
         }
     }
 
-    // Memory was refused, somewhere.
+    // Out of memory, which has no place.
     pub(crate) fn no_memory() -> LoadFault
         ensures { result ≡ record { at = None; cause = NoMemory } }
     {

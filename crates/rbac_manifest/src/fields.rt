@@ -13,7 +13,7 @@ use rbac_terms::{Word, Words};
 use serde_json::Value;
 use std::alloc::{AllocError, Global};
 
-// The member of this name, unless it is null.
+// The member with this name, unless it is null.
 #[tactic(auto, unfolding(crate::specs::Fields::field))]
 pub(crate) fn field<'v>(value: &'v Value, name: &str) -> Option<&'v Value>
     ensures { option_map (λ v. view v.now) result ≡ field name.now (view value.now) }
@@ -24,7 +24,7 @@ pub(crate) fn field<'v>(value: &'v Value, name: &str) -> Option<&'v Value>
     }
 }
 
-// A value that is an object.
+// This value, if it is an object.
 pub(crate) fn object_in(value: &Value) -> Result<&Value, Trouble>
     ensures object { IfOk result (λ v. (v.now ≡ value.now) × (is_object (view value.now) ≡ true)) }
     ensures other { IfErr result (λ e. (e ≡ Shape) × (is_object (view value.now) ≡ false)) }
@@ -36,7 +36,7 @@ pub(crate) fn object_in(value: &Value) -> Result<&Value, Trouble>
     }
 }
 
-// The items of a list.
+// The items of a value, if it is a list.
 #[tactic(auto, using(crate::proofs::Elements::elements_of_items), unfolding(crate::specs::Fields::as_list))]
 pub(crate) fn as_list(value: &Value) -> Option<&[Value]>
     ensures { option_map (λ vs. map view vs.now) result ≡ as_list (view value.now) }
@@ -44,7 +44,7 @@ pub(crate) fn as_list(value: &Value) -> Option<&[Value]>
     value.as_array().map(|items| items.as_slice())
 }
 
-// The items of the list in a field; a missing one is empty.
+// The items of the list in a field; a missing field counts as an empty list.
 #[tactic(auto, unfolding(crate::specs::Fields::list_field))]
 pub(crate) fn list_field<'v>(value: &'v Value, name: &str) -> Option<&'v [Value]>
     ensures { option_map (λ vs. map view vs.now) result ≡ list_field name.now (view value.now) }
@@ -55,7 +55,7 @@ pub(crate) fn list_field<'v>(value: &'v Value, name: &str) -> Option<&'v [Value]
     }
 }
 
-// A copy of the text that a value is.
+// A copy of a value's text, if the value is a text.
 fn word_in(alloc: Global, value: &Value) -> Result<Word, Trouble>
     ensures { Reads result (as_str (view value.now)) }
 {
@@ -63,7 +63,7 @@ fn word_in(alloc: Global, value: &Value) -> Result<Word, Trouble>
     Ok(word_of(alloc, text)?)
 }
 
-// The texts that all of these values are.
+// The texts of these values, if all of them are texts.
 #[tactic(auto, using(crate::proofs::Texts::all_texts_at))]
 fn words_of(alloc: Global, values: &[Value]) -> Result<Words, Trouble>
     ensures { Reads result (all_texts (map view values.now)) }
@@ -72,14 +72,14 @@ fn words_of(alloc: Global, values: &[Value]) -> Result<Words, Trouble>
     Ok(Words::from_vec(words))
 }
 
-// The texts of a list of texts.
+// The texts in a list of texts.
 pub(crate) fn words_in(alloc: Global, list: &Value) -> Result<Words, Trouble>
     ensures { Reads result (option_and_then all_texts (as_list (view list.now))) }
 {
     words_of(alloc, as_list(list).ok_or(Trouble::Shape)?)
 }
 
-// The texts of a field that is a list of texts; a missing one is empty.
+// The texts in a field that is a list of texts; a missing field counts as an empty list.
 #[tactic(auto, unfolding(crate::specs::Fields::texts_field))]
 pub(crate) fn words_field(alloc: Global, value: &Value, name: &str) -> Result<Words, Trouble>
     ensures { Reads result (texts_field name.now (view value.now)) }
@@ -88,7 +88,7 @@ pub(crate) fn words_field(alloc: Global, value: &Value, name: &str) -> Result<Wo
     words_of(alloc, values)
 }
 
-// The text in a field; a missing one is empty.
+// The text in a field; a missing field counts as an empty text.
 #[tactic(auto, unfolding(crate::specs::Fields::text_at))]
 pub(crate) fn text_field<'v>(value: &'v Value, name: &str) -> Option<&'v str>
     ensures { option_map (λ s. s.now) result ≡ text_at name.now (view value.now) }
@@ -99,7 +99,7 @@ pub(crate) fn text_field<'v>(value: &'v Value, name: &str) -> Option<&'v str>
     }
 }
 
-// The field `name`, a text that isn't empty.
+// The field `name`, if it is a text that isn't empty.
 #[tactic(auto, unfolding(crate::specs::Fields::name_at))]
 pub(crate) fn name_of(value: &Value) -> Option<&str>
     ensures { option_map (λ s. s.now) result ≡ name_at (view value.now) }
@@ -117,7 +117,7 @@ pub(crate) fn word_of(alloc: Global, text: &str) -> Result<Word, AllocError>
     Word::from_slice(alloc, text.as_bytes())
 }
 
-// The yes or no in a field; a missing one is as this says.
+// The boolean in a field, or `missing` if the field is missing.
 #[tactic(auto, unfolding(crate::specs::Fields::flag_at))]
 pub(crate) fn flag_field(value: &Value, name: &str, missing: bool) -> Result<bool, Trouble>
     ensures { Reads result (flag_at missing name.now (view value.now)) }
@@ -128,7 +128,7 @@ pub(crate) fn flag_field(value: &Value, name: &str, missing: bool) -> Result<boo
     }
 }
 
-// A copy of the text in a field; a missing one is empty.
+// A copy of the text in a field; a missing field counts as an empty text.
 pub(crate) fn word_field(alloc: Global, value: &Value, name: &str) -> Result<Word, Trouble>
     ensures { Reads result (text_at name.now (view value.now)) }
 {

@@ -1,4 +1,4 @@
-//! What one input gives, which is a document or a list of documents.
+//! What one input gives. An input is a document or a list of documents.
 
 ghost use Rattle.std.specs.Prelude.{◌≡◌, ◌≢◌, map, option_map, codes, OnOk, IfErr, None, Some};
 ghost use Rattle.rbac_manifest.specs.Fields.{list_field, list_or_empty, present};
@@ -14,7 +14,7 @@ use crate::kind::{Implied, Kind, kind_of};
 use serde_json::Value;
 use std::alloc::{AllocError, Global};
 
-// The items of a list, moved out of it: none where they are missing.
+// The items of a list, moved out of it; missing items count as an empty list.
 #[tactic(auto, unfolding(crate::specs::Fields::list_field, crate::specs::Fields::field))]
 fn take_items(alloc: Global, document: &mut Value) -> Option<Vec<Value>>
     ensures { option_map (λ items. map view items.items) result ≡ list_field (codes "items") (view document.old) }
@@ -25,7 +25,7 @@ fn take_items(alloc: Global, document: &mut Value) -> Option<Vec<Value>>
     }
 }
 
-// The items of this value, where it is a list; none where it is null.
+// The items of this value, if it is a list; null counts as an empty list.
 fn list_from(alloc: Global, value: Value) -> Option<Vec<Value>>
     ensures { option_map (λ items. map view items.items) result ≡ list_or_empty (present (view value)) }
 {
@@ -39,8 +39,8 @@ fn list_from(alloc: Global, value: Value) -> Option<Vec<Value>>
     }
 }
 
-// Takes over what the items of a list give. The first item with a fault decides. Each item is let
-// go once it is read, while it is still at hand.
+// Adds what the items of a list give to `contents`. Fails at the first item with a fault. Each item
+// is freed once it is read, while it is still in the processor's cache.
 #[tactic(auto, using(crate::proofs::ContentsLemmas::contents_more))]
 fn items_into(
     alloc: Global,
@@ -67,15 +67,15 @@ fn items_into(
     Ok(())
 }
 
-// Lets the allocator join what was freed. glibc keeps small freed pieces apart until a large piece,
-// of more than 1 KiB, is asked for. Joined now, while they are in the processor's cache, the pieces
-// of an item cost a quarter of what they cost when all items are read.
+// Makes the allocator join freed pieces. glibc keeps small freed pieces apart until a large piece
+// (of more than 1 KiB) is allocated. Joining the pieces of an item now, while they are in the
+// processor's cache, costs a quarter of what it costs once all items are read.
 fn join_freed(alloc: Global) -> Result<(), AllocError> {
     let mut piece: Vec<u8> = Vec::new(alloc);
     piece.reserve(2048)
 }
 
-// Takes over what an input gives.
+// Adds what an input gives to `contents`.
 #[tactic(auto, using(crate::proofs::Faults::fault_by_kind), unfolding(crate::specs::Load::refusal_in, crate::specs::Load::contents_of_input))]
 pub(crate) fn input_into(
     alloc: Global,

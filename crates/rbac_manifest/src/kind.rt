@@ -12,7 +12,7 @@ use crate::fault::Cause;
 use crate::fields::field;
 use serde_json::Value;
 
-// The group of RBAC and what follows it.
+// The RBAC group, followed by `$rest`.
 macro_rules! rbac_group {
     ($rest:literal) => {
         concat!("rbac.authorization.k8s.io", $rest)
@@ -21,14 +21,14 @@ macro_rules! rbac_group {
 
 pub(crate) const RBAC_GROUP: &str = rbac_group!("");
 
-// The version of the group that the table names, and the older one, which is read as it.
+// The version of the RBAC group that the table names. The older `RBAC_V1BETA1` is read as this one.
 const RBAC_V1: &str = rbac_group!("/v1");
 
 const RBAC_V1BETA1: &str = rbac_group!("/v1beta1");
 
 const RBAC_PREFIX: &str = rbac_group!("/");
 
-// A pair of version and kind that is read, and what a document of it is.
+// A pair of version and kind that is read, and what a document with this pair is.
 #[derive(Clone, Copy, Drop)]
 struct Row {
     version: &'static str,
@@ -36,7 +36,7 @@ struct Row {
     means: Kind,
 }
 
-// The pairs that are read, with versions as they are read.
+// The pairs that are read, with versions as `version_read` gives them.
 const KINDS_READ: [Row; 15] = [
     Row {
         version: RBAC_V1,
@@ -115,7 +115,7 @@ const KINDS_READ: [Row; 15] = [
     },
 ];
 
-// What the list of a document says of its kind and version.
+// What a list implies about the kind and version of its documents.
 #[derive(Clone, Copy, Drop)]
 pub(crate) enum Implied {
     Nothing,
@@ -174,7 +174,7 @@ impl Implied {
     }
 }
 
-// The text of a document's kind, its own or the implied one.
+// The text of a document's kind: its own, or the implied one if its own is missing.
 #[tactic(auto, unfolding(crate::specs::Kinds::kind_at))]
 fn kind_text<'v>(document: &'v Value, implied: Implied) -> Option<&'v str>
     ensures { option_map (λ s. s.now) result ≡ kind_at implied (view document.now) }
@@ -213,8 +213,8 @@ fn asks_version(row: &Row, kind: &str) -> bool
     row.kind == kind && !matches!(row.means, Kind::ApiList)
 }
 
-// A version as it is read: v1beta1 of the RBAC group as its v1, and none where it is another one of
-// that group.
+// A version as it is read. In the RBAC group, v1beta1 is read as v1, and versions other than these
+// two give `None`.
 #[tactic(auto, unfolding(crate::specs::Kinds::version_read))]
 fn version_read(version: &str) -> Option<&str>
     ensures { option_map (λ s. s.now) result ≡ version_read version.now }
@@ -228,8 +228,8 @@ fn version_read(version: &str) -> Option<&str>
     None
 }
 
-// The text of a document's version as it is read, its own or the implied one; `v1` where the kind
-// needs none.
+// The text of a document's version as it is read: its own, or the implied one if its own is
+// missing. If both are missing, `v1` if the kind doesn't need a version.
 #[tactic(auto, unfolding(crate::specs::Kinds::version_at))]
 fn version_text<'v>(document: &'v Value, implied: Implied, kind: &str) -> Option<&'v str>
     ensures { option_map (λ s. s.now) result ≡ version_at implied kind.now (view document.now) }
@@ -256,14 +256,14 @@ fn kind_named(version: &str, kind: &str) -> Kind
     meaning_in(&rows, version, kind)
 }
 
-// Whether this is the row of that version and kind.
+// Whether this row is the one for this version and kind.
 fn is_row(row: &Row, version: &str, kind: &str) -> bool
     ensures { result ≡ is_row version.now kind.now (as_reading row.now) }
 {
     row.version == version && row.kind == kind
 }
 
-// What a document of this version and kind is by these rows.
+// What a document of this version and kind is according to these rows.
 fn meaning_in(rows: &[Row], version: &str, kind: &str) -> Kind
     ensures { result ≡ meaning_in (map as_reading rows.now) version.now kind.now }
 {
@@ -275,7 +275,7 @@ fn meaning_in(rows: &[Row], version: &str, kind: &str) -> Kind
     Kind::Other
 }
 
-// The kind of a document, whose kind and version texts are sound. Takes no memory.
+// The kind of a document, if its kind and version texts are sound. Doesn't allocate.
 #[tactic(auto, unfolding(crate::specs::Walk::bad_header, crate::specs::Document::not_an_object, crate::specs::Document::bad_version, crate::specs::Kinds::kind_of))]
 pub(crate) fn kind_of(document: &Value, implied: Implied) -> Result<Kind, Cause>
     ensures loads { Loads result (bad_header implied (view document.now)) (kind_of implied (view document.now)) }

@@ -10,7 +10,7 @@ use rbac_terms::{Labels, Word};
 use serde_json::{Map, Value};
 use std::alloc::Global;
 
-// The label of a member.
+// The label that a member gives.
 fn label_of(alloc: Global, key: &str, value: &Value) -> Result<(Word, Word), Trouble>
     ensures { Reads result (label_of key.now (view value.now)) }
 {
@@ -20,7 +20,7 @@ fn label_of(alloc: Global, key: &str, value: &Value) -> Result<(Word, Word), Tro
     Ok((key, value))
 }
 
-// The labels of all members.
+// The labels that all members give.
 fn labels_of(alloc: Global, members: &Map<String, Value>) -> Result<Labels, Trouble>
     ensures { Reads result (entry_labels members.now.entries) }
 {
@@ -31,7 +31,7 @@ fn labels_of(alloc: Global, members: &Map<String, Value>) -> Result<Labels, Trou
     Ok(Labels::from_vec(labels))
 }
 
-// The labels in a field; a missing one is empty.
+// The labels in a field; a missing field counts as no labels.
 #[tactic(auto, using(crate::proofs::Members::labels_of_entries), unfolding(crate::specs::Label::labels_at))]
 pub(crate) fn labels_field(alloc: Global, value: &Value, name: &str) -> Result<Labels, Trouble>
     ensures { Reads result (labels_at name.now (view value.now)) }

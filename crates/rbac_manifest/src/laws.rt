@@ -7,8 +7,8 @@ ghost use Rattle.rbac_manifest.specs.Load.{LoadedView, IsLoaded, HasFault};
 
 use rbac_model::{grants_are_one_list, kept_objects_are_one};
 
-/// Inputs that are loaded have no fault. So they alone decide whether `load` accepts them, out of
-/// memory aside (own).
+/// Inputs that are loaded have no fault. So the inputs alone decide whether `load` accepts them,
+/// unless it runs out of memory (own).
 pub fn loaded_inputs_have_no_fault()
     ensures { (inputs : List (List ℕ)) (l : LoadedView) (f : LoadFault) → IsLoaded inputs l → HasFault inputs f → ⊥ }
 {
@@ -16,7 +16,7 @@ pub fn loaded_inputs_have_no_fault()
     grants_are_one_list();
 }
 
-/// Inputs determine what they are loaded as, so that whoever loads the same inputs answers over the
+/// Inputs determine what they are loaded as, so everyone who loads the same inputs answers over the
 /// same policy, catalogue and lists (own).
 pub fn loaded_inputs_are_one()
     ensures { (inputs : List (List ℕ)) (l others : LoadedView) → IsLoaded inputs l → IsLoaded inputs others → l ≡ others }
@@ -25,7 +25,8 @@ pub fn loaded_inputs_are_one()
     grants_are_one_list();
 }
 
-/// The fault of inputs is one, so that whoever refuses the same inputs names the same fault (own).
+/// Inputs have at most one fault, so everyone who refuses the same inputs names the same fault
+/// (own).
 pub fn load_faults_are_one()
     ensures { (inputs : List (List ℕ)) (f g : LoadFault) → HasFault inputs f → HasFault inputs g → f ≡ g }
 {}

@@ -1,6 +1,6 @@
-//! Kubernetes manifests in JSON, as `kubectl get -o json` and `kubectl get --raw` write them, read
-//! to the objects of the RBAC API and the policy that follows from them, to the catalogue of API
-//! resources, and to the lists that a universe is made of.
+//! Reads Kubernetes manifests in JSON, as `kubectl get -o json` and `kubectl get --raw` write them,
+//! into the objects of the RBAC API and the policy that follows from them, the catalogue of API
+//! resources, and the lists that a universe is made of.
 #![tactic(auto)]
 
 mod api_list;

@@ -1,5 +1,5 @@
 //! What an object with a list under `items` gives. Its items are read one after another, so that
-//! one of them is in memory at a time.
+//! only one of them is in memory at a time.
 
 ghost use Rattle.std.specs.Prelude.{◌≡◌, ◌≢◌, option_map, OnOk, IfOk, IfErr, IsSome, IsTrue, MatchOption, None, Some, false, if◌then◌else◌};
 ghost use Rattle.std.specs.Option.{option_to_list};
@@ -23,7 +23,7 @@ use json_list::{Items, OpenList, open_list};
 use serde_json::Value;
 use std::alloc::Global;
 
-// Reads the items that are left, so that one that can't be read is told.
+// Reads the remaining items, so that one that can't be read is reported.
 fn pass_rest(alloc: Global, items: &mut Items<'_>) -> Result<(), Refusal>
     ensures read { OnOk result (IsSome (items_ahead items.old)) }
     ensures refusal { IfErr result
@@ -35,7 +35,8 @@ fn pass_rest(alloc: Global, items: &mut Items<'_>) -> Result<(), Refusal>
     Ok(())
 }
 
-// Takes over what an item gives. A fault of it stands once the items after it were read.
+// Adds what an item gives to `contents`. A fault of the item is reported only once all items after
+// it have been read.
 fn item_into(
     alloc: Global,
     item: &Value,
@@ -63,8 +64,8 @@ fn item_into(
     }
 }
 
-// Takes over what the items of a list give. One that can't be read decides, and else the first item
-// with a fault.
+// Adds what the items of a list give to `contents`. If an item can't be read, that is the fault
+// reported, otherwise that of the first item with a fault.
 fn items_into(
     alloc: Global,
     items: &mut Items<'_>,
@@ -86,7 +87,7 @@ fn items_into(
     Err(Refusal::whole(Cause::NoMemory))
 }
 
-// What a document says of its items, where it is a list of sound kind and version.
+// What a document implies about its items, if it is a list with a sound kind and version.
 fn list_kind(document: &Value) -> Option<Implied>
     ensures { MatchOption result
         ((implied : Implied) → IsListOf implied (view document.now) → ⊥)
@@ -98,7 +99,7 @@ fn list_kind(document: &Value) -> Option<Implied>
     }
 }
 
-// Takes over what a document gives.
+// Adds what a document gives to `contents`.
 fn document_into(alloc: Global, document: &Value, contents: &mut Contents) -> Result<(), Refusal>
     ensures sound { OnOk result (fault Implied.Nothing (view document.now) ≡ None) }
     ensures contents { OnOk result (contents.new
@@ -115,8 +116,8 @@ fn document_into(alloc: Global, document: &Value, contents: &mut Contents) -> Re
     }
 }
 
-// Takes over what an object with a list under `items` gives. Where it isn't a list of documents, it
-// gives what the members beside the list say.
+// Adds what an object with a list under `items` gives to `contents`. If it isn't a list of
+// documents, it gives what its members other than the list say.
 fn open_into(alloc: Global, list: OpenList<'_>, contents: &mut Contents) -> Result<(), Refusal>
     ensures sound { OnOk result (refusal_of (option_map (with_items (members_view list.entry.others.entries))
         (items_ahead list.entry.items)) ≡ None) }
@@ -136,7 +137,7 @@ fn open_into(alloc: Global, list: OpenList<'_>, contents: &mut Contents) -> Resu
     }
 }
 
-// Takes over what a text gives, if it is an object with one list under `items`.
+// Adds what a text gives to `contents`, if it is an object with one list under `items`.
 pub(crate) fn list_into(alloc: Global, text: &str, contents: &mut Contents) -> Result<bool, Refusal>
     ensures sound { IfOk result (λ is_list. IsTrue is_list → refusal_of (read text.now) ≡ None) }
     ensures contents { IfOk result (λ is_list. contents.new ≡ (if is_list

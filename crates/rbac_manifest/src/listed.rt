@@ -10,7 +10,7 @@ use crate::fault::{ItemFault, Trouble};
 use serde_json::Value;
 use std::alloc::Global;
 
-// What all items give, each as this reads it. The first bad one decides.
+// What all items give, each read by `read`. Fails at the first bad one.
 #[tactic(auto, unfolding(crate::specs::Lists::bad_place, crate::specs::Lists::given_by))]
 pub(crate) fn all_read<T: Drop, F: Fn(&Value) -> Result<T, Trouble>>(
     alloc: Global,

@@ -1,4 +1,4 @@
-//! Inputs, read to what they give, and the policy that follows from it.
+//! Reads inputs into what they give and the policy that follows from it.
 
 ghost use Rattle.std.specs.Prelude.{◌≡◌, ◌≢◌, ◌≤◌, length, OnOk, IfOk, IfErr, IsTrue, None, Some, false, if◌then◌else◌};
 ghost use Rattle.std.specs.Str.{IsUtf8};
@@ -59,30 +59,30 @@ impl Model for Loaded {
 }
 
 impl Loaded {
-    /// The policy of the objects that are kept. Takes no memory.
+    /// The policy of the objects that are kept. Doesn't allocate.
     pub fn policy(&self) -> &Policy
         ensures { result.now ≡ self.now.policy }
     {
         &self.policy
     }
 
-    /// The objects that are kept: for each kind, namespace and name the last that was given. Takes
-    /// no memory.
+    /// The objects that are kept: for each kind, namespace and name the last one given. Doesn't
+    /// allocate.
     pub fn objects(&self) -> &Objects
         ensures { result.now ≡ self.now.policy.held }
     {
         self.policy.objects()
     }
 
-    /// The catalogue of all API resource lists (own). Takes no memory.
+    /// The catalogue of all API resource lists (own). Doesn't allocate.
     pub fn catalogue(&self) -> &Catalogue
         ensures { result.now ≡ self.now.catalogue }
     {
         &self.catalogue
     }
 
-    /// The objects of which several documents were given, in order of kind, namespace and name,
-    /// with how many earlier ones the last replaced (own). Takes no memory.
+    /// The objects given by several documents, in order of kind, namespace and name, each with how
+    /// many earlier documents the last one replaced (own). Doesn't allocate.
     pub fn replaced(&self) -> &[Replaced]
         ensures replaced { result.now ≡ self.now.replaced }
         ensures ordered { IsAscendingBy replaced_name self.now.replaced }
@@ -90,13 +90,13 @@ impl Loaded {
         self.replaced.as_slice()
     }
 
-    /// The lists that a universe is made of (own): each as the last of the Universe documents that
-    /// has it gives it, and else as it is derived from the objects that are kept, the catalogue,
-    /// and Namespace and ServiceAccount objects. They are made when asked for.
+    /// The lists that a universe is made of (own): each as given by the last Universe document that
+    /// has it, otherwise as derived from the objects that are kept, the catalogue, and Namespace
+    /// and ServiceAccount objects. They are made on each call.
     ///
     /// # Errors
     ///
-    /// Where memory was refused.
+    /// If it runs out of memory.
     pub fn lists(&self, alloc: Global) -> Result<UniverseLists, AllocError>
         ensures { IfOk result (λ lists. lists ≡ self.now.lists) }
     {
@@ -124,7 +124,7 @@ fn parse(alloc: Global, bytes: &[u8]) -> Result<Value, Cause>
     }
 }
 
-// Takes over what a file gives, if it is an object with one list under `items`.
+// Adds what a file gives to `contents`, if it is an object with one list under `items`.
 #[tactic(auto, using(crate::proofs::Json::json_in_text), unfolding(crate::specs::Load::file_refusal, crate::specs::Load::contents_of_file))]
 fn list_in(alloc: Global, bytes: &[u8], contents: &mut Contents) -> Result<bool, Refusal>
     ensures sound { IfOk result (λ is_list. IsTrue is_list → file_refusal bytes.now ≡ None) }
@@ -139,8 +139,8 @@ fn list_in(alloc: Global, bytes: &[u8], contents: &mut Contents) -> Result<bool,
     }
 }
 
-// Takes over what one file gives. What isn't an object with one list under `items` is read as a
-// whole.
+// Adds what one file gives to `contents`. A file that isn't an object with one list under `items`
+// is read as a whole.
 #[tactic(auto, unfolding(crate::specs::Load::file_refusal, crate::specs::Load::contents_of_file))]
 fn file_into(alloc: Global, bytes: &[u8], contents: &mut Contents) -> Result<(), Refusal>
     ensures sound { OnOk result (file_refusal bytes.now ≡ None) }
@@ -154,7 +154,7 @@ fn file_into(alloc: Global, bytes: &[u8], contents: &mut Contents) -> Result<(),
     input_into(alloc, value, contents)
 }
 
-// What all inputs give, in order. The first document with a fault decides.
+// What all inputs give, in order. Fails with the fault of the first document that has one.
 #[tactic(auto, using(crate::proofs::ContentsLemmas::contents_next))]
 fn contents_of(alloc: Global, inputs: &[Input]) -> Result<Contents, LoadFault>
     ensures sound { OnOk result (document_fault inputs.now ≡ None) }
@@ -171,7 +171,7 @@ fn contents_of(alloc: Global, inputs: &[Input]) -> Result<Contents, LoadFault>
     Ok(contents)
 }
 
-// The objects of which several of these documents were given.
+// The objects that several of these documents give.
 fn replaced_among(
     alloc: Global,
     objects: &[Object],
@@ -184,7 +184,7 @@ fn replaced_among(
     replaced_of(alloc, objects, namespaces, accounts).map_err(|_| LoadFault::no_memory())
 }
 
-// The policy of these objects, of each kind, namespace and name the last.
+// The policy of these objects, keeping only the last one of each kind, namespace and name.
 fn policy_of(alloc: Global, objects: Vec<Object>) -> Result<Policy, LoadFault>
     ensures kept { IfOk result (λ p. AreKept objects.items p.held) }
     ensures policy { IfOk result (λ p. IsPolicy p) }
@@ -196,7 +196,7 @@ fn policy_of(alloc: Global, objects: Vec<Object>) -> Result<Policy, LoadFault>
     Policy::resolve(alloc, held).map_err(|fault| unresolved(fault))
 }
 
-// Why the inputs are refused whose objects can't be resolved.
+// Why inputs are refused if their objects can't be resolved.
 fn unresolved(fault: ResolveFault) -> LoadFault
     ensures many { fault ≡ ResolveFault.TooMany → result ≡ too_many }
     ensures memory { fault ≡ ResolveFault.NoMemory → result ≡ record { at = None; cause = NoMemory } }
@@ -207,15 +207,16 @@ fn unresolved(fault: ResolveFault) -> LoadFault
     }
 }
 
-/// Reads inputs, in order, to what they give: the policy of their objects, of each kind, namespace
-/// and name the last (own), the catalogue of their API resource lists, what the lists of a universe
-/// are made of, and which objects were replaced. Version v1beta1 of the RBAC group is read as v1
-/// (Kubernetes API). Documents of other kinds are passed over.
+/// Reads inputs, in order, into what they give: the policy of their objects, keeping only the last
+/// one of each kind, namespace and name (own), the catalogue of their API resource lists, what the
+/// lists of a universe are made of, and which objects were replaced. Version v1beta1 of the RBAC
+/// group is read as v1 (Kubernetes API). Documents of other kinds are passed over.
 ///
 /// # Errors
 ///
-/// The fault of the first document that has one, within it the least number; after all documents
-/// M11 where there are over 1,000,000 grants. M12 where memory was refused.
+/// The fault of the first document that has one; if that has several, the one with the least
+/// number. If no document has a fault, M11 if there are over 1,000,000 grants. M12 if it runs out
+/// of memory.
 pub fn load(alloc: Global, inputs: &[Input]) -> Result<Loaded, LoadFault>
     ensures ok { IfOk result (IsLoaded inputs.now) }
     ensures fault { IfErr result (λ e. e.cause ≢ NoMemory → HasFault inputs.now e) }

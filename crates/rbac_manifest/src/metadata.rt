@@ -12,7 +12,7 @@ use rbac_terms::{Labels, Word};
 use serde_json::Value;
 use std::alloc::Global;
 
-// The name of an object, its namespace, which is empty where it is missing, and its labels.
+// The name of an object, its namespace (empty if it is missing) and its labels.
 #[derive(Drop)]
 pub(crate) struct Metadata {
     pub name: Word,

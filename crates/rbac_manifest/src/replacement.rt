@@ -1,4 +1,4 @@
-//! Which documents were replaced by later ones of their kind, namespace and name.
+//! Which documents were replaced by later ones with the same kind, namespace and name.
 
 ghost use Rattle.std.specs.Prelude.{◌≡◌, ◌++◌, IfOk, OnOk, map};
 ghost use Rattle.std.specs.List.Sorted.{IsSorted};
@@ -14,20 +14,20 @@ use std::alloc::{AllocError, Global};
 use std::cmp::Ordering;
 use std::marker::Model;
 
-/// An object of which several documents were given; the last of them is kept (own).
+/// An object given by several documents; the last of them is kept (own).
 #[derive(Debug, Drop)]
 pub struct Replaced {
-    /// Its kind, as `Role`.
+    /// Its kind, for example `Role`.
     pub kind: Word,
-    /// Its namespace, which is empty where it is cluster-scoped.
+    /// Its namespace, which is empty if it is cluster-scoped.
     pub namespace: Word,
     /// Its name.
     pub name: Word,
-    /// How many earlier documents were replaced: one at least.
+    /// How many earlier documents were replaced: at least one.
     pub earlier: usize,
 }
 
-// The kind of an object that has a name, in the order of these words.
+// The kind of an object that has a name, with the variants in the order of their words.
 #[derive(Clone, Copy, PartialEq, Eq, PartialOrd, Ord, Drop)]
 enum ObjectKind {
     ClusterRole,
@@ -145,8 +145,8 @@ impl<'a> ObjectName<'a> {
     }
 }
 
-// The objects of which several of these documents were given, with how many were replaced. Names
-// are borrowed, and sorted so that equal ones stand together: only those that are listed are
+// The objects that several of these documents give, each with how many documents were replaced.
+// Names are borrowed, and sorted so that equal ones are adjacent; only those that are listed are
 // copied.
 pub(crate) fn replaced_of(
     alloc: Global,
@@ -203,7 +203,7 @@ fn push_accounts<'a>(
     Ok(())
 }
 
-// The objects whose names stand there more than once.
+// The objects whose names occur more than once.
 fn several(alloc: Global, names: &[ObjectName]) -> Result<Vec<Replaced>, AllocError>
     requires { IsSorted name_cmp names.now }
     ensures { IfOk result (λ v. AreReplaced names.now v.items) }
@@ -215,7 +215,7 @@ fn several(alloc: Global, names: &[ObjectName]) -> Result<Vec<Replaced>, AllocEr
     Ok(replaced)
 }
 
-// Lists the object of this name, if its name stands there more than once.
+// Adds the object with this name to `replaced`, if the name occurs more than once.
 fn push_replaced(
     alloc: Global,
     replaced: &mut Vec<Replaced>,

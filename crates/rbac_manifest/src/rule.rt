@@ -15,7 +15,8 @@ use rbac_terms::{Rule, Rules};
 use serde_json::Value;
 use std::alloc::Global;
 
-// A rule is for resources or for URLs, and in a role not for URLs.
+// Whether a rule has a bad target: it must be for either resources or URLs, and in a Role not for
+// URLs.
 #[tactic(auto, unfolding(crate::specs::Rule::is_bad_target))]
 fn is_bad_target(rule: &Rule, in_role: bool) -> bool
     ensures { result ≡ is_bad_target in_role rule.now }
@@ -52,7 +53,7 @@ fn rule_of(alloc: Global, value: &Value, in_role: bool) -> Result<Rule, Trouble>
     Ok(rule)
 }
 
-// The rules that all items give. The first bad one decides.
+// The rules that all items give. Fails at the first bad one.
 fn rules_from(alloc: Global, values: &[Value], in_role: bool) -> Result<Rules, Cause>
     ensures { Loads result (option_map BadRule (bad_place (rule_at in_role) 0 (map view values.now)))
         (given_by (rule_at in_role) (map view values.now)) }

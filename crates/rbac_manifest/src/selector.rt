@@ -14,7 +14,7 @@ use rbac_terms::{Requirement, Requirements, SelectOp, Selector, Selectors, Words
 use serde_json::Value;
 use std::alloc::Global;
 
-// The operator of this name, with as many values as it takes.
+// The operator with this name, if it takes this many values.
 #[tactic(auto, unfolding(crate::specs::Label::operator_named))]
 fn operator_named(name: &str, values: &Words) -> Option<SelectOp>
     ensures { result ≡ operator_named name.now values.now }

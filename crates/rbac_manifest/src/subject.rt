@@ -71,7 +71,7 @@ fn subject_of(alloc: Global, value: &Value) -> Result<Subject, Trouble>
     subject_from(alloc, object_in(value)?)
 }
 
-// The subjects that all items give. The first bad one decides.
+// The subjects that all items give. Fails at the first bad one.
 fn subjects_from(alloc: Global, values: &[Value]) -> Result<Subjects, Cause>
     ensures { Loads result (option_map BadSubject (bad_place subject_at 0 (map view values.now)))
         (given_by subject_at (map view values.now)) }

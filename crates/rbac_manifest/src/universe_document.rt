@@ -16,7 +16,7 @@ use rbac_universe::{ListedResource, ListedResources, Principals};
 use serde_json::Value;
 use std::alloc::Global;
 
-// A principal is refused for its name, which is of the wrong shape, or because memory ran out.
+// Why a principal is refused: its name has the wrong shape, or memory ran out.
 fn trouble_of(fault: ModelFault) -> Trouble
     ensures { result ≡ trouble_of fault }
 {
@@ -26,7 +26,7 @@ fn trouble_of(fault: ModelFault) -> Trouble
     }
 }
 
-// The user of this name with the groups that an item gives.
+// The user with this name and the groups that an item gives.
 #[tactic(auto, unfolding(crate::specs::UniverseDocument::user_at))]
 fn user_of(alloc: Global, name: &Value, value: &Value) -> Result<Principal, Trouble>
     ensures { Reads result (user_at (view name.now) (view value.now)) }
@@ -36,7 +36,7 @@ fn user_of(alloc: Global, name: &Value, value: &Value) -> Result<Principal, Trou
     Principal::user(alloc, &name, &groups).map_err(trouble_of)
 }
 
-// A member of the group of this name.
+// A member of the group with this name.
 #[tactic(auto, unfolding(crate::specs::UniverseDocument::member_at))]
 fn member_of(alloc: Global, name: &Value) -> Result<Principal, Trouble>
     ensures { Reads result (member_at (view name.now)) }
@@ -70,7 +70,7 @@ fn principals_in(alloc: Global, list: &Value) -> Result<Principals, Trouble>
     Ok(Principals::from_vec(principals))
 }
 
-// The principals of a document, where it gives them.
+// The principals of a document, if it gives them.
 #[tactic(auto, unfolding(crate::specs::Fields::list_field))]
 fn principals_given(alloc: Global, document: &Value) -> Result<Option<Principals>, Trouble>
     ensures { Reads result
@@ -104,7 +104,7 @@ fn resources_in(alloc: Global, list: &Value) -> Result<ListedResources, Trouble>
     Ok(ListedResources::from_vec(resources))
 }
 
-// The resources of a document, where it gives them.
+// The resources of a document, if it gives them.
 #[tactic(auto, unfolding(crate::specs::Fields::list_field))]
 fn resources_given(alloc: Global, document: &Value) -> Result<Option<ListedResources>, Trouble>
     ensures { Reads result
@@ -115,7 +115,7 @@ fn resources_given(alloc: Global, document: &Value) -> Result<Option<ListedResou
         .transpose()
 }
 
-// The texts in a field of a document, where it gives them.
+// The texts in a field of a document, if it gives them.
 #[tactic(auto, unfolding(crate::specs::Fields::texts_field, crate::specs::Fields::list_field))]
 fn words_given(alloc: Global, document: &Value, name: &str) -> Result<Option<Words>, Trouble>
     ensures { Reads result (where_given texts_field name.now (view document.now)) }
