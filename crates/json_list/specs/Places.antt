@@ -37,7 +37,7 @@ AreOthers old others new =
     (ms : json.Members) × (j : json.Json) × (members_in old ≡ Some (ms, new)) × (values_of items_name ms ≡ j ∷ [])
     × (of_members ms no_members ≡ option_map (λ d. put items_name d others) (of_json j))
 
--- the text begins with an object that has `items` once, these members beside it, and is followed by those tokens
+-- the text begins with the brace that opens an object, and the tokens `at` are at the object's items
 abbrev pub IsAtItemsOf : List ℕ → List Token → Type 0
 IsAtItemsOf text at = (ts : List Token) × (tokens text ≡ Token.begin_object ∷ ts) × IsAtItems ts at
 

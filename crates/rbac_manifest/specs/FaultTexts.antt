@@ -6,7 +6,7 @@ use Rattle.rbac_manifest.specs.declared.fault.Cause.TheVariants.{NotJson, NotAnO
 use Rattle.rbac_manifest.specs.declared.fault.At.{At}
 use Rattle.rbac_manifest.specs.declared.fault.LoadFault.{LoadFault}
 
--- the number and name of a cause, and for a rule or a subject its place
+-- the number and name of a cause, and for a rule or a subject its place; out of memory has no number
 abbrev pub cause_text : Cause → List ℕ
 cause_text NotJson = codes "M1 not JSON"
 cause_text NotAnObject = codes "M2 not an object"

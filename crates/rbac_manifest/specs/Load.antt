@@ -139,7 +139,7 @@ all_contents inputs = flat_map contents_of_file inputs
 
 -- ---- what is loaded
 
--- what contracts see of what was loaded: a policy, a catalogue, and the lists of a universe
+-- what contracts see of what was loaded: a policy, a catalogue, the lists of a universe, and which objects were replaced
 pub record LoadedView : Type 0 where
   pub policy : PolicyView
   pub catalogue : CatalogueView

@@ -4,7 +4,7 @@ use Rattle.serde_json.specs.Data.{Data}
 use Rattle.rbac_manifest.specs.Fields.{texts_field, is_object, is_empty}
 use Rattle.rbac_terms.specs.declared.matching.Rule.{Rule}
 
--- the texts of a field, none if it is missing
+-- the texts of a field; none if it is missing, or isn't a list of texts
 abbrev pub texts : List ℕ → Data → List (List ℕ)
 texts name d = unwrap_or (texts_field name d) []
 
@@ -28,7 +28,7 @@ has_bad_field d =
     is_no_texts (codes "verbs") d || is_no_texts (codes "apiGroups") d || is_no_texts (codes "resources") d
     || is_no_texts (codes "resourceNames") d || is_no_texts (codes "nonResourceURLs") d
 
--- a rule that has no verbs, is for nothing, is for both resources and URLs, or is for URLs in a Role
+-- a rule that has no verbs, is for nothing, is for URLs and has groups, resources or object names too, or is for URLs in a Role
 unfoldable pub is_bad_target : Bool → Rule → Bool
 is_bad_target in_role r =
     is_empty r.verbs

@@ -15,8 +15,8 @@ use rbac_terms::{Rule, Rules};
 use serde_json::Value;
 use std::alloc::Global;
 
-// Whether a rule has a bad target: it must be for either resources or URLs, and in a Role not for
-// URLs.
+// Whether a rule has a bad target: it must have a verb, and be for either resources or URLs; names
+// are for resources alone, and a Role's rule isn't for URLs.
 #[tactic(auto, unfolding(crate::specs::Rule::is_bad_target))]
 fn is_bad_target(rule: &Rule, in_role: bool) -> bool
     ensures { result ≡ is_bad_target in_role rule.now }
