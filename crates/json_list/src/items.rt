@@ -48,7 +48,7 @@ impl<'a> Model for Items<'a> {
 }
 
 impl<'a> Items<'a> {
-    // The items that a reader has ahead of it, after the bracket that opens their list.
+    // The items that a reader has ahead of it, just after the bracket that opens their list.
     pub(crate) fn new(reader: Reader<'a>) -> Self
         ensures { result ≡ reader.entry }
     {

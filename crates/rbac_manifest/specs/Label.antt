@@ -28,7 +28,7 @@ abbrev pub entry_labels : List (String Global × Value) → Option (List (Text �
 entry_labels [] = Some []
 entry_labels (e ∷ es) = cons_if (label_of (string_bytes e.0) (view e.1)) (entry_labels es)
 
--- the labels that a value gives; none if it is missing
+-- the labels that a value gives; no labels if it is missing
 abbrev pub labels_or_empty : Option Data → Option (List (Text × Text))
 labels_or_empty None = Some []
 labels_or_empty (Some d) = option_and_then labels_of (as_object d)
