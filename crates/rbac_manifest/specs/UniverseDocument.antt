@@ -13,7 +13,7 @@ use Rattle.rbac_terms.specs.declared.fault.ModelFault.TheVariants.{EmptyName, Ba
 use Rattle.rbac_universe.specs.declared.lists.ListedResource.{ListedResource}
 use Rattle.rbac_lists.specs.declared.given_lists.GivenLists.{GivenLists}
 
--- why a principal is refused: its name has the wrong shape, or reading it ran out of memory
+-- why a principal or a resource is refused: its name or text has the wrong shape, or reading it ran out of memory
 abbrev pub trouble_of : ModelFault → Trouble
 trouble_of EmptyName = Shape
 trouble_of BadTarget = Shape

@@ -88,14 +88,15 @@ impl Trouble {
     }
 }
 
-/// Why a document is refused (own): M1 to M12. If a document has several faults, the one with the
-/// least number is reported. Places of rules and subjects count from 0; if the field isn't a list,
-/// the place is 0.
+/// Why inputs are refused (own): M1 to M12, of which M11 and M12 aren't about one document. If a
+/// document has several faults, the one with the least number is reported. Places of rules and
+/// subjects count from 0; if the field isn't a list, the place is 0.
 #[derive(Clone, Copy, Debug, Drop, PartialEq, Eq)]
 pub enum Cause {
     /// M1: the bytes of the input aren't JSON.
     NotJson,
-    /// M2: the document isn't an object that says its kind, or the items of a list aren't a list.
+    /// M2: the document isn't an object, its kind is missing and no list implies one, its kind
+    /// isn't a text, or the items of a list aren't a list.
     NotAnObject,
     /// M3: the version is missing, isn't a text, or is a version of the RBAC group that isn't read.
     BadVersion,
@@ -115,7 +116,7 @@ pub enum Cause {
     BadUniverse,
     /// M11: there are more than a million grants.
     TooMany,
-    /// M12: out of memory.
+    /// M12: out of memory. Its text has no number.
     NoMemory,
 }
 

@@ -185,7 +185,7 @@ fn kind_text<'v>(document: &'v Value, implied: Implied) -> Option<&'v str>
     }
 }
 
-// Whether a document of this kind is refused without a version.
+// Whether a document of this kind is refused if it has no version and no list implies one.
 #[tactic(auto, unfolding(crate::specs::Kinds::needs_version))]
 fn needs_version(kind: &str) -> bool
     ensures { result ≡ needs_version kind.now }
