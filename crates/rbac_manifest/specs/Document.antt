@@ -10,14 +10,15 @@ use Rattle.rbac_terms.specs.declared.granting.ClusterRole.{ClusterRole}
 use Rattle.rbac_terms.specs.declared.granting.Binding.{Binding}
 use Rattle.rbac_terms.specs.declared.granting.Subject.{Subject}
 use Rattle.rbac_lists.specs.declared.given_lists.Account.{Account}
-use Rattle.rbac_manifest.specs.Fields.{is_object, is_empty}
+use Rattle.rbac_manifest.specs.Fields.{field, list_field, is_object, is_empty, missing_or, given_and}
+use Rattle.rbac_manifest.specs.Lists.{first_bad}
 use Rattle.rbac_manifest.specs.Kinds.{kind_at, version_at, kind_of}
 use Rattle.rbac_manifest.specs.Role.{bad_rules, rules_in}
 use Rattle.rbac_manifest.specs.Metadata.{metadata_at}
-use Rattle.rbac_manifest.specs.Label.{aggregation_at}
-use Rattle.rbac_manifest.specs.Binding.{role_ref_at, bad_subjects, subjects_in}
-use Rattle.rbac_manifest.specs.ApiList.{entries_at}
-use Rattle.rbac_manifest.specs.UniverseDocument.{given_lists_at}
+use Rattle.rbac_manifest.specs.Label.{is_bad_aggregation, aggregation_at}
+use Rattle.rbac_manifest.specs.Binding.{is_bad_role_ref, is_bad_subject, role_ref_at, subjects_in}
+use Rattle.rbac_manifest.specs.ApiList.{is_bad_api_list, entries_at}
+use Rattle.rbac_manifest.specs.UniverseDocument.{is_bad_universe, given_lists_at}
 use Rattle.rbac_manifest.specs.declared.metadata.Metadata.{Metadata}
 use Rattle.rbac_manifest.specs.declared.content.Content.{Content}
 use Rattle.rbac_manifest.specs.declared.content.Content.TheVariants as contents
@@ -25,7 +26,7 @@ use Rattle.rbac_manifest.specs.declared.kind.Kind.{Kind}
 use Rattle.rbac_manifest.specs.declared.kind.Kind.TheVariants as kinds
 use Rattle.rbac_manifest.specs.declared.kind.Implied.{Implied}
 use Rattle.rbac_manifest.specs.declared.fault.Cause.{Cause}
-use Rattle.rbac_manifest.specs.declared.fault.Cause.TheVariants.{NotAnObject, BadVersion, BadMetadata, BadRoleRef, BadSelector, BadCatalogue, BadUniverse}
+use Rattle.rbac_manifest.specs.declared.fault.Cause.TheVariants.{NotAnObject, BadVersion, BadMetadata, BadRoleRef, BadSubject, BadSelector, BadCatalogue, BadUniverse}
 
 -- ---- the refusals by number: each row is a condition and its cause, by the kind of the document
 
@@ -74,31 +75,39 @@ rules_row kinds.Role d = bad_rules true d
 rules_row kinds.ClusterRole d = bad_rules false d
 rules_row kind d = None
 
--- M6: the role that a binding names is bad; only a RoleBinding may name a Role
+-- M6: the reference of a binding is missing or bad
+abbrev pub bad_role_ref : Bool → Data → Option Cause
+bad_role_ref in_namespace d = when (missing_or (is_bad_role_ref in_namespace) (field (codes "roleRef") d)) BadRoleRef
+
+-- M6: only a RoleBinding may name a Role
 abbrev pub role_ref_row : Kind → Data → Option Cause
-role_ref_row kinds.RoleBinding d = when (is_none (role_ref_at true d)) BadRoleRef
-role_ref_row kinds.ClusterRoleBinding d = when (is_none (role_ref_at false d)) BadRoleRef
+role_ref_row kinds.RoleBinding d = bad_role_ref true d
+role_ref_row kinds.ClusterRoleBinding d = bad_role_ref false d
 role_ref_row kind d = None
 
--- M7: the first bad subject of a binding
+-- M7: the first bad subject of a binding, with its place
+abbrev pub bad_subject : Data → Option Cause
+bad_subject d = option_map BadSubject (first_bad is_bad_subject (list_field (codes "subjects") d))
+
+-- M7: both kinds of binding have subjects
 abbrev pub subjects_row : Kind → Data → Option Cause
-subjects_row kinds.RoleBinding d = bad_subjects d
-subjects_row kinds.ClusterRoleBinding d = bad_subjects d
+subjects_row kinds.RoleBinding d = bad_subject d
+subjects_row kinds.ClusterRoleBinding d = bad_subject d
 subjects_row kind d = None
 
--- M8: the aggregation rule of a ClusterRole is bad
+-- M8: the aggregation rule of a ClusterRole is there and bad
 abbrev pub selector_row : Kind → Data → Option Cause
-selector_row kinds.ClusterRole d = when (is_none (aggregation_at d)) BadSelector
+selector_row kinds.ClusterRole d = when (given_and is_bad_aggregation (field (codes "aggregationRule") d)) BadSelector
 selector_row kind d = None
 
 -- M9: an API resource list is bad
 abbrev pub catalogue_row : Kind → Data → Option Cause
-catalogue_row kinds.ApiList d = when (is_none (entries_at d)) BadCatalogue
+catalogue_row kinds.ApiList d = when (is_bad_api_list d) BadCatalogue
 catalogue_row kind d = None
 
 -- M10: a Universe document is bad
 abbrev pub universe_row : Kind → Data → Option Cause
-universe_row kinds.Universe d = when (is_none (given_lists_at d)) BadUniverse
+universe_row kinds.Universe d = when (is_bad_universe d) BadUniverse
 universe_row kind d = None
 
 -- why a document is refused, if it is: the lowest number whose condition holds (own)

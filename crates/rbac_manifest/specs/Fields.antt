@@ -1,5 +1,5 @@
 -- What a JSON value says in its fields. A field whose value is null counts as missing (own).
-use Rattle.std.specs.Prelude.{ℕ, ◌==◌, Bool, length, List, [], ◌∷◌, map, Option, Some, None, option_map, option_and_then, unwrap_or, is_some, if◌then◌else◌, codes}
+use Rattle.std.specs.Prelude.{ℕ, ◌==◌, ◌||◌, Bool, true, false, length, List, [], ◌∷◌, map, Option, Some, None, option_map, option_and_then, unwrap_or, is_none, is_some, if◌then◌else◌, codes}
 use Rattle.std.specs.List.{list_all}
 use Rattle.serde_json.specs.Data.{Data, null, boolean, number, string, array, object, Items, no_items, item}
 use Rattle.serde_json.specs.Find.{get, as_bool, as_str, as_array, as_object}
@@ -90,3 +90,41 @@ flag_or missing (Some d) = as_bool d
 -- the yes or no in a field
 unfoldable pub flag_at : Bool → List ℕ → Data → Option Bool
 flag_at missing name d = flag_or missing (field name d)
+
+-- ---- conditions
+
+-- one of these conditions holds
+abbrev pub any_of : List Bool → Bool
+any_of [] = false
+any_of (b ∷ []) = b
+any_of (b ∷ c ∷ bs) = b || any_of (c ∷ bs)
+
+-- a value is missing, or it is bad
+abbrev pub missing_or : (Data → Bool) → Option Data → Bool
+missing_or is_bad None = true
+missing_or is_bad (Some d) = is_bad d
+
+-- a value is there, and it is bad
+abbrev pub given_and : (Data → Bool) → Option Data → Bool
+given_and is_bad None = false
+given_and is_bad (Some d) = is_bad d
+
+-- a field is there but isn't a text
+abbrev pub is_no_text : List ℕ → Data → Bool
+is_no_text name d = is_none (text_at name d)
+
+-- the text of a field; empty if it is missing, or isn't a text
+abbrev pub text : List ℕ → Data → List ℕ
+text name d = unwrap_or (text_at name d) []
+
+-- a field is there but isn't a list of texts
+abbrev pub is_no_texts : List ℕ → Data → Bool
+is_no_texts name d = is_none (texts_field name d)
+
+-- the texts of a field; none if it is missing, or isn't a list of texts
+abbrev pub texts : List ℕ → Data → List (List ℕ)
+texts name d = unwrap_or (texts_field name d) []
+
+-- a field is there but isn't a yes or no
+abbrev pub is_no_flag : List ℕ → Data → Bool
+is_no_flag name d = given_and (λ flag. is_none (as_bool flag)) (field name d)

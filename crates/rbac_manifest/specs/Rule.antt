@@ -1,16 +1,8 @@
 -- The rule that an object gives, and which rules are bad (Using RBAC Authorization, Role and ClusterRole).
-use Rattle.std.specs.Prelude.{ℕ, ◌||◌, ◌&&◌, Bool, not, List, [], codes, Option, Some, None, unwrap_or, is_none, if◌then◌else◌}
+use Rattle.std.specs.Prelude.{◌||◌, ◌&&◌, Bool, not, codes, Option, Some, None, if◌then◌else◌}
 use Rattle.serde_json.specs.Data.{Data}
-use Rattle.rbac_manifest.specs.Fields.{texts_field, is_object, is_empty}
+use Rattle.rbac_manifest.specs.Fields.{texts, is_no_texts, is_object, is_empty}
 use Rattle.rbac_terms.specs.declared.matching.Rule.{Rule}
-
--- the texts of a field; none if it is missing, or isn't a list of texts
-abbrev pub texts : List ℕ → Data → List (List ℕ)
-texts name d = unwrap_or (texts_field name d) []
-
--- a field is there but isn't a list of texts
-abbrev pub is_no_texts : List ℕ → Data → Bool
-is_no_texts name d = is_none (texts_field name d)
 
 -- the rule that an object's fields give
 abbrev pub rule_in : Data → Rule

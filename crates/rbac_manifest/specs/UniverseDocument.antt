@@ -1,9 +1,9 @@
 -- The Universe document (own).
-use Rattle.std.specs.Prelude.{true, List, codes, Option, Some, None, option_map, is_none, if◌then◌else◌}
+use Rattle.std.specs.Prelude.{◌&&◌, Bool, true, not, List, [], ◌∷◌, codes, Option, Some, None, option_map, is_none, is_some, if◌then◌else◌}
 use Rattle.serde_json.specs.Data.{Data}
 use Rattle.serde_json.specs.Find.{as_str}
-use Rattle.rbac_manifest.specs.Fields.{◌>>=◌, field, list_field, texts_field, text_at, flag_at, non_empty}
-use Rattle.rbac_manifest.specs.Lists.{all_at}
+use Rattle.rbac_manifest.specs.Fields.{◌>>=◌, field, list_field, texts_field, text_at, flag_at, is_text, text_in, is_empty, non_empty, given_and, is_no_text, is_no_texts, is_no_flag, any_of}
+use Rattle.rbac_manifest.specs.Lists.{all_at, is_bad_list}
 use Rattle.rbac_manifest.specs.declared.fault.Trouble.{Trouble}
 use Rattle.rbac_manifest.specs.declared.fault.Trouble.TheVariants.{Shape, Memory}
 use Rattle.rbac_terms.specs.Text.{Text}
@@ -46,6 +46,26 @@ principal_by user group groups d = None
 unfoldable pub principal_at : Data → Option Who
 principal_at d = principal_by (field (codes "user") d) (field (codes "group") d) (field (codes "groups") d) d
 
+-- a name is bad if it isn't a text or is empty
+abbrev pub is_bad_name : Data → Bool
+is_bad_name d = is_empty (text_in d)
+
+-- a field is there
+abbrev pub has : Text → Data → Bool
+has name d = is_some (field name d)
+
+-- a principal is bad if it has neither a user nor a group, or both, if it has groups beside a group, if its user or group
+-- isn't a text or is empty, or if its groups aren't a list of texts
+unfoldable pub is_bad_principal : Data → Bool
+is_bad_principal p = any_of (
+    (not (has (codes "user") p) && not (has (codes "group") p))
+    ∷ (has (codes "user") p && has (codes "group") p)
+    ∷ (has (codes "group") p && has (codes "groups") p)
+    ∷ given_and is_bad_name (field (codes "user") p)
+    ∷ given_and is_bad_name (field (codes "group") p)
+    ∷ is_no_texts (codes "groups") p
+    ∷ [])
+
 -- ---- resources
 
 -- the resource that an item gives, unless it is bad; its text must be there, a missing group is the core group, and it is namespaced unless it says otherwise
@@ -56,6 +76,14 @@ resource_at d =
     text_at (codes "group") d >>= λ group.
     flag_at true (codes "namespaced") d >>= λ namespaced.
     Some (record { group = group; text = text; namespaced = namespaced })
+
+-- a resource is bad if its text is missing or isn't a text, or if another field has another shape
+unfoldable pub is_bad_resource : Data → Bool
+is_bad_resource r = any_of (
+    not (given_and is_text (field (codes "resource") r))
+    ∷ is_no_text (codes "group") r
+    ∷ is_no_flag (codes "namespaced") r
+    ∷ [])
 
 -- ---- the document
 
@@ -77,3 +105,15 @@ given_lists_at d =
     where_given texts_field (codes "names") d >>= λ names.
     where_given texts_field (codes "urls") d >>= λ urls.
     Some (record { principals = principals; namespaces = namespaces; verbs = verbs; resources = resources; names = names; urls = urls })
+
+-- a Universe document is bad if its principals or resources aren't a list, if one of them is bad, or if another field
+-- isn't a list of texts
+unfoldable pub is_bad_universe : Data → Bool
+is_bad_universe d = any_of (
+    is_bad_list is_bad_principal (list_field (codes "principals") d)
+    ∷ is_no_texts (codes "namespaces") d
+    ∷ is_no_texts (codes "verbs") d
+    ∷ is_bad_list is_bad_resource (list_field (codes "resources") d)
+    ∷ is_no_texts (codes "names") d
+    ∷ is_no_texts (codes "urls") d
+    ∷ [])
