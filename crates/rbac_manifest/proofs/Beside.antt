@@ -4,17 +4,15 @@ use Rattle.std.specs.Str.{bytes_eq}
 use Rattle.serde_json.specs.Data.{array, object, Items, Members}
 use Rattle.serde_json.proofs.Views.{get_member-put, get_member-put_other}
 use Rattle.json_list.specs.List.{items_name, with_items}
-use Rattle.rbac_manifest.proofs.Faults.{fault_by_kind}
 use Rattle.rbac_manifest.specs.Fields.{elements, field, present, as_list, list_field, list_or_empty, all_texts, texts_field, text_at, text_or_empty}
 use Rattle.rbac_manifest.specs.Kinds.{kind_at, version_at, kind_of}
 use Rattle.rbac_manifest.specs.Metadata.{metadata_from, metadata_at}
-use Rattle.rbac_manifest.specs.Role.{bad_rules, rules_in}
+use Rattle.rbac_manifest.specs.Role.{rules_in}
 use Rattle.rbac_manifest.specs.Label.{aggregation_of, aggregation_at}
-use Rattle.rbac_manifest.specs.Binding.{role_ref_at, bad_subjects, subjects_in}
-use Rattle.rbac_manifest.specs.ApiList.{entries_at}
-use Rattle.rbac_manifest.specs.UniverseDocument.{given_lists_at}
-use Rattle.rbac_manifest.specs.Document.{fault, first_of, not_an_object, bad_version, role_in, cluster_role_in, binding_in, content_in}
-use Rattle.rbac_manifest.specs.Walk.{bad_header, bad_body, bad_role, bad_cluster_role, bad_binding}
+use Rattle.rbac_manifest.specs.Binding.{role_ref_at, subjects_in}
+use Rattle.rbac_manifest.specs.ApiList.{is_bad_api_list, entries_at}
+use Rattle.rbac_manifest.specs.UniverseDocument.{is_bad_universe, given_lists_at}
+use Rattle.rbac_manifest.specs.Document.{fault, first_of, not_an_object, bad_version, bad_metadata, bad_rules, bad_role_ref, bad_subjects, bad_selector, bad_catalogue, bad_universe, bad_header, refusals, bad_body, role_in, cluster_role_in, binding_in, content_in}
 use Rattle.rbac_manifest.specs.declared.kind.Kind.{Kind}
 use Rattle.rbac_manifest.specs.declared.kind.Kind.TheVariants as kinds
 use Rattle.rbac_manifest.specs.declared.kind.Implied.TheVariants as lists
@@ -67,6 +65,9 @@ same_header ms ds = rw (same_kind_text ms ds, same_version _ ms ds) refl
 -- ---- the parts of a document
 
 module _ (ms : Members) (ds : Items) where
+  same_bad_metadata : bad_metadata (with_items ms ds) ≡ bad_metadata (object ms)
+  same_bad_metadata = rw (other_field (codes "metadata") ms ds refl) refl
+
   same_metadata : metadata_at (with_items ms ds) ≡ metadata_at (object ms)
   unfolding metadata_at
   same_metadata = ap (option_and_then metadata_from) (other_field (codes "metadata") ms ds refl)
@@ -78,6 +79,9 @@ module _ (ms : Members) (ds : Items) where
   same_rules : (in_role : Bool) → rules_in in_role (with_items ms ds) ≡ rules_in in_role (object ms)
   unfolding rules_in
   same_rules in_role = rw (other_list (codes "rules") ms ds refl) refl
+
+  same_bad_role_ref : (in_namespace : Bool) → bad_role_ref in_namespace (with_items ms ds) ≡ bad_role_ref in_namespace (object ms)
+  same_bad_role_ref in_namespace = rw (other_field (codes "roleRef") ms ds refl) refl
 
   same_role_ref : (in_namespace : Bool) → role_ref_at in_namespace (with_items ms ds) ≡ role_ref_at in_namespace (object ms)
   unfolding role_ref_at
@@ -91,13 +95,31 @@ module _ (ms : Members) (ds : Items) where
   unfolding subjects_in
   same_subjects = rw (other_list (codes "subjects") ms ds refl) refl
 
+  same_bad_selector : bad_selector (with_items ms ds) ≡ bad_selector (object ms)
+  same_bad_selector = rw (other_field (codes "aggregationRule") ms ds refl) refl
+
   same_aggregation : aggregation_at (with_items ms ds) ≡ aggregation_at (object ms)
   unfolding aggregation_at
   same_aggregation = ap aggregation_of (other_field (codes "aggregationRule") ms ds refl)
 
+  same_bad_catalogue : bad_catalogue (with_items ms ds) ≡ bad_catalogue (object ms)
+  unfolding is_bad_api_list
+  same_bad_catalogue = rw (other_text (codes "groupVersion") ms ds refl, other_list (codes "resources") ms ds refl) refl
+
   same_entries : entries_at (with_items ms ds) ≡ entries_at (object ms)
   unfolding entries_at
   same_entries = rw (other_text (codes "groupVersion") ms ds refl, other_list (codes "resources") ms ds refl) refl
+
+  same_bad_universe : bad_universe (with_items ms ds) ≡ bad_universe (object ms)
+  unfolding is_bad_universe
+  same_bad_universe = rw (
+    other_list (codes "principals") ms ds refl,
+    other_texts (codes "namespaces") ms ds refl,
+    other_texts (codes "verbs") ms ds refl,
+    other_list (codes "resources") ms ds refl,
+    other_texts (codes "names") ms ds refl,
+    other_texts (codes "urls") ms ds refl,
+  ) refl
 
   same_given_lists : given_lists_at (with_items ms ds) ≡ given_lists_at (object ms)
   unfolding given_lists_at
@@ -118,24 +140,23 @@ module _ (ms : Members) (ds : Items) where
 
   -- ---- the whole document
 
-  same_bad_body : (k : Kind) → bad_body k (with_items ms ds) ≡ bad_body k (object ms)
-  unfolding bad_role bad_cluster_role bad_binding
-  same_bad_body kinds.Role = rw (same_metadata, same_bad_rules true) refl
-  same_bad_body kinds.ClusterRole = rw (same_metadata, same_bad_rules false, same_aggregation) refl
-  same_bad_body kinds.RoleBinding = rw (same_metadata, same_role_ref true, same_bad_subjects) refl
-  same_bad_body kinds.ClusterRoleBinding = rw (same_metadata, same_role_ref false, same_bad_subjects) refl
-  same_bad_body kinds.Namespace = rw (same_metadata) refl
-  same_bad_body kinds.ServiceAccount = rw (same_metadata) refl
-  same_bad_body kinds.ApiList = rw (same_entries) refl
-  same_bad_body kinds.Universe = rw (same_given_lists) refl
-  same_bad_body (kinds.List implied) = refl
-  same_bad_body kinds.Other = refl
+  same_refusals : (k : Kind) → refusals k (with_items ms ds) ≡ refusals k (object ms)
+  same_refusals kinds.Role = rw (same_bad_metadata, same_bad_rules true) refl
+  same_refusals kinds.ClusterRole = rw (same_bad_metadata, same_bad_rules false, same_bad_selector) refl
+  same_refusals kinds.RoleBinding = rw (same_bad_metadata, same_bad_role_ref true, same_bad_subjects) refl
+  same_refusals kinds.ClusterRoleBinding = rw (same_bad_metadata, same_bad_role_ref false, same_bad_subjects) refl
+  same_refusals kinds.Namespace = rw (same_bad_metadata) refl
+  same_refusals kinds.ServiceAccount = rw (same_bad_metadata) refl
+  same_refusals kinds.ApiList = rw (same_bad_catalogue) refl
+  same_refusals kinds.Universe = rw (same_bad_universe) refl
+  same_refusals (kinds.List implied) = refl
+  same_refusals kinds.Other = refl
 
   pub same_fault : fault lists.Nothing (with_items ms ds) ≡ fault lists.Nothing (object ms)
+  unfolding fault
   same_fault =
-      fault_by_kind lists.Nothing (with_items ms ds)
-      ∙ ap₂ (λ h b. first_of (h ∷ b ∷ [])) (same_header ms ds) (ap (λ k. bad_body k (with_items ms ds)) (same_kind ms ds) ∙ same_bad_body (kind_of lists.Nothing (object ms)))
-      ∙ sym (fault_by_kind lists.Nothing (object ms))
+      ap₂ (λ h b. first_of (h ∷ b ∷ [])) (same_header ms ds)
+      (ap (λ k. bad_body k (with_items ms ds)) (same_kind ms ds) ∙ ap first_of (same_refusals (kind_of lists.Nothing (object ms))))
 
   pub same_content : (k : Kind) → content_in k (with_items ms ds) ≡ content_in k (object ms)
   unfolding role_in cluster_role_in binding_in

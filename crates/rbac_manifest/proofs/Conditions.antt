@@ -7,7 +7,9 @@ use Rattle.serde_json.specs.Data.{Data}
 use Rattle.serde_json.specs.Find.{as_bool, as_str}
 use Rattle.rbac_terms.specs.Text.{Text}
 use Rattle.rbac_manifest.specs.Fields.{◌>>=◌, field, list_field, all_texts, texts_field, text_at, name_at, flag_or, flag_at, is_text, is_object, is_empty, non_empty, missing_or, given_and, text, texts, is_no_text, is_no_texts, is_no_flag, any_of}
-use Rattle.rbac_manifest.specs.Lists.{bad_place, bad_item, cons_if, all_at, is_bad_list, first_bad}
+use Rattle.rbac_manifest.specs.Lists.{bad_place, cons_if, all_at, is_bad_list}
+use Rattle.rbac_manifest.specs.Metadata.{is_bad_metadata, metadata_in, metadata_from, metadata_at}
+use Rattle.rbac_manifest.specs.Rule.{rule_in, is_bad_rule, rule_at}
 use Rattle.rbac_manifest.specs.Binding.{is_rbac_group, role_named, role_ref_from, role_ref_at, is_bad_role_ref, subject_named, subject_from, subject_at, is_bad_subject}
 use Rattle.rbac_manifest.specs.Label.{labels_at, operator_named, requirement_from, requirement_at, selector_from, selector_at, selectors_from, aggregation_of, aggregation_at, is_bad_requirement, is_bad_selector, is_bad_aggregation}
 use Rattle.rbac_manifest.specs.ApiList.{parts, group_by, are_one_or_two, group_of, resource_name_at, entry_at, entries_at, is_bad_group_version, is_bad_entry, is_bad_api_list}
@@ -94,10 +96,9 @@ module _ {A : Type 0} (read : Data → Option A) (is_bad : Data → Bool) (each 
   place_is i [] = refl
   place_is i (d ∷ ds) = ap₂ (λ b rest. cond b (Some i) rest) (each d) (place_is (i + 1) ds)
 
-  first_is : (o : Option (List Data)) → bad_item read o ≡ first_bad is_bad o
+  first_is : (ds : List Data) → bad_place read 0 ds ≡ position_from is_bad 0 ds
   unfolding bad_place
-  first_is None = refl
-  first_is (Some ds) = place_is 0 ds
+  first_is ds = place_is 0 ds
 
   any_is : (ds : List Data) → is_none (all_at read ds) ≡ list_any is_bad ds
   any_is [] = refl
@@ -110,6 +111,25 @@ module _ {A : Type 0} (read : Data → Option A) (is_bad : Data → Bool) (each 
   list_and_then_is : (o : Option (List Data)) → is_none (option_and_then (all_at read) o) ≡ is_bad_list is_bad o
   list_and_then_is None = refl
   list_and_then_is (Some ds) = any_is ds
+
+-- ---- M4
+
+metadata_from_is : (m : Data) → is_none (metadata_from m) ≡ is_bad_metadata m
+unfolding metadata_from
+metadata_from_is m = none_if (is_bad_metadata m) (metadata_in m)
+
+pub metadata_is : (d : Data) → missing_or is_bad_metadata (field (codes "metadata") d) ≡ is_none (metadata_at d)
+unfolding metadata_at
+metadata_is d = sym (missing_is metadata_from is_bad_metadata metadata_from_is (field (codes "metadata") d))
+
+-- ---- M5
+
+rule_is : (in_role : Bool) (r : Data) → is_none (rule_at in_role r) ≡ is_bad_rule in_role r
+unfolding rule_at
+rule_is in_role r = none_if (is_bad_rule in_role r) (rule_in r)
+
+pub rules_are : (in_role : Bool) (ds : List Data) → bad_place (rule_at in_role) 0 ds ≡ position_from (is_bad_rule in_role) 0 ds
+rules_are in_role ds = first_is (rule_at in_role) (is_bad_rule in_role) (rule_is in_role) ds
 
 -- ---- M6
 
@@ -131,9 +151,9 @@ bad_role_ref_from in_namespace r =
     ∙ or_is (no_name (text_at (codes "name") r))
     (no_role (is_rbac_group group) (bytes_eq kind (codes "ClusterRole")) in_namespace (bytes_eq kind (codes "Role")) _ _))))
 
-pub role_ref_is : (in_namespace : Bool) (d : Data) → is_none (role_ref_at in_namespace d) ≡ missing_or (is_bad_role_ref in_namespace) (field (codes "roleRef") d)
+pub role_ref_is : (in_namespace : Bool) (d : Data) → missing_or (is_bad_role_ref in_namespace) (field (codes "roleRef") d) ≡ is_none (role_ref_at in_namespace d)
 unfolding role_ref_at
-role_ref_is in_namespace d = missing_is _ (is_bad_role_ref in_namespace) (bad_role_ref_from in_namespace) (field (codes "roleRef") d)
+role_ref_is in_namespace d = sym (missing_is _ (is_bad_role_ref in_namespace) (bad_role_ref_from in_namespace) (field (codes "roleRef") d))
 
 -- ---- M7
 
@@ -159,8 +179,8 @@ bad_subject_is s =
     ∙ or_is refl
     (no_subject (bytes_eq kind (codes "User")) (bytes_eq kind (codes "Group")) (bytes_eq kind (codes "ServiceAccount")) (is_rbac_group group) (is_empty group) _ _ _)))))
 
-pub subjects_are : (d : Data) → bad_item subject_at (list_field (codes "subjects") d) ≡ first_bad is_bad_subject (list_field (codes "subjects") d)
-subjects_are d = first_is subject_at is_bad_subject bad_subject_is (list_field (codes "subjects") d)
+pub subjects_are : (ds : List Data) → bad_place subject_at 0 ds ≡ position_from is_bad_subject 0 ds
+subjects_are ds = first_is subject_at is_bad_subject bad_subject_is ds
 
 -- ---- M8
 
@@ -213,9 +233,9 @@ aggregation_of_is : (o : Option Data) → is_none (aggregation_of o) ≡ given_a
 aggregation_of_is None = refl
 aggregation_of_is (Some a) = none_map Some (selectors_from a) ∙ bad_aggregation_is a
 
-pub aggregation_is : (d : Data) → is_none (aggregation_at d) ≡ given_and is_bad_aggregation (field (codes "aggregationRule") d)
+pub aggregation_is : (d : Data) → given_and is_bad_aggregation (field (codes "aggregationRule") d) ≡ is_none (aggregation_at d)
 unfolding aggregation_at
-aggregation_is d = aggregation_of_is (field (codes "aggregationRule") d)
+aggregation_is d = sym (aggregation_of_is (field (codes "aggregationRule") d))
 
 -- ---- M9
 
@@ -261,12 +281,12 @@ bad_entry_is group e =
     ∷ is_no_texts (codes "verbs") e
     ∷ []))
 
-pub api_list_is : (d : Data) → is_none (entries_at d) ≡ is_bad_api_list d
+pub api_list_is : (d : Data) → is_bad_api_list d ≡ is_none (entries_at d)
 unfolding entries_at is_bad_api_list
-api_list_is d =
+api_list_is d = sym (
     then_bad (text_at (codes "groupVersion") d) [] _
     ∙ or_is refl (then_other (group_of (text (codes "groupVersion") d)) _ _ (λ group. list_is (entry_at group) is_bad_entry (bad_entry_is group) (list_field (codes "resources") d))
-    ∙ or_is (bad_group_version_is (text (codes "groupVersion") d)) refl)
+    ∙ or_is (bad_group_version_is (text (codes "groupVersion") d)) refl))
 
 -- ---- M10
 
@@ -334,9 +354,9 @@ items_given_is : {X : Type 0} (read : Data → Option X) (is_bad : Data → Bool
     → is_none (where_given (items_field read) name d) ≡ is_bad_list is_bad (list_field name d)
 items_given_is read is_bad each name d = where_given_is (items_field read) name d (no_items_missing read name d) ∙ list_is read is_bad each (list_field name d)
 
-pub universe_is : (d : Data) → is_none (given_lists_at d) ≡ is_bad_universe d
+pub universe_is : (d : Data) → is_bad_universe d ≡ is_none (given_lists_at d)
 unfolding given_lists_at is_bad_universe
-universe_is d =
+universe_is d = sym (
     then_other (where_given (items_field principal_at) (codes "principals") d) _ _ (λ principals.
     then_other (where_given texts_field (codes "namespaces") d) _ _ (λ namespaces.
     then_other (where_given texts_field (codes "verbs") d) _ _ (λ verbs.
@@ -347,4 +367,4 @@ universe_is d =
     (or_is (texts_given (codes "namespaces") d)
     (or_is (texts_given (codes "verbs") d)
     (or_is (items_given_is resource_at is_bad_resource bad_resource_is (codes "resources") d)
-    (or_is (texts_given (codes "names") d) (texts_given (codes "urls") d)))))
+    (or_is (texts_given (codes "names") d) (texts_given (codes "urls") d))))))

@@ -5,8 +5,7 @@ use Rattle.serde_json.specs.Data.{Data, object, Items, no_items, item, Members}
 use Rattle.json_list.specs.List.{with_items}
 use Rattle.rbac_manifest.specs.Fields.{elements}
 use Rattle.rbac_manifest.specs.Kinds.{kind_of}
-use Rattle.rbac_manifest.specs.Document.{fault, stands, first_of, content_in}
-use Rattle.rbac_manifest.specs.Walk.{bad_header, bad_body}
+use Rattle.rbac_manifest.specs.Document.{fault, stands, first_of, bad_header, bad_body, content_in}
 use Rattle.rbac_manifest.specs.Contents.{ContentsView, with_contents}
 use Rattle.rbac_manifest.specs.Load.{refusal_in, refusal_of, contents_of_input, contents_of_value, items_refusal, contents_of_body, list_refusal, contents_of_list, whole_or, item_or, first_refusal, as_whole, in_item, contents_of_items}
 use Rattle.rbac_manifest.specs.ItemsAhead.{ahead_refusal, contents_ahead, IsListOf}
@@ -17,14 +16,14 @@ use Rattle.rbac_manifest.specs.declared.kind.Implied.TheVariants as lists
 use Rattle.rbac_manifest.specs.declared.fault.Cause.{Cause}
 use Rattle.rbac_manifest.specs.declared.fault.Cause.TheVariants.{NotJson}
 use Rattle.rbac_manifest.specs.declared.fault.Refusal.{Refusal}
-use Rattle.rbac_manifest.proofs.Faults.{fault_by_kind}
 use Rattle.rbac_manifest.proofs.Beside.{the_items, same_kind, same_fault, same_content}
 use Rattle.rbac_manifest.proofs.ContentsLemmas.{contents_none, contents_more}
 
 -- ---- a list
 
 sound_list : (implied : Implied) (d : Data) → IsListOf implied d → fault lists.Nothing d ≡ None
-sound_list implied d is = fault_by_kind lists.Nothing d ∙ ap₂ (λ h k. first_of (h ∷ bad_body k d ∷ [])) is.0 is.1
+unfolding fault
+sound_list implied d is = ap₂ (λ h k. first_of (h ∷ bad_body k d ∷ [])) is.0 is.1
 
 pub refused_by_items : (implied : Implied) (ms : Members) → IsListOf implied (object ms) → (ahead : Option Items) → refusal_of (option_map (with_items ms) ahead) ≡ ahead_refusal implied 0 ahead
 unfolding refusal_in
@@ -49,8 +48,9 @@ sound_header None b e = refl
 sound_header (Some c) b e = e
 
 no_list_kind : (ms : Members) → IsNoList (object ms) → fault lists.Nothing (object ms) ≡ None → (implied : Implied) → kind_of lists.Nothing (object ms) ≡ kinds.List implied → ⊥
+unfolding fault
 no_list_kind ms none sound implied e =
-    none implied (sound_header (bad_header lists.Nothing (object ms)) (bad_body (kind_of lists.Nothing (object ms)) (object ms)) (sym (fault_by_kind lists.Nothing (object ms)) ∙ sound), e)
+    none implied (sound_header (bad_header lists.Nothing (object ms)) (bad_body (kind_of lists.Nothing (object ms)) (object ms)) sound, e)
 
 no_items_refused : (k : Kind) (d : Data) → ((implied : Implied) → k ≡ kinds.List implied → ⊥) → items_refusal k d ≡ None
 no_items_refused kinds.Role d other = refl

@@ -1,7 +1,6 @@
 pub mod Beside
 pub mod Elements
 pub mod Conditions
-pub mod Faults
 pub mod ContentsLemmas
 pub mod GroupVersions
 pub mod ItemsAhead

@@ -1,15 +1,13 @@
 -- The role that a binding names, and its subjects (Using RBAC Authorization, RoleBinding and ClusterRoleBinding, Referring to subjects).
-use Rattle.std.specs.Prelude.{ℕ, ◌||◌, ◌&&◌, Bool, not, List, [], ◌∷◌, codes, Option, Some, None, option_map, option_and_then, if◌then◌else◌}
+use Rattle.std.specs.Prelude.{ℕ, ◌||◌, ◌&&◌, Bool, not, List, [], ◌∷◌, codes, Option, Some, None, option_and_then, if◌then◌else◌}
 use Rattle.std.specs.Str.{bytes_eq}
 use Rattle.serde_json.specs.Data.{Data}
 use Rattle.rbac_manifest.specs.Fields.{◌>>=◌, field, list_field, text_at, name_at, is_object, is_empty, non_empty, text, is_no_text, any_of}
-use Rattle.rbac_manifest.specs.Lists.{bad_item, items_given}
+use Rattle.rbac_manifest.specs.Lists.{items_given}
 use Rattle.rbac_terms.specs.declared.granting.RoleRef.{RoleRef}
 use Rattle.rbac_terms.specs.declared.granting.RoleRef.TheVariants.{Role, ClusterRole}
 use Rattle.rbac_terms.specs.declared.granting.Subject.{Subject}
 use Rattle.rbac_terms.specs.declared.granting.Subject.TheVariants.{User, Group, Account}
-use Rattle.rbac_manifest.specs.declared.fault.Cause.{Cause}
-use Rattle.rbac_manifest.specs.declared.fault.Cause.TheVariants.{BadSubject}
 
 -- whether this is the RBAC group, which is also the default
 unfoldable pub is_rbac_group : List ℕ → Bool
@@ -91,10 +89,6 @@ is_bad_subject s = any_of (
     ∷ is_no_text (codes "namespace") s
     ∷ not (is_subject_kind (text (codes "kind") s) (text (codes "apiGroup") s))
     ∷ [])
-
--- the first item that gives no subject, with its place
-unfoldable pub bad_subjects : Data → Option Cause
-bad_subjects d = option_map BadSubject (bad_item subject_at (list_field (codes "subjects") d))
 
 -- the subjects of a binding, in written order
 unfoldable pub subjects_in : Data → List Subject

@@ -13,8 +13,9 @@ use Rattle.rbac_lists.specs.declared.given_lists.Account.{Account}
 use Rattle.rbac_manifest.specs.Fields.{field, list_field, is_object, is_empty, missing_or, given_and}
 use Rattle.rbac_manifest.specs.Lists.{first_bad}
 use Rattle.rbac_manifest.specs.Kinds.{kind_at, version_at, kind_of}
-use Rattle.rbac_manifest.specs.Role.{bad_rules, rules_in}
-use Rattle.rbac_manifest.specs.Metadata.{metadata_at}
+use Rattle.rbac_manifest.specs.Role.{rules_in}
+use Rattle.rbac_manifest.specs.Rule.{is_bad_rule}
+use Rattle.rbac_manifest.specs.Metadata.{is_bad_metadata, metadata_at}
 use Rattle.rbac_manifest.specs.Label.{is_bad_aggregation, aggregation_at}
 use Rattle.rbac_manifest.specs.Binding.{is_bad_role_ref, is_bad_subject, role_ref_at, subjects_in}
 use Rattle.rbac_manifest.specs.ApiList.{is_bad_api_list, entries_at}
@@ -26,9 +27,9 @@ use Rattle.rbac_manifest.specs.declared.kind.Kind.{Kind}
 use Rattle.rbac_manifest.specs.declared.kind.Kind.TheVariants as kinds
 use Rattle.rbac_manifest.specs.declared.kind.Implied.{Implied}
 use Rattle.rbac_manifest.specs.declared.fault.Cause.{Cause}
-use Rattle.rbac_manifest.specs.declared.fault.Cause.TheVariants.{NotAnObject, BadVersion, BadMetadata, BadRoleRef, BadSubject, BadSelector, BadCatalogue, BadUniverse}
+use Rattle.rbac_manifest.specs.declared.fault.Cause.TheVariants.{NotAnObject, BadVersion, BadMetadata, BadRule, BadRoleRef, BadSubject, BadSelector, BadCatalogue, BadUniverse}
 
--- ---- the refusals by number: each row is a condition and its cause, by the kind of the document
+-- ---- the refusals by number: each is a condition and its cause
 
 -- a condition and its cause
 abbrev pub when : Bool → Cause → Option Cause
@@ -48,83 +49,62 @@ not_an_object implied d = when (not (is_object d) || is_none (kind_at implied d)
 unfoldable pub bad_version : Implied → Data → Option Cause
 bad_version implied d = when (is_none (version_at implied (unwrap_or (kind_at implied d) []) d)) BadVersion
 
--- the kinds of Kubernetes objects, which have metadata
-abbrev pub has_metadata : Kind → Bool
-has_metadata kinds.Role = true
-has_metadata kinds.ClusterRole = true
-has_metadata kinds.RoleBinding = true
-has_metadata kinds.ClusterRoleBinding = true
-has_metadata kinds.Namespace = true
-has_metadata kinds.ServiceAccount = true
-has_metadata kinds.ApiList = false
-has_metadata kinds.Universe = false
-has_metadata (kinds.List items) = false
-has_metadata kinds.Other = false
-
--- M4: the metadata is bad
+-- M4: the metadata is missing or bad
 abbrev pub bad_metadata : Data → Option Cause
-bad_metadata d = when (is_none (metadata_at d)) BadMetadata
+bad_metadata d = when (missing_or is_bad_metadata (field (codes "metadata") d)) BadMetadata
 
--- M4: the kind has metadata, and it is bad
-abbrev pub metadata_row : Kind → Data → Option Cause
-metadata_row kind d = if has_metadata kind then bad_metadata d else None
+-- M5: the first bad rule, with its place; only a rule of a ClusterRole may be for URLs
+unfoldable pub bad_rules : Bool → Data → Option Cause
+bad_rules in_role d = option_map BadRule (first_bad (is_bad_rule in_role) (list_field (codes "rules") d))
 
--- M5: the first bad rule; only a rule of a ClusterRole may be for URLs
-abbrev pub rules_row : Kind → Data → Option Cause
-rules_row kinds.Role d = bad_rules true d
-rules_row kinds.ClusterRole d = bad_rules false d
-rules_row kind d = None
-
--- M6: the reference of a binding is missing or bad
+-- M6: the reference is missing or bad; only a binding in a namespace may name a Role
 abbrev pub bad_role_ref : Bool → Data → Option Cause
 bad_role_ref in_namespace d = when (missing_or (is_bad_role_ref in_namespace) (field (codes "roleRef") d)) BadRoleRef
 
--- M6: only a RoleBinding may name a Role
-abbrev pub role_ref_row : Kind → Data → Option Cause
-role_ref_row kinds.RoleBinding d = bad_role_ref true d
-role_ref_row kinds.ClusterRoleBinding d = bad_role_ref false d
-role_ref_row kind d = None
+-- M7: the first bad subject, with its place
+unfoldable pub bad_subjects : Data → Option Cause
+bad_subjects d = option_map BadSubject (first_bad is_bad_subject (list_field (codes "subjects") d))
 
--- M7: the first bad subject of a binding, with its place
-abbrev pub bad_subject : Data → Option Cause
-bad_subject d = option_map BadSubject (first_bad is_bad_subject (list_field (codes "subjects") d))
+-- M8: the aggregation rule is there and bad
+abbrev pub bad_selector : Data → Option Cause
+bad_selector d = when (given_and is_bad_aggregation (field (codes "aggregationRule") d)) BadSelector
 
--- M7: both kinds of binding have subjects
-abbrev pub subjects_row : Kind → Data → Option Cause
-subjects_row kinds.RoleBinding d = bad_subject d
-subjects_row kinds.ClusterRoleBinding d = bad_subject d
-subjects_row kind d = None
+-- M9: the API resource list is bad
+abbrev pub bad_catalogue : Data → Option Cause
+bad_catalogue d = when (is_bad_api_list d) BadCatalogue
 
--- M8: the aggregation rule of a ClusterRole is there and bad
-abbrev pub selector_row : Kind → Data → Option Cause
-selector_row kinds.ClusterRole d = when (given_and is_bad_aggregation (field (codes "aggregationRule") d)) BadSelector
-selector_row kind d = None
+-- M10: the Universe document is bad
+abbrev pub bad_universe : Data → Option Cause
+bad_universe d = when (is_bad_universe d) BadUniverse
 
--- M9: an API resource list is bad
-abbrev pub catalogue_row : Kind → Data → Option Cause
-catalogue_row kinds.ApiList d = when (is_bad_api_list d) BadCatalogue
-catalogue_row kind d = None
+-- what is wrong with the kind or version of a document
+unfoldable pub bad_header : Implied → Data → Option Cause
+bad_header implied d = first_of (not_an_object implied d ∷ bad_version implied d ∷ [])
 
--- M10: a Universe document is bad
-abbrev pub universe_row : Kind → Data → Option Cause
-universe_row kinds.Universe d = when (is_bad_universe d) BadUniverse
-universe_row kind d = None
+-- what may be wrong with a binding, in a namespace or not
+abbrev pub binding_refusals : Bool → Data → List (Option Cause)
+binding_refusals in_namespace d = bad_metadata d ∷ bad_role_ref in_namespace d ∷ bad_subjects d ∷ []
+
+-- what may be wrong with a document of each kind, lowest number first
+abbrev pub refusals : Kind → Data → List (Option Cause)
+refusals kinds.Role d = bad_metadata d ∷ bad_rules true d ∷ []
+refusals kinds.ClusterRole d = bad_metadata d ∷ bad_rules false d ∷ bad_selector d ∷ []
+refusals kinds.RoleBinding d = binding_refusals true d
+refusals kinds.ClusterRoleBinding d = binding_refusals false d
+refusals kinds.Namespace d = bad_metadata d ∷ []
+refusals kinds.ServiceAccount d = bad_metadata d ∷ []
+refusals kinds.ApiList d = bad_catalogue d ∷ []
+refusals kinds.Universe d = bad_universe d ∷ []
+refusals (kinds.List items) d = []
+refusals kinds.Other d = []
+
+-- what is wrong with a document of this kind
+abbrev pub bad_body : Kind → Data → Option Cause
+bad_body kind d = first_of (refusals kind d)
 
 -- why a document is refused, if it is: the lowest number whose condition holds (own)
 unfoldable pub fault : Implied → Data → Option Cause
-fault implied d =
-    let kind = kind_of implied d in
-    first_of (
-    not_an_object implied d
-    ∷ bad_version implied d
-    ∷ metadata_row kind d
-    ∷ rules_row kind d
-    ∷ role_ref_row kind d
-    ∷ subjects_row kind d
-    ∷ selector_row kind d
-    ∷ catalogue_row kind d
-    ∷ universe_row kind d
-    ∷ [])
+fault implied d = first_of (bad_header implied d ∷ bad_body (kind_of implied d) d ∷ [])
 
 -- ---- what a document gives
 

@@ -3,7 +3,7 @@ use Rattle.std.specs.Prelude.{◌≡◌, ℕ, List, [], Option, Some, None}
 use Rattle.serde_json.specs.Data.{Data, Items}
 use Rattle.rbac_manifest.specs.Fields.{elements}
 use Rattle.rbac_manifest.specs.Kinds.{kind_of}
-use Rattle.rbac_manifest.specs.Walk.{bad_header}
+use Rattle.rbac_manifest.specs.Document.{bad_header}
 use Rattle.rbac_manifest.specs.Load.{as_whole, first_refusal, contents_of_items}
 use Rattle.rbac_manifest.specs.declared.content.Content.{Content}
 use Rattle.rbac_manifest.specs.declared.kind.Kind.TheVariants as kinds

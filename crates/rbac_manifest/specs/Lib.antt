@@ -16,4 +16,3 @@ pub mod Replaced
 pub mod Role
 pub mod Rule
 pub mod UniverseDocument
-pub mod Walk

@@ -16,11 +16,6 @@ bad_place read i ds = position_from (λ d. is_none (read d)) i ds
 unfoldable pub given_by : {X : Type 0} → (Data → Option X) → List Data → List X
 given_by read ds = filter_map read ds
 
--- the place of the first bad item, or 0 if it isn't a list
-abbrev pub bad_item : {X : Type 0} → (Data → Option X) → Option (List Data) → Option ℕ
-bad_item read None = Some 0
-bad_item read (Some ds) = bad_place read 0 ds
-
 -- what the items of a list give, nothing if it isn't a list
 abbrev pub items_given : {X : Type 0} → (Data → Option X) → Option (List Data) → List X
 items_given read None = []

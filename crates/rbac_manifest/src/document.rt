@@ -2,11 +2,11 @@
 
 ghost use Rattle.std.specs.Prelude.{◌≡◌, Some, IfOk, option_map};
 ghost use Rattle.serde_json.specs.View.{view};
-ghost use Rattle.rbac_manifest.specs.Document.{namespace_or_default, role_in, cluster_role_in, binding_in, account_from, content_in, fault, stands, bad_metadata};
-ghost use Rattle.rbac_manifest.specs.Walk.{bad_role, bad_cluster_role, bad_binding, bad_header, bad_body};
+ghost use Rattle.rbac_manifest.specs.Document.{namespace_or_default, role_in, cluster_role_in, binding_in, account_from, content_in, fault, stands, first_of, binding_refusals, bad_header, bad_body};
 ghost use Rattle.rbac_manifest.specs.Metadata.{metadata_at};
 ghost use Rattle.rbac_manifest.specs.Reads.{Loads, Gives};
 ghost use Rattle.rbac_manifest.specs.declared.fault.Cause.{Cause};
+ghost use Rattle.rbac_manifest.specs.declared.kind.Kind.TheVariants as kinds;
 
 use crate::api_list::entries_of;
 use crate::binding::role_ref_of;
@@ -38,9 +38,9 @@ fn namespace_or_default(alloc: Global, namespace: Word) -> Result<Word, AllocErr
 }
 
 // The Role that a document gives.
-#[tactic(auto, unfolding(crate::specs::Walk::bad_role, crate::specs::Document::role_in))]
+#[tactic(auto, unfolding(crate::specs::Document::role_in))]
 fn role_of(alloc: Global, document: &Value) -> Result<Role, Cause>
-    ensures { Gives result (bad_role (view document.now)) (role_in (view document.now)) }
+    ensures { Gives result (bad_body kinds.Role (view document.now)) (role_in (view document.now)) }
 {
     let Metadata {
         name,
@@ -57,9 +57,9 @@ fn role_of(alloc: Global, document: &Value) -> Result<Role, Cause>
 }
 
 // The ClusterRole that a document gives.
-#[tactic(auto, unfolding(crate::specs::Walk::bad_cluster_role, crate::specs::Document::cluster_role_in))]
+#[tactic(auto, using(crate::proofs::Conditions::aggregation_is), unfolding(crate::specs::Document::cluster_role_in))]
 fn cluster_role_of(alloc: Global, document: &Value) -> Result<ClusterRole, Cause>
-    ensures { Gives result (bad_cluster_role (view document.now)) (cluster_role_in (view document.now)) }
+    ensures { Gives result (bad_body kinds.ClusterRole (view document.now)) (cluster_role_in (view document.now)) }
 {
     let Metadata { name, labels, .. } = metadata_of(alloc, document)?;
     let rules = read_rules(alloc, document, false)?;
@@ -76,9 +76,9 @@ fn cluster_role_of(alloc: Global, document: &Value) -> Result<ClusterRole, Cause
 
 // The binding that a document gives: a RoleBinding if it is in a namespace, otherwise a
 // ClusterRoleBinding.
-#[tactic(auto, unfolding(crate::specs::Walk::bad_binding, crate::specs::Document::binding_in))]
+#[tactic(auto, using(crate::proofs::Conditions::role_ref_is), unfolding(crate::specs::Document::binding_in))]
 fn binding_of(alloc: Global, document: &Value, in_namespace: bool) -> Result<Binding, Cause>
-    ensures { Gives result (bad_binding in_namespace (view document.now))
+    ensures { Gives result (first_of (binding_refusals in_namespace (view document.now)))
         (binding_in in_namespace (view document.now)) }
 {
     let Metadata {
@@ -105,7 +105,7 @@ fn binding_of(alloc: Global, document: &Value, in_namespace: bool) -> Result<Bin
 
 // The name of a Namespace.
 fn namespace_of(alloc: Global, document: &Value) -> Result<Word, Cause>
-    ensures { Gives result (bad_metadata (view document.now))
+    ensures { Gives result (bad_body kinds.Namespace (view document.now))
         (option_map (λ m. m.name) (metadata_at (view document.now))) }
 {
     let Metadata { name, .. } = metadata_of(alloc, document)?;
@@ -114,7 +114,7 @@ fn namespace_of(alloc: Global, document: &Value) -> Result<Word, Cause>
 
 // The ServiceAccount that a document gives.
 fn account_of(alloc: Global, document: &Value) -> Result<Account, Cause>
-    ensures { Gives result (bad_metadata (view document.now))
+    ensures { Gives result (bad_body kinds.ServiceAccount (view document.now))
         (option_map account_from (metadata_at (view document.now))) }
 {
     let Metadata {
@@ -129,6 +129,7 @@ fn account_of(alloc: Global, document: &Value) -> Result<Account, Cause>
 }
 
 // What a document of this kind gives.
+#[tactic(auto, using(crate::proofs::Conditions::api_list_is, crate::proofs::Conditions::universe_is))]
 pub(crate) fn content_of(
     alloc: Global,
     kind: Kind,
@@ -158,7 +159,7 @@ pub(crate) fn content_of(
 }
 
 // What a document gives. A bad kind or version is refused before anything is allocated.
-#[tactic(auto, using(crate::proofs::Faults::fault_by_kind), unfolding(crate::specs::Document::stands))]
+#[tactic(auto, unfolding(crate::specs::Document::fault, crate::specs::Document::stands))]
 pub(crate) fn document_of(
     alloc: Global,
     document: &Value,

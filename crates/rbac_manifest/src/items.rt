@@ -76,7 +76,7 @@ fn join_freed(alloc: Global) -> Result<(), AllocError> {
 }
 
 // Adds what an input gives to `contents`.
-#[tactic(auto, using(crate::proofs::Faults::fault_by_kind), unfolding(crate::specs::Load::refusal_in, crate::specs::Load::contents_of_input))]
+#[tactic(auto, unfolding(crate::specs::Document::fault, crate::specs::Load::refusal_in, crate::specs::Load::contents_of_input))]
 pub(crate) fn input_into(
     alloc: Global,
     mut document: Value,

@@ -37,7 +37,7 @@ fn metadata_from(alloc: Global, metadata: &Value) -> Result<Metadata, Trouble>
 }
 
 // The metadata of a document.
-#[tactic(auto, unfolding(crate::specs::Metadata::metadata_at))]
+#[tactic(auto, using(crate::proofs::Conditions::metadata_is), unfolding(crate::specs::Metadata::metadata_at))]
 pub(crate) fn metadata_of(alloc: Global, document: &Value) -> Result<Metadata, Cause>
     ensures { Gives result (bad_metadata (view document.now)) (metadata_at (view document.now)) }
 {

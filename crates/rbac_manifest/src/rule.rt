@@ -4,7 +4,8 @@ ghost use Rattle.std.specs.Prelude.{◌≡◌, map, option_map};
 ghost use Rattle.serde_json.specs.View.{view};
 ghost use Rattle.rbac_manifest.specs.Reads.{Reads, Loads};
 ghost use Rattle.rbac_manifest.specs.Lists.{bad_place, given_by};
-ghost use Rattle.rbac_manifest.specs.Role.{bad_rules, rules_in};
+ghost use Rattle.rbac_manifest.specs.Role.{rules_in};
+ghost use Rattle.rbac_manifest.specs.Document.{bad_rules};
 ghost use Rattle.rbac_manifest.specs.declared.fault.Cause.TheVariants.{BadRule};
 ghost use Rattle.rbac_manifest.specs.Rule.{rule_at, is_bad_target};
 
@@ -66,7 +67,7 @@ fn rules_from(alloc: Global, values: &[Value], in_role: bool) -> Result<Rules, C
 }
 
 // The rules of a role.
-#[tactic(auto, unfolding(crate::specs::Role::bad_rules, crate::specs::Role::rules_in))]
+#[tactic(auto, using(crate::proofs::Conditions::rules_are), unfolding(crate::specs::Document::bad_rules, crate::specs::Role::rules_in))]
 pub(crate) fn read_rules(alloc: Global, document: &Value, in_role: bool) -> Result<Rules, Cause>
     ensures { Loads result (bad_rules in_role (view document.now)) (rules_in in_role (view document.now)) }
 {

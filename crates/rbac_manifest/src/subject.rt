@@ -5,7 +5,8 @@ ghost use Rattle.serde_json.specs.View.{view};
 ghost use Rattle.rbac_manifest.specs.Fields.{non_empty};
 ghost use Rattle.rbac_manifest.specs.Reads.{Reads, Loads};
 ghost use Rattle.rbac_manifest.specs.Lists.{bad_place, given_by};
-ghost use Rattle.rbac_manifest.specs.Binding.{subject_named, subject_from, subject_at, bad_subjects, subjects_in};
+ghost use Rattle.rbac_manifest.specs.Binding.{subject_named, subject_from, subject_at, subjects_in};
+ghost use Rattle.rbac_manifest.specs.Document.{bad_subjects};
 ghost use Rattle.rbac_manifest.specs.declared.fault.Cause.TheVariants.{BadSubject};
 
 use crate::binding::is_rbac_group;
@@ -84,7 +85,7 @@ fn subjects_from(alloc: Global, values: &[Value]) -> Result<Subjects, Cause>
 }
 
 // The subjects of a binding.
-#[tactic(auto, unfolding(crate::specs::Binding::bad_subjects, crate::specs::Binding::subjects_in))]
+#[tactic(auto, using(crate::proofs::Conditions::subjects_are), unfolding(crate::specs::Document::bad_subjects, crate::specs::Binding::subjects_in))]
 pub(crate) fn subjects_of(alloc: Global, document: &Value) -> Result<Subjects, Cause>
     ensures { Loads result (bad_subjects (view document.now)) (subjects_in (view document.now)) }
 {
