@@ -6,7 +6,7 @@ PROGRAM = crates/rbacaudit/out/rbacaudit
 .PHONY: run test fuzz calls wrong-bodies build install
 
 # One question on the example export: may the CI account of the shop update deployments there, and why? The proved program
-# answers where it is built and nothing has changed since, else the same sources do, run without their proofs.
+# answers if it is built and no source has changed since; otherwise the sources answer, unproved.
 QUESTION = can-i --as system:serviceaccount:shop:ci -n shop --why update deployments.apps
 SOURCES = crates.txt $(wildcard crates/*/src crates/*/specs crates/*/proofs)
 
@@ -14,7 +14,7 @@ run:
 	@if [ -x $(PROGRAM) ] && [ -z "$$(find $(SOURCES) -newer $(PROGRAM) | head -n 1)" ]; then \
 	    $(PROGRAM) $(QUESTION) examples/shop.json; \
 	else \
-	    echo 'make run: this answer is not of a proved build, and takes a few minutes; make build makes one' >&2; \
+	    echo 'make run: this answer isn'\''t from a proved build, and takes a few minutes; make build proves and builds the program' >&2; \
 	    cd crates/rbacaudit && rt try --data shop.json=../../examples/shop.json -- $(QUESTION) shop.json; \
 	fi
 
@@ -26,8 +26,8 @@ test:
 fuzz:
 	python3 tests/fuzz.py "$(SEED)" "$(COUNT)"
 
-# Single public calls: every allocation in them fails in turn. The program that makes them is proved first, in 17 processor minutes;
-# `make calls KEPT=FOLDER` keeps what was proved in a folder outside this repository, so that the next time only what has changed is.
+# Single public calls: every allocation in them fails in turn. The libraries and the program that makes the calls are proved first, in 60
+# and 17 processor minutes; `make calls KEPT=FOLDER` keeps what was proved in a folder outside this repository for the next time.
 calls:
 	python3 tests/calls.py $(KEPT)
 
@@ -35,7 +35,7 @@ calls:
 wrong-bodies:
 	python3 tools/wrong_bodies.py $(CRATE)
 
-# The program, proved and compiled: from nothing 20 to 40 minutes of four cores; with nothing changed a moment.
+# The program, proved and compiled: from nothing 20 to 40 minutes of four cores; what was proved before on this machine and is unchanged is kept.
 build:
 	@python3 tools/build.py
 

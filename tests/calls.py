@@ -30,21 +30,21 @@ NEVER = 10 ** 9
 
 
 def copied(source, folder):
-    """Copies a file or a folder, unless there is the same one already, so that nothing unchanged is proved again."""
-    if os.path.exists(source) and subprocess.run(['diff', '-rq', source, folder], capture_output=True).returncode:
+    """Copies a file or a folder, unless there is the same one already, so that nothing unchanged is proved again; what is gone goes there too."""
+    if subprocess.run(['diff', '-rq', source, folder], capture_output=True).returncode:
         shutil.rmtree(folder, ignore_errors=True)
-        copy = shutil.copytree if os.path.isdir(source) else shutil.copy2
-        os.makedirs(os.path.dirname(folder), exist_ok=True)
-        copy(source, folder)
+        if os.path.exists(source):
+            os.makedirs(os.path.dirname(folder), exist_ok=True)
+            (shutil.copytree if os.path.isdir(source) else shutil.copy2)(source, folder)
 
 
 def build(folder):
-    """Makes the repository: copies of the libraries, as far as they are built, and the program above them. The gate reads each .rt
-    file of this repository, so the program's have another ending here."""
+    """Makes the repository: copies of the libraries, and the program above them. The gate reads each .rt file of this repository, so
+    the program's have another ending here."""
     with open(os.path.join(TOP, 'crates.txt'), encoding='utf-8') as file:
         lines = [line for line in file if not line.startswith(('#', 'rbacaudit:', 'rbac_examples:'))]
     libraries = [line.partition(':')[0] for line in lines]
-    for library, part in itertools.product(libraries, ('src', 'specs', 'proofs', 'out/rlib')):
+    for library, part in itertools.product(libraries, ('src', 'specs', 'proofs')):
         copied(os.path.join(TOP, 'crates', library, part), os.path.join(folder, 'crates', library, part))
     crate = os.path.join(folder, 'crates', 'calls')
     sources = {name.replace('.rt.txt', '.rt'): name for name in os.listdir(SOURCES) if name.endswith('.rt.txt')}

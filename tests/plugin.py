@@ -480,15 +480,15 @@ def gaps(it):
     missing += 'kubectl-rbacaudit: there is no api-*.json in prod\n'
     it.expect('no API lists', [*UPDATE, '--export', 'prod'], 2, '', missing + REFUSAL)
     it.expect('no API lists, --partial', [*UPDATE, '--export', 'prod', '--partial'], 0, 'yes\n', missing + CAUTION +
-              'kubectl-rbacaudit: the export has no API lists, so the type deployments.apps is taken as written\n')
+              'kubectl-rbacaudit: the export has no API resource lists, so the type deployments.apps is taken as written\n')
     it.expect('no API lists know no subresource', [*UPDATE, '--subresource', 'exce', '--export', 'prod', '--partial'], 1, 'no\n', missing +
-              CAUTION + 'kubectl-rbacaudit: the export has no API lists, so the type deployments.apps is taken as written\n')
+              CAUTION + 'kubectl-rbacaudit: the export has no API resource lists, so the type deployments.apps is taken as written\n')
     os.remove(os.path.join(it.work, 'prod', 'namespaced.json'))
     status, out, err = got = it.run(*UPDATE, '--partial', '--export', 'prod')
     it.checked('an export without roles never answers', (status, out) == (2, '') and 'nothing can be answered' in err, got)
 
 
-SLIP = "kubectl-rbacaudit: the API lists of the export don't have the %s: look for a slip\n"
+UNLISTED = "kubectl-rbacaudit: the API resource lists of the export don't have the %s: check the spelling\n"
 
 
 def dana_alone(it, name, words_, said=''):
@@ -508,9 +508,9 @@ def types(it):
         dana_alone(it, 'known: ' + type_, ['drain', type_])
     for type_ in ('secert', 'Pods', 'widgets', '"widgets"', 'deployments.app', 'pods.apps', 'po.apps', 'apps', 'v1', 'pod*', '*',
                   'deployments.v1.apps', 'a\\x2d', 'list', '-'):
-        dana_alone(it, 'unknown: ' + type_, ['drain', type_], SLIP % ('type ' + type_))
-    it.expect('unknown: secert/x, of a fresh export', ['can-i', *KIM, 'get', 'secert/x'], 1, 'no\n', SLIP % 'type secert')
-    it.expect('unknown: a word with a dash before it', ['can-i', '--export', 'prod', *KIM, 'get', '--', '-q'], 1, 'no\n', SLIP % 'type -q')
+        dana_alone(it, 'unknown: ' + type_, ['drain', type_], UNLISTED % ('type ' + type_))
+    it.expect('unknown: secert/x, of a fresh export', ['can-i', *KIM, 'get', 'secert/x'], 1, 'no\n', UNLISTED % 'type secert')
+    it.expect('unknown: a word with a dash before it', ['can-i', '--export', 'prod', *KIM, 'get', '--', '-q'], 1, 'no\n', UNLISTED % 'type -q')
 
 
 # A list of subresources alone, as there are: their type is in no list, and yet they aren't unknown.
@@ -534,9 +534,9 @@ def subresources(it):
             ('pods.metrics.k8s.io', 'log', 'subresource pods.metrics.k8s.io/log'), ('secert', 'log', 'type secert'),
             ('machines', 'console', 'type machines'), ('machines.consoles.example.com', 'log', 'type machines.consoles.example.com')):
         for given in (['--subresource', subresource, 'drain', type_], ['drain', type_, '--subresource=' + subresource]):
-            dana_alone(it, 'unknown: %s' % ' '.join(given), given, SLIP % said)
+            dana_alone(it, 'unknown: %s' % ' '.join(given), given, UNLISTED % said)
     it.expect('unknown: pods/exce of a fresh export', ['can-i', *KIM, '--subresource', 'exce', 'get', 'pods'], 1, 'no\n',
-              SLIP % 'subresource pods/exce')
+              UNLISTED % 'subresource pods/exce')
     it.expect('a name is no subresource', ['can-i', '--export', 'prod', *KIM, 'get', 'pods/exce'], 0, 'yes\n')
     named = 'kubectl-rbacaudit: %s/log is taken for an object named log: to ask about the subresource, write %s --subresource log\n'
     for type_ in ('pods', 'po'):
@@ -544,7 +544,7 @@ def subresources(it):
     for given in (['pods/log', '--subresource', 'log'], ['pods/'], ['pods/log/x'], ['pods/x/log'], ['no/log'], ['pods.metrics.k8s.io/log']):
         dana_alone(it, 'a name that is none: %s' % ' '.join(given), ['drain', *given])
     dana_alone(it, 'nor is a name of an unknown type', ['drain', 'machines.consoles.example.com/console'],
-               SLIP % 'type machines.consoles.example.com')
+               UNLISTED % 'type machines.consoles.example.com')
     it.expect('a subresource of a URL ends before', ['who-can', '--export', 'prod', '--subresource', 'exce', 'get', '/metrics'], 2, '',
               'rbacaudit: U3 subresource with a URL\n')
 

@@ -1,101 +1,62 @@
 """Proves and builds the program, and says how far it is.
 
-The libraries are proved side by side, as many as processors and memory allow (RT_JOBS=N: N at once), by what `rt lib`
-does; then `rt run` proves, compiles and links the program, over proved libraries alone. What was proved before and
-hasn't changed since is kept.
+`rt ci` does so, over a copy of the program's crates without their must-fail edits, side by side as processors and memory
+allow (RT_JOBS=N: N at once). What was proved before on this machine and hasn't changed since isn't proved again.
 """
 
 import os
-import signal
-import subprocess
+import re
+import shutil
 import sys
-import tempfile
-import threading
 import time
 
 sys.dont_write_bytecode = True
-from kit import TOP, kit  # noqa: E402
+from copies import TOP, Copy  # noqa: E402
 
-PROGRAM = os.path.join(TOP, 'crates', 'rbacaudit')
+NAME = 'rbacaudit'
+PROGRAM = os.path.join('crates', NAME, 'out', NAME)
+ENDED = re.compile(r'rt: (\w+) (proved|NOT PROVED.*|is kept)')
+
+
+def keep(program, begun):
+    """Puts the program where `make run`, `make install` and the tests look for it."""
+    to = os.path.join(TOP, PROGRAM)
+    os.makedirs(os.path.dirname(to), exist_ok=True)
+    shutil.copy(program, to + '.new')
+    # (as new as the sources were when the build began, by which `make run` knows it)
+    os.utime(to + '.new', (begun, begun))
+    os.replace(to + '.new', to)
 
 
 class Progress:
-    """Reports each library as its proof ends."""
+    """Reports each crate as its proof ends, and whatever went wrong."""
 
     def __init__(self, count):
-        self.count, self.done, self.begun, self.lock = count, 0, time.monotonic(), threading.Lock()
+        self.count, self.done, self.begun = count, 0, time.monotonic()
 
-    def minutes(self):
-        return '%.1f minutes' % ((time.monotonic() - self.begun) / 60)
-
-    def report(self, crate, status, said):
-        with self.lock:
+    def tell(self, line):
+        ended = ENDED.match(line)
+        if ended:
             self.done += 1
-            if status:
-                print(said, end='')
-            print('%s %s (%d of %d, after %s)' % (
-                crate.name, 'NOT PROVED' if status else 'proved', self.done, self.count, self.minutes()), flush=True)
-
-
-def proved(crate, jobs, progress):
-    """Whether the library is proved and built."""
-    with tempfile.TemporaryFile('w+', errors='replace') as crate.out:
-        try:
-            status = crate.build_rlib(['--jobs', str(jobs)], anew=False)
-        except SystemExit as stopped:
-            status = stopped.code or 1
-        crate.out.seek(0)
-        progress.report(crate, status, crate.out.read())
-    return not status
-
-
-def libraries(rt, crates, progress):
-    """Whether all these libraries, lowest first, are proved and built, each after those that it stands on."""
-    names = {crate.name for crate in crates}
-    tasks = {}
-    for crate in crates:
-        waits = [(it.name, 'proof') for it in crate.below() if it.name in names]
-
-        def work(given, jobs, crate=crate, waits=waits):
-            return all(given[it] for it in waits) and proved(crate, jobs, progress)
-
-        tasks[crate.name, 'proof'] = waits, crate.count(rb'\n'), rt.need(crate), work
-    return all(rt.in_lanes(tasks).values())
-
-
-def program(progress, begun):
-    """Has the program proved, compiled and linked, and reported."""
-    ended = subprocess.run(['rt', 'run', '--', '--help'], cwd=PROGRAM, stdin=subprocess.DEVNULL,
-                           stdout=subprocess.DEVNULL, stderr=subprocess.PIPE, text=True, errors='replace')
-    if ended.returncode:
-        print('%srbacaudit NOT BUILT' % ended.stderr)
-    else:
-        # (it is as new as the sources were when the build began, by which `make run` knows it)
-        os.utime(os.path.join(PROGRAM, 'out', 'rbacaudit'), (begun, begun))
-        print('rbacaudit proved and built, after %s: crates/rbacaudit/out/rbacaudit' % progress.minutes())
-    return ended.returncode
+            minutes = (time.monotonic() - self.begun) / 60
+            line = '%s %s (%d of %d, after %.1f minutes)\n' % (*ended.groups(), self.done, self.count, minutes)
+        if not line.startswith('rt: ok'):
+            print(line, end='', flush=True)
 
 
 def main():
-    # (as it is by default, so that Ctrl-C doesn't wait for the provers, which end with this process)
-    signal.signal(signal.SIGINT, signal.SIG_DFL)
     begun = time.time()
-    rt = kit()
-    rt.rtlib.guarded()
-    crates = rt.rtlib.crates_below(PROGRAM)
-    held = rt.rtlib.lock(crates)
-    stale = sorted((it for it in crates if it.makes_rlib() and not it.is_built()), key=lambda it: len(it.below()))
-    progress = Progress(len(stale) + 1)
-    if stale:
-        print('%d of %d crates are to be proved, and the program built. From nothing this takes 20 to 40 minutes of four'
-              ' cores,\nor 50 to 80 of one; what was proved before and is unchanged is kept.' % (len(stale) + 1, len(crates)),
-              flush=True)
-    well = libraries(rt, stale, progress)
-    for it in held:
-        os.close(it)
-    if not well:
-        return 1
-    return program(progress, begun)
+    with Copy([NAME]) as copy:
+        count = len(copy.crates)
+        print('%d crates are to be proved, and the program built. From nothing this takes 20 to 40 minutes of four cores, or 50\n'
+              'to 80 of one; what was proved before on this machine and is unchanged is kept.' % count, flush=True)
+        status, program = copy.ci(Progress(count).tell), copy.path(PROGRAM)
+        if status or not os.path.isfile(program):
+            print('%s NOT BUILT' % NAME)
+            return 1
+        keep(program, begun)
+    print('%s is proved and built: %s' % (NAME, PROGRAM))
+    return 0
 
 
 if __name__ == '__main__':

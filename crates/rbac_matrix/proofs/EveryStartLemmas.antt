@@ -28,7 +28,7 @@ use Rattle.rbac_matrix.specs.EveryStart.{ArePastName, ComesAfter, HasNoRequest, 
 use Rattle.rbac_matrix.specs.Lines.{IsSettled}
 use Rattle.rbac_matrix.specs.Pairs.{AreThose, IsGranted, pair_of, pairs_of}
 use Rattle.rbac_matrix.specs.Passing.{cell_of, cells_left}
-use Rattle.rbac_matrix.specs.Starting.{HasNoLine, IsAfter, IsFoundAt, IsGapAt, IsOwnLine, IsStart, cell_name, target_part, what_texts, whats}
+use Rattle.rbac_matrix.specs.Starting.{BeginsOnLine, HasNoLine, IsAfter, IsFoundAt, IsGapAt, IsOwnLine, IsStart, cell_name, target_part, what_texts, whats}
 use Rattle.rbac_matrix.specs.declared.line.Place.{Place}
 use Rattle.rbac_matrix.proofs.JoinLemmas.{same_key, stands_past}
 use Rattle.rbac_matrix.proofs.OneEvery.{in_pairs, is_every, one_every, some_pairs}
@@ -154,7 +154,7 @@ module _ (p : PolicyView) (policy : IsPolicy p) (u : UniverseView) (is : IsUnive
         let same : own.target.here.0 ≡ target_there.0.0 = same_Some own.target.here.0 target_there.0.0 (sym own.target.here.1 ∙ mapped_at u.targets here_at target_there.0 target_there.1) in
         exact_names (target_texts target_there.0) (target_part k) (subst (λ (x : What). slice_cmp text_cmp (what_texts x) (target_part k) ≡ Equal) same own.target.here.2)
 
-    own_there : IsOwnLine u (Some k) at
+    own_there : IsOwnLine u k at
     own_there = own_line u k at own.line
 
     abbrev request : Cell
@@ -263,7 +263,7 @@ module _ (p : PolicyView) (policy : IsPolicy p) (u : UniverseView) (is : IsUnive
       }
 
     pub key_own : IsKeyStart u (Some k) at here_at
-    key_own = record { first = here_at + 1; start = start_past_it; own = inr own_there; within = omega arith }
+    key_own = record { first = here_at + 1; start = start_past_it; line = inl own_there; within = omega arith }
 
 -- without its line or its target a request isn't there
 pub no_line : (u : UniverseView) (k : KeyTexts) → HasNoLine u k → HasNoRequest u k
@@ -287,8 +287,8 @@ own_few u k at i own few = omega (arith, own_within u k at i own)
 pub own_settled_at : (u : UniverseView) (k : KeyTexts) (at : Place) (i : ℕ) → IsOwnRequest u k at i → IsSettled u at
 own_settled_at u k at i own = own_settled u k at own.line
 
-pub key_whole : (u : UniverseView) (k : Option KeyTexts) (at : Place) (from : ℕ) → IsStart u k at from → (from ≡ 0) ⊎ IsOwnLine u k at → IsKeyStart u k at from
-key_whole u k at from s own = record { first = from; start = s; own = own; within = omega arith }
+pub key_whole : (u : UniverseView) (k : Option KeyTexts) (at : Place) (from : ℕ) → IsStart u k at from → BeginsOnLine u k at from → IsKeyStart u k at from
+key_whole u k at from s begins = record { first = from; start = s; line = begins; within = omega arith }
 
 -- of a mark in its parts
 pub start_parts : (h : Held) (u : UniverseView) (m : Mark) (name : BindingName) (at : Place) (from b : ℕ) → m.binding ≡ Some name → IsEveryStart h u (Some (record { key = m.key; binding = Some name })) at from b → IsEveryStart h u (Some m) at from b

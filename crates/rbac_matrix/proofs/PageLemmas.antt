@@ -18,7 +18,7 @@ use Rattle.rbac_streams.proofs.TakenLemmas.{Prints-nil, Prints-trans}
 use Rattle.rbac_terms.specs.declared.granting.Binding.{Binding}
 use Rattle.rbac_token.specs.Marks.{mark_text}
 use Rattle.rbac_text.specs.Row.{newline, row_text, tab}
-use Rattle.rbac_matrix.specs.Enumeration.{AreLeft}
+use Rattle.rbac_matrix.specs.Enumeration.{AreLeft, GoesOn}
 use Rattle.rbac_matrix.specs.Every.{name_of}
 use Rattle.rbac_matrix.specs.EveryLeft.{AreEveryLeft, pairs_here}
 use Rattle.rbac_matrix.specs.EveryPages.{every_last_words}
@@ -28,6 +28,7 @@ use Rattle.rbac_matrix.specs.Passing.{cells_left}
 use Rattle.rbac_matrix.specs.Printed.{StopsWithin, rows_text}
 use Rattle.rbac_matrix.specs.RowTexts.{Shows, key_shown}
 use Rattle.rbac_matrix.specs.ShownTokens.{last_line}
+use Rattle.rbac_matrix.specs.declared.enumeration.Rows.{Rows}
 use Rattle.rbac_matrix.specs.declared.row.Row.{Row}
 use Rattle.rbac_matrix.specs.declared.token.TokenOf.{TokenOf}
 use Rattle.rbac_matrix.specs.declared.token.TokenOf.TheVariants.{Key, Mark}
@@ -61,6 +62,13 @@ of_shown row = (key_shown row, row.binding.now)
 
 abbrev of_row : RowView → Printed
 of_row row = (row_key row, row.binding)
+
+-- an enumeration goes on from itself, and from whatever goes on from it
+pub goes_nowhere : (s : Rows) → GoesOn s s
+goes_nowhere s = record { index = refl; universe = refl; start = refl; sought = refl }
+
+pub goes_further : {s t u : Rows} → GoesOn s t → GoesOn t u → GoesOn s u
+goes_further g h = record { index = h.index ∙ g.index; universe = h.universe ∙ g.universe; start = h.start ∙ g.start; sought = h.sought ∙ g.sought }
 
 -- since the page began these rows were printed, and what was left then is these and what is left now
 pub record GoesTo {W S : Type 0} (Left : S → List RowView → Type 0) (contents : W → Option (List ℕ)) (old : SinkView W) (page : PageView) (new : SinkView W) (after : PageView) (s t : S) (limit left : Option ℕ) (last : Option Row) : Type 0 where

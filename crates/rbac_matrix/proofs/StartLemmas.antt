@@ -302,7 +302,7 @@ module _ (u : UniverseView) where
       pub own_settled : IsSettled u at
       own_settled = inl (slice_get_within u.principals at.principal who own.principal.here.1, slice_get_within u.namespaces at.namespace namespace own.namespace.here.1, slice_get_within u.verbs at.verb verb own.verb.here.1)
 
-      pub own_line : IsOwnLine u (Some k) at
+      pub own_line : IsOwnLine u k at
       own_line = (
         line who namespace verb,
         lines_from u (place at.principal at.namespace (at.verb + 1)),

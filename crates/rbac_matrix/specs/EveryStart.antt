@@ -1,5 +1,5 @@
 -- Where the rows of every granting binding that come after a mark begin.
-use Rattle.std.specs.Prelude.{◌≡◌, ℕ, ◌<◌, ◌≤◌, ◌⊎◌, List, ◌++◌, Contains, Option, Some, None, slice_get, true}
+use Rattle.std.specs.Prelude.{◌≡◌, ℕ, ◌<◌, ◌≤◌, List, ◌++◌, Contains, Option, Some, None, slice_get, true}
 use Rattle.std.specs.declared.cmp.Ordering.TheVariants.{Greater}
 use Rattle.std.specs.Cmp.Lexicographic.{slice_cmp}
 use Rattle.rbac_terms.specs.Text.{text_cmp}
@@ -16,7 +16,7 @@ use Rattle.rbac_matrix.specs.EveryLeft.{pairs_from}
 use Rattle.rbac_matrix.specs.Metering.{AreSought}
 use Rattle.rbac_matrix.specs.Pairs.{IsGranted, pairs_of}
 use Rattle.rbac_matrix.specs.Passing.{cells_left}
-use Rattle.rbac_matrix.specs.Starting.{IsOwnLine, IsOwnPlace, IsFoundAt, IsStart, cell_name, target_part, what_texts, whats}
+use Rattle.rbac_matrix.specs.Starting.{BeginsOnLine, IsOwnPlace, IsFoundAt, IsStart, cell_name, target_part, what_texts, whats}
 use Rattle.rbac_terms.specs.Keys.{texts}
 use Rattle.rbac_matrix.specs.declared.line.Place.{Place}
 use Rattle.rbac_matrix.specs.declared.every_rows.EveryRows.{EveryRows}
@@ -38,14 +38,14 @@ pub record IsEveryStart (h : Held) (u : UniverseView) (m : Option Mark) (at : Pl
   pub early : (r : RowView) → Contains before r → IsGranted h r → ComesAfter m r → ⊥
   pub late : (r : RowView) → Contains (pairs_from h.bindings place (cells_left u at from)) r → IsGranted h r → ComesAfter m r
 
--- the requests after the key begin on this line, and the place within the line is no later than where they begin
+-- the requests after the key begin on this line, which is the key's own if the universe has it, and the place within the line is no later than where they begin
 pub record IsKeyStart (u : UniverseView) (k : Option KeyTexts) (at : Place) (from : ℕ) : Type 0 where
   pub first : ℕ
   pub start : IsStart u k at first
-  pub own : (first ≡ 0) ⊎ IsOwnLine u k at
+  pub line : BeginsOnLine u k at first
   pub within : from ≤ first
 
--- the rows begin at the first line, as do the requests after the key; within a line only if it is the key's own, and then no more cursors were sought than that line has
+-- the rows begin at the first line, as do the requests after the key; within a line no more cursors were sought than it has
 pub record EveryStarts (s : EveryRows) (k : Option KeyTexts) : Type 0 where
   pub start : IsKeyStart s.rows.universe.now k s.rows.start s.rows.from
   pub here : s.rows.at ≡ s.rows.start

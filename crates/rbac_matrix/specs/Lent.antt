@@ -1,9 +1,9 @@
 -- What a matrix borrows, and where its rows begin.
-use Rattle.std.specs.Prelude.{◌≡◌, ◌⊎◌, Option, length}
+use Rattle.std.specs.Prelude.{◌≡◌, Option, length}
 use Rattle.rbac_terms.specs.Keys.{KeyTexts}
 use Rattle.rbac_matrix.specs.Metering.{AreSought}
 use Rattle.rbac_index.specs.Reaches.{AreReaches}
-use Rattle.rbac_matrix.specs.Starting.{IsOwnLine, IsStart}
+use Rattle.rbac_matrix.specs.Starting.{BeginsOnLine, IsStart}
 use Rattle.rbac_matrix.specs.declared.matrix.Matrix.{Matrix}
 use Rattle.rbac_matrix.specs.declared.enumeration.Rows.{Rows}
 
@@ -12,11 +12,11 @@ pub record AreLent (m : Matrix) : Type 0 where
   pub reaches : AreReaches m.index.now m.universe.now m.reaches.now
   pub seats : length m.seats.now ≡ length m.index.now.grants
 
--- the rows begin at the first line, from the place on where the requests after the key begin; within a line only if it is the key's own, and then no
--- more cursors were sought than that line has
+-- the rows begin at the first line, which is the key's own if the universe has it, from the place on where the requests after the key begin; within
+-- a line no more cursors were sought than it has
 pub record Starts (s : Rows) (k : Option KeyTexts) : Type 0 where
   pub start : IsStart s.universe.now k s.start s.from
   pub here : s.at ≡ s.start
-  pub own : (s.from ≡ 0) ⊎ IsOwnLine s.universe.now k s.start
+  pub line : BeginsOnLine s.universe.now k s.start s.from
   pub whole : s.from ≡ 0 → s.sought ≡ 0
   pub sought : AreSought s.index.now s.universe.now s.start s.sought

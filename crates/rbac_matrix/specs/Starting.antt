@@ -1,5 +1,5 @@
 -- Where the rows after a key begin.
-use Rattle.std.specs.Prelude.{◌≡◌, ℕ, ◌+◌, ◌≤◌, List, [], ◌∷◌, ◌++◌, Contains, map, Option, Some, None, take, drop, length, slice_get}
+use Rattle.std.specs.Prelude.{◌≡◌, ℕ, ◌+◌, ◌≤◌, ◌⊎◌, List, [], ◌∷◌, ◌++◌, Contains, map, Option, Some, None, take, drop, length, slice_get}
 use Rattle.std.specs.declared.cmp.Ordering.{Ordering}
 use Rattle.std.specs.declared.cmp.Ordering.TheVariants.{Less, Equal, Greater}
 use Rattle.std.specs.Cmp.Lexicographic.{slice_cmp}
@@ -30,10 +30,18 @@ pub record IsStart (u : UniverseView) (k : Option KeyTexts) (at : Place) (from :
   pub late : (c : Cell) → Contains (cells_left u at from) c → IsAfter k c
 
 -- the line at the place is the key's own
-abbrev pub IsOwnLine : UniverseView → Option KeyTexts → Place → Type 0
-IsOwnLine u None at = ⊥
-IsOwnLine u (Some k) at =
+abbrev pub IsOwnLine : UniverseView → KeyTexts → Place → Type 0
+IsOwnLine u k at =
     (l : LineView) × (ls : List LineView) × (lines_from u at ≡ l ∷ ls) × (who_key l.who ≡ k.principal) × (l.namespace ≡ k.namespace) × (l.verb ≡ k.verb)
+
+-- no request of the universe has the principal, the namespace and the verb of a key
+abbrev pub HasNoLine : UniverseView → KeyTexts → Type 0
+HasNoLine u k = (c : Cell) → IsCellOf u c → who_key c.who ≡ k.principal → c.namespace ≡ k.namespace → c.verb ≡ k.verb → ⊥
+
+-- the first line is the key's own if the universe has it, and otherwise, or without a key, is included whole
+abbrev pub BeginsOnLine : UniverseView → Option KeyTexts → Place → ℕ → Type 0
+BeginsOnLine u None at from = from ≡ 0
+BeginsOnLine u (Some k) at from = IsOwnLine u k at ⊎ (HasNoLine u k × (from ≡ 0))
 
 -- the element at that place of an ascending list compares equal to t
 pub record IsFoundAt {X K : Type 0} (cmp : K → K → Ordering) (name : X → K) (xs : List X) (t : K) (i : ℕ) : Type 0 where
@@ -68,7 +76,3 @@ pub record IsTargetPlace (u : UniverseView) (k : KeyTexts) (place : ℕ) : Type 
   pub within : place ≤ length u.targets
   pub below : (t : Listed) → Contains (take place u.targets) t → slice_cmp text_cmp (target_texts t) (target_part k) ≡ Greater → ⊥
   pub above : (t : Listed) → Contains (drop place u.targets) t → slice_cmp text_cmp (target_texts t) (target_part k) ≡ Greater
-
--- no request of the universe has the principal, the namespace and the verb of a key
-abbrev pub HasNoLine : UniverseView → KeyTexts → Type 0
-HasNoLine u k = (c : Cell) → IsCellOf u c → who_key c.who ≡ k.principal → c.namespace ≡ k.namespace → c.verb ≡ k.verb → ⊥

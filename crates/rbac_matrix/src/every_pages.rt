@@ -3,6 +3,7 @@
 ghost use Rattle.std.specs.Prelude.{◌≡◌, false, true, List, OnOk, OnErr, IsErrOf};
 ghost use Rattle.rbac_model.specs.Universes.{RowView};
 ghost use Rattle.rbac_streams.specs.Taken.{Prints};
+ghost use Rattle.rbac_matrix.specs.Enumeration.{GoesOn};
 ghost use Rattle.rbac_matrix.specs.EveryLeft.{AreEveryLeft, IsGoingEvery};
 ghost use Rattle.rbac_matrix.specs.EveryPages.{StopsInEveryPage, every_page_text};
 ghost use Rattle.rbac_matrix.specs.Pages.{cut_at};
@@ -18,7 +19,8 @@ use std::io::Write;
 /// token on the last line is that of the last row's mark, so that the next page goes on with the
 /// next binding of the same request. Keeps no list of rows.
 ///
-/// If the sink fails, or memory for a line runs out, a prefix of the page was printed.
+/// If the sink fails, or memory for a line runs out, a prefix of the page was printed. In either
+/// case the rows can still be used.
 pub fn print_every_page<W: Write + Drop>(
     alloc: Global,
     rows: &mut EveryRows<'_, '_>,
@@ -29,6 +31,7 @@ pub fn print_every_page<W: Write + Drop>(
     requires going { IsGoingEvery rows.old }
     requires works { sink.old.has_failed ≡ false }
     ensures ok { OnOk result ((all : List RowView) → AreEveryLeft rows.old all → Prints W.contents sink.old page.old sink.new page.new (every_page_text (cut_at limit all))) }
+    ensures rows { IsGoingEvery rows.new × GoesOn rows.old.rows rows.new.rows }
     ensures works { OnOk result (sink.new.has_failed ≡ false) }
     ensures err { OnErr result (StopsInEveryPage W.contents sink.old page.old sink.new page.new limit rows.old) }
     ensures failed { IsErrOf result PrintFault.SinkFailed → sink.new.has_failed ≡ true }

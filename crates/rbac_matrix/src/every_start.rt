@@ -11,7 +11,7 @@ ghost use Rattle.rbac_token.specs.Marks.{name_texts};
 ghost use Rattle.rbac_matrix.specs.EveryLeft.{AreBelow};
 ghost use Rattle.rbac_matrix.specs.EveryStart.{ArePastName, HasNoRequest, IsEveryStart, IsKeyStart, IsOwnRequest, key_of_mark};
 ghost use Rattle.rbac_matrix.specs.Lines.{IsSettled};
-ghost use Rattle.rbac_matrix.specs.Starting.{IsOwnLine, IsStart};
+ghost use Rattle.rbac_matrix.specs.Starting.{BeginsOnLine, IsStart};
 
 use crate::start::{Start, line_place, start_after, target_place};
 use rbac_index::Index;
@@ -86,7 +86,7 @@ fn own_request(universe: &Universe, key: &Key) -> Option<Start>
 fn whole_start(universe: &Universe, key: Option<&Key>) -> EveryStart
     ensures settled { IsSettled universe.now result.request.at }
     ensures start { IsStart universe.now (option_copied key.entry) result.request.at result.request.from }
-    ensures own { (result.request.from ≡ 0) ⊎ IsOwnLine universe.now (option_copied key.entry) result.request.at }
+    ensures line { BeginsOnLine universe.now (option_copied key.entry) result.request.at result.request.from }
     ensures few { result.request.from ≤ most_targets }
     ensures whole { (result.binding ≡ 0) × (result.upto ≡ 0) }
 {

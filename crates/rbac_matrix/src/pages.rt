@@ -5,7 +5,7 @@ ghost use Rattle.std.specs.Option.{option_map};
 ghost use Rattle.rbac_model.specs.Universes.{RowView};
 ghost use Rattle.rbac_streams.specs.Taken.{Prints};
 ghost use Rattle.rbac_text.specs.Row.{newline, row_text};
-ghost use Rattle.rbac_matrix.specs.Enumeration.{AreLeft, IsGoing};
+ghost use Rattle.rbac_matrix.specs.Enumeration.{AreLeft, GoesOn, IsGoing};
 ghost use Rattle.rbac_matrix.specs.Pages.{StopsInPage, cut_at, page_text};
 ghost use Rattle.rbac_matrix.specs.Printed.{StopsBy};
 ghost use Rattle.rbac_matrix.specs.RowTexts.{key_shown};
@@ -28,7 +28,8 @@ const END: &[u8] = b"end\n";
 /// If more rows follow, the last line is `next` and the token of the last row, joined by a tab;
 /// otherwise it is `end`. Keeps no list of rows.
 ///
-/// If the sink fails, or memory for a line runs out, a prefix of the page was printed.
+/// If the sink fails, or memory for a line runs out, a prefix of the page was printed. In either
+/// case the rows can still be used.
 pub fn print_page<W: Write + Drop>(
     alloc: Global,
     rows: &mut Rows<'_, '_>,
@@ -39,6 +40,7 @@ pub fn print_page<W: Write + Drop>(
     requires going { IsGoing rows.old }
     requires works { sink.old.has_failed ≡ false }
     ensures ok { OnOk result ((all : List RowView) → AreLeft rows.old all → Prints W.contents sink.old page.old sink.new page.new (page_text (cut_at limit all))) }
+    ensures rows { IsGoing rows.new × GoesOn rows.old rows.new }
     ensures works { OnOk result (sink.new.has_failed ≡ false) }
     ensures err { OnErr result (StopsInPage W.contents sink.old page.old sink.new page.new limit rows.old) }
     ensures failed { IsErrOf result PrintFault.SinkFailed → sink.new.has_failed ≡ true }

@@ -1,6 +1,6 @@
 //! Where the rows after a key begin.
 
-ghost use Rattle.std.specs.Prelude.{length, Some, ◌≡◌, ◌⊎◌, [], ◌∷◌, ◌≤◌, IfOk, IfErr};
+ghost use Rattle.std.specs.Prelude.{length, Some, ◌≡◌, [], ◌∷◌, ◌≤◌, IfOk, IfErr};
 ghost use Rattle.std.specs.Option.{option_copied};
 ghost use Rattle.std.specs.Cmp.Lexicographic.{slice_cmp};
 ghost use Rattle.rbac_terms.specs.Text.{text_cmp};
@@ -13,7 +13,7 @@ ghost use Rattle.rbac_model.specs.Universes.{IsUniverse, most_targets};
 ghost use Rattle.rbac_matrix.specs.Metering.{AreSought, IsMetered, IsReady};
 ghost use Rattle.rbac_index.specs.Reaches.{AreReaches};
 ghost use Rattle.rbac_matrix.specs.Seats.{AreEmpty};
-ghost use Rattle.rbac_matrix.specs.Starting.{HasNoLine, IsFoundAt, IsGapAt, IsOwnLine, IsOwnPlace, IsStart, IsTargetPlace, target_part, what_texts, whats};
+ghost use Rattle.rbac_matrix.specs.Starting.{BeginsOnLine, HasNoLine, IsFoundAt, IsGapAt, IsOwnPlace, IsStart, IsTargetPlace, target_part, what_texts, whats};
 
 use crate::bound_runs::Runs;
 use crate::line::{Place, line_at, settled};
@@ -130,7 +130,7 @@ fn line_start(universe: &Universe, at: Place) -> Start
 fn start_at(universe: &Universe, key: &Key) -> Start
     ensures settled { IsSettled universe.now result.at }
     ensures start { IsStart universe.now (Some key.now) result.at result.from }
-    ensures own { (result.from ≡ 0) ⊎ IsOwnLine universe.now (Some key.now) result.at }
+    ensures line { BeginsOnLine universe.now (Some key.now) result.at result.from }
     ensures few { result.from ≤ most_targets }
 {
     match line_place(universe, key) {
@@ -146,7 +146,7 @@ fn start_at(universe: &Universe, key: &Key) -> Start
 pub(crate) fn start_after(universe: &Universe, key: Option<&Key>) -> Start
     ensures settled { IsSettled universe.now result.at }
     ensures start { IsStart universe.now (option_copied key.entry) result.at result.from }
-    ensures own { (result.from ≡ 0) ⊎ IsOwnLine universe.now (option_copied key.entry) result.at }
+    ensures line { BeginsOnLine universe.now (option_copied key.entry) result.at result.from }
     ensures few { result.from ≤ most_targets }
 {
     match key {

@@ -14,7 +14,7 @@ pub returns-in_default-clause-start : goal.returns-in_default-clause-start
 returns-in_default-clause-start c = λ policy is. rw (c.in_default.is, c.whole_start.ensures.whole.0) (start_whole c.args.index.now policy c.args.universe.now is None c.whole_start.result.request.at c.whole_start.result.request.from tt c.whole_start.ensures.start)
 
 pub returns-in_default-clause-key : goal.returns-in_default-clause-key
-returns-in_default-clause-key c = rw c.in_default.is (key_whole c.args.universe.now _ c.whole_start.result.request.at c.whole_start.result.request.from c.whole_start.ensures.start c.whole_start.ensures.own)
+returns-in_default-clause-key c = rw c.in_default.is (key_whole c.args.universe.now _ c.whole_start.result.request.at c.whole_start.result.request.from c.whole_start.ensures.start c.whole_start.ensures.line)
 
 pub returns-in_default-clause-below : goal.returns-in_default-clause-below
 returns-in_default-clause-below c = rw (c.whole_start.ensures.whole.0, c.whole_start.ensures.whole.1) (below_none c.args.index.now)
@@ -32,7 +32,7 @@ pub returns-in_default-binding-clause-start : goal.returns-in_default-binding-cl
 returns-in_default-binding-clause-start c = λ policy is. rw (c.in-Some.is, c.whole_start-in_default-binding.ensures.whole.0) (start_whole c.args.index.now policy c.args.universe.now is (Some c.in-Some.mark.now) c.whole_start-in_default-binding.result.request.at c.whole_start-in_default-binding.result.request.from (inl c.in_default-binding.is) c.whole_start-in_default-binding.ensures.start)
 
 pub returns-in_default-binding-clause-key : goal.returns-in_default-binding-clause-key
-returns-in_default-binding-clause-key c = rw c.in-Some.is (key_whole c.args.universe.now _ c.whole_start-in_default-binding.result.request.at c.whole_start-in_default-binding.result.request.from c.whole_start-in_default-binding.ensures.start c.whole_start-in_default-binding.ensures.own)
+returns-in_default-binding-clause-key c = rw c.in-Some.is (key_whole c.args.universe.now _ c.whole_start-in_default-binding.result.request.at c.whole_start-in_default-binding.result.request.from c.whole_start-in_default-binding.ensures.start c.whole_start-in_default-binding.ensures.line)
 
 pub returns-in_default-binding-clause-below : goal.returns-in_default-binding-clause-below
 returns-in_default-binding-clause-below c = rw (c.whole_start-in_default-binding.ensures.whole.0, c.whole_start-in_default-binding.ensures.whole.1) (below_none c.args.index.now)
@@ -50,7 +50,7 @@ pub returns-in_default-own_request-clause-start : goal.returns-in_default-own_re
 returns-in_default-own_request-clause-start c = λ policy is. rw (c.in-Some.is, c.whole_start-in_default-own_request.ensures.whole.0) (start_whole c.args.index.now policy c.args.universe.now is (Some c.in-Some.mark.now) c.whole_start-in_default-own_request.result.request.at c.whole_start-in_default-own_request.result.request.from (inr c.in_default-own_request.ensures.found) c.whole_start-in_default-own_request.ensures.start)
 
 pub returns-in_default-own_request-clause-key : goal.returns-in_default-own_request-clause-key
-returns-in_default-own_request-clause-key c = rw c.in-Some.is (key_whole c.args.universe.now _ c.whole_start-in_default-own_request.result.request.at c.whole_start-in_default-own_request.result.request.from c.whole_start-in_default-own_request.ensures.start c.whole_start-in_default-own_request.ensures.own)
+returns-in_default-own_request-clause-key c = rw c.in-Some.is (key_whole c.args.universe.now _ c.whole_start-in_default-own_request.result.request.at c.whole_start-in_default-own_request.result.request.from c.whole_start-in_default-own_request.ensures.start c.whole_start-in_default-own_request.ensures.line)
 
 pub returns-in_default-own_request-clause-below : goal.returns-in_default-own_request-clause-below
 returns-in_default-own_request-clause-below c = rw (c.whole_start-in_default-own_request.ensures.whole.0, c.whole_start-in_default-own_request.ensures.whole.1) (below_none c.args.index.now)

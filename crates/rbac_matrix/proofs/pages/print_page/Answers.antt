@@ -2,12 +2,13 @@ use Rattle.std.proofs.Common.{◌∙◌, sym}
 use Rattle.rbac_matrix.specs.Enumeration.{AreLeft}
 use Rattle.rbac_matrix.specs.declared.token.TokenOf.TheVariants.{Key}
 use Rattle.std.proofs.lemmas.Result.{err_from_is_err_and, on_ok_weaker}
-use Rattle.rbac_matrix.proofs.PageLemmas.{begins, goes_on, if_err_weaker, is_full, not_full, prints_end, prints_next, rows_none, stops_end, stops_next, stops_row}
+use Rattle.rbac_matrix.proofs.PageLemmas.{begins, goes_further, goes_nowhere, goes_on, if_err_weaker, is_full, not_full, prints_end, prints_next, rows_none, stops_end, stops_next, stops_row}
 use Rattle.rbac_matrix.proofs.pages.print_page.Goals as goal
 
 pub loop-row-init : goal.loop-row-init
 loop-row-init g c = record {
   going = c.requires.going;
+  same = goes_nowhere c.args.rows.now;
   works = c.requires.works;
   goes = begins AreLeft rows_none Key g.W.Write.contents c.args.sink.now c.args.page.now c.args.rows.now c.args.limit;
 }
@@ -45,6 +46,7 @@ loop-row-preserved g c =
     c.loop-row.invariant.goes c.print_row.new.sink c.print_row.new.page c.next.new.self c.in-Some.row c.in-Some.ensures.steps.row c.in-Some.ensures.steps.shows (λ all. (c.in-Some.ensures.steps.left all).0) some c.in_ok-print_row.ensures.ok in
     record {
       going = c.next.ensures.going;
+      same = goes_further c.loop-row.invariant.same c.next.ensures.same;
       works = c.in_ok-print_row.ensures.works;
       goes = rw c.one_less-left.ensures goes;
     }
