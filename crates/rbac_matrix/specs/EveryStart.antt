@@ -38,14 +38,14 @@ pub record IsEveryStart (h : Held) (u : UniverseView) (m : Option Mark) (at : Pl
   pub early : (r : RowView) → Contains before r → IsGranted h r → ComesAfter m r → ⊥
   pub late : (r : RowView) → Contains (pairs_from h.bindings place (cells_left u at from)) r → IsGranted h r → ComesAfter m r
 
--- the requests after the key begin on this line, which is the key's own if the universe has it, and the place within the line is no later than where they begin
+-- the requests after the key begin on this line, which is the key's own if the universe has it; the place within the line comes no later than they do
 pub record IsKeyStart (u : UniverseView) (k : Option KeyTexts) (at : Place) (from : ℕ) : Type 0 where
   pub first : ℕ
   pub start : IsStart u k at first
   pub line : BeginsOnLine u k at first
   pub within : from ≤ first
 
--- the rows begin at the first line, as do the requests after the key; within a line no more cursors were sought than it has
+-- the rows begin at the first line, as do the requests after the key; cursors were sought only if that is within the line, and no more than the line has
 pub record EveryStarts (s : EveryRows) (k : Option KeyTexts) : Type 0 where
   pub start : IsKeyStart s.rows.universe.now k s.rows.start s.rows.from
   pub here : s.rows.at ≡ s.rows.start
