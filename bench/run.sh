@@ -10,21 +10,20 @@ least() {
     python3 least.py 7 "$@"
 }
 
-# One line for an export: its size, the times of the three programs, and the ratio of can-i to JSON alone.
-measure() {
-    local name=$1 file=$2
-    local json answer holders
-    json=$(least "$alone" "$file")
-    answer=$(least "$audit" can-i --as nobody@example.com -A get pods "$file")
-    holders=$(least "$audit" who-can -A get pods "$file")
-    printf '%-44s %9d bytes  JSON alone %5d ms  can-i %5d ms  who-can %5d ms  ratio %s\n' \
-        "$name" "$(stat -c %s "$file")" "$json" "$answer" "$holders" \
-        "$(python3 -c "print('%.2f' % ($answer / max(1, $json)))")"
-}
-
 # The time of `can-i` on an export, in milliseconds.
 ask() {
     least "$audit" can-i --as nobody@example.com -A get pods "$1"
+}
+
+# One line for an export: its size, the times of JSON alone and of three commands, and the ratio of can-i to JSON alone.
+measure() {
+    local name=$1 file=$2
+    local json answer
+    json=$(least "$alone" "$file")
+    answer=$(ask "$file")
+    printf '%-44s %9d bytes  JSON alone %5d ms  can-i %5d ms  who-can %5d ms  lint %5d ms  ratio %s\n' \
+        "$name" "$(stat -c %s "$file")" "$json" "$answer" "$(least "$audit" who-can -A get pods "$file")" \
+        "$(least "$audit" lint "$file")" "$(python3 -c "print('%.2f' % ($answer / max(1, $json)))")"
 }
 
 # One line for a matrix over an export and a universe: its requests, and its time for the first binding and for every one.
@@ -56,7 +55,7 @@ measure_pages() {
         "$(least "$audit" matrix --limit 1000 "$file")" "$(least "$audit" matrix --limit 1000 --after "$late" "$file")"
 }
 
-# One line for lint on an export, beside can-i.
+# One line for lint on a role of many rules, beside can-i.
 measure_lint() {
     local name=$1 file=$2
     printf '%-44s can-i %5d ms  lint %5d ms\n' "$name" "$(ask "$file")" "$(least "$audit" lint "$file")"
@@ -85,10 +84,6 @@ measure_pages "pages, 1000 roles, 4000 bindings" "$room/export.json"
 for size in "4 20 60" "40 20 60" "4 200 60" "4 20 600"; do
     python3 generate_idle.py $size "$room/idle.json"
     printf '%-44s matrix %5d ms\n' "verbs, namespaces, resources $size" "$(least "$audit" matrix "$room/idle.json")"
-done
-for size in "1000 4000 100" "5000 20000 300" "10000 40000 500"; do
-    python3 generate_export.py $size 1 "$room/export.json" > /dev/null
-    measure_lint "lint, $size roles, bindings, namespaces" "$room/export.json"
 done
 for kind in different equal subresources urls prefixes; do
     python3 generate_rules.py "$kind" 20000 "$room/rules.json"
