@@ -39,7 +39,8 @@ class Progress:
         if ended:
             self.done += 1
             minutes = (time.monotonic() - self.begun) / 60
-            line = '%s %s (%d of %d, after %.1f minutes)\n' % (*ended.groups(), self.done, self.count, minutes)
+            how = 'was proved before' if ended[2] == 'is kept' else ended[2]
+            line = '%s %s (%d of %d, after %.1f minutes)\n' % (ended[1], how, self.done, self.count, minutes)
         if not line.startswith('rt: ok'):
             print(line, end='', flush=True)
 
