@@ -37,13 +37,6 @@ fields_more base printed put ts i t before puts e =
     ∙ ap (λ l. flat_map after_tab (take i ts) ++ l) (append-nil (after_tab t)) in
     puts ∙ ap (λ l. l ++ after_tab t) before ∙ append_assoc base (flat_map after_tab (take i ts)) (after_tab t) ∙ ap (λ l. base ++ l) (sym more)
 
--- one of several texts that stand in a list
-pub text_at : {X : Type 0} (items : List (Bor X)) (all : List X) (i : ℕ) (d : Bor X) (e : X) → map (λ t. t.now) items ≡ all → i < length all
-    → (get_or items i d).now ≡ get_or all i e
-text_at items all i d e same within =
-    let long : length items ≡ length all = sym (length-map items (λ t. t.now)) ∙ ap length same in
-    sym (get_or-map (λ t. t.now) items i d e (omega (arith, long, within))) ∙ ap (λ l. get_or l i e) same
-
 -- ---- what stands between the tabs
 
 hex_is_no_tab : (c : Bool) (d : ℕ) → (if c then 48 + d else 87 + d) ≢ tab

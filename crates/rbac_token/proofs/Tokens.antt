@@ -1,5 +1,5 @@
 -- A token stands for one key, or one mark, at most.
-use Rattle.std.proofs.Common.{◌≡◌, ◌⊎◌, ap, ◌∙◌, refl, inl, inr, rules, subst, arith, get_or, Result, Ok, Err, MatchResult, IfOk, IfErr}
+use Rattle.std.proofs.Common.{◌≡◌, ◌⊎◌, ap, ◌∙◌, refl, sym, inl, inr, rules, subst, arith, get_or, Result, Ok, Err, MatchResult, IfOk, IfErr}
 use Rattle.std.specs.Prelude.{Option, Some, None}
 use Rattle.base64.proofs.EngineFacts.{decode_of-encode_of}
 use Rattle.base64.specs.Engines.{url_safe_no_pad}
@@ -51,6 +51,15 @@ pub no_mark_in : (token : Text) (r : Result Mark TokenFault) → MatchResult r (
     → IfErr r (λ e. (e ≡ NoMemory) ⊎ ((m : Mark) → IsTokenOfMark token m → ⊥))
 no_mark_in token (Ok m) h = tt
 no_mark_in token (Err e) h = refused_has_no_mark token e h
+
+-- if bytes are no other mark's and not this one's, they are no mark's
+pub none_printed : (bytes : Text) (mark : Mark) → ((m : Mark) → IsKey m.key → bytes ≡ printed_mark m.key m.binding → mark ≡ m) → (e : TokenFault)
+    → RefusesIf (bytes ≡ printed_mark mark.key mark.binding → ⊥) e → RefusesIf ((m : Mark) → IsMarkPrintedAs bytes m → ⊥) e
+none_printed bytes mark one NotBase64 h = absurd h
+none_printed bytes mark one BadVersion h = absurd h
+none_printed bytes mark one NotCanonical h =
+    λ m t. h (t.1 ∙ ap (λ (x : Mark). printed_mark x.key x.binding) (sym (one m t.0 t.1)))
+none_printed bytes mark one NoMemory h = tt
 
 -- ---- the mark that is printed in what a token encodes
 

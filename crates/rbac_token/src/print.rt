@@ -13,7 +13,7 @@ use rbac_text::put_field;
 use std::alloc::{AllocError, Global};
 
 // How many texts a key has.
-const TEXTS: usize = 6;
+pub(crate) const TEXTS: usize = 6;
 
 // The kind words of bindings.
 const CLUSTER_ROLE_BINDING: &[u8] = b"ClusterRoleBinding";

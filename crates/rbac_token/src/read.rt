@@ -17,7 +17,7 @@ ghost use Rattle.rbac_token.specs.declared.mark.Mark.{Mark};
 use crate::fault::TokenFault;
 use crate::field::read_field;
 use crate::mark::{BindingName, Mark};
-use crate::print::ROLE_BINDING;
+use crate::print::{ROLE_BINDING, TEXTS};
 use rbac_terms::{Key, ModelFault, Principal, Target, Word, Words};
 use std::alloc::{AllocError, Global};
 
@@ -30,27 +30,22 @@ pub(crate) fn read_mark(alloc: Global, bytes: &[u8]) -> Result<Mark, TokenFault>
     ensures refused { IfErr result IsReadFault }
 {
     let texts = texts_of(alloc, bytes)?;
-    let Some((principal, namespace, verb, group, text, name, rest)) = after_version(
-        texts.as_slice(),
-    ) else {
+    let Some((key, binding)) = after_version(texts.as_slice()) else {
         return Err(TokenFault::NotCanonical);
     };
-    let binding = binding_of_texts(rest)?;
-    let key = key_of_texts(alloc, [principal, namespace, verb, group, text, name])?;
+    let binding = binding_of_texts(binding)?;
+    let key = key_of_texts(alloc, key)?;
     Ok(Mark { key, binding })
 }
 
 // The six texts of a key after the version, and the texts after them.
-fn after_version(texts: &[Word]) -> Option<(&Word, &Word, &Word, &Word, &Word, &Word, &[Word])>
+fn after_version(texts: &[Word]) -> Option<(&[Word], &[Word])>
     ensures { (version : Text) (k : KeyTexts) (others : List Text) → texts.now ≡ version ∷ texts_of k ++ others
-        → IsSomeAnd result (λ found. ((found.0.now ∷ found.1.now ∷ found.2.now ∷ found.3.now ∷ found.4.now
-        ∷ found.5.now ∷ []) ≡ texts_of k) × (found.6.now ≡ others)) }
+        → IsSomeAnd result (λ found. (found.0.now ≡ texts_of k) × (found.1.now ≡ others)) }
 {
     match texts {
-        [_, principal, namespace, verb, group, text, name, rest @ ..] => {
-            Some((principal, namespace, verb, group, text, name, rest))
-        }
-        _ => None,
+        [_, rest @ ..] => rest.split_at_checked(TEXTS),
+        [] => None,
     }
 }
 
@@ -84,16 +79,36 @@ fn name_of(kind: &Word, namespace: &Word, name: &Word) -> Result<BindingName, Al
 }
 
 // The key of these texts.
-fn key_of_texts(alloc: Global, texts: [&Word; 6]) -> Result<Key, TokenFault>
-    ensures whole { (k : KeyTexts) → IsKey k → map (λ text. text.now) texts.entry ≡ texts_of k
+fn key_of_texts(alloc: Global, texts: &[Word]) -> Result<Key, TokenFault>
+    ensures whole { (k : KeyTexts) → IsKey k → texts.now ≡ texts_of k
         → MatchResult result (λ read. read ≡ k) (λ e. e ≡ TokenFault.NoMemory) }
     ensures key { IfOk result IsKey }
     ensures refused { IfErr result IsReadFault }
 {
-    let [principal, namespace, verb, group, text, name] = texts;
-    let principal = principal_of_key(alloc, principal.as_bytes())?;
+    let [principal, namespace, verb, group, text, name] = texts else {
+        return Err(TokenFault::NotCanonical);
+    };
     let target = target_of(alloc, group, text, name)?;
-    Ok(Key::of(alloc, &principal, namespace, verb, &target)?)
+    key_for(alloc, principal, namespace, verb, &target)
+}
+
+// The key of the principal with this key, a namespace, a verb and a target.
+fn key_for(
+    alloc: Global,
+    principal: &Word,
+    namespace: &Word,
+    verb: &Word,
+    target: &Target,
+) -> Result<Key, TokenFault>
+    requires { IsProper target.now }
+    ensures whole { (k : KeyTexts) (h : IsKey k) → principal.now ≡ k.principal → namespace.now ≡ k.namespace
+        → verb.now ≡ k.verb → target.now ≡ h.what
+        → MatchResult result (λ read. read ≡ k) (λ e. e ≡ TokenFault.NoMemory) }
+    ensures key { IfOk result IsKey }
+    ensures refused { IfErr result IsReadFault }
+{
+    let principal = principal_of_key(alloc, principal.as_bytes())?;
+    Ok(Key::of(alloc, &principal, namespace, verb, target)?)
 }
 
 // The texts whose fields are between the tabs.

@@ -1,11 +1,11 @@
 //! Tokens of keys and of marks.
 
-ghost use Rattle.std.specs.Prelude.{◌≡◌, ◌⊎◌, ◌↔◌, ◌∷◌, [], IsTrue, IfOk, IfErr, MatchResult, None};
+ghost use Rattle.std.specs.Prelude.{◌≡◌, ◌≢◌, ◌⊎◌, ◌↔◌, ◌∷◌, [], IsTrue, IfOk, IfErr, MatchResult, None};
 ghost use Rattle.base64.specs.Engines.{url_safe_no_pad};
 ghost use Rattle.base64.specs.GeneralPurpose.{encode_of};
 ghost use Rattle.rbac_terms.specs.Keys.{KeyTexts};
 ghost use Rattle.rbac_token.specs.Faults.{IsMarkFault, IsTokenFault, RefusesIf};
-ghost use Rattle.rbac_token.specs.Marks.{HasMarkVersion, IsMarkPrintedAs, IsTokenOfMark, mark_text};
+ghost use Rattle.rbac_token.specs.Marks.{HasMarkVersion, IsMarkPrintedAs, IsTokenOfMark, mark_text, printed_mark};
 ghost use Rattle.rbac_token.specs.Token.{Encodes, HasVersion, IsTokenOf, token_text};
 ghost use Rattle.rbac_token.specs.declared.mark.Mark.{Mark};
 
@@ -82,11 +82,20 @@ fn mark_printed_as(alloc: Global, bytes: &[u8]) -> Result<Mark, TokenFault>
     ensures one { IfOk result (λ m. (other : Mark) → IsMarkPrintedAs bytes.now other → other ≡ m) }
 {
     let mark = read_mark(alloc, bytes)?;
+    check_spelling(alloc, &mark, bytes)?;
+    Ok(mark)
+}
+
+// Refuses bytes that aren't exactly what the mark is printed as.
+fn check_spelling(alloc: Global, mark: &Mark, bytes: &[u8]) -> Result<(), TokenFault>
+    ensures { MatchResult result (λ _. bytes.now ≡ printed_mark mark.now.key mark.now.binding)
+        (RefusesIf (bytes.now ≢ printed_mark mark.now.key mark.now.binding)) }
+{
     let again = print_mark(alloc, &mark.key, mark.binding.as_ref())?;
     if again.as_slice() != bytes {
         return Err(TokenFault::NotCanonical);
     }
-    Ok(mark)
+    Ok(())
 }
 
 // The token that encodes these bytes.
