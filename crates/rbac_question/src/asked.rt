@@ -47,33 +47,20 @@ impl Asked {
     // What TARGET and `--subresource` ask for (own): a URL if TARGET begins with `/`, otherwise a
     // type, with TARGET split at its first `/` into type word and object name. A missing name is
     // the empty text.
-    //
-    // U2 if TARGET is empty or begins with `.`, U3 if a URL has a subresource. Both are refused
-    // before anything is allocated.
     pub(crate) fn from_target(
         alloc: Global,
         target: &str,
         subresource: &str,
-    ) -> Result<Self, QuestionFault>
-        ensures asked { IfOk result
+    ) -> Result<Self, AllocError>
+        requires typed { ¬ LacksType target.now }
+        requires located { ¬ HasUrlSubresource target.now subresource.now }
+        ensures { IfOk result
             (λ asked. AsksFor target.now subresource.now asked × IsAskable asked) }
-        ensures accepted { OnOk result
-            ((¬ LacksType target.now) × (¬ HasUrlSubresource target.now subresource.now)) }
-        ensures refused { IfErr result (RefusesTarget target.now subresource.now) }
-        ensures lacking { LacksType target.now → result ≡ Err QuestionFault.EmptyWord }
-        ensures located { ¬ LacksType target.now → HasUrlSubresource target.now subresource.now
-            → result ≡ Err QuestionFault.UrlSubresource }
     {
-        if lacks_type(target) {
-            return Err(QuestionFault::EmptyWord);
+        if is_path(target) {
+            return located(alloc, target);
         }
-        if !is_path(target) {
-            return Ok(typed(alloc, target, subresource)?);
-        }
-        if !subresource.is_empty() {
-            return Err(QuestionFault::UrlSubresource);
-        }
-        Ok(located(alloc, target)?)
+        typed(alloc, target, subresource)
     }
 
     /// What is asked for.
@@ -83,6 +70,25 @@ impl Asked {
     {
         &self.what
     }
+}
+
+// Why TARGET and `--subresource` ask for nothing: U2 if TARGET is empty or begins with `.`, U3 if a
+// URL has a subresource.
+pub(crate) fn check_target(target: &str, subresource: &str) -> Result<(), QuestionFault>
+    ensures accepted { OnOk result
+        ((¬ LacksType target.now) × (¬ HasUrlSubresource target.now subresource.now)) }
+    ensures refused { IfErr result (RefusesTarget target.now subresource.now) }
+    ensures lacking { LacksType target.now → result ≡ Err QuestionFault.EmptyWord }
+    ensures located { ¬ LacksType target.now → HasUrlSubresource target.now subresource.now
+        → result ≡ Err QuestionFault.UrlSubresource }
+{
+    if lacks_type(target) {
+        return Err(QuestionFault::EmptyWord);
+    }
+    if is_path(target) && !subresource.is_empty() {
+        return Err(QuestionFault::UrlSubresource);
+    }
+    Ok(())
 }
 
 fn lacks_type(target: &str) -> bool

@@ -5,7 +5,7 @@ ghost use Rattle.rbac_terms.specs.Principals.{AsUser};
 ghost use Rattle.rbac_token.specs.Marks.{IsTokenOfMark};
 ghost use Rattle.rbac_question.specs.Lines.{comma, parts_between, groups_in, namespace_meant, IsQuestion, MeansCanI, MeansWhoCan, MeansMatrix, LacksWord, AcceptsQuestion, RefusesQuestion, AcceptsCanI, RefusesCanI, RefusesMatrix, RefusesUser, HasBadToken};
 
-use crate::asked::Asked;
+use crate::asked::{Asked, check_target};
 use crate::command::{Action, Question};
 use crate::fault::QuestionFault;
 use rbac_terms::{ModelFault, Principal, Word, Words};
@@ -156,21 +156,28 @@ fn mark_after(alloc: Global, token: &str) -> Result<Mark, QuestionFault>
     Ok(mark_of_token(alloc, &token)?)
 }
 
-// The question that a line asks, apart from who asks it.
-fn question_of(alloc: Global, line: &QuestionLine<'_>) -> Result<Question, QuestionFault>
-    ensures answer { MatchResult result (λ question. AcceptsQuestion line.now × IsQuestion line.now question)
-        (RefusesQuestion line.now) }
+// Why a line asks no question: U2 if VERB or TARGET is empty, or TARGET begins with `.`; otherwise
+// U3 if a URL has a subresource.
+fn check_question(line: &QuestionLine<'_>) -> Result<(), QuestionFault>
+    ensures answer { MatchResult result (λ _. AcceptsQuestion line.now) (RefusesQuestion line.now) }
     ensures lacking { LacksWord line.now → result ≡ Err QuestionFault.EmptyWord }
     ensures located { RefusesQuestion line.now QuestionFault.UrlSubresource → result ≡ Err QuestionFault.UrlSubresource }
 {
     if line.verb.is_empty() {
         return Err(QuestionFault::EmptyWord);
     }
-    let asked = Asked::from_target(alloc, line.target, line.subresource)?;
+    check_target(line.target, line.subresource)
+}
+
+// The question that a line asks, apart from who asks it.
+fn question_of(alloc: Global, line: &QuestionLine<'_>) -> Result<Question, AllocError>
+    requires { AcceptsQuestion line.now }
+    ensures { IfOk result (IsQuestion line.now) }
+{
     Ok(Question {
         namespace: namespace_from(alloc, line.all_namespaces, line.namespace)?,
         verb: Word::from_slice(alloc, line.verb.as_bytes())?,
-        asked,
+        asked: Asked::from_target(alloc, line.target, line.subresource)?,
     })
 }
 
@@ -188,8 +195,9 @@ impl Action {
         if line.user.is_empty() {
             return Err(QuestionFault::EmptyWord);
         }
-        let question = question_of(alloc, &line.question)?;
+        check_question(&line.question)?;
         let principal = principal_from(alloc, line.user, line.groups)?;
+        let question = question_of(alloc, &line.question)?;
         Ok(Action::CanI {
             principal,
             quiet: line.quiet,
@@ -209,6 +217,7 @@ impl Action {
         ensures lacking { LacksWord line.now → result ≡ Err QuestionFault.EmptyWord }
         ensures located { RefusesQuestion line.now QuestionFault.UrlSubresource → result ≡ Err QuestionFault.UrlSubresource }
     {
+        check_question(line)?;
         Ok(Action::WhoCan {
             question: question_of(alloc, line)?,
         })
