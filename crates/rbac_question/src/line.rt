@@ -169,6 +169,18 @@ fn check_question(line: &QuestionLine<'_>) -> Result<(), QuestionFault>
     check_target(line.target, line.subresource)
 }
 
+// Why a `can-i` line is refused: U2 if USER is empty, otherwise as its question is.
+fn check_can_i(line: &CanILine<'_>) -> Result<(), QuestionFault>
+    ensures answer { MatchResult result (λ _. AcceptsCanI line.now) (RefusesCanI line.now) }
+    ensures lacking { RefusesCanI line.now QuestionFault.EmptyWord → result ≡ Err QuestionFault.EmptyWord }
+    ensures located { RefusesCanI line.now QuestionFault.UrlSubresource → result ≡ Err QuestionFault.UrlSubresource }
+{
+    if line.user.is_empty() {
+        return Err(QuestionFault::EmptyWord);
+    }
+    check_question(&line.question)
+}
+
 // The question that a line asks, apart from who asks it.
 fn question_of(alloc: Global, line: &QuestionLine<'_>) -> Result<Question, AllocError>
     requires { AcceptsQuestion line.now }
@@ -192,10 +204,7 @@ impl Action {
         ensures lacking { RefusesCanI line.now QuestionFault.EmptyWord → result ≡ Err QuestionFault.EmptyWord }
         ensures located { RefusesCanI line.now QuestionFault.UrlSubresource → result ≡ Err QuestionFault.UrlSubresource }
     {
-        if line.user.is_empty() {
-            return Err(QuestionFault::EmptyWord);
-        }
-        check_question(&line.question)?;
+        check_can_i(line)?;
         let principal = principal_from(alloc, line.user, line.groups)?;
         let question = question_of(alloc, &line.question)?;
         Ok(Action::CanI {
