@@ -1,9 +1,9 @@
 //! What the texts of a line mean.
 
-ghost use Rattle.std.specs.Prelude.{◌≡◌, ◌≢◌, ◌⊎◌, [], Some, map, IfOk, IfErr, MatchResult};
+ghost use Rattle.std.specs.Prelude.{◌≡◌, ◌≢◌, ◌⊎◌, [], Some, IfOk, IfErr, MatchResult};
 ghost use Rattle.rbac_terms.specs.Principals.{AsUser};
 ghost use Rattle.rbac_token.specs.Marks.{IsTokenOfMark};
-ghost use Rattle.rbac_question.specs.Lines.{comma, parts_between, groups_in, namespace_meant, IsQuestion, MeansCanI, MeansWhoCan, MeansMatrix, LacksWord, AcceptsQuestion, RefusesQuestion, AcceptsCanI, RefusesCanI, RefusesMatrix, RefusesUser, HasBadToken};
+ghost use Rattle.rbac_question.specs.Lines.{groups_in, namespace_meant, IsQuestion, MeansCanI, MeansWhoCan, MeansMatrix, LacksWord, AcceptsQuestion, RefusesQuestion, AcceptsCanI, RefusesCanI, RefusesMatrix, RefusesUser, HasBadToken};
 
 use crate::asked::{Asked, check_target};
 use crate::command::{Action, Question};
@@ -96,19 +96,12 @@ impl<'a> Model for MatrixLine<'a> {
     } };
 }
 
-// The parts between commas.
-fn parts_of<'a>(alloc: Global, text: &'a str) -> Result<Vec<&'a str>, AllocError>
-    ensures { IfOk result (λ v. map (λ part. part.now) v.items ≡ parts_between comma text.now) }
-{
-    text.split(',').collect(alloc)
-}
-
 // The groups of `--groups`: the parts between commas that are not empty, in order (own).
 fn groups_from(alloc: Global, text: &str) -> Result<Words, AllocError>
     ensures { IfOk result (λ groups. groups ≡ groups_in text.now) }
 {
     let mut groups = Vec::new(alloc);
-    for part in parts_of(alloc, text)?.as_slice() {
+    for part in text.split(',') {
         if !part.is_empty() {
             groups.push(Word::from_slice(alloc, part.as_bytes())?)?;
         }
