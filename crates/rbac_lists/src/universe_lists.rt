@@ -42,17 +42,38 @@ pub fn lists_of(
         lists ≡ lists_meant objects.now catalogue.now namespaces.now accounts.now documents.now) }
 {
     let given = last_lists(documents);
+    let principals = given_or(given.principals, || principals_of(alloc, objects, accounts))?;
+    let namespaces = given_or(
+        given.namespaces,
+        || namespaces_of(alloc, objects, namespaces, accounts),
+    )?;
+    let resources = given_or(given.resources, || resources_of(alloc, objects, catalogue))?;
+    let (verbs, names, urls) = words_of(alloc, objects, catalogue, given)?;
     Ok(UniverseLists {
-        principals: given_or(given.principals, || principals_of(alloc, objects, accounts))?,
-        namespaces: given_or(
-            given.namespaces,
-            || namespaces_of(alloc, objects, namespaces, accounts),
-        )?,
-        verbs: given_or(given.verbs, || verbs_of(alloc, objects, catalogue))?,
-        resources: given_or(given.resources, || resources_of(alloc, objects, catalogue))?,
-        names: given_or(given.names, || names_of(alloc, objects))?,
-        urls: given_or(given.urls, || urls_of(alloc, objects))?,
+        principals,
+        namespaces,
+        verbs,
+        resources,
+        names,
+        urls,
     })
+}
+
+// The verbs, the object names and the paths of URLs, each list given or derived.
+fn words_of(
+    alloc: Global,
+    objects: &Objects,
+    catalogue: &Catalogue,
+    given: LastLists<'_>,
+) -> Result<(Words, Words, Words), AllocError>
+    ensures verbs { IfOk result (λ lists. lists.0 ≡ unwrap_or (option_copied given.entry.verbs) (verbs_of objects.now catalogue.now)) }
+    ensures names { IfOk result (λ lists. lists.1 ≡ unwrap_or (option_copied given.entry.names) (names_of objects.now)) }
+    ensures urls { IfOk result (λ lists. lists.2 ≡ unwrap_or (option_copied given.entry.urls) (urls_of objects.now)) }
+{
+    let verbs = given_or(given.verbs, || verbs_of(alloc, objects, catalogue))?;
+    let names = given_or(given.names, || names_of(alloc, objects))?;
+    let urls = given_or(given.urls, || urls_of(alloc, objects))?;
+    Ok((verbs, names, urls))
 }
 
 // The last one of each list that these documents give.
