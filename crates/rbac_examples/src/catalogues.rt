@@ -1,6 +1,6 @@
 //! Type words that no command passes on: one with a slash, and those with nothing before their dot.
 
-use crate::words::{is, word};
+use crate::words::{built, is, word};
 use rbac_catalogue::{Catalogue, Entries, Entry};
 use rbac_terms::{Word, Words};
 use std::alloc::Global;
@@ -30,26 +30,25 @@ const RESOURCES: &[&str] = &["pods", "pods/log"];
 fn pods_and_logs(rt: &impl Abort, alloc: Global) -> Catalogue {
     let mut entries = Entries::new(alloc);
     for name in RESOURCES {
-        entries.push(entry(rt, alloc, name)).expect(rt, "memory");
+        built(rt, entries.push(entry(rt, alloc, name)));
     }
     let mut catalogue = Catalogue::new(alloc);
-    catalogue.give(entries).expect(rt, "memory");
+    built(rt, catalogue.give(entries));
     catalogue
 }
 
 // Whether the word means the resource of this group and text.
 fn means(rt: &impl Abort, alloc: Global, catalogue: &Catalogue, row: &(&str, &str, &str)) -> bool {
     let (typed, group, resource) = *row;
-    let found = catalogue
-        .resolve_word(alloc, &word(rt, alloc, typed))
-        .expect(rt, "memory");
+    let found = built(rt, catalogue.resolve_word(alloc, &word(rt, alloc, typed)));
     is(&found.group, group) && is(&found.resource, resource)
 }
 
 #[test]
 fn a_word_that_names_nothing_stands_as_written(rt: HostRuntime) {
-    let catalogue = pods_and_logs(&rt, rt.alloc());
+    let alloc = rt.alloc();
+    let catalogue = pods_and_logs(&rt, alloc);
     for row in WORDS {
-        assert!(rt; means(&rt, rt.alloc(), &catalogue, row));
+        assert!(rt; means(&rt, alloc, &catalogue, row));
     }
 }

@@ -2,7 +2,7 @@
 
 use crate::policies::{BindingRow, RuleRow, TO_ALICE, policy};
 use crate::universes::{Listed, universe};
-use crate::words::is;
+use crate::words::{built, is};
 use rbac_index::Index;
 use rbac_terms::{Principal, Word};
 use rbac_text::put_place;
@@ -17,7 +17,7 @@ const FOUR_RULES: &[RuleRow<'static>] = &[
     [&["get", "*", "get"], &[""], &["pods/log", "*/log"], &[]],
 ];
 
-const FOUR_TARGETS: Listed<'static> = Listed {
+const FOUR_TARGETS: &Listed<'static> = &Listed {
     users: &["alice"],
     groups: &[],
     namespaces: &[""],
@@ -50,16 +50,16 @@ fn put_candidates(
 ) {
     for verb in universe.verbs() {
         for target in universe.targets() {
-            let found = index.candidates(alloc, verb, target).expect(rt, "memory");
-            all.extend_from_slice(found.as_slice()).expect(rt, "memory");
-            all.push(END).expect(rt, "memory");
+            let found = built(rt, index.candidates(alloc, verb, target));
+            built(rt, all.extend_from_slice(found.as_slice()));
+            built(rt, all.push(END));
         }
     }
 }
 
 // Whether the candidates are the wanted ones.
 fn has_candidates(rt: &impl Abort, alloc: Global, index: &Index<'_>) -> bool {
-    let universe = universe(rt, alloc, &FOUR_TARGETS);
+    let universe = universe(rt, alloc, FOUR_TARGETS);
     let mut got = Vec::new(alloc);
     put_candidates(rt, alloc, index, &universe, &mut got);
     got.as_slice() == CANDIDATES
@@ -78,10 +78,11 @@ fn are_by_their_rules(index: &Index<'_>) -> bool {
 
 #[test]
 fn candidates_are_the_grants_whose_rule_allows(rt: HostRuntime) {
-    let policy = policy(&rt, rt.alloc(), FOUR_RULES, TO_ALICE);
-    let index = Index::build(rt.alloc(), &policy).expect(&rt, "memory");
+    let alloc = rt.alloc();
+    let policy = policy(&rt, alloc, FOUR_RULES, TO_ALICE);
+    let index = built(&rt, Index::build(alloc, &policy));
     assert!(rt; index.len() == 4 && are_by_their_rules(&index));
-    assert!(rt; has_candidates(&rt, rt.alloc(), &index));
+    assert!(rt; has_candidates(&rt, alloc, &index));
 }
 
 const GETS_PODS: &[RuleRow<'static>] = &[[&["get"], &[""], &["pods"], &[]]];
@@ -94,7 +95,7 @@ const AMONG_OTHERS: &[BindingRow<'static>] = &[
     (Some("qa"), "b", "r", &["alice", "bob"]),
 ];
 
-const THREE_NAMESPACES: Listed<'static> = Listed {
+const THREE_NAMESPACES: &Listed<'static> = &Listed {
     users: &["alice", "bob"],
     groups: &[],
     namespaces: &["", "dev", "qa"],
@@ -120,7 +121,7 @@ fn put_bindings<'p>(
     for verb in universe.verbs() {
         for target in universe.targets() {
             if let Some(why) = index.can_i(asker, namespace, verb, target) {
-                names.push(&why.binding.name).expect(rt, "memory");
+                built(rt, names.push(&why.binding.name));
             }
         }
     }
@@ -150,7 +151,7 @@ fn are_first(names: &[&Word]) -> bool {
 
 // Whether the bindings that allow the requests of the universe are the wanted ones.
 fn gives_first(rt: &impl Abort, alloc: Global, index: &Index<'_>) -> bool {
-    let universe = universe(rt, alloc, &THREE_NAMESPACES);
+    let universe = universe(rt, alloc, THREE_NAMESPACES);
     let mut names = Vec::new(alloc);
     put_all_bindings(rt, index, &universe, &mut names);
     are_first(names.as_slice())
@@ -158,14 +159,15 @@ fn gives_first(rt: &impl Abort, alloc: Global, index: &Index<'_>) -> bool {
 
 #[test]
 fn the_first_binding_that_grants_is_given(rt: HostRuntime) {
-    let policy = policy(&rt, rt.alloc(), GETS_PODS, AMONG_OTHERS);
-    let index = Index::build(rt.alloc(), &policy).expect(&rt, "memory");
-    assert!(rt; gives_first(&rt, rt.alloc(), &index));
+    let alloc = rt.alloc();
+    let policy = policy(&rt, alloc, GETS_PODS, AMONG_OTHERS);
+    let index = built(&rt, Index::build(alloc, &policy));
+    assert!(rt; gives_first(&rt, alloc, &index));
 }
 
 #[test]
 fn the_last_place_is_printed_in_full(rt: HostRuntime) {
     let mut line = Vec::new(rt.alloc());
-    put_place(&mut line, usize::MAX).expect(&rt, "memory");
+    built(&rt, put_place(&mut line, usize::MAX));
     assert!(rt; line.as_slice() == "18446744073709551616".as_bytes());
 }

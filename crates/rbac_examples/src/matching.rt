@@ -1,6 +1,6 @@
 //! Which texts the words of a rule match.
 
-use crate::words::{word, words};
+use crate::words::{check, word, words};
 use rbac_terms::{
     Rule, Word, Words, group_matches, name_matches, resource_matches, url_matches, verb_matches,
 };
@@ -103,6 +103,6 @@ const ROWS: &[Row<'static>] = &[
 fn words_of_a_rule_match_what_they_stand_for(rt: HostRuntime) {
     for (part, listed, text, wanted) in ROWS {
         let got = matches(&rt, rt.alloc(), *part, listed, text);
-        assert!(rt; got == *wanted, "{text}");
+        check(&rt, text, got == *wanted);
     }
 }

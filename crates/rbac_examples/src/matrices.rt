@@ -5,8 +5,8 @@ ghost use Rattle.rbac_matrix.specs.Enumeration.{IsGoing};
 ghost use Rattle.rbac_index.specs.Reaches.{AreReaches};
 
 use crate::policies::{RuleRow, TO_ALICE, policy};
-use crate::universes::{Listed, principals, universe};
-use crate::words::{is, word, words};
+use crate::universes::{Listed, principals, universe, universe_of};
+use crate::words::{built, is, word, words};
 use rbac_index::{Index, Meter, Reach, reaches_of};
 use rbac_matrix::{Matrix, Rows, Seat};
 use rbac_terms::Words;
@@ -22,11 +22,11 @@ fn read_within(meter: &Meter, least: u128, most: u128) -> bool {
 }
 
 // Whether the next row is the wanted one, and the number of reads by then is within its bounds.
-fn gives(rows: &mut Rows<'_, '_>, wanted: Step<'_>) -> bool
+fn gives(rows: &mut Rows<'_, '_>, wanted: &Step<'_>) -> bool
     requires { IsGoing rows.old }
     ensures { IsGoing rows.new }
 {
-    let (text, least, most) = wanted;
+    let (text, least, most) = *wanted;
     let got = match (rows.next(), text) {
         (Some(row), Some(text)) => is(row.resource, text),
         (None, None) => true,
@@ -43,7 +43,7 @@ fn gives_all(
     reaches: &[Reach],
     seats: &mut [Seat],
     before: u128,
-    steps: [Step<'_>; 3],
+    steps: &[Step<'_>; 3],
 ) -> bool
     requires reaches { AreReaches index.now universe.now reaches.now }
     requires seats { length seats.old ≡ length index.now.grants }
@@ -63,7 +63,7 @@ fn index_gives(
     index: &Index<'_>,
     universe: &Universe,
     before: u128,
-    steps: [Step<'_>; 3],
+    steps: &[Step<'_>; 3],
 ) -> bool {
     let reaches = reaches_of(alloc, index, universe).expect(rt, "memory");
     let mut seats = vec![in alloc; Seat::new(); index.len() as usize].expect(rt, "memory");
@@ -85,10 +85,10 @@ fn matrix_gives(
     rules: &[RuleRow<'_>],
     universe: &Universe,
     before: u128,
-    steps: [Step<'_>; 3],
+    steps: &[Step<'_>; 3],
 ) -> bool {
     let policy = policy(rt, alloc, rules, TO_ALICE);
-    let index = Index::build(alloc, &policy).expect(rt, "memory");
+    let index = built(rt, Index::build(alloc, &policy));
     index_gives(rt, alloc, &index, universe, before, steps)
 }
 
@@ -98,7 +98,7 @@ const TWO_RULES: &[RuleRow<'static>] = &[
     [&["get"], &[""], &["*"], &[]],
 ];
 
-const NODES_AND_PODS: Listed<'static> = Listed {
+const NODES_AND_PODS: &Listed<'static> = &Listed {
     users: &["alice"],
     groups: &[],
     namespaces: &[""],
@@ -108,22 +108,25 @@ const NODES_AND_PODS: Listed<'static> = Listed {
     urls: &[],
 };
 
+const TWO_ROWS: &[Step<'static>; 3] = &[(Some("nodes"), 1, 3), (Some("pods"), 2, 3), (None, 2, 3)];
+
 #[test]
 fn each_place_of_the_reaches_is_read_once(rt: HostRuntime) {
-    let universe = universe(&rt, rt.alloc(), &NODES_AND_PODS);
-    let steps = [(Some("nodes"), 1, 3), (Some("pods"), 2, 3), (None, 2, 3)];
-    assert!(rt; matrix_gives(&rt, rt.alloc(), TWO_RULES, &universe, 3, steps));
+    let alloc = rt.alloc();
+    let universe = universe(&rt, alloc, NODES_AND_PODS);
+    assert!(rt; matrix_gives(&rt, alloc, TWO_RULES, &universe, 3, TWO_ROWS));
 }
 
 // A rule that allows one of 65 billion requests.
 const ONE_REQUEST: &[RuleRow<'static>] = &[[&["v2"], &[""], &["r1"], &["n1"]]];
 
+const ONE_ROW: &[Step<'static>; 3] = &[(Some("r1"), 1, 1), (None, 1, 1), (None, 1, 1)];
+
 fn numbered(rt: &impl Abort, alloc: Global, letter: &str, last: u32) -> Words {
     let mut all = Words::new(alloc);
     for number in 1..=last {
-        let text = format!(in alloc; "{letter}{number}").expect(rt, "memory");
-        all.push(word(rt, alloc, text.as_str()))
-            .expect(rt, "memory");
+        let text = built(rt, format!(in alloc; "{letter}{number}"));
+        built(rt, all.push(word(rt, alloc, text.as_str())));
     }
     all
 }
@@ -131,13 +134,12 @@ fn numbered(rt: &impl Abort, alloc: Global, letter: &str, last: u32) -> Words {
 fn resources(rt: &impl Abort, alloc: Global, texts: Words) -> ListedResources {
     let mut all = ListedResources::new(alloc);
     for text in texts.into_vec() {
-        let group = word(rt, alloc, "");
-        all.push(ListedResource {
-            group,
+        let resource = ListedResource {
+            group: word(rt, alloc, ""),
             text,
             namespaced: true,
-        })
-        .expect(rt, "memory");
+        };
+        built(rt, all.push(resource));
     }
     all
 }
@@ -152,12 +154,12 @@ fn wide(rt: &impl Abort, alloc: Global) -> Universe {
         names: numbered(rt, alloc, "n", 1000),
         urls: Words::new(alloc),
     };
-    Universe::build(alloc, &wide).expect(rt, "a universe")
+    universe_of(rt, alloc, wide)
 }
 
 #[test]
 fn requests_that_no_one_may_make_cost_no_read(rt: HostRuntime) {
-    let universe = wide(&rt, rt.alloc());
-    let steps = [(Some("r1"), 1, 1), (None, 1, 1), (None, 1, 1)];
-    assert!(rt; matrix_gives(&rt, rt.alloc(), ONE_REQUEST, &universe, 0, steps));
+    let alloc = rt.alloc();
+    let universe = wide(&rt, alloc);
+    assert!(rt; matrix_gives(&rt, alloc, ONE_REQUEST, &universe, 0, ONE_ROW));
 }

@@ -2,7 +2,7 @@
 
 use crate::policies::{binding, cluster_role, users};
 use crate::universes::{Listed, universe};
-use crate::words::{is, is_of, word, words};
+use crate::words::{built, is, is_of, word, words};
 use rbac_index::why_allowed;
 use rbac_model::{Object, Objects, Policy};
 use rbac_terms::{Binding, Principal, Role, RoleRef, Rule, Rules, Word, Words};
@@ -46,7 +46,7 @@ fn on_pods(rt: &impl Abort, alloc: Global, verb: &str) -> Rules {
         resource_names: Words::new(alloc),
         urls: Words::new(alloc),
     };
-    one.push(rule).expect(rt, "memory");
+    built(rt, one.push(rule));
     one
 }
 
@@ -93,8 +93,10 @@ const BINDINGS: &[(Option<&str>, &str)] = &[
 
 // Whether there is one rule, and this is its one verb.
 fn has_verb(rules: &Rules, verb: &str) -> bool {
-    let verbs = |rule: &Rule| rule.verbs.as_slice().iter().all(|word| is(word, verb));
-    rules.as_slice().len() == 1 && rules.as_slice().iter().all(verbs)
+    let [rule] = rules.as_slice() else {
+        return false;
+    };
+    rule.verbs.as_slice().iter().all(|word| is(word, verb))
 }
 
 fn has_last_roles(objects: &Objects) -> bool {
@@ -131,11 +133,10 @@ fn has_last_objects(objects: &Objects) -> bool {
 
 #[test]
 fn a_later_object_replaces_the_earlier_of_its_name(rt: HostRuntime) {
-    let mut objects = Objects::new(rt.alloc());
+    let alloc = rt.alloc();
+    let mut objects = Objects::new(alloc);
     for row in GIVEN {
-        let was = objects
-            .put(object(&rt, rt.alloc(), row))
-            .expect(&rt, "memory");
+        let was = built(&rt, objects.put(object(&rt, alloc, row)));
         assert!(rt; was == row.4);
     }
     assert!(rt; has_last_objects(&objects));
@@ -143,29 +144,27 @@ fn a_later_object_replaces_the_earlier_of_its_name(rt: HostRuntime) {
 
 #[test]
 fn objects_given_at_once_are_those_put_in_turn(rt: HostRuntime) {
-    let mut given = Vec::new(rt.alloc());
+    let alloc = rt.alloc();
+    let mut given = Vec::new(alloc);
     for row in GIVEN {
-        given
-            .push(object(&rt, rt.alloc(), row))
-            .expect(&rt, "memory");
+        built(&rt, given.push(object(&rt, alloc, row)));
     }
-    let objects = Objects::from_given(rt.alloc(), given).expect(&rt, "memory");
+    let objects = built(&rt, Objects::from_given(alloc, given));
     assert!(rt; has_last_objects(&objects));
 }
 
 // The policy of a role and a binding to it, both in this namespace.
 fn bound_role(rt: &impl Abort, alloc: Global, namespace: &str) -> Policy {
     let mut objects = Objects::new(alloc);
-    objects
-        .put(role(rt, alloc, namespace, "r", "get"))
-        .expect(rt, "memory");
-    objects
-        .put(role_binding(rt, alloc, namespace, "b", "r"))
-        .expect(rt, "memory");
-    Policy::resolve(alloc, objects).expect(rt, "a policy")
+    built(rt, objects.put(role(rt, alloc, namespace, "r", "get")));
+    built(
+        rt,
+        objects.put(role_binding(rt, alloc, namespace, "b", "r")),
+    );
+    built(rt, Policy::resolve(alloc, objects))
 }
 
-const ALICE_GETS_PODS: Listed<'static> = Listed {
+const ALICE_GETS_PODS: &Listed<'static> = &Listed {
     users: &["alice"],
     groups: &[],
     namespaces: &["", "dev"],
@@ -201,9 +200,10 @@ const LIVES_IN: &[(&str, u32)] = &[("dev", 1), ("", 0)];
 // No document makes a RoleBinding of the empty namespace: a missing one is read as `default`.
 #[test]
 fn a_role_binding_of_the_empty_namespace_never_lives(rt: HostRuntime) {
-    let universe = universe(&rt, rt.alloc(), &ALICE_GETS_PODS);
+    let alloc = rt.alloc();
+    let universe = universe(&rt, alloc, ALICE_GETS_PODS);
     for (namespace, wanted) in LIVES_IN {
-        let policy = bound_role(&rt, rt.alloc(), namespace);
+        let policy = bound_role(&rt, alloc, namespace);
         assert!(rt; gets_in(&universe, &policy, *wanted));
     }
 }

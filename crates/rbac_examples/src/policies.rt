@@ -1,6 +1,6 @@
 //! Policies that other tests ask about: bindings of one role.
 
-use crate::words::{word, words};
+use crate::words::{built, word, words};
 use rbac_model::{Object, Objects, Policy};
 use rbac_terms::{Binding, ClusterRole, Labels, RoleRef, Rule, Rules, Subject, Subjects, Words};
 use std::alloc::Global;
@@ -22,7 +22,7 @@ fn rule(rt: &impl Abort, alloc: Global, row: &RuleRow<'_>) -> Rule {
 fn rules(rt: &impl Abort, alloc: Global, rows: &[RuleRow<'_>]) -> Rules {
     let mut all = Rules::new(alloc);
     for row in rows {
-        all.push(rule(rt, alloc, row)).expect(rt, "memory");
+        built(rt, all.push(rule(rt, alloc, row)));
     }
     all
 }
@@ -39,8 +39,7 @@ pub(crate) fn cluster_role(rt: &impl Abort, alloc: Global, name: &str, rules: Ru
 pub(crate) fn users(rt: &impl Abort, alloc: Global, names: &[&str]) -> Subjects {
     let mut all = Subjects::new(alloc);
     for name in names {
-        all.push(Subject::User(word(rt, alloc, name)))
-            .expect(rt, "memory");
+        built(rt, all.push(Subject::User(word(rt, alloc, name))));
     }
     all
 }
@@ -70,9 +69,9 @@ pub(crate) fn policy(
 ) -> Policy {
     let mut objects = Objects::new(alloc);
     let role = cluster_role(rt, alloc, "r", rules(rt, alloc, rows));
-    objects.put(role).expect(rt, "memory");
+    built(rt, objects.put(role));
     for row in bindings {
-        objects.put(binding(rt, alloc, row)).expect(rt, "memory");
+        built(rt, objects.put(binding(rt, alloc, row)));
     }
-    Policy::resolve(alloc, objects).expect(rt, "a policy")
+    built(rt, Policy::resolve(alloc, objects))
 }

@@ -1,6 +1,6 @@
 //! Which cluster roles an aggregated one reaches.
 
-use crate::words::{is, word};
+use crate::words::{built, check, is, word};
 use rbac_model::{Object, Objects, Policy};
 use rbac_terms::{ClusterRole, Labels, Requirements, Rules, Selector, Selectors, Word, Words};
 use std::alloc::Global;
@@ -12,16 +12,16 @@ fn are(got: &[Word], wanted: &[&str]) -> bool {
 }
 
 fn reached(rt: &impl Abort, alloc: Global, policy: &Policy, name: &str) -> Words {
-    policy
-        .reached(alloc, &word(rt, alloc, name))
-        .expect(rt, "memory")
+    built(rt, policy.reached(alloc, &word(rt, alloc, name)))
 }
 
 // The label `to` with this value.
 fn labels(rt: &impl Abort, alloc: Global, value: &str) -> Labels {
     let mut one = Labels::new(alloc);
-    one.push((word(rt, alloc, "to"), word(rt, alloc, value)))
-        .expect(rt, "memory");
+    built(
+        rt,
+        one.push((word(rt, alloc, "to"), word(rt, alloc, value))),
+    );
     one
 }
 
@@ -32,7 +32,7 @@ fn selectors(rt: &impl Abort, alloc: Global, value: &str) -> Selectors {
         labels: labels(rt, alloc, value),
         requirements: Requirements::new(alloc),
     };
-    one.push(selector).expect(rt, "memory");
+    built(rt, one.push(selector));
     one
 }
 
@@ -63,16 +63,15 @@ const SMALL_RING: &[(&str, &str, &str)] = &[
 
 fn small_ring(rt: &impl Abort, alloc: Global) -> Policy {
     let mut objects = Objects::new(alloc);
-    objects
-        .put(role(rt, alloc, "q", "view", None))
-        .expect(rt, "memory");
+    built(rt, objects.put(role(rt, alloc, "q", "view", None)));
     for (name, label, selected) in SMALL_RING {
         let selected = selectors(rt, alloc, selected);
-        objects
-            .put(role(rt, alloc, name, label, Some(selected)))
-            .expect(rt, "memory");
+        built(
+            rt,
+            objects.put(role(rt, alloc, name, label, Some(selected))),
+        );
     }
-    Policy::resolve(alloc, objects).expect(rt, "a policy")
+    built(rt, Policy::resolve(alloc, objects))
 }
 
 const RING_OF_THREE: &[&str] = &["admin", "edit", "q", "view"];
@@ -89,10 +88,11 @@ const REACHED: &[(&str, &[&str])] = &[
 
 #[test]
 fn roles_that_select_one_another_reach_themselves(rt: HostRuntime) {
-    let policy = small_ring(&rt, rt.alloc());
+    let alloc = rt.alloc();
+    let policy = small_ring(&rt, alloc);
     for (name, wanted) in REACHED {
-        let got = reached(&rt, rt.alloc(), &policy, name);
-        assert!(rt; are(got.as_slice(), wanted), "{name}");
+        let got = reached(&rt, alloc, &policy, name);
+        check(&rt, name, are(got.as_slice(), wanted));
     }
 }
 
@@ -101,7 +101,7 @@ const RING: u32 = 200;
 
 // The name of the role with this number, which is its label too.
 fn ring_name(rt: &impl Abort, alloc: Global, number: u32) -> String {
-    format!(in alloc; "r{number:03}").expect(rt, "memory")
+    built(rt, format!(in alloc; "r{number:03}"))
 }
 
 // The role with this number, which selects the next one by its label.
@@ -116,30 +116,29 @@ fn great_ring(rt: &impl Abort, alloc: Global) -> Policy {
     let mut objects = Objects::new(alloc);
     for number in 0..RING {
         let next = if number < RING - 1 { number + 1 } else { 0 };
-        objects
-            .put(ring_role(rt, alloc, number, next))
-            .expect(rt, "memory");
+        built(rt, objects.put(ring_role(rt, alloc, number, next)));
     }
-    objects
-        .put(role(rt, alloc, "plain", "r000", None))
-        .expect(rt, "memory");
-    Policy::resolve(alloc, objects).expect(rt, "a policy")
+    built(rt, objects.put(role(rt, alloc, "plain", "r000", None)));
+    built(rt, Policy::resolve(alloc, objects))
 }
 
-// Whether these are the names of the ring's roles.
+// Whether these are the names of the plain role and of the ring's roles.
 fn are_ring(rt: &impl Abort, alloc: Global, got: &[Word]) -> bool {
-    for (number, word) in (0..RING).zip(got) {
+    let [first, others @ ..] = got else {
+        return false;
+    };
+    for (number, word) in (0..RING).zip(others) {
         if !is(word, ring_name(rt, alloc, number).as_str()) {
             return false;
         }
     }
-    true
+    got.len() == 201 && is(first, "plain")
 }
 
 #[test]
 fn two_hundred_roles_in_a_ring_reach_all_of_them(rt: HostRuntime) {
-    let policy = great_ring(&rt, rt.alloc());
-    let got = reached(&rt, rt.alloc(), &policy, "r077");
-    assert!(rt; got.as_slice().len() == 201 && is(&got.as_slice()[0], "plain"));
-    assert!(rt; are_ring(&rt, rt.alloc(), &got.as_slice()[1..]));
+    let alloc = rt.alloc();
+    let policy = great_ring(&rt, alloc);
+    let got = reached(&rt, alloc, &policy, "r077");
+    assert!(rt; are_ring(&rt, alloc, got.as_slice()));
 }

@@ -1,7 +1,7 @@
 //! Who asks, and the keys of requests.
 
 use crate::universes::{Listed, universe};
-use crate::words::{is, word, words};
+use crate::words::{built, check, is, word, words};
 use rbac_terms::{Key, ModelFault, Principal, Target, Word};
 use rbac_universe::Universe;
 use std::alloc::Global;
@@ -16,6 +16,10 @@ fn member(rt: &impl Abort, alloc: Global, name: &str) -> Result<Principal, Model
     Principal::group(alloc, &word(rt, alloc, name))
 }
 
+fn has_no_name(got: Result<Principal, ModelFault>) -> bool {
+    got.err() == Some(ModelFault::EmptyName)
+}
+
 fn is_dev(got: Result<Principal, ModelFault>, key: &str) -> bool {
     match got {
         Ok(principal) => is(principal.key(), key) && principal.name() == "dev".as_bytes(),
@@ -25,11 +29,11 @@ fn is_dev(got: Result<Principal, ModelFault>, key: &str) -> bool {
 
 #[test]
 fn a_principal_has_a_name_and_its_key_tells_a_user_from_a_group(rt: HostRuntime) {
-    let empty = Some(ModelFault::EmptyName);
-    assert!(rt; user(&rt, rt.alloc(), "").err() == empty);
-    assert!(rt; member(&rt, rt.alloc(), "").err() == empty);
-    assert!(rt; is_dev(user(&rt, rt.alloc(), "dev"), "u:dev"));
-    assert!(rt; is_dev(member(&rt, rt.alloc(), "dev"), "g:dev"));
+    let alloc = rt.alloc();
+    check(&rt, "no user", has_no_name(user(&rt, alloc, "")));
+    check(&rt, "no group", has_no_name(member(&rt, alloc, "")));
+    check(&rt, "a user", is_dev(user(&rt, alloc, "dev"), "u:dev"));
+    check(&rt, "a group", is_dev(member(&rt, alloc, "dev"), "g:dev"));
 }
 
 fn url(rt: &impl Abort, alloc: Global, path: &str) -> Result<Target, ModelFault> {
@@ -44,18 +48,22 @@ fn resource(rt: &impl Abort, alloc: Global, text: &str) -> Result<Target, ModelF
     )
 }
 
+fn is_no_target(got: Result<Target, ModelFault>) -> bool {
+    got.err() == Some(ModelFault::BadTarget)
+}
+
 const NO_URLS: &[&str] = &["", "x", "x/"];
 
 const NO_RESOURCES: &[&str] = &["", "/", "/pods"];
 
 #[test]
 fn a_slash_tells_urls_from_resources(rt: HostRuntime) {
-    let bad = Some(ModelFault::BadTarget);
+    let alloc = rt.alloc();
     for path in NO_URLS {
-        assert!(rt; url(&rt, rt.alloc(), path).err() == bad, "{path}");
+        check(&rt, path, is_no_target(url(&rt, alloc, path)));
     }
     for text in NO_RESOURCES {
-        assert!(rt; resource(&rt, rt.alloc(), text).err() == bad, "{text}");
+        check(&rt, text, is_no_target(resource(&rt, alloc, text)));
     }
 }
 
@@ -70,8 +78,8 @@ fn add_keys(
 ) {
     for verb in universe.verbs() {
         for target in universe.targets() {
-            let key = Key::of(alloc, asker, namespace, verb, target).expect(rt, "memory");
-            keys.push(key).expect(rt, "memory");
+            let key = built(rt, Key::of(alloc, asker, namespace, verb, target));
+            built(rt, keys.push(key));
         }
     }
 }
@@ -137,7 +145,7 @@ fn a_key_has_six_fields_of_which_a_url_fills_three(rt: HostRuntime) {
 
 // Two texts for each field, and more for the last; each list runs from its greatest text to its
 // least.
-const PAIRS: Listed<'static> = Listed {
+const PAIRS: &Listed<'static> = &Listed {
     users: &["b", "a"],
     groups: &[],
     namespaces: &["b", "a"],
@@ -173,7 +181,7 @@ fn begin_with_all_names(keys: &[Key]) -> bool {
 
 #[test]
 fn keys_are_ordered_field_by_field(rt: HostRuntime) {
-    let keys = keys_of(&rt, rt.alloc(), &PAIRS);
+    let keys = keys_of(&rt, rt.alloc(), PAIRS);
     assert!(rt; keys.len() == 160);
     assert!(rt; are_ascending(keys.as_slice()));
     assert!(rt; begin_with_all_names(keys.as_slice()));

@@ -1,6 +1,7 @@
 //! Readers and writers that fail and count their calls: no call is made twice, and none after one
 //! that failed.
 
+use crate::words::built;
 use rbac_streams::{Failed, InputFault, Sink, Source, read_input, read_slice};
 use std::io;
 use std::io::{ErrorKind, Read, Write};
@@ -79,7 +80,7 @@ fn reads_until_the_end(rt: HostRuntime) {
 #[test]
 fn a_slice_is_read_whole(rt: HostRuntime) {
     let mut source = Source::new(LIST);
-    let input = read_slice(rt.alloc(), &mut source).expect(&rt, "an input");
+    let input = built(&rt, read_slice(rt.alloc(), &mut source));
     assert!(rt; input.as_bytes() == LIST);
 }
 

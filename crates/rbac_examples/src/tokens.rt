@@ -2,7 +2,7 @@
 
 use crate::requests::keys_of;
 use crate::universes::Listed;
-use crate::words::{is, is_of, word};
+use crate::words::{built, check, is, is_of, word};
 use rbac_terms::Key;
 use rbac_token::{Mark, TokenFault, key_of_token, mark_of_token, token_of, token_of_mark};
 use std::alloc::Global;
@@ -68,23 +68,24 @@ const TOKENS: &[(Listed<'static>, &[&str])] = &[
 
 // Whether the key has this token, and the token this key.
 fn has_token(rt: &impl Abort, alloc: Global, key: &Key, token: &str) -> bool {
-    let got = token_of(alloc, key).expect(rt, "memory");
-    let back = key_of_token(alloc, &got).expect(rt, "a token");
+    let got = built(rt, token_of(alloc, key));
+    let back = built(rt, key_of_token(alloc, &got));
     got.as_bytes() == token.as_bytes() && back == *key
 }
 
 fn have_tokens(rt: &impl Abort, alloc: Global, keys: &[Key], tokens: &[&str]) {
     assert!(rt; keys.len() == tokens.len());
     for (key, token) in keys.iter().zip(tokens) {
-        assert!(rt; has_token(rt, alloc, key, token), "{token}");
+        check(rt, token, has_token(rt, alloc, key, token));
     }
 }
 
 #[test]
 fn a_key_has_one_token(rt: HostRuntime) {
     for (listed, tokens) in TOKENS {
-        let keys = keys_of(&rt, rt.alloc(), listed);
-        have_tokens(&rt, rt.alloc(), keys.as_slice(), tokens);
+        let alloc = rt.alloc();
+        let keys = keys_of(&rt, alloc, listed);
+        have_tokens(&rt, alloc, keys.as_slice(), tokens);
     }
 }
 
@@ -128,9 +129,9 @@ const NO_TOKENS: &[(&str, TokenFault)] = &[
 #[test]
 fn another_text_is_no_token(rt: HostRuntime) {
     for (text, fault) in NO_TOKENS {
-        let token = word(&rt, rt.alloc(), text);
-        let got = key_of_token(rt.alloc(), &token).err();
-        assert!(rt; got == Some(*fault), "{text}");
+        let alloc = rt.alloc();
+        let got = key_of_token(alloc, &word(&rt, alloc, text)).err();
+        check(&rt, text, got == Some(*fault));
     }
 }
 
@@ -150,8 +151,8 @@ fn mark_of(rt: &impl Abort, alloc: Global, text: &str) -> Result<Mark, TokenFaul
 
 // Whether the text is the token of its mark.
 fn is_own_token(rt: &impl Abort, alloc: Global, text: &str) -> bool {
-    let mark = mark_of(rt, alloc, text).expect(rt, "a mark");
-    is(&token_of_mark(alloc, &mark).expect(rt, "memory"), text)
+    let mark = built(rt, mark_of(rt, alloc, text));
+    is(&built(rt, token_of_mark(alloc, &mark)), text)
 }
 
 const OF_MARKS: &[&str] = &[OF_A_KEY, OF_Z, OF_DEV_A, OF_NO_TEXTS];
@@ -159,7 +160,7 @@ const OF_MARKS: &[&str] = &[OF_A_KEY, OF_Z, OF_DEV_A, OF_NO_TEXTS];
 #[test]
 fn a_mark_has_one_token(rt: HostRuntime) {
     for text in OF_MARKS {
-        assert!(rt; is_own_token(&rt, rt.alloc(), text), "{text}");
+        check(&rt, text, is_own_token(&rt, rt.alloc(), text));
     }
 }
 
@@ -185,13 +186,13 @@ fn names(mark: &Mark, wanted: Named<'_>) -> bool {
 
 // Whether the mark of this token has the wanted binding.
 fn has_binding(rt: &impl Abort, alloc: Global, text: &str, wanted: Named<'_>) -> bool {
-    names(&mark_of(rt, alloc, text).expect(rt, "a mark"), wanted)
+    names(&built(rt, mark_of(rt, alloc, text)), wanted)
 }
 
 #[test]
 fn a_mark_names_its_binding(rt: HostRuntime) {
     for (text, wanted) in BINDINGS {
-        assert!(rt; has_binding(&rt, rt.alloc(), text, *wanted), "{text}");
+        check(&rt, text, has_binding(&rt, rt.alloc(), text, *wanted));
     }
 }
 
@@ -225,6 +226,6 @@ const NO_MARKS: &[(&str, TokenFault)] = &[
 fn another_text_is_no_mark(rt: HostRuntime) {
     for (text, fault) in NO_MARKS {
         let got = mark_of(&rt, rt.alloc(), text).err();
-        assert!(rt; got == Some(*fault), "{text}");
+        check(&rt, text, got == Some(*fault));
     }
 }

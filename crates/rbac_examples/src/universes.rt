@@ -1,6 +1,6 @@
 //! Universes that other tests ask about.
 
-use crate::words::{word, words};
+use crate::words::{built, word, words};
 use rbac_terms::{Principal, Words};
 use rbac_universe::{ListedResource, ListedResources, Principals, Universe, UniverseLists};
 use std::alloc::Global;
@@ -22,11 +22,11 @@ pub(crate) struct Listed<'a> {
 
 fn user(rt: &impl Abort, alloc: Global, name: &str) -> Principal {
     let name = word(rt, alloc, name);
-    Principal::user(alloc, &name, &Words::new(alloc)).expect(rt, "a user")
+    built(rt, Principal::user(alloc, &name, &Words::new(alloc)))
 }
 
 fn member(rt: &impl Abort, alloc: Global, group: &str) -> Principal {
-    Principal::group(alloc, &word(rt, alloc, group)).expect(rt, "a group")
+    built(rt, Principal::group(alloc, &word(rt, alloc, group)))
 }
 
 pub(crate) fn principals(
@@ -37,10 +37,10 @@ pub(crate) fn principals(
 ) -> Principals {
     let mut all = Principals::new(alloc);
     for name in users {
-        all.push(user(rt, alloc, name)).expect(rt, "memory");
+        built(rt, all.push(user(rt, alloc, name)));
     }
     for group in groups {
-        all.push(member(rt, alloc, group)).expect(rt, "memory");
+        built(rt, all.push(member(rt, alloc, group)));
     }
     all
 }
@@ -53,7 +53,7 @@ fn resources(rt: &impl Abort, alloc: Global, listed: &Listed<'_>) -> ListedResou
             text: word(rt, alloc, text),
             namespaced: *namespaced,
         };
-        all.push(resource).expect(rt, "memory");
+        built(rt, all.push(resource));
     }
     all
 }
@@ -69,6 +69,10 @@ fn lists(rt: &impl Abort, alloc: Global, listed: &Listed<'_>) -> UniverseLists {
     }
 }
 
+pub(crate) fn universe_of(rt: &impl Abort, alloc: Global, lists: UniverseLists) -> Universe {
+    built(rt, Universe::build(alloc, &lists))
+}
+
 pub(crate) fn universe(rt: &impl Abort, alloc: Global, listed: &Listed<'_>) -> Universe {
-    Universe::build(alloc, &lists(rt, alloc, listed)).expect(rt, "a universe")
+    universe_of(rt, alloc, lists(rt, alloc, listed))
 }

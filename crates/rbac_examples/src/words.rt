@@ -4,16 +4,27 @@
 
 use rbac_terms::{Word, Words};
 use std::alloc::Global;
+use std::fmt::Debug;
 use std::process::Abort;
 
+// What was built. The test stops if it could not be.
+pub(crate) fn built<T, E: Debug>(rt: &impl Abort, made: Result<T, E>) -> T {
+    made.expect(rt, "built")
+}
+
+// Stops the test at this row unless it holds.
+pub(crate) fn check(rt: &impl Abort, row: &str, holds: bool) {
+    assert!(rt; holds, "{row}");
+}
+
 pub(crate) fn word(rt: &impl Abort, alloc: Global, text: &str) -> Word {
-    Word::from_slice(alloc, text.as_bytes()).expect(rt, "memory")
+    built(rt, Word::from_slice(alloc, text.as_bytes()))
 }
 
 pub(crate) fn words(rt: &impl Abort, alloc: Global, texts: &[&str]) -> Words {
     let mut all = Words::new(alloc);
     for text in texts {
-        all.push(word(rt, alloc, text)).expect(rt, "memory");
+        built(rt, all.push(word(rt, alloc, text)));
     }
     all
 }
