@@ -83,13 +83,13 @@ fn matrix_gives(
     rt: &impl Abort,
     alloc: Global,
     rules: &[RuleRow<'_>],
-    universe: &Universe,
+    universe: Universe,
     before: u128,
     steps: &[Step<'_>; 3],
 ) -> bool {
     let policy = policy(rt, alloc, rules, TO_ALICE);
     let index = built(rt, Index::build(alloc, &policy));
-    index_gives(rt, alloc, &index, universe, before, steps)
+    index_gives(rt, alloc, &index, &universe, before, steps)
 }
 
 // Two rules whose grants have reaches with three places in all.
@@ -114,7 +114,7 @@ const TWO_ROWS: &[Step<'static>; 3] = &[(Some("nodes"), 1, 3), (Some("pods"), 2,
 fn each_place_of_the_reaches_is_read_once(rt: HostRuntime) {
     let alloc = rt.alloc();
     let universe = universe(&rt, alloc, NODES_AND_PODS);
-    assert!(rt; matrix_gives(&rt, alloc, TWO_RULES, &universe, 3, TWO_ROWS));
+    assert!(rt; matrix_gives(&rt, alloc, TWO_RULES, universe, 3, TWO_ROWS));
 }
 
 // A rule that allows one of 65 billion requests.
@@ -161,5 +161,5 @@ fn wide(rt: &impl Abort, alloc: Global) -> Universe {
 fn requests_that_no_one_may_make_cost_no_read(rt: HostRuntime) {
     let alloc = rt.alloc();
     let universe = wide(&rt, alloc);
-    assert!(rt; matrix_gives(&rt, alloc, ONE_REQUEST, &universe, 0, ONE_ROW));
+    assert!(rt; matrix_gives(&rt, alloc, ONE_REQUEST, universe, 0, ONE_ROW));
 }

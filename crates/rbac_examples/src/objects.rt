@@ -127,8 +127,8 @@ fn has_last_bindings(objects: &Objects) -> bool {
         })
 }
 
-fn has_last_objects(objects: &Objects) -> bool {
-    has_last_roles(objects) && has_last_cluster_roles(objects) && has_last_bindings(objects)
+fn has_last_objects(objects: Objects) -> bool {
+    has_last_roles(&objects) && has_last_cluster_roles(&objects) && has_last_bindings(&objects)
 }
 
 #[test]
@@ -139,7 +139,7 @@ fn a_later_object_replaces_the_earlier_of_its_name(rt: HostRuntime) {
         let was = built(&rt, objects.put(object(&rt, alloc, row)));
         assert!(rt; was == row.4);
     }
-    assert!(rt; has_last_objects(&objects));
+    assert!(rt; has_last_objects(objects));
 }
 
 #[test]
@@ -150,18 +150,7 @@ fn objects_given_at_once_are_those_put_in_turn(rt: HostRuntime) {
         built(&rt, given.push(object(&rt, alloc, row)));
     }
     let objects = built(&rt, Objects::from_given(alloc, given));
-    assert!(rt; has_last_objects(&objects));
-}
-
-// The policy of a role and a binding to it, both in this namespace.
-fn bound_role(rt: &impl Abort, alloc: Global, namespace: &str) -> Policy {
-    let mut objects = Objects::new(alloc);
-    built(rt, objects.put(role(rt, alloc, namespace, "r", "get")));
-    built(
-        rt,
-        objects.put(role_binding(rt, alloc, namespace, "b", "r")),
-    );
-    built(rt, Policy::resolve(alloc, objects))
+    assert!(rt; has_last_objects(objects));
 }
 
 const ALICE_GETS_PODS: &Listed<'static> = &Listed {
@@ -187,11 +176,33 @@ fn counted(universe: &Universe, policy: &Policy, asker: &Principal, verb: &Word)
     count
 }
 
-// Whether alice may get pods in this many namespaces.
+// Whether the one grant of the policy allows the request in this many namespaces.
 fn gets_in(universe: &Universe, policy: &Policy, wanted: u32) -> bool {
     let mut askers = universe.principals().iter().zip(universe.verbs());
     policy.len() == 1
         && askers.all(|(asker, verb)| counted(universe, policy, asker, verb) == wanted)
+}
+
+// Whether alice may get pods in this many namespaces by a role and a binding to it, both in this
+// namespace.
+fn lives_in(
+    rt: &impl Abort,
+    alloc: Global,
+    universe: &Universe,
+    namespace: &str,
+    wanted: u32,
+) -> bool {
+    let mut objects = Objects::new(alloc);
+    built(rt, objects.put(role(rt, alloc, namespace, "r", "get")));
+    built(
+        rt,
+        objects.put(role_binding(rt, alloc, namespace, "b", "r")),
+    );
+    gets_in(
+        universe,
+        &built(rt, Policy::resolve(alloc, objects)),
+        wanted,
+    )
 }
 
 // The namespace of a role and its binding, and in how many namespaces alice may get pods by them.
@@ -203,7 +214,6 @@ fn a_role_binding_of_the_empty_namespace_never_lives(rt: HostRuntime) {
     let alloc = rt.alloc();
     let universe = universe(&rt, alloc, ALICE_GETS_PODS);
     for (namespace, wanted) in LIVES_IN {
-        let policy = bound_role(&rt, alloc, namespace);
-        assert!(rt; gets_in(&universe, &policy, *wanted));
+        assert!(rt; lives_in(&rt, alloc, &universe, namespace, *wanted));
     }
 }

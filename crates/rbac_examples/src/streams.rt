@@ -3,6 +3,7 @@
 
 use crate::words::built;
 use rbac_streams::{Failed, InputFault, Sink, Source, read_input, read_slice};
+use std::alloc::Global;
 use std::io;
 use std::io::{ErrorKind, Read, Write};
 
@@ -51,27 +52,32 @@ impl Write for Sip<'_> {
 
 const LIST: &[u8] = b"{\"kind\":\"List\"}";
 
+// Whether the whole list is read if the reader fails after its end alone, and else nothing.
+fn reads_list(alloc: Global, drip: Drip<'_>) -> bool {
+    let fails_at = drip.fails_at;
+    let mut source = Source::new(drip);
+    match read_input(alloc, &mut source) {
+        Ok(input) => fails_at == 17 && !source.failed() && input.as_bytes() == LIST,
+        // The reader would give a byte now, but it isn't called again.
+        Err(fault) => {
+            fails_at < 17
+                && source.failed()
+                && fault == InputFault::ReadFault
+                && source.read(&mut [0u8; 4]) == Err(Failed)
+        }
+    }
+}
+
 #[test]
 fn reads_until_the_end(rt: HostRuntime) {
     for fails_at in 1..18usize {
         let mut calls = 0;
-        let mut source = Source::new(Drip {
+        let drip = Drip {
             rest: LIST,
             calls: &mut calls,
             fails_at,
-        });
-        match read_input(rt.alloc(), &mut source) {
-            Ok(input) => {
-                assert!(rt; fails_at == 17 && !source.failed());
-                assert!(rt; input.as_bytes() == LIST);
-            }
-            Err(fault) => {
-                assert!(rt; fails_at < 17 && source.failed());
-                assert!(rt; fault == InputFault::ReadFault);
-                // The reader would give a byte now, but it isn't called again.
-                assert!(rt; source.read(&mut [0u8; 4]) == Err(Failed));
-            }
-        }
+        };
+        assert!(rt; reads_list(rt.alloc(), drip));
         // 15 reads of a byte each, and one that finds the end.
         assert!(rt; calls == fails_at.min(16));
     }
@@ -88,20 +94,26 @@ fn a_slice_is_read_whole(rt: HostRuntime) {
 // taken, and how often it was called.
 const SIPS: &[(usize, usize, usize, usize)] = &[(1, 4, 3, 4), (0, 9, 0, 1), (64, 1, 0, 1)];
 
+// Whether the writer fails after this many of four bytes, and takes none from then on.
+fn fails_after(sip: Sip<'_>, taken: usize) -> bool {
+    let mut sink = Sink::new(sip);
+    // The writer may take a byte at the call of `write`, but it isn't called again.
+    sink.put(b"yes\n") == Err(taken)
+        && sink.failed()
+        && sink.write(b"x") == Err(Failed)
+        && sink.taken() == taken as u128
+}
+
 #[test]
 fn a_failed_writer_stays_failed(rt: HostRuntime) {
     for (most, fails_at, taken, called) in SIPS {
         let mut calls = 0;
-        let mut sink = Sink::new(Sip {
+        let sip = Sip {
             most: *most,
             calls: &mut calls,
             fails_at: *fails_at,
-        });
-        assert!(rt; sink.put(b"yes\n") == Err(*taken));
-        assert!(rt; sink.failed());
-        // The writer may take a byte now, but it isn't called again.
-        assert!(rt; sink.write(b"x") == Err(Failed));
-        assert!(rt; sink.taken() == *taken as u128);
+        };
+        assert!(rt; fails_after(sip, *taken));
         assert!(rt; calls == *called);
     }
 }
