@@ -16,6 +16,7 @@ fn member(rt: &impl Abort, alloc: Global, name: &str) -> Result<Principal, Model
     Principal::group(alloc, &word(rt, alloc, name))
 }
 
+// Whether the principal is refused for its empty name.
 fn has_no_name(got: Result<Principal, ModelFault>) -> bool {
     got.err() == Some(ModelFault::EmptyName)
 }
@@ -48,6 +49,7 @@ fn resource(rt: &impl Abort, alloc: Global, text: &str) -> Result<Target, ModelF
     )
 }
 
+// Whether the target is refused.
 fn is_no_target(got: Result<Target, ModelFault>) -> bool {
     got.err() == Some(ModelFault::BadTarget)
 }

@@ -52,7 +52,7 @@ impl Write for Sip<'_> {
 
 const LIST: &[u8] = b"{\"kind\":\"List\"}";
 
-// Whether the whole list is read if the reader fails after its end alone, and else nothing.
+// Whether a reader that fails only after the list's end gives all of it, and any other a fault.
 fn reads_list(alloc: Global, drip: Drip<'_>) -> bool {
     let fails_at = drip.fails_at;
     let mut source = Source::new(drip);

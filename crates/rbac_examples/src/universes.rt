@@ -69,6 +69,7 @@ fn lists(rt: &impl Abort, alloc: Global, listed: &Listed<'_>) -> UniverseLists {
     }
 }
 
+// The universe of these lists.
 pub(crate) fn universe_of(rt: &impl Abort, alloc: Global, lists: UniverseLists) -> Universe {
     built(rt, Universe::build(alloc, &lists))
 }
