@@ -1,6 +1,6 @@
 //! The command line, built anew for each parse.
 
-ghost use Rattle.std.specs.Prelude.{◌≡◌, IfOk, false};
+ghost use Rattle.std.specs.Prelude.{◌≡◌, IfOk, IsOkAnd, false};
 ghost use Rattle.clap.specs.Words.{app_of, new_app, rule_of, with_rule, with_subcommand};
 ghost use Rattle.clap.specs.declared.builder.command.Command.TheViews.{out-Command as fields_of};
 ghost use Rattle.rbac_command.specs.App.{every_rule, after_rule, limit_rule, user_rule, groups_rule, namespace_rule, all_rule, subresource_rule, quiet_rule, why_rule, verb_rule, target_rule, files_rule};
@@ -318,13 +318,16 @@ fn lint<'a>(alloc: Global) -> Result<Command<'a>, AllocError>
     with(command, files_arg(alloc))
 }
 
-// Adds a subcommand with no global argument.
-fn with_sub<'a>(command: Command<'a>, sub: Command<'a>) -> Result<Command<'a>, AllocError>
-    requires sub { (fields_of sub).has_globals ≡ false }
-    ensures app { IfOk result (λ r.
-        app_of r ≡ with_subcommand (app_of command.entry) (app_of sub.entry).top) }
+// Adds a subcommand with no global argument, if it could be built.
+fn with_sub<'a>(
+    command: Command<'a>,
+    sub: Result<Command<'a>, AllocError>,
+) -> Result<Command<'a>, AllocError>
+    requires sub { IfOk sub (λ s. (fields_of s).has_globals ≡ false) }
+    ensures app { IfOk result (λ r. IsOkAnd sub.entry (λ s.
+        app_of r ≡ with_subcommand (app_of command.entry) (app_of s).top)) }
 {
-    command.subcommand(sub)
+    command.subcommand(sub?)
 }
 
 // Sets the program's name in usage texts, whatever the first word is.
@@ -355,8 +358,8 @@ pub(crate) fn program<'a>(alloc: Global) -> Result<Command<'a>, AllocError>
     ensures { IfOk result (λ r. app_of r ≡ rbac_app) }
 {
     let command = with_bin_name(bare(alloc), "rbacaudit")?;
-    let command = with_sub(command, can_i(alloc)?)?;
-    let command = with_sub(command, who_can(alloc)?)?;
-    let command = with_sub(command, matrix(alloc)?)?;
-    with_sub(command, lint(alloc)?)
+    let command = with_sub(command, can_i(alloc))?;
+    let command = with_sub(command, who_can(alloc))?;
+    let command = with_sub(command, matrix(alloc))?;
+    with_sub(command, lint(alloc))
 }

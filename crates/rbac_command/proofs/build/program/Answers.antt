@@ -1,16 +1,20 @@
-use Rattle.std.proofs.Common.{ap, ap₂, ◌≡◌, ◌∙◌}
+use Rattle.std.proofs.Common.{ap, ◌≡◌, ◌∙◌, Result, Ok, Err, IfOk, IsOkAnd}
 use Rattle.std.proofs.lemmas.Result.{IfOk-weaker}
 use Rattle.clap.specs.Words.{App, app_of, with_subcommand}
-use Rattle.rbac_command.specs.App.{bare_app, can_i_app, who_can_app, matrix_app, rbac_app}
+use Rattle.clap.specs.declared.builder.command.Command.{Command}
+use Rattle.rbac_command.specs.App.{bare_app, can_i_app, who_can_app, matrix_app, lint_app, rbac_app}
 use Rattle.rbac_command.proofs.build.program.Goals as goal
+
+-- a subcommand was added to `before`, to which `start` is equal, and so to `start`
+added : {E : Type 0} (sub : Result Command E) (start before after part : App) → before ≡ start → IfOk sub (λ s. app_of s ≡ part)
+    → IsOkAnd sub (λ s. after ≡ with_subcommand before (app_of s).top) → after ≡ with_subcommand start part.top
+added (Ok s) start before after part same built h = h ∙ ap (λ (a : App). with_subcommand before a.top) built ∙ ap (λ (a : App). with_subcommand a part.top) same
+added (Err e) start before after part same built h = absurd h
 
 pub returns : goal.returns
 unfolding rbac_app
 returns c =
-    let first : app_of c.in_ok-command-2.command ≡ with_subcommand bare_app can_i_app.top =
-    c.in_ok-command-2.ensures.app ∙ ap₂ with_subcommand (c.in_ok-command.ensures ∙ c.bare.ensures) (ap (λ (a : App). a.top) c.in_ok-can_i.ensures.app) in
-    let second : app_of c.in_ok-command-3.command ≡ with_subcommand (with_subcommand bare_app can_i_app.top) who_can_app.top =
-    c.in_ok-command-3.ensures.app ∙ ap₂ with_subcommand first (ap (λ (a : App). a.top) c.in_ok-who_can.ensures.app) in
-    let third : app_of c.in_ok-command-4.command ≡ with_subcommand (with_subcommand (with_subcommand bare_app can_i_app.top) who_can_app.top) matrix_app.top =
-    c.in_ok-command-4.ensures.app ∙ ap₂ with_subcommand second (ap (λ (a : App). a.top) c.in_ok-matrix.ensures.app) in
-    IfOk-weaker c.with_sub-4.result _ _ (λ m h. h ∙ ap₂ with_subcommand third (ap (λ (a : App). a.top) c.in_ok-lint.ensures.app)) c.with_sub-4.ensures.app
+    let first = added c.can_i.result bare_app _ _ can_i_app (c.in_ok-command.ensures ∙ c.bare.ensures) c.can_i.ensures.app c.in_ok-command-2.ensures.app in
+    let second = added c.who_can.result _ _ _ who_can_app first c.who_can.ensures.app c.in_ok-command-3.ensures.app in
+    let third = added c.matrix.result _ _ _ matrix_app second c.matrix.ensures.app c.in_ok-command-4.ensures.app in
+    IfOk-weaker c.with_sub-4.result _ _ (λ m h. added c.lint.result _ _ _ lint_app third c.lint.ensures.app h) c.with_sub-4.ensures.app
