@@ -211,42 +211,46 @@ fn files_arg<'a>(alloc: Global) -> Arg<'a>
         .help("JSON of kubectl get -o json or --raw, or a Universe (default: standard input)")
 }
 
+// A command, if there was the memory to build it.
+type Built<'a> = Result<Command<'a>, AllocError>;
+
 // Adds an argument that isn't global.
-fn with<'a>(command: Command<'a>, arg: Arg<'a>) -> Result<Command<'a>, AllocError>
+fn with<'a>(command: Built<'a>, arg: Arg<'a>) -> Built<'a>
     requires arg { arg.global ≡ false }
-    requires alone { (fields_of command).has_globals ≡ false }
-    ensures app { IfOk result (λ r. app_of r ≡ with_rule (app_of command.entry) (rule_of arg.entry)) }
+    requires alone { IfOk command (λ c. (fields_of c).has_globals ≡ false) }
+    ensures app { IfOk result (λ r. IsOkAnd command.entry (λ c.
+        app_of r ≡ with_rule (app_of c) (rule_of arg.entry))) }
     ensures local { IfOk result (λ r. (fields_of r).has_globals ≡ false) }
 {
-    command.arg(arg)
+    command?.arg(arg)
 }
 
-fn with_asker<'a>(alloc: Global, command: Command<'a>) -> Result<Command<'a>, AllocError>
-    requires { (fields_of command).has_globals ≡ false }
-    ensures app { IfOk result (λ r. app_of r ≡ with_asker (app_of command.entry)) }
+fn with_asker<'a>(alloc: Global, command: Built<'a>) -> Built<'a>
+    requires { IfOk command (λ c. (fields_of c).has_globals ≡ false) }
+    ensures app { IfOk result (λ r. IsOkAnd command.entry (λ c. app_of r ≡ with_asker (app_of c))) }
     ensures local { IfOk result (λ r. (fields_of r).has_globals ≡ false) }
 {
-    let command = with(command, user_arg(alloc))?;
+    let command = with(command, user_arg(alloc));
     with(command, groups_arg(alloc))
 }
 
-fn with_scope<'a>(alloc: Global, command: Command<'a>) -> Result<Command<'a>, AllocError>
-    requires { (fields_of command).has_globals ≡ false }
-    ensures app { IfOk result (λ r. app_of r ≡ with_scope (app_of command.entry)) }
+fn with_scope<'a>(alloc: Global, command: Built<'a>) -> Built<'a>
+    requires { IfOk command (λ c. (fields_of c).has_globals ≡ false) }
+    ensures app { IfOk result (λ r. IsOkAnd command.entry (λ c. app_of r ≡ with_scope (app_of c))) }
     ensures local { IfOk result (λ r. (fields_of r).has_globals ≡ false) }
 {
-    let command = with(command, namespace_arg(alloc))?;
-    let command = with(command, all_arg(alloc))?;
+    let command = with(command, namespace_arg(alloc));
+    let command = with(command, all_arg(alloc));
     with(command, subresource_arg(alloc))
 }
 
-fn with_question<'a>(alloc: Global, command: Command<'a>) -> Result<Command<'a>, AllocError>
-    requires { (fields_of command).has_globals ≡ false }
-    ensures app { IfOk result (λ r. app_of r ≡ with_question (app_of command.entry)) }
+fn with_question<'a>(alloc: Global, command: Built<'a>) -> Built<'a>
+    requires { IfOk command (λ c. (fields_of c).has_globals ≡ false) }
+    ensures app { IfOk result (λ r. IsOkAnd command.entry (λ c. app_of r ≡ with_question (app_of c))) }
     ensures local { IfOk result (λ r. (fields_of r).has_globals ≡ false) }
 {
-    let command = with(command, verb_arg(alloc))?;
-    let command = with(command, target_arg(alloc))?;
+    let command = with(command, verb_arg(alloc));
+    let command = with(command, target_arg(alloc));
     with(command, files_arg(alloc))
 }
 
@@ -258,7 +262,7 @@ fn named<'a>(alloc: Global, name: &'a str, about: &'a str, more: &'a str) -> Com
     Command::new(alloc, name).about(about).after_help(more)
 }
 
-fn can_i<'a>(alloc: Global) -> Result<Command<'a>, AllocError>
+fn can_i<'a>(alloc: Global) -> Built<'a>
     ensures app { IfOk result (λ r. app_of r ≡ can_i_app) }
     ensures local { IfOk result (λ r. (fields_of r).has_globals ≡ false) }
 {
@@ -268,14 +272,14 @@ fn can_i<'a>(alloc: Global) -> Result<Command<'a>, AllocError>
         "Check whether USER may VERB TARGET: yes (exit status 0) or no (1); 2 is an error",
         CAN_I_MORE,
     );
-    let command = with_asker(alloc, command)?;
-    let command = with_scope(alloc, command)?;
-    let command = with(command, quiet_arg(alloc))?;
-    let command = with(command, why_arg(alloc))?;
+    let command = with_asker(alloc, Ok(command));
+    let command = with_scope(alloc, command);
+    let command = with(command, quiet_arg(alloc));
+    let command = with(command, why_arg(alloc));
     with_question(alloc, command)
 }
 
-fn who_can<'a>(alloc: Global) -> Result<Command<'a>, AllocError>
+fn who_can<'a>(alloc: Global) -> Built<'a>
     ensures app { IfOk result (λ r. app_of r ≡ who_can_app) }
     ensures local { IfOk result (λ r. (fields_of r).has_globals ≡ false) }
 {
@@ -285,11 +289,11 @@ fn who_can<'a>(alloc: Global) -> Result<Command<'a>, AllocError>
         "List who may VERB TARGET: each u:USER or g:GROUP, and the first binding that grants it",
         WHO_CAN_MORE,
     );
-    let command = with_scope(alloc, command)?;
+    let command = with_scope(alloc, Ok(command));
     with_question(alloc, command)
 }
 
-fn matrix<'a>(alloc: Global) -> Result<Command<'a>, AllocError>
+fn matrix<'a>(alloc: Global) -> Built<'a>
     ensures app { IfOk result (λ r. app_of r ≡ matrix_app) }
     ensures local { IfOk result (λ r. (fields_of r).has_globals ≡ false) }
 {
@@ -299,13 +303,13 @@ fn matrix<'a>(alloc: Global) -> Result<Command<'a>, AllocError>
         "List everything that anyone may do: a line for each request that is allowed, then end",
         MATRIX_MORE,
     );
-    let command = with(command, every_arg(alloc))?;
-    let command = with(command, after_arg(alloc))?;
-    let command = with(command, limit_arg(alloc))?;
+    let command = with(Ok(command), every_arg(alloc));
+    let command = with(command, after_arg(alloc));
+    let command = with(command, limit_arg(alloc));
     with(command, files_arg(alloc))
 }
 
-fn lint<'a>(alloc: Global) -> Result<Command<'a>, AllocError>
+fn lint<'a>(alloc: Global) -> Built<'a>
     ensures app { IfOk result (λ r. app_of r ≡ lint_app) }
     ensures local { IfOk result (λ r. (fields_of r).has_globals ≡ false) }
 {
@@ -315,14 +319,11 @@ fn lint<'a>(alloc: Global) -> Result<Command<'a>, AllocError>
         "List what is wrong with the roles: status 1 where something is, else 0; 2 is an error",
         LINT_MORE,
     );
-    with(command, files_arg(alloc))
+    with(Ok(command), files_arg(alloc))
 }
 
 // Adds a subcommand with no global argument, if it could be built.
-fn with_sub<'a>(
-    command: Command<'a>,
-    sub: Result<Command<'a>, AllocError>,
-) -> Result<Command<'a>, AllocError>
+fn with_sub<'a>(command: Command<'a>, sub: Built<'a>) -> Built<'a>
     requires sub { IfOk sub (λ s. (fields_of s).has_globals ≡ false) }
     ensures app { IfOk result (λ r. IsOkAnd sub.entry (λ s.
         app_of r ≡ with_subcommand (app_of command.entry) (app_of s).top)) }
@@ -331,7 +332,7 @@ fn with_sub<'a>(
 }
 
 // Sets the program's name in usage texts, whatever the first word is.
-fn with_bin_name<'a>(command: Command<'a>, name: &str) -> Result<Command<'a>, AllocError>
+fn with_bin_name<'a>(command: Command<'a>, name: &str) -> Built<'a>
     ensures { IfOk result (λ r. app_of r ≡ app_of command.entry) }
 {
     command.bin_name(name)

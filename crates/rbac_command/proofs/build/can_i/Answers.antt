@@ -1,13 +1,12 @@
-use Rattle.std.proofs.Common.{ap, ap₂, ◌∙◌}
-use Rattle.std.proofs.lemmas.Result.{IfOk-weaker}
-use Rattle.clap.specs.Words.{with_rule}
+use Rattle.std.proofs.Common.{Ok}
 use Rattle.rbac_command.specs.App.{with_asker, with_scope, with_question}
+use Rattle.rbac_command.proofs.Steps.{from, rule_from}
 use Rattle.rbac_command.proofs.build.can_i.Goals as goal
 
 pub returns-clause-app : goal.returns-clause-app
 returns-clause-app c =
-    let asker = c.in_ok-command.ensures.app ∙ ap with_asker c.named-command.ensures.app in
-    let scope = c.in_ok-command-2.ensures.app ∙ ap with_scope asker in
-    let quiet = c.in_ok-command-3.ensures.app ∙ ap₂ with_rule scope c.quiet_arg.ensures.rule in
-    let why = c.in_ok-command-4.ensures.app ∙ ap₂ with_rule quiet c.why_arg.ensures.rule in
-    IfOk-weaker c.with_question.result _ _ (λ _ h. h ∙ ap with_question why) c.with_question.ensures.app
+    let asker = from (Ok c.named-command.result) c.with_asker-command.result with_asker _ c.named-command.ensures.app c.with_asker-command.ensures.app in
+    let scope = from c.with_asker-command.result c.with_scope-command.result with_scope _ asker c.with_scope-command.ensures.app in
+    let quiet = rule_from c.with_scope-command.result c.with-command.result _ _ _ scope c.quiet_arg.ensures.rule c.with-command.ensures.app in
+    let why = rule_from c.with-command.result c.with-command-2.result _ _ _ quiet c.why_arg.ensures.rule c.with-command-2.ensures.app in
+    from c.with-command-2.result c.with_question.result with_question _ why c.with_question.ensures.app
