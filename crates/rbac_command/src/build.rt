@@ -4,7 +4,7 @@ ghost use Rattle.std.specs.Prelude.{◌≡◌, IfOk, IsOkAnd, false};
 ghost use Rattle.clap.specs.Words.{app_of, new_app, rule_of, with_rule, with_subcommand};
 ghost use Rattle.clap.specs.declared.builder.command.Command.TheViews.{out-Command as fields_of};
 ghost use Rattle.rbac_command.specs.App.{every_rule, after_rule, limit_rule, user_rule, groups_rule, namespace_rule, all_rule, subresource_rule, quiet_rule, why_rule, verb_rule, target_rule, files_rule};
-ghost use Rattle.rbac_command.specs.App.{with_asker, with_scope, with_question, can_i_app, who_can_app, matrix_app, lint_app, bare_app, rbac_app};
+ghost use Rattle.rbac_command.specs.App.{with_scope, with_question, can_i_app, who_can_app, matrix_app, lint_app, bare_app, rbac_app};
 
 use clap::{Arg, ArgAction, Command, value_parser};
 use std::alloc::{AllocError, Global};
@@ -225,15 +225,6 @@ fn with<'a>(command: Built<'a>, arg: Arg<'a>) -> Built<'a>
     command?.arg(arg)
 }
 
-fn with_asker<'a>(alloc: Global, command: Built<'a>) -> Built<'a>
-    requires { IfOk command (λ c. (fields_of c).has_globals ≡ false) }
-    ensures app { IfOk result (λ r. IsOkAnd command.entry (λ c. app_of r ≡ with_asker (app_of c))) }
-    ensures local { IfOk result (λ r. (fields_of r).has_globals ≡ false) }
-{
-    let command = with(command, user_arg(alloc));
-    with(command, groups_arg(alloc))
-}
-
 fn with_scope<'a>(alloc: Global, command: Built<'a>) -> Built<'a>
     requires { IfOk command (λ c. (fields_of c).has_globals ≡ false) }
     ensures app { IfOk result (λ r. IsOkAnd command.entry (λ c. app_of r ≡ with_scope (app_of c))) }
@@ -272,7 +263,8 @@ fn can_i<'a>(alloc: Global) -> Built<'a>
         "Check whether USER may VERB TARGET: yes (exit status 0) or no (1); 2 is an error",
         CAN_I_MORE,
     );
-    let command = with_asker(alloc, Ok(command));
+    let command = with(Ok(command), user_arg(alloc));
+    let command = with(command, groups_arg(alloc));
     let command = with_scope(alloc, command);
     let command = with(command, quiet_arg(alloc));
     let command = with(command, why_arg(alloc));

@@ -1,9 +1,0 @@
-use Rattle.clap.specs.Words.{App, with_rule}
-use Rattle.rbac_command.specs.App.{user_rule}
-use Rattle.rbac_command.proofs.Steps.{rule, and_rule}
-use Rattle.rbac_command.proofs.build.with_asker.Goals as goal
-
-pub returns-clause-app : goal.returns-clause-app
-returns-clause-app c =
-    let user = rule c.args.command c.with-command.result _ _ c.user_arg.ensures.rule c.with-command.ensures.app in
-    and_rule c.args.command c.with-command.result c.with.result (λ (a : App). with_rule a user_rule) _ _ user c.groups_arg.ensures.rule c.with.ensures.app
