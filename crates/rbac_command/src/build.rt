@@ -237,7 +237,8 @@ fn with_scope<'a>(alloc: Global, command: Built<'a>) -> Built<'a>
 
 fn with_question<'a>(alloc: Global, command: Built<'a>) -> Built<'a>
     requires { IfOk command (λ c. (fields_of c).has_globals ≡ false) }
-    ensures app { IfOk result (λ r. IsOkAnd command.entry (λ c. app_of r ≡ with_question (app_of c))) }
+    ensures app { IfOk result (λ r. IsOkAnd command.entry (λ c.
+        app_of r ≡ with_question (app_of c))) }
     ensures local { IfOk result (λ r. (fields_of r).has_globals ≡ false) }
 {
     let command = with(command, verb_arg(alloc));
