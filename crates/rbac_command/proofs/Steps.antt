@@ -18,7 +18,7 @@ then (Ok c) (Ok m) (Ok r) f g h k = k ∙ ap g h
 pub rule : {E : Type 0} (first last : Result Command E) (r s : Rule) → r ≡ s → Makes first last (λ a. with_rule a r) → Makes first last (λ a. with_rule a s)
 rule first last r s same h = subst (λ (q : Rule). Makes first last (λ a. with_rule a q)) same h
 
--- the same after another step
+-- two steps, the second of which adds a rule which is known
 pub and_rule : {E : Type 0} (first mid last : Result Command E) (f : App → App) (r s : Rule) → Makes first mid f → r ≡ s
     → Makes mid last (λ a. with_rule a r) → Makes first last (λ a. with_rule (f a) s)
 and_rule first mid last f r s h same k = then first mid last f (λ a. with_rule a s) h (rule mid last r s same k)
@@ -30,7 +30,7 @@ from mid (Err e) f start h k = tt
 from (Err e) (Ok r) f start h k = absurd k
 from (Ok m) (Ok r) f start h k = k ∙ ap f h
 
--- the same where the step adds a rule
+-- a step that adds a rule which is known to what is known
 pub rule_from : {E : Type 0} (mid last : Result Command E) (start : App) (r s : Rule) → IfOk mid (λ m. app_of m ≡ start) → r ≡ s
     → Makes mid last (λ a. with_rule a r) → IfOk last (λ x. app_of x ≡ with_rule start s)
 rule_from mid last start r s h same k = from mid last (λ a. with_rule a s) start h (rule mid last r s same k)
