@@ -8,6 +8,5 @@ pub mod Json
 pub mod Members
 pub mod OneLoad
 pub mod Outcomes
-pub mod Rules
 pub mod Texts
 pub mod Replacing

@@ -56,12 +56,12 @@ fn entry_of(alloc: Global, group: &[u8], value: &Value) -> Result<Entry, Trouble
     ensures { Reads result (entry_at group.now (view value.now)) }
 {
     Ok(Entry {
-        group: Word::from_slice(alloc, group)?,
+        namespaced: flag_field(value, "namespaced", false)?,
         name: resource_name_of(alloc, value)?,
         singular: word_field(alloc, value, "singularName")?,
         short_names: words_field(alloc, value, "shortNames")?,
-        namespaced: flag_field(value, "namespaced", false)?,
         verbs: words_field(alloc, value, "verbs")?,
+        group: Word::from_slice(alloc, group)?,
     })
 }
 

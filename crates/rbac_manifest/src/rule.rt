@@ -1,13 +1,13 @@
 //! The rules of a role.
 
-ghost use Rattle.std.specs.Prelude.{◌≡◌, map, option_map};
+ghost use Rattle.std.specs.Prelude.{◌≡◌, map, option_map, None, Some, if◌then◌else◌};
 ghost use Rattle.serde_json.specs.View.{view};
 ghost use Rattle.rbac_manifest.specs.Reads.{Reads, Loads};
 ghost use Rattle.rbac_manifest.specs.Lists.{bad_place, given_by};
 ghost use Rattle.rbac_manifest.specs.Role.{rules_in};
 ghost use Rattle.rbac_manifest.specs.Document.{bad_rules};
 ghost use Rattle.rbac_manifest.specs.declared.fault.Cause.TheVariants.{BadRule};
-ghost use Rattle.rbac_manifest.specs.Rule.{rule_at, is_bad_target};
+ghost use Rattle.rbac_manifest.specs.Rule.{rule_at, rule_in, has_bad_field, is_bad_target};
 
 use crate::fault::{Cause, ItemFault, Trouble};
 use crate::fields::{list_field, object_in, words_field};
@@ -35,19 +35,25 @@ fn is_bad_target(rule: &Rule, in_role: bool) -> bool
     }
 }
 
-// The rule that an object gives.
-#[tactic(auto, unfolding(crate::specs::Rule::rule_at))]
-fn rule_of(alloc: Global, value: &Value, in_role: bool) -> Result<Rule, Trouble>
-    ensures { Reads result (rule_at in_role (view value.now)) }
+// The rule that the fields of an object give, whatever its target.
+fn rule_in(alloc: Global, value: &Value) -> Result<Rule, Trouble>
+    ensures { Reads result (if has_bad_field (view value.now) then None else Some (rule_in (view value.now))) }
 {
-    let value = object_in(value)?;
-    let rule = Rule {
+    Ok(Rule {
         verbs: words_field(alloc, value, "verbs")?,
         groups: words_field(alloc, value, "apiGroups")?,
         resources: words_field(alloc, value, "resources")?,
         resource_names: words_field(alloc, value, "resourceNames")?,
         urls: words_field(alloc, value, "nonResourceURLs")?,
-    };
+    })
+}
+
+// The rule that an object gives.
+#[tactic(auto, unfolding(crate::specs::Rule::rule_at))]
+fn rule_of(alloc: Global, value: &Value, in_role: bool) -> Result<Rule, Trouble>
+    ensures { Reads result (rule_at in_role (view value.now)) }
+{
+    let rule = rule_in(alloc, object_in(value)?)?;
     if is_bad_target(&rule, in_role) {
         return Err(Trouble::Shape);
     }
