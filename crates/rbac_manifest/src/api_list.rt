@@ -55,11 +55,14 @@ fn resource_name_of(alloc: Global, value: &Value) -> Result<Word, Trouble>
 fn entry_of(alloc: Global, group: &[u8], value: &Value) -> Result<Entry, Trouble>
     ensures { Reads result (entry_at group.now (view value.now)) }
 {
+    let Some(namespaced) = flag_field(value, "namespaced", false) else {
+        return Err(Trouble::Shape);
+    };
     Ok(Entry {
-        namespaced: flag_field(value, "namespaced", false)?,
         name: resource_name_of(alloc, value)?,
         singular: word_field(alloc, value, "singularName")?,
         short_names: words_field(alloc, value, "shortNames")?,
+        namespaced,
         verbs: words_field(alloc, value, "verbs")?,
         group: Word::from_slice(alloc, group)?,
     })
@@ -69,7 +72,7 @@ fn entry_of(alloc: Global, group: &[u8], value: &Value) -> Result<Entry, Trouble
 fn entries_in(alloc: Global, group: &[u8], values: &[Value]) -> Result<Entries, Trouble>
     ensures { Reads result (all_at (entry_at group.now) (map view values.now)) }
 {
-    let entries = all_read(alloc, values, |value| entry_of(alloc, group, value))?;
+    let entries = all_read(alloc, values, |alloc, value| entry_of(alloc, group, value))?;
     Ok(Entries::from_vec(entries))
 }
 
@@ -78,8 +81,14 @@ fn entries_in(alloc: Global, group: &[u8], values: &[Value]) -> Result<Entries, 
 pub(crate) fn entries_of(alloc: Global, document: &Value) -> Result<Entries, Trouble>
     ensures { Reads result (entries_at (view document.now)) }
 {
-    let version = text_field(document, "groupVersion").ok_or(Trouble::Shape)?;
-    let group = group_of(version.as_bytes()).ok_or(Trouble::Shape)?;
-    let items = list_field(document, "resources").ok_or(Trouble::Shape)?;
+    let (Some(version), Some(items)) = (
+        text_field(document, "groupVersion"),
+        list_field(document, "resources"),
+    ) else {
+        return Err(Trouble::Shape);
+    };
+    let Some(group) = group_of(version.as_bytes()) else {
+        return Err(Trouble::Shape);
+    };
     entries_in(alloc, group, items)
 }

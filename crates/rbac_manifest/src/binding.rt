@@ -48,9 +48,13 @@ fn role_named(
 fn role_ref_from(alloc: Global, value: &Value, in_namespace: bool) -> Result<RoleRef, Trouble>
     ensures { Reads result (role_ref_from in_namespace (view value.now)) }
 {
-    let kind = text_field(value, "kind").ok_or(Trouble::Shape)?;
-    let group = text_field(value, "apiGroup").ok_or(Trouble::Shape)?;
-    let name = name_of(value).ok_or(Trouble::Shape)?;
+    let (Some(kind), Some(group), Some(name)) = (
+        text_field(value, "kind"),
+        text_field(value, "apiGroup"),
+        name_of(value),
+    ) else {
+        return Err(Trouble::Shape);
+    };
     role_named(alloc, in_namespace, kind, group, name)
 }
 
@@ -63,6 +67,8 @@ pub(crate) fn role_ref_of(
 ) -> Result<RoleRef, Trouble>
     ensures { Reads result (role_ref_at in_namespace (view document.now)) }
 {
-    let reference = field(document, "roleRef").ok_or(Trouble::Shape)?;
+    let Some(reference) = field(document, "roleRef") else {
+        return Err(Trouble::Shape);
+    };
     role_ref_from(alloc, object_in(reference)?, in_namespace)
 }

@@ -59,7 +59,9 @@ pub(crate) fn list_field<'v>(value: &'v Value, name: &str) -> Option<&'v [Value]
 fn word_in(alloc: Global, value: &Value) -> Result<Word, Trouble>
     ensures { Reads result (as_str (view value.now)) }
 {
-    let text = value.as_str().ok_or(Trouble::Shape)?;
+    let Some(text) = value.as_str() else {
+        return Err(Trouble::Shape);
+    };
     Ok(word_of(alloc, text)?)
 }
 
@@ -68,7 +70,7 @@ fn word_in(alloc: Global, value: &Value) -> Result<Word, Trouble>
 fn words_of(alloc: Global, values: &[Value]) -> Result<Words, Trouble>
     ensures { Reads result (all_texts (map view values.now)) }
 {
-    let words = all_read(alloc, values, |value| word_in(alloc, value))?;
+    let words = all_read(alloc, values, word_in)?;
     Ok(Words::from_vec(words))
 }
 
@@ -76,7 +78,10 @@ fn words_of(alloc: Global, values: &[Value]) -> Result<Words, Trouble>
 pub(crate) fn words_in(alloc: Global, list: &Value) -> Result<Words, Trouble>
     ensures { Reads result (option_and_then all_texts (as_list (view list.now))) }
 {
-    words_of(alloc, as_list(list).ok_or(Trouble::Shape)?)
+    let Some(values) = as_list(list) else {
+        return Err(Trouble::Shape);
+    };
+    words_of(alloc, values)
 }
 
 // The texts in a field that is a list of texts; a missing field counts as an empty list.
@@ -84,7 +89,9 @@ pub(crate) fn words_in(alloc: Global, list: &Value) -> Result<Words, Trouble>
 pub(crate) fn words_field(alloc: Global, value: &Value, name: &str) -> Result<Words, Trouble>
     ensures { Reads result (texts_field name.now (view value.now)) }
 {
-    let values = list_field(value, name).ok_or(Trouble::Shape)?;
+    let Some(values) = list_field(value, name) else {
+        return Err(Trouble::Shape);
+    };
     words_of(alloc, values)
 }
 
@@ -119,12 +126,12 @@ pub(crate) fn word_of(alloc: Global, text: &str) -> Result<Word, AllocError>
 
 // The boolean in a field, or `missing` if the field is missing.
 #[tactic(auto, unfolding(crate::specs::Fields::flag_at))]
-pub(crate) fn flag_field(value: &Value, name: &str, missing: bool) -> Result<bool, Trouble>
-    ensures { Reads result (flag_at missing name.now (view value.now)) }
+pub(crate) fn flag_field(value: &Value, name: &str, missing: bool) -> Option<bool>
+    ensures { result ≡ flag_at missing name.now (view value.now) }
 {
     match field(value, name) {
-        Some(flag) => flag.as_bool().ok_or(Trouble::Shape),
-        None => Ok(missing),
+        Some(flag) => flag.as_bool(),
+        None => Some(missing),
     }
 }
 
@@ -132,6 +139,8 @@ pub(crate) fn flag_field(value: &Value, name: &str, missing: bool) -> Result<boo
 pub(crate) fn word_field(alloc: Global, value: &Value, name: &str) -> Result<Word, Trouble>
     ensures { Reads result (text_at name.now (view value.now)) }
 {
-    let text = text_field(value, name).ok_or(Trouble::Shape)?;
+    let Some(text) = text_field(value, name) else {
+        return Err(Trouble::Shape);
+    };
     Ok(word_of(alloc, text)?)
 }

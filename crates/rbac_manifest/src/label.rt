@@ -14,7 +14,9 @@ use std::alloc::Global;
 fn label_of(alloc: Global, key: &str, value: &Value) -> Result<(Word, Word), Trouble>
     ensures { Reads result (label_of key.now (view value.now)) }
 {
-    let text = value.as_str().ok_or(Trouble::Shape)?;
+    let Some(text) = value.as_str() else {
+        return Err(Trouble::Shape);
+    };
     let key = word_of(alloc, key)?;
     let value = word_of(alloc, text)?;
     Ok((key, value))

@@ -12,19 +12,19 @@ use std::alloc::Global;
 
 // What all items give, each read by `read`. Fails at the first bad one.
 #[tactic(auto, unfolding(crate::specs::Lists::bad_place, crate::specs::Lists::given_by))]
-pub(crate) fn all_read<T: Drop, F: Fn(&Value) -> Result<T, Trouble>>(
+pub(crate) fn all_read<T: Drop, F: Fn(Global, &Value) -> Result<T, Trouble>>(
     alloc: Global,
     values: &[Value],
     read: F,
 ) -> Result<Vec<T>, ItemFault>
     ghost at: { Data → Option T }
     requires callable { F.IsAlwaysCallable read }
-    requires reads { (value : _) (found : _) → F.post read value found → Reads found (at (view value.now)) }
+    requires reads { (heap : _) (value : _) (found : _) → F.post read heap value found → Reads found (at (view value.now)) }
     ensures { ReadsAll result at (map view values.now) }
 {
     let mut items = Vec::new(alloc);
     for (place, value) in values.iter().enumerate() {
-        let item = read(value).map_err(|trouble| trouble.at(place))?;
+        let item = read(alloc, value).map_err(|trouble| trouble.at(place))?;
         items.push(item)?;
     }
     Ok(items)

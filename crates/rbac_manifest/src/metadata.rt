@@ -6,7 +6,7 @@ ghost use Rattle.rbac_manifest.specs.Document.{bad_metadata};
 ghost use Rattle.rbac_manifest.specs.Metadata.{metadata_from, metadata_at};
 
 use crate::fault::{Cause, Trouble};
-use crate::fields::{field, name_of, object_in, text_field, word_of};
+use crate::fields::{field, name_of, object_in, word_field, word_of};
 use crate::label::labels_field;
 use rbac_terms::{Labels, Word};
 use serde_json::Value;
@@ -26,13 +26,13 @@ fn metadata_from(alloc: Global, metadata: &Value) -> Result<Metadata, Trouble>
     ensures { Reads result (metadata_from (view metadata.now)) }
 {
     let metadata = object_in(metadata)?;
-    let labels = labels_field(alloc, metadata, "labels")?;
-    let name = name_of(metadata).ok_or(Trouble::Shape)?;
-    let namespace = text_field(metadata, "namespace").ok_or(Trouble::Shape)?;
+    let Some(name) = name_of(metadata) else {
+        return Err(Trouble::Shape);
+    };
     Ok(Metadata {
         name: word_of(alloc, name)?,
-        namespace: word_of(alloc, namespace)?,
-        labels,
+        namespace: word_field(alloc, metadata, "namespace")?,
+        labels: labels_field(alloc, metadata, "labels")?,
     })
 }
 

@@ -65,7 +65,7 @@ fn rules_from(alloc: Global, values: &[Value], in_role: bool) -> Result<Rules, C
     ensures { Loads result (option_map BadRule (bad_place (rule_at in_role) 0 (map view values.now)))
         (given_by (rule_at in_role) (map view values.now)) }
 {
-    match all_read(alloc, values, |value| rule_of(alloc, value, in_role)) {
+    match all_read(alloc, values, |alloc, value| rule_of(alloc, value, in_role)) {
         Ok(rules) => Ok(Rules::from_vec(rules)),
         Err(ItemFault::Bad(place)) => Err(Cause::BadRule(place)),
         Err(ItemFault::WithoutMemory) => Err(Cause::NoMemory),

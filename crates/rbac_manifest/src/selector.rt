@@ -37,13 +37,16 @@ fn operator_named(name: &str, values: &Words) -> Option<SelectOp>
 fn requirement_from(alloc: Global, value: &Value) -> Result<Requirement, Trouble>
     ensures { Reads result (requirement_from (view value.now)) }
 {
-    let key = text_field(value, "key").ok_or(Trouble::Shape)?;
+    let (Some(key), Some(name)) = (text_field(value, "key"), text_field(value, "operator")) else {
+        return Err(Trouble::Shape);
+    };
     if key.is_empty() {
         return Err(Trouble::Shape);
     }
-    let name = text_field(value, "operator").ok_or(Trouble::Shape)?;
     let values = words_field(alloc, value, "values")?;
-    let op = operator_named(name, &values).ok_or(Trouble::Shape)?;
+    let Some(op) = operator_named(name, &values) else {
+        return Err(Trouble::Shape);
+    };
     let key = word_of(alloc, key)?;
     Ok(Requirement { key, op, values })
 }
@@ -60,7 +63,7 @@ fn requirement_of(alloc: Global, value: &Value) -> Result<Requirement, Trouble>
 fn requirements_of(alloc: Global, values: &[Value]) -> Result<Requirements, Trouble>
     ensures { Reads result (all_at requirement_at (map view values.now)) }
 {
-    let requirements = all_read(alloc, values, |value| requirement_of(alloc, value))?;
+    let requirements = all_read(alloc, values, requirement_of)?;
     Ok(Requirements::from_vec(requirements))
 }
 
@@ -69,12 +72,12 @@ fn requirements_of(alloc: Global, values: &[Value]) -> Result<Requirements, Trou
 fn selector_from(alloc: Global, value: &Value) -> Result<Selector, Trouble>
     ensures { Reads result (selector_from (view value.now)) }
 {
-    let labels = labels_field(alloc, value, "matchLabels")?;
-    let expressions = list_field(value, "matchExpressions").ok_or(Trouble::Shape)?;
-    let requirements = requirements_of(alloc, expressions)?;
+    let Some(expressions) = list_field(value, "matchExpressions") else {
+        return Err(Trouble::Shape);
+    };
     Ok(Selector {
-        labels,
-        requirements,
+        labels: labels_field(alloc, value, "matchLabels")?,
+        requirements: requirements_of(alloc, expressions)?,
     })
 }
 
@@ -90,7 +93,7 @@ fn selector_of(alloc: Global, value: &Value) -> Result<Selector, Trouble>
 fn selectors_in(alloc: Global, values: &[Value]) -> Result<Selectors, Trouble>
     ensures { Reads result (all_at selector_at (map view values.now)) }
 {
-    let selectors = all_read(alloc, values, |value| selector_of(alloc, value))?;
+    let selectors = all_read(alloc, values, selector_of)?;
     Ok(Selectors::from_vec(selectors))
 }
 
@@ -99,7 +102,9 @@ fn selectors_in(alloc: Global, values: &[Value]) -> Result<Selectors, Trouble>
 fn selectors_from(alloc: Global, value: &Value) -> Result<Selectors, Trouble>
     ensures { Reads result (selectors_from (view value.now)) }
 {
-    let selectors = list_field(object_in(value)?, "clusterRoleSelectors").ok_or(Trouble::Shape)?;
+    let Some(selectors) = list_field(object_in(value)?, "clusterRoleSelectors") else {
+        return Err(Trouble::Shape);
+    };
     selectors_in(alloc, selectors)
 }
 

@@ -57,10 +57,14 @@ fn subject_named(
 fn subject_from(alloc: Global, value: &Value) -> Result<Subject, Trouble>
     ensures { Reads result (subject_from (view value.now)) }
 {
-    let kind = text_field(value, "kind").ok_or(Trouble::Shape)?;
-    let group = text_field(value, "apiGroup").ok_or(Trouble::Shape)?;
-    let name = name_of(value).ok_or(Trouble::Shape)?;
-    let namespace = text_field(value, "namespace").ok_or(Trouble::Shape)?;
+    let (Some(kind), Some(group), Some(name), Some(namespace)) = (
+        text_field(value, "kind"),
+        text_field(value, "apiGroup"),
+        name_of(value),
+        text_field(value, "namespace"),
+    ) else {
+        return Err(Trouble::Shape);
+    };
     subject_named(alloc, kind, group, name, namespace)
 }
 
@@ -77,7 +81,7 @@ fn subjects_from(alloc: Global, values: &[Value]) -> Result<Subjects, Cause>
     ensures { Loads result (option_map BadSubject (bad_place subject_at 0 (map view values.now)))
         (given_by subject_at (map view values.now)) }
 {
-    match all_read(alloc, values, |value| subject_of(alloc, value)) {
+    match all_read(alloc, values, subject_of) {
         Ok(subjects) => Ok(Subjects::from_vec(subjects)),
         Err(ItemFault::Bad(place)) => Err(Cause::BadSubject(place)),
         Err(ItemFault::WithoutMemory) => Err(Cause::NoMemory),

@@ -31,7 +31,10 @@ fn trouble_of(fault: ModelFault) -> Trouble
 fn user_of(alloc: Global, name: &Value, value: &Value) -> Result<Principal, Trouble>
     ensures { Reads result (user_at (view name.now) (view value.now)) }
 {
-    let name = word_of(alloc, name.as_str().ok_or(Trouble::Shape)?)?;
+    let Some(name) = name.as_str() else {
+        return Err(Trouble::Shape);
+    };
+    let name = word_of(alloc, name)?;
     let groups = words_field(alloc, value, "groups")?;
     Principal::user(alloc, &name, &groups).map_err(trouble_of)
 }
@@ -41,7 +44,10 @@ fn user_of(alloc: Global, name: &Value, value: &Value) -> Result<Principal, Trou
 fn member_of(alloc: Global, name: &Value) -> Result<Principal, Trouble>
     ensures { Reads result (member_at (view name.now)) }
 {
-    let name = word_of(alloc, name.as_str().ok_or(Trouble::Shape)?)?;
+    let Some(name) = name.as_str() else {
+        return Err(Trouble::Shape);
+    };
+    let name = word_of(alloc, name)?;
     Principal::group(alloc, &name).map_err(trouble_of)
 }
 
@@ -65,8 +71,10 @@ fn read_principal(alloc: Global, value: &Value) -> Result<Principal, Trouble>
 fn principals_in(alloc: Global, list: &Value) -> Result<Principals, Trouble>
     ensures { Reads result (option_and_then (all_at principal_at) (as_list (view list.now))) }
 {
-    let items = as_list(list).ok_or(Trouble::Shape)?;
-    let principals = all_read(alloc, items, |item| read_principal(alloc, item))?;
+    let Some(items) = as_list(list) else {
+        return Err(Trouble::Shape);
+    };
+    let principals = all_read(alloc, items, read_principal)?;
     Ok(Principals::from_vec(principals))
 }
 
@@ -86,12 +94,19 @@ fn principals_given(alloc: Global, document: &Value) -> Result<Option<Principals
 fn resource_of(alloc: Global, value: &Value) -> Result<ListedResource, Trouble>
     ensures { Reads result (resource_at (view value.now)) }
 {
-    let resource = field(value, "resource").ok_or(Trouble::Shape)?;
-    let text = resource.as_str().ok_or(Trouble::Shape)?;
+    let Some(resource) = field(value, "resource") else {
+        return Err(Trouble::Shape);
+    };
+    let (Some(text), Some(namespaced)) = (
+        resource.as_str(),
+        flag_field(value, "namespaced", true),
+    ) else {
+        return Err(Trouble::Shape);
+    };
     Ok(ListedResource {
         group: word_field(alloc, value, "group")?,
         text: word_of(alloc, text)?,
-        namespaced: flag_field(value, "namespaced", true)?,
+        namespaced,
     })
 }
 
@@ -99,8 +114,10 @@ fn resource_of(alloc: Global, value: &Value) -> Result<ListedResource, Trouble>
 fn resources_in(alloc: Global, list: &Value) -> Result<ListedResources, Trouble>
     ensures { Reads result (option_and_then (all_at resource_at) (as_list (view list.now))) }
 {
-    let items = as_list(list).ok_or(Trouble::Shape)?;
-    let resources = all_read(alloc, items, |item| resource_of(alloc, item))?;
+    let Some(items) = as_list(list) else {
+        return Err(Trouble::Shape);
+    };
+    let resources = all_read(alloc, items, resource_of)?;
     Ok(ListedResources::from_vec(resources))
 }
 

@@ -6,11 +6,11 @@ use Rattle.rbac_manifest.proofs.listed.all_read.Goals as goal
 pub returns-in_err-item : goal.returns-in_err-item
 unfolding bad_place given_by
 returns-in_err-item g c =
-    let found = c.requires.1.1.1 _ _ c.read.ensures in
+    let found = c.requires.1.1.1 _ _ _ c.read.ensures in
     grind (arith, common_steps)
 
 pub loop-place-preserved : goal.loop-place-preserved
 unfolding bad_place given_by
 loop-place-preserved g c =
-    let found = c.requires.1.1.1 _ _ c.read.ensures in
+    let found = c.requires.1.1.1 _ _ _ c.read.ensures in
     grind (arith, common_steps)
