@@ -11,7 +11,7 @@ ghost use Rattle.rbac_manifest.specs.declared.kind.Kind.TheVariants as kinds;
 use crate::api_list::entries_of;
 use crate::binding::role_ref_of;
 use crate::content::Content;
-use crate::fault::Cause;
+use crate::fault::{Cause, read_or};
 use crate::fields::word_of;
 use crate::kind::{Implied, Kind, kind_of};
 use crate::metadata::{Metadata, metadata_of};
@@ -63,9 +63,7 @@ fn cluster_role_of(alloc: Global, document: &Value) -> Result<ClusterRole, Cause
 {
     let Metadata { name, labels, .. } = metadata_of(alloc, document)?;
     let rules = read_rules(alloc, document, false)?;
-    let aggregation = aggregation_of(alloc, document).map_err(|trouble| trouble.cause(
-        Cause::BadSelector,
-    ))?;
+    let aggregation = read_or(aggregation_of(alloc, document), Cause::BadSelector)?;
     Ok(ClusterRole {
         name,
         labels,
@@ -86,9 +84,7 @@ fn binding_of(alloc: Global, document: &Value, in_namespace: bool) -> Result<Bin
         namespace,
         ..
     } = metadata_of(alloc, document)?;
-    let role = role_ref_of(alloc, document, in_namespace).map_err(|trouble| trouble.cause(
-        Cause::BadRoleRef,
-    ))?;
+    let role = read_or(role_ref_of(alloc, document, in_namespace), Cause::BadRoleRef)?;
     let subjects = subjects_of(alloc, document)?;
     let namespace = if in_namespace {
         Some(namespace_or_default(alloc, namespace)?)
@@ -148,11 +144,13 @@ pub(crate) fn content_of(
         )?)),
         Kind::Namespace => Content::Namespace(namespace_of(alloc, document)?),
         Kind::ServiceAccount => Content::Account(account_of(alloc, document)?),
-        Kind::ApiList => Content::ApiList(entries_of(alloc, document).map_err(
-            |trouble| trouble.cause(Cause::BadCatalogue),
+        Kind::ApiList => Content::ApiList(read_or(
+            entries_of(alloc, document),
+            Cause::BadCatalogue,
         )?),
-        Kind::Universe => Content::Lists(given_lists_of(alloc, document).map_err(
-            |trouble| trouble.cause(Cause::BadUniverse),
+        Kind::Universe => Content::Lists(read_or(
+            given_lists_of(alloc, document),
+            Cause::BadUniverse,
         )?),
         Kind::List(_) | Kind::Other => return Ok(None),
     }))

@@ -1,6 +1,7 @@
 //! Why inputs are refused.
 
 ghost use Rattle.std.specs.Prelude.{◌≡◌, ◌+◌};
+ghost use Rattle.std.specs.Result.{result_map_both};
 ghost use Rattle.rbac_manifest.specs.declared.fault.Trouble.TheVariants.{Memory};
 ghost use Rattle.rbac_manifest.specs.declared.fault.ItemFault.TheVariants.{WithoutMemory};
 ghost use Rattle.rbac_manifest.specs.declared.fault.Cause.TheVariants.{NoMemory};
@@ -76,15 +77,17 @@ impl Trouble {
             Trouble::Memory => ItemFault::WithoutMemory,
         }
     }
+}
 
-    // The cause `refused` if the shape is wrong, otherwise out of memory.
-    pub(crate) fn cause(self, refused: Cause) -> Cause
-        ensures { result ≡ cause_of self refused }
-    {
-        match self {
-            Trouble::Shape => refused,
-            Trouble::Memory => Cause::NoMemory,
-        }
+// What was read, or why it is refused: the cause `refused` if its shape is wrong, otherwise out of
+// memory.
+pub(crate) fn read_or<T: Drop>(read: Result<T, Trouble>, refused: Cause) -> Result<T, Cause>
+    ensures { result ≡ result_map_both (λ value. value) (λ trouble. cause_of trouble refused) read }
+{
+    match read {
+        Ok(value) => Ok(value),
+        Err(Trouble::Shape) => Err(refused),
+        Err(Trouble::Memory) => Err(Cause::NoMemory),
     }
 }
 

@@ -41,7 +41,7 @@ pub(crate) fn object_in(value: &Value) -> Result<&Value, Trouble>
 pub(crate) fn as_list(value: &Value) -> Option<&[Value]>
     ensures { option_map (λ vs. map view vs.now) result ≡ as_list (view value.now) }
 {
-    value.as_array().map(|items| items.as_slice())
+    Some(value.as_array()?.as_slice())
 }
 
 // The items of the list in a field; a missing field counts as an empty list.

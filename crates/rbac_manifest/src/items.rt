@@ -1,11 +1,13 @@
 //! What one input gives. An input is a document or a list of documents.
 
 ghost use Rattle.std.specs.Prelude.{◌≡◌, ◌≢◌, map, option_map, codes, OnOk, IfErr, None, Some};
+ghost use Rattle.std.specs.Option.{option_to_list};
 ghost use Rattle.rbac_manifest.specs.Fields.{list_field, list_or_empty, present};
 ghost use Rattle.serde_json.specs.View.{view};
 ghost use Rattle.rbac_manifest.specs.declared.fault.Cause.TheVariants.{NoMemory};
 ghost use Rattle.rbac_manifest.specs.Contents.{with_contents};
-ghost use Rattle.rbac_manifest.specs.Load.{first_refusal, contents_of_items, refusal_in, contents_of_input};
+ghost use Rattle.rbac_manifest.specs.Document.{bad_body, content_in, fault, stands};
+ghost use Rattle.rbac_manifest.specs.Load.{as_whole, in_item, first_refusal, contents_of_items, refusal_in, contents_of_input};
 
 use crate::contents::Contents;
 use crate::document::{content_of, document_of};
@@ -39,8 +41,28 @@ fn list_from(alloc: Global, value: Value) -> Option<Vec<Value>>
     }
 }
 
-// Adds what the items of a list give to `contents`. Fails at the first item with a fault. Each item
-// is freed once it is read, while it is still in the processor's cache.
+// Adds what an item of a list gives to `contents`. The item is freed once it is read, while it is
+// still in the processor's cache.
+fn item_into(
+    alloc: Global,
+    item: Value,
+    place: usize,
+    implied: Implied,
+    contents: &mut Contents,
+) -> Result<(), Refusal>
+    ensures sound { OnOk result (fault implied (view item) ≡ None) }
+    ensures contents { OnOk result
+        (contents.new ≡ with_contents contents.old (option_to_list (stands implied (view item)))) }
+    ensures refusal { IfErr result
+        (λ e. e.cause ≢ NoMemory → option_map (in_item place) (fault implied (view item)) ≡ Some e) }
+{
+    match document_of(alloc, &item, implied) {
+        Ok(content) => Ok(contents.take(content)?),
+        Err(cause) => Err(Refusal::item(place, cause)),
+    }
+}
+
+// Adds what the items of a list give to `contents`. Fails at the first item with a fault.
 #[tactic(auto, using(crate::proofs::ContentsLemmas::contents_more))]
 fn items_into(
     alloc: Global,
@@ -57,10 +79,7 @@ fn items_into(
     contents.reserve(items.len())?;
     let mut place = 0;
     for item in items {
-        let content = document_of(alloc, &item, implied).map_err(|cause| Refusal::item(
-            place, cause,
-        ))?;
-        contents.take(content)?;
+        item_into(alloc, item, place, implied, contents)?;
         join_freed(alloc)?;
         place += 1;
     }
@@ -73,6 +92,25 @@ fn items_into(
 fn join_freed(alloc: Global) -> Result<(), AllocError> {
     let mut piece: Vec<u8> = Vec::new(alloc);
     piece.reserve(2048)
+}
+
+// Adds what a document of this kind gives to `contents`.
+fn content_into(
+    alloc: Global,
+    kind: Kind,
+    document: &Value,
+    contents: &mut Contents,
+) -> Result<(), Refusal>
+    ensures sound { OnOk result (bad_body kind (view document.now) ≡ None) }
+    ensures contents { OnOk result (contents.new
+        ≡ with_contents contents.old (option_to_list (content_in kind (view document.now)))) }
+    ensures refusal { IfErr result
+        (λ e. e.cause ≢ NoMemory → option_map as_whole (bad_body kind (view document.now)) ≡ Some e) }
+{
+    match content_of(alloc, kind, document) {
+        Ok(content) => Ok(contents.take(content)?),
+        Err(cause) => Err(Refusal::whole(cause)),
+    }
 }
 
 // Adds what an input gives to `contents`.
@@ -88,16 +126,12 @@ pub(crate) fn input_into(
     ensures refusal { IfErr result
         (λ e. e.cause ≢ NoMemory → refusal_in (view document) ≡ Some e) }
 {
-    let kind = kind_of(&document, Implied::Nothing).map_err(Refusal::whole)?;
-    match kind {
-        Kind::List(implied) => match take_items(alloc, &mut document) {
+    match kind_of(&document, Implied::Nothing) {
+        Ok(Kind::List(implied)) => match take_items(alloc, &mut document) {
             Some(items) => items_into(alloc, items, implied, contents),
             None => Err(Refusal::whole(Cause::NotAnObject)),
         },
-        kind => {
-            let content = content_of(alloc, kind, &document).map_err(Refusal::whole)?;
-            contents.take(content)?;
-            Ok(())
-        }
+        Ok(kind) => content_into(alloc, kind, &document, contents),
+        Err(cause) => Err(Refusal::whole(cause)),
     }
 }

@@ -24,8 +24,10 @@ pub(crate) fn all_read<T: Drop, F: Fn(Global, &Value) -> Result<T, Trouble>>(
 {
     let mut items = Vec::new(alloc);
     for (place, value) in values.iter().enumerate() {
-        let item = read(alloc, value).map_err(|trouble| trouble.at(place))?;
-        items.push(item)?;
+        match read(alloc, value) {
+            Ok(item) => items.push(item)?,
+            Err(trouble) => return Err(trouble.at(place)),
+        }
     }
     Ok(items)
 }

@@ -164,9 +164,9 @@ fn contents_of(alloc: Global, inputs: &[Input]) -> Result<Contents, LoadFault>
 {
     let mut contents = Contents::new(alloc);
     for (file, input) in inputs.iter().enumerate() {
-        file_into(alloc, input.as_bytes(), &mut contents).map_err(|refusal| LoadFault::in_file(
-            file, refusal,
-        ))?;
+        if let Err(refusal) = file_into(alloc, input.as_bytes(), &mut contents) {
+            return Err(LoadFault::in_file(file, refusal));
+        }
     }
     Ok(contents)
 }
@@ -181,7 +181,10 @@ fn replaced_among(
     ensures replaced { IfOk result (λ v. AreReplaced (names_given objects.now namespaces.now accounts.now) v.items) }
     ensures memory { IfErr result (λ e. e ≡ record { at = None; cause = NoMemory }) }
 {
-    replaced_of(alloc, objects, namespaces, accounts).map_err(|_| LoadFault::no_memory())
+    match replaced_of(alloc, objects, namespaces, accounts) {
+        Ok(replaced) => Ok(replaced),
+        Err(_) => Err(LoadFault::no_memory()),
+    }
 }
 
 // The policy of these objects, keeping only the last one of each kind, namespace and name.
@@ -192,8 +195,13 @@ fn policy_of(alloc: Global, objects: Vec<Object>) -> Result<Policy, LoadFault>
     ensures many { IfErr result (λ e. e.cause ≢ NoMemory → (e ≡ too_many) × ((held : Held) × AreKept objects.items held × HasTooMany held)) }
     ensures memory { IfErr result (λ e. e.cause ≡ NoMemory → e.at ≡ None) }
 {
-    let held = Objects::from_given(alloc, objects).map_err(|_| LoadFault::no_memory())?;
-    Policy::resolve(alloc, held).map_err(|fault| unresolved(fault))
+    let Ok(held) = Objects::from_given(alloc, objects) else {
+        return Err(LoadFault::no_memory());
+    };
+    match Policy::resolve(alloc, held) {
+        Ok(policy) => Ok(policy),
+        Err(fault) => Err(unresolved(fault)),
+    }
 }
 
 // Why inputs are refused if their objects can't be resolved.

@@ -5,7 +5,7 @@ ghost use Rattle.rbac_manifest.specs.Reads.{Reads, Gives};
 ghost use Rattle.rbac_manifest.specs.Document.{bad_metadata};
 ghost use Rattle.rbac_manifest.specs.Metadata.{metadata_from, metadata_at};
 
-use crate::fault::{Cause, Trouble};
+use crate::fault::{Cause, Trouble, read_or};
 use crate::fields::{field, name_of, object_in, word_field, word_of};
 use crate::label::labels_field;
 use rbac_terms::{Labels, Word};
@@ -41,6 +41,8 @@ fn metadata_from(alloc: Global, metadata: &Value) -> Result<Metadata, Trouble>
 pub(crate) fn metadata_of(alloc: Global, document: &Value) -> Result<Metadata, Cause>
     ensures { Gives result (bad_metadata (view document.now)) (metadata_at (view document.now)) }
 {
-    let metadata = field(document, "metadata").ok_or(Cause::BadMetadata)?;
-    metadata_from(alloc, metadata).map_err(|trouble| trouble.cause(Cause::BadMetadata))
+    let Some(metadata) = field(document, "metadata") else {
+        return Err(Cause::BadMetadata);
+    };
+    read_or(metadata_from(alloc, metadata), Cause::BadMetadata)
 }

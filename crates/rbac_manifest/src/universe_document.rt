@@ -84,9 +84,10 @@ fn principals_given(alloc: Global, document: &Value) -> Result<Option<Principals
     ensures { Reads result
         (where_given (items_field principal_at) (codes "principals") (view document.now)) }
 {
-    field(document, "principals")
-        .map(|list| principals_in(alloc, list))
-        .transpose()
+    match field(document, "principals") {
+        Some(list) => Ok(Some(principals_in(alloc, list)?)),
+        None => Ok(None),
+    }
 }
 
 // The resource that an item gives.
@@ -127,9 +128,10 @@ fn resources_given(alloc: Global, document: &Value) -> Result<Option<ListedResou
     ensures { Reads result
         (where_given (items_field resource_at) (codes "resources") (view document.now)) }
 {
-    field(document, "resources")
-        .map(|list| resources_in(alloc, list))
-        .transpose()
+    match field(document, "resources") {
+        Some(list) => Ok(Some(resources_in(alloc, list)?)),
+        None => Ok(None),
+    }
 }
 
 // The texts in a field of a document, if it gives them.
@@ -137,9 +139,10 @@ fn resources_given(alloc: Global, document: &Value) -> Result<Option<ListedResou
 fn words_given(alloc: Global, document: &Value, name: &str) -> Result<Option<Words>, Trouble>
     ensures { Reads result (where_given texts_field name.now (view document.now)) }
 {
-    field(document, name)
-        .map(|list| words_in(alloc, list))
-        .transpose()
+    match field(document, name) {
+        Some(list) => Ok(Some(words_in(alloc, list)?)),
+        None => Ok(None),
+    }
 }
 
 // The lists that a Universe document gives.

@@ -3,9 +3,9 @@ use Rattle.std.proofs.lemmas.Grind.{common_steps}
 use Rattle.rbac_manifest.specs.Lists.{bad_place, given_by}
 use Rattle.rbac_manifest.proofs.listed.all_read.Goals as goal
 
-pub returns-in_err-item : goal.returns-in_err-item
+pub returns-in-Err : goal.returns-in-Err
 unfolding bad_place given_by
-returns-in_err-item g c =
+returns-in-Err g c =
     let found = c.requires.1.1.1 _ _ _ c.read.ensures in
     grind (arith, common_steps)
 

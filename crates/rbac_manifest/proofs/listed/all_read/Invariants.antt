@@ -6,7 +6,7 @@ use Rattle.rbac_manifest.proofs.listed.all_read.Given as goal
 
 abbrev pub invariant-loop-place : goal.invariant-loop-place
 invariant-loop-place g l =
-    (with_prefix l.items.items (all_at g.at (map view (drop l.place-counter l.values))) ≡ all_at g.at (map view l.values))
-    × (bad_place g.at l.place-counter (map view (drop l.place-counter l.values)) ≡ bad_place g.at 0 (map view l.values))
-    × (l.items.items ++ given_by g.at (map view (drop l.place-counter l.values)) ≡ given_by g.at (map view l.values))
+    (with_prefix l.items.items (all_at g.at (map view (drop l.place l.values))) ≡ all_at g.at (map view l.values))
+    × (bad_place g.at l.place (map view (drop l.place l.values)) ≡ bad_place g.at 0 (map view l.values))
+    × (l.items.items ++ given_by g.at (map view (drop l.place l.values)) ≡ given_by g.at (map view l.values))
     × goal.F-IsAlwaysCallable g l.read

@@ -8,7 +8,7 @@ pub loop-file-init : goal.loop-file-init
 loop-file-init c = (search rules, rw c.new-contents.ensures (contents_first (all_contents c.args.inputs.now)))
 
 pub loop-file-preserved : goal.loop-file-preserved
-loop-file-preserved c = (grind (arith, common_steps), contents_next c.loop-file.contents c.file_into.new.contents _ c.args.inputs.now c.loop-file.file-counter c.as_bytes.result.now (search rules) (search rules) (search rules) c.loop-file.invariant.1)
+loop-file-preserved c = (grind (arith, common_steps), contents_next c.loop-file.contents c.file_into.new.contents _ c.args.inputs.now c.loop-file.file c.as_bytes.result.now (search rules) (search rules) (search rules) c.loop-file.invariant.1)
 
 pub returns-clause-contents : goal.returns-clause-contents
 returns-clause-contents c = contents_all _ _ _ (ap all_contents {y = []} (grind (arith, common_steps))) c.loop-file.invariant.1
