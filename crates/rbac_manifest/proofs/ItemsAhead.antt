@@ -47,10 +47,10 @@ sound_header : (h b : Option Cause) → first_of (h ∷ b ∷ []) ≡ None → h
 sound_header None b e = refl
 sound_header (Some c) b e = e
 
-no_list_kind : (ms : Members) → IsNoList (object ms) → fault lists.Nothing (object ms) ≡ None → (implied : Implied) → kind_of lists.Nothing (object ms) ≡ kinds.List implied → ⊥
+no_list_kind : (d : Data) → IsNoList d → fault lists.Nothing d ≡ None → (implied : Implied) → kind_of lists.Nothing d ≡ kinds.List implied → ⊥
 unfolding fault
-no_list_kind ms none sound implied e =
-    none implied (sound_header (bad_header lists.Nothing (object ms)) (bad_body (kind_of lists.Nothing (object ms)) (object ms)) sound, e)
+no_list_kind d none sound implied e =
+    none implied (sound_header (bad_header lists.Nothing d) (bad_body (kind_of lists.Nothing d) d) sound, e)
 
 no_items_refused : (k : Kind) (d : Data) → ((implied : Implied) → k ≡ kinds.List implied → ⊥) → items_refusal k d ≡ None
 no_items_refused kinds.Role d other = refl
@@ -80,11 +80,20 @@ refused_or : (o : Option Cause) (r : Option Refusal) → (o ≡ None → r ≡ N
 refused_or None r h = h refl
 refused_or (Some c) r h = refl
 
+pub refused_alone : (d : Data) → IsNoList d → refusal_in d ≡ option_map as_whole (fault lists.Nothing d)
+unfolding refusal_in
+refused_alone d none =
+    refused_or (fault lists.Nothing d) (items_refusal (kind_of lists.Nothing d) d) (λ sound. no_items_refused (kind_of lists.Nothing d) d (no_list_kind d none sound))
+
+pub contents_alone : (d : Data) → IsNoList d → fault lists.Nothing d ≡ None → contents_of_input d ≡ option_to_list (stands lists.Nothing d)
+unfolding contents_of_input stands
+contents_alone d none sound = one_content (kind_of lists.Nothing d) d (no_list_kind d none sound)
+
 refused_beside_items : (ms : Members) (ds : Items) → IsNoList (object ms) → refusal_in (with_items ms ds) ≡ option_map as_whole (fault lists.Nothing (object ms))
 unfolding refusal_in
 refused_beside_items ms ds none =
     ap₂ (λ f k. whole_or f (items_refusal k (with_items ms ds))) (same_fault ms ds) (same_kind ms ds)
-    ∙ refused_or (fault lists.Nothing (object ms)) (items_refusal (kind_of lists.Nothing (object ms)) (with_items ms ds)) (λ sound. no_items_refused (kind_of lists.Nothing (object ms)) (with_items ms ds) (no_list_kind ms none sound))
+    ∙ refused_or (fault lists.Nothing (object ms)) (items_refusal (kind_of lists.Nothing (object ms)) (with_items ms ds)) (λ sound. no_items_refused (kind_of lists.Nothing (object ms)) (with_items ms ds) (no_list_kind (object ms) none sound))
 
 pub refused_beside : (ms : Members) (ahead : Option Items) → IsSome ahead → IsNoList (object ms) → refusal_of (option_map (with_items ms) ahead) ≡ option_map as_whole (fault lists.Nothing (object ms))
 refused_beside ms None there none = absurd (true≢false (sym there))
@@ -96,7 +105,7 @@ contents_beside ms None there none sound = absurd (true≢false (sym there))
 contents_beside ms (Some ds) there none sound =
     let k = kind_of lists.Nothing (object ms) in
     ap (λ k. contents_of_body k (with_items ms ds)) (same_kind ms ds)
-    ∙ one_content k (with_items ms ds) (no_list_kind ms none sound)
+    ∙ one_content k (with_items ms ds) (no_list_kind (object ms) none sound)
     ∙ ap option_to_list (same_content ms ds k)
 
 -- ---- the items, one after another

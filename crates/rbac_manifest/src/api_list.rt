@@ -3,11 +3,12 @@
 ghost use Rattle.std.specs.Prelude.{◌≡◌, ◌≢◌, ◌↔◌, [], Contains, IsTrue, map, option_map};
 ghost use Rattle.serde_json.specs.View.{view};
 ghost use Rattle.rbac_terms.specs.Text.{slash};
-ghost use Rattle.rbac_manifest.specs.Reads.{Reads};
+ghost use Rattle.rbac_manifest.specs.Reads.{Reads, Gives};
 ghost use Rattle.rbac_manifest.specs.Lists.{all_at};
 ghost use Rattle.rbac_manifest.specs.ApiList.{group_of, resource_name_at, entry_at, entries_at};
+ghost use Rattle.rbac_manifest.specs.Document.{bad_catalogue};
 
-use crate::fault::Trouble;
+use crate::fault::{Cause, Trouble, read_or};
 use crate::fields::{
     flag_field, list_field, name_of, text_field, word_field, word_of, words_field,
 };
@@ -77,18 +78,18 @@ fn entries_in(alloc: Global, group: &[u8], values: &[Value]) -> Result<Entries, 
 }
 
 // The entries of an API resource list.
-#[tactic(auto, unfolding(crate::specs::ApiList::entries_at))]
-pub(crate) fn entries_of(alloc: Global, document: &Value) -> Result<Entries, Trouble>
-    ensures { Reads result (entries_at (view document.now)) }
+#[tactic(auto, using(crate::proofs::Conditions::api_list_is), unfolding(crate::specs::ApiList::entries_at))]
+pub(crate) fn entries_of(alloc: Global, document: &Value) -> Result<Entries, Cause>
+    ensures { Gives result (bad_catalogue (view document.now)) (entries_at (view document.now)) }
 {
     let (Some(version), Some(items)) = (
         text_field(document, "groupVersion"),
         list_field(document, "resources"),
     ) else {
-        return Err(Trouble::Shape);
+        return Err(Cause::BadCatalogue);
     };
     let Some(group) = group_of(version.as_bytes()) else {
-        return Err(Trouble::Shape);
+        return Err(Cause::BadCatalogue);
     };
-    entries_in(alloc, group, items)
+    read_or(entries_in(alloc, group, items), Cause::BadCatalogue)
 }

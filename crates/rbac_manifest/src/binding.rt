@@ -2,11 +2,12 @@
 
 ghost use Rattle.std.specs.Prelude.{◌≡◌};
 ghost use Rattle.serde_json.specs.View.{view};
-ghost use Rattle.rbac_manifest.specs.Reads.{Reads};
+ghost use Rattle.rbac_manifest.specs.Reads.{Reads, Gives};
+ghost use Rattle.rbac_manifest.specs.Document.{bad_role_ref};
 ghost use Rattle.rbac_manifest.specs.Binding.{is_rbac_group, role_named, role_ref_from, role_ref_at};
 
-use crate::fault::Trouble;
-use crate::fields::{field, name_of, object_in, text_field, word_of};
+use crate::fault::{Cause, Trouble, read_or};
+use crate::fields::{field, name_of, text_field, word_of};
 use crate::kind::RBAC_GROUP;
 use rbac_terms::RoleRef;
 use serde_json::Value;
@@ -59,16 +60,19 @@ fn role_ref_from(alloc: Global, value: &Value, in_namespace: bool) -> Result<Rol
 }
 
 // The role that a binding names; a Role only if the binding is in a namespace.
-#[tactic(auto, unfolding(crate::specs::Binding::role_ref_at))]
+#[tactic(auto, using(crate::proofs::Conditions::role_ref_is), unfolding(crate::specs::Binding::role_ref_at))]
 pub(crate) fn role_ref_of(
     alloc: Global,
     document: &Value,
     in_namespace: bool,
-) -> Result<RoleRef, Trouble>
-    ensures { Reads result (role_ref_at in_namespace (view document.now)) }
+) -> Result<RoleRef, Cause>
+    ensures { Gives result (bad_role_ref in_namespace (view document.now)) (role_ref_at in_namespace (view document.now)) }
 {
     let Some(reference) = field(document, "roleRef") else {
-        return Err(Trouble::Shape);
+        return Err(Cause::BadRoleRef);
     };
-    role_ref_from(alloc, object_in(reference)?, in_namespace)
+    if !reference.is_object() {
+        return Err(Cause::BadRoleRef);
+    }
+    read_or(role_ref_from(alloc, reference, in_namespace), Cause::BadRoleRef)
 }

@@ -57,13 +57,13 @@ fn role_of(alloc: Global, document: &Value) -> Result<Role, Cause>
 }
 
 // The ClusterRole that a document gives.
-#[tactic(auto, using(crate::proofs::Conditions::aggregation_is), unfolding(crate::specs::Document::cluster_role_in))]
+#[tactic(auto, unfolding(crate::specs::Document::cluster_role_in))]
 fn cluster_role_of(alloc: Global, document: &Value) -> Result<ClusterRole, Cause>
     ensures { Gives result (bad_body kinds.ClusterRole (view document.now)) (cluster_role_in (view document.now)) }
 {
     let Metadata { name, labels, .. } = metadata_of(alloc, document)?;
     let rules = read_rules(alloc, document, false)?;
-    let aggregation = read_or(aggregation_of(alloc, document), Cause::BadSelector)?;
+    let aggregation = aggregation_of(alloc, document)?;
     Ok(ClusterRole {
         name,
         labels,
@@ -74,7 +74,7 @@ fn cluster_role_of(alloc: Global, document: &Value) -> Result<ClusterRole, Cause
 
 // The binding that a document gives: a RoleBinding if it is in a namespace, otherwise a
 // ClusterRoleBinding.
-#[tactic(auto, using(crate::proofs::Conditions::role_ref_is), unfolding(crate::specs::Document::binding_in))]
+#[tactic(auto, unfolding(crate::specs::Document::binding_in))]
 fn binding_of(alloc: Global, document: &Value, in_namespace: bool) -> Result<Binding, Cause>
     ensures { Gives result (first_of (binding_refusals in_namespace (view document.now)))
         (binding_in in_namespace (view document.now)) }
@@ -84,7 +84,7 @@ fn binding_of(alloc: Global, document: &Value, in_namespace: bool) -> Result<Bin
         namespace,
         ..
     } = metadata_of(alloc, document)?;
-    let role = read_or(role_ref_of(alloc, document, in_namespace), Cause::BadRoleRef)?;
+    let role = role_ref_of(alloc, document, in_namespace)?;
     let subjects = subjects_of(alloc, document)?;
     let namespace = if in_namespace {
         Some(namespace_or_default(alloc, namespace)?)
@@ -125,7 +125,7 @@ fn account_of(alloc: Global, document: &Value) -> Result<Account, Cause>
 }
 
 // What a document of this kind gives.
-#[tactic(auto, using(crate::proofs::Conditions::api_list_is, crate::proofs::Conditions::universe_is))]
+#[tactic(auto, using(crate::proofs::Conditions::universe_is))]
 pub(crate) fn content_of(
     alloc: Global,
     kind: Kind,
@@ -144,10 +144,7 @@ pub(crate) fn content_of(
         )?)),
         Kind::Namespace => Content::Namespace(namespace_of(alloc, document)?),
         Kind::ServiceAccount => Content::Account(account_of(alloc, document)?),
-        Kind::ApiList => Content::ApiList(read_or(
-            entries_of(alloc, document),
-            Cause::BadCatalogue,
-        )?),
+        Kind::ApiList => Content::ApiList(entries_of(alloc, document)?),
         Kind::Universe => Content::Lists(read_or(
             given_lists_of(alloc, document),
             Cause::BadUniverse,

@@ -147,18 +147,18 @@ impl fmt::Display for Cause {
 
     fn fmt<W: fmt::Write>(&self, f: &mut fmt::Formatter<W>) -> fmt::Result {
         match self {
-            Cause::NotJson => write!(f, "M1 not JSON"),
-            Cause::NotAnObject => write!(f, "M2 not an object"),
-            Cause::BadVersion => write!(f, "M3 bad version"),
-            Cause::BadMetadata => write!(f, "M4 bad metadata"),
+            Cause::NotJson => f.write_str("M1 not JSON"),
+            Cause::NotAnObject => f.write_str("M2 not an object"),
+            Cause::BadVersion => f.write_str("M3 bad version"),
+            Cause::BadMetadata => f.write_str("M4 bad metadata"),
             Cause::BadRule(place) => write!(f, "M5 bad rule {}", from_one(*place)),
-            Cause::BadRoleRef => write!(f, "M6 bad roleRef"),
+            Cause::BadRoleRef => f.write_str("M6 bad roleRef"),
             Cause::BadSubject(place) => write!(f, "M7 bad subject {}", from_one(*place)),
-            Cause::BadSelector => write!(f, "M8 bad selector"),
-            Cause::BadCatalogue => write!(f, "M9 bad API resource list"),
-            Cause::BadUniverse => write!(f, "M10 bad universe"),
-            Cause::TooMany => write!(f, "M11 too many grants"),
-            Cause::NoMemory => write!(f, "out of memory"),
+            Cause::BadSelector => f.write_str("M8 bad selector"),
+            Cause::BadCatalogue => f.write_str("M9 bad API resource list"),
+            Cause::BadUniverse => f.write_str("M10 bad universe"),
+            Cause::TooMany => f.write_str("M11 too many grants"),
+            Cause::NoMemory => f.write_str("out of memory"),
         }
     }
 }

@@ -6,13 +6,14 @@ ghost use Rattle.rbac_manifest.specs.Fields.{list_field, list_or_empty, present}
 ghost use Rattle.serde_json.specs.View.{view};
 ghost use Rattle.rbac_manifest.specs.declared.fault.Cause.TheVariants.{NoMemory};
 ghost use Rattle.rbac_manifest.specs.Contents.{with_contents};
-ghost use Rattle.rbac_manifest.specs.Document.{bad_body, content_in, fault, stands};
-ghost use Rattle.rbac_manifest.specs.Load.{as_whole, in_item, first_refusal, contents_of_items, refusal_in, contents_of_input};
+ghost use Rattle.rbac_manifest.specs.Document.{fault, stands};
+ghost use Rattle.rbac_manifest.specs.Load.{in_item, first_refusal, contents_of_items, refusal_in, contents_of_input};
 
 use crate::contents::Contents;
-use crate::document::{content_of, document_of};
+use crate::document::document_of;
 use crate::fault::{Cause, Refusal};
-use crate::kind::{Implied, Kind, kind_of};
+use crate::kind::Implied;
+use crate::list::{document_into, list_kind};
 use serde_json::Value;
 use std::alloc::{AllocError, Global};
 
@@ -94,44 +95,24 @@ fn join_freed(alloc: Global) -> Result<(), AllocError> {
     piece.reserve(2048)
 }
 
-// Adds what a document of this kind gives to `contents`.
-fn content_into(
-    alloc: Global,
-    kind: Kind,
-    document: &Value,
-    contents: &mut Contents,
-) -> Result<(), Refusal>
-    ensures sound { OnOk result (bad_body kind (view document.now) ≡ None) }
-    ensures contents { OnOk result (contents.new
-        ≡ with_contents contents.old (option_to_list (content_in kind (view document.now)))) }
-    ensures refusal { IfErr result
-        (λ e. e.cause ≢ NoMemory → option_map as_whole (bad_body kind (view document.now)) ≡ Some e) }
-{
-    match content_of(alloc, kind, document) {
-        Ok(content) => Ok(contents.take(content)?),
-        Err(cause) => Err(Refusal::whole(cause)),
-    }
-}
-
-// Adds what an input gives to `contents`.
+// Adds what an input gives to `contents`. The items of a list are moved out of it.
 #[tactic(auto, unfolding(crate::specs::Document::fault, crate::specs::Load::refusal_in, crate::specs::Load::contents_of_input))]
 pub(crate) fn input_into(
     alloc: Global,
-    mut document: Value,
+    document: &mut Value,
     contents: &mut Contents,
 ) -> Result<(), Refusal>
-    ensures sound { OnOk result (refusal_in (view document) ≡ None) }
+    ensures sound { OnOk result (refusal_in (view document.old) ≡ None) }
     ensures contents { OnOk result
-        (contents.new ≡ with_contents contents.old (contents_of_input (view document))) }
+        (contents.new ≡ with_contents contents.old (contents_of_input (view document.old))) }
     ensures refusal { IfErr result
-        (λ e. e.cause ≢ NoMemory → refusal_in (view document) ≡ Some e) }
+        (λ e. e.cause ≢ NoMemory → refusal_in (view document.old) ≡ Some e) }
 {
-    match kind_of(&document, Implied::Nothing) {
-        Ok(Kind::List(implied)) => match take_items(alloc, &mut document) {
+    match list_kind(document) {
+        Some(implied) => match take_items(alloc, document) {
             Some(items) => items_into(alloc, items, implied, contents),
             None => Err(Refusal::whole(Cause::NotAnObject)),
         },
-        Ok(kind) => content_into(alloc, kind, &document, contents),
-        Err(cause) => Err(Refusal::whole(cause)),
+        None => document_into(alloc, document, contents),
     }
 }

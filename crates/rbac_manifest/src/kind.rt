@@ -3,7 +3,7 @@
 ghost use Rattle.std.specs.Prelude.{◌≡◌, ◌≢◌, IfErr, map, option_map};
 ghost use Rattle.std.specs.List.{list_any};
 ghost use Rattle.serde_json.specs.View.{view};
-ghost use Rattle.rbac_manifest.specs.Kinds.{as_reading, is_row, meaning_in, implied_kind, implied_version, kind_at, asks_version, needs_version, version_read, version_at, kind_named, kind_of};
+ghost use Rattle.rbac_manifest.specs.Kinds.{as_reading, kinds_read, is_row, meaning_in, implied_kind, implied_version, kind_at, asks_version, needs_version, version_read, version_at, kind_named, kind_of};
 ghost use Rattle.rbac_manifest.specs.Document.{bad_header};
 ghost use Rattle.rbac_manifest.specs.Reads.{Loads};
 ghost use Rattle.rbac_manifest.specs.declared.fault.Cause.TheVariants.{NoMemory};
@@ -115,6 +115,13 @@ const KINDS_READ: [Row; 15] = [
     },
 ];
 
+// A copy of `KINDS_READ`.
+fn kinds_read() -> [Row; 15]
+    ensures { map as_reading result ≡ kinds_read }
+{
+    KINDS_READ
+}
+
 // What a list implies about the kind and version of its documents.
 #[derive(Clone, Copy, Drop)]
 pub(crate) enum Implied {
@@ -190,8 +197,7 @@ fn kind_text<'v>(document: &'v Value, implied: Implied) -> Option<&'v str>
 fn needs_version(kind: &str) -> bool
     ensures { result ≡ needs_version kind.now }
 {
-    let rows = KINDS_READ;
-    some_asks_version(&rows, kind)
+    some_asks_version(&kinds_read(), kind)
 }
 
 // Whether one of these rows is of this kind and needs a version.
@@ -252,8 +258,7 @@ fn version_text<'v>(document: &'v Value, implied: Implied, kind: &str) -> Option
 fn kind_named(version: &str, kind: &str) -> Kind
     ensures { result ≡ kind_named version.now kind.now }
 {
-    let rows = KINDS_READ;
-    meaning_in(&rows, version, kind)
+    meaning_in(&kinds_read(), version, kind)
 }
 
 // Whether this row is the one for this version and kind.

@@ -88,7 +88,7 @@ fn items_into(
 }
 
 // What a document implies about its items, if it is a list with a sound kind and version.
-fn list_kind(document: &Value) -> Option<Implied>
+pub(crate) fn list_kind(document: &Value) -> Option<Implied>
     ensures { MatchOption result
         ((implied : Implied) → IsListOf implied (view document.now) → ⊥)
         (λ implied. IsListOf implied (view document.now)) }
@@ -100,7 +100,11 @@ fn list_kind(document: &Value) -> Option<Implied>
 }
 
 // Adds what a document gives to `contents`.
-fn document_into(alloc: Global, document: &Value, contents: &mut Contents) -> Result<(), Refusal>
+pub(crate) fn document_into(
+    alloc: Global,
+    document: &Value,
+    contents: &mut Contents,
+) -> Result<(), Refusal>
     ensures sound { OnOk result (fault Implied.Nothing (view document.now) ≡ None) }
     ensures contents { OnOk result (contents.new
         ≡ with_contents contents.old (option_to_list (stands Implied.Nothing (view document.now)))) }

@@ -150,8 +150,10 @@ fn file_into(alloc: Global, bytes: &[u8], contents: &mut Contents) -> Result<(),
     if list_in(alloc, bytes, contents)? {
         return Ok(());
     }
-    let value = parse(alloc, bytes).map_err(Refusal::whole)?;
-    input_into(alloc, value, contents)
+    match parse(alloc, bytes) {
+        Ok(mut value) => input_into(alloc, &mut value, contents),
+        Err(cause) => Err(Refusal::whole(cause)),
+    }
 }
 
 // What all inputs give, in order. Fails with the fault of the first document that has one.

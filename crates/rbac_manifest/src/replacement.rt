@@ -171,12 +171,22 @@ fn names_of<'a>(
     ensures { IfOk result (λ v. v.items ≡ names_given objects.now namespaces.now accounts.now) }
 {
     let mut names = Vec::new(alloc);
-    for object in objects {
-        names.push(ObjectName::of_object(object))?;
-    }
+    push_objects(objects, &mut names)?;
     push_namespaces(namespaces, &mut names)?;
     push_accounts(accounts, &mut names)?;
     Ok(names)
+}
+
+fn push_objects<'a>(
+    objects: &'a [Object],
+    names: &mut Vec<ObjectName<'a>>,
+) -> Result<(), AllocError>
+    ensures { OnOk result (names.new.items ≡ names.old.items ++ map object_name objects.now) }
+{
+    for object in objects {
+        names.push(ObjectName::of_object(object))?;
+    }
+    Ok(())
 }
 
 fn push_namespaces<'a>(

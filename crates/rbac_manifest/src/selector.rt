@@ -2,11 +2,12 @@
 
 ghost use Rattle.std.specs.Prelude.{◌≡◌, map};
 ghost use Rattle.serde_json.specs.View.{view};
-ghost use Rattle.rbac_manifest.specs.Reads.{Reads};
+ghost use Rattle.rbac_manifest.specs.Reads.{Reads, Gives};
+ghost use Rattle.rbac_manifest.specs.Document.{bad_selector};
 ghost use Rattle.rbac_manifest.specs.Lists.{all_at};
 ghost use Rattle.rbac_manifest.specs.Label.{operator_named, requirement_from, requirement_at, selector_from, selector_at, selectors_from, aggregation_at};
 
-use crate::fault::Trouble;
+use crate::fault::{Cause, Trouble, read_or};
 use crate::fields::{field, list_field, object_in, text_field, word_of, words_field};
 use crate::label::labels_field;
 use crate::listed::all_read;
@@ -19,13 +20,14 @@ use std::alloc::Global;
 fn operator_named(name: &str, values: &Words) -> Option<SelectOp>
     ensures { result ≡ operator_named name.now values.now }
 {
-    if name == "In" && !values.is_empty() {
+    let is_empty = values.is_empty();
+    if name == "In" && !is_empty {
         Some(SelectOp::OneOf)
-    } else if name == "NotIn" && !values.is_empty() {
+    } else if name == "NotIn" && !is_empty {
         Some(SelectOp::NoneOf)
-    } else if name == "Exists" && values.is_empty() {
+    } else if name == "Exists" && is_empty {
         Some(SelectOp::Present)
-    } else if name == "DoesNotExist" && values.is_empty() {
+    } else if name == "DoesNotExist" && is_empty {
         Some(SelectOp::Absent)
     } else {
         None
@@ -110,11 +112,19 @@ fn selectors_from(alloc: Global, value: &Value) -> Result<Selectors, Trouble>
 
 // The selectors of a cluster role, if it is aggregated.
 #[tactic(auto, unfolding(crate::specs::Label::aggregation_at))]
-pub(crate) fn aggregation_of(alloc: Global, document: &Value) -> Result<Option<Selectors>, Trouble>
+fn aggregation_from(alloc: Global, document: &Value) -> Result<Option<Selectors>, Trouble>
     ensures { Reads result (aggregation_at (view document.now)) }
 {
     match field(document, "aggregationRule") {
         Some(rule) => Ok(Some(selectors_from(alloc, rule)?)),
         None => Ok(None),
     }
+}
+
+// The same, or why the document is refused.
+#[tactic(auto, using(crate::proofs::Conditions::aggregation_is))]
+pub(crate) fn aggregation_of(alloc: Global, document: &Value) -> Result<Option<Selectors>, Cause>
+    ensures { Gives result (bad_selector (view document.now)) (aggregation_at (view document.now)) }
+{
+    read_or(aggregation_from(alloc, document), Cause::BadSelector)
 }

@@ -8,6 +8,7 @@ ghost use Rattle.rbac_manifest.specs.Lists.{bad_place, given_by};
 ghost use Rattle.rbac_manifest.specs.Binding.{subject_named, subject_from, subject_at, subjects_in};
 ghost use Rattle.rbac_manifest.specs.Document.{bad_subjects};
 ghost use Rattle.rbac_manifest.specs.declared.fault.Cause.TheVariants.{BadSubject};
+ghost use Rattle.rbac_terms.specs.declared.granting.Subject.TheVariants.{Account};
 
 use crate::binding::is_rbac_group;
 use crate::fault::{Cause, ItemFault, Trouble};
@@ -27,6 +28,16 @@ fn word_unless_empty(alloc: Global, text: &str) -> Result<Option<Word>, AllocErr
     Ok(Some(word_of(alloc, text)?))
 }
 
+// The account of this namespace, which may be empty, and name.
+fn account_named(alloc: Global, namespace: &str, name: &str) -> Result<Subject, AllocError>
+    ensures { IfOk result (λ s. s ≡ Account (non_empty namespace.now) name.now) }
+{
+    Ok(Subject::Account {
+        namespace: word_unless_empty(alloc, namespace)?,
+        name: word_of(alloc, name)?,
+    })
+}
+
 // The subject of this kind, group, name and namespace.
 #[tactic(auto, unfolding(crate::specs::Binding::subject_named))]
 fn subject_named(
@@ -38,16 +49,15 @@ fn subject_named(
 ) -> Result<Subject, Trouble>
     ensures { Reads result (subject_named kind.now group.now name.now namespace.now) }
 {
-    if kind == "User" && is_rbac_group(group) {
+    let is_rbac = is_rbac_group(group);
+    if kind == "User" && is_rbac {
         return Ok(Subject::User(word_of(alloc, name)?));
     }
-    if kind == "Group" && is_rbac_group(group) {
+    if kind == "Group" && is_rbac {
         return Ok(Subject::Group(word_of(alloc, name)?));
     }
     if kind == "ServiceAccount" && group.is_empty() {
-        let namespace = word_unless_empty(alloc, namespace)?;
-        let name = word_of(alloc, name)?;
-        return Ok(Subject::Account { namespace, name });
+        return Ok(account_named(alloc, namespace, name)?);
     }
     Err(Trouble::Shape)
 }

@@ -1,6 +1,0 @@
-use Rattle.std.specs.Prelude.{◌≡◌, map, take}
-use Rattle.rbac_manifest.specs.Names.{object_name}
-use Rattle.rbac_manifest.proofs.replacement.names_of.Given as goal
-
-abbrev pub invariant-loop-object : goal.invariant-loop-object
-invariant-loop-object l = l.names.items ≡ map object_name (take l.object-index l.objects)
