@@ -74,5 +74,8 @@ pub(crate) fn role_ref_of(
     if !reference.is_object() {
         return Err(Cause::BadRoleRef);
     }
-    read_or(role_ref_from(alloc, reference, in_namespace), Cause::BadRoleRef)
+    read_or(
+        role_ref_from(alloc, reference, in_namespace),
+        Cause::BadRoleRef,
+    )
 }

@@ -20,15 +20,18 @@ use std::alloc::Global;
 fn operator_named(name: &str, values: &Words) -> Option<SelectOp>
     ensures { result ≡ operator_named name.now values.now }
 {
-    let is_empty = values.is_empty();
-    if name == "In" && !is_empty {
+    if values.is_empty() {
+        if name == "Exists" {
+            Some(SelectOp::Present)
+        } else if name == "DoesNotExist" {
+            Some(SelectOp::Absent)
+        } else {
+            None
+        }
+    } else if name == "In" {
         Some(SelectOp::OneOf)
-    } else if name == "NotIn" && !is_empty {
+    } else if name == "NotIn" {
         Some(SelectOp::NoneOf)
-    } else if name == "Exists" && is_empty {
-        Some(SelectOp::Present)
-    } else if name == "DoesNotExist" && is_empty {
-        Some(SelectOp::Absent)
     } else {
         None
     }

@@ -98,10 +98,8 @@ fn resource_of(alloc: Global, value: &Value) -> Result<ListedResource, Trouble>
     let Some(resource) = field(value, "resource") else {
         return Err(Trouble::Shape);
     };
-    let (Some(text), Some(namespaced)) = (
-        resource.as_str(),
-        flag_field(value, "namespaced", true),
-    ) else {
+    let (Some(text), Some(namespaced)) = (resource.as_str(), flag_field(value, "namespaced", true))
+    else {
         return Err(Trouble::Shape);
     };
     Ok(ListedResource {

@@ -1,9 +1,12 @@
-use Rattle.std.proofs.Common.{arith, [], map, ap}
+use Rattle.std.proofs.Common.{arith, [], map, sym, ap, ◌∙◌}
 use Rattle.std.proofs.lemmas.Grind.{common_steps}
 use Rattle.serde_json.specs.View.{view}
-use Rattle.rbac_manifest.specs.Load.{contents_of_items}
+use Rattle.rbac_manifest.specs.Load.{first_refusal, contents_of_items}
 use Rattle.rbac_manifest.proofs.ContentsLemmas.{contents_all}
 use Rattle.rbac_manifest.proofs.items.items_into.Goals as goal
+
+pub returns-clause-sound : goal.returns-clause-sound
+returns-clause-sound c = sym c.loop-item.invariant.0 ∙ ap (λ vs. first_refusal c.args.implied c.loop-item.place (map view vs)) {y = []} (grind (arith, common_steps))
 
 pub returns-clause-contents : goal.returns-clause-contents
 returns-clause-contents c = contents_all _ _ _ (ap (λ vs. contents_of_items c.args.implied (map view vs)) {y = []} (grind (arith, common_steps))) c.loop-item.invariant.1
