@@ -146,20 +146,21 @@ impl fmt::Display for Cause {
     ghost output = { λ cause. Some (cause_text cause) };
 
     fn fmt<W: fmt::Write>(&self, f: &mut fmt::Formatter<W>) -> fmt::Result {
-        match self {
-            Cause::NotJson => f.write_str("M1 not JSON"),
-            Cause::NotAnObject => f.write_str("M2 not an object"),
-            Cause::BadVersion => f.write_str("M3 bad version"),
-            Cause::BadMetadata => f.write_str("M4 bad metadata"),
-            Cause::BadRule(place) => write!(f, "M5 bad rule {}", from_one(*place)),
-            Cause::BadRoleRef => f.write_str("M6 bad roleRef"),
-            Cause::BadSubject(place) => write!(f, "M7 bad subject {}", from_one(*place)),
-            Cause::BadSelector => f.write_str("M8 bad selector"),
-            Cause::BadCatalogue => f.write_str("M9 bad API resource list"),
-            Cause::BadUniverse => f.write_str("M10 bad universe"),
-            Cause::TooMany => f.write_str("M11 too many grants"),
-            Cause::NoMemory => f.write_str("out of memory"),
-        }
+        let text = match self {
+            Cause::NotJson => "M1 not JSON",
+            Cause::NotAnObject => "M2 not an object",
+            Cause::BadVersion => "M3 bad version",
+            Cause::BadMetadata => "M4 bad metadata",
+            Cause::BadRule(place) => return write!(f, "M5 bad rule {}", from_one(*place)),
+            Cause::BadRoleRef => "M6 bad roleRef",
+            Cause::BadSubject(place) => return write!(f, "M7 bad subject {}", from_one(*place)),
+            Cause::BadSelector => "M8 bad selector",
+            Cause::BadCatalogue => "M9 bad API resource list",
+            Cause::BadUniverse => "M10 bad universe",
+            Cause::TooMany => "M11 too many grants",
+            Cause::NoMemory => "out of memory",
+        };
+        f.write_str(text)
     }
 }
 
