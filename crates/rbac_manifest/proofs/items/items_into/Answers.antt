@@ -2,8 +2,11 @@ use Rattle.std.proofs.Common.{arith, [], map, sym, ap, ◌∙◌}
 use Rattle.std.proofs.lemmas.Grind.{common_steps}
 use Rattle.serde_json.specs.View.{view}
 use Rattle.rbac_manifest.specs.Load.{first_refusal, contents_of_items}
-use Rattle.rbac_manifest.proofs.ContentsLemmas.{contents_all}
+use Rattle.rbac_manifest.proofs.ContentsLemmas.{contents_all, contents_more}
 use Rattle.rbac_manifest.proofs.items.items_into.Goals as goal
+
+pub loop-item-preserved : goal.loop-item-preserved
+loop-item-preserved c = grind (arith, common_steps, contents_more)
 
 pub returns-clause-sound : goal.returns-clause-sound
 returns-clause-sound c = sym c.loop-item.invariant.0 ∙ ap (λ vs. first_refusal c.args.implied c.loop-item.place (map view vs)) {y = []} (grind (arith, common_steps))
