@@ -126,11 +126,7 @@ fn account_of(alloc: Global, document: &Value) -> Result<Account, Cause>
 
 // What a document of this kind gives.
 #[tactic(auto, using(crate::proofs::Conditions::universe_is))]
-pub(crate) fn content_of(
-    alloc: Global,
-    kind: Kind,
-    document: &Value,
-) -> Result<Option<Content>, Cause>
+fn content_of(alloc: Global, kind: Kind, document: &Value) -> Result<Option<Content>, Cause>
     ensures { Loads result (bad_body kind (view document.now)) (content_in kind (view document.now)) }
 {
     Ok(Some(match kind {

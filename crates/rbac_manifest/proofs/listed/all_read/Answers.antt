@@ -22,7 +22,8 @@ pub returns : goal.returns
 unfolding bad_place given_by
 returns g c =
     let read = c.loop-place.items.items in
-    let none : map view (drop c.loop-place.place c.args.values.now) ≡ [] = ap (map view) {y = []} (grind (arith, common_steps)) in
-    (sym c.loop-place.invariant.0 ∙ ap (λ ds. with_prefix read (all_at g.at ds)) none ∙ ap Some (append-nil read),
-    sym c.loop-place.invariant.1 ∙ ap (bad_place g.at c.loop-place.place) none,
-    sym c.loop-place.invariant.2 ∙ ap (λ ds. read ++ given_by g.at ds) none ∙ append-nil read)
+    let none : map view (drop c.loop-place.place c.args.values.now) ≡ [] = ap (map view) {y = []} (grind (arith, common_steps)) in (
+      sym c.loop-place.invariant.0 ∙ ap (λ ds. with_prefix read (all_at g.at ds)) none ∙ ap Some (append-nil read),
+      sym c.loop-place.invariant.1 ∙ ap (bad_place g.at c.loop-place.place) none,
+      sym c.loop-place.invariant.2 ∙ ap (λ ds. read ++ given_by g.at ds) none ∙ append-nil read,
+    )
