@@ -124,7 +124,7 @@ fn aggregation_from(alloc: Global, document: &Value) -> Result<Option<Selectors>
     }
 }
 
-// The same, or why the document is refused.
+// The selectors of a cluster role, if it is aggregated, or why its document is refused.
 #[tactic(auto, using(crate::proofs::Conditions::aggregation_is))]
 pub(crate) fn aggregation_of(alloc: Global, document: &Value) -> Result<Option<Selectors>, Cause>
     ensures { Gives result (bad_selector (view document.now)) (aggregation_at (view document.now)) }
