@@ -1,5 +1,6 @@
 -- Which texts are lists, what the items of a list are, and what its other members are.
-use Rattle.std.specs.Prelude.{◌≡◌, ℕ, List, [], ◌∷◌, length, bytes_eq, cond, codes, Option, Some, None, option_and_then}
+use Rattle.std.specs.Prelude.{◌≡◌, ℕ, List, [], ◌∷◌, length, bytes_eq, cond, codes, Option, Some}
+use Rattle.std.specs.Prelude.{None, option_and_then}
 use Rattle.json.specs.Token.{Token}
 use Rattle.json.specs.Lex.{tokens}
 use Rattle.json.specs.Json as json
@@ -17,7 +18,8 @@ json_of text = option_and_then (λ p. json.if_last p.0 p.1) (json.value max_dept
 -- the values of the members of this name, in order
 abbrev pub values_of : List ℕ → json.Members → List json.Json
 values_of name json.no_members = []
-values_of name (json.member k j ms) = cond (bytes_eq k name) (j ∷ values_of name ms) (values_of name ms)
+values_of name (json.member k j ms) =
+    cond (bytes_eq k name) (j ∷ values_of name ms) (values_of name ms)
 
 -- these members have `items` once, and it is a list
 abbrev pub HaveOneList : json.Members → Type 0
@@ -39,8 +41,10 @@ items_ahead ts = option_and_then (λ p. of_items p.0) (json.items (json.value 12
 
 -- this value is read from the tokens `old`, and the tokens `new` are left
 abbrev pub IsRead : ℕ → List Token → Data → List Token → Type 0
-IsRead depth old d new = (j : json.Json) × (json.value depth old ≡ Some (j, new)) × (of_json j ≡ Some d)
+IsRead depth old d new = (j : json.Json) × (json.value depth old ≡ Some (j, new))
+    × (of_json j ≡ Some d)
 
 -- no value is read from the tokens
 abbrev pub IsUnread : ℕ → List Token → Type 0
-IsUnread depth old = (j : json.Json) (new : List Token) → json.value depth old ≡ Some (j, new) → of_json j ≡ None
+IsUnread depth old = (j : json.Json) (new : List Token) → json.value depth old ≡ Some (j, new)
+    → of_json j ≡ None

@@ -21,26 +21,33 @@ members_in ts = json.members (json.value 126) (length ts) ts
 
 -- no object is read
 abbrev pub AreRefused : List Token → Type 0
-AreRefused old = (ms : json.Members) (new : List Token) → members_in old ≡ Some (ms, new) → of_members ms no_members ≡ None
+AreRefused old = (ms : json.Members) (new : List Token) → members_in old ≡ Some (ms, new)
+    → of_members ms no_members ≡ None
 
 -- the object has `items` once, and it is a list
 abbrev pub HasOneList : List Token → Type 0
-HasOneList old = (ms : json.Members) × (new : List Token) × (members_in old ≡ Some (ms, new)) × HaveOneList ms
+HasOneList old = (ms : json.Members) × (new : List Token) × (members_in old ≡ Some (ms, new))
+    × HaveOneList ms
 
 -- if the object has `items` once, these are the tokens after the bracket that opens the items
 abbrev pub IsAtItems : List Token → List Token → Type 0
-IsAtItems old at = (ms : json.Members) (new : List Token) (j : json.Json) → members_in old ≡ Some (ms, new) → values_of items_name ms ≡ j ∷ [] → of_json j ≡ option_map array (items_ahead at)
+IsAtItems old at = (ms : json.Members) (new : List Token) (j : json.Json)
+    → members_in old ≡ Some (ms, new) → values_of items_name ms ≡ j ∷ []
+    → of_json j ≡ option_map array (items_ahead at)
 
 -- the object has `items` once, `others` are its other members, and the tokens `new` follow it
 abbrev pub AreOthers : List Token → Members → List Token → Type 0
 AreOthers old others new =
-    (ms : json.Members) × (j : json.Json) × (members_in old ≡ Some (ms, new)) × (values_of items_name ms ≡ j ∷ [])
+    (ms : json.Members) × (j : json.Json) × (members_in old ≡ Some (ms, new))
+    × (values_of items_name ms ≡ j ∷ [])
     × (of_members ms no_members ≡ option_map (λ d. put items_name d others) (of_json j))
 
--- the text begins with the brace that opens an object, and the tokens `at` are at the object's items
+-- the text begins with the brace that opens an object, and the tokens `at` are at the object's
+-- items
 abbrev pub IsAtItemsOf : List ℕ → List Token → Type 0
 IsAtItemsOf text at = (ts : List Token) × (tokens text ≡ Token.begin_object ∷ ts) × IsAtItems ts at
 
 -- these are the members other than `items` of the object that a text is read as
 abbrev pub AreOthersOf : List ℕ → Members → Type 0
-AreOthersOf text others = (at : List Token) → IsAtItemsOf text at → read text ≡ option_map (with_items others) (items_ahead at)
+AreOthersOf text others = (at : List Token) → IsAtItemsOf text at
+    → read text ≡ option_map (with_items others) (items_ahead at)

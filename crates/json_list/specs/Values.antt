@@ -15,4 +15,5 @@ items_read depth turns ts = converted of_items (json.items (json.value depth) tu
 
 -- the members ahead up to the brace that closes their object, put into those found before them
 abbrev pub members_read : ℕ → ℕ → Members → List Token → Option (Members × List Token)
-members_read depth turns found ts = converted (λ ms. of_members ms found) (json.members (json.value depth) turns ts)
+members_read depth turns found ts =
+    converted (λ ms. of_members ms found) (json.members (json.value depth) turns ts)

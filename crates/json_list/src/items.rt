@@ -1,6 +1,7 @@
 //! The items of a list, one after another.
 
-ghost use Rattle.std.specs.Prelude.{◌≡◌, ◌<◌, [], length, option_map, Some, None, Err, IfOk, IfSome, OnErr, MatchOption};
+ghost use Rattle.std.specs.Prelude.{◌≡◌, ◌<◌, [], length, option_map, Some, None, Err, IfOk};
+ghost use Rattle.std.specs.Prelude.{IfSome, OnErr, MatchOption};
 ghost use Rattle.serde_json.specs.Data.{no_items, item};
 ghost use Rattle.serde_json.specs.View.{view};
 ghost use Rattle.json_list.specs.List.{items_ahead};
@@ -68,7 +69,8 @@ impl<'a> Items<'a> {
         ensures next { IfOk result (λ next. MatchOption next
             ((items_ahead self.old ≡ Some no_items) × (items_ahead self.new ≡ Some no_items))
             (λ v. items_ahead self.old ≡ option_map (item (view v)) (items_ahead self.new))) }
-        ensures shorter { IfOk result (λ next. IfSome next (λ _. length self.new < length self.old)) }
+        ensures shorter { IfOk result
+            (λ next. IfSome next (λ _. length self.new < length self.old)) }
         ensures refused { result ≡ Err Refused → items_ahead self.old ≡ None }
         ensures stopped { OnErr result (self.new ≡ []) }
     {

@@ -1,13 +1,15 @@
 //! An object with a list under `items`: the items, and the other members.
 
-ghost use Rattle.std.specs.Prelude.{◌≡◌, List, ◌∷◌, option_map, Some, None, Err, IfOk, IfSome, MatchOption, OnErr};
+ghost use Rattle.std.specs.Prelude.{◌≡◌, List, ◌∷◌, option_map, Some, None, Err, IfOk, IfSome};
+ghost use Rattle.std.specs.Prelude.{MatchOption, OnErr};
 ghost use Rattle.std.specs.Bool.{MatchBool};
 ghost use Rattle.json.specs.Lex.{tokens};
 ghost use Rattle.json.specs.Token.{Token as SpecToken, begin_array, begin_object};
 ghost use Rattle.serde_json.specs.Read.{read};
 ghost use Rattle.serde_json.specs.View.{members_view};
 ghost use Rattle.json_list.specs.List.{IsList, with_items, items_ahead};
-ghost use Rattle.json_list.specs.Places.{members_in, AreRefused, HasOneList, IsAtItems, AreOthers, IsAtItemsOf, AreOthersOf};
+ghost use Rattle.json_list.specs.Places.{members_in, AreRefused, HasOneList, IsAtItems, AreOthers};
+ghost use Rattle.json_list.specs.Places.{IsAtItemsOf, AreOthersOf};
 ghost use Rattle.json_list.specs.declared.fault.ReadFault.TheVariants.{Refused};
 
 use crate::fault::ReadFault;
@@ -101,7 +103,8 @@ fn read_others(
 
 // The items of the list that a text is, if the first member named `items` is a list.
 fn items_in<'a>(text: &'a str, scratch: &'a mut Scratch) -> Result<Option<Items<'a>>, ReadFault>
-    ensures items { IfOk result (λ o. MatchOption o (¬ IsList text.now) (λ items. IsAtItemsOf text.now items)) }
+    ensures items { IfOk result
+        (λ o. MatchOption o (¬ IsList text.now) (λ items. IsAtItemsOf text.now items)) }
     ensures refused { result ≡ Err Refused → read text.now ≡ None }
 {
     let Some(mut reader) = object_in(text, scratch)? else {

@@ -81,7 +81,8 @@ fn items_from(alloc: Global, reader: &mut Reader<'_>, depth: usize) -> Result<Ve
     ensures read { IfOk result (λ v. items_read depth (length reader.old) reader.old
         ≡ Some (items_view v.items, reader.new)) }
     ensures shorter { OnOk result (length reader.new < length reader.old) }
-    ensures refused { result ≡ Err Refused → items_read depth (length reader.old) reader.old ≡ None }
+    ensures refused { result ≡ Err Refused
+        → items_read depth (length reader.old) reader.old ≡ None }
 {
     let mut found = Vec::new(alloc);
     'items: while !reader.take_end_array() {

@@ -3,7 +3,8 @@ use Rattle.std.specs.Prelude.{◌≡◌, ◌⊎◌, List, Any, Bool, IsTrue}
 use Rattle.rbac_terms.specs.Text.{Text, slash, IsCutAtFirst}
 use Rattle.rbac_catalogue.specs.declared.entry.Entry.{Entry}
 
--- the entries of all API resource lists given, in order, and whether a list was given, even one without entries
+-- the entries of all API resource lists given, in order, and whether a list was given, even one
+-- without entries
 pub record CatalogueView : Type 0 where
   pub is_given : Bool
   pub entries : List Entry
@@ -22,10 +23,14 @@ IsNamespaced entries group text = Any (λ e. IsAbout group text e × IsTrue e.na
 
 -- a resource that is listed, and not namespaced
 abbrev pub IsClusterScoped : List Entry → Text → Text → Type 0
-IsClusterScoped entries group text = IsListed entries group text × (¬ IsNamespaced entries group text)
+IsClusterScoped entries group text =
+    IsListed entries group text × (¬ IsNamespaced entries group text)
 
--- a resource text that isn't listed is taken as the part before its first slash; if neither is listed, it isn't cluster-only (own)
+-- a resource text that isn't listed is taken as the part before its first slash; if neither is
+-- listed, it isn't cluster-only (own)
 unfoldable pub IsClusterOnly : List Entry → Text → Text → Type 0
 IsClusterOnly entries group text =
     IsClusterScoped entries group text
-    ⊎ ((¬ IsListed entries group text) × ((resource subresource : Text) × IsCutAtFirst text slash resource subresource × IsClusterScoped entries group resource))
+    ⊎ ((¬ IsListed entries group text)
+    × ((resource subresource : Text) × IsCutAtFirst text slash resource subresource
+    × IsClusterScoped entries group resource))

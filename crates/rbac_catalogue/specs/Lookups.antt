@@ -1,5 +1,6 @@
 -- Which resource a type word means.
-use Rattle.std.specs.Prelude.{◌≡◌, ◌≢◌, ◌⊎◌, ℕ, List, [], Option, Some, None, Any, Contains, unwrap_or}
+use Rattle.std.specs.Prelude.{◌≡◌, ◌≢◌, ◌⊎◌, ℕ, List, [], Option, Some, None, Any, Contains}
+use Rattle.std.specs.Prelude.{unwrap_or}
 use Rattle.std.specs.Ordering.{ordering_then}
 use Rattle.std.specs.declared.cmp.Ordering.{Ordering}
 use Rattle.std.specs.declared.cmp.Ordering.TheVariants.{Less}
@@ -11,7 +12,8 @@ use Rattle.rbac_catalogue.specs.declared.lookup.Found.{Found}
 abbrev pub dot : ℕ
 dot = 46
 
--- what an entry is called: its name, its singular name and its short names (Kubernetes API, APIResource)
+-- what an entry is called: its name, its singular name and its short names (Kubernetes API,
+-- APIResource)
 abbrev pub IsCalled : Text → Entry → Type 0
 IsCalled word e = (word ≡ e.name) ⊎ (word ≡ e.singular) ⊎ Contains e.short_names word
 
@@ -19,7 +21,8 @@ IsCalled word e = (word ≡ e.name) ⊎ (word ≡ e.singular) ⊎ Contains e.sho
 abbrev pub HasWords : Entry → Type 0
 HasWords e = (e.name ≢ []) × (¬ Contains e.name slash)
 
--- a word names an entry if words can name the entry and it is called so; the empty word names nothing (own)
+-- a word names an entry if words can name the entry and it is called so; the empty word names
+-- nothing (own)
 abbrev pub IsNamed : Text → Entry → Type 0
 IsNamed word e = (word ≢ []) × HasWords e × IsCalled word e
 
@@ -41,13 +44,16 @@ pub record IsLeastOf (P : Entry → Type 0) (entries : List Entry) (found : Foun
   pub listed : Any (λ e. P e × (resource_of e ≡ found)) entries
   pub none_before : ¬ Any (λ e. P e × (resource_cmp (resource_of e) found ≡ Less)) entries
 
--- what a word means in that group, or in any: the least resource that it names there; if it names none, it is taken as written, in that group or in the core group, the empty one (own)
+-- what a word means in that group, or in any: the least resource that it names there; if it names
+-- none, it is taken as written, in that group or in the core group, the empty one (own)
 abbrev pub IsMeantIn : List Entry → Option Text → Text → Found → Type 0
 IsMeantIn entries group word found =
     IsLeastOf (IsNamedIn group word) entries found
-    ⊎ ((¬ Any (IsNamedIn group word) entries) × (found ≡ record { group = unwrap_or group []; resource = word }))
+    ⊎ ((¬ Any (IsNamedIn group word) entries)
+    × (found ≡ record { group = unwrap_or group []; resource = word }))
 
--- a type word is a word alone, without a dot, or a word before its first dot and a group after it (own, after kubectl's RESOURCE and RESOURCE.GROUP)
+-- a type word is a word alone, without a dot, or a word before its first dot and a group after it
+-- (own, after kubectl's RESOURCE and RESOURCE.GROUP)
 abbrev pub IsWordAndGroup : Text → Text → Option Text → Type 0
 IsWordAndGroup typed word None = (typed ≡ word) × (¬ Contains typed dot)
 IsWordAndGroup typed word (Some group) = IsCutAtFirst typed dot word group
@@ -55,7 +61,8 @@ IsWordAndGroup typed word (Some group) = IsCutAtFirst typed dot word group
 -- what a type word means according to these entries
 unfoldable pub IsFound : List Entry → Text → Found → Type 0
 IsFound entries typed found =
-    (word : Text) × (group : Option Text) × IsWordAndGroup typed word group × IsMeantIn entries group word found
+    (word : Text) × (group : Option Text) × IsWordAndGroup typed word group
+    × IsMeantIn entries group word found
 
 -- a word means this and nothing else
 abbrev pub IsOnlyFound : List Entry → Text → Found → Type 0

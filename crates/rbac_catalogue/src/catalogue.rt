@@ -41,7 +41,8 @@ impl Catalogue {
     /// Adds the entries of an API resource list, which may have none. If it runs out of memory, the
     /// catalogue is unchanged.
     pub fn give(&mut self, entries: Entries) -> Result<(), AllocError>
-        ensures ok { OnOk result (self.new ≡ record { is_given = true; entries = self.old.entries ++ entries }) }
+        ensures ok { OnOk result
+            (self.new ≡ record { is_given = true; entries = self.old.entries ++ entries }) }
         ensures err { OnErr result (self.new ≡ self.old) }
     {
         self.entries.append(&mut entries.into_vec())?;

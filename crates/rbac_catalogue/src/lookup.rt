@@ -3,7 +3,8 @@
 ghost use Rattle.std.specs.Prelude.{◌≡◌, IsTrue, ◌↔◌, IfOk, MatchOption, Any, ⊤};
 ghost use Rattle.std.specs.Option.{option_copied};
 ghost use Rattle.std.specs.declared.cmp.Ordering.TheVariants.{Less};
-ghost use Rattle.rbac_catalogue.specs.Lookups.{IsCalled, HasWords, IsNamed, IsNamedIn, resource_of, resource_cmp, IsLeastOf, IsMeantIn, IsFound};
+ghost use Rattle.rbac_catalogue.specs.Lookups.{IsCalled, HasWords, IsNamed, IsNamedIn, resource_of};
+ghost use Rattle.rbac_catalogue.specs.Lookups.{resource_cmp, IsLeastOf, IsMeantIn, IsFound};
 
 use crate::entry::Entry;
 use rbac_terms::{Word, cut_at_first};
@@ -75,7 +76,8 @@ fn comes_before(entry: &Entry, least: Option<&Entry>) -> bool
 // The least of the entries that the word names in that group, or in any if none is given.
 fn least_named<'a>(entries: &'a [Entry], group: Option<&[u8]>, word: &[u8]) -> Option<&'a Entry>
     ensures { let P = IsNamedIn (option_copied group.entry) word.now in
-        MatchOption (option_copied result) (¬ Any P entries.now) (λ e. IsLeastOf P entries.now (resource_of e)) }
+        MatchOption (option_copied result) (¬ Any P entries.now)
+        (λ e. IsLeastOf P entries.now (resource_of e)) }
 {
     let mut least = None;
     for entry in entries {

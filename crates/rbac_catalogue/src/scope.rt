@@ -1,7 +1,8 @@
 //! Which resources are outside all namespaces.
 
 ghost use Rattle.std.specs.Prelude.{IsTrue, ◌↔◌};
-ghost use Rattle.rbac_catalogue.specs.Catalogue.{IsAbout, IsListed, IsNamespaced, IsClusterScoped, IsClusterOnly};
+ghost use Rattle.rbac_catalogue.specs.Catalogue.{IsAbout, IsListed, IsNamespaced, IsClusterScoped};
+ghost use Rattle.rbac_catalogue.specs.Catalogue.{IsClusterOnly};
 
 use crate::entry::Entry;
 use rbac_terms::cut_at_first;

@@ -1,12 +1,14 @@
 -- How a run ends. `took bytes` says that the writer took exactly these bytes in the run.
-use Rattle.std.specs.Prelude.{◌≡◌, ◌≢◌, ℕ, ◌⊎◌, Bool, true, false, List, [], length, Result, Ok, Err, MatchResult}
+use Rattle.std.specs.Prelude.{◌≡◌, ◌≢◌, ℕ, ◌⊎◌, Bool, true, false, List, [], length, Result, Ok}
+use Rattle.std.specs.Prelude.{Err, MatchResult}
 use Rattle.rbac_streams.specs.Taken.{counted}
 use Rattle.rbac_universe.specs.Sets.{HasUniverseFault}
 use Rattle.rbac_universe.specs.declared.fault.UniverseFault.{UniverseFault}
 use Rattle.rbac_universe.specs.declared.fault.UniverseFault.TheVariants as universe
 use Rattle.rbac_manifest.specs.Load.{LoadedView, IsLoaded, HasFault}
 use Rattle.rbac_question.specs.declared.command.Action.{Action}
-use Rattle.rbac_question.specs.declared.command.Action.TheVariants.{CanI, WhoCan, Matrix, Every, Lint}
+use Rattle.rbac_question.specs.declared.command.Action.TheVariants.{CanI, WhoCan, Matrix, Every}
+use Rattle.rbac_question.specs.declared.command.Action.TheVariants.{Lint}
 use Rattle.rbac_question.specs.declared.command.Command.{Command}
 use Rattle.rbac_cli.specs.Out.{Answers, IsPrefixOfAnswer}
 use Rattle.rbac_cli.specs.declared.outcome.Status.{Status}
@@ -19,46 +21,55 @@ Writes took l action status = (text : List ℕ) × Answers l action text status 
 
 -- the writer took a prefix of what the action means, and n is how many bytes that is
 abbrev pub WritesPrefix : (List ℕ → Type 0) → LoadedView → Action → ℕ → Type 0
-WritesPrefix took l action n = (prefix : List ℕ) × IsPrefixOfAnswer l action prefix × took prefix × (n ≡ counted 0 (length prefix))
+WritesPrefix took l action n = (prefix : List ℕ) × IsPrefixOfAnswer l action prefix × took prefix
+    × (n ≡ counted 0 (length prefix))
 
 -- the writer took nothing, and n is 0
 abbrev pub WritesNothing : (List ℕ → Type 0) → ℕ → Type 0
 WritesNothing took n = took [] × (n ≡ 0)
 
--- the action is `matrix`, with or without `--every`, and the lists make no universe because of this fault; out of memory is a fault of its own
+-- the action is `matrix`, with or without `--every`, and the lists make no universe because of this
+-- fault; out of memory is a fault of its own
 abbrev pub LacksUniverse : LoadedView → Action → UniverseFault → Type 0
 LacksUniverse l (CanI who quiet why q) fault = ⊥
 LacksUniverse l (WhoCan q) fault = ⊥
 LacksUniverse l Lint fault = ⊥
-LacksUniverse l (Matrix after limit) fault = HasUniverseFault l.lists fault × (fault ≢ universe.NoMemory)
-LacksUniverse l (Every after limit) fault = HasUniverseFault l.lists fault × (fault ≢ universe.NoMemory)
+LacksUniverse l (Matrix after limit) fault = HasUniverseFault l.lists fault
+    × (fault ≢ universe.NoMemory)
+LacksUniverse l (Every after limit) fault = HasUniverseFault l.lists fault
+    × (fault ≢ universe.NoMemory)
 
 -- the inputs are loaded, and what the command means over them is written
 abbrev pub Succeeds : (List ℕ → Type 0) → Command → List (List ℕ) → Status → Type 0
-Succeeds took command inputs status = (l : LoadedView) × IsLoaded inputs l × Writes took l command.action status
+Succeeds took command inputs status = (l : LoadedView) × IsLoaded inputs l
+    × Writes took l command.action status
 
 -- the inputs are loaded, and writing stopped within what the command means
 abbrev pub StopsShort : (List ℕ → Type 0) → Command → List (List ℕ) → ℕ → Type 0
-StopsShort took command inputs n = (l : LoadedView) × IsLoaded inputs l × WritesPrefix took l command.action n
+StopsShort took command inputs n = (l : LoadedView) × IsLoaded inputs l
+    × WritesPrefix took l command.action n
 
--- the inputs are refused for the fault that they have, or the run is out of memory before anything is written
+-- the inputs are refused for the fault that they have, or the run is out of memory before anything
+-- is written
 abbrev pub FailsToLoad : List (List ℕ) → RunFault → Type 0
 FailsToLoad inputs (Load fault) = HasFault inputs fault
 FailsToLoad inputs (Universe fault) = ⊥
 FailsToLoad inputs (Memory n) = n ≡ 0
 FailsToLoad inputs (Write n) = ⊥
 
--- the inputs are refused for the fault that they have, or they are loaded but make no universe for a matrix, and in both cases nothing is
--- written; or the run is out of memory; or a write failed
+-- the inputs are refused for the fault that they have, or they are loaded but make no universe for
+-- a matrix, and in both cases nothing is written; or the run is out of memory; or a write failed
 abbrev pub Faults : (List ℕ → Type 0) → Command → List (List ℕ) → RunFault → Type 0
 Faults took command inputs (Load fault) = HasFault inputs fault × took []
-Faults took command inputs (Universe fault) = ((l : LoadedView) × IsLoaded inputs l × LacksUniverse l command.action fault) × took []
+Faults took command inputs (Universe fault) = ((l : LoadedView) × IsLoaded inputs l
+    × LacksUniverse l command.action fault) × took []
 Faults took command inputs (Memory n) = WritesNothing took n ⊎ StopsShort took command inputs n
 Faults took command inputs (Write n) = StopsShort took command inputs n
 
 -- how a run of the command over these inputs ends
 abbrev pub Ends : (List ℕ → Type 0) → Command → List (List ℕ) → Result Status RunFault → Type 0
-Ends took command inputs ended = MatchResult ended (Succeeds took command inputs) (Faults took command inputs)
+Ends took command inputs ended =
+    MatchResult ended (Succeeds took command inputs) (Faults took command inputs)
 
 -- a write failed
 abbrev pub is_write_fault : Result Status RunFault → Bool

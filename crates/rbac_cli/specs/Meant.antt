@@ -7,10 +7,12 @@ use Rattle.rbac_catalogue.specs.declared.lookup.Found.{Found}
 use Rattle.rbac_catalogue.specs.Lookups.{IsFound}
 use Rattle.rbac_catalogue.specs.Catalogue.{IsClusterOnly}
 use Rattle.rbac_question.specs.declared.asked.AskedFor.{AskedFor}
-use Rattle.rbac_question.specs.declared.asked.AskedFor.TheVariants.{Url as ForUrl, Resource as ForResource}
+use Rattle.rbac_question.specs.declared.asked.AskedFor.TheVariants.{Url as ForUrl}
+use Rattle.rbac_question.specs.declared.asked.AskedFor.TheVariants.{Resource as ForResource}
 use Rattle.rbac_question.specs.declared.command.Question.{Question}
 
--- a subresource is written after a slash (Using RBAC Authorization, Referring to resources); an empty one is the same as none (own)
+-- a subresource is written after a slash (Using RBAC Authorization, Referring to resources); an
+-- empty one is the same as none (own)
 abbrev pub with_subresource : Text → Text → Text
 with_subresource resource [] = resource
 with_subresource resource (b ∷ bs) = resource ++ slash ∷ b ∷ bs
@@ -19,9 +21,11 @@ with_subresource resource (b ∷ bs) = resource ++ slash ∷ b ∷ bs
 abbrev pub IsTargetMeant : List Entry → AskedFor → What → Type 0
 IsTargetMeant entries (ForUrl path) target = target ≡ Url path
 IsTargetMeant entries (ForResource word subresource name) target =
-    (found : Found) × IsFound entries word found × (target ≡ Resource found.group (with_subresource found.resource subresource) name)
+    (found : Found) × IsFound entries word found
+    × (target ≡ Resource found.group (with_subresource found.resource subresource) name)
 
--- where it is asked for: in no namespace if the target is known to be outside all namespaces, otherwise in the one given (own)
+-- where it is asked for: in no namespace if the target is known to be outside all namespaces,
+-- otherwise in the one given (own)
 abbrev pub IsNamespaceMeant : List Entry → What → Text → Text → Type 0
 IsNamespaceMeant entries target given namespace =
     (IsClusterOnly entries (group_of target) (text_of target) × (namespace ≡ []))
@@ -29,4 +33,5 @@ IsNamespaceMeant entries target given namespace =
 
 -- what a question asks for, and where
 abbrev pub IsMeant : List Entry → Question → What → Text → Type 0
-IsMeant entries q target namespace = IsTargetMeant entries q.asked target × IsNamespaceMeant entries target q.namespace namespace
+IsMeant entries q target namespace = IsTargetMeant entries q.asked target
+    × IsNamespaceMeant entries target q.namespace namespace

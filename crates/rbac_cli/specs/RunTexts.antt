@@ -5,7 +5,8 @@ use Rattle.rbac_manifest.specs.FaultTexts.{fault_text}
 use Rattle.rbac_cli.specs.declared.outcome.RunFault.{RunFault}
 use Rattle.rbac_cli.specs.declared.outcome.RunFault.TheVariants.{Load, Universe, Memory, Write}
 
--- the text of a refusal, of running out of memory or of a failed write; a universe fault has its own text
+-- the text of a refusal, of running out of memory or of a failed write; a universe fault has its
+-- own text
 abbrev pub run_fault_text : RunFault → Option (List ℕ)
 run_fault_text (Load fault) = Some (fault_text fault)
 run_fault_text (Universe fault) = None

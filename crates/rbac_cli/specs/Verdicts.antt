@@ -9,7 +9,8 @@ use Rattle.rbac_cli.specs.declared.outcome.Status.TheVariants.{Zero, One}
 
 -- the line that explains a yes
 abbrev pub found_text : Why → List ℕ
-found_text found = why_text found.binding.now (source_of found.source) found.rule_place found.subject_place
+found_text found =
+    why_text found.binding.now (source_of found.source) found.rule_place found.subject_place
 
 -- with `-q` nothing; otherwise yes or no, and with `--why` the line that explains a yes
 abbrev pub verdict_text : Bool → Bool → Option Why → List ℕ

@@ -25,8 +25,10 @@ pub(crate) fn print_answer<W: Write + Drop>(
     page: &mut Page,
 ) -> Result<Status, RunFault>
     requires { sink.old.has_failed ≡ false }
-    ensures ok { IfOk result (PrintsAnswer W.contents sink.old page.old sink.new page.new loaded.now action.now) }
-    ensures err { IfErr result (StopsPrinting W.contents sink.old page.old sink.new page.new loaded.now action.now) }
+    ensures ok { IfOk result
+        (PrintsAnswer W.contents sink.old page.old sink.new page.new loaded.now action.now) }
+    ensures err { IfErr result
+        (StopsPrinting W.contents sink.old page.old sink.new page.new loaded.now action.now) }
     ensures failed { sink.new.has_failed ≡ is_write_fault result }
 {
     match action {

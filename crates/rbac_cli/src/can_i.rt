@@ -37,7 +37,9 @@ pub(crate) fn verdict_of(
     why: bool,
     question: &Question,
 ) -> Result<Verdict, AllocError>
-    ensures { IfOk result (λ verdict. Answers loaded.now (CanI principal.now quiet why question.now) verdict.text.items verdict.status) }
+    ensures { IfOk result
+        (λ verdict. Answers loaded.now
+        (CanI principal.now quiet why question.now) verdict.text.items verdict.status) }
 {
     let meant = meant_by(alloc, loaded.catalogue(), question)?;
     let found = why_allowed(
@@ -102,9 +104,11 @@ pub(crate) fn print_verdict<W: Write + Drop>(
     page: &mut Page,
 ) -> Result<Status, RunFault>
     requires { sink.old.has_failed ≡ false }
-    ensures ok { (l : LoadedView) (action : Action) → IfOk verdict (λ t. Answers l action t.text.items t.status)
+    ensures ok { (l : LoadedView) (action : Action)
+        → IfOk verdict (λ t. Answers l action t.text.items t.status)
         → IfOk result (PrintsAnswer W.contents sink.old page.old sink.new page.new l action) }
-    ensures err { (l : LoadedView) (action : Action) → IfOk verdict (λ t. Answers l action t.text.items t.status)
+    ensures err { (l : LoadedView) (action : Action)
+        → IfOk verdict (λ t. Answers l action t.text.items t.status)
         → IfErr result (StopsPrinting W.contents sink.old page.old sink.new page.new l action) }
     ensures failed { sink.new.has_failed ≡ is_write_fault result }
 {

@@ -5,7 +5,8 @@ ghost use Rattle.std.specs.Option.{option_copied};
 ghost use Rattle.rbac_index.specs.Reaches.{AreReaches};
 ghost use Rattle.rbac_question.specs.declared.command.Action.TheVariants.{Every as ListsEvery};
 ghost use Rattle.rbac_cli.specs.Ends.{is_write_fault};
-ghost use Rattle.rbac_cli.specs.Printing.{PrintsAnswer, StopsPrinting, PrintsEvery, StopsInEvery, is_sink_fault};
+ghost use Rattle.rbac_cli.specs.Printing.{PrintsAnswer, StopsPrinting, PrintsEvery, StopsInEvery};
+ghost use Rattle.rbac_cli.specs.Printing.{is_sink_fault};
 
 use crate::matrix::{Lent, lent_by, seats_for, unmade};
 use crate::outcome::{RunFault, Status, fault_of};
@@ -27,8 +28,12 @@ pub(crate) fn print_every_listing<W: Write + Drop>(
     page: &mut Page,
 ) -> Result<Status, RunFault>
     requires { sink.old.has_failed ≡ false }
-    ensures ok { IfOk result (PrintsAnswer W.contents sink.old page.old sink.new page.new loaded.now (ListsEvery (option_copied after.entry) limit)) }
-    ensures err { IfErr result (StopsPrinting W.contents sink.old page.old sink.new page.new loaded.now (ListsEvery (option_copied after.entry) limit)) }
+    ensures ok { IfOk result
+        (PrintsAnswer W.contents sink.old page.old sink.new page.new loaded.now
+        (ListsEvery (option_copied after.entry) limit)) }
+    ensures err { IfErr result
+        (StopsPrinting W.contents sink.old page.old sink.new page.new loaded.now
+        (ListsEvery (option_copied after.entry) limit)) }
     ensures failed { sink.new.has_failed ≡ is_write_fault result }
 {
     let lent = match lent_by(alloc, loaded) {
@@ -58,8 +63,12 @@ fn print_every_rows<W: Write + Drop>(
     requires works { sink.old.has_failed ≡ false }
     requires reaches { AreReaches lent.now.index lent.now.universe lent.now.reaches.items }
     requires seats { length seats.old ≡ length lent.now.index.grants }
-    ensures ok { OnOk result (PrintsEvery W.contents sink.old page.old sink.new page.new (option_copied after.entry) limit lent.now.index.held lent.now.universe) }
-    ensures err { OnErr result (StopsInEvery W.contents sink.old page.old sink.new page.new (option_copied after.entry) limit lent.now.index.held lent.now.universe) }
+    ensures ok { OnOk result
+        (PrintsEvery W.contents sink.old page.old sink.new page.new
+        (option_copied after.entry) limit lent.now.index.held lent.now.universe) }
+    ensures err { OnErr result
+        (StopsInEvery W.contents sink.old page.old sink.new page.new
+        (option_copied after.entry) limit lent.now.index.held lent.now.universe) }
     ensures failed { sink.new.has_failed ≡ is_sink_fault result }
 {
     every_rows_are_there();

@@ -19,7 +19,8 @@ use std::io::Write;
 /// Over what was loaded, an action means at most one text and one status, so everyone who runs a
 /// command over the same inputs reads the same answer (own).
 pub fn answers_are_one()
-    ensures { (l : LoadedView) (action : Action) (text other : List ℕ) (status ending : Status) → Answers l action text status
+    ensures { (l : LoadedView) (action : Action) (text other : List ℕ) (status ending : Status)
+        → Answers l action text status
         → Answers l action other ending → (text ≡ other) × (status ≡ ending) }
 {}
 
@@ -27,10 +28,13 @@ pub fn answers_are_one()
 /// neither runs out of memory or fails to write: both give the same answer with the same status, or
 /// the same refusal and no text. So an answer and a refusal exclude each other (own).
 pub fn runs_are_one<V: Write, W: Write>()
-    ensures { (start end : SinkView V) (old new : SinkView W) (command : Command) (inputs : List (List ℕ)) (ended other : Result Status RunFault)
-        → IsUnstopped ended → IsUnstopped other → Ends (Took V.contents start end) command inputs ended
+    ensures { (start end : SinkView V) (old new : SinkView W) (command : Command)
+        (inputs : List (List ℕ)) (ended other : Result Status RunFault)
+        → IsUnstopped ended → IsUnstopped other
+        → Ends (Took V.contents start end) command inputs ended
         → Ends (Took W.contents old new) command inputs other
-        → (ended ≡ other) × ((text : List ℕ) × Took V.contents start end text × Took W.contents old new text) }
+        → (ended ≡ other)
+        × ((text : List ℕ) × Took V.contents start end text × Took W.contents old new text) }
 {
     loaded_inputs_are_one();
     loaded_inputs_have_no_fault();

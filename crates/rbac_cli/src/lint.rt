@@ -24,8 +24,10 @@ pub(crate) fn print_findings<W: Write + Drop>(
     page: &mut Page,
 ) -> Result<Status, RunFault>
     requires { sink.old.has_failed ≡ false }
-    ensures ok { IfOk result (PrintsAnswer W.contents sink.old page.old sink.new page.new loaded.now Lint) }
-    ensures err { IfErr result (StopsPrinting W.contents sink.old page.old sink.new page.new loaded.now Lint) }
+    ensures ok { IfOk result
+        (PrintsAnswer W.contents sink.old page.old sink.new page.new loaded.now Lint) }
+    ensures err { IfErr result
+        (StopsPrinting W.contents sink.old page.old sink.new page.new loaded.now Lint) }
     ensures failed { sink.new.has_failed ≡ is_write_fault result }
 {
     let findings = match lint(alloc, loaded) {
@@ -56,8 +58,10 @@ fn print_lines<W: Write + Drop>(
     page: &mut Page,
 ) -> Result<(), PrintFault>
     requires { sink.old.has_failed ≡ false }
-    ensures ok { OnOk result (Prints W.contents sink.old page.old sink.new page.new (findings_text findings.now)) }
-    ensures err { OnErr result (StopsIn W.contents sink.old page.old sink.new page.new (findings_text findings.now)) }
+    ensures ok { OnOk result
+        (Prints W.contents sink.old page.old sink.new page.new (findings_text findings.now)) }
+    ensures err { OnErr result
+        (StopsIn W.contents sink.old page.old sink.new page.new (findings_text findings.now)) }
     ensures failed { sink.new.has_failed ≡ is_sink_fault result }
 {
     let mut line = Vec::new(alloc);
@@ -77,8 +81,12 @@ fn print_line<W: Write + Drop>(
     page: &mut Page,
 ) -> Result<(), PrintFault>
     requires { sink.old.has_failed ≡ false }
-    ensures ok { OnOk result (Prints W.contents sink.old page.old sink.new page.new (finding_text finding.now.code finding.now.object finding.now.place finding.now.other)) }
-    ensures err { OnErr result (StopsIn W.contents sink.old page.old sink.new page.new (finding_text finding.now.code finding.now.object finding.now.place finding.now.other)) }
+    ensures ok { OnOk result
+        (Prints W.contents sink.old page.old sink.new page.new
+        (finding_text finding.now.code finding.now.object finding.now.place finding.now.other)) }
+    ensures err { OnErr result
+        (StopsIn W.contents sink.old page.old sink.new page.new
+        (finding_text finding.now.code finding.now.object finding.now.place finding.now.other)) }
     ensures failed { sink.new.has_failed ≡ is_sink_fault result }
 {
     line.clear();

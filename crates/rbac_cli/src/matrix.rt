@@ -6,7 +6,8 @@ ghost use Rattle.rbac_universe.specs.Sets.{IsUniverseOf, HasUniverseFault};
 ghost use Rattle.rbac_index.specs.Reaches.{AreReaches};
 ghost use Rattle.rbac_question.specs.declared.command.Action.TheVariants.{Matrix as ListsMatrix};
 ghost use Rattle.rbac_cli.specs.Ends.{is_write_fault};
-ghost use Rattle.rbac_cli.specs.Printing.{PrintsAnswer, StopsPrinting, PrintsListing, StopsInListing, fault_at, is_sink_fault};
+ghost use Rattle.rbac_cli.specs.Printing.{PrintsAnswer, StopsPrinting, PrintsListing};
+ghost use Rattle.rbac_cli.specs.Printing.{StopsInListing, fault_at, is_sink_fault};
 
 use crate::outcome::{RunFault, Status, fault_of};
 use rbac_index::{Index, IndexFault, Reach, reaches_of};
@@ -30,8 +31,12 @@ pub(crate) fn print_listing<W: Write + Drop>(
     page: &mut Page,
 ) -> Result<Status, RunFault>
     requires { sink.old.has_failed ≡ false }
-    ensures ok { IfOk result (PrintsAnswer W.contents sink.old page.old sink.new page.new loaded.now (ListsMatrix (option_copied after.entry) limit)) }
-    ensures err { IfErr result (StopsPrinting W.contents sink.old page.old sink.new page.new loaded.now (ListsMatrix (option_copied after.entry) limit)) }
+    ensures ok { IfOk result
+        (PrintsAnswer W.contents sink.old page.old sink.new page.new loaded.now
+        (ListsMatrix (option_copied after.entry) limit)) }
+    ensures err { IfErr result
+        (StopsPrinting W.contents sink.old page.old sink.new page.new loaded.now
+        (ListsMatrix (option_copied after.entry) limit)) }
     ensures failed { sink.new.has_failed ≡ is_write_fault result }
 {
     let lent = match lent_by(alloc, loaded) {
@@ -51,7 +56,8 @@ pub(crate) fn print_listing<W: Write + Drop>(
 // Why printing stops if the lists make no universe. Out of memory is a fault of its own.
 pub(crate) fn unmade(page: &Page, fault: UniverseFault) -> RunFault
     ensures refused { fault ≢ UniverseFault.NoMemory → result ≡ RunFault.Universe fault }
-    ensures memory { fault ≡ UniverseFault.NoMemory → result ≡ fault_at page.now PrintFault.NoMemory }
+    ensures memory { fault ≡ UniverseFault.NoMemory
+        → result ≡ fault_at page.now PrintFault.NoMemory }
 {
     match fault {
         UniverseFault::NoMemory => fault_of(page, PrintFault::NoMemory),
@@ -69,7 +75,8 @@ pub(crate) struct Lent<'p> {
 
 // What the matrix of what was loaded borrows.
 pub(crate) fn lent_by(alloc: Global, loaded: &Loaded) -> Result<Lent<'_>, UniverseFault>
-    ensures universe { MatchResult result (λ lent. IsUniverseOf loaded.now.lists lent.universe) (HasUniverseFault loaded.now.lists) }
+    ensures universe { MatchResult result
+        (λ lent. IsUniverseOf loaded.now.lists lent.universe) (HasUniverseFault loaded.now.lists) }
     ensures index { IfOk result (λ lent. lent.index ≡ loaded.now.policy) }
     ensures reaches { IfOk result (λ lent. AreReaches lent.index lent.universe lent.reaches.items) }
 {
@@ -116,8 +123,12 @@ fn print_rows<W: Write + Drop>(
     requires works { sink.old.has_failed ≡ false }
     requires reaches { AreReaches lent.now.index lent.now.universe lent.now.reaches.items }
     requires seats { length seats.old ≡ length lent.now.index.grants }
-    ensures ok { OnOk result (PrintsListing W.contents sink.old page.old sink.new page.new (option_copied after.entry) limit lent.now.index.held lent.now.universe) }
-    ensures err { OnErr result (StopsInListing W.contents sink.old page.old sink.new page.new (option_copied after.entry) limit lent.now.index.held lent.now.universe) }
+    ensures ok { OnOk result
+        (PrintsListing W.contents sink.old page.old sink.new page.new
+        (option_copied after.entry) limit lent.now.index.held lent.now.universe) }
+    ensures err { OnErr result
+        (StopsInListing W.contents sink.old page.old sink.new page.new
+        (option_copied after.entry) limit lent.now.index.held lent.now.universe) }
     ensures failed { sink.new.has_failed ≡ is_sink_fault result }
 {
     a_matrix_is_there();

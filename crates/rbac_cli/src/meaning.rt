@@ -25,7 +25,8 @@ pub(crate) fn meant_by(
     catalogue: &Catalogue,
     question: &Question,
 ) -> Result<Meant, AllocError>
-    ensures { IfOk result (λ meant. IsMeant catalogue.now.entries question.now meant.target meant.namespace) }
+    ensures { IfOk result
+        (λ meant. IsMeant catalogue.now.entries question.now meant.target meant.namespace) }
 {
     let target = target_of(alloc, catalogue, &question.asked)?;
     let nowhere = Word::new(alloc);
@@ -68,7 +69,8 @@ fn resource_target(
     name: &Word,
 ) -> Result<Target, AllocError>
     requires { IsTypeWord word.now }
-    ensures { IfOk result (IsTargetMeant catalogue.now.entries (ForResource word.now subresource.now name.now)) }
+    ensures { IfOk result
+        (IsTargetMeant catalogue.now.entries (ForResource word.now subresource.now name.now)) }
 {
     let found = catalogue.resolve_word(alloc, word)?;
     let text = resource_text(alloc, found.resource.as_bytes(), subresource.as_bytes())?;

@@ -52,7 +52,9 @@ pub fn run_into(
     sink: &mut Sink<Vec<u8>>,
 ) -> Result<Status, RunFault>
     requires { sink.old.has_failed ≡ false }
-    ensures ends { Ends (λ bytes. sink.new.writer.items ≡ sink.old.writer.items ++ bytes) command.now inputs.now result }
+    ensures ends { Ends
+        (λ bytes. sink.new.writer.items
+        ≡ sink.old.writer.items ++ bytes) command.now inputs.now result }
     ensures failed { sink.new.has_failed ≡ is_write_fault result }
 {
     run(alloc, command, inputs, sink)

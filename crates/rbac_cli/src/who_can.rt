@@ -27,8 +27,12 @@ pub(crate) fn print_holders<W: Write + Drop>(
     page: &mut Page,
 ) -> Result<Status, RunFault>
     requires { sink.old.has_failed ≡ false }
-    ensures ok { IfOk result (PrintsAnswer W.contents sink.old page.old sink.new page.new loaded.now (WhoCan question.now)) }
-    ensures err { IfErr result (StopsPrinting W.contents sink.old page.old sink.new page.new loaded.now (WhoCan question.now)) }
+    ensures ok { IfOk result
+        (PrintsAnswer W.contents sink.old page.old sink.new page.new loaded.now
+        (WhoCan question.now)) }
+    ensures err { IfErr result
+        (StopsPrinting W.contents sink.old page.old sink.new page.new loaded.now
+        (WhoCan question.now)) }
     ensures failed { sink.new.has_failed ≡ is_write_fault result }
 {
     let holders = match holders_of(alloc, loaded, question) {
@@ -46,7 +50,8 @@ fn holders_of<'p>(
     loaded: &'p Loaded,
     question: &Question,
 ) -> Result<Holders<'p>, IndexFault>
-    ensures { IfOk result (AreHoldersMeant loaded.now.policy.held loaded.now.catalogue.entries question.now) }
+    ensures { IfOk result
+        (AreHoldersMeant loaded.now.policy.held loaded.now.catalogue.entries question.now) }
 {
     let meant = meant_by(alloc, loaded.catalogue(), question)?;
     let index = Index::build(alloc, loaded.policy())?;
@@ -61,8 +66,10 @@ fn print_lines<W: Write + Drop>(
     page: &mut Page,
 ) -> Result<(), PrintFault>
     requires { sink.old.has_failed ≡ false }
-    ensures ok { OnOk result (Prints W.contents sink.old page.old sink.new page.new (holders_text holders.now)) }
-    ensures err { OnErr result (StopsIn W.contents sink.old page.old sink.new page.new (holders_text holders.now)) }
+    ensures ok { OnOk result
+        (Prints W.contents sink.old page.old sink.new page.new (holders_text holders.now)) }
+    ensures err { OnErr result
+        (StopsIn W.contents sink.old page.old sink.new page.new (holders_text holders.now)) }
     ensures failed { sink.new.has_failed ≡ is_sink_fault result }
 {
     let mut line = Vec::new(alloc);
@@ -82,8 +89,12 @@ fn print_line<W: Write + Drop>(
     page: &mut Page,
 ) -> Result<(), PrintFault>
     requires { sink.old.has_failed ≡ false }
-    ensures ok { OnOk result (Prints W.contents sink.old page.old sink.new page.new (holder_text holder.entry.principal.now holder.entry.binding.now)) }
-    ensures err { OnErr result (StopsIn W.contents sink.old page.old sink.new page.new (holder_text holder.entry.principal.now holder.entry.binding.now)) }
+    ensures ok { OnOk result
+        (Prints W.contents sink.old page.old sink.new page.new
+        (holder_text holder.entry.principal.now holder.entry.binding.now)) }
+    ensures err { OnErr result
+        (StopsIn W.contents sink.old page.old sink.new page.new
+        (holder_text holder.entry.principal.now holder.entry.binding.now)) }
     ensures failed { sink.new.has_failed ≡ is_sink_fault result }
 {
     line.clear();

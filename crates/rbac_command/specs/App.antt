@@ -61,7 +61,8 @@ target_rule = record (new_rule (codes "target")) { value_names = 1; required = t
 
 -- `--every`
 abbrev pub every_rule : Rule
-every_rule = record (new_rule (codes "every")) { long = Some (codes "every"); action = Some SetTrue }
+every_rule =
+    record (new_rule (codes "every")) { long = Some (codes "every"); action = Some SetTrue }
 
 -- `--after TOKEN`
 abbrev pub after_rule : Rule
@@ -94,7 +95,8 @@ with_question a = with_rule (with_rule (with_rule a verb_rule) target_rule) file
 -- can-i --as USER [--groups A,B] [-n NS] [-A] [--subresource S] [-q] [--why] VERB TARGET [FILE]..
 abbrev pub can_i_app : App
 can_i_app =
-    with_question (with_rule (with_rule (with_scope (with_asker (new_app (codes "can-i")))) quiet_rule) why_rule)
+    with_question (with_rule
+    (with_rule (with_scope (with_asker (new_app (codes "can-i")))) quiet_rule) why_rule)
 
 -- who-can [-n NS] [-A] [--subresource S] VERB TARGET [FILE]..
 abbrev pub who_can_app : App
@@ -103,7 +105,8 @@ who_can_app = with_question (with_scope (new_app (codes "who-can")))
 -- matrix [--every] [--after TOKEN] [--limit N] [FILE]..
 abbrev pub matrix_app : App
 matrix_app =
-    with_rule (with_rule (with_rule (with_rule (new_app (codes "matrix")) every_rule) after_rule) limit_rule) files_rule
+    with_rule (with_rule
+    (with_rule (with_rule (new_app (codes "matrix")) every_rule) after_rule) limit_rule) files_rule
 
 -- lint [FILE]..
 abbrev pub lint_app : App
@@ -126,5 +129,6 @@ bare_app = as_program (new_app (codes "rbacaudit"))
 -- the whole command line
 unfoldable pub rbac_app : App
 rbac_app =
-    with_subcommand (with_subcommand (with_subcommand (with_subcommand bare_app can_i_app.top) who_can_app.top) matrix_app.top)
+    with_subcommand (with_subcommand
+    (with_subcommand (with_subcommand bare_app can_i_app.top) who_can_app.top) matrix_app.top)
     lint_app.top

@@ -3,7 +3,9 @@ use Rattle.rbac_question.specs.Faults.{fault_text}
 use Rattle.rbac_question.specs.declared.fault.QuestionFault.{QuestionFault}
 use Rattle.rbac_question.specs.declared.fault.QuestionFault.TheVariants as question
 use Rattle.rbac_command.specs.declared.fault.UsageFault.{UsageFault}
-use Rattle.rbac_command.specs.declared.fault.UsageFault.TheVariants.{Refused, EmptyWord, UrlSubresource, BadToken, NoMemory}
+use Rattle.rbac_command.specs.declared.fault.UsageFault.TheVariants.{Refused, EmptyWord}
+use Rattle.rbac_command.specs.declared.fault.UsageFault.TheVariants.{UrlSubresource, BadToken}
+use Rattle.rbac_command.specs.declared.fault.UsageFault.TheVariants.{NoMemory}
 
 -- the refusal of a question, as the refusal of a command line
 abbrev pub usage_fault : QuestionFault → UsageFault

@@ -1,18 +1,24 @@
 -- What the words of a command line mean, according to `clap`'s matches.
-use Rattle.std.specs.Prelude.{◌≡◌, ◌||◌, ◌⊎◌, ◌<◌, ◌^◌, ℕ, Bool, true, false, List, [], Option, Some, None, Result, map, codes, unwrap_or, MatchResult, string_bytes}
+use Rattle.std.specs.Prelude.{◌≡◌, ◌||◌, ◌⊎◌, ◌<◌, ◌^◌, ℕ, Bool, true, false, List, [], Option}
+use Rattle.std.specs.Prelude.{Some, None, Result, map, codes, unwrap_or, MatchResult, string_bytes}
 use Rattle.std.specs.Str.{bytes_eq}
 use Rattle.std.specs.Str.Parse.{IsNumeral, without_leading_plus, digits_value}
 use Rattle.clap.specs.Words.{Row, Text, all_of, fault_of, first_of, kind_of, one_of, subcommand_of}
 use Rattle.clap.specs.Kinds.{IsAmong}
-use Rattle.rbac_question.specs.Lines.{QuestionParts, CanIParts, MeansCanI, MeansWhoCan, AcceptsCanI, AcceptsQuestion, RefusesCanI, RefusesQuestion, HasBadToken, IsAfter, IsAfterMark}
+use Rattle.rbac_question.specs.Lines.{QuestionParts, CanIParts, MeansCanI, MeansWhoCan, AcceptsCanI}
+use Rattle.rbac_question.specs.Lines.{AcceptsQuestion, RefusesCanI, RefusesQuestion, HasBadToken}
+use Rattle.rbac_question.specs.Lines.{IsAfter, IsAfterMark}
 use Rattle.rbac_question.specs.declared.command.Action.{Action}
-use Rattle.rbac_question.specs.declared.command.Action.TheVariants.{CanI, WhoCan, Matrix, Every, Lint}
+use Rattle.rbac_question.specs.declared.command.Action.TheVariants.{CanI, WhoCan, Matrix, Every}
+use Rattle.rbac_question.specs.declared.command.Action.TheVariants.{Lint}
 use Rattle.rbac_question.specs.declared.command.Command.{Command}
 use Rattle.rbac_question.specs.declared.fault.QuestionFault.{QuestionFault}
 use Rattle.rbac_question.specs.declared.fault.QuestionFault.TheVariants as question
 use Rattle.rbac_command.specs.App.{rbac_app}
 use Rattle.rbac_command.specs.declared.fault.UsageFault.{UsageFault}
-use Rattle.rbac_command.specs.declared.fault.UsageFault.TheVariants.{Refused, EmptyWord, UrlSubresource, BadToken, NoMemory}
+use Rattle.rbac_command.specs.declared.fault.UsageFault.TheVariants.{Refused, EmptyWord}
+use Rattle.rbac_command.specs.declared.fault.UsageFault.TheVariants.{UrlSubresource, BadToken}
+use Rattle.rbac_command.specs.declared.fault.UsageFault.TheVariants.{NoMemory}
 
 -- ---- what is under an id
 
@@ -50,13 +56,15 @@ parts_in rows = record {
 
 -- the text is a 32-bit number: decimal digits, with an optional plus sign before them
 abbrev pub IsNumberText : Text → Type 0
-IsNumberText text = IsNumeral 10 (without_leading_plus text) × (digits_value 10 (without_leading_plus text) < 2 ^ 32)
+IsNumberText text = IsNumeral 10 (without_leading_plus text)
+    × (digits_value 10 (without_leading_plus text) < 2 ^ 32)
 
 -- the number that a text reads as; none if there is no text or it isn't a number
 abbrev pub IsNumber : Option Text → Option ℕ → Type 0
 IsNumber None number = number ≡ None
 IsNumber (Some text) None = ¬ IsNumberText text
-IsNumber (Some text) (Some n) = IsNumberText text × (n ≡ digits_value 10 (without_leading_plus text))
+IsNumber (Some text) (Some n) = IsNumberText text
+    × (n ≡ digits_value 10 (without_leading_plus text))
 
 -- the number under an id
 abbrev pub IsNumberAt : Text → List Row → Option ℕ → Type 0
@@ -66,18 +74,24 @@ IsNumberAt id rows number = IsNumber (one_of id rows) number
 
 -- one of the subcommands
 abbrev pub is_known : Text → Bool
-is_known name = bytes_eq name (codes "can-i") || (bytes_eq name (codes "who-can") || (bytes_eq name (codes "matrix") || bytes_eq name (codes "lint")))
+is_known name = bytes_eq name (codes "can-i")
+    || (bytes_eq name (codes "who-can")
+    || (bytes_eq name (codes "matrix") || bytes_eq name (codes "lint")))
 
 -- what the subcommand of that name does, according to its matches
 abbrev pub DoesAction : Text → List Row → Action → Type 0
 DoesAction name rows (CanI principal quiet why question) =
-    (name ≡ codes "can-i") × AcceptsCanI (parts_in rows) × MeansCanI (parts_in rows) (CanI principal quiet why question)
+    (name ≡ codes "can-i") × AcceptsCanI (parts_in rows)
+    × MeansCanI (parts_in rows) (CanI principal quiet why question)
 DoesAction name rows (WhoCan question) =
-    (name ≡ codes "who-can") × AcceptsQuestion (question_in rows) × MeansWhoCan (question_in rows) (WhoCan question)
+    (name ≡ codes "who-can") × AcceptsQuestion (question_in rows)
+    × MeansWhoCan (question_in rows) (WhoCan question)
 DoesAction name rows (Matrix after limit) =
-    (name ≡ codes "matrix") × (has_flag (codes "every") rows ≡ false) × IsAfter (first_of (codes "after") rows) after × IsNumberAt (codes "limit") rows limit
+    (name ≡ codes "matrix") × (has_flag (codes "every") rows ≡ false)
+    × IsAfter (first_of (codes "after") rows) after × IsNumberAt (codes "limit") rows limit
 DoesAction name rows (Every after limit) =
-    (name ≡ codes "matrix") × (has_flag (codes "every") rows ≡ true) × IsAfterMark (first_of (codes "after") rows) after × IsNumberAt (codes "limit") rows limit
+    (name ≡ codes "matrix") × (has_flag (codes "every") rows ≡ true)
+    × IsAfterMark (first_of (codes "after") rows) after × IsNumberAt (codes "limit") rows limit
 DoesAction name rows Lint = name ≡ codes "lint"
 
 -- the command is what the matches of the subcommand of that name mean
@@ -92,10 +106,12 @@ Means (Some p) c = MeansRows p.0 p.1 c
 
 -- ---- refusals
 
--- the refusal of a subcommand's matches: out of memory may come at any time; besides it, `matrix` has only U4, no other has U4, and `lint` has none
+-- the refusal of a subcommand's matches: out of memory may come at any time; besides it, `matrix`
+-- has only U4, no other has U4, and `lint` has none
 abbrev pub RefusesAction : Text → List Row → QuestionFault → Type 0
 RefusesAction name rows question.NoMemory = Unit {0}
-RefusesAction name rows question.BadToken = (name ≡ codes "matrix") × HasBadToken (first_of (codes "after") rows)
+RefusesAction name rows question.BadToken = (name ≡ codes "matrix")
+    × HasBadToken (first_of (codes "after") rows)
 RefusesAction name rows e = ((name ≡ codes "can-i") × RefusesCanI (parts_in rows) e)
     ⊎ ((name ≡ codes "who-can") × RefusesQuestion (question_in rows) e)
 
@@ -108,7 +124,8 @@ IsCauseOf (Some p) BadToken = RefusesAction p.0 p.1 question.BadToken
 IsCauseOf (Some p) NoMemory = RefusesAction p.0 p.1 question.NoMemory
 IsCauseOf (Some p) (Refused e) = ⊥
 
--- a refusal by `clap` comes if it refuses the words, any other if it accepts them; out of memory may come at any time
+-- a refusal by `clap` comes if it refuses the words, any other if it accepts them; out of memory
+-- may come at any time
 abbrev pub IsRefusal : List Text → UsageFault → Type 0
 IsRefusal words NoMemory = Unit {0}
 IsRefusal words (Refused e) = IsAmong (kind_of e) (fault_of rbac_app words)

@@ -3,8 +3,11 @@
 ghost use Rattle.std.specs.Prelude.{◌≡◌, IfOk, IsOkAnd, false};
 ghost use Rattle.clap.specs.Words.{app_of, new_app, rule_of, with_rule, with_subcommand};
 ghost use Rattle.clap.specs.declared.builder.command.Command.TheViews.{out-Command as fields_of};
-ghost use Rattle.rbac_command.specs.App.{every_rule, after_rule, limit_rule, user_rule, groups_rule, namespace_rule, all_rule, subresource_rule, quiet_rule, why_rule, verb_rule, target_rule, files_rule};
-ghost use Rattle.rbac_command.specs.App.{with_scope, with_question, can_i_app, who_can_app, matrix_app, lint_app, bare_app, rbac_app};
+ghost use Rattle.rbac_command.specs.App.{every_rule, after_rule, limit_rule, user_rule};
+ghost use Rattle.rbac_command.specs.App.{groups_rule, namespace_rule, all_rule, subresource_rule};
+ghost use Rattle.rbac_command.specs.App.{quiet_rule, why_rule, verb_rule, target_rule, files_rule};
+ghost use Rattle.rbac_command.specs.App.{with_scope, with_question, can_i_app, who_can_app};
+ghost use Rattle.rbac_command.specs.App.{matrix_app, lint_app, bare_app, rbac_app};
 
 use clap::{Arg, ArgAction, Command, value_parser};
 use std::alloc::{AllocError, Global};

@@ -1,10 +1,14 @@
 //! From words to a command.
 
-ghost use Rattle.std.specs.Prelude.{◌≡◌, [], Some, None, IfOk, IfErr, MatchResult, map, string_bytes, codes, true, false, option_map};
+ghost use Rattle.std.specs.Prelude.{◌≡◌, [], Some, None, IfOk, IfErr, MatchResult, map};
+ghost use Rattle.std.specs.Prelude.{string_bytes, codes, true, false, option_map};
 ghost use Rattle.std.specs.Option.{option_map_or};
-ghost use Rattle.clap.specs.Words.{found_of, all_of, rows_of, first_of, subcommand_rows_of, subcommand_of, fault_of};
+ghost use Rattle.clap.specs.Words.{found_of, all_of, rows_of, first_of, subcommand_rows_of};
+ghost use Rattle.clap.specs.Words.{subcommand_of, fault_of};
 ghost use Rattle.rbac_command.specs.App.{rbac_app};
-ghost use Rattle.rbac_command.specs.Meaning.{text_at, has_flag, IsNumberAt, files_in, question_in, parts_in, is_known, DoesAction, RefusesAction, Means, IsCauseOf, IsRefusal, IsAnswer};
+ghost use Rattle.rbac_command.specs.Meaning.{text_at, has_flag, IsNumberAt, files_in, question_in};
+ghost use Rattle.rbac_command.specs.Meaning.{parts_in, is_known, DoesAction, RefusesAction, Means};
+ghost use Rattle.rbac_command.specs.Meaning.{IsCauseOf, IsRefusal, IsAnswer};
 
 use crate::build::program;
 use crate::fault::UsageFault;
@@ -88,7 +92,8 @@ fn matrix_line_of<'a>(matches: &ArgMatches<'a>) -> MatrixLine<'a>
 }
 
 fn files_of(alloc: Global, matches: &ArgMatches<'_>) -> Result<Vec<String>, AllocError>
-    ensures { IfOk result (λ v. map string_bytes v.items ≡ files_in (rows_of (found_of matches.now))) }
+    ensures { IfOk result
+        (λ v. map string_bytes v.items ≡ files_in (rows_of (found_of matches.now))) }
 {
     let mut files = Vec::new(alloc);
     let Some(texts) = values_of(matches, "files") else {

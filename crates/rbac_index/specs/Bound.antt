@@ -7,15 +7,20 @@ use Rattle.rbac_model.specs.Universes.{LiveForSome}
 
 -- the binding of the grant with that number names who asks
 abbrev pub IsNamedBy : PolicyView → Who → ℕ → Type 0
-IsNamedBy p who number = (g : GrantView) × (slice_get p.grants number ≡ Some g) × BindingNames g.binding who
+IsNamedBy p who number = (g : GrantView) × (slice_get p.grants number ≡ Some g)
+    × BindingNames g.binding who
 
 -- the binding of the grant with that number names who asks, and may be live in that namespace
 abbrev pub IsBoundTo : PolicyView → Who → Text → ℕ → Type 0
-IsBoundTo p who namespace number = (g : GrantView) × (slice_get p.grants number ≡ Some g) × BindingNames g.binding who × LiveForSome g.binding.namespace namespace
+IsBoundTo p who namespace number = (g : GrantView) × (slice_get p.grants number ≡ Some g)
+    × BindingNames g.binding who × LiveForSome g.binding.namespace namespace
 
--- the grants numbered from `start` up to `end` are bound to who asks in that namespace, and none of those from `from` up to `start` is
-pub record IsNextRun (p : PolicyView) (who : Who) (namespace : Text) (from start end : ℕ) : Type 0 where
+-- the grants numbered from `start` up to `end` are bound to who asks in that namespace, and none of
+-- those from `from` up to `start` is
+pub record IsNextRun (p : PolicyView) (who : Who) (namespace : Text)
+    (from start end : ℕ) : Type 0 where
   pub after : from ≤ start
   pub some : start < end
   pub bound : (number : ℕ) → start ≤ number → number < end → IsBoundTo p who namespace number
-  pub none_before : (number : ℕ) → from ≤ number → number < start → ¬ IsBoundTo p who namespace number
+  pub none_before : (number : ℕ) → from ≤ number → number < start
+      → ¬ IsBoundTo p who namespace number

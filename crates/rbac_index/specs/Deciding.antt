@@ -11,15 +11,19 @@ use Rattle.rbac_model.specs.Sources.{source_of}
 use Rattle.rbac_index.specs.Indexed.{AllowsAt}
 use Rattle.rbac_index.specs.declared.deciding.Why.{Why}
 
--- the answer shows the grant's binding, the role where its rule is written, and the rule's place there
+-- the answer shows the grant's binding, the role where its rule is written, and the rule's place
+-- there
 abbrev pub ShowsGrant : Why → GrantView → Type 0
-ShowsGrant why g = (why.binding.now ≡ g.binding) × (source_of why.source ≡ g.rule.source) × (why.rule_place ≡ g.rule.place)
+ShowsGrant why g = (why.binding.now ≡ g.binding) × (source_of why.source ≡ g.rule.source)
+    × (why.rule_place ≡ g.rule.place)
 
 -- the answer shows why the request is allowed
 abbrev pub IsWhyShown : PolicyView → Who → Text → Text → What → Why → Type 0
-IsWhyShown p who namespace verb t why = (g : GrantView) × IsWhy p who namespace verb t g why.subject_place × ShowsGrant why g
+IsWhyShown p who namespace verb t why = (g : GrantView)
+    × IsWhy p who namespace verb t g why.subject_place × ShowsGrant why g
 
--- the grant with that number belongs to the binding at that place, and its rule allows the verb on the target
+-- the grant with that number belongs to the binding at that place, and its rule allows the verb on
+-- the target
 abbrev pub AllowsOf : PolicyView → Text → What → ℕ → ℕ → Type 0
 AllowsOf p verb t at n = IsOfBinding p n at × AllowsAt p verb t n
 
@@ -29,19 +33,26 @@ NoneAllowing p verb t at = (n : ℕ) → ¬ AllowsOf p verb t at n
 
 -- the first grant of the binding at that place that allows the verb on the target
 abbrev pub IsFirstAllowing : PolicyView → Text → What → ℕ → ℕ → Type 0
-IsFirstAllowing p verb t at n = AllowsOf p verb t at n × ((m : ℕ) → m < n → ¬ AllowsOf p verb t at m)
+IsFirstAllowing p verb t at n = AllowsOf p verb t at n
+    × ((m : ℕ) → m < n → ¬ AllowsOf p verb t at m)
 
--- the grant with that number belongs to the binding at that place, live or not, which names who asks, and its rule allows the verb on the target
+-- the grant with that number belongs to the binding at that place, live or not, which names who
+-- asks, and its rule allows the verb on the target
 abbrev pub GrantsOf : PolicyView → Who → Text → What → ℕ → ℕ → Type 0
 GrantsOf p who verb t at n =
-    (g : GrantView) × (slice_get p.grants n ≡ Some g) × (slice_get p.held.bindings at ≡ Some g.binding) × BindingNames g.binding who × RuleAllows g.rule.rule verb t
+    (g : GrantView) × (slice_get p.grants n ≡ Some g)
+    × (slice_get p.held.bindings at ≡ Some g.binding) × BindingNames g.binding who
+    × RuleAllows g.rule.rule verb t
 
--- no binding at these places names who asks and has a grant whose rule allows the verb on the target
+-- no binding at these places names who asks and has a grant whose rule allows the verb on the
+-- target
 abbrev pub NoneAmong : PolicyView → Who → Text → What → ℕ → ℕ → Type 0
 NoneAmong p who verb t from to = (at n : ℕ) → from ≤ at → at < to → ¬ GrantsOf p who verb t at n
 
--- the answer shows the first grant, of a binding at these places that names who asks, whose rule allows the verb on the target
-pub record IsFirstAmong (p : PolicyView) (who : Who) (verb : Text) (t : What) (from to : ℕ) (why : Why) : Type 0 where
+-- the answer shows the first grant, of a binding at these places that names who asks, whose rule
+-- allows the verb on the target
+pub record IsFirstAmong (p : PolicyView) (who : Who) (verb : Text) (t : What) (from to : ℕ)
+    (why : Why) : Type 0 where
   pub at : ℕ
   pub number : ℕ
   pub grant : GrantView
@@ -50,4 +61,6 @@ pub record IsFirstAmong (p : PolicyView) (who : Who) (verb : Text) (t : What) (f
   pub grants : GrantsOf p who verb t at number
   pub none_before : (k n : ℕ) → n < number → from ≤ k → k < to → ¬ GrantsOf p who verb t k n
   pub shown : ShowsGrant why grant
-  pub subject : (s : Subject) × IsFirstAt (λ s. Names s grant.binding.namespace who) grant.binding.subjects why.subject_place s
+  pub subject : (s : Subject)
+      × IsFirstAt
+      (λ s. Names s grant.binding.namespace who) grant.binding.subjects why.subject_place s

@@ -7,7 +7,12 @@ use Rattle.rbac_index.specs.declared.holders.Holder.{Holder}
 
 -- the holder that was seen
 abbrev pub holder_of : Seen → HolderView
-holder_of s = record { key = s.key; binding = s.binding.now; binding_place = s.binding_place; subject_place = s.subject_place }
+holder_of s = record {
+  key = s.key;
+  binding = s.binding.now;
+  binding_place = s.binding_place;
+  subject_place = s.subject_place;
+}
 
 -- the holders that were seen, in order
 abbrev pub holders_of : List Seen → List HolderView
@@ -19,4 +24,9 @@ AreKeysOf keys xs = (key : Text) → IsTrue (contains text_cmp keys key) ↔ Any
 
 -- the holder that is shown
 abbrev pub holder_shown : Holder → HolderView
-holder_shown x = record { key = x.principal.now; binding = x.binding.now; binding_place = x.binding_place; subject_place = x.subject_place }
+holder_shown x = record {
+  key = x.principal.now;
+  binding = x.binding.now;
+  binding_place = x.binding_place;
+  subject_place = x.subject_place;
+}

@@ -1,4 +1,5 @@
-use Rattle.std.specs.Prelude.{◌≡◌, ℕ, ◌<◌, ◌≤◌, ◌+◌, ◌⊎◌, ◌↔◌, List, [], ◌∷◌, ◌++◌, Any, AllPairs, Contains, length, slice_get, slice_index, Some}
+use Rattle.std.specs.Prelude.{◌≡◌, ℕ, ◌<◌, ◌≤◌, ◌+◌, ◌⊎◌, ◌↔◌, List, [], ◌∷◌, ◌++◌, Any, AllPairs}
+use Rattle.std.specs.Prelude.{Contains, length, slice_get, slice_index, Some}
 use Rattle.rbac_terms.specs.Text.{Text}
 use Rattle.rbac_terms.specs.Targets.{What}
 use Rattle.rbac_terms.specs.Principals.{Who, AsMember, who_key, IsInGroup}
@@ -14,27 +15,37 @@ BringsRuleAt h verb t i =
 -- the binding at that place is live and brings a rule that allows the verb on the target
 abbrev pub BringsAt : Held → Text → Text → What → ℕ → Type 0
 BringsAt h namespace verb t i =
-    (b : Binding) × (slice_get h.bindings i ≡ Some b) × Live b.namespace namespace t × Brings h b verb t
+    (b : Binding) × (slice_get h.bindings i ≡ Some b) × Live b.namespace namespace t
+    × Brings h b verb t
 
 -- the holders that are seen before a pair of places, of a binding and of a subject in it, in order
-pub record AreSeen (h : Held) (namespace verb : Text) (t : What) (i j : ℕ) (xs : List HolderView) : Type 0 where
-  pub ordered : AllPairs (λ x y. IsBefore x.binding_place x.subject_place y.binding_place y.subject_place) xs
-  pub exact : (x : HolderView) → Contains xs x ↔ (IsHolder h namespace verb t x × IsBefore x.binding_place x.subject_place i j)
-  pub complete : (key : Text) (k l : ℕ) → IsHolderAt h namespace verb t key k l → IsBefore k l i j → (x : HolderView) × Contains xs x × (x.key ≡ key)
+pub record AreSeen (h : Held) (namespace verb : Text) (t : What) (i j : ℕ)
+    (xs : List HolderView) : Type 0 where
+  pub ordered : AllPairs
+      (λ x y. IsBefore x.binding_place x.subject_place y.binding_place y.subject_place) xs
+  pub exact : (x : HolderView) → Contains xs x
+      ↔ (IsHolder h namespace verb t x × IsBefore x.binding_place x.subject_place i j)
+  pub complete : (key : Text) (k l : ℕ) → IsHolderAt h namespace verb t key k l → IsBefore k l i j
+      → (x : HolderView) × Contains xs x × (x.key ≡ key)
 
--- the bindings of the grants with the first `count` numbers are before `place`, and those of the others are no earlier than right before it
+-- the bindings of the grants with the first `count` numbers are before `place`, and those of the
+-- others are no earlier than right before it
 pub record ArePassed (p : PolicyView) (ns : List ℕ) (count place : ℕ) : Type 0 where
   pub behind : (k i : ℕ) → k < count → IsOfBinding p (slice_index ns k) i → i < place
-  pub ahead : (k i : ℕ) → count ≤ k → k < length ns → IsOfBinding p (slice_index ns k) i → place ≤ i + 1
+  pub ahead : (k i : ℕ) → count ≤ k → k < length ns → IsOfBinding p (slice_index ns k) i
+      → place ≤ i + 1
 
 -- new is old if the holder's key is among old's, and otherwise old with the holder added at the end
 abbrev pub IsSeenMore : List HolderView → List HolderView → HolderView → Type 0
-IsSeenMore old new y = ((new ≡ old) × Any (λ x. x.key ≡ y.key) old) ⊎ ((new ≡ old ++ y ∷ []) × ¬ Any (λ x. x.key ≡ y.key) old)
+IsSeenMore old new y = ((new ≡ old) × Any (λ x. x.key ≡ y.key) old)
+    ⊎ ((new ≡ old ++ y ∷ []) × ¬ Any (λ x. x.key ≡ y.key) old)
 
 -- the key is that of who asks, or of one of its groups
 abbrev pub IsKeyFor : Who → Text → Type 0
-IsKeyFor who key = (key ≡ who_key who) ⊎ ((group : Text) × IsInGroup who group × (key ≡ who_key (AsMember group)))
+IsKeyFor who key = (key ≡ who_key who)
+    ⊎ ((group : Text) × IsInGroup who group × (key ≡ who_key (AsMember group)))
 
 -- a request is allowed exactly if some holder's key is that of who asks, or of one of its groups
 abbrev pub AllowsByHolders : Held → Text → Text → What → List HolderView → Type 0
-AllowsByHolders h namespace verb t xs = (who : Who) → Allows h who namespace verb t ↔ Any (λ x. IsKeyFor who x.key) xs
+AllowsByHolders h namespace verb t xs = (who : Who) → Allows h who namespace verb t
+    ↔ Any (λ x. IsKeyFor who x.key) xs

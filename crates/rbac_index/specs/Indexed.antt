@@ -1,4 +1,5 @@
-use Rattle.std.specs.Prelude.{◌≡◌, ℕ, ◌+◌, ◌<◌, ◌≤◌, ◌^◌, ◌↔◌, List, [], All, Contains, map, slice_get, slice_index_or, Some, length}
+use Rattle.std.specs.Prelude.{◌≡◌, ℕ, ◌+◌, ◌<◌, ◌≤◌, ◌^◌, ◌↔◌, List, [], All, Contains, map}
+use Rattle.std.specs.Prelude.{slice_get, slice_index_or, Some, length}
 use Rattle.std.specs.List.Sorted.{IsStrictlyIncreasing}
 use Rattle.rbac_terms.specs.Text.{Text}
 use Rattle.rbac_terms.specs.Targets.{What}
@@ -12,7 +13,8 @@ use Rattle.rbac_index.specs.Written.{written_rules, IsRuleAt, AreWritten, bare_r
 
 -- the rule of the grant with that number allows the verb on the target
 abbrev pub AllowsAt : PolicyView → Text → What → ℕ → Type 0
-AllowsAt p verb t n = (g : GrantView) × (slice_get p.grants n ≡ Some g) × RuleAllows g.rule.rule verb t
+AllowsAt p verb t n = (g : GrantView) × (slice_get p.grants n ≡ Some g)
+    × RuleAllows g.rule.rule verb t
 
 -- the numbers, ascending, of exactly the grants whose rule allows the verb on the target
 pub record AreCandidates (p : PolicyView) (verb : Text) (t : What) (ns : List ℕ) : Type 0 where
@@ -27,14 +29,20 @@ IsByRule p r n = (g : GrantView) × (slice_get p.grants n ≡ Some g) × (g.rule
 abbrev pub IsRun : PolicyView → List Rule → ℕ → Type 0
 IsRun p rs start = (k : ℕ) (r : Rule) → slice_get rs k ≡ Some r → IsByRule p r (start + k)
 
--- the runs of grants by the rules of each row, given by where they begin: they end before grant number `count`, and each grant before it is in one of them
-pub record AreRuns (p : PolicyView) (rows : List (List Rule)) (count : ℕ) (runs : List (List ℕ)) : Type 0 where
+-- the runs of grants by the rules of each row, given by where they begin: they end before grant
+-- number `count`, and each grant before it is in one of them
+pub record AreRuns (p : PolicyView) (rows : List (List Rule)) (count : ℕ)
+    (runs : List (List ℕ)) : Type 0 where
   pub len : length runs ≡ length rows
-  pub sound : (row start : ℕ) (rs : List Rule) → slice_get rows row ≡ Some rs → Contains (slice_index_or runs row []) start → (start + length rs ≤ count) × IsRun p rs start
-  pub complete : (n : ℕ) → n < count → (row start place : ℕ) × (r : Rule) × IsRuleAt rows row place r × Contains (slice_index_or runs row []) start × (n ≡ start + place)
+  pub sound : (row start : ℕ) (rs : List Rule) → slice_get rows row ≡ Some rs
+      → Contains (slice_index_or runs row []) start → (start + length rs ≤ count) × IsRun p rs start
+  pub complete : (n : ℕ) → n < count
+      → (row start place : ℕ) × (r : Rule) × IsRuleAt rows row place r
+      × Contains (slice_index_or runs row []) start × (n ≡ start + place)
 
 -- the rules are there and listed by their words, and the grants are listed by runs
-pub record IsIndexOf (p : PolicyView) (ws : List Written) (l : Listing) (runs : List (List ℕ)) : Type 0 where
+pub record IsIndexOf (p : PolicyView) (ws : List Written) (l : Listing)
+    (runs : List (List ℕ)) : Type 0 where
   pub written : AreWritten (written_rules p.held) ws
   pub listed : AreListed (bare_rules ws) (length ws) l
   pub granted : AreRuns p (written_rules p.held) (length p.grants) runs
@@ -46,12 +54,16 @@ numbers_by runs w = map (λ start. start + w.place) (slice_index_or runs w.row [
 
 -- the rule's row has runs, and the numbers of its grants fit in a u32
 abbrev pub HaveNumbers : List (List ℕ) → Written → Type 0
-HaveNumbers runs w = (w.row < length runs) × All (λ start. start + w.place < 2 ^ 32) (slice_index_or runs w.row [])
+HaveNumbers runs w = (w.row < length runs)
+    × All (λ start. start + w.place < 2 ^ 32) (slice_index_or runs w.row [])
 
 -- the rule with that number allows the verb on the target
 abbrev pub AllowsRule : List Rule → Text → What → ℕ → Type 0
 AllowsRule rules verb t at = (r : Rule) × (slice_get rules at ≡ Some r) × RuleAllows r verb t
 
--- the number is that of a grant by a rule, at one of these places, that allows the verb on the target
+-- the number is that of a grant by a rule, at one of these places, that allows the verb on the
+-- target
 abbrev pub IsAllowedBy : List Written → List (List ℕ) → List ℕ → Text → What → ℕ → Type 0
-IsAllowedBy ws runs places verb t n = (at : ℕ) × Contains places at × ((w : Written) × (slice_get ws at ≡ Some w) × RuleAllows w.rule.now verb t × Contains (numbers_by runs w) n)
+IsAllowedBy ws runs places verb t n = (at : ℕ) × Contains places at
+    × ((w : Written) × (slice_get ws at ≡ Some w) × RuleAllows w.rule.now verb t
+    × Contains (numbers_by runs w) n)

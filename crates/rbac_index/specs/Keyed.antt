@@ -1,5 +1,6 @@
 -- The bindings under the keys of their subjects.
-use Rattle.std.specs.Prelude.{◌≡◌, ℕ, ◌<◌, ◌≤◌, ◌⊎◌, ◌↔◌, List, ◌++◌, codes, Option, Some, None, Contains, Any, MatchOption, slice_get, min}
+use Rattle.std.specs.Prelude.{◌≡◌, ℕ, ◌<◌, ◌≤◌, ◌⊎◌, ◌↔◌, List, ◌++◌, codes, Option, Some, None}
+use Rattle.std.specs.Prelude.{Contains, Any, MatchOption, slice_get, min}
 use Rattle.std.specs.Ordering.{nat_cmp, ordering_then}
 use Rattle.std.specs.List.Sorted.{IsSorted}
 use Rattle.std.specs.declared.cmp.Ordering.{Ordering}
@@ -33,14 +34,17 @@ keyed key place = record { key = key; place = place }
 
 -- new has what old has, and the keys of the binding's subjects, each with the binding's place
 abbrev pub HasKeysOf : List Keyed → List Keyed → Binding → ℕ → Type 0
-HasKeysOf old new b place = (x : Keyed) → Contains new x ↔ (Contains old x ⊎ ((x.place ≡ place) × IsKeyIn b x.key))
+HasKeysOf old new b place = (x : Keyed) → Contains new x
+    ↔ (Contains old x ⊎ ((x.place ≡ place) × IsKeyIn b x.key))
 
 -- exactly the keys of the subjects of the bindings that have grants, in order
 pub record AreKeyed (p : PolicyView) (xs : List Keyed) : Type 0 where
   pub sorted : IsSorted keyed_cmp xs
-  pub exact : (x : Keyed) → Contains xs x ↔ (HasGrants p x.place × IsKeyedAt p.held.bindings x.key x.place)
+  pub exact : (x : Keyed) → Contains xs x
+      ↔ (HasGrants p x.place × IsKeyedAt p.held.bindings x.key x.place)
 
--- the binding at that place is live: it is one of the ClusterRoleBindings, which come first, or one of the namespace's RoleBindings
+-- the binding at that place is live: it is one of the ClusterRoleBindings, which come first, or one
+-- of the namespace's RoleBindings
 abbrev pub IsLiveAt : Live → ℕ → Type 0
 IsLiveAt l place = (place < l.cluster_wide) ⊎ ((l.from ≤ place) × (place < l.to))
 
@@ -74,7 +78,8 @@ IsGivenKey given key = (g : Text) × Contains given g × (key ≡ codes "g:" ++ 
 
 -- the key of a group that service accounts are in: that of all of them, or that of the namespace's
 abbrev pub IsAccountKeyOf : Text → Text → Type 0
-IsAccountKeyOf namespace key = (key ≡ codes "g:system:serviceaccounts") ⊎ (key ≡ codes "g:system:serviceaccounts:" ++ namespace)
+IsAccountKeyOf namespace key = (key ≡ codes "g:system:serviceaccounts")
+    ⊎ (key ≡ codes "g:system:serviceaccounts:" ++ namespace)
 
 -- the key of a group that who asks is in as a service account
 abbrev pub IsAccountKey : Who → Text → Type 0

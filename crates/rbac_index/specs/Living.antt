@@ -6,7 +6,8 @@ use Rattle.rbac_terms.specs.Targets.{What}
 use Rattle.rbac_terms.specs.declared.granting.Binding.{Binding}
 use Rattle.rbac_model.specs.Policies.{Live}
 
--- how a binding's namespace compares to a namespace: a ClusterRoleBinding comes before every namespace
+-- how a binding's namespace compares to a namespace: a ClusterRoleBinding comes before every
+-- namespace
 abbrev pub namespace_cmp : Option Text → Text → Ordering
 namespace_cmp None asked = Less
 namespace_cmp (Some namespace) asked = text_cmp namespace asked

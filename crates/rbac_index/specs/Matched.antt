@@ -1,5 +1,6 @@
 -- The order of targets, and those of one stem.
-use Rattle.std.specs.Prelude.{◌≡◌, ℕ, ◌+◌, ◌<◌, ◌≤◌, ◌↔◌, List, [], ◌∷◌, Any, Option, Some, None, IfSome, length, map, slice_get}
+use Rattle.std.specs.Prelude.{◌≡◌, ℕ, ◌+◌, ◌<◌, ◌≤◌, ◌↔◌, List, [], ◌∷◌, Any, Option, Some, None}
+use Rattle.std.specs.Prelude.{IfSome, length, map, slice_get}
 use Rattle.std.specs.declared.cmp.Ordering.TheVariants.{Less}
 use Rattle.rbac_terms.specs.Text.{Text, text_cmp}
 use Rattle.rbac_terms.specs.Targets.{What, IsUrl, group_of, text_of, name_of}
@@ -16,28 +17,34 @@ what_texts t = group_of t ∷ text_of t ∷ name_of t ∷ []
 abbrev pub IsBetween : Text → Option Text → Text → Type 0
 IsBetween after before x = (text_cmp after x ≡ Less) × IfSome before (λ m. text_cmp x m ≡ Less)
 
--- u has the API group and resource text of t, and a later name, which comes before `before` if that is given
+-- u has the API group and resource text of t, and a later name, which comes before `before` if that
+-- is given
 pub record IsLaterOfStem (before : Option Text) (t u : What) : Type 0 where
   pub group : group_of u ≡ group_of t
   pub text : text_of u ≡ text_of t
   pub name : IsBetween (name_of t) before (name_of u)
 
--- the targets after `at` and before `end` have the API group and resource text of the one at `at`, and later names, before `before` if that is given
+-- the targets after `at` and before `end` have the API group and resource text of the one at `at`,
+-- and later names, before `before` if that is given
 abbrev pub AreOfStem : Option Text → List What → ℕ → ℕ → Type 0
-AreOfStem before ts at end = (n : ℕ) (t u : What) → at < n → n < end → slice_get ts at ≡ Some t → slice_get ts n ≡ Some u → IsLaterOfStem before t u
+AreOfStem before ts at end = (n : ℕ) (t u : What) → at < n → n < end → slice_get ts at ≡ Some t
+    → slice_get ts n ≡ Some u → IsLaterOfStem before t u
 
 -- words of the rule match the target's API group and resource text
 abbrev pub StemOk : Rule → What → Type 0
-StemOk r t = Any (λ w. WordMatches w (group_of t)) r.groups × Any (λ w. ResourceWordMatches w (text_of t)) r.resources
+StemOk r t = Any (λ w. WordMatches w (group_of t)) r.groups
+    × Any (λ w. ResourceWordMatches w (text_of t)) r.resources
 
--- a stem: the targets from `start` up to `end` have the API group and resource text of the first, and a URL is a stem of its own
+-- a stem: the targets from `start` up to `end` have the API group and resource text of the first,
+-- and a URL is a stem of its own
 pub record IsStem (ts : List What) (start end : ℕ) : Type 0 where
   pub some : start < end
   pub within : end ≤ length ts
   pub alike : AreOfStem None ts start end
   pub alone : (t : What) → slice_get ts start ≡ Some t → IsUrl t → end ≡ start + 1
 
--- the targets from the first place up to the second form stems, one after the other, each given by where it ends
+-- the targets from the first place up to the second form stems, one after the other, each given by
+-- where it ends
 abbrev pub AreStems : List What → ℕ → ℕ → List ℕ → Type 0
 AreStems ts from to [] = from ≡ to
 AreStems ts from to (end ∷ ends) = IsStem ts from end × AreStems ts end to ends

@@ -1,5 +1,6 @@
 -- The places of a universe's targets that the rules of grants match.
-use Rattle.std.specs.Prelude.{◌≡◌, ℕ, ◌+◌, ◌-◌, ◌^◌, ◌<◌, ◌≤◌, ◌↔◌, min, max, List, Contains, Some, map, slice_get, length}
+use Rattle.std.specs.Prelude.{◌≡◌, ℕ, ◌+◌, ◌-◌, ◌^◌, ◌<◌, ◌≤◌, ◌↔◌, min, max, List, Contains, Some}
+use Rattle.std.specs.Prelude.{map, slice_get, length}
 use Rattle.std.specs.List.Sorted.{IsStrictlyIncreasing}
 use Rattle.rbac_terms.specs.Targets.{What}
 use Rattle.rbac_terms.specs.Matching.{TargetOk}
@@ -28,12 +29,15 @@ pub record IsReachBelow (r : Rule) (ts : List What) (count : ℕ) (places : List
 
 -- the reach of the rule of the grant with that number, among the targets of a universe
 abbrev pub IsReachAt : PolicyView → UniverseView → ℕ → List ℕ → Type 0
-IsReachAt p u number places = (g : GrantView) × (slice_get p.grants number ≡ Some g) × IsReach g.rule.rule (map (λ t. t.0) u.targets) places
+IsReachAt p u number places = (g : GrantView) × (slice_get p.grants number ≡ Some g)
+    × IsReach g.rule.rule (map (λ t. t.0) u.targets) places
 
 -- the reaches of the first `count` grants, each at its grant's number
-pub record AreReachesBelow (p : PolicyView) (u : UniverseView) (count : ℕ) (reaches : List (List ℕ)) : Type 0 where
+pub record AreReachesBelow (p : PolicyView) (u : UniverseView) (count : ℕ)
+    (reaches : List (List ℕ)) : Type 0 where
   pub len : length reaches ≡ count
-  pub each : (number : ℕ) (places : List ℕ) → slice_get reaches number ≡ Some places → IsReachAt p u number places
+  pub each : (number : ℕ) (places : List ℕ) → slice_get reaches number ≡ Some places
+      → IsReachAt p u number places
 
 -- as many reaches as grants, each at its grant's number
 abbrev pub AreReaches : PolicyView → UniverseView → List (List ℕ) → Type 0
@@ -41,4 +45,5 @@ AreReaches p u reaches = AreReachesBelow p u (length p.grants) reaches
 
 -- the grants with these numbers are by the same rule
 abbrev pub AreAlike : PolicyView → ℕ → ℕ → Type 0
-AreAlike p m n = (g h : GrantView) → slice_get p.grants m ≡ Some g → slice_get p.grants n ≡ Some h → g.rule.rule ≡ h.rule.rule
+AreAlike p m n = (g h : GrantView) → slice_get p.grants m ≡ Some g → slice_get p.grants n ≡ Some h
+    → g.rule.rule ≡ h.rule.rule

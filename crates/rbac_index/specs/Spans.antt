@@ -14,10 +14,12 @@ abbrev pub places_of : List Span → List ℕ
 places_of [] = []
 places_of (s ∷ ss) = places_from s.start (s.end - s.start) ++ places_of ss
 
--- each run says how many places come before it, if `before` come before them all; in the end there are `len`, none above a million
+-- each run says how many places come before it, if `before` come before them all; in the end there
+-- are `len`, none above a million
 abbrev pub IsCounted : ℕ → List Span → ℕ → Type 0
 IsCounted before [] len = before ≡ len
-IsCounted before (s ∷ ss) len = (s.before ≡ before) × (s.start < s.end) × (s.end ≤ most_targets) × IsCounted (before + (s.end - s.start)) ss len
+IsCounted before (s ∷ ss) len = (s.before ≡ before) × (s.start < s.end) × (s.end ≤ most_targets)
+    × IsCounted (before + (s.end - s.start)) ss len
 
 -- runs of `len` places, at most a million, each once and ascending
 pub record AreSpans (spans : List Span) (len : ℕ) : Type 0 where
@@ -25,7 +27,8 @@ pub record AreSpans (spans : List Span) (len : ℕ) : Type 0 where
   pub ascending : IsStrictlyIncreasing (places_of spans)
   pub few : len ≤ most_targets
 
--- new is old with one more run at the end, joined to the last one or not: the places are old's and then the run's, and all are counted
+-- new is old with one more run at the end, joined to the last one or not: the places are old's and
+-- then the run's, and all are counted
 pub record IsPut (old : List Span) (span : Span) (new : List Span) : Type 0 where
   pub counted : IsCounted 0 new (span.before + (span.end - span.start))
   pub places : places_of new ≡ places_of old ++ places_from span.start (span.end - span.start)

@@ -16,7 +16,8 @@ row_of roles (ClusterRoleAt at) = roles + at
 
 -- the rule is at that place in that row
 abbrev pub IsRuleAt : List (List Rule) → ℕ → ℕ → Rule → Type 0
-IsRuleAt rows row place r = (rs : List Rule) × (slice_get rows row ≡ Some rs) × (slice_get rs place ≡ Some r)
+IsRuleAt rows row place r = (rs : List Rule) × (slice_get rows row ≡ Some rs)
+    × (slice_get rs place ≡ Some r)
 
 -- the rule is listed with that row and that place
 abbrev pub HasWritten : List Written → ℕ → ℕ → Rule → Type 0
@@ -24,7 +25,8 @@ HasWritten ws row place r = Any (λ w. (w.row ≡ row) × (w.place ≡ place) ×
 
 -- exactly the rules of these rows, each with its row and its place there
 abbrev pub AreWritten : List (List Rule) → List Written → Type 0
-AreWritten rows ws = (row place : ℕ) (r : Rule) → HasWritten ws row place r ↔ IsRuleAt rows row place r
+AreWritten rows ws = (row place : ℕ) (r : Rule) → HasWritten ws row place r
+    ↔ IsRuleAt rows row place r
 
 -- the rules themselves
 abbrev pub bare_rules : List Written → List Rule

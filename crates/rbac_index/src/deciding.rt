@@ -1,11 +1,13 @@
 //! The first grant that allows a request.
 
-ghost use Rattle.std.specs.Prelude.{◌≡◌, ◌<◌, ◌≤◌, ◌+◌, length, slice_get, Some, MatchOption, IfSome};
+ghost use Rattle.std.specs.Prelude.{◌≡◌, ◌<◌, ◌≤◌, ◌+◌, length, slice_get, Some, MatchOption};
+ghost use Rattle.std.specs.Prelude.{IfSome};
 ghost use Rattle.rbac_terms.specs.Granting.{Names};
 ghost use Rattle.rbac_terms.specs.declared.granting.Subject.{Subject};
 ghost use Rattle.rbac_model.specs.Lists.{IsFirstAt};
 ghost use Rattle.rbac_model.specs.Policies.{Allows, BindingNames, IsFirst, IsPolicy};
-ghost use Rattle.rbac_index.specs.Deciding.{IsWhyShown, NoneAmong, IsFirstAmong, IsFirstAllowing, NoneAllowing};
+ghost use Rattle.rbac_index.specs.Deciding.{IsWhyShown, NoneAmong, IsFirstAmong, IsFirstAllowing};
+ghost use Rattle.rbac_index.specs.Deciding.{NoneAllowing};
 
 use crate::live_bindings::{cluster_wide, live_role_bindings};
 use rbac_model::{Policy, SourceRole};
@@ -28,7 +30,8 @@ pub struct Why<'p> {
 // The place of the first subject that names the principal.
 fn naming_place(binding: &Binding, principal: &Principal) -> Option<usize>
     ensures { MatchOption result (¬ BindingNames binding.now principal.now)
-        (λ at. (s : Subject) × IsFirstAt (λ s. Names s binding.now.namespace principal.now) binding.now.subjects at s) }
+        (λ at. (s : Subject)
+        × IsFirstAt (λ s. Names s binding.now.namespace principal.now) binding.now.subjects at s) }
 {
     for (place, subject) in binding.subjects.as_slice().iter().enumerate() {
         if names(subject, binding.namespace.as_ref(), principal) {
@@ -130,7 +133,9 @@ pub fn why_allowed<'p>(
     ensures why { MatchOption result
         (¬ Allows policy.now.held principal.now namespace.now verb.now target.now)
         (IsWhyShown policy.now principal.now namespace.now verb.now target.now) }
-    ensures first { IfSome result (λ why. IsFirst policy.now.held principal.now namespace.now verb.now target.now why.binding.now) }
+    ensures first { IfSome result
+        (λ why. IsFirst policy.now.held principal.now namespace.now verb.now target.now
+        why.binding.now) }
 {
     let bindings = policy.bindings();
     let by_cluster = first_among(policy, 0, cluster_wide(bindings), principal, verb, target);

@@ -114,7 +114,10 @@ impl<'p> Holders<'p> {
         namespace: &Word,
         target: &Target,
     ) -> Result<(), AllocError>
-        ensures { (held : Held) (verb : Text) → slice_get held.bindings place ≡ Some binding.now → BringsRuleAt held verb target.now place → AreSeen held namespace.now verb target.now place 0 self.old → OnOk result (AreSeen held namespace.now verb target.now (place + 1) 0 self.new) }
+        ensures { (held : Held) (verb : Text) → slice_get held.bindings place ≡ Some binding.now
+            → BringsRuleAt held verb target.now place
+            → AreSeen held namespace.now verb target.now place 0 self.old
+            → OnOk result (AreSeen held namespace.now verb target.now (place + 1) 0 self.new) }
     {
         if is_live(binding, namespace, target) {
             self.see_subjects(alloc, binding, place)?;
@@ -129,7 +132,11 @@ impl<'p> Holders<'p> {
         binding: &'p Binding,
         binding_place: usize,
     ) -> Result<(), AllocError>
-        ensures { (held : Held) (namespace verb : Text) (t : What) → slice_get held.bindings binding_place ≡ Some binding.now → BringsAt held namespace verb t binding_place → AreSeen held namespace verb t binding_place 0 self.old → OnOk result (AreSeen held namespace verb t (binding_place + 1) 0 self.new) }
+        ensures { (held : Held) (namespace verb : Text) (t : What)
+            → slice_get held.bindings binding_place ≡ Some binding.now
+            → BringsAt held namespace verb t binding_place
+            → AreSeen held namespace verb t binding_place 0 self.old
+            → OnOk result (AreSeen held namespace verb t (binding_place + 1) 0 self.new) }
     {
         for (subject_place, subject) in binding.subjects.as_slice().iter().enumerate() {
             if let Some(key) = subject_key(alloc, subject, binding.namespace.as_ref())? {

@@ -1,6 +1,7 @@
 //! The index of a policy.
 
-ghost use Rattle.std.specs.Prelude.{◌≡◌, ◌<◌, ◌≤◌, ◌↔◌, ℕ, length, IsTrue, slice_get, Some, All, Any, Contains, IfOk, IfSome, MatchOption};
+ghost use Rattle.std.specs.Prelude.{◌≡◌, ◌<◌, ◌≤◌, ◌↔◌, ℕ, length, IsTrue, slice_get, Some, All};
+ghost use Rattle.std.specs.Prelude.{Any, Contains, IfOk, IfSome, MatchOption};
 ghost use Rattle.std.specs.List.Sorted.{IsStrictlyIncreasing};
 ghost use Rattle.rbac_model.specs.Sources.{grant_of};
 ghost use Rattle.rbac_model.specs.Policies.{Allows, IsFirst, IsOfBinding};
@@ -49,7 +50,8 @@ impl<'p> Model for Index<'p> {
 
     ghost view = { λ i. i.policy.now };
 
-    ghost invariant = { λ i. IsIndexOf i.policy.now i.rules.items i.listing i.runs.items × AreKeyed i.policy.now i.named.items };
+    ghost invariant = { λ i. IsIndexOf i.policy.now i.rules.items i.listing i.runs.items
+        × AreKeyed i.policy.now i.named.items };
 }
 
 impl<'p> Index<'p> {
@@ -136,7 +138,9 @@ impl<'p> Index<'p> {
         ensures why { MatchOption result
             (¬ Allows self.now.held principal.now namespace.now verb.now target.now)
             (IsWhyShown self.now principal.now namespace.now verb.now target.now) }
-        ensures first { IfSome result (λ why. IsFirst self.now.held principal.now namespace.now verb.now target.now why.binding.now) }
+        ensures first { IfSome result
+            (λ why. IsFirst self.now.held principal.now namespace.now verb.now target.now
+            why.binding.now) }
     {
         let policy: &'p Policy = self.policy;
         why_allowed(policy, principal, namespace, verb, target)
@@ -186,7 +190,8 @@ impl<'p> Index<'p> {
         target: &Target,
     ) -> Result<Holders<'p>, IndexFault>
         ensures holders { IfOk result (AreHolders self.now.held namespace.now verb.now target.now) }
-        ensures law { IfOk result (AllowsByHolders self.now.held namespace.now verb.now target.now) }
+        ensures law { IfOk result
+            (AllowsByHolders self.now.held namespace.now verb.now target.now) }
     {
         let policy: &'p Policy = self.policy;
         let bindings: &'p [Binding] = policy.bindings();
@@ -217,7 +222,9 @@ fn allowed_by(
     requires rules { All (λ at. at < length rules.now) places.now }
     requires numbers { All (HaveNumbers runs.now) rules.now }
     ensures ascending { IfOk result (λ ns. IsStrictlyIncreasing ns) }
-    ensures exact { IfOk result (λ ns. (n : ℕ) → Contains ns n ↔ IsAllowedBy rules.now runs.now places.now verb.now target.now n) }
+    ensures exact { IfOk result
+        (λ ns. (n : ℕ) → Contains ns n
+        ↔ IsAllowedBy rules.now runs.now places.now verb.now target.now n) }
 {
     let lists = allowing(alloc, rules, runs, places, verb, target)?;
     Ok(merged(alloc, lists)?)
@@ -236,7 +243,9 @@ fn allowing<'a>(
     requires rules { All (λ at. at < length rules.now) places.now }
     requires numbers { All (HaveNumbers runs.now) rules.now }
     ensures ascending { IfOk result (λ v. All IsStrictlyIncreasing v.items) }
-    ensures exact { IfOk result (λ v. (n : ℕ) → Any (λ l. Contains l n) v.items ↔ IsAllowedBy rules.now runs.now places.now verb.now target.now n) }
+    ensures exact { IfOk result
+        (λ v. (n : ℕ) → Any (λ l. Contains l n) v.items
+        ↔ IsAllowedBy rules.now runs.now places.now verb.now target.now n) }
 {
     let mut lists = Vec::new(alloc);
     for at in places {

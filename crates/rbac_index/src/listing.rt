@@ -1,6 +1,7 @@
 //! Rules, listed under the words of their resources.
 
-ghost use Rattle.std.specs.Prelude.{◌≡◌, ◌≢◌, ◌++◌, ◌∷◌, [], ℕ, IfOk, OnOk, Contains, ◌↔◌, ◌⊎◌, MatchOption, codes, length};
+ghost use Rattle.std.specs.Prelude.{◌≡◌, ◌≢◌, ◌++◌, ◌∷◌, [], ℕ, IfOk, OnOk, Contains, ◌↔◌, ◌⊎◌};
+ghost use Rattle.std.specs.Prelude.{MatchOption, codes, length};
 ghost use Rattle.rbac_terms.specs.Text.{Text};
 ghost use Rattle.rbac_terms.specs.Matching.{ResourceWordMatches, FollowsFirstSlash};
 ghost use Rattle.rbac_index.specs.Written.{bare_rules};
@@ -153,7 +154,9 @@ pub(crate) fn matching(
     lists: &BTreeMap<Word, RuleNos>,
     text: &Word,
 ) -> Result<Vec<usize>, AllocError>
-    ensures { IfOk result (λ v. (n : ℕ) → Contains v.items n ↔ ((w : Text) × ResourceWordMatches w text.now × Contains (listed lists.now w) n)) }
+    ensures { IfOk result
+        (λ v. (n : ℕ) → Contains v.items n
+        ↔ ((w : Text) × ResourceWordMatches w text.now × Contains (listed lists.now w) n)) }
 {
     let star = Word::from_slice(alloc, b"*".as_slice())?;
     let every = under(lists, &star);
@@ -171,7 +174,9 @@ fn united(
     second: &[usize],
     third: &[usize],
 ) -> Result<Vec<usize>, AllocError>
-    ensures { IfOk result (λ v. (n : ℕ) → Contains v.items n ↔ (Contains first.now n ⊎ (Contains second.now n ⊎ Contains third.now n))) }
+    ensures { IfOk result
+        (λ v. (n : ℕ) → Contains v.items n
+        ↔ (Contains first.now n ⊎ (Contains second.now n ⊎ Contains third.now n))) }
 {
     let mut numbers = Vec::from_slice(alloc, first)?;
     numbers.extend_from_slice(second)?;

@@ -15,7 +15,8 @@ use std::cmp::Ordering;
 pub(crate) fn cluster_wide(bindings: &[Binding]) -> usize
     requires { IsAscendingBy binding_name bindings.now }
     ensures within { result ≤ length bindings.now }
-    ensures first { (at : ℕ) (b : Binding) → slice_get bindings.now at ≡ Some b → (at < result) ↔ (b.namespace ≡ None) }
+    ensures first { (at : ℕ) (b : Binding) → slice_get bindings.now at ≡ Some b
+        → (at < result) ↔ (b.namespace ≡ None) }
 {
     bindings.partition_point(|binding| binding.namespace.is_none())
 }
@@ -24,7 +25,8 @@ pub(crate) fn cluster_wide(bindings: &[Binding]) -> usize
 fn of_namespace(bindings: &[Binding], namespace: &Word) -> (usize, usize)
     requires { IsAscendingBy binding_name bindings.now }
     ensures within { result.1 ≤ length bindings.now }
-    ensures between { (at : ℕ) (b : Binding) → slice_get bindings.now at ≡ Some b → ((result.0 ≤ at) × (at < result.1)) ↔ (b.namespace ≡ Some namespace.now) }
+    ensures between { (at : ℕ) (b : Binding) → slice_get bindings.now at ≡ Some b
+        → ((result.0 ≤ at) × (at < result.1)) ↔ (b.namespace ≡ Some namespace.now) }
 {
     (
         bindings.partition_point(|binding| cmp_namespace(binding, namespace).is_lt()),
@@ -52,7 +54,8 @@ pub(crate) fn live_role_bindings(
 ) -> (usize, usize)
     requires { IsAscendingBy binding_name bindings.now }
     ensures within { result.1 ≤ length bindings.now }
-    ensures between { (at : ℕ) (b : Binding) → slice_get bindings.now at ≡ Some b → ((result.0 ≤ at) × (at < result.1)) ↔ IsLiveRoleBinding b namespace.now target.now }
+    ensures between { (at : ℕ) (b : Binding) → slice_get bindings.now at ≡ Some b
+        → ((result.0 ≤ at) × (at < result.1)) ↔ IsLiveRoleBinding b namespace.now target.now }
 {
     if target.is_url() || namespace.is_empty() {
         return (0, 0);
@@ -87,7 +90,8 @@ impl Live {
 // Where bindings are live for some target in this namespace.
 pub(crate) fn live_for_some(bindings: &[Binding], namespace: &Word) -> Live
     requires { IsAscendingBy binding_name bindings.now }
-    ensures { (at : ℕ) (b : Binding) → slice_get bindings.now at ≡ Some b → IsLiveAt result at ↔ LiveForSome b.namespace namespace.now }
+    ensures { (at : ℕ) (b : Binding) → slice_get bindings.now at ≡ Some b
+        → IsLiveAt result at ↔ LiveForSome b.namespace namespace.now }
 {
     let cluster_wide = cluster_wide(bindings);
     let (from, to) = if namespace.is_empty() {

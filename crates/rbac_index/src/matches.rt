@@ -1,10 +1,12 @@
 //! The targets that a rule matches, verbs aside, stem by stem: a rule is asked about each stem, and
 //! not about each name.
 
-ghost use Rattle.std.specs.Prelude.{◌≡◌, ◌+◌, ◌<◌, ◌≤◌, ◌↔◌, ℕ, [], Contains, IfOk, IsTrue, OnOk, length, option_copied};
+ghost use Rattle.std.specs.Prelude.{◌≡◌, ◌+◌, ◌<◌, ◌≤◌, ◌↔◌, ℕ, [], Contains, IfOk, IsTrue, OnOk};
+ghost use Rattle.std.specs.Prelude.{length, option_copied};
 ghost use Rattle.rbac_model.specs.Lists.{IsAscendingBy};
 ghost use Rattle.rbac_terms.specs.Text.{Text};
-ghost use Rattle.rbac_index.specs.Matched.{what_texts, AreStems, IsBetween, IsStem, IsWhole, StemOk};
+ghost use Rattle.rbac_index.specs.Matched.{what_texts, AreStems, IsBetween, IsStem, IsWhole};
+ghost use Rattle.rbac_index.specs.Matched.{StemOk};
 ghost use Rattle.rbac_index.specs.Reaches.{IsReach, IsReachBelow, MatchesAt};
 ghost use Rattle.rbac_model.specs.Universes.{most_targets};
 

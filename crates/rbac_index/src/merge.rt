@@ -55,7 +55,8 @@ fn merged_all(alloc: Global, lists: Vec<Numbers<'_>>) -> Result<Vec<u32>, AllocE
 pub(crate) fn merged(alloc: Global, lists: Vec<Numbers<'_>>) -> Result<GrantNos, AllocError>
     requires { All IsStrictlyIncreasing lists.items }
     ensures ascending { IfOk result (λ ns. IsStrictlyIncreasing ns) }
-    ensures exact { IfOk result (λ ns. (n : ℕ) → Contains ns n ↔ Any (λ l. Contains l n) lists.entry.items) }
+    ensures exact { IfOk result
+        (λ ns. (n : ℕ) → Contains ns n ↔ Any (λ l. Contains l n) lists.entry.items) }
 {
     let numbers = merged_all(alloc, lists)?;
     Ok(GrantNos::from_sorted(numbers))

@@ -1,6 +1,7 @@
 //! The rules that are written in roles, each at one place.
 
-ghost use Rattle.std.specs.Prelude.{◌≡◌, ◌<◌, ◌^◌, ℕ, ◌++◌, ◌⊎◌, ◌↔◌, IfOk, OnOk, map, slice_get, Some};
+ghost use Rattle.std.specs.Prelude.{◌≡◌, ◌<◌, ◌^◌, ℕ, ◌++◌, ◌⊎◌, ◌↔◌, IfOk, OnOk, map, slice_get};
+ghost use Rattle.std.specs.Prelude.{Some};
 ghost use Rattle.rbac_terms.specs.declared.matching.Rule.{Rule as RuleView};
 ghost use Rattle.rbac_index.specs.Written.{written_rules, AreWritten, HasWritten, row_of};
 
@@ -22,7 +23,9 @@ pub(crate) fn rows_of<'p>(alloc: Global, objects: &'p Objects) -> Result<Vec<&'p
 
 // Adds the rules of each cluster role.
 fn push_cluster_roles<'p>(objects: &'p Objects, rows: &mut Vec<&'p Rules>) -> Result<(), AllocError>
-    ensures { OnOk result (map (λ r. r.now) rows.new.items ≡ map (λ r. r.now) rows.old.items ++ map (λ r. r.rules) objects.now.cluster_roles) }
+    ensures { OnOk result
+        (map (λ r. r.now) rows.new.items
+        ≡ map (λ r. r.now) rows.old.items ++ map (λ r. r.rules) objects.now.cluster_roles) }
 {
     for role in objects.cluster_roles() {
         rows.push(&role.rules)?;
@@ -69,7 +72,9 @@ fn push_row<'p>(
     of_row: &'p Rules,
     rules: &mut Vec<Written<'p>>,
 ) -> Result<(), AllocError>
-    ensures { OnOk result ((at k : ℕ) (r : RuleView) → HasWritten rules.new.items at k r ↔ (HasWritten rules.old.items at k r ⊎ ((at ≡ row) × (slice_get of_row.now k ≡ Some r)))) }
+    ensures { OnOk result
+        ((at k : ℕ) (r : RuleView) → HasWritten rules.new.items at k r
+        ↔ (HasWritten rules.old.items at k r ⊎ ((at ≡ row) × (slice_get of_row.now k ≡ Some r)))) }
 {
     for (place, rule) in of_row.as_slice().iter().enumerate() {
         rules.push(Written { rule, row, place })?;

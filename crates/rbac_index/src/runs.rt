@@ -19,7 +19,9 @@ pub(crate) fn runs_by_row(
     rows: &[&Rules],
 ) -> Result<Vec<GrantNos>, AllocError>
     requires { map (λ r. r.now) rows.now ≡ written_rules policy.now.held }
-    ensures runs { IfOk result (λ v. AreRuns policy.now (written_rules policy.now.held) (length policy.now.grants) v.items) }
+    ensures runs { IfOk result
+        (λ v. AreRuns policy.now (written_rules policy.now.held)
+        (length policy.now.grants) v.items) }
     ensures few { IfOk result (λ _. length policy.now.grants < 2 ^ 32) }
 {
     let roles = policy.objects().roles().len();

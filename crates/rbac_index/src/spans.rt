@@ -1,6 +1,7 @@
 //! Ascending places, kept as runs of neighbours: a run costs as much as a single place.
 
-ghost use Rattle.std.specs.Prelude.{◌≡◌, ◌+◌, ◌-◌, ◌<◌, ◌≤◌, ◌++◌, [], OnErr, OnOk, length, slice_index};
+ghost use Rattle.std.specs.Prelude.{◌≡◌, ◌+◌, ◌-◌, ◌<◌, ◌≤◌, ◌++◌, [], OnErr, OnOk, length};
+ghost use Rattle.std.specs.Prelude.{slice_index};
 ghost use Rattle.std.specs.List.Sorted.{IsStrictlyIncreasing};
 ghost use Rattle.rbac_index.specs.Spans.{places_from, places_of, IsCounted, IsPut};
 ghost use Rattle.rbac_model.specs.Universes.{most_targets};

@@ -3,7 +3,8 @@
 
 ghost use Rattle.std.specs.Prelude.{◌≡◌, ◌+◌, ◌<◌, ◌≤◌, ◌↔◌, IfOk, IsTrue, length, option_copied};
 ghost use Rattle.rbac_model.specs.Lists.{IsAscendingBy};
-ghost use Rattle.rbac_index.specs.Matched.{what_texts, AreOfStem, AreStems, IsBetween, IsLaterOfStem, IsStem};
+ghost use Rattle.rbac_index.specs.Matched.{what_texts, AreOfStem, AreStems, IsBetween};
+ghost use Rattle.rbac_index.specs.Matched.{IsLaterOfStem, IsStem};
 ghost use Rattle.rbac_model.specs.Universes.{most_targets};
 
 use rbac_terms::{Target, Word};
@@ -96,7 +97,8 @@ fn run_end_within(
 fn is_run(targets: &[Target], at: usize, end: usize, before: Option<&Word>) -> bool
     requires past { at + 1 < end }
     requires ordered { IsAscendingBy what_texts targets.now }
-    ensures { IsTrue result → (end ≤ length targets.now) × AreOfStem (option_copied before.entry) targets.now at end }
+    ensures { IsTrue result
+        → (end ≤ length targets.now) × AreOfStem (option_copied before.entry) targets.now at end }
 {
     end <= targets.len() && is_later_of_stem(&targets[at], &targets[end - 1], before)
 }

@@ -7,7 +7,9 @@ ghost use Rattle.std.specs.List.Sorted.{IsSorted};
 ghost use Rattle.rbac_terms.specs.Text.{text_cmp};
 ghost use Rattle.rbac_terms.specs.Principals.{given_of};
 ghost use Rattle.rbac_index.specs.Holding.{IsKeyFor};
-ghost use Rattle.rbac_index.specs.Keyed.{keyed, keyed_cmp, AreKeyed, HasKeysOf, AnswersNext, IsLiveUnder, IsLiveUnderAny, IsGivenKey, IsAccountKey, IsSignInKey, sooner as sooner_of};
+ghost use Rattle.rbac_index.specs.Keyed.{keyed, keyed_cmp, AreKeyed, HasKeysOf, AnswersNext};
+ghost use Rattle.rbac_index.specs.Keyed.{IsLiveUnder, IsLiveUnderAny, IsGivenKey, IsAccountKey};
+ghost use Rattle.rbac_index.specs.Keyed.{IsSignInKey, sooner as sooner_of};
 
 use crate::live_bindings::Live;
 use rbac_model::Policy;
@@ -88,7 +90,8 @@ fn is_before(entry: &Keyed, prefix: &[u8], rest: &[u8], place: usize) -> bool
 // The first place from `from` on that is listed under the key made of these two parts.
 fn next_under(entries: &[Keyed], prefix: &[u8], rest: &[u8], from: usize) -> Option<usize>
     requires { IsSorted keyed_cmp entries.now }
-    ensures { AnswersNext (λ place. Contains entries.now (keyed (prefix.now ++ rest.now) place)) from result }
+    ensures { AnswersNext
+        (λ place. Contains entries.now (keyed (prefix.now ++ rest.now) place)) from result }
 {
     let at = entries.partition_point(|entry| is_before(entry, prefix, rest, from));
     if at == entries.len() {
@@ -140,7 +143,8 @@ fn sooner(a: Option<usize>, b: Option<usize>) -> Option<usize>
 // The next place from `from` on under the key of a group that the principal was given.
 fn next_given(entries: &[Keyed], principal: &Principal, live: Live, from: usize) -> Option<usize>
     requires { IsSorted keyed_cmp entries.now }
-    ensures { AnswersNext (IsLiveUnderAny entries.now live (IsGivenKey (given_of principal.now))) from result }
+    ensures { AnswersNext
+        (IsLiveUnderAny entries.now live (IsGivenKey (given_of principal.now))) from result }
 {
     let mut next = None;
     for group in principal.given() {
@@ -160,7 +164,8 @@ fn next_of_account(
     from: usize,
 ) -> Option<usize>
     requires { IsSorted keyed_cmp entries.now }
-    ensures { AnswersNext (IsLiveUnderAny entries.now live (IsAccountKey principal.now)) from result }
+    ensures { AnswersNext
+        (IsLiveUnderAny entries.now live (IsAccountKey principal.now)) from result }
 {
     let Some(namespace) = principal.account_namespace() else {
         return None;
@@ -178,7 +183,8 @@ fn next_signed_in(
     from: usize,
 ) -> Option<usize>
     requires { IsSorted keyed_cmp entries.now }
-    ensures { AnswersNext (IsLiveUnderAny entries.now live (IsSignInKey principal.now)) from result }
+    ensures { AnswersNext
+        (IsLiveUnderAny entries.now live (IsSignInKey principal.now)) from result }
 {
     let Some(group) = principal.sign_in_group() else {
         return None;

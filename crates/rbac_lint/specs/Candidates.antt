@@ -1,5 +1,7 @@
--- Where to look for the rules that cover a rule: in the lists of the words that match one of its own.
-use Rattle.std.specs.Prelude.{◌≡◌, ℕ, ◌≤◌, ◌⊎◌, ◌++◌, List, Option, Some, MatchOption, All, Any, Contains, codes, slice_get}
+-- Where to look for the rules that cover a rule: in the lists of the words that match one of its
+-- own.
+use Rattle.std.specs.Prelude.{◌≡◌, ℕ, ◌≤◌, ◌⊎◌, ◌++◌, List, Option, Some, MatchOption, All, Any}
+use Rattle.std.specs.Prelude.{Contains, codes, slice_get}
 use Rattle.std.proofs.Common.{Bor}
 use Rattle.rbac_terms.specs.Text.{Text, BeginsWith}
 use Rattle.rbac_terms.specs.Matching.{ResourceWordMatches, FollowsFirstSlash, EndsInStar}
@@ -10,7 +12,8 @@ use Rattle.rbac_lint.specs.Findings.{MakesRedundant}
 use Rattle.rbac_lint.specs.Listing.{Lists, listed, lists_in, IsAscending, AreAscending}
 use Rattle.rbac_lint.specs.declared.prefixes.Prefix.{Prefix}
 use Rattle.rbac_lint.specs.declared.listing.Field.{Field}
-use Rattle.rbac_lint.specs.declared.listing.Field.TheVariants.{Verbs, Groups, Resources, Names, Urls, Prefixes}
+use Rattle.rbac_lint.specs.declared.listing.Field.TheVariants.{Verbs, Groups, Resources, Names}
+use Rattle.rbac_lint.specs.declared.listing.Field.TheVariants.{Urls, Prefixes}
 use Rattle.rbac_lint.specs.declared.listing.Listing.{Listing}
 use Rattle.rbac_lint.specs.declared.candidates.Candidates.{Candidates}
 
@@ -29,11 +32,14 @@ IsAsked Resources w = IsResourceText w
 IsAsked Urls w = IsPath w
 IsAsked field w = Unit {0}
 
--- a place is listed under a word that matches this one: `*`, the word itself, or `*/` and what follows the word's first slash; for a URL, the word or a prefix of it
+-- a place is listed under a word that matches this one: `*`, the word itself, or `*/` and what
+-- follows the word's first slash; for a URL, the word or a prefix of it
 abbrev pub IsFound : Field → Listing → Text → ℕ → Type 0
 IsFound Urls l w n = Contains (listed l.urls w) n
-    ⊎ ((j : ℕ) × (f : Prefix) × (slice_get l.prefixes.items j ≡ Some f) × BeginsWith w f.text × (¬ EndsInStar f.text) × Contains f.places n)
-IsFound field l w n = (u : Text) × ResourceWordMatches u w × Contains (listed (lists_in field l) u) n
+    ⊎ ((j : ℕ) × (f : Prefix) × (slice_get l.prefixes.items j ≡ Some f) × BeginsWith w f.text
+    × (¬ EndsInStar f.text) × Contains f.places n)
+IsFound field l w n = (u : Text) × ResourceWordMatches u w
+    × Contains (listed (lists_in field l) u) n
 
 -- the place is in one of these lists
 abbrev pub StandsIn : List (Bor (List ℕ)) → ℕ → Type 0
@@ -58,7 +64,8 @@ pub record AddsUnder (m : Lists) (P : Text → Type 0) (old new : Candidates) : 
 -- new has old's places, and those of the prefixes that the text begins with
 pub record AddsPrefixes (prefixes : List Prefix) (text : Text) (old new : Candidates) : Type 0 where
   pub kept : (n : ℕ) → IsAmong old n → IsAmong new n
-  pub has : (j : ℕ) (f : Prefix) (n : ℕ) → slice_get prefixes j ≡ Some f → BeginsWith text f.text → Contains f.places n → IsAmong new n
+  pub has : (j : ℕ) (f : Prefix) (n : ℕ) → slice_get prefixes j ≡ Some f → BeginsWith text f.text
+      → Contains f.places n → IsAmong new n
   pub ascending : All (λ f. IsAscending f.places) prefixes → Ascend old → Ascend new
 
 -- u is the word for every resource that has w's subresource
@@ -67,7 +74,8 @@ IsOfEach w u = (s : Text) × (u ≡ codes "*/" ++ s) × FollowsFirstSlash w s
 
 -- the places under the words that match a resource text, in ascending lists
 abbrev pub AreMatching : Lists → Text → Candidates → Type 0
-AreMatching m w c = (AreAscending m → Ascend c) × ((u : Text) (n : ℕ) → ResourceWordMatches u w → Contains (listed m u) n → IsAmong c n)
+AreMatching m w c = (AreAscending m → Ascend c)
+    × ((u : Text) (n : ℕ) → ResourceWordMatches u w → Contains (listed m u) n → IsAmong c n)
 
 -- the rule at the place covers this one
 abbrev pub CoversAt : List Rule → Rule → ℕ → Type 0
@@ -89,7 +97,8 @@ IsLeastCoverIfAny rules i o = AnswersLeast (MakesRedundant rules i) o
 abbrev pub IsRedundantBy : List Rule → ℕ → List ℕ → ℕ → Type 0
 IsRedundantBy rules place places n = MakesRedundant rules place n × Contains places n
 
--- the least place of the list whose rule makes the one at a place redundant, if it is below the limit, and otherwise the limit
+-- the least place of the list whose rule makes the one at a place redundant, if it is below the
+-- limit, and otherwise the limit
 pub record IsSoonest (rules : List Rule) (place : ℕ) (places : List ℕ) (limit n : ℕ) : Type 0 where
   pub below : n ≤ limit
   pub holds : (n ≡ limit) ⊎ MakesRedundant rules place n

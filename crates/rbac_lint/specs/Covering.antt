@@ -1,11 +1,15 @@
--- When a rule covers another: it allows everything that the other one does. What has to be asked to decide that is finite: the other's samples.
-use Rattle.std.specs.Prelude.{◌≡◌, ◌≢◌, ℕ, ◌+◌, ◌<◌, ◌⊎◌, List, [], ◌∷◌, ◌++◌, All, Any, Contains, length, replicate, codes}
+-- When a rule covers another: it allows everything that the other one does. What has to be asked to
+-- decide that is finite: the other's samples.
+use Rattle.std.specs.Prelude.{◌≡◌, ◌≢◌, ℕ, ◌+◌, ◌<◌, ◌⊎◌, List, [], ◌∷◌, ◌++◌, All, Any, Contains}
+use Rattle.std.specs.Prelude.{length, replicate, codes}
 use Rattle.rbac_terms.specs.declared.matching.Rule.{Rule}
 use Rattle.rbac_terms.specs.Text.{Text, star, BeginsWith}
 use Rattle.rbac_terms.specs.Targets.{What, Resource, Url}
-use Rattle.rbac_terms.specs.Matching.{WordMatches, ResourceWordMatches, UrlWordMatches, NameMatches, EndsInStar, VerbOk, RuleAllows}
+use Rattle.rbac_terms.specs.Matching.{WordMatches, ResourceWordMatches, UrlWordMatches, NameMatches}
+use Rattle.rbac_terms.specs.Matching.{EndsInStar, VerbOk, RuleAllows}
 
--- a resource text isn't empty and doesn't begin with a slash; a path does (own, after the paths of API requests)
+-- a resource text isn't empty and doesn't begin with a slash; a path does (own, after the paths of
+-- API requests)
 abbrev pub IsResourceText : Text → Type 0
 IsResourceText text = (text ≢ []) × (¬ BeginsWith text (codes "/"))
 
@@ -17,10 +21,12 @@ abbrev pub sample_prefix : Text → Text
 sample_prefix [] = codes "/"
 sample_prefix (c ∷ q) = c ∷ q
 
--- a URL word taken as a text: itself, or with only one star if it ends in stars; `/*` if it is nothing but stars (own)
+-- a URL word taken as a text: itself, or with only one star if it ends in stars; `/*` if it is
+-- nothing but stars (own)
 abbrev pub IsUrlSample : Text → Text → Type 0
 IsUrlSample w x = ((¬ EndsInStar w) × (x ≡ w))
-    ⊎ ((q : Text) × (k : ℕ) × (w ≡ q ++ replicate (k + 1) star) × (¬ EndsInStar q) × (x ≡ sample_prefix q ++ star ∷ []))
+    ⊎ ((q : Text) × (k : ℕ) × (w ≡ q ++ replicate (k + 1) star) × (¬ EndsInStar q)
+    × (x ≡ sample_prefix q ++ star ∷ []))
 
 -- longer than each of the names
 abbrev pub IsLongerThanAll : Text → List Text → Type 0
@@ -30,10 +36,12 @@ IsLongerThanAll n names = All (λ m. length m < length n) names
 abbrev pub IsNameSample : List Text → List Text → Text → Type 0
 IsNameSample mine theirs n = Contains theirs n ⊎ ((theirs ≡ []) × IsLongerThanAll n mine)
 
--- a sample of two rules: a verb word of b, and a proper target made of b's own words taken as texts (own)
+-- a sample of two rules: a verb word of b, and a proper target made of b's own words taken as texts
+-- (own)
 abbrev pub IsSample : Rule → Rule → Text → What → Type 0
 IsSample a b v (Resource group text name) =
-    Contains b.verbs v × Contains b.groups group × Contains b.resources text × IsNameSample a.resource_names b.resource_names name × IsResourceText text
+    Contains b.verbs v × Contains b.groups group × Contains b.resources text
+    × IsNameSample a.resource_names b.resource_names name × IsResourceText text
 IsSample a b v (Url path) = Contains b.verbs v × Any (λ w. IsUrlSample w path) b.urls × IsPath path
 
 -- a allows each sample
@@ -42,7 +50,8 @@ AllowsSamples a b = (v : Text) (t : What) → IsSample a b v t → RuleAllows a 
 
 -- ---- covering, list by list
 
--- a allows this word of b, taken as a text; a resource word has to be allowed only if it is a resource text, a URL word only if its sample is a path
+-- a allows this word of b, taken as a text; a resource word has to be allowed only if it is a
+-- resource text, a URL word only if its sample is a path
 unfoldable pub AllowsVerb : Rule → Text → Type 0
 AllowsVerb a v = VerbOk a v
 
@@ -69,7 +78,8 @@ unfoldable pub AllowsResources : Rule → Rule → Type 0
 AllowsResources a b = All (AllowsResource a) b.resources
 
 unfoldable pub AllowsNames : Rule → Rule → Type 0
-AllowsNames a b = (b.resource_names ≡ [] → a.resource_names ≡ []) × All (AllowsName a) b.resource_names
+AllowsNames a b = (b.resource_names ≡ [] → a.resource_names ≡ [])
+    × All (AllowsName a) b.resource_names
 
 unfoldable pub AllowsUrls : Rule → Rule → Type 0
 AllowsUrls a b = All (AllowsUrl a) b.urls
@@ -95,7 +105,8 @@ HasUrl b = (b.verbs ≢ []) × Any GivesPath b.urls
 
 -- a allows these samples, list by list, if b has any
 abbrev pub CoversResources : Rule → Rule → Type 0
-CoversResources a b = HasResource b → AllowsResources a b × AllowsVerbs a b × AllowsGroups a b × AllowsNames a b
+CoversResources a b = HasResource b
+    → AllowsResources a b × AllowsVerbs a b × AllowsGroups a b × AllowsNames a b
 
 abbrev pub CoversUrls : Rule → Rule → Type 0
 CoversUrls a b = HasUrl b → AllowsVerbs a b × AllowsUrls a b

@@ -1,5 +1,6 @@
 -- What lint finds.
-use Rattle.std.specs.Prelude.{◌≡◌, ◌≢◌, ℕ, ◌+◌, ◌<◌, ◌≤◌, ◌⊎◌, ◌↔◌, List, [], Option, Some, None, Any, Contains, codes, decimal, slice_get}
+use Rattle.std.specs.Prelude.{◌≡◌, ◌≢◌, ℕ, ◌+◌, ◌<◌, ◌≤◌, ◌⊎◌, ◌↔◌, List, [], Option, Some, None}
+use Rattle.std.specs.Prelude.{Any, Contains, codes, decimal, slice_get}
 use Rattle.rbac_terms.specs.Text.{Text}
 use Rattle.rbac_terms.specs.Matching.{WordMatches, ResourceWordMatches, VerbOk}
 use Rattle.rbac_terms.specs.declared.matching.Rule.{Rule}
@@ -7,39 +8,55 @@ use Rattle.rbac_terms.specs.declared.granting.ClusterRole.{ClusterRole}
 use Rattle.rbac_terms.specs.declared.granting.Binding.{Binding}
 use Rattle.rbac_terms.specs.declared.granting.Subject.{Subject}
 use Rattle.rbac_terms.specs.declared.granting.Subject.TheVariants.{Account}
-use Rattle.rbac_model.specs.Policies.{Held, Source, InRole, InClusterRole, IsPlain, IsRefTo, Reaches}
+use Rattle.rbac_model.specs.Policies.{Held, Source, InRole, InClusterRole, IsPlain, IsRefTo}
+use Rattle.rbac_model.specs.Policies.{Reaches}
 use Rattle.rbac_model.specs.Universes.{Covers}
 use Rattle.rbac_lint.specs.declared.finding.Finding.{Finding}
 use Rattle.rbac_lint.specs.Lines.{Line, OfEach, object_text, AreShown}
 use Rattle.rbac_manifest.specs.declared.replacement.Replaced.{Replaced}
 use Rattle.rbac_lint.specs.Replaced.{IsReplaced}
 use Rattle.rbac_model.specs.Places.{rules_of}
-use Rattle.rbac_lint.specs.Roles.{roles_in, IsPlainRole, source_object, binding_object, named_object}
+use Rattle.rbac_lint.specs.Roles.{roles_in, IsPlainRole, source_object, binding_object}
+use Rattle.rbac_lint.specs.Roles.{named_object}
 
 -- a line about a role, and one about a binding
 abbrev pub role_line : ℕ → Source → Option ℕ → Text → Line
-role_line code s place other = record { code = code; object = source_object s; place = place; other = other }
+role_line code s place other = record {
+  code = code;
+  object = source_object s;
+  place = place;
+  other = other;
+}
 
 abbrev pub binding_line : ℕ → Binding → Option ℕ → Text → Line
-binding_line code b place other = record { code = code; object = binding_object b; place = place; other = other }
+binding_line code b place other = record {
+  code = code;
+  object = binding_object b;
+  place = place;
+  other = other;
+}
 
--- L1: the binding's role isn't among the objects (Using RBAC Authorization, RoleBinding and ClusterRoleBinding); the line gives the role that it names
+-- L1: the binding's role isn't among the objects (Using RBAC Authorization, RoleBinding and
+-- ClusterRoleBinding); the line gives the role that it names
 abbrev pub Dangles : Held → Binding → Type 0
 Dangles h b = (s : Source) → ¬ IsRefTo h b.namespace b.role s
 
 unfoldable pub IsDanglingOf : Held → Binding → Line → Type 0
-IsDanglingOf h b x = Dangles h b × (x ≡ binding_line 1 b None (object_text (named_object b.namespace b.role)))
+IsDanglingOf h b x = Dangles h b
+    × (x ≡ binding_line 1 b None (object_text (named_object b.namespace b.role)))
 
 abbrev pub IsDangling : Held → Line → Type 0
 IsDangling h = OfEach (λ k b. IsDanglingOf h b) h.bindings
 
--- L2: no binding names the role, and no cluster role that a binding names reaches it by aggregation (own)
+-- L2: no binding names the role, and no cluster role that a binding names reaches it by aggregation
+-- (own)
 abbrev pub IsNamed : Held → Source → Type 0
 IsNamed h s = Any (λ b. IsRefTo h b.namespace b.role s) h.bindings
 
 unfoldable pub IsUsed : Held → Source → Type 0
 IsUsed h (InRole r) = IsNamed h (InRole r)
-IsUsed h (InClusterRole r) = IsNamed h (InClusterRole r) ⊎ ((c : ClusterRole) × IsNamed h (InClusterRole c) × Reaches h c r)
+IsUsed h (InClusterRole r) = IsNamed h (InClusterRole r)
+    ⊎ ((c : ClusterRole) × IsNamed h (InClusterRole c) × Reaches h c r)
 
 unfoldable pub IsUnusedOf : Held → Source → Line → Type 0
 IsUnusedOf h s x = (¬ IsUsed h s) × (x ≡ role_line 2 s None [])
@@ -47,7 +64,8 @@ IsUnusedOf h s x = (¬ IsUsed h s) × (x ≡ role_line 2 s None [])
 abbrev pub IsUnused : Held → Line → Type 0
 IsUnused h = OfEach (λ k s. IsUnusedOf h s) (roles_in h)
 
--- L3: another rule of the role covers the rule, and comes before it or isn't covered by it; the line gives the first rule that does, counted from 1 (own)
+-- L3: another rule of the role covers the rule, and comes before it or isn't covered by it; the
+-- line gives the first rule that does, counted from 1 (own)
 unfoldable pub CoversAll : Rule → Rule → Type 0
 CoversAll a b = Covers a b
 
@@ -55,13 +73,15 @@ unfoldable pub MakesRedundantAt : ℕ → Rule → ℕ → Rule → Type 0
 MakesRedundantAt i b j a = (j ≢ i) × CoversAll a b × ((j < i) ⊎ (¬ CoversAll b a))
 
 abbrev pub MakesRedundant : List Rule → ℕ → ℕ → Type 0
-MakesRedundant rules i j = (b : Rule) × (a : Rule) × (slice_get rules i ≡ Some b) × (slice_get rules j ≡ Some a) × MakesRedundantAt i b j a
+MakesRedundant rules i j = (b : Rule) × (a : Rule) × (slice_get rules i ≡ Some b)
+    × (slice_get rules j ≡ Some a) × MakesRedundantAt i b j a
 
 abbrev pub IsLeastCover : List Rule → ℕ → ℕ → Type 0
 IsLeastCover rules i j = MakesRedundant rules i j × ((k : ℕ) → MakesRedundant rules i k → j ≤ k)
 
 unfoldable pub IsRedundantAt : Source → List Rule → ℕ → Line → Type 0
-IsRedundantAt s rules i x = (j : ℕ) × IsLeastCover rules i j × (x ≡ role_line 3 s (Some i) (decimal (j + 1)))
+IsRedundantAt s rules i x = (j : ℕ) × IsLeastCover rules i j
+    × (x ≡ role_line 3 s (Some i) (decimal (j + 1)))
 
 unfoldable pub IsRedundantOf : Source → Line → Type 0
 IsRedundantOf s x = IsPlainRole s × OfEach (λ i rule. IsRedundantAt s (rules_of s) i) (rules_of s) x
@@ -69,7 +89,8 @@ IsRedundantOf s x = IsPlainRole s × OfEach (λ i rule. IsRedundantAt s (rules_o
 abbrev pub IsRedundant : Held → Line → Type 0
 IsRedundant h = OfEach (λ k s. IsRedundantOf s) (roles_in h)
 
--- L4: the rule allows the verb on roles or cluster roles, whatever their names (Using RBAC Authorization, Privilege escalation prevention and bootstrapping)
+-- L4: the rule allows the verb on roles or cluster roles, whatever their names (Using RBAC
+-- Authorization, Privilege escalation prevention and bootstrapping)
 abbrev pub MatchesGroup : Rule → Text → Type 0
 MatchesGroup r group = Any (λ w. WordMatches w group) r.groups
 
@@ -84,7 +105,8 @@ unfoldable pub IsEscalationBy : Text → Source → ℕ → Rule → Line → Ty
 IsEscalationBy verb s i r x = Escalates r verb × (x ≡ role_line 4 s (Some i) verb)
 
 unfoldable pub IsEscalationAt : Source → ℕ → Rule → Line → Type 0
-IsEscalationAt s i r x = IsEscalationBy (codes "bind") s i r x ⊎ IsEscalationBy (codes "escalate") s i r x
+IsEscalationAt s i r x = IsEscalationBy (codes "bind") s i r x
+    ⊎ IsEscalationBy (codes "escalate") s i r x
 
 unfoldable pub IsEscalationOf : Source → Line → Type 0
 IsEscalationOf s x = IsPlainRole s × OfEach (IsEscalationAt s) (rules_of s) x
@@ -102,7 +124,8 @@ IsAccountOf b x = (b.namespace ≡ None) × OfEach (IsAccountAt b) b.subjects x
 abbrev pub IsAccountWithout : Held → Line → Type 0
 IsAccountWithout h = OfEach (λ k b. IsAccountOf b) h.bindings
 
--- L6: an aggregated role has written rules, which as a set aren't those that it gathers: the rules of the plain roles that it reaches (own)
+-- L6: an aggregated role has written rules, which as a set aren't those that it gathers: the rules
+-- of the plain roles that it reaches (own)
 unfoldable pub IsGathered : Held → ClusterRole → Rule → Type 0
 IsGathered h r rule = (s : ClusterRole) × IsPlain s × Reaches h r s × Contains s.rules rule
 
@@ -121,7 +144,10 @@ IsStale h = OfEach (λ k r. IsStaleOf h r) h.cluster_roles
 -- everything that lint finds, including L7: an object was given by several documents
 abbrev pub IsFinding : Held → List Replaced → Line → Type 0
 IsFinding h rs x =
-    IsDangling h x ⊎ (IsUnused h x ⊎ (IsRedundant h x ⊎ (IsEscalation h x ⊎ (IsAccountWithout h x ⊎ (IsStale h x ⊎ IsReplaced rs x)))))
+    IsDangling h x
+    ⊎ (IsUnused h x
+    ⊎ (IsRedundant h x
+    ⊎ (IsEscalation h x ⊎ (IsAccountWithout h x ⊎ (IsStale h x ⊎ IsReplaced rs x)))))
 
 -- these are the findings: exactly those lines, in order (own)
 abbrev pub AreFindings : Held → List Replaced → List Finding → Type 0

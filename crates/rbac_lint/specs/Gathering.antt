@@ -12,8 +12,10 @@ rules_at rules = map (λ x. x.now) rules
 
 -- r gathers the rule from one of the first n cluster roles: a plain one that it reaches
 abbrev pub IsGatheredBy : Held → ClusterRole → ℕ → Rule → Type 0
-IsGatheredBy h r n rule = (k : ℕ) × (s : ClusterRole) × (k < n) × (slice_get h.cluster_roles k ≡ Some s) × IsPlain s × IsReachedAt h r k × Contains s.rules rule
+IsGatheredBy h r n rule = (k : ℕ) × (s : ClusterRole) × (k < n)
+    × (slice_get h.cluster_roles k ≡ Some s) × IsPlain s × IsReachedAt h r k × Contains s.rules rule
 
 -- these are the rules that the cluster role at a place gathers from the first n
 abbrev pub AreGatheredBy : Held → ℕ → ℕ → List Rule → Type 0
-AreGatheredBy h place n rules = (r : ClusterRole) → slice_get h.cluster_roles place ≡ Some r → (rule : Rule) → Contains rules rule ↔ IsGatheredBy h r n rule
+AreGatheredBy h place n rules = (r : ClusterRole) → slice_get h.cluster_roles place ≡ Some r
+    → (rule : Rule) → Contains rules rule ↔ IsGatheredBy h r n rule

@@ -1,5 +1,6 @@
 -- What lint finds, as lines in order.
-use Rattle.std.specs.Prelude.{◌≡◌, ℕ, ◌+◌, ◌<◌, ◌⊎◌, ◌↔◌, List, [], ◌∷◌, ◌++◌, Option, Some, None, Contains, AllPairs, codes, map, slice_get, unwrap_or}
+use Rattle.std.specs.Prelude.{◌≡◌, ℕ, ◌+◌, ◌<◌, ◌⊎◌, ◌↔◌, List, [], ◌∷◌, ◌++◌, Option, Some, None}
+use Rattle.std.specs.Prelude.{Contains, AllPairs, codes, map, slice_get, unwrap_or}
 use Rattle.std.specs.declared.cmp.Ordering.TheVariants.{Less}
 use Rattle.std.specs.Cmp.Lexicographic.{slice_cmp}
 use Rattle.rbac_terms.specs.Text.{Text, text_cmp}
@@ -42,7 +43,8 @@ place_key (Some i) = i + 1
 -- the order of lines: by code, then by object, then by place, then by the last field (own)
 abbrev pub IsBefore : Line → Line → Type 0
 IsBefore a b = (a.code < b.code)
-    ⊎ ((a.code ≡ b.code) × ((slice_cmp text_cmp (object_texts a.object) (object_texts b.object) ≡ Less)
+    ⊎ ((a.code ≡ b.code)
+    × ((slice_cmp text_cmp (object_texts a.object) (object_texts b.object) ≡ Less)
     ⊎ ((object_texts a.object ≡ object_texts b.object) × ((place_key a.place < place_key b.place)
     ⊎ ((a.place ≡ b.place) × (text_cmp a.other b.other ≡ Less))))))
 

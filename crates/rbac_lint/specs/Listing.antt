@@ -1,5 +1,6 @@
 -- The places of a role's rules, listed under the words that they hold.
-use Rattle.std.specs.Prelude.{◌≡◌, ◌≢◌, ℕ, ◌+◌, ◌<◌, ◌≤◌, ◌⊎◌, List, [], ◌∷◌, ◌++◌, AllPairs, Contains, codes, length, replicate, unwrap_or, slice_get, Some}
+use Rattle.std.specs.Prelude.{◌≡◌, ◌≢◌, ℕ, ◌+◌, ◌<◌, ◌≤◌, ◌⊎◌, List, [], ◌∷◌, ◌++◌, AllPairs}
+use Rattle.std.specs.Prelude.{Contains, codes, length, replicate, unwrap_or, slice_get, Some}
 use Rattle.std.specs.BTreeMap.{BTreeMap, get}
 use Rattle.rbac_terms.specs.Text.{Text, star, text_cmp}
 use Rattle.rbac_terms.specs.Matching.{EndsInStar}
@@ -7,7 +8,8 @@ use Rattle.rbac_terms.specs.declared.matching.Rule.{Rule}
 use Rattle.rbac_lint.specs.declared.prefixes.Prefix.{Prefix}
 use Rattle.rbac_lint.specs.Prefixes.{AreEntriesOf, ArePrefixes}
 use Rattle.rbac_lint.specs.declared.listing.Field.{Field}
-use Rattle.rbac_lint.specs.declared.listing.Field.TheVariants.{Verbs, Groups, Resources, Names, Urls, Prefixes}
+use Rattle.rbac_lint.specs.declared.listing.Field.TheVariants.{Verbs, Groups, Resources, Names}
+use Rattle.rbac_lint.specs.declared.listing.Field.TheVariants.{Urls, Prefixes}
 use Rattle.rbac_lint.specs.declared.listing.Listing.{Listing}
 
 -- lists of places under words
@@ -62,7 +64,8 @@ pub record TakesIn (old new : List ℕ) (place : ℕ) : Type 0 where
 
 -- the list of that word takes in the place, and the other lists stay as they are
 abbrev pub ListsPlace : Lists → Lists → Text → ℕ → Type 0
-ListsPlace old new word place = TakesIn (listed old word) (listed new word) place × ((w : Text) → w ≢ word → listed new w ≡ listed old w)
+ListsPlace old new word place = TakesIn (listed old word) (listed new word) place
+    × ((w : Text) → w ≢ word → listed new w ≡ listed old w)
 
 -- new lists the same as old under each word
 abbrev pub IsListedAsBefore : Lists → Lists → Type 0
@@ -72,18 +75,22 @@ IsListedAsBefore old new = (w : Text) → listed new w ≡ listed old w
 pub record ListsAll (old new : Lists) (field : Field) (words : List Text) (place : ℕ) : Type 0 where
   pub kept : (w : Text) (n : ℕ) → Contains (listed old w) n → Contains (listed new w) n
   pub has : (w key : Text) → Contains words w → IsKey field w key → Contains (listed new key) place
-  pub only : (w : Text) (n : ℕ) → Contains (listed new w) n → Contains (listed old w) n ⊎ (n ≡ place)
-  pub ascending : AreAscending old → ((w : Text) (n : ℕ) → Contains (listed old w) n → n ≤ place) → AreAscending new
+  pub only : (w : Text) (n : ℕ) → Contains (listed new w) n
+      → Contains (listed old w) n ⊎ (n ≡ place)
+  pub ascending : AreAscending old → ((w : Text) (n : ℕ) → Contains (listed old w) n → n ≤ place)
+      → AreAscending new
 
 -- the first `count` rules are listed for each of their words in that list, ascending
 pub record AreListed (field : Field) (rules : List Rule) (count : ℕ) (m : Lists) : Type 0 where
-  pub complete : (n : ℕ) (r : Rule) (w key : Text) → n < count → slice_get rules n ≡ Some r → Contains (words_in field r) w → IsKey field w key → Contains (listed m key) n
+  pub complete : (n : ℕ) (r : Rule) (w key : Text) → n < count → slice_get rules n ≡ Some r
+      → Contains (words_in field r) w → IsKey field w key → Contains (listed m key) n
   pub below : (w : Text) (n : ℕ) → Contains (listed m w) n → n < count
   pub ascending : AreAscending m
 
 -- rules are listed under their prefixes, which are in order
 abbrev pub AreListedAsPrefixes : List Rule → List Prefix → Type 0
-AreListedAsPrefixes rules prefixes = (m : Lists) × AreListed Prefixes rules (length rules) m × AreEntriesOf m prefixes
+AreListedAsPrefixes rules prefixes = (m : Lists) × AreListed Prefixes rules (length rules) m
+    × AreEntriesOf m prefixes
 
 -- all rules are listed for all their words
 pub record IsListingOf (rules : List Rule) (l : Listing) : Type 0 where

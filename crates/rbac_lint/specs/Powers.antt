@@ -1,4 +1,5 @@
--- The verbs that let a subject grant more than it has, and what they are used on (Using RBAC Authorization, Privilege escalation prevention and bootstrapping).
+-- The verbs that let a subject grant more than it has, and what they are used on (Using RBAC
+-- Authorization, Privilege escalation prevention and bootstrapping).
 use Rattle.std.specs.Prelude.{codes}
 use Rattle.rbac_lint.specs.declared.escalation.Powers.{Powers}
 

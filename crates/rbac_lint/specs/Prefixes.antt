@@ -1,5 +1,6 @@
 -- The prefixes of a role's URLs, in order; each leads to those that it begins with.
-use Rattle.std.specs.Prelude.{◌≡◌, ℕ, ◌<◌, ◌≤◌, List, [], ◌∷◌, ◌++◌, Option, Some, None, IfSome, map, slice_get, true}
+use Rattle.std.specs.Prelude.{◌≡◌, ℕ, ◌<◌, ◌≤◌, List, [], ◌∷◌, ◌++◌, Option, Some, None, IfSome}
+use Rattle.std.specs.Prelude.{map, slice_get, true}
 use Rattle.std.specs.BTreeMap.{BTreeMap, IsOrdered}
 use Rattle.std.specs.Ordering.{is_le}
 use Rattle.rbac_terms.specs.Text.{Text, text_cmp, BeginsWith}
@@ -12,14 +13,17 @@ entry_of f = (f.text, f.places)
 abbrev pub prefix : Text → List ℕ → Option ℕ → Prefix
 prefix text places shorter = record { text = text; places = places; shorter = shorter }
 
--- the text at place j is on the way from that place: the prefix there begins with the text, and isn't before j
+-- the text at place j is on the way from that place: the prefix there begins with the text, and
+-- isn't before j
 abbrev pub IsOnWay : List Prefix → Option ℕ → ℕ → Text → Type 0
 IsOnWay prefixes None j text = ⊥
-IsOnWay prefixes (Some i) j text = (f : Prefix) × (slice_get prefixes i ≡ Some f) × (j ≤ i) × BeginsWith f.text text
+IsOnWay prefixes (Some i) j text = (f : Prefix) × (slice_get prefixes i ≡ Some f) × (j ≤ i)
+    × BeginsWith f.text text
 
 -- the way has each of the first `count` prefixes that the text begins with
 abbrev pub LeadsTo : List Prefix → ℕ → Text → Option ℕ → Type 0
-LeadsTo prefixes count text way = (j : ℕ) (g : Prefix) → j < count → slice_get prefixes j ≡ Some g → BeginsWith text g.text → IsOnWay prefixes way j g.text
+LeadsTo prefixes count text way = (j : ℕ) (g : Prefix) → j < count → slice_get prefixes j ≡ Some g
+    → BeginsWith text g.text → IsOnWay prefixes way j g.text
 
 -- each prefix leads to all before it that it begins with
 abbrev pub IsLinkedAt : List Prefix → ℕ → Prefix → Type 0
@@ -30,7 +34,8 @@ AreLinked prefixes = (i : ℕ) (f : Prefix) → slice_get prefixes i ≡ Some f 
 
 -- prefixes ascend, and are linked
 pub record ArePrefixes (prefixes : List Prefix) : Type 0 where
-  pub order : (i j : ℕ) (f g : Prefix) → i ≤ j → slice_get prefixes i ≡ Some f → slice_get prefixes j ≡ Some g → is_le (text_cmp f.text g.text) ≡ true
+  pub order : (i j : ℕ) (f g : Prefix) → i ≤ j → slice_get prefixes i ≡ Some f
+      → slice_get prefixes j ≡ Some g → is_le (text_cmp f.text g.text) ≡ true
   pub linked : AreLinked prefixes
 
 -- these are the entries of a map, whose words ascend
@@ -39,4 +44,5 @@ AreEntriesOf m prefixes = IsOrdered text_cmp m × (map entry_of prefixes ≡ m.e
 
 -- new is old with one more prefix at the end
 abbrev pub PutsPrefix : List Prefix → List Prefix → Text → List ℕ → Type 0
-PutsPrefix old new text places = (way : Option ℕ) × (new ≡ old ++ prefix text places way ∷ []) × ArePrefixes new
+PutsPrefix old new text places = (way : Option ℕ) × (new ≡ old ++ prefix text places way ∷ [])
+    × ArePrefixes new

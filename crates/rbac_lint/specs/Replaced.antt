@@ -12,9 +12,11 @@ scope_of (c ∷ namespace) = Some (c ∷ namespace)
 abbrev pub replaced_object : Replaced → ObjectName
 replaced_object r = record { kind = r.kind; namespace = scope_of r.namespace; name = r.name }
 
--- the object was given by several documents; the line says how many earlier ones the last replaced (own)
+-- the object was given by several documents; the line says how many earlier ones the last replaced
+-- (own)
 unfoldable pub IsReplacedOf : Replaced → Line → Type 0
-IsReplacedOf r x = x ≡ record { code = 7; object = replaced_object r; place = None; other = decimal r.earlier }
+IsReplacedOf r x =
+    x ≡ record { code = 7; object = replaced_object r; place = None; other = decimal r.earlier }
 
 abbrev pub IsReplaced : List Replaced → Line → Type 0
 IsReplaced rs = OfEach (λ k r. IsReplacedOf r) rs

@@ -3,7 +3,8 @@ use Rattle.std.specs.Prelude.{List, [], ◌++◌, Option, Some, None, codes, map
 use Rattle.rbac_terms.specs.Text.{Text}
 use Rattle.rbac_terms.specs.declared.granting.Binding.{Binding}
 use Rattle.rbac_terms.specs.declared.granting.RoleRef.{RoleRef}
-use Rattle.rbac_terms.specs.declared.granting.RoleRef.TheVariants.{Role as ToRole, ClusterRole as ToClusterRole}
+use Rattle.rbac_terms.specs.declared.granting.RoleRef.TheVariants.{Role as ToRole}
+use Rattle.rbac_terms.specs.declared.granting.RoleRef.TheVariants.{ClusterRole as ToClusterRole}
 use Rattle.rbac_model.specs.Policies.{Held, Source, InRole, InClusterRole, IsPlain}
 use Rattle.rbac_lint.specs.Lines.{ObjectName}
 
@@ -32,7 +33,11 @@ binding_kind None = codes "ClusterRoleBinding"
 binding_kind (Some namespace) = codes "RoleBinding"
 
 abbrev pub binding_object : Binding → ObjectName
-binding_object b = record { kind = binding_kind b.namespace; namespace = b.namespace; name = b.name }
+binding_object b = record {
+  kind = binding_kind b.namespace;
+  namespace = b.namespace;
+  name = b.name;
+}
 
 -- the role that a binding in that namespace names; a Role named with no namespace has the empty one
 abbrev pub named_object : Option Text → RoleRef → ObjectName

@@ -1,7 +1,8 @@
 -- Sets of rules, ordered by their words, for finding stale aggregates.
 use Rattle.std.specs.Prelude.{◌≡◌, ◌↔◌, true, List, [], ◌∷◌, Contains, refl}
 use Rattle.std.specs.BTreeSet.{BTreeSet, contains}
-use Rattle.std.specs.Cmp.{IsTotalOrder, IsEquivalence, IsPartialOrder, partial_order_from_agreeing_total}
+use Rattle.std.specs.Cmp.{IsTotalOrder, IsEquivalence, IsPartialOrder}
+use Rattle.std.specs.Cmp.{partial_order_from_agreeing_total}
 use Rattle.std.specs.Cmp.Lexicographic.{slice_cmp}
 use Rattle.std.specs.Ordering.{eq_by_cmp, as_partial_cmp}
 use Rattle.std.specs.declared.cmp.Ordering.{Ordering}
@@ -25,7 +26,8 @@ pub lists_cmp_equiv : IsEquivalence (eq_by_cmp lists_cmp)
 lists_cmp_equiv = eq_by_cmp_equiv lists_cmp_total
 
 pub lists_cmp_partial : IsPartialOrder (eq_by_cmp lists_cmp) (as_partial_cmp lists_cmp)
-lists_cmp_partial = partial_order_from_agreeing_total lists_cmp lists_cmp_total (λ _ _. refl) (λ _ _. refl)
+lists_cmp_partial =
+    partial_order_from_agreeing_total lists_cmp lists_cmp_total (λ _ _. refl) (λ _ _. refl)
 
 -- the rule is in the set
 unfoldable pub IsIn : BTreeSet (List (List Text)) → Rule → Type 0

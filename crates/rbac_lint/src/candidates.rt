@@ -2,12 +2,14 @@
 //! other's words, taken as a text, so it is listed under one of the few words that match that word.
 //! The word with the fewest places is used.
 
-ghost use Rattle.std.specs.Prelude.{◌≡◌, ◌++◌, ◌∷◌, [], ◌⊎◌, List, Some, IfOk, IfSome, OnOk, IsTrue};
+ghost use Rattle.std.specs.Prelude.{◌≡◌, ◌++◌, ◌∷◌, [], ◌⊎◌, List, Some, IfOk, IfSome, OnOk};
+ghost use Rattle.std.specs.Prelude.{IsTrue};
 ghost use Rattle.rbac_terms.specs.declared.matching.Rule.{Rule as RuleView};
 ghost use Rattle.rbac_lint.specs.declared.listing.Field.TheVariants.{Urls};
 ghost use Rattle.rbac_lint.specs.Listing.{IsListingOf};
 ghost use Rattle.rbac_lint.specs.Prefixes.{ArePrefixes};
-ghost use Rattle.rbac_lint.specs.Candidates.{IsAsked, Binds, Finds, AddsUnder, AddsPrefixes, IsOfEach, AreMatching, AreCandidates};
+ghost use Rattle.rbac_lint.specs.Candidates.{IsAsked, Binds, Finds, AddsUnder, AddsPrefixes};
+ghost use Rattle.rbac_lint.specs.Candidates.{IsOfEach, AreMatching, AreCandidates};
 
 use crate::coverage::{has_resource, has_url, is_path, is_resource_text};
 use crate::listing::{Field, Listing, Places, stem_of, under, words_in};
@@ -62,7 +64,9 @@ pub(crate) fn fewest_for<'a>(
     rule: &'a Rule,
 ) -> Result<Option<Candidates<'a>>, AllocError>
     requires { ArePrefixes listing.now.prefixes.items }
-    ensures { IfOk result (λ o. (rules : List RuleView) → IsListingOf rules listing.now → IfSome o (AreCandidates rules rule.now)) }
+    ensures { IfOk result
+        (λ o. (rules : List RuleView) → IsListingOf rules listing.now
+        → IfSome o (AreCandidates rules rule.now)) }
 {
     if has_resource(rule) {
         let best = fewest_in(alloc, listing, rule, Field::Verbs, None)?;
@@ -86,7 +90,10 @@ fn fewest_in<'a>(
     best: Option<Candidates<'a>>,
 ) -> Result<Option<Candidates<'a>>, AllocError>
     requires { ArePrefixes listing.now.prefixes.items }
-    ensures { IfOk result (λ o. (rules : List RuleView) → IsListingOf rules listing.now → Binds field rule.now → IfSome best.entry (AreCandidates rules rule.now) → IfSome o (AreCandidates rules rule.now)) }
+    ensures { IfOk result
+        (λ o. (rules : List RuleView) → IsListingOf rules listing.now → Binds field rule.now
+        → IfSome best.entry (AreCandidates rules rule.now)
+        → IfSome o (AreCandidates rules rule.now)) }
 {
     let mut fewest = best;
     for word in words_in(field, rule, &listing.star) {
@@ -126,7 +133,9 @@ fn candidates_for<'a>(
     word: &Word,
 ) -> Result<Candidates<'a>, AllocError>
     requires { ArePrefixes listing.now.prefixes.items }
-    ensures { IfOk result (λ c. (rules : List RuleView) → IsListingOf rules listing.now → Finds field listing.now word.now c) }
+    ensures { IfOk result
+        (λ c. (rules : List RuleView) → IsListingOf rules listing.now
+        → Finds field listing.now word.now c) }
 {
     match field {
         Field::Urls => starting(alloc, listing, word),
@@ -174,7 +183,9 @@ fn starting<'a>(
     word: &Word,
 ) -> Result<Candidates<'a>, AllocError>
     requires { ArePrefixes listing.now.prefixes.items }
-    ensures { IfOk result (λ c. (rules : List RuleView) → IsListingOf rules listing.now → Finds Urls listing.now word.now c) }
+    ensures { IfOk result
+        (λ c. (rules : List RuleView) → IsListingOf rules listing.now
+        → Finds Urls listing.now word.now c) }
 {
     let mut candidates = Candidates::new(alloc);
     candidates.add_under(listing.lists(Field::Urls), word)?;

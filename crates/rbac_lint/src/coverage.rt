@@ -2,8 +2,12 @@
 
 ghost use Rattle.std.specs.Prelude.{◌≡◌, IsTrue, ◌↔◌, ◌++◌, codes, Any, MatchOption};
 ghost use Rattle.rbac_model.specs.Universes.{Covers};
-ghost use Rattle.rbac_lint.specs.Covering.{AllowsSamples, IsResourceText, IsPath, IsStars, GivesPath, HasResource, HasUrl, CoversResources, CoversUrls, MatchesEachPath};
-ghost use Rattle.rbac_lint.specs.Covering.{AllowsVerb, AllowsGroup, AllowsResource, AllowsName, AllowsUrl, AllowsVerbs, AllowsGroups, AllowsResources, AllowsNames, AllowsUrls};
+ghost use Rattle.rbac_lint.specs.Covering.{AllowsSamples, IsResourceText, IsPath, IsStars};
+ghost use Rattle.rbac_lint.specs.Covering.{GivesPath, HasResource, HasUrl, CoversResources};
+ghost use Rattle.rbac_lint.specs.Covering.{CoversUrls, MatchesEachPath};
+ghost use Rattle.rbac_lint.specs.Covering.{AllowsVerb, AllowsGroup, AllowsResource, AllowsName};
+ghost use Rattle.rbac_lint.specs.Covering.{AllowsUrl, AllowsVerbs, AllowsGroups, AllowsResources};
+ghost use Rattle.rbac_lint.specs.Covering.{AllowsNames, AllowsUrls};
 
 use rbac_terms::{
     Rule, Word, group_matches, name_matches, resource_matches, url_matches, verb_matches,

@@ -3,7 +3,8 @@
 ghost use Rattle.std.specs.Prelude.{◌≡◌, OnOk, IfOk, IsTrue, ◌↔◌, ◌⊎◌, codes};
 ghost use Rattle.rbac_model.specs.Sources.{source_of};
 ghost use Rattle.rbac_lint.specs.Lines.{Adds, OfEach};
-ghost use Rattle.rbac_lint.specs.Findings.{Escalates, IsEscalationBy, IsEscalationAt, IsEscalationOf, IsEscalation, MatchesResource};
+ghost use Rattle.rbac_lint.specs.Findings.{Escalates, IsEscalationBy, IsEscalationAt};
+ghost use Rattle.rbac_lint.specs.Findings.{IsEscalationOf, IsEscalation, MatchesResource};
 ghost use Rattle.rbac_lint.specs.Powers.{the_powers};
 
 use crate::finding::{Finding, Findings, role_word};
@@ -83,7 +84,8 @@ fn find_in_rules(
     rules: &[Rule],
 ) -> Result<(), AllocError>
     requires { powers.now ≡ the_powers }
-    ensures { OnOk result (Adds (OfEach (IsEscalationAt (source_of role.entry)) rules.now) found.old found.new) }
+    ensures { OnOk result
+        (Adds (OfEach (IsEscalationAt (source_of role.entry)) rules.now) found.old found.new) }
 {
     for (place, rule) in rules.iter().enumerate() {
         find_in_rule(alloc, found, powers, role, place, rule)?;
@@ -100,7 +102,8 @@ fn find_in_rule(
     rule: &Rule,
 ) -> Result<(), AllocError>
     requires { powers.now ≡ the_powers }
-    ensures { OnOk result (Adds (IsEscalationAt (source_of role.entry) place rule.now) found.old found.new) }
+    ensures { OnOk result
+        (Adds (IsEscalationAt (source_of role.entry) place rule.now) found.old found.new) }
 {
     find_by_verb(alloc, found, powers, role, place, rule, &powers.bind)?;
     find_by_verb(alloc, found, powers, role, place, rule, &powers.escalate)
@@ -117,7 +120,8 @@ fn find_by_verb(
     verb: &Word,
 ) -> Result<(), AllocError>
     requires { powers.now ≡ the_powers }
-    ensures { OnOk result (Adds (IsEscalationBy verb.now (source_of role.entry) place rule.now) found.old found.new) }
+    ensures { OnOk result
+        (Adds (IsEscalationBy verb.now (source_of role.entry) place rule.now) found.old found.new) }
 {
     if !escalates(powers, rule, verb) {
         return Ok(());
@@ -143,7 +147,9 @@ fn escalates(powers: &Powers, rule: &Rule, verb: &Word) -> bool
 
 fn has_roles(powers: &Powers, rule: &Rule) -> bool
     requires { powers.now ≡ the_powers }
-    ensures { IsTrue result ↔ (MatchesResource rule.now (codes "roles") ⊎ MatchesResource rule.now (codes "clusterroles")) }
+    ensures { IsTrue result
+        ↔ (MatchesResource rule.now (codes "roles")
+        ⊎ MatchesResource rule.now (codes "clusterroles")) }
 {
     resource_matches(rule, &powers.roles) || resource_matches(rule, &powers.cluster_roles)
 }

@@ -4,7 +4,8 @@ ghost use Rattle.std.specs.Prelude.{◌≡◌, ◌++◌, ◌∷◌, [], decimal,
 ghost use Rattle.std.specs.Option.{option_copied};
 ghost use Rattle.rbac_model.specs.Sources.{source_of};
 ghost use Rattle.rbac_lint.specs.Lines.{object_text};
-ghost use Rattle.rbac_lint.specs.Roles.{source_object, binding_object, named_object, role_object, cluster_role_object};
+ghost use Rattle.rbac_lint.specs.Roles.{source_object, binding_object, named_object, role_object};
+ghost use Rattle.rbac_lint.specs.Roles.{cluster_role_object};
 
 use rbac_model::SourceRole;
 use rbac_terms::{Binding, RoleRef, Word};
@@ -135,7 +136,8 @@ pub(crate) fn binding_word(alloc: Global, binding: &Binding) -> Result<Word, All
 
 // The role that a binding names, as findings name it.
 pub(crate) fn named_word(alloc: Global, binding: &Binding) -> Result<Word, AllocError>
-    ensures { IfOk result (λ w. w ≡ object_text (named_object binding.now.namespace binding.now.role)) }
+    ensures { IfOk result
+        (λ w. w ≡ object_text (named_object binding.now.namespace binding.now.role)) }
 {
     match (&binding.namespace, &binding.role) {
         (Some(namespace), RoleRef::Role(name)) => role_name_word(alloc, namespace.as_bytes(), name),

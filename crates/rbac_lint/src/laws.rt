@@ -7,12 +7,14 @@ ghost use Rattle.rbac_lint.specs.Findings.{AreFindings};
 ghost use Rattle.rbac_manifest.specs.declared.replacement.Replaced.{Replaced};
 ghost use Rattle.rbac_lint.specs.Covering.{IsUrlSample};
 ghost use Rattle.rbac_model.specs.Policies.{Held};
-ghost use Rattle.rbac_terms.specs.Matching.{NameMatches, ResourceWordMatches, UrlWordMatches, WordMatches};
+ghost use Rattle.rbac_terms.specs.Matching.{NameMatches, ResourceWordMatches, UrlWordMatches};
+ghost use Rattle.rbac_terms.specs.Matching.{WordMatches};
 ghost use Rattle.rbac_terms.specs.Text.{Text};
 
 /// What lint finds in given objects is one list (own).
 pub fn findings_are_one_list()
-    ensures { (held : Held) (replaced : List Replaced) (found others : List FindingView) → AreFindings held replaced found → AreFindings held replaced others → found ≡ others }
+    ensures { (held : Held) (replaced : List Replaced) (found others : List FindingView)
+        → AreFindings held replaced found → AreFindings held replaced others → found ≡ others }
 {}
 
 /// A rule's word, taken as a text, is matched by that word: a verb or a group, a resource text, an

@@ -1,9 +1,12 @@
 //! The places of a role's rules, listed under the words that they hold.
 
-ghost use Rattle.std.specs.Prelude.{◌≡◌, ◌++◌, ◌∷◌, [], Contains, IfOk, OnOk, IsTrue, MatchOption, codes, length};
+ghost use Rattle.std.specs.Prelude.{◌≡◌, ◌++◌, ◌∷◌, [], Contains, IfOk, OnOk, IsTrue, MatchOption};
+ghost use Rattle.std.specs.Prelude.{codes, length};
 ghost use Rattle.rbac_terms.specs.Text.{Text, star};
 ghost use Rattle.rbac_terms.specs.Matching.{EndsInStar};
-ghost use Rattle.rbac_lint.specs.Listing.{listed, lists_in, words_in, IsPrefix, IsKey, IsStem, TakesIn, ListsPlace, ListsAll, IsListedAsBefore, AreListed, IsListingOf};
+ghost use Rattle.rbac_lint.specs.Listing.{listed, lists_in, words_in, IsPrefix, IsKey, IsStem};
+ghost use Rattle.rbac_lint.specs.Listing.{TakesIn, ListsPlace, ListsAll, IsListedAsBefore};
+ghost use Rattle.rbac_lint.specs.Listing.{AreListed, IsListingOf};
 
 use crate::prefixes::{Prefix, prefixes_of};
 use rbac_terms::{Rule, Word};
@@ -176,7 +179,8 @@ fn list_for(
 
 // What a word is listed under, if it is listed.
 fn key_of(field: Field, word: &[u8]) -> Option<&[u8]>
-    ensures { MatchOption result ((key : Text) → ¬ IsKey field word.now key) (λ key. IsKey field word.now key.now) }
+    ensures { MatchOption result ((key : Text) → ¬ IsKey field word.now key)
+        (λ key. IsKey field word.now key.now) }
 {
     match field {
         Field::Prefixes => prefix_of(word),
@@ -186,7 +190,8 @@ fn key_of(field: Field, word: &[u8]) -> Option<&[u8]>
 
 // What comes before the stars at the end of a word, if there are any.
 fn prefix_of(word: &[u8]) -> Option<&[u8]>
-    ensures { MatchOption result ((prefix : Text) → ¬ IsPrefix word.now prefix) (λ prefix. IsPrefix word.now prefix.now) }
+    ensures { MatchOption result ((prefix : Text) → ¬ IsPrefix word.now prefix)
+        (λ prefix. IsPrefix word.now prefix.now) }
 {
     let Some(last) = without_star(word) else {
         return None;
@@ -209,7 +214,8 @@ pub(crate) fn stem_of(word: &[u8]) -> &[u8]
 }
 
 fn without_star(text: &[u8]) -> Option<&[u8]>
-    ensures { MatchOption result (¬ EndsInStar text.now) (λ before. text.now ≡ before.now ++ star ∷ []) }
+    ensures { MatchOption result (¬ EndsInStar text.now)
+        (λ before. text.now ≡ before.now ++ star ∷ []) }
 {
     text.strip_suffix(b"*".as_slice())
 }

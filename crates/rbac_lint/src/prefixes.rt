@@ -3,11 +3,13 @@
 //! that isn't after a text leads to all prefixes that the text begins with, and is no longer than
 //! the text if that one is the text itself.
 
-ghost use Rattle.std.specs.Prelude.{◌≡◌, ◌<◌, ℕ, length, slice_get, Some, true, ◌↔◌, IfOk, IfSome, OnOk, IsTrue};
+ghost use Rattle.std.specs.Prelude.{◌≡◌, ◌<◌, ℕ, length, slice_get, Some, true, ◌↔◌, IfOk, IfSome};
+ghost use Rattle.std.specs.Prelude.{OnOk, IsTrue};
 ghost use Rattle.std.specs.Ordering.{is_le};
 ghost use Rattle.rbac_terms.specs.Text.{text_cmp, BeginsWith};
 ghost use Rattle.rbac_lint.specs.declared.prefixes.Prefix.{Prefix as PrefixView};
-ghost use Rattle.rbac_lint.specs.Prefixes.{AreEntriesOf, LeadsTo, AreLinked, ArePrefixes, PutsPrefix};
+ghost use Rattle.rbac_lint.specs.Prefixes.{AreEntriesOf, LeadsTo, AreLinked, ArePrefixes};
+ghost use Rattle.rbac_lint.specs.Prefixes.{PutsPrefix};
 
 use crate::listing::Places;
 use rbac_terms::Word;
@@ -41,7 +43,8 @@ pub(crate) fn prefixes_of(
 // Adds the next prefix at the end.
 fn push_prefix(prefixes: &mut Vec<Prefix>, text: Word, places: Places) -> Result<(), AllocError>
     requires prefixes { ArePrefixes prefixes.now.items }
-    requires next { (i : ℕ) (f : PrefixView) → slice_get prefixes.now.items i ≡ Some f → is_le (text_cmp f.text text) ≡ true }
+    requires next { (i : ℕ) (f : PrefixView) → slice_get prefixes.now.items i ≡ Some f
+        → is_le (text_cmp f.text text) ≡ true }
     ensures { OnOk result (PutsPrefix prefixes.old.items prefixes.new.items text places) }
 {
     let last = prefixes.len().checked_sub(1);

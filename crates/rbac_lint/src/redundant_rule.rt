@@ -1,6 +1,7 @@
 //! Rules that another rule of their role covers.
 
-ghost use Rattle.std.specs.Prelude.{◌≡◌, ◌<◌, ℕ, List, length, IsTrue, ◌↔◌, MatchOption, slice_get, Some, IfSome, IfOk, OnOk};
+ghost use Rattle.std.specs.Prelude.{◌≡◌, ◌<◌, ℕ, List, length, IsTrue, ◌↔◌, MatchOption, slice_get};
+ghost use Rattle.std.specs.Prelude.{Some, IfSome, IfOk, OnOk};
 ghost use Rattle.std.specs.Option.{ForSome};
 ghost use Rattle.rbac_model.specs.Sources.{source_of};
 ghost use Rattle.rbac_terms.specs.declared.matching.Rule.{Rule as RuleView};
@@ -8,7 +9,8 @@ ghost use Rattle.rbac_lint.specs.Lines.{Adds, OfEach};
 ghost use Rattle.rbac_lint.specs.Listing.{IsAscending, IsListingOf};
 ghost use Rattle.rbac_lint.specs.Prefixes.{ArePrefixes};
 ghost use Rattle.rbac_lint.specs.Candidates.{AreCandidates, IsLeastCoverIfAny, IsSoonest};
-ghost use Rattle.rbac_lint.specs.Findings.{CoversAll, MakesRedundantAt, MakesRedundant, IsRedundantAt, IsRedundantOf, IsRedundant};
+ghost use Rattle.rbac_lint.specs.Findings.{CoversAll, MakesRedundantAt, MakesRedundant};
+ghost use Rattle.rbac_lint.specs.Findings.{IsRedundantAt, IsRedundantOf, IsRedundant};
 
 use crate::candidates::{Candidates, fewest_for};
 use crate::coverage::covers;
@@ -52,7 +54,9 @@ fn find_in_rules(
     role: SourceRole<'_>,
     rules: &[Rule],
 ) -> Result<(), AllocError>
-    ensures { OnOk result (Adds (OfEach (λ i r. IsRedundantAt (source_of role.entry) rules.now i) rules.now) found.old found.new) }
+    ensures { OnOk result
+        (Adds (OfEach
+        (λ i r. IsRedundantAt (source_of role.entry) rules.now i) rules.now) found.old found.new) }
 {
     let listing = listing_if_many(alloc, rules)?;
     let listed = listing.as_ref();
@@ -84,7 +88,8 @@ fn find_at(
 ) -> Result<(), AllocError>
     requires here { slice_get rules.now place ≡ Some rule.now }
     requires listed { ForSome listing (λ l. IsListingOf rules.now l.now) }
-    ensures { OnOk result (Adds (IsRedundantAt (source_of role.entry) rules.now place) found.old found.new) }
+    ensures { OnOk result
+        (Adds (IsRedundantAt (source_of role.entry) rules.now place) found.old found.new) }
 {
     let Some(wide) = covering_rule(alloc, rules, listing, place, rule)? else {
         return Ok(());
@@ -124,7 +129,9 @@ fn candidates_if_listed<'a>(
     rule: &'a Rule,
 ) -> Result<Option<Candidates<'a>>, AllocError>
     requires { ForSome listing (λ l. ArePrefixes l.now.prefixes.items) }
-    ensures { IfOk result (λ o. (rules : List RuleView) → ForSome listing.entry (λ l. IsListingOf rules l.now) → IfSome o (AreCandidates rules rule.now)) }
+    ensures { IfOk result
+        (λ o. (rules : List RuleView) → ForSome listing.entry (λ l. IsListingOf rules l.now)
+        → IfSome o (AreCandidates rules rule.now)) }
 {
     match listing {
         Some(listing) => fewest_for(alloc, listing, rule),

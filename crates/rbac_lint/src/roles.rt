@@ -32,7 +32,8 @@ pub(crate) fn role_at(objects: &Objects, place: usize) -> SourceRole<'_>
 // The rules of a plain role; an aggregated one's written rules aren't used.
 pub(crate) fn plain_rules(role: SourceRole<'_>) -> Option<&[Rule]>
     ensures { MatchOption result (¬ IsPlainRole (source_of role.entry))
-        (λ rules. IsPlainRole (source_of role.entry) × (rules.now ≡ rules_of (source_of role.entry))) }
+        (λ rules. IsPlainRole (source_of role.entry)
+        × (rules.now ≡ rules_of (source_of role.entry))) }
 {
     match role {
         SourceRole::Role(role) => Some(role.rules.as_slice()),

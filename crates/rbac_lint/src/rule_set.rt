@@ -89,7 +89,9 @@ pub(crate) fn has_same_rules<'a>(
     written: &[&'a Rule],
     gathered: &[&'a Rule],
 ) -> Result<bool, AllocError>
-    ensures { IfOk result (λ same. IsTrue same ↔ HasSameRules (rules_at written.now) (Contains (rules_at gathered.now))) }
+    ensures { IfOk result
+        (λ same. IsTrue same
+        ↔ HasSameRules (rules_at written.now) (Contains (rules_at gathered.now))) }
 {
     let these = set_of(alloc, written)?;
     let those = set_of(alloc, gathered)?;
@@ -105,7 +107,8 @@ fn hold_the_same<'a>(
 ) -> bool
     requires written { IsSetOf (rules_at written.now) these.now }
     requires gathered { IsSetOf (rules_at gathered.now) those.now }
-    ensures { IsTrue result ↔ HasSameRules (rules_at written.now) (Contains (rules_at gathered.now)) }
+    ensures { IsTrue result
+        ↔ HasSameRules (rules_at written.now) (Contains (rules_at gathered.now)) }
 {
     each_is_in(written, those) && each_is_in(gathered, these)
 }

@@ -1,6 +1,7 @@
 //! Aggregated roles whose written rules aren't those that they gather.
 
-ghost use Rattle.std.specs.Prelude.{◌≡◌, ◌≢◌, [], ◌+◌, ◌++◌, ◌<◌, ◌↔◌, Some, IfOk, OnOk, IsTrue, Contains, slice_get, length};
+ghost use Rattle.std.specs.Prelude.{◌≡◌, ◌≢◌, [], ◌+◌, ◌++◌, ◌<◌, ◌↔◌, Some, IfOk, OnOk, IsTrue};
+ghost use Rattle.std.specs.Prelude.{Contains, slice_get, length};
 ghost use Rattle.rbac_terms.specs.declared.matching.Rule.{Rule as RuleView};
 ghost use Rattle.rbac_terms.specs.declared.granting.ClusterRole.{ClusterRole as ClusterRoleView};
 ghost use Rattle.rbac_lint.specs.Lines.{Adds};
@@ -94,7 +95,10 @@ fn gathered_rules<'p>(
     place: usize,
 ) -> Result<Vec<&'p Rule>, AllocError>
     requires { place < length policy.now.held.cluster_roles }
-    ensures { IfOk result (λ v. (r : ClusterRoleView) → slice_get policy.now.held.cluster_roles place ≡ Some r → (rule : RuleView) → Contains (rules_at v.items) rule ↔ IsGathered policy.now.held r rule) }
+    ensures { IfOk result
+        (λ v. (r : ClusterRoleView) → slice_get policy.now.held.cluster_roles place ≡ Some r
+        → (rule : RuleView) → Contains (rules_at v.items) rule
+        ↔ IsGathered policy.now.held r rule) }
 {
     let mut gathered = Vec::new(alloc);
     let roles = policy.objects().cluster_roles();
@@ -114,7 +118,9 @@ fn push_source<'p>(
 ) -> Result<(), AllocError>
     requires place { place < length policy.now.held.cluster_roles }
     requires source { slice_get policy.now.held.cluster_roles at ≡ Some source.now }
-    ensures { OnOk result (AreGatheredBy policy.now.held place at (rules_at gathered.old.items) → AreGatheredBy policy.now.held place (at + 1) (rules_at gathered.new.items)) }
+    ensures { OnOk result
+        (AreGatheredBy policy.now.held place at (rules_at gathered.old.items)
+        → AreGatheredBy policy.now.held place (at + 1) (rules_at gathered.new.items)) }
 {
     if source.aggregation.is_some() {
         return Ok(());

@@ -1,12 +1,14 @@
 //! Roles that no binding leads to.
 
-ghost use Rattle.std.specs.Prelude.{◌≡◌, ◌<◌, ◌↔◌, Some, IsSome, IfOk, OnOk, IsTrue, slice_get, get_or, false, true, length};
+ghost use Rattle.std.specs.Prelude.{◌≡◌, ◌<◌, ◌↔◌, Some, IsSome, IfOk, OnOk, IsTrue, slice_get};
+ghost use Rattle.std.specs.Prelude.{get_or, false, true, length};
 ghost use Rattle.rbac_model.specs.Places.{source_at};
 ghost use Rattle.rbac_model.specs.Policies.{Source, IsHeld, IsPlain};
 ghost use Rattle.rbac_lint.specs.Lines.{Adds};
 ghost use Rattle.rbac_lint.specs.Roles.{roles_in};
 ghost use Rattle.rbac_lint.specs.Findings.{IsUsed, IsUnusedOf, IsUnused};
-ghost use Rattle.rbac_lint.specs.Marks.{AreNamed, AreGatherers, AreMarkedWith, IsReachedByNamedAt, IsAddedAt};
+ghost use Rattle.rbac_lint.specs.Marks.{AreNamed, AreGatherers, AreMarkedWith, IsReachedByNamedAt};
+ghost use Rattle.rbac_lint.specs.Marks.{IsAddedAt};
 
 use crate::finding::{Finding, Findings, role_word};
 use crate::roles::{role_at, role_count};
@@ -50,7 +52,8 @@ fn find_unused_at(
     requires named { AreNamed policy.now.held named.now }
     requires gatherers { AreGatherers policy.now.held gatherers.now }
     requires place { place < length (roles_in policy.now.held) }
-    ensures { OnOk result (IsAddedAt (IsUnusedOf policy.now.held) policy.now.held place found.old found.new) }
+    ensures { OnOk result
+        (IsAddedAt (IsUnusedOf policy.now.held) policy.now.held place found.old found.new) }
 {
     if is_used(policy, named, gatherers, place) {
         return Ok(());
@@ -69,7 +72,8 @@ fn is_used(policy: &Policy, named: &[bool], gatherers: &[usize], place: usize) -
     requires named { AreNamed policy.now.held named.now }
     requires gatherers { AreGatherers policy.now.held gatherers.now }
     requires place { place < length (roles_in policy.now.held) }
-    ensures { (s : Source) → slice_get (roles_in policy.now.held) place ≡ Some s → (IsTrue result ↔ IsUsed policy.now.held s) }
+    ensures { (s : Source) → slice_get (roles_in policy.now.held) place ≡ Some s
+        → (IsTrue result ↔ IsUsed policy.now.held s) }
 {
     named[place] || is_reached(policy, gatherers, place)
 }
@@ -146,7 +150,8 @@ fn place_among(objects: &Objects, place: RolePlace) -> usize
     requires { IsSome (source_at objects.now place) }
     ensures within { result < length (roles_in objects.now) }
     ensures held { IsHeld objects.now }
-    ensures same { (s : Source) → source_at objects.now place ≡ Some s → slice_get (roles_in objects.now) result ≡ Some s }
+    ensures same { (s : Source) → source_at objects.now place ≡ Some s
+        → slice_get (roles_in objects.now) result ≡ Some s }
 {
     let count = role_count(objects);
     match place {

@@ -2,7 +2,8 @@
 
 ghost use Rattle.std.specs.Prelude.{◌≡◌, ◌++◌, IfOk, OnOk, map};
 ghost use Rattle.std.specs.List.{flat_map, filter_map};
-ghost use Rattle.rbac_lists.specs.Derived.{principals_of, namespaces_of, verbs_of, resources_of, names_of, urls_of, listed};
+ghost use Rattle.rbac_lists.specs.Derived.{principals_of, namespaces_of, verbs_of, resources_of};
+ghost use Rattle.rbac_lists.specs.Derived.{names_of, urls_of, listed};
 
 use crate::given_lists::Account;
 use crate::naming::{Names, Resources, Urls, Verbs, listed, put_named};
@@ -66,7 +67,8 @@ fn put_binding_namespaces(
     bindings: &[Binding],
     list: &mut Vec<Word>,
 ) -> Result<(), AllocError>
-    ensures { OnOk result (list.new.items ≡ list.old.items ++ filter_map (λ b. b.namespace) bindings.now) }
+    ensures { OnOk result
+        (list.new.items ≡ list.old.items ++ filter_map (λ b. b.namespace) bindings.now) }
 {
     for binding in bindings {
         if let Some(namespace) = &binding.namespace {
@@ -135,7 +137,9 @@ fn put_entries(
     entries: &[Entry],
     list: &mut Vec<ListedResource>,
 ) -> Result<(), AllocError>
-    ensures { OnOk result (list.new.items ≡ list.old.items ++ map (λ e. listed e.group e.name e.namespaced) entries.now) }
+    ensures { OnOk result
+        (list.new.items
+        ≡ list.old.items ++ map (λ e. listed e.group e.name e.namespaced) entries.now) }
 {
     for entry in entries {
         list.push(listed(alloc, &entry.group, &entry.name, entry.namespaced)?)?;

@@ -3,7 +3,8 @@
 ghost use Rattle.std.specs.Prelude.{◌≡◌, ◌++◌, List, OnOk, IfOk, filter, is_none};
 ghost use Rattle.std.specs.List.{flat_map};
 ghost use Rattle.rbac_terms.specs.declared.matching.Rule.{Rule};
-ghost use Rattle.rbac_lists.specs.Derived.{source_rules, rule_resources, group_resources, is_resource_text};
+ghost use Rattle.rbac_lists.specs.Derived.{source_rules, rule_resources, group_resources};
+ghost use Rattle.rbac_lists.specs.Derived.{is_resource_text};
 
 use crate::texts::{copy_of, has_star, is_resource_text, put_words};
 use rbac_model::Objects;
@@ -27,7 +28,8 @@ pub(crate) fn put_named<N: Naming>(
     objects: &Objects,
     list: &mut Vec<N::Item>,
 ) -> Result<(), AllocError>
-    ensures { OnOk result (list.new.items ≡ list.old.items ++ flat_map N.named (source_rules objects.now)) }
+    ensures { OnOk result
+        (list.new.items ≡ list.old.items ++ flat_map N.named (source_rules objects.now)) }
 {
     put_of_roles::<N>(alloc, objects.roles(), list)?;
     put_of_cluster_roles::<N>(alloc, objects.cluster_roles(), list)?;
@@ -39,7 +41,8 @@ fn put_of_roles<N: Naming>(
     roles: &[Role],
     list: &mut Vec<N::Item>,
 ) -> Result<(), AllocError>
-    ensures { OnOk result (list.new.items ≡ list.old.items ++ flat_map (λ r. flat_map N.named r.rules) roles.now) }
+    ensures { OnOk result
+        (list.new.items ≡ list.old.items ++ flat_map (λ r. flat_map N.named r.rules) roles.now) }
 {
     for role in roles {
         put_of_rules::<N>(alloc, role.rules.as_slice(), list)?;
@@ -53,7 +56,8 @@ fn put_of_cluster_roles<N: Naming>(
     list: &mut Vec<N::Item>,
 ) -> Result<(), AllocError>
     ensures { OnOk result (list.new.items ≡ list.old.items
-        ++ flat_map (λ r. flat_map N.named r.rules) (filter (λ r. is_none r.aggregation) roles.now)) }
+        ++ flat_map
+        (λ r. flat_map N.named r.rules) (filter (λ r. is_none r.aggregation) roles.now)) }
 {
     for role in roles {
         if role.aggregation.is_none() {
@@ -157,7 +161,8 @@ pub(crate) fn listed(
     text: &Word,
     namespaced: bool,
 ) -> Result<ListedResource, AllocError>
-    ensures { IfOk result (λ r. r ≡ record { group = group.now; text = text.now; namespaced = namespaced }) }
+    ensures { IfOk result
+        (λ r. r ≡ record { group = group.now; text = text.now; namespaced = namespaced }) }
 {
     Ok(ListedResource {
         group: copy_of(alloc, group)?,

@@ -48,7 +48,8 @@ fn subject_principal(
     binding_namespace: Option<&Word>,
     subject: &Subject,
 ) -> Result<Option<Principal>, AllocError>
-    ensures { IfOk result (λ p. p ≡ subject_principal (option_copied binding_namespace.entry) subject.now) }
+    ensures { IfOk result
+        (λ p. p ≡ subject_principal (option_copied binding_namespace.entry) subject.now) }
 {
     match subject {
         Subject::User(name) => user_of(alloc, name),

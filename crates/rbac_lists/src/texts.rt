@@ -1,7 +1,8 @@
 //! Copies of texts, and what a text can be.
 
 ghost use Rattle.std.specs.Prelude.{◌≡◌, ◌++◌, OnOk, IfOk};
-ghost use Rattle.rbac_lists.specs.Derived.{is_verb, has_star, begins_with_slash, ends_in_star, is_resource_text, is_path_word};
+ghost use Rattle.rbac_lists.specs.Derived.{is_verb, has_star, begins_with_slash, ends_in_star};
+ghost use Rattle.rbac_lists.specs.Derived.{is_resource_text, is_path_word};
 
 use rbac_terms::Word;
 use std::alloc::{AllocError, Global};

@@ -2,7 +2,8 @@
 
 ghost use Rattle.std.specs.Prelude.{◌≡◌, IfOk, unwrap_or};
 ghost use Rattle.std.specs.Option.{option_copied, option_or};
-ghost use Rattle.rbac_lists.specs.Derived.{principals_of, namespaces_of, verbs_of, resources_of, names_of, urls_of};
+ghost use Rattle.rbac_lists.specs.Derived.{principals_of, namespaces_of, verbs_of, resources_of};
+ghost use Rattle.rbac_lists.specs.Derived.{names_of, urls_of};
 ghost use Rattle.rbac_lists.specs.Meant.{last_given, lists_meant};
 
 use crate::derived_lists::{
@@ -66,9 +67,13 @@ fn words_of(
     catalogue: &Catalogue,
     given: LastLists<'_>,
 ) -> Result<(Words, Words, Words), AllocError>
-    ensures verbs { IfOk result (λ lists. lists.0 ≡ unwrap_or (option_copied given.entry.verbs) (verbs_of objects.now catalogue.now)) }
-    ensures names { IfOk result (λ lists. lists.1 ≡ unwrap_or (option_copied given.entry.names) (names_of objects.now)) }
-    ensures urls { IfOk result (λ lists. lists.2 ≡ unwrap_or (option_copied given.entry.urls) (urls_of objects.now)) }
+    ensures verbs { IfOk result
+        (λ lists. lists.0
+        ≡ unwrap_or (option_copied given.entry.verbs) (verbs_of objects.now catalogue.now)) }
+    ensures names { IfOk result
+        (λ lists. lists.1 ≡ unwrap_or (option_copied given.entry.names) (names_of objects.now)) }
+    ensures urls { IfOk result
+        (λ lists. lists.2 ≡ unwrap_or (option_copied given.entry.urls) (urls_of objects.now)) }
 {
     let verbs = given_or(given.verbs, || verbs_of(alloc, objects, catalogue))?;
     let names = given_or(given.names, || names_of(alloc, objects))?;
@@ -78,10 +83,13 @@ fn words_of(
 
 // The last one of each list that these documents give.
 fn last_lists(documents: &[GivenLists]) -> LastLists<'_>
-    ensures principals { option_copied result.principals ≡ last_given (λ d. d.principals) documents.now }
-    ensures namespaces { option_copied result.namespaces ≡ last_given (λ d. d.namespaces) documents.now }
+    ensures principals { option_copied result.principals
+        ≡ last_given (λ d. d.principals) documents.now }
+    ensures namespaces { option_copied result.namespaces
+        ≡ last_given (λ d. d.namespaces) documents.now }
     ensures verbs { option_copied result.verbs ≡ last_given (λ d. d.verbs) documents.now }
-    ensures resources { option_copied result.resources ≡ last_given (λ d. d.resources) documents.now }
+    ensures resources { option_copied result.resources
+        ≡ last_given (λ d. d.resources) documents.now }
     ensures names { option_copied result.names ≡ last_given (λ d. d.names) documents.now }
     ensures urls { option_copied result.urls ≡ last_given (λ d. d.urls) documents.now }
 {
@@ -102,12 +110,18 @@ fn last_lists(documents: &[GivenLists]) -> LastLists<'_>
 // The lists of this document, and for each list that it doesn't have, that of the documents before
 // it.
 fn over<'a>(document: &'a GivenLists, earlier: LastLists<'a>) -> LastLists<'a>
-    ensures principals { option_copied result.principals ≡ option_or document.now.principals (option_copied earlier.entry.principals) }
-    ensures namespaces { option_copied result.namespaces ≡ option_or document.now.namespaces (option_copied earlier.entry.namespaces) }
-    ensures verbs { option_copied result.verbs ≡ option_or document.now.verbs (option_copied earlier.entry.verbs) }
-    ensures resources { option_copied result.resources ≡ option_or document.now.resources (option_copied earlier.entry.resources) }
-    ensures names { option_copied result.names ≡ option_or document.now.names (option_copied earlier.entry.names) }
-    ensures urls { option_copied result.urls ≡ option_or document.now.urls (option_copied earlier.entry.urls) }
+    ensures principals { option_copied result.principals
+        ≡ option_or document.now.principals (option_copied earlier.entry.principals) }
+    ensures namespaces { option_copied result.namespaces
+        ≡ option_or document.now.namespaces (option_copied earlier.entry.namespaces) }
+    ensures verbs { option_copied result.verbs
+        ≡ option_or document.now.verbs (option_copied earlier.entry.verbs) }
+    ensures resources { option_copied result.resources
+        ≡ option_or document.now.resources (option_copied earlier.entry.resources) }
+    ensures names { option_copied result.names
+        ≡ option_or document.now.names (option_copied earlier.entry.names) }
+    ensures urls { option_copied result.urls
+        ≡ option_or document.now.urls (option_copied earlier.entry.urls) }
 {
     LastLists {
         principals: document.principals.as_ref().or(earlier.principals),

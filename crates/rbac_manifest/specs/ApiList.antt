@@ -1,8 +1,10 @@
 -- API resource lists (Kubernetes API, APIResourceList).
-use Rattle.std.specs.Prelude.{◌==◌, ◌||◌, nat_eq, Bool, true, false, not, List, [], ◌∷◌, codes, Option, Some, None, if◌then◌else◌}
+use Rattle.std.specs.Prelude.{◌==◌, ◌||◌, nat_eq, Bool, true, false, not, List, [], ◌∷◌, codes}
+use Rattle.std.specs.Prelude.{Option, Some, None, if◌then◌else◌}
 use Rattle.std.specs.List.{list_any, slice_split, starts_with}
 use Rattle.serde_json.specs.Data.{Data}
-use Rattle.rbac_manifest.specs.Fields.{◌>>=◌, list_field, texts_field, text_at, name_at, flag_at, is_empty, text, is_no_text, is_no_texts, is_no_flag, any_of}
+use Rattle.rbac_manifest.specs.Fields.{◌>>=◌, list_field, texts_field, text_at, name_at, flag_at}
+use Rattle.rbac_manifest.specs.Fields.{is_empty, text, is_no_text, is_no_texts, is_no_flag, any_of}
 use Rattle.rbac_manifest.specs.Lists.{all_at, is_bad_list}
 use Rattle.rbac_terms.specs.Text.{Text, slash}
 use Rattle.rbac_catalogue.specs.declared.entry.Entry.{Entry}
@@ -11,7 +13,8 @@ use Rattle.rbac_catalogue.specs.declared.entry.Entry.{Entry}
 abbrev pub parts : Text → List Text
 parts text = slice_split (λ b. b == slash) text
 
--- the group of VERSION or GROUP/VERSION, by its parts; VERSION alone belongs to the core group, which is the empty text
+-- the group of VERSION or GROUP/VERSION, by its parts; VERSION alone belongs to the core group,
+-- which is the empty text
 abbrev pub group_by : List Text → Option Text
 group_by (version ∷ []) = Some []
 group_by (group ∷ version ∷ []) = Some group
@@ -29,13 +32,17 @@ are_one_or_two others = false
 
 -- a group version is bad if it has an empty part, or more than two parts
 unfoldable pub is_bad_group_version : Text → Bool
-is_bad_group_version version = list_any is_empty (parts version) || not (are_one_or_two (parts version))
+is_bad_group_version version = list_any is_empty (parts version)
+    || not (are_one_or_two (parts version))
 
--- the name of an entry, like `pods` or `pods/log`: a text that isn't empty and doesn't begin with a slash (own)
+-- the name of an entry, like `pods` or `pods/log`: a text that isn't empty and doesn't begin with a
+-- slash (own)
 unfoldable pub resource_name_at : Data → Option Text
-resource_name_at d = name_at d >>= λ name. if starts_with nat_eq name (codes "/") then None else Some name
+resource_name_at d =
+    name_at d >>= λ name. if starts_with nat_eq name (codes "/") then None else Some name
 
--- the entry that an item gives, unless it is bad; its group is that of the list, and it isn't namespaced unless it says so
+-- the entry that an item gives, unless it is bad; its group is that of the list, and it isn't
+-- namespaced unless it says so
 unfoldable pub entry_at : Text → Data → Option Entry
 entry_at group d =
     resource_name_at d >>= λ name.
@@ -43,10 +50,17 @@ entry_at group d =
     flag_at false (codes "namespaced") d >>= λ namespaced.
     texts_field (codes "shortNames") d >>= λ short_names.
     texts_field (codes "verbs") d >>= λ verbs.
-    Some (record { group = group; name = name; singular = singular; short_names = short_names; namespaced = namespaced; verbs = verbs })
+    Some (record {
+      group = group;
+      name = name;
+      singular = singular;
+      short_names = short_names;
+      namespaced = namespaced;
+      verbs = verbs;
+    })
 
--- an entry is bad if its name isn't a text, is empty or begins with a slash, or if another field has another shape; an
--- item that isn't an object has no name
+-- an entry is bad if its name isn't a text, is empty or begins with a slash, or if another field
+-- has another shape; an item that isn't an object has no name
 unfoldable pub is_bad_entry : Data → Bool
 is_bad_entry e = any_of (
     is_empty (text (codes "name") e)
@@ -57,8 +71,8 @@ is_bad_entry e = any_of (
     ∷ is_no_texts (codes "verbs") e
     ∷ [])
 
--- an API resource list is bad if its group version isn't a text or is bad, if its resources aren't a list, or if one of
--- them is bad
+-- an API resource list is bad if its group version isn't a text or is bad, if its resources aren't
+-- a list, or if one of them is bad
 unfoldable pub is_bad_api_list : Data → Bool
 is_bad_api_list d = any_of (
     is_no_text (codes "groupVersion") d
@@ -66,7 +80,8 @@ is_bad_api_list d = any_of (
     ∷ is_bad_list is_bad_entry (list_field (codes "resources") d)
     ∷ [])
 
--- the entries of an API resource list, in written order, unless its group version or an item is bad (M9)
+-- the entries of an API resource list, in written order, unless its group version or an item is bad
+-- (M9)
 unfoldable pub entries_at : Data → Option (List Entry)
 entries_at d =
     text_at (codes "groupVersion") d >>= λ version.

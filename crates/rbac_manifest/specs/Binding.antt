@@ -1,8 +1,11 @@
--- The role that a binding names, and its subjects (Using RBAC Authorization, RoleBinding and ClusterRoleBinding, Referring to subjects).
-use Rattle.std.specs.Prelude.{ℕ, ◌||◌, ◌&&◌, Bool, not, List, [], ◌∷◌, codes, Option, Some, None, option_and_then, if◌then◌else◌}
+-- The role that a binding names, and its subjects (Using RBAC Authorization, RoleBinding and
+-- ClusterRoleBinding, Referring to subjects).
+use Rattle.std.specs.Prelude.{ℕ, ◌||◌, ◌&&◌, Bool, not, List, [], ◌∷◌, codes, Option, Some, None}
+use Rattle.std.specs.Prelude.{option_and_then, if◌then◌else◌}
 use Rattle.std.specs.Str.{bytes_eq}
 use Rattle.serde_json.specs.Data.{Data}
-use Rattle.rbac_manifest.specs.Fields.{◌>>=◌, field, list_field, text_at, name_at, is_object, is_empty, non_empty, text, is_no_text, any_of}
+use Rattle.rbac_manifest.specs.Fields.{◌>>=◌, field, list_field, text_at, name_at, is_object}
+use Rattle.rbac_manifest.specs.Fields.{is_empty, non_empty, text, is_no_text, any_of}
 use Rattle.rbac_manifest.specs.Lists.{items_given}
 use Rattle.rbac_terms.specs.declared.granting.RoleRef.{RoleRef}
 use Rattle.rbac_terms.specs.declared.granting.RoleRef.TheVariants.{Role, ClusterRole}
@@ -31,14 +34,17 @@ role_ref_from in_namespace d =
 
 -- the reference of a binding, unless it is bad
 unfoldable pub role_ref_at : Bool → Data → Option RoleRef
-role_ref_at in_namespace d = option_and_then (λ r. if is_object r then role_ref_from in_namespace r else None) (field (codes "roleRef") d)
+role_ref_at in_namespace d =
+    option_and_then (λ r. if is_object r then role_ref_from in_namespace r else None)
+    (field (codes "roleRef") d)
 
 -- the kinds that a binding may name: a ClusterRole, and if it is in a namespace a Role
 abbrev pub is_role_kind : Bool → List ℕ → Bool
-is_role_kind in_namespace kind = bytes_eq kind (codes "ClusterRole") || (in_namespace && bytes_eq kind (codes "Role"))
+is_role_kind in_namespace kind = bytes_eq kind (codes "ClusterRole")
+    || (in_namespace && bytes_eq kind (codes "Role"))
 
--- a reference is bad if it isn't an object, if its kind or group isn't a text, if its name isn't a text or is empty, if
--- its group isn't the RBAC group, or if the binding may not name its kind
+-- a reference is bad if it isn't an object, if its kind or group isn't a text, if its name isn't a
+-- text or is empty, if its group isn't the RBAC group, or if the binding may not name its kind
 unfoldable pub is_bad_role_ref : Bool → Data → Bool
 is_bad_role_ref in_namespace r = any_of (
     not (is_object r)
@@ -56,7 +62,8 @@ unfoldable pub subject_named : List ℕ → List ℕ → List ℕ → List ℕ �
 subject_named kind group name namespace =
     if bytes_eq kind (codes "User") && is_rbac_group group then Some (User name)
     else if bytes_eq kind (codes "Group") && is_rbac_group group then Some (Group name)
-    else if bytes_eq kind (codes "ServiceAccount") && is_empty group then Some (Account (non_empty namespace) name)
+    else if bytes_eq kind (codes "ServiceAccount") && is_empty group
+    then Some (Account (non_empty namespace) name)
     else None
 
 -- a subject has a kind, a group, a name and perhaps a namespace
@@ -72,14 +79,15 @@ subject_from d =
 unfoldable pub subject_at : Data → Option Subject
 subject_at d = if is_object d then subject_from d else None
 
--- User and Group are in the RBAC group, and ServiceAccount is in the core group, which is the empty text
+-- User and Group are in the RBAC group, and ServiceAccount is in the core group, which is the empty
+-- text
 abbrev pub is_subject_kind : List ℕ → List ℕ → Bool
 is_subject_kind kind group =
     ((bytes_eq kind (codes "User") || bytes_eq kind (codes "Group")) && is_rbac_group group)
     || (bytes_eq kind (codes "ServiceAccount") && is_empty group)
 
--- a subject is bad if it isn't an object, if its kind, group or namespace isn't a text, if its name isn't a text or is
--- empty, or if it is of no such kind and group
+-- a subject is bad if it isn't an object, if its kind, group or namespace isn't a text, if its name
+-- isn't a text or is empty, or if it is of no such kind and group
 unfoldable pub is_bad_subject : Data → Bool
 is_bad_subject s = any_of (
     not (is_object s)

@@ -47,7 +47,8 @@ abbrev pub api_entries : Content → List Entry
 api_entries (contents.ApiList entries) = entries
 api_entries g = []
 
--- the catalogue: whether an API resource list is given, even one without entries, and the entries of all of them in order
+-- the catalogue: whether an API resource list is given, even one without entries, and the entries
+-- of all of them in order
 abbrev pub catalogue_in : List Content → CatalogueView
 catalogue_in gs = record { is_given = list_any is_api_list gs; entries = flat_map api_entries gs }
 
@@ -82,7 +83,10 @@ sorted_contents gs = record {
 
 -- the catalogue, with what later API resource lists add
 abbrev pub catalogue_with : CatalogueView → List Content → CatalogueView
-catalogue_with c gs = record { is_given = c.is_given || list_any is_api_list gs; entries = c.entries ++ flat_map api_entries gs }
+catalogue_with c gs = record {
+  is_given = c.is_given || list_any is_api_list gs;
+  entries = c.entries ++ flat_map api_entries gs;
+}
 
 -- these contents, with those that come after them
 unfoldable pub with_contents : ContentsView → List Content → ContentsView

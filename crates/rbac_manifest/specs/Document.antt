@@ -1,5 +1,6 @@
 -- The table of a document's refusals, and what a document gives.
-use Rattle.std.specs.Prelude.{ℕ, ◌||◌, Bool, true, false, not, List, [], ◌∷◌, codes, Option, Some, None, option_map, option_and_then, unwrap_or, is_none, if◌then◌else◌}
+use Rattle.std.specs.Prelude.{ℕ, ◌||◌, Bool, true, false, not, List, [], ◌∷◌, codes, Option, Some}
+use Rattle.std.specs.Prelude.{None, option_map, option_and_then, unwrap_or, is_none, if◌then◌else◌}
 use Rattle.serde_json.specs.Data.{Data}
 use Rattle.rbac_model.specs.declared.objects.Object.TheVariants as object
 use Rattle.rbac_terms.specs.declared.matching.Rule.{Rule}
@@ -10,7 +11,8 @@ use Rattle.rbac_terms.specs.declared.granting.ClusterRole.{ClusterRole}
 use Rattle.rbac_terms.specs.declared.granting.Binding.{Binding}
 use Rattle.rbac_terms.specs.declared.granting.Subject.{Subject}
 use Rattle.rbac_lists.specs.declared.given_lists.Account.{Account}
-use Rattle.rbac_manifest.specs.Fields.{field, list_field, is_object, is_empty, missing_or, given_and}
+use Rattle.rbac_manifest.specs.Fields.{field, list_field, is_object, is_empty, missing_or}
+use Rattle.rbac_manifest.specs.Fields.{given_and}
 use Rattle.rbac_manifest.specs.Lists.{first_bad}
 use Rattle.rbac_manifest.specs.Kinds.{kind_at, version_at, kind_of}
 use Rattle.rbac_manifest.specs.Role.{rules_in}
@@ -27,7 +29,10 @@ use Rattle.rbac_manifest.specs.declared.kind.Kind.{Kind}
 use Rattle.rbac_manifest.specs.declared.kind.Kind.TheVariants as kinds
 use Rattle.rbac_manifest.specs.declared.kind.Implied.{Implied}
 use Rattle.rbac_manifest.specs.declared.fault.Cause.{Cause}
-use Rattle.rbac_manifest.specs.declared.fault.Cause.TheVariants.{NotAnObject, BadVersion, BadMetadata, BadRule, BadRoleRef, BadSubject, BadSelector, BadCatalogue, BadUniverse}
+use Rattle.rbac_manifest.specs.declared.fault.Cause.TheVariants.{NotAnObject, BadVersion}
+use Rattle.rbac_manifest.specs.declared.fault.Cause.TheVariants.{BadMetadata, BadRule, BadRoleRef}
+use Rattle.rbac_manifest.specs.declared.fault.Cause.TheVariants.{BadSubject, BadSelector}
+use Rattle.rbac_manifest.specs.declared.fault.Cause.TheVariants.{BadCatalogue, BadUniverse}
 
 -- ---- the refusals by number: each is a condition and its cause
 
@@ -45,9 +50,11 @@ first_of (Some cause ∷ rows) = Some cause
 unfoldable pub not_an_object : Implied → Data → Option Cause
 not_an_object implied d = when (not (is_object d) || is_none (kind_at implied d)) NotAnObject
 
--- M3: the version is missing although the kind needs one and none is implied, or it isn't a text, or it isn't read
+-- M3: the version is missing although the kind needs one and none is implied, or it isn't a text,
+-- or it isn't read
 unfoldable pub bad_version : Implied → Data → Option Cause
-bad_version implied d = when (is_none (version_at implied (unwrap_or (kind_at implied d) []) d)) BadVersion
+bad_version implied d =
+    when (is_none (version_at implied (unwrap_or (kind_at implied d) []) d)) BadVersion
 
 -- M4: the metadata is missing or bad
 abbrev pub bad_metadata : Data → Option Cause
@@ -55,11 +62,13 @@ bad_metadata d = when (missing_or is_bad_metadata (field (codes "metadata") d)) 
 
 -- M5: the first bad rule, with its place; only a rule of a ClusterRole may be for URLs
 unfoldable pub bad_rules : Bool → Data → Option Cause
-bad_rules in_role d = option_map BadRule (first_bad (is_bad_rule in_role) (list_field (codes "rules") d))
+bad_rules in_role d =
+    option_map BadRule (first_bad (is_bad_rule in_role) (list_field (codes "rules") d))
 
 -- M6: the reference is missing or bad; only a binding in a namespace may name a Role
 abbrev pub bad_role_ref : Bool → Data → Option Cause
-bad_role_ref in_namespace d = when (missing_or (is_bad_role_ref in_namespace) (field (codes "roleRef") d)) BadRoleRef
+bad_role_ref in_namespace d =
+    when (missing_or (is_bad_role_ref in_namespace) (field (codes "roleRef") d)) BadRoleRef
 
 -- M7: the first bad subject, with its place
 unfoldable pub bad_subjects : Data → Option Cause
@@ -114,15 +123,27 @@ namespace_or_default namespace = if is_empty namespace then codes "default" else
 
 -- a Role: its namespace, its name and its rules
 unfoldable pub role_in : Data → Option Role
-role_in d = option_map (λ m. record { namespace = namespace_or_default m.namespace; name = m.name; rules = rules_in true d }) (metadata_at d)
+role_in d =
+    option_map (λ m. record {
+      namespace = namespace_or_default m.namespace;
+      name = m.name;
+      rules = rules_in true d;
+    }) (metadata_at d)
 
 -- a ClusterRole from its parts; its namespace isn't used
 abbrev pub cluster_role_from : Metadata → List Rule → Option (List Selector) → ClusterRole
-cluster_role_from m rules a = record { name = m.name; labels = m.labels; rules = rules; aggregation = a }
+cluster_role_from m rules a = record {
+  name = m.name;
+  labels = m.labels;
+  rules = rules;
+  aggregation = a;
+}
 
 -- a ClusterRole
 unfoldable pub cluster_role_in : Data → Option ClusterRole
-cluster_role_in d = option_and_then (λ m. option_map (λ a. cluster_role_from m (rules_in false d) a) (aggregation_at d)) (metadata_at d)
+cluster_role_in d =
+    option_and_then (λ m. option_map
+    (λ a. cluster_role_from m (rules_in false d) a) (aggregation_at d)) (metadata_at d)
 
 -- a binding from its parts; a ClusterRoleBinding has no namespace
 abbrev pub binding_from : Bool → Metadata → RoleRef → List Subject → Binding
@@ -135,7 +156,10 @@ binding_from in_namespace m r ss = record {
 
 -- a RoleBinding, or a ClusterRoleBinding if it isn't in a namespace
 unfoldable pub binding_in : Bool → Data → Option Binding
-binding_in in_namespace d = option_and_then (λ m. option_map (λ r. binding_from in_namespace m r (subjects_in d)) (role_ref_at in_namespace d)) (metadata_at d)
+binding_in in_namespace d =
+    option_and_then (λ m. option_map
+    (λ r. binding_from in_namespace m r (subjects_in d))
+    (role_ref_at in_namespace d)) (metadata_at d)
 
 -- a ServiceAccount
 abbrev pub account_from : Metadata → Account
@@ -144,11 +168,15 @@ account_from m = record { namespace = namespace_or_default m.namespace; name = m
 -- what a document of this kind gives; a Namespace gives only its name
 abbrev pub content_in : Kind → Data → Option Content
 content_in kinds.Role d = option_map (λ r. contents.Object (object.Role r)) (role_in d)
-content_in kinds.ClusterRole d = option_map (λ r. contents.Object (object.ClusterRole r)) (cluster_role_in d)
-content_in kinds.RoleBinding d = option_map (λ b. contents.Object (object.Binding b)) (binding_in true d)
-content_in kinds.ClusterRoleBinding d = option_map (λ b. contents.Object (object.Binding b)) (binding_in false d)
+content_in kinds.ClusterRole d =
+    option_map (λ r. contents.Object (object.ClusterRole r)) (cluster_role_in d)
+content_in kinds.RoleBinding d =
+    option_map (λ b. contents.Object (object.Binding b)) (binding_in true d)
+content_in kinds.ClusterRoleBinding d =
+    option_map (λ b. contents.Object (object.Binding b)) (binding_in false d)
 content_in kinds.Namespace d = option_map (λ m. contents.Namespace m.name) (metadata_at d)
-content_in kinds.ServiceAccount d = option_map (λ m. contents.Account (account_from m)) (metadata_at d)
+content_in kinds.ServiceAccount d =
+    option_map (λ m. contents.Account (account_from m)) (metadata_at d)
 content_in kinds.ApiList d = option_map contents.ApiList (entries_at d)
 content_in kinds.Universe d = option_map contents.Lists (given_lists_at d)
 content_in (kinds.List items) d = None

@@ -2,11 +2,16 @@
 use Rattle.std.specs.Prelude.{ℕ, ◌+◌, List, [], ◌++◌, codes, Option, Some, None}
 use Rattle.std.specs.Fmt.{decimal}
 use Rattle.rbac_manifest.specs.declared.fault.Cause.{Cause}
-use Rattle.rbac_manifest.specs.declared.fault.Cause.TheVariants.{NotJson, NotAnObject, BadVersion, BadMetadata, BadRule, BadRoleRef, BadSubject, BadSelector, BadCatalogue, BadUniverse, TooMany, NoMemory}
+use Rattle.rbac_manifest.specs.declared.fault.Cause.TheVariants.{NotJson, NotAnObject, BadVersion}
+use Rattle.rbac_manifest.specs.declared.fault.Cause.TheVariants.{BadMetadata, BadRule, BadRoleRef}
+use Rattle.rbac_manifest.specs.declared.fault.Cause.TheVariants.{BadSubject, BadSelector}
+use Rattle.rbac_manifest.specs.declared.fault.Cause.TheVariants.{BadCatalogue, BadUniverse, TooMany}
+use Rattle.rbac_manifest.specs.declared.fault.Cause.TheVariants.{NoMemory}
 use Rattle.rbac_manifest.specs.declared.fault.At.{At}
 use Rattle.rbac_manifest.specs.declared.fault.LoadFault.{LoadFault}
 
--- the number and name of a cause, and for a rule or a subject its place; out of memory has no number
+-- the number and name of a cause, and for a rule or a subject its place; out of memory has no
+-- number
 abbrev pub cause_text : Cause → List ℕ
 cause_text NotJson = codes "M1 not JSON"
 cause_text NotAnObject = codes "M2 not an object"

@@ -1,7 +1,10 @@
 -- What a JSON value says in its fields. A field whose value is null counts as missing (own).
-use Rattle.std.specs.Prelude.{ℕ, ◌==◌, ◌||◌, Bool, true, false, length, List, [], ◌∷◌, map, Option, Some, None, option_map, option_and_then, unwrap_or, is_none, is_some, if◌then◌else◌, codes}
+use Rattle.std.specs.Prelude.{ℕ, ◌==◌, ◌||◌, Bool, true, false, length, List, [], ◌∷◌, map, Option}
+use Rattle.std.specs.Prelude.{Some, None, option_map, option_and_then, unwrap_or, is_none, is_some}
+use Rattle.std.specs.Prelude.{if◌then◌else◌, codes}
 use Rattle.std.specs.List.{list_all}
-use Rattle.serde_json.specs.Data.{Data, null, boolean, number, string, array, object, Items, no_items, item}
+use Rattle.serde_json.specs.Data.{Data, null, boolean, number, string, array, object, Items}
+use Rattle.serde_json.specs.Data.{no_items, item}
 use Rattle.serde_json.specs.Find.{get, as_bool, as_str, as_array, as_object}
 
 -- what follows from a value, if there is one

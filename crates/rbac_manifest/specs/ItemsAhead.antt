@@ -12,7 +12,8 @@ use Rattle.rbac_manifest.specs.declared.kind.Implied.TheVariants as lists
 use Rattle.rbac_manifest.specs.declared.fault.Cause.TheVariants.{NotJson}
 use Rattle.rbac_manifest.specs.declared.fault.Refusal.{Refusal}
 
--- why items are refused, with the first of them at this place: one can't be read (M1), otherwise the first that has a fault
+-- why items are refused, with the first of them at this place: one can't be read (M1), otherwise
+-- the first that has a fault
 abbrev pub ahead_refusal : Implied → ℕ → Option Items → Option Refusal
 ahead_refusal implied place None = Some (as_whole NotJson)
 ahead_refusal implied place (Some ds) = first_refusal implied place (elements ds)
@@ -24,4 +25,5 @@ contents_ahead implied (Some ds) = contents_of_items implied (elements ds)
 
 -- a document is a list of sound kind and version, and implies this for its items
 abbrev pub IsListOf : Implied → Data → Type 0
-IsListOf implied d = (bad_header lists.Nothing d ≡ None) × (kind_of lists.Nothing d ≡ kinds.List implied)
+IsListOf implied d = (bad_header lists.Nothing d ≡ None)
+    × (kind_of lists.Nothing d ≡ kinds.List implied)

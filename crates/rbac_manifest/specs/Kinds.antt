@@ -1,5 +1,6 @@
 -- The kind and version of a document; a list may imply them for its items.
-use Rattle.std.specs.Prelude.{ℕ, ◌&&◌, ◌||◌, Bool, true, false, not, nat_eq, List, [], ◌∷◌, codes, Option, Some, None, option_map, unwrap_or, if◌then◌else◌}
+use Rattle.std.specs.Prelude.{ℕ, ◌&&◌, ◌||◌, Bool, true, false, not, nat_eq, List, [], ◌∷◌, codes}
+use Rattle.std.specs.Prelude.{Option, Some, None, option_map, unwrap_or, if◌then◌else◌}
 use Rattle.std.specs.Str.{bytes_eq}
 use Rattle.std.specs.List.{starts_with, list_any, find}
 use Rattle.serde_json.specs.Data.{Data}
@@ -19,13 +20,15 @@ rbac_v1 = codes "rbac.authorization.k8s.io/v1"
 abbrev pub rbac_v1beta1 : List ℕ
 rbac_v1beta1 = codes "rbac.authorization.k8s.io/v1beta1"
 
--- how a version of the group is read: each of these two as the one that the table names, any other not at all
+-- how a version of the group is read: each of these two as the one that the table names, any other
+-- not at all
 abbrev pub rbac_version : List ℕ → Option (List ℕ)
 rbac_version v = if bytes_eq v rbac_v1 || bytes_eq v rbac_v1beta1 then Some rbac_v1 else None
 
 -- a version as it is read; None if it is a version of the RBAC group that isn't read
 unfoldable pub version_read : List ℕ → Option (List ℕ)
-version_read v = if starts_with nat_eq v (codes "rbac.authorization.k8s.io/") then rbac_version v else Some v
+version_read v =
+    if starts_with nat_eq v (codes "rbac.authorization.k8s.io/") then rbac_version v else Some v
 
 -- the kind that a list implies for its items
 abbrev pub implied_kind : Implied → Option (List ℕ)
@@ -62,7 +65,8 @@ pub record Reading : Type 0 where
   pub kind : List ℕ
   pub means : Kind
 
--- the table of the pairs that are read, with versions as they are read; a list of objects implies the kind of its items (Kubernetes API, own for Universe)
+-- the table of the pairs that are read, with versions as they are read; a list of objects implies
+-- the kind of its items (Kubernetes API, own for Universe)
 abbrev pub kinds_read : List Reading
 kinds_read =
     record { version = rbac_v1; kind = codes "Role"; means = kinds.Role }
@@ -95,7 +99,8 @@ asks_version kind row = bytes_eq kind row.kind && not (is_api_list row.means)
 unfoldable pub needs_version : List ℕ → Bool
 needs_version kind = list_any (asks_version kind) kinds_read
 
--- the implied version, or, if none is implied and the kind needs none, `v1`, the version of an API resource list (own)
+-- the implied version, or, if none is implied and the kind needs none, `v1`, the version of an API
+-- resource list (own)
 abbrev pub version_implied : Bool → Option (List ℕ) → Option (List ℕ)
 version_implied needed None = if needed then None else Some (codes "v1")
 version_implied needed (Some v) = Some v
@@ -107,7 +112,8 @@ version_or needed implied (Some d) = as_str d >>= version_read
 
 -- the version of a document of this kind as it is read, unless it is bad
 unfoldable pub version_at : Implied → List ℕ → Data → Option (List ℕ)
-version_at implied kind d = version_or (needs_version kind) (implied_version implied) (field (codes "apiVersion") d)
+version_at implied kind d =
+    version_or (needs_version kind) (implied_version implied) (field (codes "apiVersion") d)
 
 -- whether a row has this version and kind
 abbrev pub is_row : List ℕ → List ℕ → Reading → Bool
@@ -117,9 +123,11 @@ is_row version kind row = bytes_eq version row.version && bytes_eq kind row.kind
 abbrev pub as_reading : Row → Reading
 as_reading row = record { version = row.version.now; kind = row.kind.now; means = row.means }
 
--- what a document of this version and kind is by these rows; every pair that has no row is passed over
+-- what a document of this version and kind is by these rows; every pair that has no row is passed
+-- over
 abbrev pub meaning_in : List Reading → List ℕ → List ℕ → Kind
-meaning_in rows version kind = unwrap_or (option_map (λ row. row.means) (find (is_row version kind) rows)) kinds.Other
+meaning_in rows version kind =
+    unwrap_or (option_map (λ row. row.means) (find (is_row version kind) rows)) kinds.Other
 
 -- what a document of this version and kind is; every pair that isn't in the table is passed over
 unfoldable pub kind_named : List ℕ → List ℕ → Kind

@@ -1,12 +1,17 @@
--- Labels, and the selectors of an aggregated role (Labels and Selectors; Using RBAC Authorization, Aggregated ClusterRoles).
-use Rattle.std.specs.Prelude.{ℕ, ◌||◌, ◌&&◌, Bool, not, List, [], ◌∷◌, codes, Option, Some, None, option_map, option_and_then, is_none, String, string_bytes, if◌then◌else◌}
+-- Labels, and the selectors of an aggregated role (Labels and Selectors; Using RBAC Authorization,
+-- Aggregated ClusterRoles).
+use Rattle.std.specs.Prelude.{ℕ, ◌||◌, ◌&&◌, Bool, not, List, [], ◌∷◌, codes, Option, Some, None}
+use Rattle.std.specs.Prelude.{option_map, option_and_then, is_none, String, string_bytes}
+use Rattle.std.specs.Prelude.{if◌then◌else◌}
 use Rattle.std.specs.declared.alloc.Global.{Global}
 use Rattle.std.specs.Str.{bytes_eq}
 use Rattle.serde_json.specs.Data.{Data, Members, no_members, member}
 use Rattle.serde_json.specs.Find.{as_str, as_object}
 use Rattle.serde_json.specs.View.{view}
 use Rattle.serde_json.specs.declared.value.Value.{Value}
-use Rattle.rbac_manifest.specs.Fields.{◌>>=◌, field, list_field, texts_field, text_at, is_object, is_empty, non_empty, text, texts, is_no_text, is_no_texts, any_of}
+use Rattle.rbac_manifest.specs.Fields.{◌>>=◌, field, list_field, texts_field, text_at, is_object}
+use Rattle.rbac_manifest.specs.Fields.{is_empty, non_empty, text, texts, is_no_text, is_no_texts}
+use Rattle.rbac_manifest.specs.Fields.{any_of}
 use Rattle.rbac_manifest.specs.Lists.{all_at, cons_if, is_bad_list}
 use Rattle.rbac_terms.specs.Text.{Text}
 use Rattle.rbac_terms.specs.declared.selecting.SelectOp.{SelectOp}
@@ -63,8 +68,9 @@ is_operator name values =
     ((bytes_eq name (codes "In") || bytes_eq name (codes "NotIn")) && not (is_empty values))
     || ((bytes_eq name (codes "Exists") || bytes_eq name (codes "DoesNotExist")) && is_empty values)
 
--- a requirement is bad if it isn't an object, if its key isn't a text or is empty, if its operator isn't a text, if its
--- values aren't a list of texts, or if its operator is unknown or doesn't take these values
+-- a requirement is bad if it isn't an object, if its key isn't a text or is empty, if its operator
+-- isn't a text, if its values aren't a list of texts, or if its operator is unknown or doesn't take
+-- these values
 unfoldable pub is_bad_requirement : Data → Bool
 is_bad_requirement r = any_of (
     not (is_object r)
@@ -78,15 +84,17 @@ is_bad_requirement r = any_of (
 unfoldable pub requirement_at : Data → Option Requirement
 requirement_at d = if is_object d then requirement_from d else None
 
--- a selector asks for all of its labels and all of its requirements together; missing ones ask for nothing
+-- a selector asks for all of its labels and all of its requirements together; missing ones ask for
+-- nothing
 unfoldable pub selector_from : Data → Option Selector
 selector_from d =
     labels_at (codes "matchLabels") d >>= λ labels.
-    option_and_then (all_at requirement_at) (list_field (codes "matchExpressions") d) >>= λ requirements.
+    option_and_then (all_at requirement_at)
+    (list_field (codes "matchExpressions") d) >>= λ requirements.
     Some (record { labels = labels; requirements = requirements })
 
--- a selector is bad if it isn't an object, if its labels aren't an object of texts, if its requirements aren't a list, or
--- if one of them is bad
+-- a selector is bad if it isn't an object, if its labels aren't an object of texts, if its
+-- requirements aren't a list, or if one of them is bad
 unfoldable pub is_bad_selector : Data → Bool
 is_bad_selector s = any_of (
     not (is_object s)
@@ -100,11 +108,16 @@ selector_at d = if is_object d then selector_from d else None
 
 -- the selectors of an aggregation rule; if they are missing, there are none
 unfoldable pub selectors_from : Data → Option (List Selector)
-selectors_from d = if is_object d then option_and_then (all_at selector_at) (list_field (codes "clusterRoleSelectors") d) else None
+selectors_from d =
+    if is_object d
+    then option_and_then (all_at selector_at) (list_field (codes "clusterRoleSelectors") d)
+    else None
 
--- an aggregation rule is bad if it isn't an object, if its selectors aren't a list, or if one of them is bad
+-- an aggregation rule is bad if it isn't an object, if its selectors aren't a list, or if one of
+-- them is bad
 unfoldable pub is_bad_aggregation : Data → Bool
-is_bad_aggregation a = not (is_object a) || is_bad_list is_bad_selector (list_field (codes "clusterRoleSelectors") a)
+is_bad_aggregation a = not (is_object a)
+    || is_bad_list is_bad_selector (list_field (codes "clusterRoleSelectors") a)
 
 -- a role without an aggregation rule is plain
 abbrev pub aggregation_of : Option Data → Option (Option (List Selector))

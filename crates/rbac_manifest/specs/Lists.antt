@@ -1,5 +1,6 @@
 -- A list of items, each of which gives a value or is bad.
-use Rattle.std.specs.Prelude.{◌≡◌, ℕ, Bool, true, List, [], ◌∷◌, Option, Some, None, is_none, option_map, Result, Ok, Err, Vec}
+use Rattle.std.specs.Prelude.{◌≡◌, ℕ, Bool, true, List, [], ◌∷◌, Option, Some, None, is_none}
+use Rattle.std.specs.Prelude.{option_map, Result, Ok, Err, Vec}
 use Rattle.std.specs.declared.alloc.Global.{Global}
 use Rattle.std.specs.List.{list_any, position_from, filter_map}
 use Rattle.serde_json.specs.Data.{Data}
@@ -51,8 +52,11 @@ abbrev pub trouble_with : ItemFault → Trouble
 trouble_with (Bad place) = Shape
 trouble_with WithoutMemory = Memory
 
--- All items were read, and none is bad; or the first bad one is named; nothing is said if it ran out of memory.
-abbrev pub ReadsAll : {X : Type 0} → Result (Vec X Global) ItemFault → (Data → Option X) → List Data → Type 0
-ReadsAll (Ok xs) read ds = (all_at read ds ≡ Some xs.items) × (bad_place read 0 ds ≡ None) × (given_by read ds ≡ xs.items)
+-- All items were read, and none is bad; or the first bad one is named; nothing is said if it ran
+-- out of memory.
+abbrev pub ReadsAll : {X : Type 0} → Result (Vec X Global) ItemFault → (Data → Option X) → List Data
+    → Type 0
+ReadsAll (Ok xs) read ds = (all_at read ds ≡ Some xs.items) × (bad_place read 0 ds ≡ None)
+    × (given_by read ds ≡ xs.items)
 ReadsAll (Err (Bad place)) read ds = (all_at read ds ≡ None) × (bad_place read 0 ds ≡ Some place)
 ReadsAll (Err WithoutMemory) read ds = Unit {0}

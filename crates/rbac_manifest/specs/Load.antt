@@ -1,5 +1,6 @@
 -- What inputs give, and which document is refused first.
-use Rattle.std.specs.Prelude.{◌≡◌, ◌⊎◌, ◌≤◌, ℕ, ◌+◌, List, [], ◌∷◌, length, codes, Option, Some, None, if◌then◌else◌}
+use Rattle.std.specs.Prelude.{◌≡◌, ◌⊎◌, ◌≤◌, ℕ, ◌+◌, List, [], ◌∷◌, length, codes, Option, Some}
+use Rattle.std.specs.Prelude.{None, if◌then◌else◌}
 use Rattle.std.specs.Option.{option_to_list}
 use Rattle.std.specs.List.{flat_map}
 use Rattle.std.specs.Str.{is_utf8}
@@ -10,7 +11,8 @@ use Rattle.serde_json.specs.Read.{read}
 use Rattle.rbac_manifest.specs.Fields.{list_field}
 use Rattle.rbac_manifest.specs.Kinds.{kind_of}
 use Rattle.rbac_manifest.specs.Document.{fault, stands, content_in}
-use Rattle.rbac_manifest.specs.Contents.{objects_in, namespaces_in, accounts_in, catalogue_in, documents_in}
+use Rattle.rbac_manifest.specs.Contents.{objects_in, namespaces_in, accounts_in, catalogue_in}
+use Rattle.rbac_manifest.specs.Contents.{documents_in}
 use Rattle.rbac_catalogue.specs.Catalogue.{CatalogueView}
 use Rattle.rbac_universe.specs.declared.lists.UniverseLists.{UniverseLists}
 use Rattle.rbac_lists.specs.Meant.{lists_meant}
@@ -25,7 +27,8 @@ use Rattle.rbac_manifest.specs.declared.kind.Kind.TheVariants as kinds
 use Rattle.rbac_manifest.specs.declared.kind.Implied.{Implied}
 use Rattle.rbac_manifest.specs.declared.kind.Implied.TheVariants as lists
 use Rattle.rbac_manifest.specs.declared.fault.Cause.{Cause}
-use Rattle.rbac_manifest.specs.declared.fault.Cause.TheVariants.{NotAnObject, NotJson, TooMany, NoMemory}
+use Rattle.rbac_manifest.specs.declared.fault.Cause.TheVariants.{NotAnObject, NotJson, TooMany}
+use Rattle.rbac_manifest.specs.declared.fault.Cause.TheVariants.{NoMemory}
 use Rattle.rbac_manifest.specs.declared.fault.Refusal.{Refusal}
 use Rattle.rbac_manifest.specs.declared.fault.LoadFault.{LoadFault}
 
@@ -47,7 +50,8 @@ item_or place (Some cause) later = Some (in_item place cause)
 -- the refusal of the first item with a fault, with items counted from a place
 abbrev pub first_refusal : Implied → ℕ → List Data → Option Refusal
 first_refusal implied place [] = None
-first_refusal implied place (d ∷ ds) = item_or place (fault implied d) (first_refusal implied (place + 1) ds)
+first_refusal implied place (d ∷ ds) =
+    item_or place (fault implied d) (first_refusal implied (place + 1) ds)
 
 -- what the items give
 abbrev pub contents_of_items : Implied → List Data → List Content
@@ -78,7 +82,8 @@ abbrev pub whole_or : Option Cause → Option Refusal → Option Refusal
 whole_or None items = items
 whole_or (Some cause) items = Some (as_whole cause)
 
--- why an input is refused, if it is: for a fault of its own, otherwise for that of the first item that has one
+-- why an input is refused, if it is: for a fault of its own, otherwise for that of the first item
+-- that has one
 unfoldable pub refusal_in : Data → Option Refusal
 refusal_in d = whole_or (fault lists.Nothing d) (items_refusal (kind_of lists.Nothing d) d)
 
@@ -139,31 +144,39 @@ all_contents inputs = flat_map contents_of_file inputs
 
 -- ---- what is loaded
 
--- what contracts see of what was loaded: a policy, a catalogue, the lists of a universe, and which objects were replaced
+-- what contracts see of what was loaded: a policy, a catalogue, the lists of a universe, and which
+-- objects were replaced
 pub record LoadedView : Type 0 where
   pub policy : PolicyView
   pub catalogue : CatalogueView
   pub lists : UniverseLists
   pub replaced : List Replaced
 
--- every document is accepted; of each kind, namespace and name the last object is kept (own); the grants
--- follow from what is kept, and there are no more than there may be; the catalogue is that of all API resource
--- lists; the lists are those that all of this means; and the objects listed as replaced are those that several documents give
+-- every document is accepted; of each kind, namespace and name the last object is kept (own); the
+-- grants follow from what is kept, and there are no more than there may be; the catalogue is that
+-- of all API resource lists; the lists are those that all of this means; and the objects listed as
+-- replaced are those that several documents give
 pub record IsLoaded (inputs : List (List ℕ)) (l : LoadedView) : Type 0 where
   pub accepted : document_fault inputs ≡ None
   pub kept : AreKept (objects_in (all_contents inputs)) l.policy.held
   pub policy : IsPolicy l.policy
   pub few : length l.policy.grants ≤ most_grants
   pub catalogue : l.catalogue ≡ catalogue_in (all_contents inputs)
-  pub lists : l.lists ≡ lists_meant l.policy.held l.catalogue (namespaces_in (all_contents inputs)) (accounts_in (all_contents inputs)) (documents_in (all_contents inputs))
-  pub replaced : AreReplaced (names_given (objects_in (all_contents inputs)) (namespaces_in (all_contents inputs)) (accounts_in (all_contents inputs))) l.replaced
+  pub lists : l.lists
+      ≡ lists_meant l.policy.held l.catalogue (namespaces_in (all_contents inputs))
+      (accounts_in (all_contents inputs)) (documents_in (all_contents inputs))
+  pub replaced : AreReplaced
+      (names_given (objects_in (all_contents inputs)) (namespaces_in (all_contents inputs))
+      (accounts_in (all_contents inputs))) l.replaced
 
 -- all inputs together give more grants than there may be; this fault has no place
 abbrev pub too_many : LoadFault
 too_many = record { at = None; cause = TooMany }
 
--- the fault is that of the first document that has one, or, if none has, that what is kept gives too many grants
+-- the fault is that of the first document that has one, or, if none has, that what is kept gives
+-- too many grants
 abbrev pub HasFault : List (List ℕ) → LoadFault → Type 0
 HasFault inputs f =
     (document_fault inputs ≡ Some f)
-    ⊎ ((document_fault inputs ≡ None) × (f ≡ too_many) × ((held : Held) × AreKept (objects_in (all_contents inputs)) held × HasTooMany held))
+    ⊎ ((document_fault inputs ≡ None) × (f ≡ too_many)
+    × ((held : Held) × AreKept (objects_in (all_contents inputs)) held × HasTooMany held))

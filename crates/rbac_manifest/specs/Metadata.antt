@@ -1,17 +1,24 @@
 -- The name, namespace and labels of an object.
-use Rattle.std.specs.Prelude.{◌||◌, Bool, not, [], codes, Option, Some, None, option_and_then, unwrap_or, is_none, if◌then◌else◌}
+use Rattle.std.specs.Prelude.{◌||◌, Bool, not, [], codes, Option, Some, None, option_and_then}
+use Rattle.std.specs.Prelude.{unwrap_or, is_none, if◌then◌else◌}
 use Rattle.serde_json.specs.Data.{Data}
 use Rattle.rbac_manifest.specs.Fields.{field, text_at, name_at, is_object}
 use Rattle.rbac_manifest.specs.Label.{labels_at}
 use Rattle.rbac_manifest.specs.declared.metadata.Metadata.{Metadata}
 
--- metadata must have a name that isn't empty; a namespace that is there must be a text, and labels must map texts to texts
+-- metadata must have a name that isn't empty; a namespace that is there must be a text, and labels
+-- must map texts to texts
 abbrev pub is_bad_metadata : Data → Bool
-is_bad_metadata m = not (is_object m) || is_none (labels_at (codes "labels") m) || is_none (name_at m) || is_none (text_at (codes "namespace") m)
+is_bad_metadata m = not (is_object m) || is_none (labels_at (codes "labels") m)
+    || is_none (name_at m) || is_none (text_at (codes "namespace") m)
 
 -- what metadata says; a missing namespace is empty
 abbrev pub metadata_in : Data → Metadata
-metadata_in m = record { name = unwrap_or (name_at m) []; namespace = unwrap_or (text_at (codes "namespace") m) []; labels = unwrap_or (labels_at (codes "labels") m) [] }
+metadata_in m = record {
+  name = unwrap_or (name_at m) [];
+  namespace = unwrap_or (text_at (codes "namespace") m) [];
+  labels = unwrap_or (labels_at (codes "labels") m) [];
+}
 
 -- what metadata says, unless it is bad
 unfoldable pub metadata_from : Data → Option Metadata

@@ -5,10 +5,16 @@ use Rattle.std.specs.Cmp.Lexicographic.{slice_cmp}
 use Rattle.rbac_terms.specs.Text.{Text, text_cmp}
 use Rattle.rbac_model.specs.Policies.{role_name, cluster_role_name, binding_name}
 use Rattle.rbac_model.specs.declared.objects.Object.{Object}
-use Rattle.rbac_model.specs.declared.objects.Object.TheVariants.{Role as ARole, ClusterRole as AClusterRole, Binding as ABinding}
+use Rattle.rbac_model.specs.declared.objects.Object.TheVariants.{Role as ARole}
+use Rattle.rbac_model.specs.declared.objects.Object.TheVariants.{ClusterRole as AClusterRole}
+use Rattle.rbac_model.specs.declared.objects.Object.TheVariants.{Binding as ABinding}
 use Rattle.rbac_lists.specs.declared.given_lists.Account.{Account}
 use Rattle.rbac_manifest.specs.declared.replacement.ObjectKind.{ObjectKind}
-use Rattle.rbac_manifest.specs.declared.replacement.ObjectKind.TheVariants.{ClusterRole, ClusterRoleBinding, Namespace, Role, RoleBinding, ServiceAccount}
+use Rattle.rbac_manifest.specs.declared.replacement.ObjectKind.TheVariants.{ClusterRole}
+use Rattle.rbac_manifest.specs.declared.replacement.ObjectKind.TheVariants.{ClusterRoleBinding}
+use Rattle.rbac_manifest.specs.declared.replacement.ObjectKind.TheVariants.{Namespace, Role}
+use Rattle.rbac_manifest.specs.declared.replacement.ObjectKind.TheVariants.{RoleBinding}
+use Rattle.rbac_manifest.specs.declared.replacement.ObjectKind.TheVariants.{ServiceAccount}
 
 -- the order of names: text by text, each by its bytes
 abbrev pub name_cmp : List Text → List Text → Ordering
@@ -38,4 +44,5 @@ account_name a = codes "ServiceAccount" ∷ a.namespace ∷ a.name ∷ []
 
 -- the names of all documents of these kinds
 abbrev pub names_given : List Object → List Text → List Account → List (List Text)
-names_given objects namespaces accounts = map object_name objects ++ map namespace_name namespaces ++ map account_name accounts
+names_given objects namespaces accounts =
+    map object_name objects ++ map namespace_name namespaces ++ map account_name accounts

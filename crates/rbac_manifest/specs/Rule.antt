@@ -1,4 +1,5 @@
--- The rule that an object gives, and which rules are bad (Using RBAC Authorization, Role and ClusterRole).
+-- The rule that an object gives, and which rules are bad (Using RBAC Authorization, Role and
+-- ClusterRole).
 use Rattle.std.specs.Prelude.{◌||◌, ◌&&◌, Bool, not, codes, Option, Some, None, if◌then◌else◌}
 use Rattle.serde_json.specs.Data.{Data}
 use Rattle.rbac_manifest.specs.Fields.{texts, is_no_texts, is_object, is_empty}
@@ -17,15 +18,18 @@ rule_in d = record {
 -- some field of a rule has another shape
 abbrev pub has_bad_field : Data → Bool
 has_bad_field d =
-    is_no_texts (codes "verbs") d || is_no_texts (codes "apiGroups") d || is_no_texts (codes "resources") d
+    is_no_texts (codes "verbs") d || is_no_texts (codes "apiGroups") d
+    || is_no_texts (codes "resources") d
     || is_no_texts (codes "resourceNames") d || is_no_texts (codes "nonResourceURLs") d
 
--- a rule that has no verbs, is for nothing, is for URLs and has groups, resources or object names too, or is for URLs in a Role
+-- a rule that has no verbs, is for nothing, is for URLs and has groups, resources or object names
+-- too, or is for URLs in a Role
 unfoldable pub is_bad_target : Bool → Rule → Bool
 is_bad_target in_role r =
     is_empty r.verbs
     || (is_empty r.urls && (is_empty r.groups || is_empty r.resources))
-    || (not (is_empty r.urls) && (not (is_empty r.groups) || not (is_empty r.resources) || not (is_empty r.resource_names)))
+    || (not (is_empty r.urls)
+    && (not (is_empty r.groups) || not (is_empty r.resources) || not (is_empty r.resource_names)))
     || (not (is_empty r.urls) && in_role)
 
 -- not an object, a field of another shape, or a bad target

@@ -1,8 +1,11 @@
 -- The Universe document (own).
-use Rattle.std.specs.Prelude.{◌&&◌, Bool, true, not, List, [], ◌∷◌, codes, Option, Some, None, option_map, is_none, is_some, if◌then◌else◌}
+use Rattle.std.specs.Prelude.{◌&&◌, Bool, true, not, List, [], ◌∷◌, codes, Option, Some, None}
+use Rattle.std.specs.Prelude.{option_map, is_none, is_some, if◌then◌else◌}
 use Rattle.serde_json.specs.Data.{Data}
 use Rattle.serde_json.specs.Find.{as_str}
-use Rattle.rbac_manifest.specs.Fields.{◌>>=◌, field, list_field, texts_field, text_at, flag_at, is_text, text_in, is_empty, non_empty, given_and, is_no_text, is_no_texts, is_no_flag, any_of}
+use Rattle.rbac_manifest.specs.Fields.{◌>>=◌, field, list_field, texts_field, text_at, flag_at}
+use Rattle.rbac_manifest.specs.Fields.{is_text, text_in, is_empty, non_empty, given_and, is_no_text}
+use Rattle.rbac_manifest.specs.Fields.{is_no_texts, is_no_flag, any_of}
 use Rattle.rbac_manifest.specs.Lists.{all_at, is_bad_list}
 use Rattle.rbac_manifest.specs.declared.fault.Trouble.{Trouble}
 use Rattle.rbac_manifest.specs.declared.fault.Trouble.TheVariants.{Shape, Memory}
@@ -13,7 +16,8 @@ use Rattle.rbac_terms.specs.declared.fault.ModelFault.TheVariants.{EmptyName, Ba
 use Rattle.rbac_universe.specs.declared.lists.ListedResource.{ListedResource}
 use Rattle.rbac_lists.specs.declared.given_lists.GivenLists.{GivenLists}
 
--- why a principal or a resource is refused: its name or text has the wrong shape, or reading it ran out of memory
+-- why a principal or a resource is refused: its name or text has the wrong shape, or reading it ran
+-- out of memory
 abbrev pub trouble_of : ModelFault → Trouble
 trouble_of EmptyName = Shape
 trouble_of BadTarget = Shape
@@ -36,7 +40,8 @@ user_at name d =
 unfoldable pub member_at : Data → Option Who
 member_at name = option_map AsMember (name_in name)
 
--- a user, perhaps with groups, or a member of one group: exactly one of `user` and `group` is there, and no `groups` if `group` is
+-- a user, perhaps with groups, or a member of one group: exactly one of `user` and `group` is
+-- there, and no `groups` if `group` is
 abbrev pub principal_by : (user group groups : Option Data) → Data → Option Who
 principal_by (Some user) None groups d = user_at user d
 principal_by None (Some group) None d = member_at group
@@ -44,7 +49,8 @@ principal_by user group groups d = None
 
 -- the principal that an item gives, unless it is bad
 unfoldable pub principal_at : Data → Option Who
-principal_at d = principal_by (field (codes "user") d) (field (codes "group") d) (field (codes "groups") d) d
+principal_at d =
+    principal_by (field (codes "user") d) (field (codes "group") d) (field (codes "groups") d) d
 
 -- a name is bad if it isn't a text or is empty
 abbrev pub is_bad_name : Data → Bool
@@ -54,8 +60,8 @@ is_bad_name d = is_empty (text_in d)
 abbrev pub has : Text → Data → Bool
 has name d = is_some (field name d)
 
--- a principal is bad if it has neither a user nor a group, or both, if it has groups beside a group, if its user or group
--- isn't a text or is empty, or if its groups aren't a list of texts
+-- a principal is bad if it has neither a user nor a group, or both, if it has groups beside a
+-- group, if its user or group isn't a text or is empty, or if its groups aren't a list of texts
 unfoldable pub is_bad_principal : Data → Bool
 is_bad_principal p = any_of (
     (not (has (codes "user") p) && not (has (codes "group") p))
@@ -68,7 +74,8 @@ is_bad_principal p = any_of (
 
 -- ---- resources
 
--- the resource that an item gives, unless it is bad; its text must be there, a missing group is the core group, and it is namespaced unless it says otherwise
+-- the resource that an item gives, unless it is bad; its text must be there, a missing group is the
+-- core group, and it is namespaced unless it says otherwise
 unfoldable pub resource_at : Data → Option ListedResource
 resource_at d =
     field (codes "resource") d >>= λ resource.
@@ -93,7 +100,8 @@ items_field read name d = list_field name d >>= λ items. all_at read items
 
 -- what a field gives if it is there, even if it is an empty list; a missing one isn't given
 abbrev pub where_given : {X : Type 0} → (Text → Data → Option X) → Text → Data → Option (Option X)
-where_given read name d = if is_none (field name d) then Some None else option_map Some (read name d)
+where_given read name d =
+    if is_none (field name d) then Some None else option_map Some (read name d)
 
 -- the lists that a Universe document gives, unless one of them is bad (M10)
 unfoldable pub given_lists_at : Data → Option GivenLists
@@ -104,10 +112,17 @@ given_lists_at d =
     where_given (items_field resource_at) (codes "resources") d >>= λ resources.
     where_given texts_field (codes "names") d >>= λ names.
     where_given texts_field (codes "urls") d >>= λ urls.
-    Some (record { principals = principals; namespaces = namespaces; verbs = verbs; resources = resources; names = names; urls = urls })
+    Some (record {
+      principals = principals;
+      namespaces = namespaces;
+      verbs = verbs;
+      resources = resources;
+      names = names;
+      urls = urls;
+    })
 
--- a Universe document is bad if its principals or resources aren't a list, if one of them is bad, or if another field
--- isn't a list of texts
+-- a Universe document is bad if its principals or resources aren't a list, if one of them is bad,
+-- or if another field isn't a list of texts
 unfoldable pub is_bad_universe : Data → Bool
 is_bad_universe d = any_of (
     is_bad_list is_bad_principal (list_field (codes "principals") d)

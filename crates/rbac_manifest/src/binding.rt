@@ -4,7 +4,8 @@ ghost use Rattle.std.specs.Prelude.{◌≡◌};
 ghost use Rattle.serde_json.specs.View.{view};
 ghost use Rattle.rbac_manifest.specs.Reads.{Reads, Gives};
 ghost use Rattle.rbac_manifest.specs.Document.{bad_role_ref};
-ghost use Rattle.rbac_manifest.specs.Binding.{is_rbac_group, role_named, role_ref_from, role_ref_at};
+ghost use Rattle.rbac_manifest.specs.Binding.{is_rbac_group, role_named, role_ref_from};
+ghost use Rattle.rbac_manifest.specs.Binding.{role_ref_at};
 
 use crate::fault::{Cause, Trouble, read_or};
 use crate::fields::{field, name_of, text_field, word_of};
@@ -66,7 +67,8 @@ pub(crate) fn role_ref_of(
     document: &Value,
     in_namespace: bool,
 ) -> Result<RoleRef, Cause>
-    ensures { Gives result (bad_role_ref in_namespace (view document.now)) (role_ref_at in_namespace (view document.now)) }
+    ensures { Gives result (bad_role_ref in_namespace (view document.now))
+        (role_ref_at in_namespace (view document.now)) }
 {
     let Some(reference) = field(document, "roleRef") else {
         return Err(Cause::BadRoleRef);

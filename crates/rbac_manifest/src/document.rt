@@ -2,7 +2,9 @@
 
 ghost use Rattle.std.specs.Prelude.{◌≡◌, Some, IfOk, option_map};
 ghost use Rattle.serde_json.specs.View.{view};
-ghost use Rattle.rbac_manifest.specs.Document.{namespace_or_default, role_in, cluster_role_in, binding_in, account_from, content_in, fault, stands, first_of, binding_refusals, bad_header, bad_body};
+ghost use Rattle.rbac_manifest.specs.Document.{namespace_or_default, role_in, cluster_role_in};
+ghost use Rattle.rbac_manifest.specs.Document.{binding_in, account_from, content_in, fault, stands};
+ghost use Rattle.rbac_manifest.specs.Document.{first_of, binding_refusals, bad_header, bad_body};
 ghost use Rattle.rbac_manifest.specs.Metadata.{metadata_at};
 ghost use Rattle.rbac_manifest.specs.Reads.{Loads, Gives};
 ghost use Rattle.rbac_manifest.specs.declared.fault.Cause.{Cause};
@@ -59,7 +61,8 @@ fn role_of(alloc: Global, document: &Value) -> Result<Role, Cause>
 // The ClusterRole that a document gives.
 #[tactic(auto, unfolding(crate::specs::Document::cluster_role_in))]
 fn cluster_role_of(alloc: Global, document: &Value) -> Result<ClusterRole, Cause>
-    ensures { Gives result (bad_body kinds.ClusterRole (view document.now)) (cluster_role_in (view document.now)) }
+    ensures { Gives result (bad_body kinds.ClusterRole (view document.now))
+        (cluster_role_in (view document.now)) }
 {
     let Metadata { name, labels, .. } = metadata_of(alloc, document)?;
     let rules = read_rules(alloc, document, false)?;
@@ -127,7 +130,8 @@ fn account_of(alloc: Global, document: &Value) -> Result<Account, Cause>
 // What a document of this kind gives.
 #[tactic(auto, using(crate::proofs::Conditions::universe_is))]
 fn content_of(alloc: Global, kind: Kind, document: &Value) -> Result<Option<Content>, Cause>
-    ensures { Loads result (bad_body kind (view document.now)) (content_in kind (view document.now)) }
+    ensures { Loads result (bad_body kind (view document.now))
+        (content_in kind (view document.now)) }
 {
     Ok(Some(match kind {
         Kind::Role => Content::Object(Object::Role(role_of(alloc, document)?)),
@@ -156,8 +160,10 @@ pub(crate) fn document_of(
     document: &Value,
     implied: Implied,
 ) -> Result<Option<Content>, Cause>
-    ensures loads { Loads result (fault implied (view document.now)) (stands implied (view document.now)) }
-    ensures header { (cause : Cause) → bad_header implied (view document.now) ≡ Some cause → result ≡ Err cause }
+    ensures loads { Loads result (fault implied (view document.now))
+        (stands implied (view document.now)) }
+    ensures header { (cause : Cause) → bad_header implied (view document.now) ≡ Some cause
+        → result ≡ Err cause }
 {
     let kind = kind_of(document, implied)?;
     content_of(alloc, kind, document)

@@ -1,9 +1,11 @@
 //! The fields of a JSON value. A field whose value is null counts as missing.
 
-ghost use Rattle.std.specs.Prelude.{◌≡◌, map, option_map, option_and_then, true, false, IfOk, IfErr};
+ghost use Rattle.std.specs.Prelude.{◌≡◌, map, option_map, option_and_then, true, false, IfOk};
+ghost use Rattle.std.specs.Prelude.{IfErr};
 ghost use Rattle.serde_json.specs.Find.{as_str};
 ghost use Rattle.serde_json.specs.View.{view};
-ghost use Rattle.rbac_manifest.specs.Fields.{field, is_object, as_list, list_field, texts_field, all_texts, text_at, name_at, flag_at};
+ghost use Rattle.rbac_manifest.specs.Fields.{field, is_object, as_list, list_field, texts_field};
+ghost use Rattle.rbac_manifest.specs.Fields.{all_texts, text_at, name_at, flag_at};
 ghost use Rattle.rbac_manifest.specs.Reads.{Reads};
 ghost use Rattle.rbac_manifest.specs.declared.fault.Trouble.TheVariants.{Shape};
 

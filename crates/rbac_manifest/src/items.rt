@@ -7,7 +7,8 @@ ghost use Rattle.serde_json.specs.View.{view};
 ghost use Rattle.rbac_manifest.specs.declared.fault.Cause.TheVariants.{NoMemory};
 ghost use Rattle.rbac_manifest.specs.Contents.{with_contents};
 ghost use Rattle.rbac_manifest.specs.Document.{fault, stands};
-ghost use Rattle.rbac_manifest.specs.Load.{in_item, first_refusal, contents_of_items, refusal_in, contents_of_input};
+ghost use Rattle.rbac_manifest.specs.Load.{in_item, first_refusal, contents_of_items, refusal_in};
+ghost use Rattle.rbac_manifest.specs.Load.{contents_of_input};
 
 use crate::contents::Contents;
 use crate::document::document_of;
@@ -20,7 +21,8 @@ use std::alloc::{AllocError, Global};
 // The items of a list, moved out of it; missing items count as an empty list.
 #[tactic(auto, unfolding(crate::specs::Fields::list_field, crate::specs::Fields::field))]
 fn take_items(alloc: Global, document: &mut Value) -> Option<Vec<Value>>
-    ensures { option_map (λ items. map view items.items) result ≡ list_field (codes "items") (view document.old) }
+    ensures { option_map (λ items. map view items.items) result
+        ≡ list_field (codes "items") (view document.old) }
 {
     match document.get_mut("items") {
         None => Some(Vec::new(alloc)),
@@ -30,7 +32,8 @@ fn take_items(alloc: Global, document: &mut Value) -> Option<Vec<Value>>
 
 // The items of this value, if it is a list; null counts as an empty list.
 fn list_from(alloc: Global, value: Value) -> Option<Vec<Value>>
-    ensures { option_map (λ items. map view items.items) result ≡ list_or_empty (present (view value)) }
+    ensures { option_map (λ items. map view items.items) result
+        ≡ list_or_empty (present (view value)) }
 {
     match value {
         Value::Null => Some(Vec::new(alloc)),
@@ -55,7 +58,8 @@ fn item_into(
     ensures contents { OnOk result
         (contents.new ≡ with_contents contents.old (option_to_list (stands implied (view item)))) }
     ensures refusal { IfErr result
-        (λ e. e.cause ≢ NoMemory → option_map (in_item place) (fault implied (view item)) ≡ Some e) }
+        (λ e. e.cause ≢ NoMemory
+        → option_map (in_item place) (fault implied (view item)) ≡ Some e) }
 {
     match document_of(alloc, &item, implied) {
         Ok(content) => Ok(contents.take(content)?),
@@ -73,7 +77,8 @@ fn items_into(
 ) -> Result<(), Refusal>
     ensures sound { OnOk result (first_refusal implied 0 (map view items.items) ≡ None) }
     ensures contents { OnOk result
-        (contents.new ≡ with_contents contents.old (contents_of_items implied (map view items.items))) }
+        (contents.new
+        ≡ with_contents contents.old (contents_of_items implied (map view items.items))) }
     ensures refusal { IfErr result
         (λ e. e.cause ≢ NoMemory → first_refusal implied 0 (map view items.items) ≡ Some e) }
 {

@@ -3,7 +3,10 @@
 ghost use Rattle.std.specs.Prelude.{◌≡◌, ◌≢◌, IfErr, map, option_map};
 ghost use Rattle.std.specs.List.{list_any};
 ghost use Rattle.serde_json.specs.View.{view};
-ghost use Rattle.rbac_manifest.specs.Kinds.{as_reading, kinds_read, is_row, meaning_in, implied_kind, implied_version, kind_at, asks_version, needs_version, version_read, version_at, kind_named, kind_of};
+ghost use Rattle.rbac_manifest.specs.Kinds.{as_reading, kinds_read, is_row, meaning_in};
+ghost use Rattle.rbac_manifest.specs.Kinds.{implied_kind, implied_version, kind_at, asks_version};
+ghost use Rattle.rbac_manifest.specs.Kinds.{needs_version, version_read, version_at, kind_named};
+ghost use Rattle.rbac_manifest.specs.Kinds.{kind_of};
 ghost use Rattle.rbac_manifest.specs.Document.{bad_header};
 ghost use Rattle.rbac_manifest.specs.Reads.{Loads};
 ghost use Rattle.rbac_manifest.specs.declared.fault.Cause.TheVariants.{NoMemory};
@@ -283,7 +286,8 @@ fn meaning_in(rows: &[Row], version: &str, kind: &str) -> Kind
 // The kind of a document, if its kind and version texts are sound. Doesn't allocate.
 #[tactic(auto, unfolding(crate::specs::Document::bad_header, crate::specs::Document::not_an_object, crate::specs::Document::bad_version, crate::specs::Kinds::kind_of))]
 pub(crate) fn kind_of(document: &Value, implied: Implied) -> Result<Kind, Cause>
-    ensures loads { Loads result (bad_header implied (view document.now)) (kind_of implied (view document.now)) }
+    ensures loads { Loads result (bad_header implied (view document.now))
+        (kind_of implied (view document.now)) }
     ensures always { IfErr result (λ e. e ≢ NoMemory) }
 {
     if !document.is_object() {

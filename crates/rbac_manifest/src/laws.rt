@@ -10,7 +10,8 @@ use rbac_model::{grants_are_one_list, kept_objects_are_one};
 /// Inputs that are loaded have no fault. So the inputs alone decide whether `load` accepts them,
 /// unless it runs out of memory (own).
 pub fn loaded_inputs_have_no_fault()
-    ensures { (inputs : List (List ℕ)) (l : LoadedView) (f : LoadFault) → IsLoaded inputs l → HasFault inputs f → ⊥ }
+    ensures { (inputs : List (List ℕ)) (l : LoadedView) (f : LoadFault) → IsLoaded inputs l
+        → HasFault inputs f → ⊥ }
 {
     kept_objects_are_one();
     grants_are_one_list();
@@ -19,7 +20,8 @@ pub fn loaded_inputs_have_no_fault()
 /// Inputs determine what they are loaded as, so everyone who loads the same inputs answers over the
 /// same policy, catalogue and lists (own).
 pub fn loaded_inputs_are_one()
-    ensures { (inputs : List (List ℕ)) (l others : LoadedView) → IsLoaded inputs l → IsLoaded inputs others → l ≡ others }
+    ensures { (inputs : List (List ℕ)) (l others : LoadedView) → IsLoaded inputs l
+        → IsLoaded inputs others → l ≡ others }
 {
     kept_objects_are_one();
     grants_are_one_list();
@@ -28,5 +30,6 @@ pub fn loaded_inputs_are_one()
 /// Inputs have at most one fault, so everyone who refuses the same inputs names the same fault
 /// (own).
 pub fn load_faults_are_one()
-    ensures { (inputs : List (List ℕ)) (f g : LoadFault) → HasFault inputs f → HasFault inputs g → f ≡ g }
+    ensures { (inputs : List (List ℕ)) (f g : LoadFault) → HasFault inputs f → HasFault inputs g
+        → f ≡ g }
 {}

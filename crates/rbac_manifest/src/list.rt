@@ -1,7 +1,8 @@
 //! What an object with a list under `items` gives. Its items are read one after another, so that
 //! only one of them is in memory at a time.
 
-ghost use Rattle.std.specs.Prelude.{◌≡◌, ◌≢◌, option_map, OnOk, IfOk, IfErr, IsSome, IsTrue, MatchOption, None, Some, false, if◌then◌else◌};
+ghost use Rattle.std.specs.Prelude.{◌≡◌, ◌≢◌, option_map, OnOk, IfOk, IfErr, IsSome, IsTrue};
+ghost use Rattle.std.specs.Prelude.{MatchOption, None, Some, false, if◌then◌else◌};
 ghost use Rattle.std.specs.Option.{option_to_list};
 ghost use Rattle.serde_json.specs.Data.{item as one_item};
 ghost use Rattle.serde_json.specs.Read.{read};
@@ -50,7 +51,8 @@ fn item_into(
         ≡ with_contents contents.old (option_to_list (stands implied (view item.now)))) }
     ensures ahead { OnOk result (items.new ≡ items.old) }
     ensures refusal { IfErr result (λ e. e.cause ≢ NoMemory
-        → ahead_refusal implied place (option_map (one_item (view item.now)) (items_ahead items.old)) ≡ Some e) }
+        → ahead_refusal implied place
+        (option_map (one_item (view item.now)) (items_ahead items.old)) ≡ Some e) }
 {
     match document_of(alloc, item, implied) {
         Ok(content) => {
@@ -74,7 +76,8 @@ fn items_into(
 ) -> Result<(), Refusal>
     ensures sound { OnOk result (ahead_refusal implied 0 (items_ahead items.old) ≡ None) }
     ensures contents { OnOk result
-        (contents.new ≡ with_contents contents.old (contents_ahead implied (items_ahead items.old))) }
+        (contents.new
+        ≡ with_contents contents.old (contents_ahead implied (items_ahead items.old))) }
     ensures refusal { IfErr result
         (λ e. e.cause ≢ NoMemory → ahead_refusal implied 0 (items_ahead items.old) ≡ Some e) }
 {
@@ -107,7 +110,8 @@ pub(crate) fn document_into(
 ) -> Result<(), Refusal>
     ensures sound { OnOk result (fault Implied.Nothing (view document.now) ≡ None) }
     ensures contents { OnOk result (contents.new
-        ≡ with_contents contents.old (option_to_list (stands Implied.Nothing (view document.now)))) }
+        ≡ with_contents contents.old
+        (option_to_list (stands Implied.Nothing (view document.now)))) }
     ensures refusal { IfErr result (λ e. e.cause ≢ NoMemory
         → option_map as_whole (fault Implied.Nothing (view document.now)) ≡ Some e) }
 {
@@ -123,12 +127,15 @@ pub(crate) fn document_into(
 // Adds what an object with a list under `items` gives to `contents`. If it isn't a list of
 // documents, it gives what its members other than the list say.
 fn open_into(alloc: Global, list: OpenList<'_>, contents: &mut Contents) -> Result<(), Refusal>
-    ensures sound { OnOk result (refusal_of (option_map (with_items (members_view list.entry.others.entries))
+    ensures sound { OnOk result
+        (refusal_of (option_map (with_items (members_view list.entry.others.entries))
         (items_ahead list.entry.items)) ≡ None) }
     ensures contents { OnOk result (contents.new ≡ with_contents contents.old (contents_of_value
-        (option_map (with_items (members_view list.entry.others.entries)) (items_ahead list.entry.items)))) }
+        (option_map (with_items (members_view list.entry.others.entries))
+        (items_ahead list.entry.items)))) }
     ensures refusal { IfErr result (λ e. e.cause ≢ NoMemory → refusal_of
-        (option_map (with_items (members_view list.entry.others.entries)) (items_ahead list.entry.items)) ≡ Some e) }
+        (option_map (with_items (members_view list.entry.others.entries))
+        (items_ahead list.entry.items)) ≡ Some e) }
 {
     let OpenList { others, mut items } = list;
     let document = Value::Object(others);

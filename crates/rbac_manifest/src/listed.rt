@@ -19,7 +19,8 @@ pub(crate) fn all_read<T: Drop, F: Fn(Global, &Value) -> Result<T, Trouble>>(
 ) -> Result<Vec<T>, ItemFault>
     ghost at: { Data → Option T }
     requires callable { F.IsAlwaysCallable read }
-    requires reads { (heap : _) (value : _) (found : _) → F.post read heap value found → Reads found (at (view value.now)) }
+    requires reads { (heap : _) (value : _) (found : _) → F.post read heap value found
+        → Reads found (at (view value.now)) }
     ensures { ReadsAll result at (map view values.now) }
 {
     let mut items = Vec::new(alloc);

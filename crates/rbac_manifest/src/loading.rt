@@ -1,11 +1,14 @@
 //! Reads inputs into what they give and the policy that follows from it.
 
-ghost use Rattle.std.specs.Prelude.{◌≡◌, ◌≢◌, ◌≤◌, length, OnOk, IfOk, IfErr, IsTrue, None, Some, false, if◌then◌else◌};
+ghost use Rattle.std.specs.Prelude.{◌≡◌, ◌≢◌, ◌≤◌, length, OnOk, IfOk, IfErr, IsTrue, None, Some};
+ghost use Rattle.std.specs.Prelude.{false, if◌then◌else◌};
 ghost use Rattle.std.specs.Str.{IsUtf8};
 ghost use Rattle.json_list.specs.List.{IsList};
 ghost use Rattle.serde_json.specs.View.{view};
 ghost use Rattle.rbac_manifest.specs.declared.fault.Cause.TheVariants.{NotJson, NoMemory};
-ghost use Rattle.rbac_manifest.specs.Load.{json_in, in_file, file_refusal, contents_of_file, document_fault, all_contents, too_many, IsLoaded, HasFault};
+ghost use Rattle.rbac_manifest.specs.Load.{json_in, in_file, file_refusal, contents_of_file};
+ghost use Rattle.rbac_manifest.specs.Load.{document_fault, all_contents, too_many, IsLoaded};
+ghost use Rattle.rbac_manifest.specs.Load.{HasFault};
 ghost use Rattle.rbac_manifest.specs.Contents.{sorted_contents, with_contents};
 ghost use Rattle.rbac_manifest.specs.Names.{names_given};
 ghost use Rattle.rbac_manifest.specs.Replaced.{AreReplaced, replaced_name};
@@ -51,7 +54,8 @@ impl Model for Loaded {
     ghost view = { λ l. record {
       policy = l.policy;
       catalogue = l.catalogue;
-      lists = lists_meant l.policy.held l.catalogue l.namespaces.items l.accounts.items l.documents.items;
+      lists = lists_meant l.policy.held l.catalogue l.namespaces.items l.accounts.items
+          l.documents.items;
       replaced = l.replaced.items;
     } };
 
@@ -115,7 +119,8 @@ impl Loaded {
 #[tactic(auto, using(crate::proofs::Json::json_in_text, crate::proofs::Json::json_in_none))]
 fn parse(alloc: Global, bytes: &[u8]) -> Result<Value, Cause>
     ensures value { IfOk result (λ v. json_in bytes.now ≡ Some (view v)) }
-    ensures refused { IfErr result (λ e. e ≢ NoMemory → (e ≡ NotJson) × (json_in bytes.now ≡ None)) }
+    ensures refused { IfErr result
+        (λ e. e ≢ NoMemory → (e ≡ NotJson) × (json_in bytes.now ≡ None)) }
 {
     match Value::from_slice(alloc, bytes) {
         Ok(value) => Ok(value),
@@ -130,7 +135,8 @@ fn list_in(alloc: Global, bytes: &[u8], contents: &mut Contents) -> Result<bool,
     ensures sound { IfOk result (λ is_list. IsTrue is_list → file_refusal bytes.now ≡ None) }
     ensures contents { IfOk result (λ is_list. contents.new ≡ (if is_list
         then with_contents contents.old (contents_of_file bytes.now) else contents.old)) }
-    ensures whole { IfOk result (λ is_list. is_list ≡ false → ¬ (IsUtf8 bytes.now × IsList bytes.now)) }
+    ensures whole { IfOk result
+        (λ is_list. is_list ≡ false → ¬ (IsUtf8 bytes.now × IsList bytes.now)) }
     ensures refusal { IfErr result (λ e. e.cause ≢ NoMemory → file_refusal bytes.now ≡ Some e) }
 {
     match from_utf8(bytes) {
@@ -144,7 +150,8 @@ fn list_in(alloc: Global, bytes: &[u8], contents: &mut Contents) -> Result<bool,
 #[tactic(auto, unfolding(crate::specs::Load::file_refusal, crate::specs::Load::contents_of_file))]
 fn file_into(alloc: Global, bytes: &[u8], contents: &mut Contents) -> Result<(), Refusal>
     ensures sound { OnOk result (file_refusal bytes.now ≡ None) }
-    ensures contents { OnOk result (contents.new ≡ with_contents contents.old (contents_of_file bytes.now)) }
+    ensures contents { OnOk result
+        (contents.new ≡ with_contents contents.old (contents_of_file bytes.now)) }
     ensures refusal { IfErr result (λ e. e.cause ≢ NoMemory → file_refusal bytes.now ≡ Some e) }
 {
     if list_in(alloc, bytes, contents)? {
@@ -180,7 +187,8 @@ fn replaced_among(
     namespaces: &[Word],
     accounts: &[Account],
 ) -> Result<Vec<Replaced>, LoadFault>
-    ensures replaced { IfOk result (λ v. AreReplaced (names_given objects.now namespaces.now accounts.now) v.items) }
+    ensures replaced { IfOk result
+        (λ v. AreReplaced (names_given objects.now namespaces.now accounts.now) v.items) }
     ensures memory { IfErr result (λ e. e ≡ record { at = None; cause = NoMemory }) }
 {
     match replaced_of(alloc, objects, namespaces, accounts) {
@@ -194,7 +202,9 @@ fn policy_of(alloc: Global, objects: Vec<Object>) -> Result<Policy, LoadFault>
     ensures kept { IfOk result (λ p. AreKept objects.items p.held) }
     ensures policy { IfOk result (λ p. IsPolicy p) }
     ensures few { IfOk result (λ p. length p.grants ≤ most_grants) }
-    ensures many { IfErr result (λ e. e.cause ≢ NoMemory → (e ≡ too_many) × ((held : Held) × AreKept objects.items held × HasTooMany held)) }
+    ensures many { IfErr result
+        (λ e. e.cause ≢ NoMemory
+        → (e ≡ too_many) × ((held : Held) × AreKept objects.items held × HasTooMany held)) }
     ensures memory { IfErr result (λ e. e.cause ≡ NoMemory → e.at ≡ None) }
 {
     let Ok(held) = Objects::from_given(alloc, objects) else {
@@ -209,7 +219,8 @@ fn policy_of(alloc: Global, objects: Vec<Object>) -> Result<Policy, LoadFault>
 // Why inputs are refused if their objects can't be resolved.
 fn unresolved(fault: ResolveFault) -> LoadFault
     ensures many { fault ≡ ResolveFault.TooMany → result ≡ too_many }
-    ensures memory { fault ≡ ResolveFault.NoMemory → result ≡ record { at = None; cause = NoMemory } }
+    ensures memory { fault ≡ ResolveFault.NoMemory
+        → result ≡ record { at = None; cause = NoMemory } }
 {
     match fault {
         ResolveFault::TooMany => LoadFault::too_many(),

@@ -4,7 +4,8 @@ ghost use Rattle.std.specs.Prelude.{◌≡◌, ◌++◌, IfOk, OnOk, map};
 ghost use Rattle.std.specs.List.Sorted.{IsSorted};
 ghost use Rattle.rbac_model.specs.Policies.{binding_name};
 ghost use Rattle.rbac_terms.specs.Text.{text_cmp};
-ghost use Rattle.rbac_manifest.specs.Names.{kind_word, object_name, namespace_name, account_name, names_given, name_cmp};
+ghost use Rattle.rbac_manifest.specs.Names.{kind_word, object_name, namespace_name, account_name};
+ghost use Rattle.rbac_manifest.specs.Names.{names_given, name_cmp};
 ghost use Rattle.rbac_manifest.specs.Replaced.{replaced_by, AreReplaced};
 
 use rbac_lists::Account;
@@ -154,7 +155,8 @@ pub(crate) fn replaced_of(
     namespaces: &[Word],
     accounts: &[Account],
 ) -> Result<Vec<Replaced>, AllocError>
-    ensures { IfOk result (λ v. AreReplaced (names_given objects.now namespaces.now accounts.now) v.items) }
+    ensures { IfOk result
+        (λ v. AreReplaced (names_given objects.now namespaces.now accounts.now) v.items) }
 {
     let mut names = names_of(alloc, objects, namespaces, accounts)?;
     names.sort_by(|a, b| a.cmp_name(b))?;

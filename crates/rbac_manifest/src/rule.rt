@@ -37,7 +37,8 @@ fn is_bad_target(rule: &Rule, in_role: bool) -> bool
 
 // The rule that the fields of an object give, whatever its target.
 fn rule_in(alloc: Global, value: &Value) -> Result<Rule, Trouble>
-    ensures { Reads result (if has_bad_field (view value.now) then None else Some (rule_in (view value.now))) }
+    ensures { Reads result
+        (if has_bad_field (view value.now) then None else Some (rule_in (view value.now))) }
 {
     Ok(Rule {
         verbs: words_field(alloc, value, "verbs")?,
@@ -62,7 +63,8 @@ fn rule_of(alloc: Global, value: &Value, in_role: bool) -> Result<Rule, Trouble>
 
 // The rules that all items give. Fails at the first bad one.
 fn rules_from(alloc: Global, values: &[Value], in_role: bool) -> Result<Rules, Cause>
-    ensures { Loads result (option_map BadRule (bad_place (rule_at in_role) 0 (map view values.now)))
+    ensures { Loads result
+        (option_map BadRule (bad_place (rule_at in_role) 0 (map view values.now)))
         (given_by (rule_at in_role) (map view values.now)) }
 {
     match all_read(alloc, values, |alloc, value| rule_of(alloc, value, in_role)) {
@@ -75,7 +77,8 @@ fn rules_from(alloc: Global, values: &[Value], in_role: bool) -> Result<Rules, C
 // The rules of a role.
 #[tactic(auto, using(crate::proofs::Conditions::rules_are), unfolding(crate::specs::Document::bad_rules, crate::specs::Role::rules_in))]
 pub(crate) fn read_rules(alloc: Global, document: &Value, in_role: bool) -> Result<Rules, Cause>
-    ensures { Loads result (bad_rules in_role (view document.now)) (rules_in in_role (view document.now)) }
+    ensures { Loads result (bad_rules in_role (view document.now))
+        (rules_in in_role (view document.now)) }
 {
     match list_field(document, "rules") {
         Some(values) => rules_from(alloc, values, in_role),

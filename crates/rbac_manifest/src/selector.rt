@@ -5,7 +5,9 @@ ghost use Rattle.serde_json.specs.View.{view};
 ghost use Rattle.rbac_manifest.specs.Reads.{Reads, Gives};
 ghost use Rattle.rbac_manifest.specs.Document.{bad_selector};
 ghost use Rattle.rbac_manifest.specs.Lists.{all_at};
-ghost use Rattle.rbac_manifest.specs.Label.{operator_named, requirement_from, requirement_at, selector_from, selector_at, selectors_from, aggregation_at};
+ghost use Rattle.rbac_manifest.specs.Label.{operator_named, requirement_from, requirement_at};
+ghost use Rattle.rbac_manifest.specs.Label.{selector_from, selector_at, selectors_from};
+ghost use Rattle.rbac_manifest.specs.Label.{aggregation_at};
 
 use crate::fault::{Cause, Trouble, read_or};
 use crate::fields::{field, list_field, object_in, text_field, word_of, words_field};

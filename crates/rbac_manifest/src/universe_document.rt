@@ -5,7 +5,9 @@ ghost use Rattle.serde_json.specs.View.{view};
 ghost use Rattle.rbac_manifest.specs.Fields.{as_list, texts_field};
 ghost use Rattle.rbac_manifest.specs.Reads.{Reads};
 ghost use Rattle.rbac_manifest.specs.Lists.{all_at};
-ghost use Rattle.rbac_manifest.specs.UniverseDocument.{trouble_of, user_at, member_at, principal_at, resource_at, items_field, where_given, given_lists_at};
+ghost use Rattle.rbac_manifest.specs.UniverseDocument.{trouble_of, user_at, member_at};
+ghost use Rattle.rbac_manifest.specs.UniverseDocument.{principal_at, resource_at, items_field};
+ghost use Rattle.rbac_manifest.specs.UniverseDocument.{where_given, given_lists_at};
 
 use crate::fault::Trouble;
 use crate::fields::{as_list, field, flag_field, word_field, word_of, words_field, words_in};

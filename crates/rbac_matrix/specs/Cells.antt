@@ -10,7 +10,8 @@ use Rattle.rbac_model.specs.Universes.{UniverseView, Listed, Cell, RowView, Fits
 abbrev pub cell_at : Who → Text → Text → Listed → Cell
 cell_at who namespace verb t = record { who = who; namespace = namespace; verb = verb; target = t }
 
--- the requests of a principal in a namespace for a verb; of a principal in a namespace; of a principal; and all of them
+-- the requests of a principal in a namespace for a verb; of a principal in a namespace; of a
+-- principal; and all of them
 abbrev pub line_cells : UniverseView → Who → Text → Text → List Cell
 line_cells u who namespace verb = map (cell_at who namespace verb) u.targets
 
@@ -31,5 +32,6 @@ HasRow h c b = Fits c × IsFirst h c.who c.namespace c.verb c.target.0 b
 abbrev pub AreRowsOf : Held → List Cell → List RowView → Type 0
 AreRowsOf h [] rows = rows ≡ []
 AreRowsOf h (c ∷ cs) rows =
-    ((b : Binding) × (rest : List RowView) × HasRow h c b × AreRowsOf h cs rest × (rows ≡ record { cell = c; binding = b } ∷ rest))
+    ((b : Binding) × (rest : List RowView) × HasRow h c b × AreRowsOf h cs rest
+    × (rows ≡ record { cell = c; binding = b } ∷ rest))
     ⊎ (((b : Binding) → ¬ HasRow h c b) × AreRowsOf h cs rows)

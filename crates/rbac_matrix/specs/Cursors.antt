@@ -1,5 +1,6 @@
 -- The cursors of a line: the grants that may allow something on it.
-use Rattle.std.specs.Prelude.{◌≡◌, ℕ, ◌+◌, ◌<◌, ◌≤◌, ◌-◌, Bool, IsTrue, List, [], ◌∷◌, Some, slice_get, drop, length}
+use Rattle.std.specs.Prelude.{◌≡◌, ℕ, ◌+◌, ◌<◌, ◌≤◌, ◌-◌, Bool, IsTrue, List, [], ◌∷◌, Some}
+use Rattle.std.specs.Prelude.{slice_get, drop, length}
 use Rattle.rbac_model.specs.Policies.{PolicyView, GrantView}
 use Rattle.rbac_model.specs.Universes.{UniverseView, IsCursor}
 use Rattle.rbac_index.specs.Bound.{IsBoundTo, IsNextRun}
@@ -19,10 +20,13 @@ pub record IsCursorAt (p : PolicyView) (l : LineView) (number : ℕ) : Type 0 wh
 unfoldable pub IsBoundOn : PolicyView → LineView → ℕ → Type 0
 IsBoundOn p l number = IsBoundTo p l.who l.namespace number
 
--- these are the first runs, from a number on, of the grants for which `IsBoundOn` holds; if `are_all` is true, there are no others
+-- these are the first runs, from a number on, of the grants for which `IsBoundOn` holds; if
+-- `are_all` is true, there are no others
 abbrev pub AreRunsFrom : PolicyView → LineView → Bool → ℕ → List Run → Type 0
-AreRunsFrom p l are_all from [] = IsTrue are_all → (number : ℕ) → from ≤ number → ¬ IsBoundOn p l number
-AreRunsFrom p l are_all from (run ∷ runs) = IsNextRun p l.who l.namespace from run.start run.end × AreRunsFrom p l are_all run.end runs
+AreRunsFrom p l are_all from [] = IsTrue are_all → (number : ℕ) → from ≤ number
+    → ¬ IsBoundOn p l number
+AreRunsFrom p l are_all from (run ∷ runs) = IsNextRun p l.who l.namespace from run.start run.end
+    × AreRunsFrom p l are_all run.end runs
 
 -- these are the first runs of the line
 abbrev pub AreRuns : PolicyView → LineView → Runs → Type 0
@@ -30,7 +34,8 @@ AreRuns p l runs = AreRunsFrom p l runs.are_all 0 runs.kept.items
 
 -- the runs are those of the line at the place, if there is a line there
 abbrev pub AreRunsAt : PolicyView → UniverseView → Place → Runs → Type 0
-AreRunsAt p u at runs = (l : LineView) (ls : List LineView) → lines_from u at ≡ l ∷ ls → AreRuns p l runs
+AreRunsAt p u at runs = (l : LineView) (ls : List LineView) → lines_from u at ≡ l ∷ ls
+    → AreRuns p l runs
 
 -- the walk will still come to the cursor with that number
 abbrev pub IsAhead : PolicyView → LineView → Walk → ℕ → Type 0
@@ -43,7 +48,8 @@ pub record IsWithin (p : PolicyView) (l : LineView) (runs : Runs) (w : Walk) : T
   pub later : AreRunsFrom p l runs.are_all w.end (drop w.later runs.kept.items)
 
 -- from one step of a walk to another, this run was the next one, and the runs after it are left
-pub record IsNextRunOn (p : PolicyView) (l : LineView) (runs : Runs) (old new : Walk) (run : Run) : Type 0 where
+pub record IsNextRunOn (p : PolicyView) (l : LineView) (runs : Runs) (old new : Walk)
+    (run : Run) : Type 0 where
   pub next : IsNextRun p l.who l.namespace old.end run.start run.end
   pub later : AreRunsFrom p l runs.are_all run.end (drop new.later runs.kept.items)
   pub same : new.next ≡ old.next

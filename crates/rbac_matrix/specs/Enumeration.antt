@@ -27,14 +27,17 @@ left_at_most s = at_most (requests_left s)
 
 -- the last line that was entered is that of the request
 abbrev pub IsOnLine : Rows → Cell → Type 0
-IsOnLine s c = (ls : List LineView) × (lines_from s.universe.now s.at ≡ line c.who c.namespace c.verb ∷ ls)
+IsOnLine s c = (ls : List LineView)
+    × (lines_from s.universe.now s.at ≡ line c.who c.namespace c.verb ∷ ls)
 
--- a row was given: the first of those that were left; the others are left, and no line past the row's own was entered
+-- a row was given: the first of those that were left; the others are left, and no line past the
+-- row's own was entered
 pub record GivesRow (s : Rows) (r : Row) (t : Rows) : Type 0 where
   pub row : RowView
   pub shows : Shows r row
   pub on : IsOnLine t row.cell
-  pub left : (all : List RowView) → AreLeft s all ↔ ((others : List RowView) × (all ≡ row ∷ others) × AreLeft t others)
+  pub left : (all : List RowView) → AreLeft s all
+      ↔ ((others : List RowView) × (all ≡ row ∷ others) × AreLeft t others)
 
 -- a call gave the first of the rows that were left, or nothing if none was left
 abbrev pub Gives : Rows → Option Row → Rows → Type 0
@@ -60,7 +63,8 @@ pub record IsUnderWay (s : Rows) (upto : ℕ) : Type 0 where
 abbrev pub IsGoing : Rows → Type 0
 IsGoing s = IsUnderWay s 0
 
--- the enumeration begins at `start`, with no row given; no more cursors were sought than that line has, and none if all of its rows are included
+-- the enumeration begins at `start`, with no row given; no more cursors were sought than that line
+-- has, and none if all of its rows are included
 pub record BeginsAt (s : Rows) (start : Start) : Type 0 where
   pub at : s.at ≡ start.at
   pub from : s.from ≡ start.from

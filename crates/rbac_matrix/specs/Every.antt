@@ -1,5 +1,6 @@
 -- Every granting binding: a row for each pair of a request that fits and a binding that grants it.
-use Rattle.std.specs.Prelude.{◌≡◌, ◌≢◌, ◌↔◌, ◌⊎◌, ℕ, List, [], ◌∷◌, ◌++◌, Bool, true, Option, Some, None, Contains, take, filter, length, nat_lt}
+use Rattle.std.specs.Prelude.{◌≡◌, ◌≢◌, ◌↔◌, ◌⊎◌, ℕ, List, [], ◌∷◌, ◌++◌, Bool, true, Option, Some}
+use Rattle.std.specs.Prelude.{None, Contains, take, filter, length, nat_lt}
 use Rattle.std.specs.Ordering.{is_gt}
 use Rattle.std.specs.declared.cmp.Ordering.TheVariants.{Greater}
 use Rattle.std.specs.Cmp.Lexicographic.{slice_cmp}
@@ -19,7 +20,8 @@ IsEveryRow h u row =
     IsCellOf u row.cell × Fits row.cell × Contains h.bindings row.binding
     × Grants h row.binding row.cell.who row.cell.namespace row.cell.verb row.cell.target.0
 
--- the texts by which these rows are ordered: the six of the key, then the binding's kind word, namespace and name, by which bindings are ordered
+-- the texts by which these rows are ordered: the six of the key, then the binding's kind word,
+-- namespace and name, by which bindings are ordered
 abbrev pub every_name : RowView → List Text
 every_name row = texts (cell_key row.cell) ++ binding_name row.binding
 
@@ -28,16 +30,20 @@ pub record IsEvery (h : Held) (u : UniverseView) (rows : List RowView) : Type 0 
   pub ordered : IsAscendingBy every_name rows
   pub exact : (row : RowView) → Contains rows row ↔ IsEveryRow h u row
 
--- a row comes after a mark whose key is less; also after a mark that has the row's own key, and a binding that comes before the row's (own)
+-- a row comes after a mark whose key is less; also after a mark that has the row's own key, and a
+-- binding that comes before the row's (own)
 abbrev pub comes_after : KeyTexts → Option BindingName → RowView → Bool
 comes_after k None row = is_gt (key_cmp (cell_key row.cell) k)
-comes_after k (Some b) row = is_gt (slice_cmp text_cmp (every_name row) (texts k ++ name_texts (Some b)))
+comes_after k (Some b) row =
+    is_gt (slice_cmp text_cmp (every_name row) (texts k ++ name_texts (Some b)))
 
--- a row comes after a mark with a binding, part by part: its key is greater, or its key is the mark's and its binding comes after the mark's
+-- a row comes after a mark with a binding, part by part: its key is greater, or its key is the
+-- mark's and its binding comes after the mark's
 abbrev pub StandsPast : KeyTexts → BindingName → RowView → Type 0
 StandsPast k b row =
     (key_cmp (cell_key row.cell) k ≡ Greater)
-    ⊎ ((cell_key row.cell ≡ k) × (slice_cmp text_cmp (binding_name row.binding) (name_texts (Some b)) ≡ Greater))
+    ⊎ ((cell_key row.cell ≡ k)
+    × (slice_cmp text_cmp (binding_name row.binding) (name_texts (Some b)) ≡ Greater))
 
 -- the rows that come after the mark; all rows if no mark is given
 abbrev pub every_after : Option Mark → List RowView → List RowView
@@ -55,14 +61,17 @@ name_of b = record { namespace = b.namespace; name = b.name }
 abbrev pub mark_of : RowView → Mark
 mark_of row = record { key = cell_key row.cell; binding = Some (name_of row.binding) }
 
--- the rows after a mark are its page, then the rows after the mark of the page's last row; the page says that more follow exactly if some do (own)
+-- the rows after a mark are its page, then the rows after the mark of the page's last row; the page
+-- says that more follow exactly if some do (own)
 abbrev pub EveryPageJoins : Option Mark → ℕ → List RowView → RowView → Type 0
 EveryPageJoins m n rows last =
     (every_after m rows ≡ (every_page m n rows).0 ++ every_after (Some (mark_of last)) rows)
     × (((every_page m n rows).1 ≡ true) ↔ (every_after (Some (mark_of last)) rows ≢ []))
 
--- each page of every granting binding's rows that isn't empty, at any limit, joins the rows after it by its last row's mark (own)
+-- each page of every granting binding's rows that isn't empty, at any limit, joins the rows after
+-- it by its last row's mark (own)
 abbrev pub EveryPagesJoin : Type 0
 EveryPagesJoin =
     (held : Held) (u : UniverseView) (rows : List RowView) → IsEvery held u rows
-    → (m : Option Mark) (n : ℕ) (before : List RowView) (last : RowView) → (every_page m n rows).0 ≡ before ++ last ∷ [] → EveryPageJoins m n rows last
+    → (m : Option Mark) (n : ℕ) (before : List RowView) (last : RowView)
+    → (every_page m n rows).0 ≡ before ++ last ∷ [] → EveryPageJoins m n rows last

@@ -1,5 +1,6 @@
 -- Where the rows of every granting binding that come after a mark begin.
-use Rattle.std.specs.Prelude.{◌≡◌, ℕ, ◌<◌, ◌≤◌, List, ◌++◌, Contains, Option, Some, None, slice_get, true}
+use Rattle.std.specs.Prelude.{◌≡◌, ℕ, ◌<◌, ◌≤◌, List, ◌++◌, Contains, Option, Some, None, slice_get}
+use Rattle.std.specs.Prelude.{true}
 use Rattle.std.specs.declared.cmp.Ordering.TheVariants.{Greater}
 use Rattle.std.specs.Cmp.Lexicographic.{slice_cmp}
 use Rattle.rbac_terms.specs.Text.{text_cmp}
@@ -16,7 +17,8 @@ use Rattle.rbac_matrix.specs.EveryLeft.{pairs_from}
 use Rattle.rbac_matrix.specs.Metering.{AreSought}
 use Rattle.rbac_matrix.specs.Pairs.{IsGranted, pairs_of}
 use Rattle.rbac_matrix.specs.Passing.{cells_left}
-use Rattle.rbac_matrix.specs.Starting.{BeginsOnLine, IsOwnPlace, IsFoundAt, IsStart, cell_name, target_part, what_texts, whats}
+use Rattle.rbac_matrix.specs.Starting.{BeginsOnLine, IsOwnPlace, IsFoundAt, IsStart, cell_name}
+use Rattle.rbac_matrix.specs.Starting.{target_part, what_texts, whats}
 use Rattle.rbac_terms.specs.Keys.{texts}
 use Rattle.rbac_matrix.specs.declared.line.Place.{Place}
 use Rattle.rbac_matrix.specs.declared.every_rows.EveryRows.{EveryRows}
@@ -31,21 +33,28 @@ abbrev pub ComesAfter : Option Mark → RowView → Type 0
 ComesAfter None row = Unit {0}
 ComesAfter (Some m) row = comes_after m.key m.binding row ≡ true
 
--- the granted pairs from this place of a line, a target and a binding on come after the mark, and none of the granted pairs before it does
-pub record IsEveryStart (h : Held) (u : UniverseView) (m : Option Mark) (at : Place) (from place : ℕ) : Type 0 where
+-- the granted pairs from this place of a line, a target and a binding on come after the mark, and
+-- none of the granted pairs before it does
+pub record IsEveryStart (h : Held) (u : UniverseView) (m : Option Mark) (at : Place)
+    (from place : ℕ) : Type 0 where
   pub before : List RowView
-  pub whole : pairs_of h.bindings (cells_of u) ≡ before ++ pairs_from h.bindings place (cells_left u at from)
+  pub whole : pairs_of h.bindings (cells_of u)
+      ≡ before ++ pairs_from h.bindings place (cells_left u at from)
   pub early : (r : RowView) → Contains before r → IsGranted h r → ComesAfter m r → ⊥
-  pub late : (r : RowView) → Contains (pairs_from h.bindings place (cells_left u at from)) r → IsGranted h r → ComesAfter m r
+  pub late : (r : RowView) → Contains (pairs_from h.bindings place (cells_left u at from)) r
+      → IsGranted h r → ComesAfter m r
 
--- the requests after the key begin on this line, which is the key's own if the universe has it; the place within the line comes no later than they do
-pub record IsKeyStart (u : UniverseView) (k : Option KeyTexts) (at : Place) (from : ℕ) : Type 0 where
+-- the requests after the key begin on this line, which is the key's own if the universe has it; the
+-- place within the line comes no later than they do
+pub record IsKeyStart (u : UniverseView) (k : Option KeyTexts) (at : Place)
+    (from : ℕ) : Type 0 where
   pub first : ℕ
   pub start : IsStart u k at first
   pub line : BeginsOnLine u k at first
   pub within : from ≤ first
 
--- the rows begin at the first line, as do the requests after the key; cursors were sought only if that is within the line, and no more than the line has
+-- the rows begin at the first line, as do the requests after the key; cursors were sought only if
+-- that is within the line, and no more than the line has
 pub record EveryStarts (s : EveryRows) (k : Option KeyTexts) : Type 0 where
   pub start : IsKeyStart s.rows.universe.now k s.rows.start s.rows.from
   pub here : s.rows.at ≡ s.rows.start
@@ -63,5 +72,7 @@ HasNoRequest u k = (c : Cell) → IsCellOf u c → cell_name c ≡ texts k → �
 
 -- the bindings before the place come no later than the name, and the others come after it
 pub record ArePastName (bs : List Binding) (b : BindingName) (place : ℕ) : Type 0 where
-  pub below : (j : ℕ) (x : Binding) → j < place → slice_get bs j ≡ Some x → slice_cmp text_cmp (binding_name x) (name_texts (Some b)) ≡ Greater → ⊥
-  pub above : (j : ℕ) (x : Binding) → place ≤ j → slice_get bs j ≡ Some x → slice_cmp text_cmp (binding_name x) (name_texts (Some b)) ≡ Greater
+  pub below : (j : ℕ) (x : Binding) → j < place → slice_get bs j ≡ Some x
+      → slice_cmp text_cmp (binding_name x) (name_texts (Some b)) ≡ Greater → ⊥
+  pub above : (j : ℕ) (x : Binding) → place ≤ j → slice_get bs j ≡ Some x
+      → slice_cmp text_cmp (binding_name x) (name_texts (Some b)) ≡ Greater

@@ -12,8 +12,9 @@ pub record AreLent (m : Matrix) : Type 0 where
   pub reaches : AreReaches m.index.now m.universe.now m.reaches.now
   pub seats : length m.seats.now ≡ length m.index.now.grants
 
--- the rows begin at the first line, which is the key's own if the universe has it, at the place where the requests after the key begin; cursors were
--- sought only if that is within the line, and no more than the line has
+-- the rows begin at the first line, which is the key's own if the universe has it, at the place
+-- where the requests after the key begin; cursors were sought only if that is within the line, and
+-- no more than the line has
 pub record Starts (s : Rows) (k : Option KeyTexts) : Type 0 where
   pub start : IsStart s.universe.now k s.start s.from
   pub here : s.at ≡ s.start

@@ -1,5 +1,6 @@
 -- The lines of a universe, in order, and the requests of each.
-use Rattle.std.specs.Prelude.{◌≡◌, ℕ, ◌+◌, ◌<◌, ◌⊎◌, List, [], ◌∷◌, ◌++◌, Some, map, drop, slice_get, length}
+use Rattle.std.specs.Prelude.{◌≡◌, ℕ, ◌+◌, ◌<◌, ◌⊎◌, List, [], ◌∷◌, ◌++◌, Some, map, drop}
+use Rattle.std.specs.Prelude.{slice_get, length}
 use Rattle.std.specs.List.{flat_map}
 use Rattle.rbac_terms.specs.Text.{Text}
 use Rattle.rbac_terms.specs.Principals.{Who}
@@ -21,7 +22,8 @@ abbrev pub onward : {A B : Type 0} → (A → List B) → (A → List B) → Lis
 onward first whole [] = []
 onward first whole (x ∷ xs) = first x ++ flat_map whole xs
 
--- the lines of a principal in a namespace from a verb on; those of a principal from a namespace and a verb on; and all lines from a place on
+-- the lines of a principal in a namespace from a verb on; those of a principal from a namespace and
+-- a verb on; and all lines from a place on
 abbrev pub verb_lines : UniverseView → Who → ℕ → Text → List LineView
 verb_lines u who v namespace = map (line who namespace) (drop v u.verbs)
 
@@ -29,7 +31,9 @@ abbrev pub namespace_lines : UniverseView → ℕ → ℕ → Who → List LineV
 namespace_lines u n v who = onward (verb_lines u who v) (verb_lines u who 0) (drop n u.namespaces)
 
 unfoldable pub lines_from : UniverseView → Place → List LineView
-lines_from u at = onward (namespace_lines u at.namespace at.verb) (namespace_lines u 0 0) (drop at.principal u.principals)
+lines_from u at =
+    onward (namespace_lines u at.namespace at.verb) (namespace_lines u 0 0)
+    (drop at.principal u.principals)
 
 -- the place of a principal, a namespace and a verb; and the place after that of a line
 abbrev pub place : ℕ → ℕ → ℕ → Place
@@ -47,7 +51,8 @@ pub record IsLineAt (u : UniverseView) (at : Place) (l : LineView) : Type 0 wher
 -- the place is that of a line, or past all lines
 abbrev pub IsSettled : UniverseView → Place → Type 0
 IsSettled u at =
-    ((at.principal < length u.principals) × (at.namespace < length u.namespaces) × (at.verb < length u.verbs))
+    ((at.principal < length u.principals) × (at.namespace < length u.namespaces)
+    × (at.verb < length u.verbs))
     ⊎ (lines_from u at ≡ [])
 
 -- the requests of a line from a target's place on

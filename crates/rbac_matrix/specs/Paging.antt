@@ -4,14 +4,17 @@ use Rattle.rbac_terms.specs.Keys.{KeyTexts}
 use Rattle.rbac_model.specs.Policies.{Held}
 use Rattle.rbac_model.specs.Universes.{UniverseView, RowView, IsMatrix, cell_key, rows_after, page}
 
--- the rows after a key are its page, then the rows after the page's last row; the page says that more follow exactly if some do (own)
+-- the rows after a key are its page, then the rows after the page's last row; the page says that
+-- more follow exactly if some do (own)
 abbrev pub PageJoins : Option KeyTexts → ℕ → List RowView → RowView → Type 0
 PageJoins k n rows last =
     (rows_after k rows ≡ (page k n rows).0 ++ rows_after (Some (cell_key last.cell)) rows)
     × (((page k n rows).1 ≡ true) ↔ (rows_after (Some (cell_key last.cell)) rows ≢ []))
 
--- each page of a matrix that isn't empty, at any limit, joins the rows after it by its last row's key (own)
+-- each page of a matrix that isn't empty, at any limit, joins the rows after it by its last row's
+-- key (own)
 abbrev pub PagesJoin : Type 0
 PagesJoin =
     (held : Held) (u : UniverseView) (rows : List RowView) → IsMatrix held u rows
-    → (k : Option KeyTexts) (n : ℕ) (before : List RowView) (last : RowView) → (page k n rows).0 ≡ before ++ last ∷ [] → PageJoins k n rows last
+    → (k : Option KeyTexts) (n : ℕ) (before : List RowView) (last : RowView)
+    → (page k n rows).0 ≡ before ++ last ∷ [] → PageJoins k n rows last

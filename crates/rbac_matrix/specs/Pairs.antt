@@ -8,9 +8,11 @@ use Rattle.rbac_model.specs.Universes.{Cell, RowView, Fits}
 -- ys are those of xs that have the property, in order
 abbrev pub AreThose : {X : Type 0} → (X → Type 0) → List X → List X → Type 0
 AreThose P [] ys = ys ≡ []
-AreThose {X} P (x ∷ xs) ys = (P x × ((rest : List X) × AreThose P xs rest × (ys ≡ x ∷ rest))) ⊎ ((¬ P x) × AreThose P xs ys)
+AreThose {X} P (x ∷ xs) ys = (P x × ((rest : List X) × AreThose P xs rest × (ys ≡ x ∷ rest)))
+    ⊎ ((¬ P x) × AreThose P xs ys)
 
--- a request with a binding; with each of these bindings; and each of these requests with each of these bindings
+-- a request with a binding; with each of these bindings; and each of these requests with each of
+-- these bindings
 abbrev pub pair_of : Cell → Binding → RowView
 pair_of c b = record { cell = c; binding = b }
 
@@ -22,4 +24,5 @@ pairs_of bs cs = flat_map (cell_pairs bs) cs
 
 -- the request fits, and the binding grants it
 abbrev pub IsGranted : Held → RowView → Type 0
-IsGranted h row = Fits row.cell × Grants h row.binding row.cell.who row.cell.namespace row.cell.verb row.cell.target.0
+IsGranted h row = Fits row.cell
+    × Grants h row.binding row.cell.who row.cell.namespace row.cell.verb row.cell.target.0

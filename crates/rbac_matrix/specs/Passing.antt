@@ -20,8 +20,10 @@ pub record Passes (h : Held) (cs ds : List Cell) (rows : List RowView) : Type 0 
 abbrev pub cell_of : LineView → Listed → Cell
 cell_of l t = cell_at l.who l.namespace l.verb t
 
--- the grant with that number allows the line's request for the target at that place, and the request fits
-pub record IsHit (p : PolicyView) (u : UniverseView) (l : LineView) (place number : ℕ) : Type 0 where
+-- the grant with that number allows the line's request for the target at that place, and the
+-- request fits
+pub record IsHit (p : PolicyView) (u : UniverseView) (l : LineView)
+    (place number : ℕ) : Type 0 where
   pub target : Listed
   pub grant : GrantView
   pub target_at : slice_get u.targets place ≡ Some target
@@ -30,7 +32,8 @@ pub record IsHit (p : PolicyView) (u : UniverseView) (l : LineView) (place numbe
   pub allows : GrantAllows l.who l.namespace l.verb target.0 grant
 
 -- the row of a hit
-abbrev pub row_on : (p : PolicyView) (u : UniverseView) (l : LineView) (place number : ℕ) → IsHit p u l place number → RowView
+abbrev pub row_on : (p : PolicyView) (u : UniverseView) (l : LineView) (place number : ℕ)
+    → IsHit p u l place number → RowView
 row_on p u l place number r = record { cell = cell_of l r.target; binding = r.grant.binding }
 
 -- `place` and `number` don't come before `from` and `upto`
@@ -38,7 +41,8 @@ abbrev pub IsFrom : ℕ → ℕ → ℕ → ℕ → Type 0
 IsFrom place number from upto = (from < place) ⊎ ((from ≡ place) × (upto ≤ number))
 
 -- the first hit, by place and then by number, from a place and a number on
-pub record IsNextHit (p : PolicyView) (u : UniverseView) (l : LineView) (from upto place number : ℕ) : Type 0 where
+pub record IsNextHit (p : PolicyView) (u : UniverseView) (l : LineView)
+    (from upto place number : ℕ) : Type 0 where
   pub hit : IsHit p u l place number
   pub onward : IsFrom place number from upto
   pub first : (q k : ℕ) → IsHit p u l q k → IsFrom q k from upto → IsFrom q k place number
@@ -48,14 +52,16 @@ abbrev pub HasNoHit : PolicyView → UniverseView → LineView → ℕ → ℕ �
 HasNoHit p u l from upto = (q k : ℕ) → IsHit p u l q k → IsFrom q k from upto → ⊥
 
 -- the next hit of a line, with the seat of its grant at its place
-pub record FindsRow (p : PolicyView) (u : UniverseView) (rs : List (List ℕ)) (l : LineView) (from upto : ℕ) (seats : List Seat) (place number : ℕ) : Type 0 where
+pub record FindsRow (p : PolicyView) (u : UniverseView) (rs : List (List ℕ)) (l : LineView)
+    (from upto : ℕ) (seats : List Seat) (place number : ℕ) : Type 0 where
   pub next : IsNextHit p u l from upto place number
   pub cursor : IsCursorAt p l number
   pub stands : (seat_at seats number).place ≡ place
   pub about : (end : ℕ) → number < end → AreSeatedAbout p l rs place end seats
 
 -- the line has no further hit
-pub record EndsLine (p : PolicyView) (u : UniverseView) (rs : List (List ℕ)) (l : LineView) (from upto : ℕ) (seats : List Seat) : Type 0 where
+pub record EndsLine (p : PolicyView) (u : UniverseView) (rs : List (List ℕ)) (l : LineView)
+    (from upto : ℕ) (seats : List Seat) : Type 0 where
   pub none : HasNoHit p u l from upto
   pub reached : ℕ
   pub low : ℕ
@@ -67,7 +73,8 @@ abbrev pub cells_left : UniverseView → Place → ℕ → List Cell
 cells_left u at from = cells_of_lines u from (lines_from u at)
 
 -- on a later line, at its first place, with nothing allowed in between
-pub record ComesTo (p : PolicyView) (u : UniverseView) (at : Place) (from upto : ℕ) (to : Place) : Type 0 where
+pub record ComesTo (p : PolicyView) (u : UniverseView) (at : Place) (from upto : ℕ)
+    (to : Place) : Type 0 where
   pub line : LineView
   pub next : Place
   pub line_at : lines_from u at ≡ line ∷ lines_from u next
@@ -77,10 +84,13 @@ pub record ComesTo (p : PolicyView) (u : UniverseView) (at : Place) (from upto :
 -- still at the same place of a line, or at the first place of a later line
 abbrev pub Leads : PolicyView → UniverseView → Place → ℕ → ℕ → Place → ℕ → ℕ → Type 0
 Leads p u at from upto to begin low =
-    ((to ≡ at) × (begin ≡ from) × (low ≡ upto)) ⊎ ((begin ≡ 0) × (low ≡ 0) × ComesTo p u at from upto to)
+    ((to ≡ at) × (begin ≡ from) × (low ≡ upto))
+    ⊎ ((begin ≡ 0) × (low ≡ 0) × ComesTo p u at from upto to)
 
--- from line place `at`, target place `from` and grant number `upto` on, the next hit was that of target `place` and grant `number`, on the line at `to`
-pub record FindsCell (p : PolicyView) (u : UniverseView) (rs : List (List ℕ)) (at : Place) (from upto : ℕ) (to : Place) (seats : List Seat) (place number : ℕ) : Type 0 where
+-- from line place `at`, target place `from` and grant number `upto` on, the next hit was that of
+-- target `place` and grant `number`, on the line at `to`
+pub record FindsCell (p : PolicyView) (u : UniverseView) (rs : List (List ℕ)) (at : Place)
+    (from upto : ℕ) (to : Place) (seats : List Seat) (place number : ℕ) : Type 0 where
   pub line : LineView
   pub others : List LineView
   pub line_at : lines_from u to ≡ line ∷ others
@@ -91,7 +101,8 @@ pub record FindsCell (p : PolicyView) (u : UniverseView) (rs : List (List ℕ)) 
   pub settled : IsSettled u to
 
 -- there was no further hit
-pub record EndsAll (p : PolicyView) (u : UniverseView) (rs : List (List ℕ)) (at : Place) (from upto : ℕ) (to : Place) (seats : List Seat) : Type 0 where
+pub record EndsAll (p : PolicyView) (u : UniverseView) (rs : List (List ℕ)) (at : Place)
+    (from upto : ℕ) (to : Place) (seats : List Seat) : Type 0 where
   pub ended : lines_from u to ≡ []
   pub begin : ℕ
   pub low : ℕ

@@ -13,15 +13,18 @@ use Rattle.rbac_text.specs.Row.{row_text}
 abbrev pub rows_text : List RowView → Text
 rows_text rows = flat_map (λ row. row_text (cell_key row.cell) row.binding) rows
 
--- since `start` the sink took a prefix of the text and what follows it, the same prefix whatever follows, and the page says how long it is
-pub record StoppedWithin {W : Type 0} (contents : W → Option (List ℕ)) (start now : SinkView W) (page : PageView) (text : List ℕ) (Follows : List ℕ → Type 0) : Type 0 where
+-- since `start` the sink took a prefix of the text and what follows it, the same prefix whatever
+-- follows, and the page says how long it is
+pub record StoppedWithin {W : Type 0} (contents : W → Option (List ℕ)) (start now : SinkView W)
+    (page : PageView) (text : List ℕ) (Follows : List ℕ → Type 0) : Type 0 where
   pub prefix : List ℕ
   pub took : Took contents start now prefix
   pub begins : (more : List ℕ) → Follows more → BeginsWith (text ++ more) prefix
   pub written : page.written ≡ counted 0 (length prefix)
 
 -- from (old, page) to (new, after) printing stopped within the text that follows, whichever it is
-abbrev pub StopsWithin : {W : Type 0} → (W → Option (List ℕ)) → SinkView W → PageView → SinkView W → PageView → (List ℕ → Type 0) → Type 0
+abbrev pub StopsWithin : {W : Type 0} → (W → Option (List ℕ)) → SinkView W → PageView → SinkView W
+    → PageView → (List ℕ → Type 0) → Type 0
 StopsWithin {W} contents old page new after Follows = (start : SinkView W) (text : List ℕ)
     → Printed contents start old page text → StoppedWithin contents start new after text Follows
 
@@ -31,6 +34,8 @@ IsStoppedBy SinkFailed sink = sink.has_failed ≡ true
 IsStoppedBy NoMemory sink = sink.has_failed ≡ false
 
 -- printing stopped within the text, with that fault
-pub record StopsBy {W : Type 0} (contents : W → Option (List ℕ)) (old : SinkView W) (page : PageView) (new : SinkView W) (after : PageView) (text : List ℕ) (fault : PrintFault) : Type 0 where
+pub record StopsBy {W : Type 0} (contents : W → Option (List ℕ)) (old : SinkView W)
+    (page : PageView) (new : SinkView W) (after : PageView) (text : List ℕ)
+    (fault : PrintFault) : Type 0 where
   pub stops : StopsIn contents old page new after text
   pub cause : IsStoppedBy fault new

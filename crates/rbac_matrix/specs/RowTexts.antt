@@ -10,7 +10,14 @@ key_shown r = key_of r.who.now r.namespace.now r.verb.now r.target.now
 
 -- the six texts that a row shows
 abbrev pub texts_shown : Row → KeyTexts
-texts_shown r = record { principal = r.principal.now; namespace = r.namespace.now; verb = r.verb.now; group = r.group.now; resource = r.resource.now; name = r.name.now }
+texts_shown r = record {
+  principal = r.principal.now;
+  namespace = r.namespace.now;
+  verb = r.verb.now;
+  group = r.group.now;
+  resource = r.resource.now;
+  name = r.name.now;
+}
 
 -- `r` shows the row `v` of the matrix, by its key and binding
 pub record Shows (r : Row) (v : RowView) : Type 0 where

@@ -35,16 +35,24 @@ reach_at rs k = slice_index_or rs k []
 abbrev pub start_at : ℕ → ℕ → ℕ → ℕ
 start_at from upto k = from + min 1 (upto - k)
 
--- each cursor of the line has its seat where its remaining entries begin, and all other seats are empty
-pub record AreSeated (p : PolicyView) (l : LineView) (rs : List (List ℕ)) (from upto : ℕ) (seats : List Seat) : Type 0 where
-  pub count : length seats ≡ length p.grants
-  pub each : (k : ℕ) → k < length seats → (IsCursorAt p l k × IsSeated (reach_at rs k) (start_at from upto k) (seat_at seats k)) ⊎ ((IsCursorAt p l k → ⊥) × (seat_at seats k ≡ empty_seat))
-
--- each cursor of the line has a seat at the place, or, only if its number is below `end`, already past it, and all other seats are empty
-pub record AreSeatedAbout (p : PolicyView) (l : LineView) (rs : List (List ℕ)) (place end : ℕ) (seats : List Seat) : Type 0 where
+-- each cursor of the line has its seat where its remaining entries begin, and all other seats are
+-- empty
+pub record AreSeated (p : PolicyView) (l : LineView) (rs : List (List ℕ)) (from upto : ℕ)
+    (seats : List Seat) : Type 0 where
   pub count : length seats ≡ length p.grants
   pub each : (k : ℕ) → k < length seats
-      → (IsCursorAt p l k × (IsSeated (reach_at rs k) place (seat_at seats k) ⊎ ((k < end) × IsSeated (reach_at rs k) (place + 1) (seat_at seats k))))
+      → (IsCursorAt p l k × IsSeated (reach_at rs k) (start_at from upto k) (seat_at seats k))
+      ⊎ ((IsCursorAt p l k → ⊥) × (seat_at seats k ≡ empty_seat))
+
+-- each cursor of the line has a seat at the place, or, only if its number is below `end`, already
+-- past it, and all other seats are empty
+pub record AreSeatedAbout (p : PolicyView) (l : LineView) (rs : List (List ℕ)) (place end : ℕ)
+    (seats : List Seat) : Type 0 where
+  pub count : length seats ≡ length p.grants
+  pub each : (k : ℕ) → k < length seats
+      → (IsCursorAt p l k
+      × (IsSeated (reach_at rs k) place (seat_at seats k)
+      ⊎ ((k < end) × IsSeated (reach_at rs k) (place + 1) (seat_at seats k))))
       ⊎ ((IsCursorAt p l k → ⊥) × (seat_at seats k ≡ empty_seat))
 
 -- as many seats as grants, all empty
@@ -75,14 +83,16 @@ filled seats = sum_by (λ s. min 1 (s.position + stand_of s)) seats
 abbrev pub AreReal : List (List ℕ) → Type 0
 AreReal rs = (k i : ℕ) → i < length (reach_at rs k) → slice_index_or (reach_at rs k) i 0 < past_all
 
--- a step from `old` to `new` that moved the meter on: it read an entry for each seat at a new one, left `gain` entries behind, and read no more than the entries it came to, plus `limit`
+-- a step from `old` to `new` that moved the meter on: it read an entry for each seat at a new one,
+-- left `gain` entries behind, and read no more than the entries it came to, plus `limit`
 pub record Costs (limit gain : ℕ) (old new : List Seat) (before after : ℕ) : Type 0 where
   pub total : ℕ
   pub meter : after ≡ raised before total
   pub low : gain + standing new ≤ standing old + total
   pub high : total + passed old + standing old ≤ limit + passed new + standing new
 
--- a step of one seat from `old` to `new` that moved the meter on: what it read at least, left behind, and read at most
+-- a step of one seat from `old` to `new` that moved the meter on: what it read at least, left
+-- behind, and read at most
 pub record SeatCosts (limit gain : ℕ) (old new : Seat) (before after : ℕ) : Type 0 where
   pub total : ℕ
   pub meter : after ≡ raised before total
@@ -95,7 +105,8 @@ pub record ComesFirst (place number other_place other : ℕ) : Type 0 where
   pub first : other_place ≤ place → place < past_all → number ≤ other
 
 -- the first cursor with the least place, which is that of an entry
-pub record IsLeastSeat (p : PolicyView) (l : LineView) (seats : List Seat) (place number : ℕ) : Type 0 where
+pub record IsLeastSeat (p : PolicyView) (l : LineView) (seats : List Seat)
+    (place number : ℕ) : Type 0 where
   pub cursor : IsCursorAt p l number
   pub at : (seat_at seats number).place ≡ place
   pub real : place < past_all

@@ -9,7 +9,8 @@ ghost use Rattle.rbac_model.specs.Universes.{IsUniverse, most_targets};
 ghost use Rattle.rbac_model.specs.Policies.{IsPolicy};
 ghost use Rattle.rbac_index.specs.Reaches.{AreReaches};
 ghost use Rattle.rbac_matrix.specs.Lines.{IsSettled};
-ghost use Rattle.rbac_matrix.specs.Enumeration.{AreEntered, BeginsAt, Gives, GoesOn, IsGoing, IsUnderWay, left_at_most};
+ghost use Rattle.rbac_matrix.specs.Enumeration.{AreEntered, BeginsAt, Gives, GoesOn, IsGoing};
+ghost use Rattle.rbac_matrix.specs.Enumeration.{IsUnderWay, left_at_most};
 
 use crate::bound_runs::Runs;
 use crate::line::{Place, line_at};
@@ -87,7 +88,8 @@ impl Rows<'_, '_> {
         requires going { IsGoing self.old }
         requires few { self.old.from ≤ most_targets }
         ensures way { IsUnderWay self.new upto }
-        ensures place { (self.new.at ≡ self.old.at) × (self.new.from ≡ self.old.from) × (self.new.returned ≡ self.old.returned) }
+        ensures place { (self.new.at ≡ self.old.at) × (self.new.from ≡ self.old.from)
+            × (self.new.returned ≡ self.old.returned) }
         ensures same { GoesOn self.old self.new }
     {
         let index = self.index;
@@ -109,7 +111,9 @@ impl Rows<'_, '_> {
         requires { IsGoing self.now }
         ensures meter { result.now ≡ self.now.meter }
         ensures low { self.now.returned ≤ result.now }
-        ensures high { (entered : List LineView) (n : ℕ) → AreEntered self.now entered → AreTouched self.now.index.now self.now.universe.now entered n → result.now ≤ 20 * self.now.sought + n }
+        ensures high { (entered : List LineView) (n : ℕ) → AreEntered self.now entered
+            → AreTouched self.now.index.now self.now.universe.now entered n
+            → result.now ≤ 20 * self.now.sought + n }
     {
         &self.meter
     }
@@ -129,7 +133,8 @@ impl<'m> Iterator for Rows<'_, 'm> {
         ensures steps { Gives self.old result self.new }
         ensures goes { MakesProgress IsGoing left_at_most self.old result self.new }
         ensures going { IsGoing self.new }
-        ensures returned { self.new.returned ≡ raised self.old.returned (if is_some result then 1 else 0) }
+        ensures returned { self.new.returned
+            ≡ raised self.old.returned (if is_some result then 1 else 0) }
         ensures same { GoesOn self.old self.new }
     {
         let index = self.index;

@@ -30,10 +30,14 @@ pub fn print_every_page<W: Write + Drop>(
 ) -> Result<(), PrintFault>
     requires going { IsGoingEvery rows.old }
     requires works { sink.old.has_failed ≡ false }
-    ensures ok { OnOk result ((all : List RowView) → AreEveryLeft rows.old all → Prints W.contents sink.old page.old sink.new page.new (every_page_text (cut_at limit all))) }
+    ensures ok { OnOk result
+        ((all : List RowView) → AreEveryLeft rows.old all
+        → Prints W.contents sink.old page.old sink.new page.new
+        (every_page_text (cut_at limit all))) }
     ensures rows { IsGoingEvery rows.new × GoesOn rows.old.rows rows.new.rows }
     ensures works { OnOk result (sink.new.has_failed ≡ false) }
-    ensures err { OnErr result (StopsInEveryPage W.contents sink.old page.old sink.new page.new limit rows.old) }
+    ensures err { OnErr result
+        (StopsInEveryPage W.contents sink.old page.old sink.new page.new limit rows.old) }
     ensures failed { IsErrOf result PrintFault.SinkFailed → sink.new.has_failed ≡ true }
     ensures unfailed { IsErrOf result PrintFault.NoMemory → sink.new.has_failed ≡ false }
 {

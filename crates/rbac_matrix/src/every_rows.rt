@@ -1,12 +1,14 @@
 //! The enumeration of the rows of every granting binding.
 
-ghost use Rattle.std.specs.Prelude.{length, ◌<◌, ◌≡◌, ◌≤◌, ◌+◌, ◌*◌, ℕ, List, is_some, if◌then◌else◌};
+ghost use Rattle.std.specs.Prelude.{length, ◌<◌, ◌≡◌, ◌≤◌, ◌+◌, ◌*◌, ℕ, List, is_some};
+ghost use Rattle.std.specs.Prelude.{if◌then◌else◌};
 ghost use Rattle.std.specs.Iterator.{MakesProgress};
 ghost use Rattle.rbac_matrix.specs.Lines.{LineView};
 ghost use Rattle.rbac_index.specs.Reaches.{raised};
 ghost use Rattle.rbac_matrix.specs.Metering.{AreTouched};
 ghost use Rattle.rbac_matrix.specs.Enumeration.{AreEntered, GoesOn};
-ghost use Rattle.rbac_matrix.specs.EveryLeft.{GivesEvery, IsGoingEvery, PassesBinding, every_at_most};
+ghost use Rattle.rbac_matrix.specs.EveryLeft.{GivesEvery, IsGoingEvery, PassesBinding};
+ghost use Rattle.rbac_matrix.specs.EveryLeft.{every_at_most};
 
 use crate::enumeration::Rows;
 use crate::line::line_at;
@@ -48,7 +50,9 @@ impl EveryRows<'_, '_> {
         requires { IsGoingEvery self.now }
         ensures meter { result.now ≡ self.now.rows.meter }
         ensures low { self.now.rows.returned ≤ result.now }
-        ensures high { (entered : List LineView) (n : ℕ) → AreEntered self.now.rows entered → AreTouched self.now.rows.index.now self.now.rows.universe.now entered n → result.now ≤ 20 * self.now.rows.sought + n }
+        ensures high { (entered : List LineView) (n : ℕ) → AreEntered self.now.rows entered
+            → AreTouched self.now.rows.index.now self.now.rows.universe.now entered n
+            → result.now ≤ 20 * self.now.rows.sought + n }
     {
         &self.rows.meter
     }
@@ -68,7 +72,8 @@ impl<'m> Iterator for EveryRows<'_, 'm> {
         ensures steps { GivesEvery self.old result self.new }
         ensures goes { MakesProgress IsGoingEvery every_at_most self.old result self.new }
         ensures going { IsGoingEvery self.new }
-        ensures returned { self.new.rows.returned ≡ raised self.old.rows.returned (if is_some result then 1 else 0) }
+        ensures returned { self.new.rows.returned
+            ≡ raised self.old.rows.returned (if is_some result then 1 else 0) }
         ensures same { GoesOn self.old.rows self.new.rows }
     {
         let upto = self.upto;

@@ -9,7 +9,8 @@ ghost use Rattle.rbac_model.specs.Policies.{IsPolicy, binding_name};
 ghost use Rattle.rbac_model.specs.Universes.{IsUniverse, most_targets};
 ghost use Rattle.rbac_token.specs.Marks.{name_texts};
 ghost use Rattle.rbac_matrix.specs.EveryLeft.{AreBelow};
-ghost use Rattle.rbac_matrix.specs.EveryStart.{ArePastName, HasNoRequest, IsEveryStart, IsKeyStart, IsOwnRequest, key_of_mark};
+ghost use Rattle.rbac_matrix.specs.EveryStart.{ArePastName, HasNoRequest, IsEveryStart, IsKeyStart};
+ghost use Rattle.rbac_matrix.specs.EveryStart.{IsOwnRequest, key_of_mark};
 ghost use Rattle.rbac_matrix.specs.Lines.{IsSettled};
 ghost use Rattle.rbac_matrix.specs.Starting.{BeginsOnLine, IsStart};
 
@@ -65,7 +66,8 @@ fn grants_before(index: &Index<'_>, place: usize) -> u32
 
 // Where the key's request is, if it is one of the universe.
 fn own_request(universe: &Universe, key: &Key) -> Option<Start>
-    ensures found { MatchOption result (HasNoRequest universe.now key.now) (λ own. IsOwnRequest universe.now key.now own.at own.from) }
+    ensures found { MatchOption result (HasNoRequest universe.now key.now)
+        (λ own. IsOwnRequest universe.now key.now own.at own.from) }
     ensures universe { IsUniverse universe.now }
     ensures few { length universe.now.targets ≤ most_targets }
 {
@@ -85,8 +87,10 @@ fn own_request(universe: &Universe, key: &Key) -> Option<Start>
 // Where the rows after this key begin, with all bindings of each request.
 fn whole_start(universe: &Universe, key: Option<&Key>) -> EveryStart
     ensures settled { IsSettled universe.now result.request.at }
-    ensures start { IsStart universe.now (option_copied key.entry) result.request.at result.request.from }
-    ensures line { BeginsOnLine universe.now (option_copied key.entry) result.request.at result.request.from }
+    ensures start { IsStart universe.now
+        (option_copied key.entry) result.request.at result.request.from }
+    ensures line { BeginsOnLine universe.now
+        (option_copied key.entry) result.request.at result.request.from }
     ensures few { result.request.from ≤ most_targets }
     ensures whole { (result.binding ≡ 0) × (result.upto ≡ 0) }
 {
@@ -101,8 +105,11 @@ fn whole_start(universe: &Universe, key: Option<&Key>) -> EveryStart
 pub(crate) fn every_start(index: &Index<'_>, universe: &Universe, mark: Option<&Mark>) -> EveryStart
     ensures settled { IsSettled universe.now result.request.at }
     ensures few { result.request.from ≤ most_targets }
-    ensures start { IsPolicy index.now → IsUniverse universe.now → IsEveryStart index.now.held universe.now (option_copied mark.entry) result.request.at result.request.from result.binding }
-    ensures key { IsKeyStart universe.now (key_of_mark (option_copied mark.entry)) result.request.at result.request.from }
+    ensures start { IsPolicy index.now → IsUniverse universe.now
+        → IsEveryStart index.now.held universe.now
+        (option_copied mark.entry) result.request.at result.request.from result.binding }
+    ensures key { IsKeyStart universe.now
+        (key_of_mark (option_copied mark.entry)) result.request.at result.request.from }
     ensures below { AreBelow index.now result.upto result.binding }
     ensures within { (result.binding ≡ 0) ⊎ (result.request.from < length universe.now.targets) }
 {

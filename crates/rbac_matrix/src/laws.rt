@@ -10,13 +10,15 @@ ghost use Rattle.rbac_matrix.specs.Paging.{PagesJoin};
 
 /// The matrix of held objects over a universe is unique: one list of rows (own).
 pub fn the_matrix_is_one()
-    ensures { (held : Held) (u : UniverseView) (rows others : List RowView) → IsMatrix held u rows → IsMatrix held u others → rows ≡ others }
+    ensures { (held : Held) (u : UniverseView) (rows others : List RowView) → IsMatrix held u rows
+        → IsMatrix held u others → rows ≡ others }
 {}
 
 /// Each policy has a matrix over each universe. So what was written of a matrix when printing
 /// stopped is a prefix of one (own).
 pub fn a_matrix_is_there()
-    ensures { (p : PolicyView) (u : UniverseView) → IsPolicy p → IsUniverse u → (rows : List RowView) × IsMatrix p.held u rows }
+    ensures { (p : PolicyView) (u : UniverseView) → IsPolicy p → IsUniverse u
+        → (rows : List RowView) × IsMatrix p.held u rows }
 {}
 
 /// Each page of a matrix that isn't empty, at any limit, is followed by the rows after the key of
@@ -29,12 +31,14 @@ pub fn pages_join()
 /// The list of the rows of every granting binding, of held objects over a universe, is unique
 /// (own).
 pub fn every_rows_are_one()
-    ensures { (held : Held) (u : UniverseView) (rows others : List RowView) → IsEvery held u rows → IsEvery held u others → rows ≡ others }
+    ensures { (held : Held) (u : UniverseView) (rows others : List RowView) → IsEvery held u rows
+        → IsEvery held u others → rows ≡ others }
 {}
 
 /// Each policy has a list of the rows of every granting binding over each universe (own).
 pub fn every_rows_are_there()
-    ensures { (p : PolicyView) (u : UniverseView) → IsPolicy p → IsUniverse u → (rows : List RowView) × IsEvery p.held u rows }
+    ensures { (p : PolicyView) (u : UniverseView) → IsPolicy p → IsUniverse u
+        → (rows : List RowView) × IsEvery p.held u rows }
 {}
 
 /// Each page of the rows of every granting binding that isn't empty, at any limit, is followed by
@@ -49,5 +53,6 @@ pub fn every_pages_join()
 /// mark's and its binding comes after the mark's in order of bindings, whether the mark's binding
 /// exists or not (own).
 pub fn rows_after_a_binding()
-    ensures { (k : KeyTexts) (b : BindingName) (row : RowView) → (comes_after k (Some b) row ≡ true) ↔ StandsPast k b row }
+    ensures { (k : KeyTexts) (b : BindingName) (row : RowView) → (comes_after k (Some b) row ≡ true)
+        ↔ StandsPast k b row }
 {}

@@ -3,7 +3,8 @@
 ghost use Rattle.std.specs.Prelude.{◌≡◌, ◌∷◌, [], ◌<◌, ◌≤◌, ◌+◌, length, IfSome, MatchOption};
 ghost use Rattle.rbac_model.specs.Universes.{IsUniverse, most_words};
 ghost use Rattle.rbac_universe.specs.Sets.{IsWithinLimits};
-ghost use Rattle.rbac_matrix.specs.Lines.{LineView, IsLineAt, IsSettled, lines_from, next_verb, place};
+ghost use Rattle.rbac_matrix.specs.Lines.{LineView, IsLineAt, IsSettled, lines_from, next_verb};
+ghost use Rattle.rbac_matrix.specs.Lines.{place};
 ghost use Rattle.rbac_matrix.specs.Shown.{line_of};
 
 use rbac_terms::{Principal, Word};
@@ -50,10 +51,12 @@ pub(crate) fn line_at<'a>(universe: &'a Universe, at: Place) -> Option<Line<'a>>
     requires { IsSettled universe.now at }
     ensures universe { IsUniverse universe.now }
     ensures limits { IsWithinLimits universe.now }
-    ensures few { IfSome result (λ _. (at.principal < most_words) × (at.namespace < most_words) × (at.verb < most_words)) }
+    ensures few { IfSome result
+        (λ _. (at.principal < most_words) × (at.namespace < most_words) × (at.verb < most_words)) }
     ensures place { IfSome result (λ line. IsLineAt universe.now at (line_of line)) }
     ensures line { MatchOption result (lines_from universe.now at ≡ [])
-        (λ line. lines_from universe.now at ≡ line_of line ∷ lines_from universe.now (next_verb at)) }
+        (λ line. lines_from universe.now at
+        ≡ line_of line ∷ lines_from universe.now (next_verb at)) }
 {
     let universe: &'a Universe = universe;
     Some(Line {
@@ -78,7 +81,8 @@ pub(crate) fn after(at: Place) -> Place
 // The place, or the first place in the next namespace if it is past the last verb.
 fn after_verbs(universe: &Universe, at: Place) -> Place
     ensures same { lines_from universe.now result ≡ lines_from universe.now at }
-    ensures verb { 0 < length universe.now.verbs → result.namespace < length universe.now.namespaces → result.verb < length universe.now.verbs }
+    ensures verb { 0 < length universe.now.verbs → result.namespace < length universe.now.namespaces
+        → result.verb < length universe.now.verbs }
 {
     let namespaces = universe.namespaces().len();
     let verbs = universe.verbs().len();
@@ -92,7 +96,8 @@ fn after_verbs(universe: &Universe, at: Place) -> Place
 fn after_namespaces(universe: &Universe, at: Place) -> Place
     requires { at.namespace < length universe.now.namespaces → at.verb < length universe.now.verbs }
     ensures same { lines_from universe.now result ≡ lines_from universe.now at }
-    ensures settled { 0 < length universe.now.namespaces → 0 < length universe.now.verbs → IsSettled universe.now result }
+    ensures settled { 0 < length universe.now.namespaces → 0 < length universe.now.verbs
+        → IsSettled universe.now result }
 {
     let principals = universe.principals().len();
     let namespaces = universe.namespaces().len();

@@ -57,7 +57,9 @@ impl<'m, 's> Matrix<'m, 's> {
     pub fn rows_after(&mut self, key: Option<&Key>) -> Rows<'_, 'm>
         requires { AreLent self.old }
         ensures going { IsGoing result }
-        ensures rows { (rows : List RowView) → IsMatrix self.old.index.now.held self.old.universe.now rows → AreLeft result (rows_after (option_copied key.entry) rows) }
+        ensures rows { (rows : List RowView)
+            → IsMatrix self.old.index.now.held self.old.universe.now rows
+            → AreLeft result (rows_after (option_copied key.entry) rows) }
         ensures starts { Starts result (option_copied key.entry) }
         ensures returned { result.returned ≡ 0 }
         ensures index { result.index.now ≡ self.old.index.now }
@@ -77,7 +79,9 @@ impl<'m, 's> Matrix<'m, 's> {
     pub fn every_after(&mut self, mark: Option<&Mark>) -> EveryRows<'_, 'm>
         requires { AreLent self.old }
         ensures going { IsGoingEvery result }
-        ensures rows { (rows : List RowView) → IsEvery self.old.index.now.held self.old.universe.now rows → AreEveryLeft result (every_after (option_copied mark.entry) rows) }
+        ensures rows { (rows : List RowView)
+            → IsEvery self.old.index.now.held self.old.universe.now rows
+            → AreEveryLeft result (every_after (option_copied mark.entry) rows) }
         ensures starts { EveryStarts result (key_of_mark (option_copied mark.entry)) }
         ensures returned { result.rows.returned ≡ 0 }
         ensures index { result.rows.index.now ≡ self.old.index.now }

@@ -1,6 +1,7 @@
 //! Pages of rows, as they are printed.
 
-ghost use Rattle.std.specs.Prelude.{◌≡◌, ◌≢◌, ◌-◌, ◌++◌, ◌∷◌, [], false, true, List, Some, OnOk, OnErr, IfErr, IsErrOf};
+ghost use Rattle.std.specs.Prelude.{◌≡◌, ◌≢◌, ◌-◌, ◌++◌, ◌∷◌, [], false, true, List, Some, OnOk};
+ghost use Rattle.std.specs.Prelude.{OnErr, IfErr, IsErrOf};
 ghost use Rattle.std.specs.Option.{option_map};
 ghost use Rattle.rbac_model.specs.Universes.{RowView};
 ghost use Rattle.rbac_streams.specs.Taken.{Prints};
@@ -39,10 +40,13 @@ pub fn print_page<W: Write + Drop>(
 ) -> Result<(), PrintFault>
     requires going { IsGoing rows.old }
     requires works { sink.old.has_failed ≡ false }
-    ensures ok { OnOk result ((all : List RowView) → AreLeft rows.old all → Prints W.contents sink.old page.old sink.new page.new (page_text (cut_at limit all))) }
+    ensures ok { OnOk result
+        ((all : List RowView) → AreLeft rows.old all
+        → Prints W.contents sink.old page.old sink.new page.new (page_text (cut_at limit all))) }
     ensures rows { IsGoing rows.new × GoesOn rows.old rows.new }
     ensures works { OnOk result (sink.new.has_failed ≡ false) }
-    ensures err { OnErr result (StopsInPage W.contents sink.old page.old sink.new page.new limit rows.old) }
+    ensures err { OnErr result
+        (StopsInPage W.contents sink.old page.old sink.new page.new limit rows.old) }
     ensures failed { IsErrOf result PrintFault.SinkFailed → sink.new.has_failed ≡ true }
     ensures unfailed { IsErrOf result PrintFault.NoMemory → sink.new.has_failed ≡ false }
 {
@@ -76,9 +80,13 @@ pub(crate) fn print_row<W: Write + Drop>(
     page: &mut Page,
 ) -> Result<(), PrintFault>
     requires { sink.old.has_failed ≡ false }
-    ensures ok { OnOk result (Prints W.contents sink.old page.old sink.new page.new (row_text (key_shown row.entry) row.entry.binding.now)) }
+    ensures ok { OnOk result
+        (Prints W.contents sink.old page.old sink.new page.new
+        (row_text (key_shown row.entry) row.entry.binding.now)) }
     ensures works { OnOk result (sink.new.has_failed ≡ false) }
-    ensures err { IfErr result (StopsBy W.contents sink.old page.old sink.new page.new (row_text (key_shown row.entry) row.entry.binding.now)) }
+    ensures err { IfErr result
+        (StopsBy W.contents sink.old page.old sink.new page.new
+        (row_text (key_shown row.entry) row.entry.binding.now)) }
 {
     if row.put(text).is_err() {
         return Err(PrintFault::NoMemory);
@@ -97,9 +105,11 @@ pub(crate) fn print_last<W: Write + Drop>(
     page: &mut Page,
 ) -> Result<(), PrintFault>
     requires { sink.old.has_failed ≡ false }
-    ensures ok { OnOk result (Prints W.contents sink.old page.old sink.new page.new (last_line of row.entry)) }
+    ensures ok { OnOk result
+        (Prints W.contents sink.old page.old sink.new page.new (last_line of row.entry)) }
     ensures works { OnOk result (sink.new.has_failed ≡ false) }
-    ensures err { IfErr result (StopsBy W.contents sink.old page.old sink.new page.new (last_line of row.entry)) }
+    ensures err { IfErr result
+        (StopsBy W.contents sink.old page.old sink.new page.new (last_line of row.entry)) }
 {
     let Some(row) = row else {
         return page.print(sink, END);

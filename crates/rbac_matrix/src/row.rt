@@ -45,7 +45,8 @@ impl Row<'_> {
 
     // Replaces what `line` held with the row's line.
     pub(crate) fn put(&self, line: &mut Vec<u8>) -> Result<(), AllocError>
-        ensures { OnOk result (line.new.items ≡ row_text (key_shown self.now) self.now.binding.now) }
+        ensures { OnOk result
+            (line.new.items ≡ row_text (key_shown self.now) self.now.binding.now) }
     {
         line.clear();
         put_row(
@@ -62,8 +63,10 @@ impl Row<'_> {
 // The row of a line's request.
 pub(crate) fn row_of<'m>(line: Line<'m>, target: &'m Target, binding: &'m Binding) -> Row<'m>
     requires { namespace_at line.namespace.now target.now ≡ line.namespace.now }
-    ensures key { key_shown result ≡ key_of line.entry.principal.now line.entry.namespace.now line.entry.verb.now target.now }
-    ensures texts { texts_shown result ≡ key_of line.entry.principal.now line.entry.namespace.now line.entry.verb.now target.now }
+    ensures key { key_shown result
+        ≡ key_of line.entry.principal.now line.entry.namespace.now line.entry.verb.now target.now }
+    ensures texts { texts_shown result
+        ≡ key_of line.entry.principal.now line.entry.namespace.now line.entry.verb.now target.now }
     ensures binding { result.binding.now ≡ binding.now }
 {
     Row {

@@ -4,7 +4,8 @@ ghost use Rattle.std.specs.Prelude.{◌≡◌, ◌+◌, ◌<◌, ◌≤◌, ◌�
 ghost use Rattle.std.specs.List.{slice_index_or};
 ghost use Rattle.std.specs.List.Sorted.{IsStrictlyIncreasing};
 ghost use Rattle.rbac_index.specs.Reaches.{raised};
-ghost use Rattle.rbac_matrix.specs.Seats.{IsSeated, IsFirstFrom, ReadsAtMost, SeatCosts, empty_seat, past_all};
+ghost use Rattle.rbac_matrix.specs.Seats.{IsSeated, IsFirstFrom, ReadsAtMost, SeatCosts};
+ghost use Rattle.rbac_matrix.specs.Seats.{empty_seat, past_all};
 ghost use Rattle.rbac_model.specs.Universes.{most_targets};
 
 use rbac_index::{Meter, Reach};

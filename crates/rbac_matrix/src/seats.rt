@@ -1,10 +1,12 @@
 //! The seats of the cursors of a line.
 
-ghost use Rattle.std.specs.Prelude.{◌≡◌, ◌+◌, ◌*◌, ◌<◌, ◌≤◌, ◌⊎◌, ℕ, length, IfSome, IfNone, IsTrue, ◌↔◌};
+ghost use Rattle.std.specs.Prelude.{◌≡◌, ◌+◌, ◌*◌, ◌<◌, ◌≤◌, ◌⊎◌, ℕ, length, IfSome, IfNone};
+ghost use Rattle.std.specs.Prelude.{IsTrue, ◌↔◌};
 ghost use Rattle.rbac_model.specs.Policies.{IsPolicy};
 ghost use Rattle.rbac_matrix.specs.Shown.{line_of};
 ghost use Rattle.rbac_matrix.specs.Cursors.{AreRuns, IsCursorAt};
-ghost use Rattle.rbac_matrix.specs.Seats.{AreSeated, AreSeatedAbout, AreEmpty, Costs, IsLeastSeat, AreReal, filled, empty_seat, past_all, seat_at};
+ghost use Rattle.rbac_matrix.specs.Seats.{AreSeated, AreSeatedAbout, AreEmpty, Costs, IsLeastSeat};
+ghost use Rattle.rbac_matrix.specs.Seats.{AreReal, filled, empty_seat, past_all, seat_at};
 
 use crate::bound_runs::Runs;
 use crate::line::Line;
@@ -68,9 +70,13 @@ pub(crate) fn least_seat(
 ) -> Option<(u32, u32)>
     requires runs { AreRuns index.now (line_of line) runs.now }
     requires count { length seats.now ≡ length index.now.grants }
-    requires others { (k : ℕ) → k < length seats.now → IsCursorAt index.now (line_of line) k ⊎ (seat_at seats.now k ≡ empty_seat) }
-    ensures found { IfSome result (λ found. IsLeastSeat index.now (line_of line.entry) seats.now found.0 found.1) }
-    ensures none { IfNone result ((k : ℕ) → IsCursorAt index.now (line_of line.entry) k → past_all ≤ (seat_at seats.now k).place) }
+    requires others { (k : ℕ) → k < length seats.now
+        → IsCursorAt index.now (line_of line) k ⊎ (seat_at seats.now k ≡ empty_seat) }
+    ensures found { IfSome result
+        (λ found. IsLeastSeat index.now (line_of line.entry) seats.now found.0 found.1) }
+    ensures none { IfNone result
+        ((k : ℕ) → IsCursorAt index.now (line_of line.entry) k
+        → past_all ≤ (seat_at seats.now k).place) }
 {
     let mut place = u32::MAX;
     let mut number = 0;
@@ -114,7 +120,8 @@ pub(crate) fn advance(
     requires stands { place < past_all }
     ensures seated { AreSeated index.now (line_of line.entry) reaches.now place end seats.new }
     ensures costs { Costs 0 0 seats.old seats.new meter.old meter.new }
-    ensures gains { (k : ℕ) → IsCursorAt index.now (line_of line.entry) k → k < end → (seat_at seats.old k).place ≡ place → Costs 0 1 seats.old seats.new meter.old meter.new }
+    ensures gains { (k : ℕ) → IsCursorAt index.now (line_of line.entry) k → k < end
+        → (seat_at seats.old k).place ≡ place → Costs 0 1 seats.old seats.new meter.old meter.new }
 {
     let mut walk = whole_walk();
     while let Some(no) = next_bound(index, line, runs, &mut walk) {
@@ -129,7 +136,8 @@ pub(crate) fn advance(
 pub(crate) fn empty_line(index: &Index<'_>, line: Line<'_>, runs: &Runs, seats: &mut [Seat])
     requires runs { AreRuns index.now (line_of line) runs.now }
     requires count { length seats.old ≡ length index.now.grants }
-    requires others { (k : ℕ) → k < length seats.old → IsCursorAt index.now (line_of line) k ⊎ (seat_at seats.old k ≡ empty_seat) }
+    requires others { (k : ℕ) → k < length seats.old
+        → IsCursorAt index.now (line_of line) k ⊎ (seat_at seats.old k ≡ empty_seat) }
     ensures { AreEmpty index.now seats.new }
 {
     let mut walk = whole_walk();

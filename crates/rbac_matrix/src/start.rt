@@ -13,7 +13,9 @@ ghost use Rattle.rbac_model.specs.Universes.{IsUniverse, most_targets};
 ghost use Rattle.rbac_matrix.specs.Metering.{AreSought, IsMetered, IsReady};
 ghost use Rattle.rbac_index.specs.Reaches.{AreReaches};
 ghost use Rattle.rbac_matrix.specs.Seats.{AreEmpty};
-ghost use Rattle.rbac_matrix.specs.Starting.{BeginsOnLine, HasNoLine, IsFoundAt, IsGapAt, IsOwnPlace, IsStart, IsTargetPlace, target_part, what_texts, whats};
+ghost use Rattle.rbac_matrix.specs.Starting.{BeginsOnLine, HasNoLine, IsFoundAt, IsGapAt};
+ghost use Rattle.rbac_matrix.specs.Starting.{IsOwnPlace, IsStart, IsTargetPlace, target_part};
+ghost use Rattle.rbac_matrix.specs.Starting.{what_texts, whats};
 
 use crate::bound_runs::Runs;
 use crate::line::{Place, line_at, settled};
@@ -33,8 +35,10 @@ pub(crate) struct Start {
 
 // Where the key's principal is, or would go.
 fn principal_place(universe: &Universe, key: &Key) -> Result<usize, usize>
-    ensures found { IfOk result (IsFoundAt text_cmp who_key universe.now.principals key.now.principal) }
-    ensures gap { IfErr result (IsGapAt text_cmp who_key universe.now.principals key.now.principal) }
+    ensures found { IfOk result
+        (IsFoundAt text_cmp who_key universe.now.principals key.now.principal) }
+    ensures gap { IfErr result
+        (IsGapAt text_cmp who_key universe.now.principals key.now.principal) }
     ensures universe { IsUniverse universe.now }
 {
     let wanted = key.field(0);
@@ -62,8 +66,10 @@ fn cmp_target(target: &Target, key: &Key) -> Ordering
 
 // Where the key's target is, or would go.
 pub(crate) fn target_place(universe: &Universe, key: &Key) -> Result<usize, usize>
-    ensures found { IfOk result (IsFoundAt (slice_cmp text_cmp) what_texts (whats universe.now) (target_part key.now)) }
-    ensures gap { IfErr result (IsGapAt (slice_cmp text_cmp) what_texts (whats universe.now) (target_part key.now)) }
+    ensures found { IfOk result
+        (IsFoundAt (slice_cmp text_cmp) what_texts (whats universe.now) (target_part key.now)) }
+    ensures gap { IfErr result
+        (IsGapAt (slice_cmp text_cmp) what_texts (whats universe.now) (target_part key.now)) }
     ensures few { length universe.now.targets ≤ most_targets }
     ensures universe { IsUniverse universe.now }
 {
@@ -174,7 +180,8 @@ pub(crate) fn seat_start(
     requires fresh { meter.old ≡ 0 }
     ensures ready { IsReady index.now universe.now reaches.now start.at start.from 0 seats.new }
     ensures runs { AreRunsAt index.now universe.now start.at runs.new }
-    ensures metered { IsMetered index.now universe.now start.at result start.at seats.new 0 meter.new }
+    ensures metered { IsMetered index.now universe.now start.at result start.at seats.new 0
+        meter.new }
     ensures whole { start.from ≡ 0 → result ≡ 0 }
     ensures sought { AreSought index.now universe.now start.at result }
     ensures universe { IsUniverse universe.now }

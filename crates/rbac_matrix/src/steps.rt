@@ -50,7 +50,8 @@ pub(crate) fn next_in_line(
     requires seated { AreSeated index.now (line_of line) reaches.now from upto seats.old }
     ensures row { MatchOption result
         (EndsLine index.now universe.now reaches.now (line_of line.entry) from upto seats.new)
-        (λ found. FindsRow index.now universe.now reaches.now (line_of line.entry) from upto seats.new found.0 found.1) }
+        (λ found. FindsRow index.now universe.now reaches.now
+        (line_of line.entry) from upto seats.new found.0 found.1) }
     ensures costs { Costs 0 0 seats.old seats.new meter.old meter.new }
 {
     let mut from = from;
@@ -107,8 +108,10 @@ fn past_idle(index: &Index<'_>, line: Line<'_>, at: Place) -> Place
     requires policy { IsPolicy index.now }
     requires idle { (k : ℕ) → ¬ IsBoundOn index.now (line_of line) k }
     requires few { (at.principal < most_words) × (at.namespace < most_words) }
-    ensures skips { (u : UniverseView) → IsLineAt u at (line_of line.entry) → Skips index.now.held u at result }
-    ensures on { (u : UniverseView) → IsLineAt u at (line_of line.entry) → length (lines_from u result) < length (lines_from u at) }
+    ensures skips { (u : UniverseView) → IsLineAt u at (line_of line.entry)
+        → Skips index.now.held u at result }
+    ensures on { (u : UniverseView) → IsLineAt u at (line_of line.entry)
+        → length (lines_from u result) < length (lines_from u at) }
 {
     if at.namespace == 0 && !index.has_grants(line.principal) {
         return Place::of_principal(at.principal + 1);
@@ -137,8 +140,10 @@ pub(crate) fn next_cell(
     ensures runs { AreRunsAt index.now universe.now result.0 runs.new }
     ensures row { MatchOption result.1
         (EndsAll index.now universe.now reaches.now at from upto result.0 seats.new)
-        (λ found. FindsCell index.now universe.now reaches.now at from upto result.0 seats.new found.0 found.1) }
-    ensures metered { (start : Place) (sought given : ℕ) → IsMetered index.now universe.now start sought at seats.old given meter.old
+        (λ found. FindsCell index.now universe.now reaches.now at from upto result.0 seats.new
+        found.0 found.1) }
+    ensures metered { (start : Place) (sought given : ℕ)
+        → IsMetered index.now universe.now start sought at seats.old given meter.old
         → IsMetered index.now universe.now start sought result.0 seats.new given meter.new }
 {
     let mut at = at;

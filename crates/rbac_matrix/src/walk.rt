@@ -4,7 +4,8 @@ ghost use Rattle.std.specs.Prelude.{◌≡◌, ◌<◌, ◌≤◌, ◌⊎◌, �
 ghost use Rattle.rbac_model.specs.Policies.{PolicyView};
 ghost use Rattle.rbac_matrix.specs.Shown.{line_of};
 ghost use Rattle.rbac_matrix.specs.Lines.{LineView};
-ghost use Rattle.rbac_matrix.specs.Cursors.{AreRuns, AreRunsFrom, IsAhead, IsBoundOn, IsCursorAt, IsNextBound, IsNextRunOn, IsWithin, steps_left};
+ghost use Rattle.rbac_matrix.specs.Cursors.{AreRuns, AreRunsFrom, IsAhead, IsBoundOn, IsCursorAt};
+ghost use Rattle.rbac_matrix.specs.Cursors.{IsNextBound, IsNextRunOn, IsWithin, steps_left};
 
 use crate::bound_runs::{Run, Runs};
 use crate::line::Line;
@@ -23,8 +24,10 @@ pub(crate) struct Walk {
 
 // A walk along all grants of a line.
 pub(crate) fn whole_walk() -> Walk
-    ensures ahead { (p : PolicyView) (l : LineView) (k : ℕ) → IsCursorAt p l k → IsAhead p l result k }
-    ensures within { (p : PolicyView) (l : LineView) (runs : Runs) → AreRuns p l runs → IsWithin p l runs result }
+    ensures ahead { (p : PolicyView) (l : LineView) (k : ℕ) → IsCursorAt p l k
+        → IsAhead p l result k }
+    ensures within { (p : PolicyView) (l : LineView) (runs : Runs) → AreRuns p l runs
+        → IsWithin p l runs result }
 {
     Walk {
         next: 0,
@@ -44,9 +47,12 @@ pub(crate) fn next_cursor(
     ensures found { MatchOption result
         ((k : ℕ) → ¬ IsAhead index.now (line_of line.entry) walk.old k)
         (λ k. IsCursorAt index.now (line_of line.entry) k
-        × ((other : ℕ) → IsAhead index.now (line_of line.entry) walk.old other → (other ≡ k) ⊎ IsAhead index.now (line_of line.entry) walk.new other)) }
-    ensures within { IfSome result (λ _. IsWithin index.now (line_of line.entry) runs.now walk.new) }
-    ensures ends { IfSome result (λ _. steps_left index.now walk.new < steps_left index.now walk.old) }
+        × ((other : ℕ) → IsAhead index.now (line_of line.entry) walk.old other
+        → (other ≡ k) ⊎ IsAhead index.now (line_of line.entry) walk.new other)) }
+    ensures within { IfSome result
+        (λ _. IsWithin index.now (line_of line.entry) runs.now walk.new) }
+    ensures ends { IfSome result
+        (λ _. steps_left index.now walk.new < steps_left index.now walk.old) }
 {
     while let Some(no) = next_bound(index, line, runs, walk) {
         if verb_matches(index.grant(no).rule, line.verb) {
@@ -69,10 +75,13 @@ pub(crate) fn next_bound(
         (IsNextBound index.now (line_of line.entry) walk.old walk.new) }
     ensures ahead { MatchOption result
         ((k : ℕ) → ¬ IsAhead index.now (line_of line.entry) walk.old k)
-        (λ k. (other : ℕ) → IsAhead index.now (line_of line.entry) walk.old other → (other ≡ k) ⊎ IsAhead index.now (line_of line.entry) walk.new other) }
+        (λ k. (other : ℕ) → IsAhead index.now (line_of line.entry) walk.old other
+        → (other ≡ k) ⊎ IsAhead index.now (line_of line.entry) walk.new other) }
     ensures number { IfSome result (λ k. k < length index.now.grants) }
-    ensures within { IfSome result (λ _. IsWithin index.now (line_of line.entry) runs.now walk.new) }
-    ensures ends { IfSome result (λ _. steps_left index.now walk.new < steps_left index.now walk.old) }
+    ensures within { IfSome result
+        (λ _. IsWithin index.now (line_of line.entry) runs.now walk.new) }
+    ensures ends { IfSome result
+        (λ _. steps_left index.now walk.new < steps_left index.now walk.old) }
 {
     if walk.end <= walk.next {
         let found = next_run(index, line, runs, walk)?;
@@ -86,7 +95,8 @@ pub(crate) fn next_bound(
 
 // The run after the one that the walk is in.
 fn next_run(index: &Index<'_>, line: Line<'_>, runs: &Runs, walk: &mut Walk) -> Option<Run>
-    requires { AreRunsFrom index.now (line_of line) runs.now.are_all walk.old.end (drop walk.old.later runs.now.kept.items) }
+    requires { AreRunsFrom index.now (line_of line) runs.now.are_all walk.old.end
+        (drop walk.old.later runs.now.kept.items) }
     ensures found { MatchOption result
         ((k : ℕ) → walk.old.end ≤ k → ¬ IsBoundOn index.now (line_of line.entry) k)
         (IsNextRunOn index.now (line_of line.entry) runs.now walk.old walk.new) }

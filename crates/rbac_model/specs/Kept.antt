@@ -6,7 +6,9 @@ use Rattle.rbac_terms.specs.declared.granting.Role.{Role}
 use Rattle.rbac_terms.specs.declared.granting.ClusterRole.{ClusterRole}
 use Rattle.rbac_terms.specs.declared.granting.Binding.{Binding}
 use Rattle.rbac_model.specs.declared.objects.Object.{Object}
-use Rattle.rbac_model.specs.declared.objects.Object.TheVariants.{Role as ARole, ClusterRole as AClusterRole, Binding as ABinding}
+use Rattle.rbac_model.specs.declared.objects.Object.TheVariants.{Role as ARole}
+use Rattle.rbac_model.specs.declared.objects.Object.TheVariants.{ClusterRole as AClusterRole}
+use Rattle.rbac_model.specs.declared.objects.Object.TheVariants.{Binding as ABinding}
 use Rattle.rbac_model.specs.Lists.{IsAscendingBy}
 use Rattle.rbac_model.specs.Policies.{Held, role_name, cluster_role_name, binding_name}
 
@@ -36,8 +38,10 @@ as_binding (ARole r) = None
 as_binding (AClusterRole r) = None
 as_binding (ABinding b) = Some b
 
--- what is kept if these are given one after the other: a later object replaces an earlier one of its kind, namespace and name (own)
+-- what is kept if these are given one after the other: a later object replaces an earlier one of
+-- its kind, namespace and name (own)
 pub record AreKept (given : List Object) (h : Held) : Type 0 where
   pub roles : AreLastNamed role_name (filter_map as_role given) h.roles
-  pub cluster_roles : AreLastNamed cluster_role_name (filter_map as_cluster_role given) h.cluster_roles
+  pub cluster_roles : AreLastNamed cluster_role_name
+      (filter_map as_cluster_role given) h.cluster_roles
   pub bindings : AreLastNamed binding_name (filter_map as_binding given) h.bindings

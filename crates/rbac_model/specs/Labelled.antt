@@ -1,4 +1,5 @@
-use Rattle.std.specs.Prelude.{◌≡◌, ◌↔◌, ◌⊎◌, ℕ, ◌/◌, ◌%◌, List, [], ◌∷◌, Option, Some, None, Any, slice_get}
+use Rattle.std.specs.Prelude.{◌≡◌, ◌↔◌, ◌⊎◌, ℕ, ◌/◌, ◌%◌, List, [], ◌∷◌, Option, Some, None, Any}
+use Rattle.std.specs.Prelude.{slice_get}
 use Rattle.std.specs.Int.{bit_at}
 use Rattle.std.specs.List.Sorted.{IsSorted}
 use Rattle.rbac_terms.specs.Text.{Text}
@@ -38,8 +39,12 @@ Says e label k = (e.label ≡ label) × (k / 64 ≡ e.place / 64) × (bit_at e.b
 -- entries in order of labels, which say of each label exactly which roles have it
 pub record AreLabels (roles : List ClusterRole) (entries : List LabelEntry) : Type 0 where
   pub sorted : IsSorted (by_name (λ e. e.label)) entries
-  pub exact : (key : Text) (value : Option Text) (k : ℕ) → Any (λ e. Says e (label_texts key value) k) entries ↔ IsWithAt (λ labels. HasSome labels key value) roles k
+  pub exact : (key : Text) (value : Option Text) (k : ℕ)
+      → Any (λ e. Says e (label_texts key value) k) entries
+      ↔ IsWithAt (λ labels. HasSome labels key value) roles k
 
 -- new says what old says, and adds the labels of the role at a place
 abbrev pub Adds : List LabelEntry → List LabelEntry → LabelTexts → ℕ → Type 0
-Adds old new labels place = (key : Text) (value : Option Text) (k : ℕ) → Any (λ e. Says e (label_texts key value) k) new ↔ (Any (λ e. Says e (label_texts key value) k) old ⊎ ((k ≡ place) × HasSome labels key value))
+Adds old new labels place = (key : Text) (value : Option Text) (k : ℕ)
+    → Any (λ e. Says e (label_texts key value) k) new
+    ↔ (Any (λ e. Says e (label_texts key value) k) old ⊎ ((k ≡ place) × HasSome labels key value))

@@ -28,7 +28,8 @@ IsAscendingBy name xs = AllPairs (λ x y. by_name name x y ≡ Less) xs
 
 -- new holds x in place of anything that had its name, and otherwise what old holds
 abbrev pub IsPut : {X : Type 0} → (X → List Text) → List X → List X → X → Type 0
-IsPut {X} name old new x = (y : X) → Contains new y ↔ ((y ≡ x) ⊎ (Contains old y × (name y ≢ name x)))
+IsPut {X} name old new x = (y : X) → Contains new y
+    ↔ ((y ≡ x) ⊎ (Contains old y × (name y ≢ name x)))
 
 -- x's name is at place i
 abbrev pub IsAtName : {X : Type 0} → (X → List Text) → List X → X → ℕ → Type 0
@@ -36,7 +37,8 @@ IsAtName name xs x i = (i < length xs) × HoldsAt (λ y. by_name name y x ≡ Eq
 
 -- x's name isn't in the list, and would go to place i
 abbrev pub IsGapForName : {X : Type 0} → (X → List Text) → List X → X → ℕ → Type 0
-IsGapForName name xs x i = (i ≤ length xs) × AllWithin (λ y. by_name name y x ≡ Less) xs 0 i × AllWithin (λ y. by_name name y x ≡ Greater) xs i (length xs)
+IsGapForName name xs x i = (i ≤ length xs) × AllWithin (λ y. by_name name y x ≡ Less) xs 0 i
+    × AllWithin (λ y. by_name name y x ≡ Greater) xs i (length xs)
 
 -- ys are the elements of xs, each once, ascending
 pub record IsOnceEach {X : Type 0} (cmp : X → X → Ordering) (xs ys : List X) : Type 0 where

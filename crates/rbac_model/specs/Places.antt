@@ -1,10 +1,13 @@
-use Rattle.std.specs.Prelude.{◌≡◌, ◌↔◌, Contains, ℕ, ◌<◌, ◌⊎◌, List, [], ◌∷◌, ◌++◌, Option, Some, None, All, IsSome, map, slice_get, length, zero, suc}
+use Rattle.std.specs.Prelude.{◌≡◌, ◌↔◌, Contains, ℕ, ◌<◌, ◌⊎◌, List, [], ◌∷◌, ◌++◌, Option, Some}
+use Rattle.std.specs.Prelude.{None, All, IsSome, map, slice_get, length, zero, suc}
 use Rattle.std.specs.List.{filter_map, flat_map, AllZip}
 use Rattle.std.specs.Option.{option_map}
 use Rattle.rbac_model.specs.Graphs.{Graph, HasEdge, IsMarked}
 use Rattle.rbac_model.specs.Lists.{IsAscendingBy}
 use Rattle.rbac_terms.specs.Text.{Text}
-use Rattle.rbac_model.specs.Policies.{Held, Source, InRole, InClusterRole, SourcedRule, GrantView, IsRefTo, IsPlain, Step, Reaches, AreGathered, written_from, grant_at, grants_at}
+use Rattle.rbac_model.specs.Policies.{Held, Source, InRole, InClusterRole, SourcedRule, GrantView}
+use Rattle.rbac_model.specs.Policies.{IsRefTo, IsPlain, Step, Reaches, AreGathered, written_from}
+use Rattle.rbac_model.specs.Policies.{grant_at, grants_at}
 use Rattle.rbac_terms.specs.declared.granting.Binding.{Binding}
 use Rattle.rbac_terms.specs.declared.granting.ClusterRole.{ClusterRole}
 use Rattle.rbac_terms.specs.declared.granting.RoleRef.{RoleRef}
@@ -24,19 +27,22 @@ rules_of (InClusterRole r) = r.rules
 
 -- a reference in that namespace, or in none, refers to the role at this place
 abbrev pub IsRefAt : Held → Option Text → RoleRef → RolePlace → Type 0
-IsRefAt h namespace role place = (source : Source) × (source_at h place ≡ Some source) × IsRefTo h namespace role source
+IsRefAt h namespace role place = (source : Source) × (source_at h place ≡ Some source)
+    × IsRefTo h namespace role source
 
 -- the places of the first n rules of a role, each with the place of a binding
 abbrev pub places_of : ℕ → RolePlace → ℕ → List GrantPlace
 places_of binding role zero = []
-places_of binding role (suc n) = places_of binding role n ++ record { binding = binding; role = role; rule = n } ∷ []
+places_of binding role (suc n) =
+    places_of binding role n ++ record { binding = binding; role = role; rule = n } ∷ []
 
 -- the grants of a binding, one for each of these rules
 abbrev pub granted_by : Binding → List SourcedRule → List GrantView
 granted_by b rules = map (λ rule. record { binding = b; rule = rule }) rules
 
 -- the places of the grants by these rules were added to the old places of grants
-pub record IsAdded (h : Held) (b : Binding) (old new : List GrantPlace) (rules : List SourcedRule) : Type 0 where
+pub record IsAdded (h : Held) (b : Binding) (old new : List GrantPlace)
+    (rules : List SourcedRule) : Type 0 where
   pub grants : grants_at h new ≡ grants_at h old ++ granted_by b rules
   pub held : All (λ g. IsSome (grant_at h g)) new
 
@@ -47,7 +53,8 @@ roles_at h ps = filter_map (slice_get h.cluster_roles) ps
 abbrev pub rules_in : List ClusterRole → List SourcedRule
 rules_in ss = flat_map (λ s. written_from (InClusterRole s) 0 s.rules) ss
 
--- these are the places of the roles whose rules the cluster role has: of itself, or of those that it gathers from
+-- these are the places of the roles whose rules the cluster role has: of itself, or of those that
+-- it gathers from
 abbrev pub AreSourcesOf : Held → ClusterRole → List ℕ → Type 0
 AreSourcesOf h r ps =
     All (λ p. p < length h.cluster_roles) ps
@@ -55,7 +62,8 @@ AreSourcesOf h r ps =
 
 -- the places of the roles whose rules the cluster role at this place has
 abbrev pub AreSourcesAt : Held → ℕ → List ℕ → Type 0
-AreSourcesAt h at ps = (r : ClusterRole) → slice_get h.cluster_roles at ≡ Some r → AreSourcesOf h r ps
+AreSourcesAt h at ps = (r : ClusterRole) → slice_get h.cluster_roles at ≡ Some r
+    → AreSourcesOf h r ps
 
 -- the role at a place is plain
 abbrev pub IsPlainAt : List ClusterRole → ℕ → Type 0
@@ -80,7 +88,8 @@ IsReachedAt h r k = (s : ClusterRole) × (slice_get h.cluster_roles k ≡ Some s
 -- for each cluster role, the set of the cluster roles that it reaches
 pub record AreReaches (h : Held) (rows : Graph) : Type 0 where
   pub len : length rows ≡ length h.cluster_roles
-  pub exact : (at : ℕ) (r : ClusterRole) → slice_get h.cluster_roles at ≡ Some r → (k : ℕ) → HasEdge rows at k ↔ IsReachedAt h r k
+  pub exact : (at : ℕ) (r : ClusterRole) → slice_get h.cluster_roles at ≡ Some r
+      → (k : ℕ) → HasEdge rows at k ↔ IsReachedAt h r k
 
 -- the places of the rules of a role, or of these cluster roles, each with the place of a binding
 abbrev pub rule_count : Option (List Rule) → ℕ
@@ -88,14 +97,18 @@ rule_count None = 0
 rule_count (Some rules) = length rules
 
 abbrev pub role_places : Held → ℕ → ℕ → List GrantPlace
-role_places h binding at = places_of binding (RoleAt at) (rule_count (option_map (λ r. r.rules) (slice_get h.roles at)))
+role_places h binding at =
+    places_of binding (RoleAt at) (rule_count (option_map (λ r. r.rules) (slice_get h.roles at)))
 
 abbrev pub places_in : Held → ℕ → List ℕ → List GrantPlace
-places_in h binding ps = flat_map (λ at. places_of binding (ClusterRoleAt at) (rule_count (option_map (λ r. r.rules) (slice_get h.cluster_roles at)))) ps
+places_in h binding ps =
+    flat_map (λ at. places_of binding (ClusterRoleAt at)
+    (rule_count (option_map (λ r. r.rules) (slice_get h.cluster_roles at)))) ps
 
 -- a text is the name of a role at a place with a mark
 abbrev pub IsMarkedName : Held → List ℕ → Text → Type 0
-IsMarkedName h marks w = (k : ℕ) × (s : ClusterRole) × IsMarked marks k × (slice_get h.cluster_roles k ≡ Some s) × (s.name ≡ w)
+IsMarkedName h marks w = (k : ℕ) × (s : ClusterRole) × IsMarked marks k
+    × (slice_get h.cluster_roles k ≡ Some s) × (s.name ≡ w)
 
 -- the names of the roles at the places with a mark, ascending
 pub record AreMarkedNames (h : Held) (marks : List ℕ) (ws : List Text) : Type 0 where

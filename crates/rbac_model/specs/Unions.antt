@@ -11,7 +11,8 @@ who_name who = who_key who ∷ []
 abbrev pub IsGiven : List Who → Text → Text → Type 0
 IsGiven ps key g = Any (λ p. (who_key p ≡ key) × Contains (given_of p) g) ps
 
--- one principal for each key of the list, in order of keys, with all groups that are given under its key
+-- one principal for each key of the list, in order of keys, with all groups that are given under
+-- its key
 pub record AreUnited (listed ps : List Who) : Type 0 where
   pub ordered : IsAscendingBy who_name ps
   pub keys : (key : Text) → Any (λ p. who_key p ≡ key) ps ↔ Any (λ p. who_key p ≡ key) listed

@@ -1,4 +1,5 @@
-use Rattle.std.specs.Prelude.{◌≡◌, ◌≢◌, ℕ, ◌⊎◌, ◌↔◌, List, [], ◌∷◌, Option, Some, None, Bool, true, IsTrue, Contains, map, take, filter, length, nat_lt, AllPairs}
+use Rattle.std.specs.Prelude.{◌≡◌, ◌≢◌, ℕ, ◌⊎◌, ◌↔◌, List, [], ◌∷◌, Option, Some, None, Bool, true}
+use Rattle.std.specs.Prelude.{IsTrue, Contains, map, take, filter, length, nat_lt, AllPairs}
 use Rattle.std.specs.List.{flat_map}
 use Rattle.std.specs.Ordering.{is_lt, is_gt}
 use Rattle.rbac_model.specs.Lists.{IsCount, IsAscendingBy}
@@ -23,7 +24,8 @@ pub record UniverseView : Type 0 where
   pub verbs : List Text
   pub targets : List Listed
 
--- how many principals, how many namespaces and how many verbs a universe may have, and how many targets (own)
+-- how many principals, how many namespaces and how many verbs a universe may have, and how many
+-- targets (own)
 abbrev pub most_words : ℕ
 most_words = 65535
 
@@ -59,7 +61,8 @@ cell_key c = key_of c.who c.namespace c.verb c.target.0
 
 -- a request is one of the universe: each of its parts is in the list of its kind
 abbrev pub IsCellOf : UniverseView → Cell → Type 0
-IsCellOf u c = Contains u.principals c.who × Contains u.namespaces c.namespace × Contains u.verbs c.verb × Contains u.targets c.target
+IsCellOf u c = Contains u.principals c.who × Contains u.namespaces c.namespace
+    × Contains u.verbs c.verb × Contains u.targets c.target
 
 -- a request that fits, with the first binding that grants it
 pub record RowView : Type 0 where
@@ -68,7 +71,8 @@ pub record RowView : Type 0 where
 
 -- a row of the matrix: a request of the universe that fits, with the first binding that grants it
 abbrev pub IsRow : Held → UniverseView → RowView → Type 0
-IsRow h u row = IsCellOf u row.cell × Fits row.cell × IsFirst h row.cell.who row.cell.namespace row.cell.verb row.cell.target.0 row.binding
+IsRow h u row = IsCellOf u row.cell × Fits row.cell
+    × IsFirst h row.cell.who row.cell.namespace row.cell.verb row.cell.target.0 row.binding
 
 -- the matrix: all rows, in order of keys (own)
 pub record IsMatrix (h : Held) (u : UniverseView) (rows : List RowView) : Type 0 where
@@ -93,11 +97,15 @@ abbrev pub LiveForSome : Option Text → Text → Type 0
 LiveForSome None asked = Unit {0}
 LiveForSome (Some namespace) asked = (asked ≢ []) × (namespace ≡ asked)
 
--- a grant is a cursor of a line of the matrix (who, namespace and verb): it may allow something on that line, targets aside
+-- a grant is a cursor of a line of the matrix (who, namespace and verb): it may allow something on
+-- that line, targets aside
 abbrev pub IsCursor : Who → Text → Text → GrantView → Type 0
-IsCursor who namespace verb g = VerbOk g.rule.rule verb × BindingNames g.binding who × LiveForSome g.binding.namespace namespace
+IsCursor who namespace verb g = VerbOk g.rule.rule verb × BindingNames g.binding who
+    × LiveForSome g.binding.namespace namespace
 
 -- how many pairs of a cursor of the line and a target of the universe match, verbs aside
 abbrev pub AreTouches : PolicyView → UniverseView → Who → Text → Text → ℕ → Type 0
 AreTouches p u who namespace verb n =
-    IsCount {X = GrantView × Listed} (λ pair. IsCursor who namespace verb pair.0 × TargetOk pair.0.rule.rule pair.1.0) (flat_map (λ g. map (λ t. (g, t)) u.targets) p.grants) n
+    IsCount {X = GrantView × Listed}
+    (λ pair. IsCursor who namespace verb pair.0 × TargetOk pair.0.rule.rule pair.1.0)
+    (flat_map (λ g. map (λ t. (g, t)) u.targets) p.grants) n

@@ -1,11 +1,13 @@
 //! What aggregated roles gather from.
 
-ghost use Rattle.std.specs.Prelude.{◌≡◌, ◌≢◌, ◌+◌, ◌*◌, ◌/◌, ◌<◌, ◌≤◌, ◌↔◌, IsTrue, IfOk, OnOk, IsOkAnd, Contains, Any, Some, [], length, min, slice_get};
+ghost use Rattle.std.specs.Prelude.{◌≡◌, ◌≢◌, ◌+◌, ◌*◌, ◌/◌, ◌<◌, ◌≤◌, ◌↔◌, IsTrue, IfOk, OnOk};
+ghost use Rattle.std.specs.Prelude.{IsOkAnd, Contains, Any, Some, [], length, min, slice_get};
 ghost use Rattle.rbac_model.specs.Policies.{IsHeld, AreReachedNames};
 ghost use Rattle.rbac_model.specs.Graphs.{IsMarked};
 ghost use Rattle.rbac_model.specs.Lists.{IsUpTo};
 ghost use Rattle.rbac_terms.specs.declared.granting.ClusterRole.{ClusterRole};
-ghost use Rattle.rbac_model.specs.Places.{IsRowOf, AreSteps, IsReachedAt, AreReaches, AreSourcesAt, IsPlainAt, AreMarkedNames};
+ghost use Rattle.rbac_model.specs.Places.{IsRowOf, AreSteps, IsReachedAt, AreReaches, AreSourcesAt};
+ghost use Rattle.rbac_model.specs.Places.{IsPlainAt, AreMarkedNames};
 
 use crate::labels::Labelled;
 use crate::marks::Marks;
@@ -88,7 +90,9 @@ fn plain_marked(
     roles: &[ClusterRole],
     marks: &Marks,
 ) -> Result<Vec<usize>, AllocError>
-    ensures { IfOk result (λ row. IsUpTo (λ k. IsMarked marks.now k × IsPlainAt roles.now k) row.items (length roles.now)) }
+    ensures { IfOk result
+        (λ row. IsUpTo
+        (λ k. IsMarked marks.now k × IsPlainAt roles.now k) row.items (length roles.now)) }
 {
     let mut row = Vec::new(alloc);
     for at in 0..roles.len() / 64 + 1 {
@@ -107,8 +111,11 @@ fn put_plain(
     row: &mut Vec<usize>,
 ) -> Result<(), AllocError>
     requires word { at ≤ length roles.now / 64 }
-    requires before { IsUpTo (λ k. IsMarked marks.now k × IsPlainAt roles.now k) row.old.items (at * 64) }
-    ensures { OnOk result (IsUpTo (λ k. IsMarked marks.now k × IsPlainAt roles.now k) row.new.items (min (at * 64 + 64) (length roles.now))) }
+    requires before { IsUpTo
+        (λ k. IsMarked marks.now k × IsPlainAt roles.now k) row.old.items (at * 64) }
+    ensures { OnOk result
+        (IsUpTo (λ k. IsMarked marks.now k × IsPlainAt roles.now k) row.new.items
+        (min (at * 64 + 64) (length roles.now))) }
 {
     for place in at * 64..(at * 64).saturating_add(64).min(roles.len()) {
         if marks.has(place) && roles[place].aggregation.is_none() {
@@ -127,8 +134,11 @@ pub(crate) fn names_from(
     name: &Word,
 ) -> Result<Words, AllocError>
     requires { AreReaches objects.now reaches.now }
-    ensures reached { IfOk result (λ ws. (r : ClusterRole) → Contains objects.now.cluster_roles r → r.name ≡ name.now → AreReachedNames objects.now r ws) }
-    ensures none { ¬ Any (λ r. r.name ≡ name.now) objects.now.cluster_roles → IsOkAnd result (λ ws. ws ≡ []) }
+    ensures reached { IfOk result
+        (λ ws. (r : ClusterRole) → Contains objects.now.cluster_roles r → r.name ≡ name.now
+        → AreReachedNames objects.now r ws) }
+    ensures none { ¬ Any (λ r. r.name ≡ name.now) objects.now.cluster_roles
+        → IsOkAnd result (λ ws. ws ≡ []) }
 {
     match cluster_role_place(objects.cluster_roles(), name) {
         Some(at) => marked_names(alloc, objects, &reaches[at]),

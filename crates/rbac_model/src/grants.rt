@@ -1,7 +1,9 @@
 //! The grants of bindings, in order.
 
-ghost use Rattle.std.specs.Prelude.{◌≡◌, ◌+◌, ◌<◌, ◌≤◌, ◌++◌, List, Some, IsSome, All, IfOk, IfErr, OnOk, length, slice_get, vec_len};
-ghost use Rattle.rbac_model.specs.Policies.{AreGrantsOf, AreRulesFor, HasTooMany, SourcedRule, grant_at, grants_at, most_grants};
+ghost use Rattle.std.specs.Prelude.{◌≡◌, ◌+◌, ◌<◌, ◌≤◌, ◌++◌, List, Some, IsSome, All, IfOk, IfErr};
+ghost use Rattle.std.specs.Prelude.{OnOk, length, slice_get, vec_len};
+ghost use Rattle.rbac_model.specs.Policies.{AreGrantsOf, AreRulesFor, HasTooMany, SourcedRule};
+ghost use Rattle.rbac_model.specs.Policies.{grant_at, grants_at, most_grants};
 ghost use Rattle.rbac_model.specs.Places.{AreReaches, IsAdded, places_of, places_in, role_places};
 
 use crate::aggregation::sources_at;
@@ -23,7 +25,8 @@ pub(crate) fn grants_of(
     reaches: &[Marks],
 ) -> Result<Vec<GrantPlace>, ResolveFault>
     requires { AreReaches objects.now reaches.now }
-    ensures are { IfOk result (λ gs. AreGrantsOf objects.now objects.now.bindings (grants_at objects.now gs.items)) }
+    ensures are { IfOk result
+        (λ gs. AreGrantsOf objects.now objects.now.bindings (grants_at objects.now gs.items)) }
     ensures held { IfOk result (λ gs. All (λ g. IsSome (grant_at objects.now g)) gs.items) }
     ensures few { IfOk result (λ gs. vec_len gs ≤ most_grants) }
     ensures many { IfErr result (λ e. e ≡ ResolveFault.TooMany → HasTooMany objects.now) }
@@ -49,9 +52,14 @@ fn put_binding(
     requires at { slice_get objects.now.bindings at ≡ Some binding.now }
     requires few { vec_len grants.old ≤ most_grants }
     requires held { All (λ g. IsSome (grant_at objects.now g)) grants.old.items }
-    ensures added { OnOk result ((rules : List SourcedRule) × AreRulesFor objects.now binding.now rules × IsAdded objects.now binding.now grants.old.items grants.new.items rules) }
+    ensures added { OnOk result
+        ((rules : List SourcedRule) × AreRulesFor objects.now binding.now rules
+        × IsAdded objects.now binding.now grants.old.items grants.new.items rules) }
     ensures few { OnOk result (vec_len grants.new ≤ most_grants) }
-    ensures many { IfErr result (λ e. e ≡ ResolveFault.TooMany → (rules : List SourcedRule) × AreRulesFor objects.now binding.now rules × (most_grants < vec_len grants.old + length rules)) }
+    ensures many { IfErr result
+        (λ e. e ≡ ResolveFault.TooMany
+        → (rules : List SourcedRule) × AreRulesFor objects.now binding.now rules
+        × (most_grants < vec_len grants.old + length rules)) }
 {
     match ref_place(objects, binding) {
         Some(RolePlace::RoleAt(role)) => put_role(objects, at, role, grants),
@@ -72,10 +80,15 @@ fn put_role(
 ) -> Result<(), ResolveFault>
     requires role { role < length objects.now.roles }
     requires few { vec_len grants.old ≤ most_grants }
-    ensures ok { OnOk result (grants.new.items ≡ grants.old.items ++ role_places objects.now binding role) }
+    ensures ok { OnOk result
+        (grants.new.items ≡ grants.old.items ++ role_places objects.now binding role) }
     ensures few { OnOk result (vec_len grants.new ≤ most_grants) }
-    ensures many { IfErr result (λ e. e ≡ ResolveFault.TooMany → most_grants < vec_len grants.old + length (role_places objects.now binding role)) }
-    ensures always { most_grants < vec_len grants.old + length (role_places objects.now binding role) → result ≡ Err ResolveFault.TooMany }
+    ensures many { IfErr result
+        (λ e. e ≡ ResolveFault.TooMany
+        → most_grants < vec_len grants.old + length (role_places objects.now binding role)) }
+    ensures always { most_grants
+        < vec_len grants.old + length (role_places objects.now binding role)
+        → result ≡ Err ResolveFault.TooMany }
 {
     let count = objects.roles()[role].rules.as_slice().len();
     put_rules(binding, RolePlace::RoleAt(role), count, grants)
@@ -90,9 +103,12 @@ fn put_sources(
 ) -> Result<(), ResolveFault>
     requires sources { All (λ p. p < length objects.now.cluster_roles) sources.now }
     requires few { vec_len grants.old ≤ most_grants }
-    ensures ok { OnOk result (grants.new.items ≡ grants.old.items ++ places_in objects.now binding sources.now) }
+    ensures ok { OnOk result
+        (grants.new.items ≡ grants.old.items ++ places_in objects.now binding sources.now) }
     ensures few { OnOk result (vec_len grants.new ≤ most_grants) }
-    ensures many { IfErr result (λ e. e ≡ ResolveFault.TooMany → most_grants < vec_len grants.old + length (places_in objects.now binding sources.now)) }
+    ensures many { IfErr result
+        (λ e. e ≡ ResolveFault.TooMany
+        → most_grants < vec_len grants.old + length (places_in objects.now binding sources.now)) }
 {
     let roles = objects.cluster_roles();
     for role in sources {
@@ -113,7 +129,8 @@ fn put_rules(
     requires { vec_len grants.old ≤ most_grants }
     ensures ok { OnOk result (grants.new.items ≡ grants.old.items ++ places_of binding role count) }
     ensures few { OnOk result (vec_len grants.new ≤ most_grants) }
-    ensures many { IfErr result (λ e. e ≡ ResolveFault.TooMany → most_grants < vec_len grants.old + count) }
+    ensures many { IfErr result
+        (λ e. e ≡ ResolveFault.TooMany → most_grants < vec_len grants.old + count) }
     ensures always { most_grants < vec_len grants.old + count → result ≡ Err ResolveFault.TooMany }
 {
     if count > MOST_GRANTS - grants.len() {

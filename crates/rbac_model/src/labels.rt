@@ -1,7 +1,8 @@
 //! The labels of all cluster roles, in order. What a selector selects is looked up in them, so that
 //! no export can make that slow.
 
-ghost use Rattle.std.specs.Prelude.{◌≡◌, ◌↔◌, ◌⊎◌, ◌≤◌, ◌<◌, ◌/◌, ◌++◌, ◌∷◌, [], ℕ, Any, All, IfOk, OnOk, IsTrue, length, slice_get, Some};
+ghost use Rattle.std.specs.Prelude.{◌≡◌, ◌↔◌, ◌⊎◌, ◌≤◌, ◌<◌, ◌/◌, ◌++◌, ◌∷◌, [], ℕ, Any, All, IfOk};
+ghost use Rattle.std.specs.Prelude.{OnOk, IsTrue, length, slice_get, Some};
 ghost use Rattle.std.specs.Option.{option_map};
 ghost use Rattle.std.specs.Cmp.Lexicographic.{slice_cmp};
 ghost use Rattle.std.specs.List.Sorted.{IsSorted};
@@ -9,7 +10,8 @@ ghost use Rattle.rbac_terms.specs.Text.{text_cmp};
 ghost use Rattle.rbac_terms.specs.Selecting.{Selects, Meets, HasLabel, HasOneOf};
 ghost use Rattle.rbac_model.specs.Graphs.{IsMarked};
 ghost use Rattle.rbac_model.specs.Lists.{by_name};
-ghost use Rattle.rbac_model.specs.Labelled.{LabelEntry, AreWith, IsWithAt, HasSome, Adds, label_texts};
+ghost use Rattle.rbac_model.specs.Labelled.{LabelEntry, AreWith, IsWithAt, HasSome, Adds};
+ghost use Rattle.rbac_model.specs.Labelled.{label_texts};
 
 use crate::marks::Marks;
 use rbac_terms::{
@@ -35,14 +37,20 @@ impl<'a> Model for Entry<'a> {
 
     ghost Value = { LabelEntry };
 
-    ghost view = { λ e. record { label = label_texts e.key.now (option_map (λ v. v.now) e.value); place = e.place; bits = e.bits } };
+    ghost view = { λ e. record {
+      label = label_texts e.key.now (option_map (λ v. v.now) e.value);
+      place = e.place;
+      bits = e.bits;
+    } };
 }
 
 impl<'a> Entry<'a> {
     // How its label compares with this one; a key alone comes before the labels of that key with a
     // value.
     fn cmp_label(&self, key: &Word, value: Option<&Word>) -> Ordering
-        ensures { result ≡ slice_cmp text_cmp self.now.label (label_texts key.now (option_map (λ v. v.now) value.entry)) }
+        ensures { result
+            ≡ slice_cmp text_cmp self.now.label
+            (label_texts key.now (option_map (λ v. v.now) value.entry)) }
     {
         self.key.cmp(key).then(match (self.value, value) {
             (None, None) => Ordering::Equal,
@@ -71,7 +79,8 @@ impl<'a> Model for Labelled<'a> {
 
     ghost view = { λ l. l.roles.now };
 
-    ghost invariant = { λ l. ((k : ℕ) → IsMarked l.all k ↔ (k < length l.roles.now)) × AreLabels l.roles.now l.entries.items };
+    ghost invariant = { λ l. ((k : ℕ) → IsMarked l.all k ↔ (k < length l.roles.now))
+        × AreLabels l.roles.now l.entries.items };
 }
 
 impl<'a> Labelled<'a> {
@@ -92,7 +101,8 @@ impl<'a> Labelled<'a> {
 
     // The cluster roles that one or more of the selectors select.
     pub(crate) fn gathered(&self, alloc: Global, selectors: &Selectors) -> Result<Marks, AllocError>
-        ensures { IfOk result (AreWith (λ labels. Any (λ selector. Selects selector labels) selectors.now) self.now) }
+        ensures { IfOk result
+            (AreWith (λ labels. Any (λ selector. Selects selector labels) selectors.now) self.now) }
     {
         let mut marks = Marks::new(alloc);
         for selector in selectors.as_slice() {
@@ -115,7 +125,8 @@ impl<'a> Labelled<'a> {
 
     // The cluster roles that have each of these labels.
     fn having_all(&self, alloc: Global, labels: &Labels) -> Result<Marks, AllocError>
-        ensures { IfOk result (AreWith (λ own. All (λ label. HasLabel own label.0 label.1) labels.now) self.now) }
+        ensures { IfOk result
+            (AreWith (λ own. All (λ label. HasLabel own label.0 label.1) labels.now) self.now) }
     {
         let mut marks = self.everyone()?;
         for label in labels.as_slice() {
@@ -126,7 +137,9 @@ impl<'a> Labelled<'a> {
 
     // The cluster roles that meet each of these requirements.
     fn meeting_all(&self, alloc: Global, requirements: &Requirements) -> Result<Marks, AllocError>
-        ensures { IfOk result (AreWith (λ own. All (λ requirement. Meets requirement own) requirements.now) self.now) }
+        ensures { IfOk result
+            (AreWith (λ own. All
+            (λ requirement. Meets requirement own) requirements.now) self.now) }
     {
         let mut marks = self.everyone()?;
         for requirement in requirements.as_slice() {
@@ -157,7 +170,9 @@ impl<'a> Labelled<'a> {
 
     // All cluster roles that aren't in this set.
     fn others(&self, marks: &Marks) -> Result<Marks, AllocError>
-        ensures { IfOk result (λ others. (k : ℕ) → IsMarked others k ↔ ((k < length self.now) × (¬ IsMarked marks.now k))) }
+        ensures { IfOk result
+            (λ others. (k : ℕ) → IsMarked others k
+            ↔ ((k < length self.now) × (¬ IsMarked marks.now k))) }
     {
         let mut others = self.everyone()?;
         others.remove(marks);
@@ -177,7 +192,8 @@ impl<'a> Labelled<'a> {
 
     // The cluster roles that have this label, or, if there is no value, a label of this key.
     fn having(&self, alloc: Global, key: &Word, value: Option<&Word>) -> Result<Marks, AllocError>
-        ensures { IfOk result (AreWith (λ own. HasSome own key.now (option_map (λ v. v.now) value.entry)) self.now) }
+        ensures { IfOk result
+            (AreWith (λ own. HasSome own key.now (option_map (λ v. v.now) value.entry)) self.now) }
     {
         let mut marks = Marks::new(alloc);
         self.put_having(key, value, &mut marks)?;
@@ -191,7 +207,11 @@ impl<'a> Labelled<'a> {
         value: Option<&Word>,
         marks: &mut Marks,
     ) -> Result<(), AllocError>
-        ensures { OnOk result ((k : ℕ) → IsMarked marks.new k ↔ (IsMarked marks.old k ⊎ IsWithAt (λ own. HasSome own key.now (option_map (λ v. v.now) value.entry)) self.now k)) }
+        ensures { OnOk result
+            ((k : ℕ) → IsMarked marks.new k
+            ↔ (IsMarked marks.old k
+            ⊎ IsWithAt
+            (λ own. HasSome own key.now (option_map (λ v. v.now) value.entry)) self.now k)) }
     {
         let (from, to) = label_range(self.entries.as_slice(), key, value);
         for at in from..to {
@@ -206,7 +226,9 @@ impl<'a> Labelled<'a> {
 fn label_range(entries: &[Entry], key: &Word, value: Option<&Word>) -> (usize, usize)
     requires { IsSorted (by_name (λ e. e.label)) entries.now }
     ensures within { result.1 ≤ length entries.now }
-    ensures between { (at : ℕ) (e : LabelEntry) → slice_get entries.now at ≡ Some e → ((result.0 ≤ at) × (at < result.1)) ↔ (e.label ≡ label_texts key.now (option_map (λ v. v.now) value.entry)) }
+    ensures between { (at : ℕ) (e : LabelEntry) → slice_get entries.now at ≡ Some e
+        → ((result.0 ≤ at) × (at < result.1))
+        ↔ (e.label ≡ label_texts key.now (option_map (λ v. v.now) value.entry)) }
 {
     (
         entries.partition_point(|entry| entry.cmp_label(key, value).is_lt()),

@@ -14,5 +14,6 @@ pub fn grants_are_one_list()
 
 /// The objects given determine which of them are kept (own).
 pub fn kept_objects_are_one()
-    ensures { (given : List Object) (held others : Held) → AreKept given held → AreKept given others → held ≡ others }
+    ensures { (given : List Object) (held others : Held) → AreKept given held → AreKept given others
+        → held ≡ others }
 {}

@@ -1,7 +1,8 @@
 //! Sets of places, with a bit for each place. A place is in the set if its bit is 1, which is its
 //! mark.
 
-ghost use Rattle.std.specs.Prelude.{◌≡◌, ◌+◌, ◌/◌, ◌%◌, ◌<◌, ◌≤◌, ◌⊎◌, ◌↔◌, ℕ, IsTrue, false, IfOk, OnOk, MatchOption, length, vec_len, slice_index_or, []};
+ghost use Rattle.std.specs.Prelude.{◌≡◌, ◌+◌, ◌/◌, ◌%◌, ◌<◌, ◌≤◌, ◌⊎◌, ◌↔◌, ℕ, IsTrue, false, IfOk};
+ghost use Rattle.std.specs.Prelude.{OnOk, MatchOption, length, vec_len, slice_index_or, []};
 ghost use Rattle.std.specs.Int.{bit_at};
 ghost use Rattle.rbac_model.specs.Graphs.{IsMarked};
 
@@ -99,7 +100,8 @@ impl Marks {
     // A place that is in this set and in `with`, but not in `other`. The words before that of
     // `from` aren't looked at.
     pub(crate) fn shared_outside(&self, with: &Marks, other: &Marks, from: usize) -> Option<usize>
-        ensures { MatchOption result (Unit {0}) (λ k. IsMarked self.now k × (¬ IsMarked other.now k)) }
+        ensures { MatchOption result (Unit {0})
+            (λ k. IsMarked self.now k × (¬ IsMarked other.now k)) }
     {
         for at in from / 64..self.words.len() {
             let word = self.word(at) & with.word(at) & !other.word(at);
@@ -126,7 +128,8 @@ impl Marks {
 
     // Marks this place.
     pub(crate) fn set(&mut self, place: usize) -> Result<(), AllocError>
-        ensures { OnOk result ((k : ℕ) → IsMarked self.new k ↔ (IsMarked self.old k ⊎ (k ≡ place))) }
+        ensures { OnOk result
+            ((k : ℕ) → IsMarked self.new k ↔ (IsMarked self.old k ⊎ (k ≡ place))) }
     {
         let at = place / 64;
         widen(&mut self.words, at + 1)?;
@@ -136,7 +139,9 @@ impl Marks {
 
     // Marks, in the word of this place, the places whose bit is 1.
     pub(crate) fn put(&mut self, place: usize, bits: u64) -> Result<(), AllocError>
-        ensures { OnOk result ((k : ℕ) → IsMarked self.new k ↔ (IsMarked self.old k ⊎ ((k / 64 ≡ place / 64) × (bit_at bits (k % 64) ≡ 1)))) }
+        ensures { OnOk result
+            ((k : ℕ) → IsMarked self.new k
+            ↔ (IsMarked self.old k ⊎ ((k / 64 ≡ place / 64) × (bit_at bits (k % 64) ≡ 1)))) }
     {
         let at = place / 64;
         widen(&mut self.words, at + 1)?;
@@ -165,7 +170,8 @@ impl Marks {
 
     // Marks each place that has a mark in the other set.
     pub(crate) fn add(&mut self, more: &Marks) -> Result<(), AllocError>
-        ensures { OnOk result ((k : ℕ) → IsMarked self.new k ↔ (IsMarked self.old k ⊎ IsMarked more.now k)) }
+        ensures { OnOk result
+            ((k : ℕ) → IsMarked self.new k ↔ (IsMarked self.old k ⊎ IsMarked more.now k)) }
     {
         widen(&mut self.words, more.words.len())?;
         add_words(self.words.as_mut_slice(), more.words.as_slice());
@@ -176,7 +182,8 @@ impl Marks {
 // Makes room for this many words.
 fn widen(words: &mut Vec<u64>, count: usize) -> Result<(), AllocError>
     ensures room { OnOk result (count ≤ vec_len words.new) }
-    ensures same { OnOk result ((k : ℕ) → slice_index_or words.new.items k 0 ≡ slice_index_or words.old.items k 0) }
+    ensures same { OnOk result
+        ((k : ℕ) → slice_index_or words.new.items k 0 ≡ slice_index_or words.old.items k 0) }
 {
     for _at in words.len()..count {
         words.push(0)?;

@@ -1,6 +1,7 @@
 //! The objects that are held, in order of their names.
 
-ghost use Rattle.std.specs.Prelude.{◌≡◌, ◌↔◌, IsTrue, IfOk, IfErr, OnOk, OnErr, Any, List, [], length};
+ghost use Rattle.std.specs.Prelude.{◌≡◌, ◌↔◌, IsTrue, IfOk, IfErr, OnOk, OnErr, Any, List, []};
+ghost use Rattle.std.specs.Prelude.{length};
 ghost use Rattle.rbac_terms.specs.Text.{Text};
 ghost use Rattle.rbac_model.specs.Lists.{by_name, IsAscendingBy, IsPut, IsAtName, IsGapForName};
 
@@ -33,9 +34,18 @@ impl Model for Objects {
 
     ghost Value = { Held };
 
-    ghost view = { λ o. record { roles = o.roles.items; cluster_roles = o.cluster_roles.items; bindings = o.bindings.items } };
+    ghost view = { λ o. record {
+      roles = o.roles.items;
+      cluster_roles = o.cluster_roles.items;
+      bindings = o.bindings.items;
+    } };
 
-    ghost invariant = { λ o. IsHeld (record { roles = o.roles.items; cluster_roles = o.cluster_roles.items; bindings = o.bindings.items }) };
+    ghost invariant = { λ o. IsHeld
+        (record {
+          roles = o.roles.items;
+          cluster_roles = o.cluster_roles.items;
+          bindings = o.bindings.items;
+        }) };
 }
 
 impl Objects {
@@ -58,8 +68,18 @@ impl Objects {
         cluster_roles: Vec<ClusterRole>,
         bindings: Vec<Binding>,
     ) -> Self
-        requires { IsHeld (record { roles = roles.items; cluster_roles = cluster_roles.items; bindings = bindings.items }) }
-        ensures { result ≡ record { roles = roles.items; cluster_roles = cluster_roles.items; bindings = bindings.items } }
+        requires { IsHeld
+            (record {
+              roles = roles.items;
+              cluster_roles = cluster_roles.items;
+              bindings = bindings.items;
+            }) }
+        ensures { result
+            ≡ record {
+              roles = roles.items;
+              cluster_roles = cluster_roles.items;
+              bindings = bindings.items;
+            } }
     {
         Objects {
             roles,
@@ -185,7 +205,8 @@ pub(crate) fn place<T: Named>(items: &[T], item: &T) -> Result<usize, usize>
 pub(crate) fn put<T: Named + Drop>(items: &mut Vec<T>, item: T) -> Result<bool, AllocError>
     requires { IsAscendingBy T.name items.old.items }
     ensures ok { OnOk result (IsPut T.name items.old.items items.new.items item) }
-    ensures replaced { IfOk result (λ was. IsTrue was ↔ Any (λ y. T.name y ≡ T.name item) items.old.items) }
+    ensures replaced { IfOk result
+        (λ was. IsTrue was ↔ Any (λ y. T.name y ≡ T.name item) items.old.items) }
     ensures ascending { IsAscendingBy T.name items.new.items }
     ensures err { OnErr result (items.new.items ≡ items.old.items) }
 {

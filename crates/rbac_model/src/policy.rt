@@ -1,7 +1,9 @@
 //! Policies: objects, and the grants that follow from them.
 
-ghost use Rattle.std.specs.Prelude.{ℕ, ◌≡◌, ◌<◌, ◌≤◌, ◌↔◌, IsTrue, [], Any, Contains, IfOk, IfErr, IsOkAnd, Some, IsSome, All, length, slice_get};
-ghost use Rattle.rbac_model.specs.Policies.{PolicyView, IsPolicy, HasTooMany, AreReachedNames, IsOfBinding, grants_at, grant_at, most_grants};
+ghost use Rattle.std.specs.Prelude.{ℕ, ◌≡◌, ◌<◌, ◌≤◌, ◌↔◌, IsTrue, [], Any, Contains, IfOk, IfErr};
+ghost use Rattle.std.specs.Prelude.{IsOkAnd, Some, IsSome, All, length, slice_get};
+ghost use Rattle.rbac_model.specs.Policies.{PolicyView, IsPolicy, HasTooMany, AreReachedNames};
+ghost use Rattle.rbac_model.specs.Policies.{IsOfBinding, grants_at, grant_at, most_grants};
 ghost use Rattle.rbac_model.specs.Places.{IsReachedAt};
 ghost use Rattle.rbac_model.specs.Sources.{grant_of};
 ghost use Rattle.rbac_terms.specs.declared.granting.ClusterRole.{ClusterRole};
@@ -29,14 +31,17 @@ pub struct Policy {
 impl Model for Policy {
     ghost use Rattle.std.specs.Prelude.{IsSome, All, ◌≤◌, vec_len};
     ghost use Rattle.rbac_model.specs.Places.{AreReaches};
-    ghost use Rattle.rbac_model.specs.Policies.{PolicyView, IsPolicy, grants_at, grant_at, most_grants};
+    ghost use Rattle.rbac_model.specs.Policies.{PolicyView, IsPolicy, grants_at, grant_at};
+    ghost use Rattle.rbac_model.specs.Policies.{most_grants};
 
     ghost Value = { PolicyView };
 
     ghost view = { λ p. record { held = p.objects; grants = grants_at p.objects p.grants.items } };
 
-    ghost invariant = { λ p. IsPolicy (record { held = p.objects; grants = grants_at p.objects p.grants.items })
-        × All (λ g. IsSome (grant_at p.objects g)) p.grants.items × (vec_len p.grants ≤ most_grants) × AreReaches p.objects p.reaches.items };
+    ghost invariant = { λ p. IsPolicy
+        (record { held = p.objects; grants = grants_at p.objects p.grants.items })
+        × All (λ g. IsSome (grant_at p.objects g)) p.grants.items × (vec_len p.grants ≤ most_grants)
+        × AreReaches p.objects p.reaches.items };
 }
 
 impl Policy {
@@ -65,8 +70,11 @@ impl Policy {
     /// reaches none. If no cluster role has the name, there are none either, and nothing is
     /// allocated.
     pub fn reached(&self, alloc: Global, name: &Word) -> Result<Words, ResolveFault>
-        ensures reached { IfOk result (λ ws. (r : ClusterRole) → Contains self.now.held.cluster_roles r → r.name ≡ name.now → AreReachedNames self.now.held r ws) }
-        ensures none { ¬ Any (λ r. r.name ≡ name.now) self.now.held.cluster_roles → IsOkAnd result (λ ws. ws ≡ []) }
+        ensures reached { IfOk result
+            (λ ws. (r : ClusterRole) → Contains self.now.held.cluster_roles r → r.name ≡ name.now
+            → AreReachedNames self.now.held r ws) }
+        ensures none { ¬ Any (λ r. r.name ≡ name.now) self.now.held.cluster_roles
+            → IsOkAnd result (λ ws. ws ≡ []) }
         ensures only_memory { IfErr result (λ e. e ≡ ResolveFault.NoMemory) }
     {
         Ok(names_from(alloc, &self.objects, &self.reaches, name)?)
@@ -77,7 +85,8 @@ impl Policy {
     /// from 0, in order of names. Doesn't allocate.
     pub fn reaches(&self, from: usize, to: usize) -> bool
         requires { from < length self.now.held.cluster_roles }
-        ensures reaches { (r : ClusterRole) → slice_get self.now.held.cluster_roles from ≡ Some r → (IsTrue result ↔ IsReachedAt self.now.held r to) }
+        ensures reaches { (r : ClusterRole) → slice_get self.now.held.cluster_roles from ≡ Some r
+            → (IsTrue result ↔ IsReachedAt self.now.held r to) }
     {
         self.reaches[from].has(to)
     }
@@ -132,7 +141,8 @@ impl Policy {
     /// each other. Doesn't allocate.
     pub fn grants_of(&self, place: usize) -> (u32, u32)
         ensures within { result.1 ≤ length self.now.grants }
-        ensures between { (n at : ℕ) → IsOfBinding self.now n at → ((result.0 ≤ n) × (n < result.1)) ↔ (at ≡ place) }
+        ensures between { (n at : ℕ) → IsOfBinding self.now n at
+            → ((result.0 ≤ n) × (n < result.1)) ↔ (at ≡ place) }
         ensures upto { (n at : ℕ) → IsOfBinding self.now n at → (n < result.1) ↔ (at ≤ place) }
         ensures policy { IsPolicy self.now }
     {

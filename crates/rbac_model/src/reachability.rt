@@ -1,7 +1,9 @@
 //! What is reached in a graph by one or more edges.
 
-ghost use Rattle.std.specs.Prelude.{◌≡◌, ◌<◌, ◌⊎◌, ◌↔◌, ℕ, IfOk, OnOk, MatchOption, length, vec_len};
-ghost use Rattle.rbac_model.specs.Graphs.{IsGraph, HasEdge, LeadsTo, IsMarked, LeadsAlike, AreFull, AreEnds};
+ghost use Rattle.std.specs.Prelude.{◌≡◌, ◌<◌, ◌⊎◌, ◌↔◌, ℕ, IfOk, OnOk, MatchOption, length};
+ghost use Rattle.std.specs.Prelude.{vec_len};
+ghost use Rattle.rbac_model.specs.Graphs.{IsGraph, HasEdge, LeadsTo, IsMarked, LeadsAlike, AreFull};
+ghost use Rattle.rbac_model.specs.Graphs.{AreEnds};
 
 use crate::marks::Marks;
 use crate::visit_order::order_of;
@@ -11,7 +13,8 @@ use std::alloc::{AllocError, Global};
 pub(crate) fn close(alloc: Global, graph: &mut Vec<Marks>) -> Result<(), AllocError>
     requires { IsGraph graph.old.items }
     ensures len { vec_len graph.new ≡ vec_len graph.old }
-    ensures exact { OnOk result ((a b : ℕ) → HasEdge graph.new.items a b ↔ LeadsTo graph.old.items a b) }
+    ensures exact { OnOk result
+        ((a b : ℕ) → HasEdge graph.new.items a b ↔ LeadsTo graph.old.items a b) }
 {
     let ends = ends_of(alloc, graph.as_slice())?;
     let order = order_of(alloc, graph.as_slice())?;
@@ -122,8 +125,11 @@ fn take(
     done: &mut Marks,
 ) -> Result<(), AllocError>
     requires { at < length graph.now }
-    ensures seen { OnOk result ((k : ℕ) → IsMarked seen.new k ↔ (IsMarked seen.old k ⊎ HasEdge graph.now at k)) }
-    ensures done { OnOk result ((k : ℕ) → IsMarked done.new k ↔ ((IsMarked done.old k ⊎ (k ≡ at)) ⊎ (IsMarked closed.now at × HasEdge graph.now at k))) }
+    ensures seen { OnOk result
+        ((k : ℕ) → IsMarked seen.new k ↔ (IsMarked seen.old k ⊎ HasEdge graph.now at k)) }
+    ensures done { OnOk result
+        ((k : ℕ) → IsMarked done.new k
+        ↔ ((IsMarked done.old k ⊎ (k ≡ at)) ⊎ (IsMarked closed.now at × HasEdge graph.now at k))) }
 {
     let row = &graph[at];
     seen.add(row)?;

@@ -3,7 +3,8 @@
 ghost use Rattle.std.specs.Prelude.{◌≡◌, ◌<◌, Any, HoldsAt, MatchOption, IsSome, Some, length};
 ghost use Rattle.rbac_model.specs.Lists.{IsAscendingBy};
 ghost use Rattle.rbac_model.specs.Places.{IsRefAt};
-ghost use Rattle.rbac_model.specs.Policies.{Source, IsRefTo, grant_at, sourced_at, role_name, cluster_role_name};
+ghost use Rattle.rbac_model.specs.Policies.{Source, IsRefTo, grant_at, sourced_at, role_name};
+ghost use Rattle.rbac_model.specs.Policies.{cluster_role_name};
 ghost use Rattle.rbac_model.specs.Sources.{grant_of, source_of};
 
 use crate::objects::Objects;
@@ -54,7 +55,8 @@ pub(crate) fn grant_from<'a>(objects: &'a Objects, at: GrantPlace) -> Grant<'a>
 // The role at a place, and the rule at a place in it.
 fn sourced<'a>(objects: &'a Objects, role: RolePlace, place: usize) -> (SourceRole<'a>, &'a Rule)
     requires { IsSome (sourced_at objects.now role place) }
-    ensures { sourced_at objects.now role place ≡ Some (record { source = source_of result.0; rule = result.1.now; place = place }) }
+    ensures { sourced_at objects.now role place
+        ≡ Some (record { source = source_of result.0; rule = result.1.now; place = place }) }
 {
     match role {
         RolePlace::RoleAt(at) => {
@@ -73,7 +75,8 @@ pub(crate) fn role_place(roles: &[Role], namespace: &Word, name: &Word) -> Optio
     requires { IsAscendingBy role_name roles.now }
     ensures { MatchOption result
         (¬ Any (λ r. (r.namespace ≡ namespace.now) × (r.name ≡ name.now)) roles.now)
-        (λ at. (at < length roles.now) × HoldsAt (λ r. (r.namespace ≡ namespace.now) × (r.name ≡ name.now)) roles.now at) }
+        (λ at. (at < length roles.now)
+        × HoldsAt (λ r. (r.namespace ≡ namespace.now) × (r.name ≡ name.now)) roles.now at) }
 {
     roles
         .binary_search_by(|held| held.namespace.cmp(namespace).then(held.name.cmp(name)))

@@ -3,7 +3,8 @@
 
 ghost use Rattle.std.specs.Prelude.{◌≡◌, IfOk, IfErr};
 ghost use Rattle.std.specs.List.{filter_map};
-ghost use Rattle.rbac_model.specs.Kept.{AreKept, AreLastNamed, as_role, as_cluster_role, as_binding};
+ghost use Rattle.rbac_model.specs.Kept.{AreKept, AreLastNamed, as_role, as_cluster_role};
+ghost use Rattle.rbac_model.specs.Kept.{as_binding};
 
 use crate::objects::{Named, Object, Objects, put};
 use rbac_terms::{Binding, ClusterRole, ModelFault, Role};
@@ -39,8 +40,10 @@ impl Objects {
 // Puts each object with those of its kind, in the order given.
 fn by_kind(alloc: Global, given: Vec<Object>) -> Result<Kinds, AllocError>
     ensures roles { IfOk result (λ kinds. kinds.roles.items ≡ filter_map as_role given.items) }
-    ensures cluster_roles { IfOk result (λ kinds. kinds.cluster_roles.items ≡ filter_map as_cluster_role given.items) }
-    ensures bindings { IfOk result (λ kinds. kinds.bindings.items ≡ filter_map as_binding given.items) }
+    ensures cluster_roles { IfOk result
+        (λ kinds. kinds.cluster_roles.items ≡ filter_map as_cluster_role given.items) }
+    ensures bindings { IfOk result
+        (λ kinds. kinds.bindings.items ≡ filter_map as_binding given.items) }
 {
     let mut roles = Vec::new(alloc);
     let mut cluster_roles = Vec::new(alloc);

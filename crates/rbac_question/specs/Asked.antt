@@ -1,9 +1,11 @@
 use Rattle.std.specs.Prelude.{◌≡◌, ◌≢◌, [], ◌⊎◌, Contains, codes}
 use Rattle.rbac_terms.specs.Text.{Text, slash, IsCutAtFirst, BeginsWith}
 use Rattle.rbac_question.specs.declared.asked.AskedFor.{AskedFor}
-use Rattle.rbac_question.specs.declared.asked.AskedFor.TheVariants.{Url as ForUrl, Resource as ForResource}
+use Rattle.rbac_question.specs.declared.asked.AskedFor.TheVariants.{Url as ForUrl}
+use Rattle.rbac_question.specs.declared.asked.AskedFor.TheVariants.{Resource as ForResource}
 use Rattle.rbac_question.specs.declared.fault.QuestionFault.{QuestionFault}
-use Rattle.rbac_question.specs.declared.fault.QuestionFault.TheVariants.{EmptyWord, UrlSubresource, BadToken, NoMemory}
+use Rattle.rbac_question.specs.declared.fault.QuestionFault.TheVariants.{EmptyWord, UrlSubresource}
+use Rattle.rbac_question.specs.declared.fault.QuestionFault.TheVariants.{BadToken, NoMemory}
 
 -- a type word is not empty, has something before its first dot, and has no slash
 abbrev pub IsTypeWord : Text → Type 0
@@ -21,8 +23,10 @@ IsTypeAndName target word name = IsCutAtFirst target slash word name
 
 -- what TARGET and the subresource ask for: a URL if TARGET begins with a slash, otherwise a type
 abbrev pub AsksFor : Text → Text → AskedFor → Type 0
-AsksFor target subresource (ForUrl path) = BeginsWith target (codes "/") × (path ≡ target) × (subresource ≡ [])
-AsksFor target subresource (ForResource word sub name) = (¬ BeginsWith target (codes "/")) × IsTypeAndName target word name × (sub ≡ subresource)
+AsksFor target subresource (ForUrl path) = BeginsWith target (codes "/") × (path ≡ target)
+    × (subresource ≡ [])
+AsksFor target subresource (ForResource word sub name) = (¬ BeginsWith target (codes "/"))
+    × IsTypeAndName target word name × (sub ≡ subresource)
 
 -- TARGET is empty, or its type word has nothing before its dot
 abbrev pub LacksType : Text → Type 0

@@ -1,4 +1,5 @@
-use Rattle.std.specs.Prelude.{◌≡◌, ◌≢◌, ◌==◌, ◌⊎◌, ℕ, Bool, true, false, not, length, List, [], Option, Some, None, filter, codes, if◌then◌else◌}
+use Rattle.std.specs.Prelude.{◌≡◌, ◌≢◌, ◌==◌, ◌⊎◌, ℕ, Bool, true, false, not, length, List, []}
+use Rattle.std.specs.Prelude.{Option, Some, None, filter, codes, if◌then◌else◌}
 use Rattle.std.specs.List.{slice_split}
 use Rattle.rbac_terms.specs.Text.{Text}
 use Rattle.rbac_terms.specs.Keys.{KeyTexts}
@@ -7,10 +8,12 @@ use Rattle.rbac_token.specs.Marks.{IsTokenOfMark}
 use Rattle.rbac_token.specs.declared.mark.Mark.{Mark}
 use Rattle.rbac_question.specs.Asked.{AsksFor, LacksType, HasUrlSubresource}
 use Rattle.rbac_question.specs.declared.command.Action.{Action}
-use Rattle.rbac_question.specs.declared.command.Action.TheVariants.{CanI, WhoCan, Matrix, Every, Lint}
+use Rattle.rbac_question.specs.declared.command.Action.TheVariants.{CanI, WhoCan, Matrix, Every}
+use Rattle.rbac_question.specs.declared.command.Action.TheVariants.{Lint}
 use Rattle.rbac_question.specs.declared.command.Question.{Question}
 use Rattle.rbac_question.specs.declared.fault.QuestionFault.{QuestionFault}
-use Rattle.rbac_question.specs.declared.fault.QuestionFault.TheVariants.{EmptyWord, UrlSubresource, BadToken, NoMemory}
+use Rattle.rbac_question.specs.declared.fault.QuestionFault.TheVariants.{EmptyWord, UrlSubresource}
+use Rattle.rbac_question.specs.declared.fault.QuestionFault.TheVariants.{BadToken, NoMemory}
 
 -- the parts of a line that ask a question; the text of an option that isn't given is empty
 pub record QuestionParts : Type 0 where
@@ -63,7 +66,8 @@ pub record IsQuestion (l : QuestionParts) (q : Question) : Type 0 where
 -- what a `can-i` line means: the user with these groups asks the question
 abbrev pub MeansCanI : CanIParts → Action → Type 0
 MeansCanI l (CanI principal quiet why question) =
-    (principal ≡ AsUser l.user (groups_in l.groups)) × (quiet ≡ l.quiet) × (why ≡ l.why) × IsQuestion l.question question
+    (principal ≡ AsUser l.user (groups_in l.groups)) × (quiet ≡ l.quiet) × (why ≡ l.why)
+    × IsQuestion l.question question
 MeansCanI l (WhoCan question) = ⊥
 MeansCanI l (Matrix after limit) = ⊥
 MeansCanI l (Every after limit) = ⊥
@@ -89,8 +93,9 @@ IsAfterMark None after = after ≡ None
 IsAfterMark (Some token) None = ⊥
 IsAfterMark (Some token) (Some m) = IsTokenOfMark token m
 
--- what a `matrix` line means: it lists what comes after the key of the token's mark, at most as many rows as the limit says;
--- with `--every` it lists every binding that grants, after the mark itself
+-- what a `matrix` line means: it lists what comes after the key of the token's mark, at most as
+-- many rows as the limit says; with `--every` it lists every binding that grants, after the mark
+-- itself
 abbrev pub MeansMatrix : MatrixParts → Action → Type 0
 MeansMatrix l (CanI principal quiet why question) = ⊥
 MeansMatrix l (WhoCan question) = ⊥

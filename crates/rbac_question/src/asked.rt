@@ -2,7 +2,8 @@
 
 ghost use Rattle.std.specs.Prelude.{◌≡◌, IsTrue, ◌↔◌, IfOk, OnOk, IfErr, codes};
 ghost use Rattle.rbac_terms.specs.Text.{BeginsWith};
-ghost use Rattle.rbac_question.specs.Asked.{IsAskable, AsksFor, RefusesTarget, IsTypeAndName, LacksType, HasUrlSubresource};
+ghost use Rattle.rbac_question.specs.Asked.{IsAskable, AsksFor, RefusesTarget, IsTypeAndName};
+ghost use Rattle.rbac_question.specs.Asked.{LacksType, HasUrlSubresource};
 ghost use Rattle.rbac_question.specs.declared.asked.AskedFor.TheVariants.{Url as ForUrl};
 
 use crate::fault::QuestionFault;

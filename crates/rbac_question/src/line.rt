@@ -3,7 +3,10 @@
 ghost use Rattle.std.specs.Prelude.{◌≡◌, ◌≢◌, ◌⊎◌, [], Some, IfOk, IfErr, MatchResult};
 ghost use Rattle.rbac_terms.specs.Principals.{AsUser};
 ghost use Rattle.rbac_token.specs.Marks.{IsTokenOfMark};
-ghost use Rattle.rbac_question.specs.Lines.{groups_in, namespace_meant, IsQuestion, MeansCanI, MeansWhoCan, MeansMatrix, LacksWord, AcceptsQuestion, RefusesQuestion, AcceptsCanI, RefusesCanI, RefusesMatrix, RefusesUser, HasBadToken};
+ghost use Rattle.rbac_question.specs.Lines.{groups_in, namespace_meant, IsQuestion, MeansCanI};
+ghost use Rattle.rbac_question.specs.Lines.{MeansWhoCan, MeansMatrix, LacksWord, AcceptsQuestion};
+ghost use Rattle.rbac_question.specs.Lines.{RefusesQuestion, AcceptsCanI, RefusesCanI};
+ghost use Rattle.rbac_question.specs.Lines.{RefusesMatrix, RefusesUser, HasBadToken};
 
 use crate::asked::{Asked, check_target};
 use crate::command::{Action, Question};
@@ -154,7 +157,8 @@ fn mark_after(alloc: Global, token: &str) -> Result<Mark, QuestionFault>
 fn check_question(line: &QuestionLine<'_>) -> Result<(), QuestionFault>
     ensures answer { MatchResult result (λ _. AcceptsQuestion line.now) (RefusesQuestion line.now) }
     ensures lacking { LacksWord line.now → result ≡ Err QuestionFault.EmptyWord }
-    ensures located { RefusesQuestion line.now QuestionFault.UrlSubresource → result ≡ Err QuestionFault.UrlSubresource }
+    ensures located { RefusesQuestion line.now QuestionFault.UrlSubresource
+        → result ≡ Err QuestionFault.UrlSubresource }
 {
     if line.verb.is_empty() {
         return Err(QuestionFault::EmptyWord);
@@ -165,8 +169,10 @@ fn check_question(line: &QuestionLine<'_>) -> Result<(), QuestionFault>
 // Why a `can-i` line is refused: U2 if USER is empty, otherwise as its question is.
 fn check_can_i(line: &CanILine<'_>) -> Result<(), QuestionFault>
     ensures answer { MatchResult result (λ _. AcceptsCanI line.now) (RefusesCanI line.now) }
-    ensures lacking { RefusesCanI line.now QuestionFault.EmptyWord → result ≡ Err QuestionFault.EmptyWord }
-    ensures located { RefusesCanI line.now QuestionFault.UrlSubresource → result ≡ Err QuestionFault.UrlSubresource }
+    ensures lacking { RefusesCanI line.now QuestionFault.EmptyWord
+        → result ≡ Err QuestionFault.EmptyWord }
+    ensures located { RefusesCanI line.now QuestionFault.UrlSubresource
+        → result ≡ Err QuestionFault.UrlSubresource }
 {
     if line.user.is_empty() {
         return Err(QuestionFault::EmptyWord);
@@ -192,10 +198,13 @@ impl Action {
     /// U2 if USER, VERB or TARGET is empty, or TARGET begins with `.`; otherwise U3 if a URL has a
     /// subresource. Both are refused before anything is allocated.
     pub fn can_i(alloc: Global, line: &CanILine<'_>) -> Result<Self, QuestionFault>
-        ensures answer { MatchResult result (λ action. AcceptsCanI line.now × MeansCanI line.now action)
+        ensures answer { MatchResult result
+            (λ action. AcceptsCanI line.now × MeansCanI line.now action)
             (RefusesCanI line.now) }
-        ensures lacking { RefusesCanI line.now QuestionFault.EmptyWord → result ≡ Err QuestionFault.EmptyWord }
-        ensures located { RefusesCanI line.now QuestionFault.UrlSubresource → result ≡ Err QuestionFault.UrlSubresource }
+        ensures lacking { RefusesCanI line.now QuestionFault.EmptyWord
+            → result ≡ Err QuestionFault.EmptyWord }
+        ensures located { RefusesCanI line.now QuestionFault.UrlSubresource
+            → result ≡ Err QuestionFault.UrlSubresource }
     {
         check_can_i(line)?;
         let principal = principal_from(alloc, line.user, line.groups)?;
@@ -217,7 +226,8 @@ impl Action {
             (λ action. AcceptsQuestion line.now × MeansWhoCan line.now action)
             (RefusesQuestion line.now) }
         ensures lacking { LacksWord line.now → result ≡ Err QuestionFault.EmptyWord }
-        ensures located { RefusesQuestion line.now QuestionFault.UrlSubresource → result ≡ Err QuestionFault.UrlSubresource }
+        ensures located { RefusesQuestion line.now QuestionFault.UrlSubresource
+            → result ≡ Err QuestionFault.UrlSubresource }
     {
         check_question(line)?;
         Ok(Action::WhoCan {

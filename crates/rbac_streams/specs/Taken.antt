@@ -8,19 +8,22 @@ abbrev pub counted : ℕ → ℕ → ℕ
 counted n more = max n (min (n + more) (2 ^ 128 - 1))
 
 -- the writer took exactly these bytes, and the sink counted them
-pub record Took {W : Type 0} (contents : W → Option (List ℕ)) (old new : SinkView W) (bytes : List ℕ) : Type 0 where
+pub record Took {W : Type 0} (contents : W → Option (List ℕ)) (old new : SinkView W)
+    (bytes : List ℕ) : Type 0 where
   pub appends : Appends (contents old.writer) (contents new.writer) bytes
   pub count : new.taken ≡ counted old.taken (length bytes)
 
 -- since `start` this text was printed: the sink took a prefix of it, and the page holds the rest
-pub record Printed {W : Type 0} (contents : W → Option (List ℕ)) (start now : SinkView W) (page : PageView) (text : List ℕ) : Type 0 where
+pub record Printed {W : Type 0} (contents : W → Option (List ℕ)) (start now : SinkView W)
+    (page : PageView) (text : List ℕ) : Type 0 where
   pub prefix : List ℕ
   pub took : Took contents start now prefix
   pub whole : text ≡ prefix ++ page.pending
   pub written : page.written ≡ counted 0 (length prefix)
 
 -- since `start` the sink took a prefix of the text, and the page says how long the prefix is
-pub record Stopped {W : Type 0} (contents : W → Option (List ℕ)) (start now : SinkView W) (page : PageView) (text : List ℕ) : Type 0 where
+pub record Stopped {W : Type 0} (contents : W → Option (List ℕ)) (start now : SinkView W)
+    (page : PageView) (text : List ℕ) : Type 0 where
   pub prefix : List ℕ
   pub rest : List ℕ
   pub took : Took contents start now prefix
@@ -28,11 +31,14 @@ pub record Stopped {W : Type 0} (contents : W → Option (List ℕ)) (start now 
   pub written : page.written ≡ counted 0 (length prefix)
 
 -- from (old, page) to (new, after) more text was printed
-abbrev pub Prints : {W : Type 0} → (W → Option (List ℕ)) → SinkView W → PageView → SinkView W → PageView → List ℕ → Type 0
+abbrev pub Prints : {W : Type 0} → (W → Option (List ℕ)) → SinkView W → PageView → SinkView W
+    → PageView → List ℕ → Type 0
 Prints {W} contents old page new after more = (start : SinkView W) (text : List ℕ)
     → Printed contents start old page text → Printed contents start new after (text ++ more)
 
--- printing more text stopped: the sink took a prefix of the whole text, including what was printed before
-abbrev pub StopsIn : {W : Type 0} → (W → Option (List ℕ)) → SinkView W → PageView → SinkView W → PageView → List ℕ → Type 0
+-- printing more text stopped: the sink took a prefix of the whole text, including what was printed
+-- before
+abbrev pub StopsIn : {W : Type 0} → (W → Option (List ℕ)) → SinkView W → PageView → SinkView W
+    → PageView → List ℕ → Type 0
 StopsIn {W} contents old page new after more = (start : SinkView W) (text : List ℕ)
     → Printed contents start old page text → Stopped contents start new after (text ++ more)

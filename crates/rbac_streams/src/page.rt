@@ -69,7 +69,8 @@ impl Page {
         ensures err { OnErr result ((start : SinkView W) (text : List ℕ)
             → Printed W.contents start sink.old self.old text
             → Stopped W.contents start sink.new self.new text) }
-        ensures failed { OnErr result ((result ≡ Err PrintFault.SinkFailed) × (sink.new.has_failed ≡ true)) }
+        ensures failed { OnErr result
+            ((result ≡ Err PrintFault.SinkFailed) × (sink.new.has_failed ≡ true)) }
         ensures pending { OnErr result (self.new.pending ≡ self.old.pending) }
     {
         let written = self.written;
@@ -96,10 +97,13 @@ impl Page {
         requires { sink.old.has_failed ≡ false }
         ensures ok { OnOk result (Prints W.contents sink.old self.old sink.new self.new more.now) }
         ensures works { OnOk result (sink.new.has_failed ≡ false) }
-        ensures err { OnErr result (StopsIn W.contents sink.old self.old sink.new self.new more.now) }
+        ensures err { OnErr result
+            (StopsIn W.contents sink.old self.old sink.new self.new more.now) }
         ensures failed { IsErrOf result PrintFault.SinkFailed → sink.new.has_failed ≡ true }
-        ensures pending { IsErrOf result PrintFault.SinkFailed → self.new.pending ≡ self.old.pending ++ more.now }
-        ensures unwritten { IsErrOf result PrintFault.NoMemory → (sink.new ≡ sink.old) × (self.new ≡ self.old) }
+        ensures pending { IsErrOf result PrintFault.SinkFailed
+            → self.new.pending ≡ self.old.pending ++ more.now }
+        ensures unwritten { IsErrOf result PrintFault.NoMemory
+            → (sink.new ≡ sink.old) × (self.new ≡ self.old) }
     {
         if self.pending.extend_from_slice(more).is_err() {
             return Err(PrintFault::NoMemory);

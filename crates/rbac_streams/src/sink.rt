@@ -1,6 +1,7 @@
 //! A writer that stays failed once it has failed, and counts what it took.
 
-ghost use Rattle.std.specs.Prelude.{◌≡◌, ◌<◌, ◌≤◌, [], length, take, true, false, IfOk, IfErr, OnOk, OnErr};
+ghost use Rattle.std.specs.Prelude.{◌≡◌, ◌<◌, ◌≤◌, [], length, take, true, false, IfOk, IfErr};
+ghost use Rattle.std.specs.Prelude.{OnOk, OnErr};
 ghost use Rattle.rbac_streams.specs.Taken.{Took};
 
 use std::io::Write;
@@ -62,9 +63,12 @@ impl<W: Write + Drop> Sink<W> {
     pub fn write(&mut self, piece: &[u8]) -> Result<usize, Failed>
         requires { 0 < length piece.now }
         ensures ok { IfOk result (λ n. (0 < n) × (n ≤ length piece.now)
-            × Took W.contents self.old self.new (take n piece.now) × (self.new.has_failed ≡ false)) }
-        ensures err { OnErr result (Took W.contents self.old self.new [] × (self.new.has_failed ≡ true)) }
-        ensures stays { self.old.has_failed ≡ true → (result ≡ Err record {}) × (self.new ≡ self.old) }
+            × Took W.contents self.old self.new (take n piece.now)
+            × (self.new.has_failed ≡ false)) }
+        ensures err { OnErr result
+            (Took W.contents self.old self.new [] × (self.new.has_failed ≡ true)) }
+        ensures stays { self.old.has_failed ≡ true
+            → (result ≡ Err record {}) × (self.new ≡ self.old) }
     {
         let taken = self.taken;
         if self.has_failed {

@@ -1,6 +1,7 @@
 //! A reader that stays failed once it has failed, and reading an input whole.
 
-ghost use Rattle.std.specs.Prelude.{◌≡◌, ℕ, ◌+◌, ◌<◌, ◌≤◌, List, [], length, take, true, false, IfOk, OnOk, OnErr, IsErrOf};
+ghost use Rattle.std.specs.Prelude.{◌≡◌, ℕ, ◌+◌, ◌<◌, ◌≤◌, List, [], length, take, true, false};
+ghost use Rattle.std.specs.Prelude.{IfOk, OnOk, OnErr, IsErrOf};
 ghost use Rattle.std.specs.Io.KnownBytes.{Consumes, IsAtEnd, Keeps};
 ghost use Rattle.rbac_streams.specs.ReadFaults.{is_read_fault};
 ghost use Rattle.rbac_streams.specs.Taken.{counted};
@@ -78,7 +79,8 @@ impl<R: Read + Drop> Source<R> {
         ensures ok { IfOk result (λ n. (n ≤ length room.new)
             × Consumes (R.remaining self.old.reader) (R.remaining self.new.reader) (take n room.new)
             × (n ≡ 0 → IsAtEnd (R.remaining self.new.reader)) × (self.new.has_failed ≡ false)) }
-        ensures err { OnErr result (Keeps (R.remaining self.old.reader) (R.remaining self.new.reader)
+        ensures err { OnErr result
+            (Keeps (R.remaining self.old.reader) (R.remaining self.new.reader)
             × (self.new.has_failed ≡ true)) }
         ensures reads { self.old.has_failed ≡ false → self.new.reads ≡ counted self.old.reads 1 }
         ensures stays { self.old.has_failed ≡ true
@@ -110,7 +112,8 @@ pub fn read_input<R: Read + Drop>(
         × Consumes (R.remaining source.old.reader) (R.remaining source.new.reader) input
         × IsAtEnd (R.remaining source.new.reader)) }
     ensures failed { source.new.has_failed ≡ is_read_fault result }
-    ensures long { IsErrOf result InputFault.TooLong → (bytes : List ℕ) × (most_bytes < length bytes)
+    ensures long { IsErrOf result InputFault.TooLong
+        → (bytes : List ℕ) × (most_bytes < length bytes)
         × Consumes (R.remaining source.old.reader) (R.remaining source.new.reader) bytes }
     ensures reads { source.new.reads ≤ source.old.reads + (most_bytes + 1) }
 {
@@ -139,7 +142,8 @@ pub fn read_input<R: Read + Drop>(
 /// doesn't show its bytes; for it the same holds as far as its reads return what it has.
 pub fn read_slice(alloc: Global, source: &mut Source<&[u8]>) -> Result<Input, InputFault>
     requires { source.old.has_failed ≡ false }
-    ensures ok { IfOk result (λ input. (input ≡ source.old.reader.now) × (length input ≤ most_bytes)) }
+    ensures ok { IfOk result
+        (λ input. (input ≡ source.old.reader.now) × (length input ≤ most_bytes)) }
     ensures rest { OnOk result (source.new.reader.now ≡ []) }
     ensures failed { source.new.has_failed ≡ is_read_fault result }
     ensures long { IsErrOf result InputFault.TooLong → most_bytes < length source.old.reader.now }
@@ -150,8 +154,10 @@ pub fn read_slice(alloc: Global, source: &mut Source<&[u8]>) -> Result<Input, In
 /// Reads the file at `path` whole, as [`read_input`] does; I1 also if the file can't be opened.
 pub fn read_file<R: Files>(rt: &R, alloc: Global, path: &str) -> Result<Input, InputFault>
     ensures ok { IfOk result (λ input. (length input ≤ most_bytes) × ((file after : R.File)
-        × Consumes (R.File.remaining file) (R.File.remaining after) input × IsAtEnd (R.File.remaining after))) }
-    ensures long { IsErrOf result InputFault.TooLong → (file after : R.File) × (bytes : List ℕ) × (most_bytes < length bytes)
+        × Consumes (R.File.remaining file) (R.File.remaining after) input
+        × IsAtEnd (R.File.remaining after))) }
+    ensures long { IsErrOf result InputFault.TooLong
+        → (file after : R.File) × (bytes : List ℕ) × (most_bytes < length bytes)
         × Consumes (R.File.remaining file) (R.File.remaining after) bytes }
 {
     match fs::open(rt, path) {

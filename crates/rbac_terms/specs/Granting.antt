@@ -1,10 +1,14 @@
 use Rattle.std.specs.Prelude.{◌≡◌, [], Option, Some, None}
 use Rattle.rbac_terms.specs.Text.{Text}
-use Rattle.rbac_terms.specs.Principals.{Who, AsUser, AsMember, who_key, IsUserNamed, IsInGroup, account_user}
+use Rattle.rbac_terms.specs.Principals.{Who, AsUser, AsMember, who_key, IsUserNamed, IsInGroup}
+use Rattle.rbac_terms.specs.Principals.{account_user}
 use Rattle.rbac_terms.specs.declared.granting.Subject.{Subject}
 use Rattle.rbac_terms.specs.declared.granting.Subject.TheVariants.{User, Group, Account}
 
--- a subject of a binding in that namespace, or in none, names who asks: the user of that name, anyone in the group, or the user of the service account (Using RBAC Authorization, Referring to subjects); an account without a namespace is in the binding's, and names nobody if the binding has none (own)
+-- a subject of a binding in that namespace, or in none, names who asks: the user of that name,
+-- anyone in the group, or the user of the service account (Using RBAC Authorization, Referring to
+-- subjects); an account without a namespace is in the binding's, and names nobody if the binding
+-- has none (own)
 abbrev pub Names : Subject → Option Text → Who → Type 0
 Names (User name) _ who = IsUserNamed who name
 Names (Group name) _ who = IsInGroup who name
@@ -12,10 +16,13 @@ Names (Account (Some namespace) name) _ who = IsUserNamed who (account_user name
 Names (Account None name) (Some namespace) who = IsUserNamed who (account_user namespace name)
 Names (Account None name) None _ = ⊥
 
--- the key of the principal that a subject stands for, if any (own): an account's key is its user's, and an account without any namespace has none
+-- the key of the principal that a subject stands for, if any (own): an account's key is its user's,
+-- and an account without any namespace has none
 abbrev pub IsSubjectKey : Subject → Option Text → Text → Type 0
 IsSubjectKey (User name) _ key = key ≡ who_key (AsUser name [])
 IsSubjectKey (Group name) _ key = key ≡ who_key (AsMember name)
-IsSubjectKey (Account (Some namespace) name) _ key = key ≡ who_key (AsUser (account_user namespace name) [])
-IsSubjectKey (Account None name) (Some namespace) key = key ≡ who_key (AsUser (account_user namespace name) [])
+IsSubjectKey (Account (Some namespace) name) _ key =
+    key ≡ who_key (AsUser (account_user namespace name) [])
+IsSubjectKey (Account None name) (Some namespace) key =
+    key ≡ who_key (AsUser (account_user namespace name) [])
 IsSubjectKey (Account None name) None key = ⊥

@@ -1,6 +1,7 @@
 -- the laws of the order of keys
 use Rattle.std.proofs.Common.{refl}
-use Rattle.std.specs.Cmp.{IsTotalOrder, IsEquivalence, IsPartialOrder, partial_order_from_agreeing_total}
+use Rattle.std.specs.Cmp.{IsTotalOrder, IsEquivalence, IsPartialOrder}
+use Rattle.std.specs.Cmp.{partial_order_from_agreeing_total}
 use Rattle.std.specs.Ordering.{eq_by_cmp, as_partial_cmp}
 use Rattle.std.proofs.lemmas.Cmp.{nat_list_cmp_total, lists_total, on_total, eq_by_cmp_equiv}
 use Rattle.rbac_terms.specs.Keys.{texts, key_cmp}
@@ -15,4 +16,5 @@ key_cmp_equiv = eq_by_cmp_equiv key_cmp_total
 
 -- the order of keys orders tied keys alike
 pub key_cmp_partial : IsPartialOrder (eq_by_cmp key_cmp) (as_partial_cmp key_cmp)
-key_cmp_partial = partial_order_from_agreeing_total key_cmp key_cmp_total (λ _ _. refl) (λ _ _. refl)
+key_cmp_partial =
+    partial_order_from_agreeing_total key_cmp key_cmp_total (λ _ _. refl) (λ _ _. refl)

@@ -5,7 +5,8 @@ use Rattle.rbac_terms.specs.Text.{Text, text_cmp}
 use Rattle.rbac_terms.specs.Principals.{Who, who_key}
 use Rattle.rbac_terms.specs.Targets.{What, Resource, Url, group_of, text_of, name_of}
 
--- the key of a request: six texts, which are the principal's key, the namespace, verb, API group, resource text or URL, and object name (own)
+-- the key of a request: six texts, which are the principal's key, the namespace, verb, API group,
+-- resource text or URL, and object name (own)
 pub record KeyTexts : Type 0 where
   pub principal : Text
   pub namespace : Text

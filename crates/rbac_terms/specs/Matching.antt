@@ -1,21 +1,27 @@
-use Rattle.std.specs.Prelude.{◌≡◌, ◌≢◌, ℕ, ◌+◌, ◌⊎◌, List, [], ◌∷◌, ◌++◌, Contains, Any, replicate, codes}
+use Rattle.std.specs.Prelude.{◌≡◌, ◌≢◌, ℕ, ◌+◌, ◌⊎◌, List, [], ◌∷◌, ◌++◌, Contains, Any, replicate}
+use Rattle.std.specs.Prelude.{codes}
 use Rattle.rbac_terms.specs.declared.matching.Rule.{Rule}
 use Rattle.rbac_terms.specs.Targets.{What, Resource, Url}
 use Rattle.rbac_terms.specs.Text.{Text, star, slash, IsCutAtFirst, BeginsWith}
 
--- a rule's word matches a verb or an API group: it is `*`, or what is requested (rbac/v1 evaluation helpers)
+-- a rule's word matches a verb or an API group: it is `*`, or what is requested (rbac/v1 evaluation
+-- helpers)
 abbrev pub WordMatches : Text → Text → Type 0
 WordMatches w x = (w ≡ codes "*") ⊎ (w ≡ x)
 
--- s is what follows the first slash of x: the subresource of a resource text (Using RBAC Authorization, Referring to resources)
+-- s is what follows the first slash of x: the subresource of a resource text (Using RBAC
+-- Authorization, Referring to resources)
 abbrev pub FollowsFirstSlash : Text → Text → Type 0
 FollowsFirstSlash x s = (m : Text) × IsCutAtFirst x slash m s
 
--- a rule's word matches a resource text: it is `*`, the text itself, or `*/` followed by the text's subresource, which isn't empty (rbac/v1 evaluation helpers)
+-- a rule's word matches a resource text: it is `*`, the text itself, or `*/` followed by the text's
+-- subresource, which isn't empty (rbac/v1 evaluation helpers)
 abbrev pub ResourceWordMatches : Text → Text → Type 0
-ResourceWordMatches w x = WordMatches w x ⊎ ((s : Text) × (w ≡ codes "*/" ++ s) × (s ≢ []) × FollowsFirstSlash x s)
+ResourceWordMatches w x = WordMatches w x
+    ⊎ ((s : Text) × (w ≡ codes "*/" ++ s) × (s ≢ []) × FollowsFirstSlash x s)
 
--- a rule's names match an object name: there are none, or this one is among them (rbac/v1 evaluation helpers)
+-- a rule's names match an object name: there are none, or this one is among them (rbac/v1
+-- evaluation helpers)
 abbrev pub NameMatches : List Text → Text → Type 0
 NameMatches names x = (names ≡ []) ⊎ Contains names x
 
@@ -23,7 +29,8 @@ NameMatches names x = (names ≡ []) ⊎ Contains names x
 abbrev pub EndsInStar : Text → Type 0
 EndsInStar t = (r : Text) × (t ≡ r ++ star ∷ [])
 
--- a rule's word matches a URL path: it is the path, or it ends in stars and the path begins with what comes before all of them (rbac/v1 evaluation helpers; more than one star: own)
+-- a rule's word matches a URL path: it is the path, or it ends in stars and the path begins with
+-- what comes before all of them (rbac/v1 evaluation helpers; more than one star: own)
 abbrev pub UrlWordMatches : Text → Text → Type 0
 UrlWordMatches w x = (w ≡ x)
     ⊎ ((q : Text) × (k : ℕ) × (w ≡ q ++ replicate (k + 1) star) × (¬ EndsInStar q) × BeginsWith x q)
@@ -32,10 +39,12 @@ UrlWordMatches w x = (w ≡ x)
 abbrev pub VerbOk : Rule → Text → Type 0
 VerbOk r v = Any (λ w. WordMatches w v) r.verbs
 
--- the rule matches the target, verbs aside: a resource by some group word, some resource word and the names; a URL by some URL word (rbac/v1 evaluation helpers)
+-- the rule matches the target, verbs aside: a resource by some group word, some resource word and
+-- the names; a URL by some URL word (rbac/v1 evaluation helpers)
 abbrev pub TargetOk : Rule → What → Type 0
 TargetOk r (Resource group text name) =
-    Any (λ w. WordMatches w group) r.groups × Any (λ w. ResourceWordMatches w text) r.resources × NameMatches r.resource_names name
+    Any (λ w. WordMatches w group) r.groups × Any (λ w. ResourceWordMatches w text) r.resources
+    × NameMatches r.resource_names name
 TargetOk r (Url path) = Any (λ w. UrlWordMatches w path) r.urls
 
 -- the rule allows the verb on the target: it matches both (rbac/v1 evaluation helpers)

@@ -1,7 +1,9 @@
-use Rattle.std.specs.Prelude.{◌≡◌, ◌≢◌, List, [], ◌++◌, ◌⊎◌, Contains, Bool, true, false, codes, drop}
+use Rattle.std.specs.Prelude.{◌≡◌, ◌≢◌, List, [], ◌++◌, ◌⊎◌, Contains, Bool, true, false, codes}
+use Rattle.std.specs.Prelude.{drop}
 use Rattle.rbac_terms.specs.Text.{Text, colon}
 
--- who asks: a user by name with the groups given (Using RBAC Authorization), or a member of one group, without a name (own)
+-- who asks: a user by name with the groups given (Using RBAC Authorization), or a member of one
+-- group, without a name (own)
 pub data Who : Type 0 where
   AsUser : (name : Text) (given : List Text) → Who
   AsMember : (group : Text) → Who
@@ -15,33 +17,45 @@ who_key (AsMember group) = codes "g:" ++ group
 abbrev pub account_user : Text → Text → Text
 account_user namespace name = codes "system:serviceaccount:" ++ namespace ++ codes ":" ++ name
 
--- a part of a service account's user name, the namespace or the account's name: not empty and without a colon (own)
+-- a part of a service account's user name, the namespace or the account's name: not empty and
+-- without a colon (own)
 abbrev pub IsPart : Text → Type 0
 IsPart t = (t ≢ []) × (¬ Contains t colon)
 
--- the user is a service account of that namespace, whatever its name there (Using RBAC Authorization, Referring to subjects)
+-- the user is a service account of that namespace, whatever its name there (Using RBAC
+-- Authorization, Referring to subjects)
 abbrev pub IsAccountOf : Text → Text → Type 0
-IsAccountOf user namespace = (name : Text) × (user ≡ account_user namespace name) × IsPart namespace × IsPart name
+IsAccountOf user namespace = (name : Text) × (user ≡ account_user namespace name) × IsPart namespace
+    × IsPart name
 
--- the groups that the service accounts of a namespace are in: that of all service accounts, and that of those in the namespace (Using RBAC Authorization, Referring to subjects)
+-- the groups that the service accounts of a namespace are in: that of all service accounts, and
+-- that of those in the namespace (Using RBAC Authorization, Referring to subjects)
 abbrev pub IsGroupOfAccounts : Text → Text → Type 0
-IsGroupOfAccounts namespace g = (g ≡ codes "system:serviceaccounts") ⊎ (g ≡ codes "system:serviceaccounts:" ++ namespace)
+IsGroupOfAccounts namespace g = (g ≡ codes "system:serviceaccounts")
+    ⊎ (g ≡ codes "system:serviceaccounts:" ++ namespace)
 
--- the groups that a user is in as a service account (Using RBAC Authorization, Referring to subjects)
+-- the groups that a user is in as a service account (Using RBAC Authorization, Referring to
+-- subjects)
 abbrev pub IsAccountGroup : Text → Text → Type 0
-IsAccountGroup user g = (namespace : Text) × IsAccountOf user namespace × IsGroupOfAccounts namespace g
+IsAccountGroup user g = (namespace : Text) × IsAccountOf user namespace
+    × IsGroupOfAccounts namespace g
 
--- the group that says whether a user has signed in: `system:unauthenticated` for the anonymous user, `system:authenticated` for any other (Using RBAC Authorization), except one that is given `system:unauthenticated` (own)
+-- the group that says whether a user has signed in: `system:unauthenticated` for the anonymous
+-- user, `system:authenticated` for any other (Using RBAC Authorization), except one that is given
+-- `system:unauthenticated` (own)
 abbrev pub IsSignInGroup : Text → List Text → Text → Type 0
 IsSignInGroup user given g =
     ((user ≡ codes "system:anonymous") × (g ≡ codes "system:unauthenticated"))
-    ⊎ ((user ≢ codes "system:anonymous") × (¬ Contains given (codes "system:unauthenticated")) × (g ≡ codes "system:authenticated"))
+    ⊎ ((user ≢ codes "system:anonymous") × (¬ Contains given (codes "system:unauthenticated"))
+    × (g ≡ codes "system:authenticated"))
 
--- the groups that a user is in besides those given: as a service account, and as a user that has signed in or hasn't (Using RBAC Authorization)
+-- the groups that a user is in besides those given: as a service account, and as a user that has
+-- signed in or hasn't (Using RBAC Authorization)
 abbrev pub IsImpliedGroup : Text → List Text → Text → Type 0
 IsImpliedGroup user given g = IsAccountGroup user g ⊎ IsSignInGroup user given g
 
--- the groups of who asks: for a user, those given and the implied ones (Using RBAC Authorization); for a member, its one group alone (own)
+-- the groups of who asks: for a user, those given and the implied ones (Using RBAC Authorization);
+-- for a member, its one group alone (own)
 abbrev pub IsInGroup : Who → Text → Type 0
 IsInGroup (AsUser name given) g = Contains given g ⊎ IsImpliedGroup name given g
 IsInGroup (AsMember group) g = g ≡ group
@@ -56,7 +70,8 @@ abbrev pub given_of : Who → List Text
 given_of (AsUser name given) = given
 given_of (AsMember group) = []
 
--- who asks is the user of that name, whatever its groups (Using RBAC Authorization, Referring to subjects)
+-- who asks is the user of that name, whatever its groups (Using RBAC Authorization, Referring to
+-- subjects)
 abbrev pub IsUserNamed : Who → Text → Type 0
 IsUserNamed (AsUser name given) wanted = name ≡ wanted
 IsUserNamed (AsMember group) wanted = ⊥

@@ -21,17 +21,22 @@ HasKey labels key = Any (λ label. label.0 ≡ key) labels
 abbrev pub HasOneOf : LabelTexts → Text → List Text → Type 0
 HasOneOf labels key values = Any (λ label. (label.0 ≡ key) × Contains values label.1) labels
 
--- labels meet an operator: `In` if one has the key and a listed value, `NotIn` if none has both, `Exists` if one has the key, `DoesNotExist` if none has it (Labels and Selectors, set-based requirements)
+-- labels meet an operator: `In` if one has the key and a listed value, `NotIn` if none has both,
+-- `Exists` if one has the key, `DoesNotExist` if none has it (Labels and Selectors, set-based
+-- requirements)
 abbrev pub MeetsOp : SelectOp → Text → List Text → LabelTexts → Type 0
 MeetsOp OneOf key values labels = HasOneOf labels key values
 MeetsOp NoneOf key values labels = ¬ HasOneOf labels key values
 MeetsOp Present key values labels = HasKey labels key
 MeetsOp Absent key values labels = ¬ HasKey labels key
 
--- labels meet a requirement: they meet its operator with its key and values (Labels and Selectors, set-based requirements)
+-- labels meet a requirement: they meet its operator with its key and values (Labels and Selectors,
+-- set-based requirements)
 abbrev pub Meets : Requirement → LabelTexts → Type 0
 Meets r labels = MeetsOp r.op r.key r.values labels
 
--- a selector selects labels that contain each of its labels and meet each of its requirements; the empty one selects all (Labels and Selectors)
+-- a selector selects labels that contain each of its labels and meet each of its requirements; the
+-- empty one selects all (Labels and Selectors)
 abbrev pub Selects : Selector → LabelTexts → Type 0
-Selects s labels = All (λ label. HasLabel labels label.0 label.1) s.labels × All (λ r. Meets r labels) s.requirements
+Selects s labels = All (λ label. HasLabel labels label.0 label.1) s.labels
+    × All (λ r. Meets r labels) s.requirements

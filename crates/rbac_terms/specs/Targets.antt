@@ -1,12 +1,14 @@
 use Rattle.std.specs.Prelude.{◌≡◌, ◌≢◌, [], Bool, true, false, codes}
 use Rattle.rbac_terms.specs.Text.{Text, BeginsWith}
 
--- what a request is for: a resource by API group, resource text and object name, or a URL by its path (Using RBAC Authorization)
+-- what a request is for: a resource by API group, resource text and object name, or a URL by its
+-- path (Using RBAC Authorization)
 pub data What : Type 0 where
   Resource : (group text name : Text) → What
   Url : (path : Text) → What
 
--- a resource text isn't empty and doesn't begin with a slash; a URL begins with one (own, after the paths of API requests)
+-- a resource text isn't empty and doesn't begin with a slash; a URL begins with one (own, after the
+-- paths of API requests)
 abbrev pub IsProper : What → Type 0
 IsProper (Resource group text name) = (text ≢ []) × (¬ BeginsWith text (codes "/"))
 IsProper (Url path) = BeginsWith path (codes "/")

@@ -85,7 +85,8 @@ pub struct Binding {
 /// its service account (Using RBAC Authorization, "Referring to subjects"). An account without a
 /// namespace is in the binding's; in a ClusterRoleBinding it names nobody (own). Doesn't allocate.
 pub fn names(subject: &Subject, binding_namespace: Option<&Word>, principal: &Principal) -> bool
-    ensures { IsTrue result ↔ Names subject.now (option_copied binding_namespace.entry) principal.now }
+    ensures { IsTrue result
+        ↔ Names subject.now (option_copied binding_namespace.entry) principal.now }
 {
     match subject {
         Subject::User(name) => principal.is_user_named(name),
@@ -108,7 +109,8 @@ pub fn subject_key(
 ) -> Result<Option<Word>, AllocError>
     ensures { IfOk result (λ o. MatchOption o
         ((key : Text) → ¬ IsSubjectKey subject.now (option_copied binding_namespace.entry) key)
-        (λ w. (key : Text) → IsSubjectKey subject.now (option_copied binding_namespace.entry) key ↔ (key ≡ w))) }
+        (λ w. (key : Text) → IsSubjectKey subject.now (option_copied binding_namespace.entry) key
+        ↔ (key ≡ w))) }
 {
     match subject {
         Subject::User(name) => Ok(Some(user_key(alloc, name)?)),

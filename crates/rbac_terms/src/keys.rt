@@ -28,7 +28,14 @@ impl Model for Key {
 
     ghost Value = { KeyTexts };
 
-    ghost view = { λ k. record { principal = k.principal; namespace = k.namespace; verb = k.verb; group = k.group; resource = k.resource; name = k.name } };
+    ghost view = { λ k. record {
+      principal = k.principal;
+      namespace = k.namespace;
+      verb = k.verb;
+      group = k.group;
+      resource = k.resource;
+      name = k.name;
+    } };
 }
 
 impl Key {

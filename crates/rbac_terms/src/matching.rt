@@ -2,7 +2,9 @@
 
 ghost use Rattle.std.specs.Prelude.{◌≡◌, ℕ, ◌++◌, IsTrue, ◌↔◌, Any, replicate};
 ghost use Rattle.rbac_terms.specs.Text.{star};
-ghost use Rattle.rbac_terms.specs.Matching.{WordMatches, ResourceWordMatches, FollowsFirstSlash, NameMatches, UrlWordMatches, EndsInStar, TargetOk, RuleAllows};
+ghost use Rattle.rbac_terms.specs.Matching.{WordMatches, ResourceWordMatches, FollowsFirstSlash};
+ghost use Rattle.rbac_terms.specs.Matching.{NameMatches, UrlWordMatches, EndsInStar, TargetOk};
+ghost use Rattle.rbac_terms.specs.Matching.{RuleAllows};
 ghost use Rattle.rbac_terms.specs.Targets.{Resource};
 
 use crate::items::Items;

@@ -1,9 +1,15 @@
 //! Who asks, and for what.
 
-ghost use Rattle.std.specs.Prelude.{◌≡◌, ◌≢◌, ◌++◌, ◌⊎◌, [], IsTrue, ◌↔◌, MatchBool, MatchResult, MatchOption, IfOk, IfErr, OnOk, OnErr, Contains};
+ghost use Rattle.std.specs.Prelude.{◌≡◌, ◌≢◌, ◌++◌, ◌⊎◌, [], IsTrue, ◌↔◌, MatchBool, MatchResult};
+ghost use Rattle.std.specs.Prelude.{MatchOption, IfOk, IfErr, OnOk, OnErr, Contains};
 ghost use Rattle.rbac_terms.specs.Text.{Text};
-ghost use Rattle.rbac_terms.specs.Targets.{Resource, Url, IsProper, IsUrl, IsResource, group_of, text_of, name_of};
-ghost use Rattle.rbac_terms.specs.Principals.{AsUser, AsMember, who_key, name_of as who_name, given_of, IsUserNamed, IsInGroup, account_user, IsAccountOf, IsAccountGroup, IsGroupOfAccounts, IsImpliedGroup, IsPart, IsSignInGroup, IsAccountIn, SignsInAs};
+ghost use Rattle.rbac_terms.specs.Targets.{Resource, Url, IsProper, IsUrl, IsResource, group_of};
+ghost use Rattle.rbac_terms.specs.Targets.{text_of, name_of};
+ghost use Rattle.rbac_terms.specs.Principals.{AsUser, AsMember, who_key, name_of as who_name};
+ghost use Rattle.rbac_terms.specs.Principals.{given_of, IsUserNamed, IsInGroup, account_user};
+ghost use Rattle.rbac_terms.specs.Principals.{IsAccountOf, IsAccountGroup, IsGroupOfAccounts};
+ghost use Rattle.rbac_terms.specs.Principals.{IsImpliedGroup, IsPart, IsSignInGroup, IsAccountIn};
+ghost use Rattle.rbac_terms.specs.Principals.{SignsInAs};
 
 use crate::fault::ModelFault;
 use crate::given_groups::GivenGroups;
@@ -58,7 +64,8 @@ impl Model for Target {
 
     ghost view = { λ t. what_of t.is_url t.group t.text t.name };
 
-    ghost invariant = { λ t. IsProper (what_of t.is_url t.group t.text t.name) × (IsTrue t.is_url → (t.group ≡ []) × (t.name ≡ [])) };
+    ghost invariant = { λ t. IsProper (what_of t.is_url t.group t.text t.name)
+        × (IsTrue t.is_url → (t.group ≡ []) × (t.name ≡ [])) };
 }
 
 impl Target {
@@ -150,7 +157,8 @@ impl Model for Principal {
 
     ghost view = { λ p. who_of p.is_user p.key p.given };
 
-    ghost invariant = { λ p. (p.key ≡ who_key (who_of p.is_user p.key p.given)) × (name_of (who_of p.is_user p.key p.given) ≢ []) };
+    ghost invariant = { λ p. (p.key ≡ who_key (who_of p.is_user p.key p.given))
+        × (name_of (who_of p.is_user p.key p.given) ≢ []) };
 }
 
 impl Principal {
@@ -159,7 +167,8 @@ impl Principal {
     pub fn user(alloc: Global, name: &Word, given: &Words) -> Result<Self, ModelFault>
         ensures ok { IfOk result (λ p. p ≡ AsUser name.now given.now) }
         ensures empty { (result ≡ Err ModelFault.EmptyName) ↔ (name.now ≡ []) }
-        ensures errors { IfErr result (λ e. (e ≡ ModelFault.EmptyName) ⊎ (e ≡ ModelFault.NoMemory)) }
+        ensures errors { IfErr result
+            (λ e. (e ≡ ModelFault.EmptyName) ⊎ (e ≡ ModelFault.NoMemory)) }
     {
         Ok(Principal {
             is_user: true,
@@ -173,7 +182,8 @@ impl Principal {
     pub fn group(alloc: Global, name: &Word) -> Result<Self, ModelFault>
         ensures ok { IfOk result (λ p. p ≡ AsMember name.now) }
         ensures empty { (result ≡ Err ModelFault.EmptyName) ↔ (name.now ≡ []) }
-        ensures errors { IfErr result (λ e. (e ≡ ModelFault.EmptyName) ⊎ (e ≡ ModelFault.NoMemory)) }
+        ensures errors { IfErr result
+            (λ e. (e ≡ ModelFault.EmptyName) ⊎ (e ≡ ModelFault.NoMemory)) }
     {
         Ok(Principal {
             is_user: false,
@@ -187,7 +197,9 @@ impl Principal {
     pub fn give(&mut self, more: Self) -> Result<(), AllocError>
         requires { who_key more ≡ who_key self.old }
         ensures key { who_key self.new ≡ who_key self.old }
-        ensures given { OnOk result ((g : Text) → Contains (given_of self.new) g ↔ (Contains (given_of self.old) g ⊎ Contains (given_of more) g)) }
+        ensures given { OnOk result
+            ((g : Text) → Contains (given_of self.new) g
+            ↔ (Contains (given_of self.old) g ⊎ Contains (given_of more) g)) }
         ensures err { OnErr result (self.new ≡ self.old) }
     {
         let Principal {

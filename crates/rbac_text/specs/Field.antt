@@ -1,5 +1,6 @@
 -- How a field is printed (own).
-use Rattle.std.specs.Prelude.{ℕ, ◌+◌, ◌/◌, ◌%◌, Bool, ◌==◌, ◌||◌, nat_lt, [], ◌∷◌, codes, if◌then◌else◌}
+use Rattle.std.specs.Prelude.{ℕ, ◌+◌, ◌/◌, ◌%◌, Bool, ◌==◌, ◌||◌, nat_lt, [], ◌∷◌, codes}
+use Rattle.std.specs.Prelude.{if◌then◌else◌}
 use Rattle.std.specs.List.{flat_map}
 use Rattle.rbac_terms.specs.Text.{Text}
 
@@ -15,7 +16,8 @@ is_control b = nat_lt b 32 || (b == 127)
 abbrev pub code_text : ℕ → Text
 code_text b = 92 ∷ 120 ∷ hex_digit (b / 16) ∷ hex_digit (b % 16) ∷ []
 
--- a backslash is doubled, a control byte is printed by its code, and any other byte is printed as it is
+-- a backslash is doubled, a control byte is printed by its code, and any other byte is printed as
+-- it is
 abbrev pub byte_text : ℕ → Text
 byte_text b = if b == 92 then 92 ∷ 92 ∷ [] else if is_control b then code_text b else b ∷ []
 

@@ -1,5 +1,6 @@
 -- How a finding of lint is printed (own).
-use Rattle.std.specs.Prelude.{ℕ, [], ◌∷◌, ◌++◌, ◌==◌, codes, decimal, Option, Some, None, if◌then◌else◌}
+use Rattle.std.specs.Prelude.{ℕ, [], ◌∷◌, ◌++◌, ◌==◌, codes, decimal, Option, Some, None}
+use Rattle.std.specs.Prelude.{if◌then◌else◌}
 use Rattle.rbac_terms.specs.Text.{Text}
 use Rattle.rbac_text.specs.Field.{field_text}
 use Rattle.rbac_text.specs.Row.{tab, newline, field_and_tab}
@@ -22,7 +23,8 @@ abbrev pub place_field : Option ℕ → Text
 place_field None = field_text []
 place_field (Some place) = place_text place
 
--- the line of a finding: its code and word, its object, the place and the last field, joined by tabs
+-- the line of a finding: its code and word, its object, the place and the last field, joined by
+-- tabs
 abbrev pub finding_text : ℕ → Text → Option ℕ → Text → Text
 finding_text code object place other =
     codes "L" ++ decimal code ++ tab ∷ field_and_tab (finding_word code) ++ field_and_tab object

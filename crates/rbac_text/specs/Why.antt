@@ -16,7 +16,8 @@ role_text namespace name = field_text (codes "Role/" ++ namespace ++ codes "/" +
 abbrev pub cluster_role_text : Text → Text
 cluster_role_text name = field_text (codes "ClusterRole/" ++ name)
 
--- the role that a binding in that namespace names; a Role named without a namespace has the empty one
+-- the role that a binding in that namespace names; a Role named without a namespace has the empty
+-- one
 abbrev pub named_text : Option Text → RoleRef → Text
 named_text namespace (Role name) = role_text (unwrap_or namespace []) name
 named_text namespace (ClusterRole name) = cluster_role_text name

@@ -23,7 +23,8 @@ pub fn put_finding(
     place: Option<usize>,
     other: &Word,
 ) -> Result<(), AllocError>
-    ensures { OnOk result (line.new.items ≡ line.old.items ++ finding_text code object.now place other.now) }
+    ensures { OnOk result
+        (line.new.items ≡ line.old.items ++ finding_text code object.now place other.now) }
 {
     put_code(line, code)?;
     put_field_and_tab(line, object.as_bytes())?;
@@ -33,7 +34,9 @@ pub fn put_finding(
 
 // Adds the code of a finding and the word for it.
 fn put_code(line: &mut Vec<u8>, code: u8) -> Result<(), AllocError>
-    ensures { OnOk result (line.new.items ≡ line.old.items ++ codes "L" ++ decimal code ++ tab ∷ field_and_tab (finding_word code)) }
+    ensures { OnOk result
+        (line.new.items
+        ≡ line.old.items ++ codes "L" ++ decimal code ++ tab ∷ field_and_tab (finding_word code)) }
 {
     let mut buffer = Buffer::new();
     line.push(b'L')?;
@@ -70,7 +73,8 @@ fn put_place_if_any(line: &mut Vec<u8>, place: Option<usize>) -> Result<(), Allo
 
 // Adds a tab, the last field and a newline.
 fn put_rest(line: &mut Vec<u8>, other: &Word) -> Result<(), AllocError>
-    ensures { OnOk result (line.new.items ≡ line.old.items ++ tab ∷ field_text other.now ++ newline ∷ []) }
+    ensures { OnOk result
+        (line.new.items ≡ line.old.items ++ tab ∷ field_text other.now ++ newline ∷ []) }
 {
     line.push(b'\t')?;
     put_field(line, other.as_bytes())?;

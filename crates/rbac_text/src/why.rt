@@ -3,7 +3,8 @@
 ghost use Rattle.std.specs.Prelude.{◌≡◌, ◌++◌, ◌∷◌, [], OnErr, OnOk};
 ghost use Rattle.rbac_model.specs.Sources.{source_of};
 ghost use Rattle.rbac_text.specs.Row.{tab};
-ghost use Rattle.rbac_text.specs.Why.{role_text, cluster_role_text, named_text, source_text, place_text, roles_text, places_text, why_text};
+ghost use Rattle.rbac_text.specs.Why.{role_text, cluster_role_text, named_text, source_text};
+ghost use Rattle.rbac_text.specs.Why.{place_text, roles_text, places_text, why_text};
 
 use crate::field::put_text;
 use crate::row::put_binding;
@@ -56,7 +57,8 @@ pub fn put_why(
     subject_place: usize,
 ) -> Result<(), AllocError>
     ensures { OnOk result (line.new.items
-        ≡ line.old.items ++ why_text binding.now (source_of source.entry) rule_place subject_place) }
+        ≡ line.old.items
+        ++ why_text binding.now (source_of source.entry) rule_place subject_place) }
 {
     put_binding(line, binding)?;
     put_tab(line)?;
@@ -106,7 +108,8 @@ fn put_named_role(line: &mut Vec<u8>, binding: &Binding) -> Result<(), AllocErro
 
 // Adds the role where a rule is written.
 fn put_source(line: &mut Vec<u8>, source: SourceRole<'_>) -> Result<(), AllocError>
-    ensures { OnOk result (line.new.items ≡ line.old.items ++ source_text (source_of source.entry)) }
+    ensures { OnOk result
+        (line.new.items ≡ line.old.items ++ source_text (source_of source.entry)) }
 {
     match source {
         SourceRole::Role(role) => put_role(line, &role.namespace, &role.name),

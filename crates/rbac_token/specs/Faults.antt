@@ -7,22 +7,28 @@ use Rattle.rbac_token.specs.Marks.{HasMarkVersion, IsTokenOfMark}
 use Rattle.rbac_token.specs.Token.{Encodes, HasKeyVersion, IsTokenOf}
 use Rattle.rbac_token.specs.declared.mark.Mark.{Mark}
 use Rattle.rbac_token.specs.declared.fault.TokenFault.{TokenFault}
-use Rattle.rbac_token.specs.declared.fault.TokenFault.TheVariants.{NotBase64, BadVersion, NotCanonical, NoMemory}
+use Rattle.rbac_token.specs.declared.fault.TokenFault.TheVariants.{NotBase64, BadVersion}
+use Rattle.rbac_token.specs.declared.fault.TokenFault.TheVariants.{NotCanonical, NoMemory}
 
--- why a token is refused (own): it isn't unpadded URL-safe base64; otherwise its version is another; otherwise nothing is printed as its bytes; out of memory may come at any time
+-- why a token is refused (own): it isn't unpadded URL-safe base64; otherwise its version is
+-- another; otherwise nothing is printed as its bytes; out of memory may come at any time
 abbrev pub IsRefusal : (Text → Type 0) → Type 0 → Text → TokenFault → Type 0
 IsRefusal IsVersion none token NotBase64 = (bytes : Text) → ¬ Encodes token bytes
-IsRefusal IsVersion none token BadVersion = (bytes : Text) × Encodes token bytes × (¬ IsVersion bytes)
-IsRefusal IsVersion none token NotCanonical = (bytes : Text) × Encodes token bytes × IsVersion bytes × none
+IsRefusal IsVersion none token BadVersion = (bytes : Text) × Encodes token bytes
+    × (¬ IsVersion bytes)
+IsRefusal IsVersion none token NotCanonical = (bytes : Text) × Encodes token bytes × IsVersion bytes
+    × none
 IsRefusal IsVersion none token NoMemory = Unit {0}
 
 -- why a token stands for no key: the version is not `1`, or no key is printed so
 abbrev pub IsTokenFault : Text → TokenFault → Type 0
-IsTokenFault token fault = IsRefusal HasKeyVersion ((k : KeyTexts) → ¬ IsTokenOf token k) token fault
+IsTokenFault token fault =
+    IsRefusal HasKeyVersion ((k : KeyTexts) → ¬ IsTokenOf token k) token fault
 
 -- why a token stands for no mark: the version is neither `1` nor `2`, or no mark is printed so
 abbrev pub IsMarkFault : Text → TokenFault → Type 0
-IsMarkFault token fault = IsRefusal HasMarkVersion ((m : Mark) → ¬ IsTokenOfMark token m) token fault
+IsMarkFault token fault =
+    IsRefusal HasMarkVersion ((m : Mark) → ¬ IsTokenOfMark token m) token fault
 
 -- a principal or a target that can't be made has no token
 abbrev pub token_fault : ModelFault → TokenFault

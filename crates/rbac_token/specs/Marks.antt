@@ -15,7 +15,8 @@ abbrev pub version_of : Option BindingName → Text
 version_of None = codes "1"
 version_of (Some b) = codes "2"
 
--- the texts of a binding's name: its kind word, namespace and name; a ClusterRoleBinding has the empty namespace
+-- the texts of a binding's name: its kind word, namespace and name; a ClusterRoleBinding has the
+-- empty namespace
 abbrev pub name_texts : Option BindingName → List Text
 name_texts None = []
 name_texts (Some b) = binding_name_at b.namespace b.name
@@ -28,7 +29,8 @@ printed_mark k b = version_of b ++ flat_map after_tab (texts k ++ name_texts b)
 abbrev pub mark_text : Mark → Text
 mark_text m = encode_of url_safe_no_pad (printed_mark m.key m.binding)
 
--- the bytes are this mark as it is printed, with the key of a request, and with any binding's name or none
+-- the bytes are this mark as it is printed, with the key of a request, and with any binding's name
+-- or none
 abbrev pub IsMarkPrintedAs : Text → Mark → Type 0
 IsMarkPrintedAs bytes m = IsKey m.key × (bytes ≡ printed_mark m.key m.binding)
 

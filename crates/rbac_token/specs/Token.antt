@@ -30,7 +30,8 @@ HasName who = name_of who ≢ []
 abbrev pub IsWhoKey : Text → Type 0
 IsWhoKey key = (who : Who) × HasName who × (key ≡ who_key who)
 
--- the key of some request: of a principal with a name, in a namespace, for a verb on a proper target
+-- the key of some request: of a principal with a name, in a namespace, for a verb on a proper
+-- target
 pub record IsKey (k : KeyTexts) : Type 0 where
   pub who : Who
   pub namespace : Text

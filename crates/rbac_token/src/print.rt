@@ -49,7 +49,8 @@ fn version_of(binding: Option<&BindingName>) -> u8
 
 // Adds the fields of a key, each after a tab.
 fn put_key(printed: &mut Vec<u8>, key: &Key) -> Result<(), AllocError>
-    ensures { OnOk result (printed.new.items ≡ printed.old.items ++ flat_map after_tab (texts key.now)) }
+    ensures { OnOk result
+        (printed.new.items ≡ printed.old.items ++ flat_map after_tab (texts key.now)) }
 {
     for place in 0..TEXTS {
         put_next(printed, key.field(place).as_bytes())?;
@@ -59,7 +60,8 @@ fn put_key(printed: &mut Vec<u8>, key: &Key) -> Result<(), AllocError>
 
 // Adds the fields of a binding's name, each after a tab.
 fn put_name(printed: &mut Vec<u8>, name: &BindingName) -> Result<(), AllocError>
-    ensures { OnOk result (printed.new.items ≡ printed.old.items ++ flat_map after_tab (name_texts (Some name.now))) }
+    ensures { OnOk result
+        (printed.new.items ≡ printed.old.items ++ flat_map after_tab (name_texts (Some name.now))) }
 {
     let (kind, namespace) = scope_of(name);
     put_next(printed, kind)?;

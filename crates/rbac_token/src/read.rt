@@ -1,6 +1,7 @@
 //! Marks read back from their printed fields.
 
-ghost use Rattle.std.specs.Prelude.{◌≡◌, ◌==◌, List, [], ◌∷◌, ◌++◌, Option, Some, map, IfOk, IfErr, IsSomeAnd, MatchResult};
+ghost use Rattle.std.specs.Prelude.{◌≡◌, ◌==◌, List, [], ◌∷◌, ◌++◌, Option, Some, map, IfOk, IfErr};
+ghost use Rattle.std.specs.Prelude.{IsSomeAnd, MatchResult};
 ghost use Rattle.std.specs.List.{slice_split};
 ghost use Rattle.rbac_terms.specs.Text.{Text};
 ghost use Rattle.rbac_terms.specs.Keys.{KeyTexts, texts as texts_of};
@@ -40,7 +41,8 @@ pub(crate) fn read_mark(alloc: Global, bytes: &[u8]) -> Result<Mark, TokenFault>
 
 // The six texts of a key after the version, and the texts after them.
 fn after_version(texts: &[Word]) -> Option<(&[Word], &[Word])>
-    ensures { (version : Text) (k : KeyTexts) (others : List Text) → texts.now ≡ version ∷ texts_of k ++ others
+    ensures { (version : Text) (k : KeyTexts) (others : List Text)
+        → texts.now ≡ version ∷ texts_of k ++ others
         → IsSomeAnd result (λ found. (found.0.now ≡ texts_of k) × (found.1.now ≡ others)) }
 {
     match texts {
@@ -65,7 +67,8 @@ fn binding_of_texts(texts: &[Word]) -> Result<Option<BindingName>, TokenFault>
 // The name of a binding of this kind. Any other kind word is taken for a ClusterRoleBinding's, and
 // a ClusterRoleBinding's namespace is ignored: printing the name again reveals both.
 fn name_of(kind: &Word, namespace: &Word, name: &Word) -> Result<BindingName, AllocError>
-    ensures { (b : BindingName) → kind.now ∷ namespace.now ∷ name.now ∷ [] ≡ name_texts (Some b) → IfOk result (λ read. read ≡ b) }
+    ensures { (b : BindingName) → kind.now ∷ namespace.now ∷ name.now ∷ [] ≡ name_texts (Some b)
+        → IfOk result (λ read. read ≡ b) }
 {
     let namespace = if kind.as_bytes() == ROLE_BINDING {
         Some(namespace.clone()?)
@@ -101,7 +104,8 @@ fn key_for(
     target: &Target,
 ) -> Result<Key, TokenFault>
     requires { IsProper target.now }
-    ensures whole { (k : KeyTexts) (h : IsKey k) → principal.now ≡ k.principal → namespace.now ≡ k.namespace
+    ensures whole { (k : KeyTexts) (h : IsKey k) → principal.now ≡ k.principal
+        → namespace.now ≡ k.namespace
         → verb.now ≡ k.verb → target.now ≡ h.what
         → MatchResult result (λ read. read ≡ k) (λ e. e ≡ TokenFault.NoMemory) }
     ensures key { IfOk result IsKey }

@@ -1,11 +1,13 @@
 //! Tokens of keys and of marks.
 
-ghost use Rattle.std.specs.Prelude.{◌≡◌, ◌≢◌, ◌⊎◌, ◌↔◌, ◌∷◌, [], IsTrue, IfOk, IfErr, MatchResult, None};
+ghost use Rattle.std.specs.Prelude.{◌≡◌, ◌≢◌, ◌⊎◌, ◌↔◌, ◌∷◌, [], IsTrue, IfOk, IfErr, MatchResult};
+ghost use Rattle.std.specs.Prelude.{None};
 ghost use Rattle.base64.specs.Engines.{url_safe_no_pad};
 ghost use Rattle.base64.specs.GeneralPurpose.{encode_of};
 ghost use Rattle.rbac_terms.specs.Keys.{KeyTexts};
 ghost use Rattle.rbac_token.specs.Faults.{IsMarkFault, IsTokenFault, RefusesIf};
-ghost use Rattle.rbac_token.specs.Marks.{HasMarkVersion, IsMarkPrintedAs, IsTokenOfMark, mark_text, printed_mark};
+ghost use Rattle.rbac_token.specs.Marks.{HasMarkVersion, IsMarkPrintedAs, IsTokenOfMark, mark_text};
+ghost use Rattle.rbac_token.specs.Marks.{printed_mark};
 ghost use Rattle.rbac_token.specs.Token.{Encodes, HasVersion, IsTokenOf, token_text};
 ghost use Rattle.rbac_token.specs.declared.mark.Mark.{Mark};
 

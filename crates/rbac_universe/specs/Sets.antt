@@ -7,7 +7,8 @@ use Rattle.rbac_model.specs.Unions.{AreUnited}
 use Rattle.rbac_model.specs.Universes.{UniverseView, Listed, target_texts, most_targets, most_words}
 use Rattle.rbac_universe.specs.declared.lists.UniverseLists.{UniverseLists}
 use Rattle.rbac_universe.specs.declared.fault.UniverseFault.{UniverseFault}
-use Rattle.rbac_universe.specs.declared.fault.UniverseFault.TheVariants.{BadTarget, TooLarge, NoMemory}
+use Rattle.rbac_universe.specs.declared.fault.UniverseFault.TheVariants.{BadTarget, TooLarge}
+use Rattle.rbac_universe.specs.declared.fault.UniverseFault.TheVariants.{NoMemory}
 
 -- what is listed as a resource or a URL can be asked for, whatever the names (own)
 pub record AreProper (lists : UniverseLists) : Type 0 where
@@ -16,21 +17,25 @@ pub record AreProper (lists : UniverseLists) : Type 0 where
 
 -- the targets (own): each listed resource with each name, and each URL
 abbrev pub IsTarget : UniverseLists → What → Type 0
-IsTarget lists (Resource group text name) = Any (λ r. (r.group ≡ group) × (r.text ≡ text)) lists.resources × Contains lists.names name
+IsTarget lists (Resource group text name) =
+    Any (λ r. (r.group ≡ group) × (r.text ≡ text)) lists.resources × Contains lists.names name
 IsTarget lists (Url path) = Contains lists.urls path
 
 -- a resource is namespaced if some entry of its group and text is; a URL isn't (own)
 abbrev pub IsNamespaced : UniverseLists → What → Type 0
-IsNamespaced lists (Resource group text name) = Any (λ r. (r.group ≡ group) × (r.text ≡ text) × IsTrue r.namespaced) lists.resources
+IsNamespaced lists (Resource group text name) =
+    Any (λ r. (r.group ≡ group) × (r.text ≡ text) × IsTrue r.namespaced) lists.resources
 IsNamespaced lists (Url path) = ⊥
 
--- each list as a set, in byte order: principals by key, with all groups given under it; targets by group, resource or URL, and name (own)
+-- each list as a set, in byte order: principals by key, with all groups given under it; targets by
+-- group, resource or URL, and name (own)
 pub record AreSets (lists : UniverseLists) (u : UniverseView) : Type 0 where
   pub principals : AreUnited lists.principals u.principals
   pub namespaces : IsOnceEach text_cmp lists.namespaces u.namespaces
   pub verbs : IsOnceEach text_cmp lists.verbs u.verbs
   pub ordered : IsAscendingBy target_texts u.targets
-  pub targets : (t : Listed) → Contains u.targets t ↔ (IsTarget lists t.0 × (IsTrue t.1 ↔ IsNamespaced lists t.0))
+  pub targets : (t : Listed) → Contains u.targets t
+      ↔ (IsTarget lists t.0 × (IsTrue t.1 ↔ IsNamespaced lists t.0))
 
 -- the limits of a universe, counted without repeats (own)
 pub record IsWithinLimits (u : UniverseView) : Type 0 where
@@ -48,5 +53,6 @@ pub record IsUniverseOf (lists : UniverseLists) (u : UniverseView) : Type 0 wher
 -- why the lists make no universe: a bad target first, then sets that are too large
 abbrev pub HasUniverseFault : UniverseLists → UniverseFault → Type 0
 HasUniverseFault lists BadTarget = ¬ AreProper lists
-HasUniverseFault lists TooLarge = AreProper lists × ((u : UniverseView) × AreSets lists u × (¬ IsWithinLimits u))
+HasUniverseFault lists TooLarge = AreProper lists
+    × ((u : UniverseView) × AreSets lists u × (¬ IsWithinLimits u))
 HasUniverseFault lists NoMemory = Unit {0}

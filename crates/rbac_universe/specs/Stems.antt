@@ -23,7 +23,8 @@ stems_of lists = lists.resources ++ map url_stem lists.urls
 
 -- a stem's targets
 abbrev pub targets_of : List Text → ListedResource → List What
-targets_of names s = cond (is_path s.text) (Url s.text ∷ []) (map (λ n. Resource s.group s.text n) names)
+targets_of names s =
+    cond (is_path s.text) (Url s.text ∷ []) (map (λ n. Resource s.group s.text n) names)
 
 abbrev pub listed_of : List Text → ListedResource → List Listed
 listed_of names s = map (λ t. (t, s.namespaced)) (targets_of names s)

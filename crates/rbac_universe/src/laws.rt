@@ -11,14 +11,17 @@ ghost use Rattle.rbac_universe.specs.Sets.{AreSets, IsUniverseOf, HasUniverseFau
 /// Lists determine their sets (own). Of the principals this says that their keys are determined; it
 /// leaves open in which order, and how often, a principal's groups are given.
 pub fn sets_are_one()
-    ensures { (lists : UniverseLists) (u others : UniverseView) → AreSets lists u → AreSets lists others
-        → (map who_key u.principals ≡ map who_key others.principals) × (u.namespaces ≡ others.namespaces)
+    ensures { (lists : UniverseLists) (u others : UniverseView) → AreSets lists u
+        → AreSets lists others
+        → (map who_key u.principals ≡ map who_key others.principals)
+        × (u.namespaces ≡ others.namespaces)
         × (u.verbs ≡ others.verbs) × (u.targets ≡ others.targets) }
 {}
 
 /// Lists that make a universe have no fault, out of memory aside. So the same lists are either
 /// always refused or never (own).
 pub fn universes_have_no_fault()
-    ensures { (lists : UniverseLists) (u : UniverseView) (fault : UniverseFault) → IsUniverseOf lists u
+    ensures { (lists : UniverseLists) (u : UniverseView) (fault : UniverseFault)
+        → IsUniverseOf lists u
         → fault ≢ NoMemory → ¬ HasUniverseFault lists fault }
 {}

@@ -56,7 +56,10 @@ impl UniverseSets {
     }
 
     fn has_few_words(&self) -> bool
-        ensures { IsTrue result ↔ ((length self.now.principals.items ≤ most_words) × (length self.now.namespaces.items ≤ most_words) × (length self.now.verbs.items ≤ most_words)) }
+        ensures { IsTrue result
+            ↔ ((length self.now.principals.items ≤ most_words)
+            × (length self.now.namespaces.items ≤ most_words)
+            × (length self.now.verbs.items ≤ most_words)) }
     {
         self.principals.len() <= MOST_WORDS
             && self.namespaces.len() <= MOST_WORDS

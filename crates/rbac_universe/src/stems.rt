@@ -4,7 +4,8 @@
 ghost use Rattle.std.specs.Prelude.{◌≡◌, ◌++◌, length, All, IfOk, OnOk, IsTrue};
 ghost use Rattle.std.specs.List.{flat_map};
 ghost use Rattle.rbac_terms.specs.Targets.{Resource, Url, IsProper};
-ghost use Rattle.rbac_universe.specs.Stems.{is_path, url_stem, stems_of, stem_name, targets_of, flags_of, IsStem};
+ghost use Rattle.rbac_universe.specs.Stems.{is_path, url_stem, stems_of, stem_name, targets_of};
+ghost use Rattle.rbac_universe.specs.Stems.{flags_of, IsStem};
 
 use crate::lists::{ListedResource, UniverseLists};
 use crate::unions::Unites;

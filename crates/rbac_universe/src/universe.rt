@@ -3,7 +3,8 @@
 ghost use Rattle.std.specs.Prelude.{◌≡◌, ◌<◌, All, IfOk, IfErr, Some, length, map, slice_get};
 ghost use Rattle.rbac_model.specs.Universes.{IsUniverse};
 ghost use Rattle.rbac_universe.specs.UniverseSets.{universe_of};
-ghost use Rattle.rbac_universe.specs.Sets.{IsUniverseOf, AreProper, HasUniverseFault, IsWithinLimits};
+ghost use Rattle.rbac_universe.specs.Sets.{IsUniverseOf, AreProper, HasUniverseFault};
+ghost use Rattle.rbac_universe.specs.Sets.{IsWithinLimits};
 ghost use Rattle.rbac_universe.specs.Stems.{IsStem};
 
 use crate::fault::UniverseFault;
@@ -32,9 +33,13 @@ impl Model for Universe {
 
     ghost Value = { UniverseView };
 
-    ghost view = { λ u. view_of u.principals.items u.namespaces.items u.verbs.items u.targets.items u.namespaced.items };
+    ghost view = { λ u. view_of u.principals.items u.namespaces.items u.verbs.items u.targets.items
+        u.namespaced.items };
 
-    ghost invariant = { λ u. (length u.namespaced.items ≡ length u.targets.items) × IsMade (view_of u.principals.items u.namespaces.items u.verbs.items u.targets.items u.namespaced.items) };
+    ghost invariant = { λ u. (length u.namespaced.items ≡ length u.targets.items)
+        × IsMade
+        (view_of u.principals.items u.namespaces.items u.verbs.items u.targets.items
+        u.namespaced.items) };
 }
 
 impl Universe {
