@@ -135,8 +135,9 @@ def help_and_usage():
     expect('a word that is not UTF-8', ['can-i', '--as', b'al\xffce', 'get', 'pods'], 2,
            err=b'rbacaudit: argument 3: not UTF-8\n')
     for words in ([], ['can-i'], ['can-i', 'get', 'pods'], ['who-knows'], ['can-i', '--as', 'alice', '--why', 'get'],
-                  ['can-i', '--as', 'a', '--as', 'b', 'get', 'pods'], ['can-i', '--as', 'a', '-A', '-A', 'get', 'pods'], ['who-can', 'get'],
-                  ['who-can', '--as', 'alice', 'get', 'pods'], ['who-can', '--limit', '1', 'get', 'pods'],
+                  ['can-i', '--as', 'a', '--as', 'b', 'get', 'pods'], ['can-i', '--as', 'a', '-A', '-A', 'get', 'pods'],
+                  ['can-i', '--as', '-a', 'get', 'pods'], ['who-can', 'get'], ['who-can', '--as', 'alice', 'get', 'pods'],
+                  ['who-can', '--limit', '1', 'get', 'pods'],
                   ['who-can', '--every', 'get', 'pods'], ['lint', '--every'], ['matrix', '--every', '--every'], ['matrix', '--every=x'],
                   ['matrix', '--limit', '1', '--limit', '1'], ['matrix', '--after', 'MQ', '--after', 'MQ'], ['matrix', '-n', 'dev'],
                   ['lint', '--limit', '1'], ['lint', '-n', 'dev'], ['help']):
