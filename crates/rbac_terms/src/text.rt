@@ -9,7 +9,6 @@ use bytes::Bytes;
 use smallvec::SmallVec;
 use std::alloc::{AllocError, Global};
 use std::cmp::Ordering;
-use std::hash::{Hash, Hasher};
 use std::marker::Model;
 
 // The most bytes that a text can have without an allocation.
@@ -194,19 +193,6 @@ impl Ord for Word {
 
     fn cmp(&self, other: &Self) -> Ordering {
         self.as_bytes().cmp(other.as_bytes())
-    }
-}
-
-impl Hash for Word {
-    ghost use Rattle.std.specs.Hash as fed;
-    ghost use Rattle.std.proofs.lemmas.Slice.Eq.{bytes_eq-Decides};
-
-    ghost hash_input = { fed.slice fed.u8 };
-
-    ghost respects_eq = { (fed.same_Alike (fed.slice fed.u8) bytes_eq-Decides).fed };
-
-    fn hash<H: Hasher>(&self, state: &mut H) {
-        self.as_bytes().hash(state);
     }
 }
 
