@@ -8,7 +8,7 @@ use Rattle.std.proofs.lemmas.Cmp.{nat_list_cmp_total, tied_itself}
 use Rattle.std.proofs.lemmas.List.Sorted.{searchable_from_sorted, Contains-permutation, IsPermutation-sym}
 use Rattle.std.proofs.lemmas.Map.Lookups.{exact_bytes}
 use Rattle.rbac_terms.specs.Text.{Text, text_cmp}
-use Rattle.rbac_terms.specs.GivenGroups.{AreInOrder}
+use Rattle.rbac_terms.specs.Sorted.{AreInOrder}
 
 -- what is looked for is there where an equal text is found, and isn't where none is
 pub found_iff : (xs : List Text) (t : Text) (r : Result ℕ ℕ) → IsSorted text_cmp xs → IsSearchInRange r (length xs) → IsBinarySearchResult (λ y. text_cmp y t) xs r → IsTrue (is_ok r) ↔ Contains xs t

@@ -1,4 +1,3 @@
-pub mod GivenGroups
 pub mod Granting
 pub mod Held
 pub mod KeyOrder
@@ -6,5 +5,6 @@ pub mod Keys
 pub mod Matching
 pub mod Principals
 pub mod Selecting
+pub mod Sorted
 pub mod Targets
 pub mod Text

@@ -1,10 +1,8 @@
 //! The groups that a user is given.
 
 ghost use Rattle.std.specs.Prelude.{◌≡◌, ◌++◌, ◌↔◌, [], IsTrue, IfOk, OnOk, OnErr, Contains};
-ghost use Rattle.std.specs.List.Sorted.{IsSorted};
-ghost use Rattle.rbac_terms.specs.Text.{text_cmp};
-ghost use Rattle.rbac_terms.specs.GivenGroups.{AreInOrder};
 
+use crate::sorted::{is_among, sorted_copy};
 use crate::text::{Word, Words};
 use std::alloc::{AllocError, Global};
 use std::marker::Model;
@@ -22,7 +20,7 @@ pub(crate) struct GivenGroups {
 
 impl Model for GivenGroups {
     ghost use Rattle.std.specs.Prelude.{ℕ, List, MatchOption, ⊤};
-    ghost use Rattle.rbac_terms.specs.GivenGroups.{AreInOrder};
+    ghost use Rattle.rbac_terms.specs.Sorted.{AreInOrder};
 
     ghost Value = { List (List ℕ) };
 
@@ -90,22 +88,4 @@ impl Clone for GivenGroups {
     fn clone(&self) -> Result<Self, AllocError> {
         GivenGroups::of(&self.given)
     }
-}
-
-// Copies of the texts, sorted.
-fn sorted_copy(words: &Words) -> Result<Vec<Word>, AllocError>
-    ensures { IfOk result (λ sorted. AreInOrder words.now sorted.items) }
-{
-    let mut sorted = words.clone()?.into_vec();
-    sorted.sort_unstable();
-    Ok(sorted)
-}
-
-// Whether the text is among these sorted ones.
-fn is_among(sorted: &[Word], text: &[u8]) -> bool
-    requires { IsSorted text_cmp sorted.now }
-    ensures { IsTrue result ↔ Contains sorted.now text.now }
-{
-    let found = sorted.binary_search_by(|held| held.as_bytes().cmp(text));
-    found.is_ok()
 }

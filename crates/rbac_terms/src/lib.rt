@@ -11,6 +11,7 @@ mod keys;
 mod matching;
 mod request;
 mod selecting;
+mod sorted;
 mod text;
 
 pub use fault::ModelFault;
@@ -23,4 +24,5 @@ pub use matching::{
 };
 pub use request::{Principal, Target, account_user};
 pub use selecting::{Labels, Requirement, Requirements, SelectOp, Selector, Selectors, selects};
+pub use sorted::{is_among, sorted_copy};
 pub use text::{Word, Words, cut_at_first};

@@ -1,4 +1,4 @@
-use Rattle.rbac_terms.specs.GivenGroups.{AreInOrder}
+use Rattle.rbac_terms.specs.Sorted.{AreInOrder}
 use Rattle.rbac_terms.proofs.Halving.{among_iff}
 use Rattle.rbac_terms.proofs.given_groups.GivenGroups.contains.Goals as goal
 

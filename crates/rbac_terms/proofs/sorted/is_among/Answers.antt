@@ -2,7 +2,7 @@ use Rattle.std.proofs.Common.{rules, refl, ◌≡◌}
 use Rattle.std.proofs.lemmas.Fn.{answers_by}
 use Rattle.rbac_terms.specs.Text.{text_cmp}
 use Rattle.rbac_terms.proofs.Halving.{found_iff}
-use Rattle.rbac_terms.proofs.given_groups.is_among.Goals as goal
+use Rattle.rbac_terms.proofs.sorted.is_among.Goals as goal
 
 pub returns : goal.returns
 returns c =

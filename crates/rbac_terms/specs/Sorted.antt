@@ -1,4 +1,4 @@
--- the groups that a user is given, sorted
+-- texts in byte order
 use Rattle.std.specs.Prelude.{List}
 use Rattle.std.specs.List.Sorted.{IsSorted, IsPermutation}
 use Rattle.rbac_terms.specs.Text.{Text, text_cmp}
