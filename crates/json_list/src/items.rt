@@ -64,7 +64,7 @@ impl<'a> Items<'a> {
     /// # Errors
     ///
     /// Refused only if the rest of the list can't be read; some items may have been given before
-    /// that is known. After any error, every further call is refused.
+    /// that is known. After any error, also out of memory, every further call is refused.
     pub fn next_item(&mut self, alloc: Global) -> Result<Option<Value>, ReadFault>
         ensures next { IfOk result (λ next. MatchOption next
             ((items_ahead self.old ≡ Some no_items) × (items_ahead self.new ≡ Some no_items))
@@ -73,6 +73,7 @@ impl<'a> Items<'a> {
             (λ next. IfSome next (λ _. length self.new < length self.old)) }
         ensures refused { result ≡ Err Refused → items_ahead self.old ≡ None }
         ensures stopped { OnErr result (self.new ≡ []) }
+        ensures stays { self.old ≡ [] → (result ≡ Err Refused) × (self.new ≡ []) }
     {
         match self.place {
             Place::Past => return Ok(None),

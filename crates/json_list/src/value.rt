@@ -1,6 +1,7 @@
 //! One value of a text.
 
-ghost use Rattle.std.specs.Prelude.{◌≡◌, ◌<◌, length, option_map, Some, None, Err, IfOk, OnOk};
+ghost use Rattle.std.specs.Prelude.{◌≡◌, ◌<◌, [], length, option_map, Some, None, Err, IfOk};
+ghost use Rattle.std.specs.Prelude.{OnOk};
 ghost use Rattle.json.specs.Print.{IsNumber};
 ghost use Rattle.serde_json.specs.Data.{number, no_members};
 ghost use Rattle.serde_json.specs.Read.{number_of as number_in};
@@ -23,6 +24,7 @@ pub(crate) fn read_value(
     ensures read { IfOk result (λ v. IsRead depth reader.old (view v) reader.new) }
     ensures shorter { OnOk result (length reader.new < length reader.old) }
     ensures refused { result ≡ Err Refused → IsUnread depth reader.old }
+    ensures none { reader.old ≡ [] → result ≡ Err Refused }
 {
     value_from(alloc, reader, depth)
 }
@@ -47,6 +49,7 @@ fn value_from(alloc: Global, reader: &mut Reader<'_>, depth: usize) -> Result<Va
     ensures read { IfOk result (λ v. value_read depth reader.old ≡ Some (view v, reader.new)) }
     ensures shorter { OnOk result (length reader.new < length reader.old) }
     ensures refused { result ≡ Err Refused → value_read depth reader.old ≡ None }
+    ensures none { reader.old ≡ [] → result ≡ Err Refused }
 {
     let Some(token) = reader.next() else {
         return Err(ReadFault::Refused);

@@ -33,9 +33,10 @@ pub enum RunFault {
 }
 
 impl fmt::Display for RunFault {
+    ghost use Rattle.std.specs.Prelude.{Some};
     ghost use Rattle.rbac_cli.specs.RunTexts.{run_fault_text};
 
-    ghost output = { run_fault_text };
+    ghost output = { λ fault. Some (run_fault_text fault) };
 
     fn fmt<W: fmt::Write>(&self, f: &mut fmt::Formatter<W>) -> fmt::Result {
         match self {

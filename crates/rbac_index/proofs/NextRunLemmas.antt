@@ -98,10 +98,19 @@ module _ (p : PolicyView) (ok : IsPolicy p) (xs : List Keyed) (are : AreKeyed p 
                 ]
           ]
 
+          some_found : begin < end
+          some_found = let w = (between one.0 place one.1).1 refl in omega (arith, is, from_inside, w.0, w.1)
+
+          -- a grant of the first one's binding is before the end
+          whole_found : (n at : ℕ) → IsOfBinding p begin at → IsOfBinding p n at → n < end
+          whole_found n at first of =
+              let here : at ≡ place = (between begin at first).0 (omega (arith, is), some_found) in
+              ((between n at of).1 here).1
+
           pub found_run : IsNextRun p who namespace from begin end
           found_run = record {
             after = omega (arith, is);
-            some = (let w = (between one.0 place one.1).1 refl in omega (arith, is, from_inside, w.0, w.1));
+            some = some_found;
             bound = λ n low high.
                 let of = of_some_binding p ok n (omega (arith, high, within)) in
                 let at : of.0 ≡ place = (between n of.0 of.1).0 (omega (arith, is, low), high) in
@@ -109,4 +118,5 @@ module _ (p : PolicyView) (ok : IsPolicy p) (xs : List Keyed) (are : AreKeyed p 
             none_before = λ n low less bound.
                 let of = of_some_binding p ok n (slice_get_within p.grants n bound.0 bound.1) in
                 next.none_before of.0 (places_rise p ok from n here of.0 low of_from of.1) (before_start n of.0 of.1 (omega (arith, is, low, less))) (of_bound n of.0 of.1 bound);
+            whole = λ n at low first of. whole_found n at first of;
           }

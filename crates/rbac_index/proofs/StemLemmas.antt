@@ -1,25 +1,27 @@
 -- targets of one group and resource text stand together
-use Rattle.std.proofs.Common.{◌≡◌, ◌⊎◌, ℕ, ◌+◌, ◌-◌, ◌<◌, ◌≤◌, List, [], ◌∷◌, length, get_or, slice_get, map, ap, sym, ◌∙◌, refl, subst, arith, inl, inr, false, Any, Contains, take, drop, ◌++◌}
-use Rattle.std.specs.Prelude.{Option, Some, None, IfSome}
-use Rattle.std.specs.Ordering.{ordering_then, ordering_reverse}
+use Rattle.std.proofs.Common.{◌≡◌, ◌⊎◌, ℕ, ◌+◌, ◌-◌, ◌<◌, ◌≤◌, List, [], ◌∷◌, length, get_or, slice_get, map, ap, sym, ◌∙◌, refl, subst, arith, inl, inr, true, false, ◌↔◌, Any, Contains, take, drop, ◌++◌, Bor}
+use Rattle.std.specs.Prelude.{Option, Some, None, IfSome, option_copied}
+use Rattle.std.specs.Slice.{IsItemAt}
+use Rattle.std.specs.Ordering.{ordering_index, ordering_then, ordering_reverse, is_le}
+use Rattle.std.specs.List.Sorted.{IsNonDecreasingBy, IsPartitionPoint, IsPartitionedBy, IsSorted}
 use Rattle.std.specs.Cmp.Lexicographic.{slice_cmp}
 use Rattle.std.specs.declared.cmp.Ordering.{Ordering}
 use Rattle.std.specs.declared.cmp.Ordering.TheVariants.{Less, Equal, Greater}
-use Rattle.std.proofs.lemmas.Bool.{cases_eq}
+use Rattle.std.proofs.lemmas.Bool.{cases_eq, cases_lt}
 use Rattle.std.proofs.lemmas.Cmp.{nat_list_cmp_total, tied_itself}
 use Rattle.std.proofs.lemmas.List.{get_or-map, length-map, take_more, drop_all}
-use Rattle.std.proofs.lemmas.List.Elements.{Contains-push_cases}
+use Rattle.std.proofs.lemmas.List.Sorted.{searchable_from_sorted}
 use Rattle.std.proofs.lemmas.Map.Lookups.{exact_bytes}
-use Rattle.std.proofs.lemmas.Option.{slice_get_within, get_or_from_slice_get, same_Some}
+use Rattle.std.proofs.lemmas.Option.{slice_get_within, get_or_from_slice_get, same_Some, slice_get-get_or, slice_get_past, slice_get_read}
 use Rattle.rbac_terms.specs.Text.{Text, text_cmp}
 use Rattle.rbac_terms.specs.Targets.{What, Resource, Url, group_of, text_of, name_of, IsResource, IsUrl}
 use Rattle.rbac_terms.specs.Matching.{TargetOk, WordMatches, ResourceWordMatches}
 use Rattle.rbac_terms.specs.declared.matching.Rule.{Rule}
-use Rattle.rbac_terms.proofs.Orderings.{less_alone}
+use Rattle.rbac_terms.proofs.Orderings.{le_back, less_alone}
 use Rattle.rbac_terms.proofs.Reading.{read_some}
 use Rattle.rbac_model.specs.Lists.{IsAscendingBy}
 use Rattle.rbac_model.specs.Universes.{Listed, target_texts}
-use Rattle.rbac_index.specs.Matched.{what_texts, IsBetween, IsLaterOfStem, AreOfStem, AreStems, IsStem, IsWhole, StemOk}
+use Rattle.rbac_index.specs.Matched.{what_texts, IsBetween, IsLaterOfStem, AreOfStem, AreStems, IsByName, IsStem, IsWhole, StemOk}
 use Rattle.rbac_index.specs.Reaches.{MatchesAt}
 
 -- the targets of a universe are in order
@@ -106,22 +108,34 @@ matches_first_of_stem b r (Resource h y m) (Resource g x n) of is ok none = (
   inl none,
 )
 
--- a rule with names matches no later one that it doesn't name
-unnamed_of_stem : (b : Option Text) (r : Rule) (t u : What) → IsLaterOfStem b t u → ¬ (r.resource_names ≡ []) → ¬ Contains r.resource_names (name_of u) → TargetOk r u → ⊥
-unnamed_of_stem b r t (Url path) of named unnamed ok = none_below (name_of t) of.name.0
-unnamed_of_stem b r t (Resource g x n) of named unnamed ok = elim (ok.2) [
-  | inl none ↦ named none
-  | inr has ↦ unnamed has
+-- where names and a stem match, one of the stem is matched by its name
+named_itself : (r : Rule) (t : What) → IsResource t → StemOk r t → ¬ (r.resource_names ≡ []) → TargetOk r t ↔ Contains r.resource_names (name_of t)
+named_itself r (Url path) is ok named = cc
+named_itself r (Resource g x n) is ok named = (λ m. elim (m.2) [ | inl none ↦ absurd (named none) | inr has ↦ has ], λ has. (ok.0, ok.1, inr has))
+
+named_of_stem : (b : Option Text) (r : Rule) (t u : What) → IsLaterOfStem b t u → StemOk r t → ¬ (r.resource_names ≡ []) → TargetOk r u ↔ Contains r.resource_names (name_of u)
+named_of_stem b r t (Url path) of ok named = absurd (none_below (name_of t) of.name.0)
+named_of_stem b r t (Resource g x n) of ok named = (
+  λ m. elim (m.2) [ | inl none ↦ absurd (named none) | inr has ↦ has ],
+  λ has. (subst (λ (w : Text). Any (λ v. WordMatches v w) r.groups) (sym of.group) ok.0, subst (λ (w : Text). Any (λ v. ResourceWordMatches v w) r.resources) (sym of.text) ok.1, inr has),
+)
+
+-- the rule has no name between the first's and the next one that it has
+pub none_named : (b : Option Text) (names : List Text) (ts : List What) (at end : ℕ) (t : What) → slice_get ts at ≡ Some t → AreOfStem b ts at end → ((x : Text) → Contains names x → IsBetween (name_of t) b x → ⊥) → ((u : What) → slice_get ts at ≡ Some u → Contains names (name_of u) → ⊥) → (n : ℕ) (u : What) → at ≤ n → n < end → slice_get ts n ≡ Some u → Contains names (name_of u) → ⊥
+none_named b names ts at end t there stem none unnamed n u low high read has = elim (cases_eq at n) [
+  | inl e ↦ unnamed u (ap (slice_get ts) e ∙ read) has
+  | inr ne ↦ none (name_of u) has (stem n t u (omega (arith, low, ne)) high there read).name
 ]
 
-module _ (b : Option Text) (r : Rule) (ts : List What) (at end : ℕ) (t : What) (there : slice_get ts at ≡ Some t) (stem : AreOfStem b ts at end) where
-  pub none_unnamed : ¬ (r.resource_names ≡ []) → ((x : Text) → Contains r.resource_names x → IsBetween (name_of t) b x → ⊥) → (MatchesAt r ts at → ⊥) → (n : ℕ) → at ≤ n → n < end → MatchesAt r ts n → ⊥
-  none_unnamed named none fails n low high m = elim (cases_eq at n) [
-    | inl e ↦ fails (subst (MatchesAt r ts) (sym e) m)
-    | inr ne ↦
-        let of = stem n t m.0 (omega (arith, low, ne)) high there m.1 in
-        unnamed_of_stem b r t m.0 of named (λ has. none (name_of m.0) has of.name) m.2
-  ]
+pub unnamed_at : (names : List Text) (ts : List What) (at : ℕ) (t : What) → slice_get ts at ≡ Some t → (Contains names (name_of t) → ⊥) → (u : What) → slice_get ts at ≡ Some u → Contains names (name_of u) → ⊥
+unnamed_at names ts at t there unnamed u read has = unnamed (subst (λ (v : What). Contains names (name_of v)) (same_Some u t (sym read ∙ there)) has)
+
+module _ (r : Rule) (ts : List What) (start end : ℕ) where
+  pub named_matches : (at : ℕ) (t : What) → IsByName r ts start end → start ≤ at → at < end → slice_get ts at ≡ Some t → Contains r.resource_names (name_of t) → MatchesAt r ts at
+  named_matches at t by low high there has = (t, there, (by at t low high there).1 has)
+
+  pub unnamed_fails : (at to : ℕ) → IsByName r ts start end → start ≤ at → to ≤ end → ((n : ℕ) (t : What) → at ≤ n → n < to → slice_get ts n ≡ Some t → Contains r.resource_names (name_of t) → ⊥) → (n : ℕ) → at ≤ n → n < to → MatchesAt r ts n → ⊥
+  unnamed_fails at to by low high none n from upto m = none n m.0 from upto m.1 ((by n m.0 (omega (arith, low, from)) (omega (arith, upto, high)) m.1).0 m.2)
 
 module _ (r : Rule) (ts : List What) (start end : ℕ) (t : What) (there : slice_get ts start ≡ Some t) (is : IsStem ts start end) where
   matched_first : MatchesAt r ts start → TargetOk r t
@@ -131,6 +145,14 @@ module _ (r : Rule) (ts : List What) (start end : ℕ) (t : What) (there : slice
   none_of_stem resource bad n low high m = elim (cases_eq start n) [
     | inl e ↦ fails_itself r t resource bad (matched_first (subst (MatchesAt r ts) (sym e) m))
     | inr ne ↦ fails_of_stem None r t m.0 (is.alike n t m.0 (omega (arith, low, ne)) high there m.1) bad m.2
+  ]
+
+  pub by_name : IsResource t → StemOk r t → ¬ (r.resource_names ≡ []) → IsByName r ts start end
+  by_name resource ok named n u low high read = elim (cases_eq start n) [
+    | inl e ↦
+        let same : t ≡ u = same_Some t u (sym there ∙ ap (slice_get ts) e ∙ read) in
+        subst (λ (v : What). TargetOk r v ↔ Contains r.resource_names (name_of v)) same (named_itself r t resource ok named)
+    | inr ne ↦ named_of_stem None r t u (is.alike n t u (omega (arith, low, ne)) high there read) ok named
   ]
 
   pub whole_url : IsUrl t → IsWhole r ts start end
@@ -158,22 +180,32 @@ stems_push ts from at end (e ∷ ends) are is = (are.0, stems_push ts e at end e
 pub stems_end : (ts : List What) (from to i : ℕ) (ends : List ℕ) → length ends ≤ i → AreStems ts from to (drop i ends) → from ≡ to
 stems_end ts from to i ends le are = subst (AreStems ts from to) (drop_all i ends le) are
 
--- the least text after one: none of those seen stands between the two
-module _ (xs : List Text) (i : ℕ) (x after : Text) (before : Option Text) (within : i < length xs) (is : x ≡ get_or xs i x) (none : (y : Text) → Contains (take i xs) y → IsBetween after before y → ⊥) where
-  seen : (y : Text) → Contains (take (i + 1) xs) y → Contains (take i xs) y ⊎ (x ≡ y)
-  seen y has = Contains-push_cases (take i xs) x y (subst (λ (l : List Text). Contains l y) (take_more xs i x within ∙ ap (λ z. take i xs ++ z ∷ []) (sym is)) has)
+-- names in order are passed up to a point: none stands between what was passed and what is there
+module _ (names : List Text) (sorted : IsSorted text_cmp names) (name : Text) where
+  rises : (t : Text) → IsNonDecreasingBy (λ y. ordering_index (text_cmp y t)) names
+  rises t = searchable_from_sorted nat_list_cmp_total (λ (x : Text). x) names t sorted
 
-  pub none_passed : (IsBetween after before x → ⊥) → (y : Text) → Contains (take (i + 1) xs) y → IsBetween after before y → ⊥
-  none_passed outside y has between = elim (seen y has) [
-    | inl old ↦ none y old between
-    | inr new ↦ outside (subst (IsBetween after before) (sym new) between)
-  ]
+  pub parted_names : IsPartitionedBy (λ y. is_le (text_cmp y name)) names
+  parted_names i j d le lt e = le_back (text_cmp (get_or names i d) name) (text_cmp (get_or names j d) name) (rises name i j d le lt) e
 
-  pub none_nearer : IsBetween after before x → (y : Text) → Contains (take (i + 1) xs) y → IsBetween after (Some x) y → ⊥
-  none_nearer inside y has between = elim (seen y has) [
-    | inl old ↦ none y old (between.0, before_too before y x between.1 inside.1)
-    | inr new ↦
-        let less : text_cmp y y ≡ Less = subst (λ (z : Text). text_cmp y z ≡ Less) new between.1 in
-        let tied = tied_itself nat_list_cmp_total y in
+  pub none_between : (i : ℕ) → IsPartitionPoint (λ y. is_le (text_cmp y name) ≡ true) (λ y. is_le (text_cmp y name) ≡ false) names i → (x : Text) → Contains names x → IsBetween name (slice_get names i) x → ⊥
+  none_between i parted x has between = elim (cases_lt has.0 i) [
+    | inl low ↦
+        let le : is_le (text_cmp x name) ≡ true = rw has.2 at (parted.0 has.0 x (omega arith) low) in
+        let more : text_cmp x name ≡ Greater = nat_list_cmp_total.antisymm x name ∙ ap ordering_reverse between.0 in
+        let f : is_le Greater ≡ true = subst (λ (o : Ordering). is_le o ≡ true) more le in
         cc
+    | inr high ↦
+        let m = get_or names i x in
+        let there : slice_get names i ≡ Some m = slice_get-get_or names i x (omega (arith, high, has.1)) in
+        let less : text_cmp x m ≡ Less = subst (λ (o : Option Text). IfSome o (λ y. text_cmp x y ≡ Less)) there between.1 in
+        let up : ordering_index (text_cmp m m) ≤ ordering_index (text_cmp x m) = rw has.2 at (rises m i has.0 x high has.1) in
+        let tied : ordering_index (text_cmp m m) ≡ 1 = ap ordering_index (tied_itself nat_list_cmp_total m) in
+        let low : ordering_index (text_cmp x m) ≡ 0 = ap ordering_index less in
+        absurd (omega (arith, up, tied, low))
   ]
+
+-- what `get` lends is what stands at its place, if anything does
+pub got_copied : (xs : List Text) (i : ℕ) (o : Option (Bor Text)) → IsItemAt xs i o → option_copied o ≡ slice_get xs i
+got_copied xs i None is = sym (slice_get_past xs i is.3)
+got_copied xs i (Some x) is = sym (slice_get_read xs (length xs) i x.now refl is.3.0 is.1)

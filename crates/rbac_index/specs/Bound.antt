@@ -2,7 +2,7 @@
 use Rattle.std.specs.Prelude.{◌≡◌, ℕ, ◌<◌, ◌≤◌, Some, slice_get}
 use Rattle.rbac_terms.specs.Text.{Text}
 use Rattle.rbac_terms.specs.Principals.{Who}
-use Rattle.rbac_model.specs.Policies.{PolicyView, GrantView, BindingNames}
+use Rattle.rbac_model.specs.Policies.{PolicyView, GrantView, BindingNames, IsOfBinding}
 use Rattle.rbac_model.specs.Universes.{LiveForSome}
 
 -- the binding of the grant with that number names who asks
@@ -15,8 +15,8 @@ abbrev pub IsBoundTo : PolicyView → Who → Text → ℕ → Type 0
 IsBoundTo p who namespace number = (g : GrantView) × (slice_get p.grants number ≡ Some g)
     × BindingNames g.binding who × LiveForSome g.binding.namespace namespace
 
--- the grants numbered from `start` up to `end` are bound to who asks in that namespace, and none of
--- those from `from` up to `start` is
+-- the grants numbered from `start` up to `end` are bound to who asks in that namespace, none of
+-- those from `from` up to `start` is, and from `from` on the binding of the first has no others
 pub record IsNextRun (p : PolicyView) (who : Who) (namespace : Text)
     (from start end : ℕ) : Type 0 where
   pub after : from ≤ start
@@ -24,3 +24,5 @@ pub record IsNextRun (p : PolicyView) (who : Who) (namespace : Text)
   pub bound : (number : ℕ) → start ≤ number → number < end → IsBoundTo p who namespace number
   pub none_before : (number : ℕ) → from ≤ number → number < start
       → ¬ IsBoundTo p who namespace number
+  pub whole : (number place : ℕ) → from ≤ number → IsOfBinding p start place
+      → IsOfBinding p number place → number < end

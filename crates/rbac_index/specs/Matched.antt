@@ -1,10 +1,10 @@
 -- The order of targets, and those of one stem.
-use Rattle.std.specs.Prelude.{◌≡◌, ℕ, ◌+◌, ◌<◌, ◌≤◌, ◌↔◌, List, [], ◌∷◌, Any, Option, Some, None}
-use Rattle.std.specs.Prelude.{IfSome, length, map, slice_get}
+use Rattle.std.specs.Prelude.{◌≡◌, ℕ, ◌+◌, ◌<◌, ◌≤◌, ◌↔◌, List, [], ◌∷◌, Any, Contains, Option}
+use Rattle.std.specs.Prelude.{Some, None, IfSome, length, map, slice_get}
 use Rattle.std.specs.declared.cmp.Ordering.TheVariants.{Less}
 use Rattle.rbac_terms.specs.Text.{Text, text_cmp}
 use Rattle.rbac_terms.specs.Targets.{What, IsUrl, group_of, text_of, name_of}
-use Rattle.rbac_terms.specs.Matching.{WordMatches, ResourceWordMatches}
+use Rattle.rbac_terms.specs.Matching.{WordMatches, ResourceWordMatches, TargetOk}
 use Rattle.rbac_terms.specs.declared.matching.Rule.{Rule}
 use Rattle.rbac_model.specs.Universes.{UniverseView}
 use Rattle.rbac_index.specs.Reaches.{MatchesAt}
@@ -52,6 +52,11 @@ AreStems ts from to (end ∷ ends) = IsStem ts from end × AreStems ts end to en
 -- the rule matches all targets from `start` up to `end`, or none of them
 abbrev pub IsWhole : Rule → List What → ℕ → ℕ → Type 0
 IsWhole r ts start end = (n : ℕ) → start ≤ n → n < end → MatchesAt r ts n ↔ MatchesAt r ts start
+
+-- of the targets from `start` up to `end` the rule matches exactly those whose names it has
+abbrev pub IsByName : Rule → List What → ℕ → ℕ → Type 0
+IsByName r ts start end = (n : ℕ) (t : What) → start ≤ n → n < end → slice_get ts n ≡ Some t
+    → TargetOk r t ↔ Contains r.resource_names (name_of t)
 
 -- all targets of a universe form these stems
 abbrev pub AreStemsOf : UniverseView → List ℕ → Type 0

@@ -3,13 +3,13 @@
 ghost use Rattle.std.specs.Prelude.{◌≡◌};
 
 use std::alloc::{AllocError, AllocFailed};
-use thiserror::Error;
+use std::error::Error;
+use std::fmt;
 
 /// Why an index can't be built or queried.
-#[derive(Debug, Drop, Clone, Copy, PartialEq, Eq, Error)]
+#[derive(Debug, Drop, Clone, Copy, PartialEq, Eq)]
 pub enum IndexFault {
     /// X1: out of memory.
-    #[error("out of memory")]
     NoMemory,
 }
 
@@ -32,3 +32,15 @@ impl<T: Drop> From<AllocFailed<T>> for IndexFault {
         IndexFault::NoMemory
     }
 }
+
+impl fmt::Display for IndexFault {
+    ghost use Rattle.std.specs.Prelude.{Some, codes};
+
+    ghost output = { λ _. Some (codes "out of memory") };
+
+    fn fmt<W: fmt::Write>(&self, f: &mut fmt::Formatter<W>) -> fmt::Result {
+        f.write_str("out of memory")
+    }
+}
+
+impl Error for IndexFault {}

@@ -14,6 +14,7 @@ mod matches;
 mod merge;
 mod meter;
 mod numbers;
+mod ordered_rule;
 mod reach;
 mod rule_rows;
 mod runs;

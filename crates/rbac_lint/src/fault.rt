@@ -3,13 +3,13 @@
 ghost use Rattle.std.specs.Prelude.{◌≡◌};
 
 use std::alloc::AllocError;
-use thiserror::Error;
+use std::error::Error;
+use std::fmt;
 
 /// Why there are no findings (own).
-#[derive(Debug, Drop, Clone, Copy, PartialEq, Eq, Error)]
+#[derive(Debug, Drop, Clone, Copy, PartialEq, Eq)]
 pub enum LintFault {
     /// N1: out of memory.
-    #[error("out of memory")]
     NoMemory,
 }
 
@@ -22,3 +22,15 @@ impl From<AllocError> for LintFault {
         LintFault::NoMemory
     }
 }
+
+impl fmt::Display for LintFault {
+    ghost use Rattle.std.specs.Prelude.{Some, codes};
+
+    ghost output = { λ _. Some (codes "out of memory") };
+
+    fn fmt<W: fmt::Write>(&self, f: &mut fmt::Formatter<W>) -> fmt::Result {
+        f.write_str("out of memory")
+    }
+}
+
+impl Error for LintFault {}

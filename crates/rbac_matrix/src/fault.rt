@@ -5,13 +5,13 @@ ghost use Rattle.std.specs.Prelude.{◌≡◌};
 use rbac_terms::ModelFault;
 use rbac_token::TokenFault;
 use std::alloc::{AllocError, AllocFailed};
-use thiserror::Error;
+use std::error::Error;
+use std::fmt;
 
 /// Why the key of a row can't be made: Y1 NoMemory if it runs out of memory.
-#[derive(Debug, Drop, Clone, Copy, PartialEq, Eq, Error)]
+#[derive(Debug, Drop, Clone, Copy, PartialEq, Eq)]
 pub enum MatrixFault {
     /// Y1: out of memory.
-    #[error("out of memory")]
     NoMemory,
 }
 
@@ -54,3 +54,15 @@ impl<T: Drop> From<AllocFailed<T>> for MatrixFault {
         MatrixFault::NoMemory
     }
 }
+
+impl fmt::Display for MatrixFault {
+    ghost use Rattle.std.specs.Prelude.{Some, codes};
+
+    ghost output = { λ _. Some (codes "out of memory") };
+
+    fn fmt<W: fmt::Write>(&self, f: &mut fmt::Formatter<W>) -> fmt::Result {
+        f.write_str("out of memory")
+    }
+}
+
+impl Error for MatrixFault {}

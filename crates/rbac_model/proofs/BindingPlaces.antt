@@ -152,3 +152,16 @@ module _ (p : PolicyView) (ok : IsPolicy p) (places : List GrantPlace) (are : p.
           | inr l ↦ absurd (omega (arith, at, low, leb_not_below k place (upto.1 n d l lt)))
         ],
       )
+
+  -- what is below a place is up to it
+  pub parted_in_order : (place first last : ℕ) → first ≤ length places
+      → IsPartitionPoint (λ (at : GrantPlace). ltb at.binding place ≡ true) (λ (at : GrantPlace). ltb at.binding place ≡ false) places first
+      → IsPartitionPoint (λ (at : GrantPlace). leb at.binding place ≡ true) (λ (at : GrantPlace). leb at.binding place ≡ false) places last
+      → first ≤ last
+  parted_in_order place first last within below upto = elim (cases_lt last first) [
+    | inl l ↦
+        let d : GrantPlace = record { binding = 0; role = RoleAt 0; rule = 0 } in
+        let k = (get_or places last d).binding in
+        absurd (omega (arith, ltb_below k place (below.0 last d (omega arith) l), leb_not_below k place (upto.1 last d (omega arith) (omega (arith, l, within)))))
+    | inr l ↦ l
+  ]

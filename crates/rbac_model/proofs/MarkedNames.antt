@@ -1,6 +1,6 @@
 -- the names of roles with a mark, one after the other
 use Rattle.std.proofs.Common.{◌≡◌, ℕ, ◌<◌, ◌+◌, List, [], ◌∷◌, ◌++◌, length, get_or, Contains, All, Any, AllPairs, ◌↔◌, inl, inr, sym, ap, ◌∙◌, arith, subst, Less, length-append, Result, Ok, Err, IfOk}
-use Rattle.std.specs.Prelude.{Some, None, slice_get, codes}
+use Rattle.std.specs.Prelude.{Option, Some, None, slice_get, codes}
 use Rattle.std.proofs.lemmas.Bool.{cases_eq, cases_lt}
 use Rattle.std.proofs.lemmas.List.{get_or_at, get_or_default}
 use Rattle.std.proofs.Math.ListN.{get_or-append}
@@ -9,9 +9,10 @@ use Rattle.std.proofs.lemmas.Option.{same_Some, slice_get_within, get_or_from_sl
 use Rattle.rbac_terms.specs.Text.{Text}
 use Rattle.rbac_model.specs.Lists.{by_name, IsAscendingBy}
 use Rattle.rbac_model.specs.Graphs.{Graph, IsMarked}
-use Rattle.rbac_model.specs.Policies.{Held, IsHeld, Reaches, AreReachedNames, cluster_role_name}
+use Rattle.rbac_model.specs.Policies.{Held, IsHeld, Gathers, Reaches, AreReachedNames, cluster_role_name}
 use Rattle.rbac_model.specs.Places.{AreReaches, IsReachedAt, IsMarkedName, AreMarkedNames}
 use Rattle.rbac_terms.specs.declared.granting.ClusterRole.{ClusterRole}
+use Rattle.rbac_terms.specs.declared.selecting.Selector.{Selector}
 use Rattle.rbac_model.proofs.Stairs.{read_contains, reached_held, marked_reached}
 use Rattle.rbac_model.proofs.OneList.{one_of_name}
 use Rattle.std.specs.Prelude.{IsOkAnd}
@@ -88,10 +89,34 @@ reached_names h r marks ws reached named = record {
   );
 }
 
+-- a role with that name is the one at its place
+one_at : (h : Held) (at : ℕ) (name : Text) (r : ClusterRole) → IsHeld h → (at < length h.cluster_roles) × ((d : ClusterRole) → (get_or h.cluster_roles at d).name ≡ name) → Contains h.cluster_roles r → r.name ≡ name → get_or h.cluster_roles at r ≡ r
+one_at h at name r held place has e = one_of_name cluster_role_name h.cluster_roles (get_or h.cluster_roles at r) r held.cluster_roles (Contains-get_or h.cluster_roles at r place.0) has (ap (λ (n : Text). codes "ClusterRole" ∷ [] ∷ n ∷ []) (place.1 r ∙ sym e))
+
+-- no path leads from a plain role
+plain_reaches_none : (h : Held) (r s : ClusterRole) → r.aggregation ≡ None → Reaches h r s → ⊥
+plain_reaches_none h r s plain ([], step) = subst (λ (o : Option (List Selector)). Gathers o s) plain step.2
+plain_reaches_none h r s plain (m ∷ ms, path) = subst (λ (o : Option (List Selector)). Gathers o m) plain path.0.2
+
+-- so it reaches no names
+pub plain_reached : (h : Held) (at : ℕ) (name : Text) (x : ClusterRole) → IsHeld h → (at < length h.cluster_roles) × ((d : ClusterRole) → (get_or h.cluster_roles at d).name ≡ name) → x ≡ get_or h.cluster_roles at x → x.aggregation ≡ None → (r : ClusterRole) → Contains h.cluster_roles r → r.name ≡ name → AreReachedNames h r []
+plain_reached h at name x held place read plain r has e = record {
+  ordered = λ i j d lt l. absurd (omega arith);
+  exact = λ w. (
+    λ c. absurd (omega (arith, c.1)),
+    λ s. absurd (plain_reaches_none h r s.0 (ap (λ (y : ClusterRole). y.aggregation) (sym (read ∙ get_or_default h.cluster_roles at x r place.0 ∙ one_at h at name r held place has e)) ∙ plain) s.1),
+  );
+}
+
+-- the role at that place isn't plain, so a plain role has another name
+pub not_plain : {E : Type 0} (h : Held) (at : ℕ) (name : Text) (x : ClusterRole) (o : Result (List Text) E) → IsHeld h → (at < length h.cluster_roles) × ((d : ClusterRole) → (get_or h.cluster_roles at d).name ≡ name) → x ≡ get_or h.cluster_roles at x → (x.aggregation ≡ None → ⊥) → (r : ClusterRole) → Contains h.cluster_roles r → r.name ≡ name → r.aggregation ≡ None → IsOkAnd o (λ ws. ws ≡ [])
+not_plain h at name x o held place read isnt r has e plain =
+    absurd (isnt (ap (λ (y : ClusterRole). y.aggregation) (read ∙ get_or_default h.cluster_roles at x r place.0 ∙ one_at h at name r held place has e) ∙ plain))
+
 -- the role of that name is the one at its place
 pub names_reached : {E : Type 0} (h : Held) (rows : Graph) (at : ℕ) (name : Text) (marks : List ℕ) (o : Result (List Text) E) → IsHeld h → AreReaches h rows → (at < length h.cluster_roles) × ((d : ClusterRole) → (get_or h.cluster_roles at d).name ≡ name) → marks ≡ get_or rows at marks → IfOk o (λ ws. AreMarkedNames h marks ws) → IfOk o (λ ws. (r : ClusterRole) → Contains h.cluster_roles r → r.name ≡ name → AreReachedNames h r ws)
 names_reached h rows at name marks (Ok ws) held are place read named = λ r has e.
-    let here : get_or h.cluster_roles at r ≡ r = one_of_name cluster_role_name h.cluster_roles (get_or h.cluster_roles at r) r held.cluster_roles (Contains-get_or h.cluster_roles at r place.0) has (ap (λ (n : Text). codes "ClusterRole" ∷ [] ∷ n ∷ []) (place.1 r ∙ sym e)) in
+    let here : get_or h.cluster_roles at r ≡ r = one_at h at name r held place has e in
     let there : slice_get h.cluster_roles at ≡ Some r = slice_get-get_or h.cluster_roles at r place.0 ∙ ap Some here in
     reached_names h r marks ws (marked_reached h rows at r marks are there read) named
 names_reached h rows at name marks (Err e) held are place read named = tt

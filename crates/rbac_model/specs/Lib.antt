@@ -1,3 +1,4 @@
+pub mod Faults
 pub mod Graphs
 pub mod Holders
 pub mod Kept

@@ -2,7 +2,7 @@
 
 ghost use Rattle.std.specs.Prelude.{◌≡◌, ◌≢◌, ◌+◌, ◌*◌, ◌/◌, ◌<◌, ◌≤◌, ◌↔◌, IsTrue, IfOk, OnOk};
 ghost use Rattle.std.specs.Prelude.{IsOkAnd, Contains, Any, Some, [], length, min, slice_get};
-ghost use Rattle.rbac_model.specs.Policies.{IsHeld, AreReachedNames};
+ghost use Rattle.rbac_model.specs.Policies.{IsHeld, IsPlain, AreReachedNames};
 ghost use Rattle.rbac_model.specs.Graphs.{IsMarked};
 ghost use Rattle.rbac_model.specs.Lists.{IsUpTo};
 ghost use Rattle.rbac_terms.specs.declared.granting.ClusterRole.{ClusterRole};
@@ -125,8 +125,8 @@ fn put_plain(
     Ok(())
 }
 
-// The names of the cluster roles that the one with this name reaches. If no role has the name,
-// there are none, and nothing is allocated.
+// The names of the cluster roles that the one with this name reaches. A plain role reaches none,
+// and if no role has the name, there are none; nothing is allocated then.
 pub(crate) fn names_from(
     alloc: Global,
     objects: &Objects,
@@ -139,11 +139,17 @@ pub(crate) fn names_from(
         → AreReachedNames objects.now r ws) }
     ensures none { ¬ Any (λ r. r.name ≡ name.now) objects.now.cluster_roles
         → IsOkAnd result (λ ws. ws ≡ []) }
+    ensures plain { (r : ClusterRole) → Contains objects.now.cluster_roles r → r.name ≡ name.now
+        → IsPlain r → IsOkAnd result (λ ws. ws ≡ []) }
 {
-    match cluster_role_place(objects.cluster_roles(), name) {
-        Some(at) => marked_names(alloc, objects, &reaches[at]),
-        None => Ok(Words::new(alloc)),
+    let roles = objects.cluster_roles();
+    let Some(at) = cluster_role_place(roles, name) else {
+        return Ok(Words::new(alloc));
+    };
+    if roles[at].aggregation.is_none() {
+        return Ok(Words::new(alloc));
     }
+    marked_names(alloc, objects, &reaches[at])
 }
 
 // The names of the cluster roles with a mark, ascending.

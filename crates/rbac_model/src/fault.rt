@@ -3,17 +3,16 @@
 ghost use Rattle.std.specs.Prelude.{◌≡◌};
 
 use std::alloc::{AllocError, AllocFailed};
-use thiserror::Error;
+use std::error::Error;
+use std::fmt;
 
 /// Why objects don't resolve to a policy (own). Its text is the number and name of the refusal;
 /// out of memory has no number there.
-#[derive(Debug, Drop, Clone, Copy, PartialEq, Eq, Error)]
+#[derive(Debug, Drop, Clone, Copy, PartialEq, Eq)]
 pub enum ResolveFault {
     /// P2: more than a million grants.
-    #[error("P2 too many grants")]
     TooMany,
     /// P5: out of memory.
-    #[error("out of memory")]
     NoMemory,
 }
 
@@ -36,3 +35,20 @@ impl<T: Drop> From<AllocFailed<T>> for ResolveFault {
         ResolveFault::NoMemory
     }
 }
+
+impl fmt::Display for ResolveFault {
+    ghost use Rattle.std.specs.Prelude.{Some};
+    ghost use Rattle.rbac_model.specs.Faults.{fault_text};
+
+    ghost output = { λ fault. Some (fault_text fault) };
+
+    fn fmt<W: fmt::Write>(&self, f: &mut fmt::Formatter<W>) -> fmt::Result {
+        let text = match self {
+            ResolveFault::TooMany => "P2 too many grants",
+            ResolveFault::NoMemory => "out of memory",
+        };
+        f.write_str(text)
+    }
+}
+
+impl Error for ResolveFault {}

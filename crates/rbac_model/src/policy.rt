@@ -3,7 +3,7 @@
 ghost use Rattle.std.specs.Prelude.{ℕ, ◌≡◌, ◌<◌, ◌≤◌, ◌↔◌, IsTrue, [], Any, Contains, IfOk, IfErr};
 ghost use Rattle.std.specs.Prelude.{IsOkAnd, Some, IsSome, All, length, slice_get};
 ghost use Rattle.rbac_model.specs.Policies.{PolicyView, IsPolicy, HasTooMany, AreReachedNames};
-ghost use Rattle.rbac_model.specs.Policies.{IsOfBinding, grants_at, grant_at, most_grants};
+ghost use Rattle.rbac_model.specs.Policies.{IsPlain, IsOfBinding, grants_at, grant_at, most_grants};
 ghost use Rattle.rbac_model.specs.Places.{IsReachedAt};
 ghost use Rattle.rbac_model.specs.Sources.{grant_of};
 ghost use Rattle.rbac_terms.specs.declared.granting.ClusterRole.{ClusterRole};
@@ -67,14 +67,16 @@ impl Policy {
 
     /// The names of the cluster roles that the one with this name reaches by one or more steps of
     /// aggregation, ascending (Using RBAC Authorization, Aggregated ClusterRoles). A plain role
-    /// reaches none. If no cluster role has the name, there are none either, and nothing is
-    /// allocated.
+    /// reaches none, and if no cluster role has the name, there are none either; nothing is
+    /// allocated then.
     pub fn reached(&self, alloc: Global, name: &Word) -> Result<Words, ResolveFault>
         ensures reached { IfOk result
             (λ ws. (r : ClusterRole) → Contains self.now.held.cluster_roles r → r.name ≡ name.now
             → AreReachedNames self.now.held r ws) }
         ensures none { ¬ Any (λ r. r.name ≡ name.now) self.now.held.cluster_roles
             → IsOkAnd result (λ ws. ws ≡ []) }
+        ensures plain { (r : ClusterRole) → Contains self.now.held.cluster_roles r
+            → r.name ≡ name.now → IsPlain r → IsOkAnd result (λ ws. ws ≡ []) }
         ensures only_memory { IfErr result (λ e. e ≡ ResolveFault.NoMemory) }
     {
         Ok(names_from(alloc, &self.objects, &self.reaches, name)?)
@@ -137,9 +139,10 @@ impl Policy {
     }
 
     /// The numbers of the grants of the binding at this place: from the first number up to, but not
-    /// including, the second. Grants are in order of bindings, so those of one binding are next to
-    /// each other. Doesn't allocate.
+    /// including, the second; the two are equal if it has none. Grants are in order of bindings, so
+    /// those of one binding are next to each other. Doesn't allocate.
     pub fn grants_of(&self, place: usize) -> (u32, u32)
+        ensures ordered { result.0 ≤ result.1 }
         ensures within { result.1 ≤ length self.now.grants }
         ensures between { (n at : ℕ) → IsOfBinding self.now n at
             → ((result.0 ≤ n) × (n < result.1)) ↔ (at ≡ place) }

@@ -34,6 +34,10 @@ take_add s a n =
 pub read_past : (most n : ℕ) (seen room : List ℕ) → most - length seen < n → n ≤ length room → most < length (seen ++ take n room)
 read_past most n seen room h k = rw (length-append, length-take-le n room k) (omega arith)
 
+-- how much there is with one more read
+pub read_upto : (n bound : ℕ) (seen room : List ℕ) → length seen + n ≤ bound → n ≤ length room → length (seen ++ take n room) ≤ bound
+read_upto n bound seen room h k = rw (length-append, length-take-le n room k) h
+
 -- the piece is a range up to the end
 pub take_add_rest : (s : List ℕ) (a n : ℕ) → take (a + n) s ≡ take a s ++ take n (take (length s - a) (drop a s))
 take_add_rest s a n = take_add s a n ∙ ap (λ (l : List ℕ). take a s ++ take n l) (sym (take_rest s a))

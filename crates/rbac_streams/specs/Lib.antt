@@ -1,3 +1,3 @@
-pub mod ReadFaults
+pub mod Faults
 pub mod Streams
 pub mod Taken

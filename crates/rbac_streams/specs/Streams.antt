@@ -5,6 +5,10 @@ use Rattle.std.specs.Prelude.{ℕ, Bool, List}
 abbrev pub most_bytes : ℕ
 most_bytes = 67108864
 
+-- the most bytes that one read takes: 64 KiB (own)
+abbrev pub one_read : ℕ
+one_read = 65536
+
 -- a reader, whether a read of it failed, and how many reads there were
 pub record SourceView (R : Type 0) : Type 0 where
   pub reader : R

@@ -1,23 +1,27 @@
 //! A reader that stays failed once it has failed, and reading an input whole.
 
-ghost use Rattle.std.specs.Prelude.{◌≡◌, ℕ, ◌+◌, ◌<◌, ◌≤◌, List, [], length, take, true, false};
-ghost use Rattle.std.specs.Prelude.{IfOk, OnOk, OnErr, IsErrOf};
+ghost use Rattle.std.specs.Prelude.{◌≡◌, ◌≢◌, ℕ, ◌+◌, ◌<◌, ◌≤◌, List, [], ◌++◌, length, take};
+ghost use Rattle.std.specs.Prelude.{true, false, IfOk, OnOk, IfErr, OnErr, IsErrOf};
 ghost use Rattle.std.specs.Io.KnownBytes.{Consumes, IsAtEnd, Keeps};
-ghost use Rattle.rbac_streams.specs.ReadFaults.{is_read_fault};
+ghost use Rattle.rbac_streams.specs.Faults.{is_read_fault};
 ghost use Rattle.rbac_streams.specs.Taken.{counted};
-ghost use Rattle.rbac_streams.specs.Streams.{most_bytes};
+ghost use Rattle.rbac_streams.specs.Streams.{most_bytes, one_read};
 
 use crate::input::Input;
 use crate::sink::Failed;
 use std::alloc::Global;
+use std::error::Error;
+use std::fmt;
 use std::fs;
 use std::io::Read;
 use std::marker::Model;
 use std::rt::Files;
-use thiserror::Error;
 
 /// The most bytes that an input may have: 64 MiB (own).
 pub const MOST_BYTES: usize = 67_108_864;
+
+// The most bytes that one read takes.
+const ONE_READ: usize = 65_536;
 
 /// A reader that isn't called again once a read of it has failed, with the number of reads.
 ///
@@ -38,18 +42,33 @@ impl<R> Model for Source<R> {
 }
 
 /// Why an input couldn't be read.
-#[derive(Clone, Copy, Debug, PartialEq, Eq, Error)]
+#[derive(Clone, Copy, Debug, PartialEq, Eq)]
 pub enum InputFault {
     /// I1: a read failed, or the file couldn't be opened.
-    #[error("I1 read fault")]
     ReadFault,
     /// I2: there were more than [`MOST_BYTES`] bytes.
-    #[error("I2 too long")]
     TooLong,
     /// I3: out of memory.
-    #[error("out of memory")]
     NoMemory,
 }
+
+impl fmt::Display for InputFault {
+    ghost use Rattle.std.specs.Prelude.{Some};
+    ghost use Rattle.rbac_streams.specs.Faults.{fault_text};
+
+    ghost output = { λ fault. Some (fault_text fault) };
+
+    fn fmt<W: fmt::Write>(&self, f: &mut fmt::Formatter<W>) -> fmt::Result {
+        let text = match self {
+            InputFault::ReadFault => "I1 read fault",
+            InputFault::TooLong => "I2 too long",
+            InputFault::NoMemory => "out of memory",
+        };
+        f.write_str(text)
+    }
+}
+
+impl Error for InputFault {}
 
 impl<R: Read + Drop> Source<R> {
     /// A reader that hasn't failed or been read yet.
@@ -102,7 +121,8 @@ impl<R: Read + Drop> Source<R> {
 
 /// Reads everything there is, at most [`MOST_BYTES`] bytes, in at most 67,108,865 reads.
 ///
-/// I1 if a read failed, I2 if there were more bytes, I3 if it ran out of memory.
+/// I1 if a read failed, I2 if there were more bytes, I3 if it ran out of memory. After I1 and I3 at
+/// most [`MOST_BYTES`] bytes were taken from the reader, and after I2 at most one read more.
 pub fn read_input<R: Read + Drop>(
     alloc: Global,
     source: &mut Source<R>,
@@ -112,12 +132,15 @@ pub fn read_input<R: Read + Drop>(
         × Consumes (R.remaining source.old.reader) (R.remaining source.new.reader) input
         × IsAtEnd (R.remaining source.new.reader)) }
     ensures failed { source.new.has_failed ≡ is_read_fault result }
+    ensures short { IfErr result (λ fault. fault ≢ InputFault.TooLong
+        → (bytes : List ℕ) × (length bytes ≤ most_bytes)
+        × Consumes (R.remaining source.old.reader) (R.remaining source.new.reader) bytes) }
     ensures long { IsErrOf result InputFault.TooLong
-        → (bytes : List ℕ) × (most_bytes < length bytes)
+        → (bytes : List ℕ) × (most_bytes < length bytes) × (length bytes ≤ most_bytes + one_read)
         × Consumes (R.remaining source.old.reader) (R.remaining source.new.reader) bytes }
     ensures reads { source.new.reads ≤ source.old.reads + (most_bytes + 1) }
 {
-    let mut chunk = [0u8; 65536];
+    let mut chunk = [0u8; ONE_READ];
     let mut bytes = Vec::new(alloc);
     'whole: loop {
         match source.read(&mut chunk) {
@@ -146,7 +169,12 @@ pub fn read_slice(alloc: Global, source: &mut Source<&[u8]>) -> Result<Input, In
         (λ input. (input ≡ source.old.reader.now) × (length input ≤ most_bytes)) }
     ensures rest { OnOk result (source.new.reader.now ≡ []) }
     ensures failed { source.new.has_failed ≡ is_read_fault result }
-    ensures long { IsErrOf result InputFault.TooLong → most_bytes < length source.old.reader.now }
+    ensures short { IfErr result (λ fault. fault ≢ InputFault.TooLong
+        → (bytes : List ℕ) × (length bytes ≤ most_bytes)
+        × (source.old.reader.now ≡ bytes ++ source.new.reader.now)) }
+    ensures long { IsErrOf result InputFault.TooLong
+        → (bytes : List ℕ) × (most_bytes < length bytes) × (length bytes ≤ most_bytes + one_read)
+        × (source.old.reader.now ≡ bytes ++ source.new.reader.now) }
 {
     read_input(alloc, source)
 }

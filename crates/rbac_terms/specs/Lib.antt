@@ -1,3 +1,4 @@
+pub mod Faults
 pub mod Granting
 pub mod Held
 pub mod KeyOrder

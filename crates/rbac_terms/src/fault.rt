@@ -3,21 +3,19 @@
 ghost use Rattle.std.specs.Prelude.{◌≡◌};
 
 use std::alloc::{AllocError, AllocFailed};
-use thiserror::Error;
+use std::error::Error;
+use std::fmt;
 
 /// Why a principal, a target or a key can't be made, or putting an object fails (own). The fault's
 /// text is the number and name of the refusal; out of memory has no number there.
-#[derive(Debug, Drop, Clone, Copy, PartialEq, Eq, Error)]
+#[derive(Debug, Drop, Clone, Copy, PartialEq, Eq)]
 pub enum ModelFault {
     /// P1: a principal without a name.
-    #[error("P1 empty name")]
     EmptyName,
     /// P3: a resource text that is empty or begins with a slash, or a URL that doesn't begin with
     /// one.
-    #[error("P3 bad target")]
     BadTarget,
     /// P5: out of memory.
-    #[error("out of memory")]
     NoMemory,
 }
 
@@ -40,3 +38,21 @@ impl<T: Drop> From<AllocFailed<T>> for ModelFault {
         ModelFault::NoMemory
     }
 }
+
+impl fmt::Display for ModelFault {
+    ghost use Rattle.std.specs.Prelude.{Some};
+    ghost use Rattle.rbac_terms.specs.Faults.{fault_text};
+
+    ghost output = { λ fault. Some (fault_text fault) };
+
+    fn fmt<W: fmt::Write>(&self, f: &mut fmt::Formatter<W>) -> fmt::Result {
+        let text = match self {
+            ModelFault::EmptyName => "P1 empty name",
+            ModelFault::BadTarget => "P3 bad target",
+            ModelFault::NoMemory => "out of memory",
+        };
+        f.write_str(text)
+    }
+}
+
+impl Error for ModelFault {}

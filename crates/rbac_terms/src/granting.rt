@@ -1,6 +1,7 @@
 //! Roles, and the bindings that grant them.
 
-ghost use Rattle.std.specs.Prelude.{◌≡◌, IsTrue, ◌↔◌, IfOk, MatchOption, option_copied};
+ghost use Rattle.std.specs.Prelude.{◌≡◌, IsTrue, ◌↔◌, IfOk, IsOkAnd, None};
+ghost use Rattle.std.specs.Prelude.{MatchOption, option_copied};
 ghost use Rattle.rbac_terms.specs.Text.{Text};
 ghost use Rattle.rbac_terms.specs.Granting.{Names, IsSubjectKey};
 
@@ -100,17 +101,19 @@ pub fn names(subject: &Subject, binding_namespace: Option<&Word>, principal: &Pr
 
 /// The key of the principal that a subject stands for, in a binding in that namespace, or in a
 /// ClusterRoleBinding if there is none (own): an account's key is its user's. An account without a
-/// namespace is in the binding's; in a ClusterRoleBinding it stands for nobody. Fails only if it
-/// runs out of memory.
+/// namespace is in the binding's; in a ClusterRoleBinding it stands for nobody, and nothing is
+/// allocated. Fails only if it runs out of memory.
 pub fn subject_key(
     alloc: Global,
     subject: &Subject,
     binding_namespace: Option<&Word>,
 ) -> Result<Option<Word>, AllocError>
-    ensures { IfOk result (λ o. MatchOption o
+    ensures key { IfOk result (λ o. MatchOption o
         ((key : Text) → ¬ IsSubjectKey subject.now (option_copied binding_namespace.entry) key)
         (λ w. (key : Text) → IsSubjectKey subject.now (option_copied binding_namespace.entry) key
         ↔ (key ≡ w))) }
+    ensures nobody { (name : Text) → subject.now ≡ Subject.Account None name
+        → option_copied binding_namespace.entry ≡ None → IsOkAnd result (λ o. o ≡ None) }
 {
     match subject {
         Subject::User(name) => Ok(Some(user_key(alloc, name)?)),

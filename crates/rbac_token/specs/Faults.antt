@@ -1,4 +1,4 @@
-use Rattle.std.specs.Prelude.{◌≡◌, ◌⊎◌}
+use Rattle.std.specs.Prelude.{◌≡◌, ◌⊎◌, ℕ, List, codes}
 use Rattle.rbac_terms.specs.Text.{Text}
 use Rattle.rbac_terms.specs.Keys.{KeyTexts}
 use Rattle.rbac_terms.specs.declared.fault.ModelFault.{ModelFault}
@@ -9,6 +9,13 @@ use Rattle.rbac_token.specs.declared.mark.Mark.{Mark}
 use Rattle.rbac_token.specs.declared.fault.TokenFault.{TokenFault}
 use Rattle.rbac_token.specs.declared.fault.TokenFault.TheVariants.{NotBase64, BadVersion}
 use Rattle.rbac_token.specs.declared.fault.TokenFault.TheVariants.{NotCanonical, NoMemory}
+
+-- the number and name of a refusal (own); out of memory has no number there
+abbrev pub fault_text : TokenFault → List ℕ
+fault_text NotBase64 = codes "K1 not base64"
+fault_text BadVersion = codes "K2 bad version"
+fault_text NotCanonical = codes "K3 not canonical"
+fault_text NoMemory = codes "out of memory"
 
 -- why a token is refused (own): it isn't unpadded URL-safe base64; otherwise its version is
 -- another; otherwise nothing is printed as its bytes; out of memory may come at any time

@@ -4,24 +4,21 @@ ghost use Rattle.std.specs.Prelude.{◌≡◌};
 
 use rbac_terms::ModelFault;
 use std::alloc::{AllocError, AllocFailed};
-use thiserror::Error;
+use std::error::Error;
+use std::fmt;
 
 /// Why a text isn't the token of a key or of a mark (own). The fault's text is the number and name
 /// of the refusal; out of memory has no number there.
-#[derive(Debug, Drop, Clone, Copy, PartialEq, Eq, Error)]
+#[derive(Debug, Drop, Clone, Copy, PartialEq, Eq)]
 pub enum TokenFault {
     /// K1: it isn't unpadded URL-safe base64.
-    #[error("K1 not base64")]
     NotBase64,
     /// K2: what comes before the first tab of its bytes, or all of them if there is no tab, isn't a
     /// version: a key's token has `1`, and a mark's `1` or `2`.
-    #[error("K2 bad version")]
     BadVersion,
     /// K3: no key or mark is printed like this.
-    #[error("K3 not canonical")]
     NotCanonical,
     /// K4: out of memory.
-    #[error("out of memory")]
     NoMemory,
 }
 
@@ -57,3 +54,22 @@ impl From<ModelFault> for TokenFault {
         }
     }
 }
+
+impl fmt::Display for TokenFault {
+    ghost use Rattle.std.specs.Prelude.{Some};
+    ghost use Rattle.rbac_token.specs.Faults.{fault_text};
+
+    ghost output = { λ fault. Some (fault_text fault) };
+
+    fn fmt<W: fmt::Write>(&self, f: &mut fmt::Formatter<W>) -> fmt::Result {
+        let text = match self {
+            TokenFault::NotBase64 => "K1 not base64",
+            TokenFault::BadVersion => "K2 bad version",
+            TokenFault::NotCanonical => "K3 not canonical",
+            TokenFault::NoMemory => "out of memory",
+        };
+        f.write_str(text)
+    }
+}
+
+impl Error for TokenFault {}

@@ -1,3 +1,4 @@
+pub mod Faults
 pub mod UniverseSets
 pub mod Made
 pub mod Sets

@@ -3,22 +3,20 @@
 ghost use Rattle.std.specs.Prelude.{◌≡◌};
 
 use std::alloc::AllocError;
-use thiserror::Error;
+use std::error::Error;
+use std::fmt;
 
 /// Why lists don't make a universe (own). Its text is the number and name of the refusal; out of
 /// memory has no number there.
-#[derive(Debug, Drop, Clone, Copy, PartialEq, Eq, Error)]
+#[derive(Debug, Drop, Clone, Copy, PartialEq, Eq)]
 pub enum UniverseFault {
     /// P3: a listed resource whose text is empty or begins with a slash, or a listed URL that
     /// doesn't begin with one. Comes before P4, and applies even if there are no names.
-    #[error("P3 bad target")]
     BadTarget,
     /// P4: more than 65,535 principals, namespaces or verbs, or more than 1,000,000 targets,
     /// counted without repeats.
-    #[error("P4 universe too large")]
     TooLarge,
     /// P5: out of memory.
-    #[error("out of memory")]
     NoMemory,
 }
 
@@ -31,3 +29,21 @@ impl From<AllocError> for UniverseFault {
         UniverseFault::NoMemory
     }
 }
+
+impl fmt::Display for UniverseFault {
+    ghost use Rattle.std.specs.Prelude.{Some};
+    ghost use Rattle.rbac_universe.specs.Faults.{fault_text};
+
+    ghost output = { λ fault. Some (fault_text fault) };
+
+    fn fmt<W: fmt::Write>(&self, f: &mut fmt::Formatter<W>) -> fmt::Result {
+        let text = match self {
+            UniverseFault::BadTarget => "P3 bad target",
+            UniverseFault::TooLarge => "P4 universe too large",
+            UniverseFault::NoMemory => "out of memory",
+        };
+        f.write_str(text)
+    }
+}
+
+impl Error for UniverseFault {}

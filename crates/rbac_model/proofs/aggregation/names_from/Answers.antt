@@ -1,11 +1,22 @@
-use Rattle.rbac_model.proofs.MarkedNames.{names_reached, no_names}
+use Rattle.std.proofs.Common.{rules}
+use Rattle.rbac_model.proofs.MarkedNames.{names_reached, no_names, plain_reached, not_plain}
 use Rattle.rbac_model.proofs.aggregation.names_from.Goals as goal
 
-pub returns-in-Some-clause-reached : goal.returns-in-Some-clause-reached
-returns-in-Some-clause-reached c =
-    names_reached c.args.objects.now c.args.reaches.now c.in-Some.at c.args.name.now c.index-reaches-at.result c.marked_names.result c.cluster_roles.ensures.held c.requires
-    (rw c.cluster_roles.ensures.cluster_roles at c.in-Some.ensures) c.index-reaches-at.is c.marked_names.ensures
+pub returns-then-is_none-clause-reached : goal.returns-then-is_none-clause-reached
+returns-then-is_none-clause-reached c =
+    rw c.new-then-is_none.ensures (plain_reached c.args.objects.now c.in-Some.at c.args.name.now c.index-roles-at.result c.cluster_roles-roles.ensures.held
+    (rw c.cluster_roles-roles.ensures.cluster_roles at c.in-Some.ensures) (rw c.cluster_roles-roles.ensures.cluster_roles at c.index-roles-at.is) (search rules))
 
-pub returns-in-Some-clause-none : goal.returns-in-Some-clause-none
-returns-in-Some-clause-none c =
-    no_names c.args.objects.now c.in-Some.at c.args.name.now c.marked_names.result (rw c.cluster_roles.ensures.cluster_roles at c.in-Some.ensures)
+pub returns-clause-plain : goal.returns-clause-plain
+returns-clause-plain c =
+    not_plain c.args.objects.now c.in-Some.at c.args.name.now c.index-roles-at.result c.marked_names.result c.cluster_roles-roles.ensures.held
+    (rw c.cluster_roles-roles.ensures.cluster_roles at c.in-Some.ensures) (rw c.cluster_roles-roles.ensures.cluster_roles at c.index-roles-at.is) (search rules)
+
+pub returns-clause-reached : goal.returns-clause-reached
+returns-clause-reached c =
+    names_reached c.args.objects.now c.args.reaches.now c.in-Some.at c.args.name.now c.index-reaches-at.result c.marked_names.result c.cluster_roles-roles.ensures.held c.requires
+    (rw c.cluster_roles-roles.ensures.cluster_roles at c.in-Some.ensures) c.index-reaches-at.is c.marked_names.ensures
+
+pub returns-clause-none : goal.returns-clause-none
+returns-clause-none c =
+    no_names c.args.objects.now c.in-Some.at c.args.name.now c.marked_names.result (rw c.cluster_roles-roles.ensures.cluster_roles at c.in-Some.ensures)

@@ -1,5 +1,5 @@
--- How reading an input ends.
-use Rattle.std.specs.Prelude.{Bool, true, false, Result, Ok, Err}
+-- How reading an input fails.
+use Rattle.std.specs.Prelude.{ℕ, List, codes, Bool, true, false, Result, Ok, Err}
 use Rattle.rbac_streams.specs.declared.source.InputFault.{InputFault}
 use Rattle.rbac_streams.specs.declared.source.InputFault.TheVariants.{ReadFault, TooLong, NoMemory}
 
@@ -9,3 +9,9 @@ is_read_fault (Ok input) = false
 is_read_fault (Err ReadFault) = true
 is_read_fault (Err TooLong) = false
 is_read_fault (Err NoMemory) = false
+
+-- the number and name of a refusal (own); out of memory has no number there
+abbrev pub fault_text : InputFault → List ℕ
+fault_text ReadFault = codes "I1 read fault"
+fault_text TooLong = codes "I2 too long"
+fault_text NoMemory = codes "out of memory"
