@@ -10,7 +10,7 @@ use crate::lint::print_findings;
 use crate::matrix::print_listing;
 use crate::outcome::{RunFault, Status};
 use crate::who_can::print_holders;
-use rbac_manifest::Loaded;
+use rbac_manifest::Export;
 use rbac_question::Action;
 use rbac_streams::{Page, Sink};
 use std::alloc::Global;
@@ -19,16 +19,16 @@ use std::io::Write;
 /// Prints the answer of an action over what was loaded.
 pub(crate) fn print_answer<W: Write + Drop>(
     alloc: Global,
-    loaded: &Loaded,
+    export: &Export,
     action: &Action,
     sink: &mut Sink<W>,
     page: &mut Page,
 ) -> Result<Status, RunFault>
     requires { sink.old.has_failed ≡ false }
     ensures ok { IfOk result
-        (PrintsAnswer W.contents sink.old page.old sink.new page.new loaded.now action.now) }
+        (PrintsAnswer W.contents sink.old page.old sink.new page.new export.now action.now) }
     ensures err { IfErr result
-        (StopsPrinting W.contents sink.old page.old sink.new page.new loaded.now action.now) }
+        (StopsPrinting W.contents sink.old page.old sink.new page.new export.now action.now) }
     ensures failed { sink.new.has_failed ≡ is_write_fault result }
 {
     match action {
@@ -38,16 +38,16 @@ pub(crate) fn print_answer<W: Write + Drop>(
             why,
             question,
         } => {
-            let verdict = verdict_of(alloc, loaded, principal, *quiet, *why, question);
+            let verdict = verdict_of(alloc, export, principal, *quiet, *why, question);
             print_verdict(verdict, sink, page)
         }
-        Action::WhoCan { question } => print_holders(alloc, loaded, question, sink, page),
+        Action::WhoCan { question } => print_holders(alloc, export, question, sink, page),
         Action::Matrix { after, limit } => {
-            print_listing(alloc, loaded, after.as_ref(), *limit, sink, page)
+            print_listing(alloc, export, after.as_ref(), *limit, sink, page)
         }
         Action::Every { after, limit } => {
-            print_every_listing(alloc, loaded, after.as_ref(), *limit, sink, page)
+            print_every_listing(alloc, export, after.as_ref(), *limit, sink, page)
         }
-        Action::Lint => print_findings(alloc, loaded, sink, page),
+        Action::Lint => print_findings(alloc, export, sink, page),
     }
 }

@@ -12,7 +12,7 @@ ghost use Rattle.rbac_cli.specs.Verdicts.{verdict_text, verdict_status};
 use crate::meaning::meant_by;
 use crate::outcome::{RunFault, Status, fault_of};
 use rbac_index::{Why, why_allowed};
-use rbac_manifest::Loaded;
+use rbac_manifest::Export;
 use rbac_question::Question;
 use rbac_streams::{Page, PrintFault, Sink};
 use rbac_terms::Principal;
@@ -31,19 +31,19 @@ pub(crate) struct Verdict {
 /// status and no text; with `why`, a second line explains a yes.
 pub(crate) fn verdict_of(
     alloc: Global,
-    loaded: &Loaded,
+    export: &Export,
     principal: &Principal,
     quiet: bool,
     why: bool,
     question: &Question,
 ) -> Result<Verdict, AllocError>
     ensures { IfOk result
-        (λ verdict. Answers loaded.now
+        (λ verdict. Answers export.now
         (CanI principal.now quiet why question.now) verdict.text.items verdict.status) }
 {
-    let meant = meant_by(alloc, loaded.catalogue(), question)?;
+    let meant = meant_by(alloc, export.catalogue(), question)?;
     let found = why_allowed(
-        loaded.policy(),
+        export.policy(),
         principal,
         &meant.namespace,
         &question.verb,

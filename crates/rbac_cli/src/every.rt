@@ -10,7 +10,7 @@ ghost use Rattle.rbac_cli.specs.Printing.{is_sink_fault};
 
 use crate::matrix::{Lent, lent_by, seats_for, unmade};
 use crate::outcome::{RunFault, Status, fault_of};
-use rbac_manifest::Loaded;
+use rbac_manifest::Export;
 use rbac_matrix::{Matrix, Seat, every_rows_are_there, print_every_page};
 use rbac_streams::{Page, PrintFault, Sink};
 use rbac_token::Mark;
@@ -21,7 +21,7 @@ use std::io::Write;
 /// mark, at most as many as the limit says, and a last line that says whether more follow.
 pub(crate) fn print_every_listing<W: Write + Drop>(
     alloc: Global,
-    loaded: &Loaded,
+    export: &Export,
     after: Option<&Mark>,
     limit: Option<u32>,
     sink: &mut Sink<W>,
@@ -29,14 +29,14 @@ pub(crate) fn print_every_listing<W: Write + Drop>(
 ) -> Result<Status, RunFault>
     requires { sink.old.has_failed ≡ false }
     ensures ok { IfOk result
-        (PrintsAnswer W.contents sink.old page.old sink.new page.new loaded.now
+        (PrintsAnswer W.contents sink.old page.old sink.new page.new export.now
         (ListsEvery (option_copied after.entry) limit)) }
     ensures err { IfErr result
-        (StopsPrinting W.contents sink.old page.old sink.new page.new loaded.now
+        (StopsPrinting W.contents sink.old page.old sink.new page.new export.now
         (ListsEvery (option_copied after.entry) limit)) }
     ensures failed { sink.new.has_failed ≡ is_write_fault result }
 {
-    let lent = match lent_by(alloc, loaded) {
+    let lent = match lent_by(alloc, export) {
         Ok(lent) => lent,
         Err(fault) => return Err(unmade(page, fault)),
     };

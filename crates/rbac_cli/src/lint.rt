@@ -9,8 +9,8 @@ ghost use Rattle.rbac_cli.specs.Ends.{is_write_fault};
 ghost use Rattle.rbac_cli.specs.Printing.{PrintsAnswer, StopsPrinting, is_sink_fault};
 
 use crate::outcome::{RunFault, Status, fault_of};
-use rbac_lint::{Finding, lint};
-use rbac_manifest::Loaded;
+use rbac_lint::{Finding, lint_export};
+use rbac_manifest::Export;
 use rbac_streams::{Page, PrintFault, Sink};
 use rbac_text::put_finding;
 use std::alloc::Global;
@@ -19,18 +19,18 @@ use std::io::Write;
 /// Prints what lint finds in what was loaded, a line for each finding.
 pub(crate) fn print_findings<W: Write + Drop>(
     alloc: Global,
-    loaded: &Loaded,
+    export: &Export,
     sink: &mut Sink<W>,
     page: &mut Page,
 ) -> Result<Status, RunFault>
     requires { sink.old.has_failed ≡ false }
     ensures ok { IfOk result
-        (PrintsAnswer W.contents sink.old page.old sink.new page.new loaded.now Lint) }
+        (PrintsAnswer W.contents sink.old page.old sink.new page.new export.now Lint) }
     ensures err { IfErr result
-        (StopsPrinting W.contents sink.old page.old sink.new page.new loaded.now Lint) }
+        (StopsPrinting W.contents sink.old page.old sink.new page.new export.now Lint) }
     ensures failed { sink.new.has_failed ≡ is_write_fault result }
 {
-    let findings = match lint(alloc, loaded) {
+    let findings = match lint_export(alloc, export) {
         Ok(findings) => findings,
         Err(_) => return Err(fault_of(page, PrintFault::NoMemory)),
     };

@@ -11,7 +11,7 @@ ghost use Rattle.rbac_cli.specs.Printing.{StopsInListing, fault_at, is_sink_faul
 
 use crate::outcome::{RunFault, Status, fault_of};
 use rbac_index::{Index, IndexFault, Reach, reaches_of};
-use rbac_manifest::Loaded;
+use rbac_manifest::Export;
 use rbac_matrix::{Matrix, Seat, a_matrix_is_there, print_page};
 use rbac_model::Policy;
 use rbac_streams::{Page, PrintFault, Sink};
@@ -24,7 +24,7 @@ use std::io::Write;
 /// `after`, at most as many as the limit says, and a last line that says whether more follow.
 pub(crate) fn print_listing<W: Write + Drop>(
     alloc: Global,
-    loaded: &Loaded,
+    export: &Export,
     after: Option<&Key>,
     limit: Option<u32>,
     sink: &mut Sink<W>,
@@ -32,14 +32,14 @@ pub(crate) fn print_listing<W: Write + Drop>(
 ) -> Result<Status, RunFault>
     requires { sink.old.has_failed ≡ false }
     ensures ok { IfOk result
-        (PrintsAnswer W.contents sink.old page.old sink.new page.new loaded.now
+        (PrintsAnswer W.contents sink.old page.old sink.new page.new export.now
         (ListsMatrix (option_copied after.entry) limit)) }
     ensures err { IfErr result
-        (StopsPrinting W.contents sink.old page.old sink.new page.new loaded.now
+        (StopsPrinting W.contents sink.old page.old sink.new page.new export.now
         (ListsMatrix (option_copied after.entry) limit)) }
     ensures failed { sink.new.has_failed ≡ is_write_fault result }
 {
-    let lent = match lent_by(alloc, loaded) {
+    let lent = match lent_by(alloc, export) {
         Ok(lent) => lent,
         Err(fault) => return Err(unmade(page, fault)),
     };
@@ -74,15 +74,15 @@ pub(crate) struct Lent<'p> {
 }
 
 // What the matrix of what was loaded borrows.
-pub(crate) fn lent_by(alloc: Global, loaded: &Loaded) -> Result<Lent<'_>, UniverseFault>
+pub(crate) fn lent_by(alloc: Global, export: &Export) -> Result<Lent<'_>, UniverseFault>
     ensures universe { MatchResult result
-        (λ lent. IsUniverseOf loaded.now.lists lent.universe) (HasUniverseFault loaded.now.lists) }
-    ensures index { IfOk result (λ lent. lent.index ≡ loaded.now.policy) }
+        (λ lent. IsUniverseOf export.now.lists lent.universe) (HasUniverseFault export.now.lists) }
+    ensures index { IfOk result (λ lent. lent.index ≡ export.now.policy) }
     ensures reaches { IfOk result (λ lent. AreReaches lent.index lent.universe lent.reaches.items) }
 {
-    let lists = loaded.lists(alloc)?;
+    let lists = export.lists(alloc)?;
     let universe = Universe::build(alloc, &lists)?;
-    match lent_for(alloc, loaded.policy(), universe) {
+    match lent_for(alloc, export.policy(), universe) {
         Ok(lent) => Ok(lent),
         Err(_) => Err(UniverseFault::NoMemory),
     }

@@ -8,7 +8,7 @@ ghost use Rattle.rbac_cli.specs.Printing.{StopsWith};
 
 use crate::answer::print_answer;
 use crate::outcome::{RunFault, Status, fault_of};
-use rbac_manifest::{Cause, LoadFault, Loaded, load};
+use rbac_manifest::{Cause, Export, LoadFault, load_export};
 use rbac_question::{Action, Command};
 use rbac_streams::{Input, Page, Sink};
 use std::alloc::Global;
@@ -36,8 +36,8 @@ pub fn run<W: Write + Drop>(
     ensures failed { sink.new.has_failed ≡ is_write_fault result }
 {
     let mut page = Page::start(alloc, sink);
-    let loaded = loaded_from(alloc, inputs)?;
-    write_answer(alloc, &loaded, &command.action, sink, &mut page)
+    let export = export_from(alloc, inputs)?;
+    write_answer(alloc, &export, &command.action, sink, &mut page)
 }
 
 /// Like [`run`], but with a writer that shows its bytes: a vector. This contract follows from the
@@ -61,11 +61,11 @@ pub fn run_into(
 }
 
 // Loads the inputs of a run.
-fn loaded_from(alloc: Global, inputs: &[Input]) -> Result<Loaded, RunFault>
+fn export_from(alloc: Global, inputs: &[Input]) -> Result<Export, RunFault>
     ensures ok { IfOk result (IsLoaded inputs.now) }
     ensures fault { IfErr result (FailsToLoad inputs.now) }
 {
-    load(alloc, inputs).map_err(unloaded)
+    load_export(alloc, inputs).map_err(unloaded)
 }
 
 // Why a run stops if its inputs fail to load. Out of memory is a fault of its own.
@@ -82,7 +82,7 @@ fn unloaded(fault: LoadFault) -> RunFault
 // Writes the answer of an action over what was loaded, starting with an empty page.
 fn write_answer<W: Write + Drop>(
     alloc: Global,
-    loaded: &Loaded,
+    export: &Export,
     action: &Action,
     sink: &mut Sink<W>,
     page: &mut Page,
@@ -92,11 +92,11 @@ fn write_answer<W: Write + Drop>(
     requires took { Took W.contents sink.old sink.old [] }
     requires empty { page.old.written ≡ 0 }
     ensures ends { MatchResult result
-        (Writes (Took W.contents sink.old sink.new) loaded.now action.now)
-        (StopsWith (Took W.contents sink.old sink.new) loaded.now action.now) }
+        (Writes (Took W.contents sink.old sink.new) export.now action.now)
+        (StopsWith (Took W.contents sink.old sink.new) export.now action.now) }
     ensures failed { sink.new.has_failed ≡ is_write_fault result }
 {
-    let status = match print_answer(alloc, loaded, action, sink, page) {
+    let status = match print_answer(alloc, export, action, sink, page) {
         Ok(status) => status,
         Err(fault) => return Err(fault),
     };

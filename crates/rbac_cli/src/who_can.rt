@@ -11,7 +11,7 @@ ghost use Rattle.rbac_cli.specs.Printing.{PrintsAnswer, StopsPrinting, is_sink_f
 use crate::meaning::meant_by;
 use crate::outcome::{RunFault, Status, fault_of};
 use rbac_index::{Holder, Holders, Index, IndexFault};
-use rbac_manifest::Loaded;
+use rbac_manifest::Export;
 use rbac_question::Question;
 use rbac_streams::{Page, PrintFault, Sink};
 use rbac_text::put_holder;
@@ -21,21 +21,21 @@ use std::io::Write;
 /// Prints who is allowed what the question asks, a line for each holder.
 pub(crate) fn print_holders<W: Write + Drop>(
     alloc: Global,
-    loaded: &Loaded,
+    export: &Export,
     question: &Question,
     sink: &mut Sink<W>,
     page: &mut Page,
 ) -> Result<Status, RunFault>
     requires { sink.old.has_failed ≡ false }
     ensures ok { IfOk result
-        (PrintsAnswer W.contents sink.old page.old sink.new page.new loaded.now
+        (PrintsAnswer W.contents sink.old page.old sink.new page.new export.now
         (WhoCan question.now)) }
     ensures err { IfErr result
-        (StopsPrinting W.contents sink.old page.old sink.new page.new loaded.now
+        (StopsPrinting W.contents sink.old page.old sink.new page.new export.now
         (WhoCan question.now)) }
     ensures failed { sink.new.has_failed ≡ is_write_fault result }
 {
-    let holders = match holders_of(alloc, loaded, question) {
+    let holders = match holders_of(alloc, export, question) {
         Ok(holders) => holders,
         Err(_) => return Err(fault_of(page, PrintFault::NoMemory)),
     };
@@ -47,14 +47,14 @@ pub(crate) fn print_holders<W: Write + Drop>(
 
 fn holders_of<'p>(
     alloc: Global,
-    loaded: &'p Loaded,
+    export: &'p Export,
     question: &Question,
 ) -> Result<Holders<'p>, IndexFault>
     ensures { IfOk result
-        (AreHoldersMeant loaded.now.policy.held loaded.now.catalogue.entries question.now) }
+        (AreHoldersMeant export.now.policy.held export.now.catalogue.entries question.now) }
 {
-    let meant = meant_by(alloc, loaded.catalogue(), question)?;
-    let index = Index::build(alloc, loaded.policy())?;
+    let meant = meant_by(alloc, export.catalogue(), question)?;
+    let index = Index::build(alloc, export.policy())?;
     index.who_can(alloc, &meant.namespace, &question.verb, &meant.target)
 }
 

@@ -23,4 +23,4 @@ pub use coverage::covers;
 pub use fault::LintFault;
 pub use finding::{Finding, Findings};
 pub use laws::{findings_are_one_list, words_match_themselves};
-pub use linting::lint;
+pub use linting::{lint, lint_export};

@@ -12,7 +12,7 @@ use crate::redundant_rule::find_redundant;
 use crate::replaced_object::find_replaced;
 use crate::stale_aggregate::find_stale;
 use crate::unused_role::find_unused;
-use rbac_manifest::Loaded;
+use rbac_manifest::{Export, Loaded};
 use std::alloc::Global;
 
 /// What deserves a second look in the loaded inputs (own): bindings whose role is missing, roles
@@ -29,7 +29,16 @@ pub fn lint(alloc: Global, loaded: &Loaded) -> Result<Findings, LintFault>
     ensures ok { IfOk result (AreFindings loaded.now.policy.held loaded.now.replaced) }
     ensures only_memory { IfErr result (λ e. e ≡ LintFault.NoMemory) }
 {
-    let policy = loaded.policy();
+    lint_export(alloc, loaded.export())
+}
+
+/// What [`lint`] finds in an export, whose lists of a universe aren't asked about. N1 if it runs out
+/// of memory.
+pub fn lint_export(alloc: Global, export: &Export) -> Result<Findings, LintFault>
+    ensures ok { IfOk result (AreFindings export.now.policy.held export.now.replaced) }
+    ensures only_memory { IfErr result (λ e. e ≡ LintFault.NoMemory) }
+{
+    let policy = export.policy();
     let objects = policy.objects();
     let mut found = Findings::new(alloc);
     find_dangling(alloc, &mut found, objects)?;
@@ -38,6 +47,6 @@ pub fn lint(alloc: Global, loaded: &Loaded) -> Result<Findings, LintFault>
     find_escalations(alloc, &mut found, objects)?;
     find_accounts(alloc, &mut found, objects)?;
     find_stale(alloc, &mut found, policy)?;
-    find_replaced(alloc, &mut found, loaded.replaced())?;
+    find_replaced(alloc, &mut found, export.replaced())?;
     Ok(found)
 }

@@ -16,6 +16,7 @@ mod label;
 mod laws;
 mod list;
 mod listed;
+mod loaded;
 mod loading;
 mod metadata;
 mod replacement;
@@ -26,8 +27,11 @@ mod universe_document;
 
 pub use fault::{At, Cause, LoadFault};
 pub use laws::{load_faults_are_one, loaded_inputs_are_one, loaded_inputs_have_no_fault};
-pub use loading::{Loaded, load};
+pub use loaded::{Loaded, load};
+pub use loading::{Export, load_export};
 pub use rbac_catalogue::{Catalogue, Entries, Entry, Found};
 pub use rbac_streams::Input;
-pub use rbac_universe::{ListedResource, ListedResources, Universe, UniverseFault, UniverseLists};
+pub use rbac_universe::{
+    ListedResource, ListedResources, Principals, Universe, UniverseFault, UniverseLists,
+};
 pub use replacement::Replaced;

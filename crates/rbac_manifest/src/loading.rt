@@ -32,9 +32,9 @@ use simdutf8::basic::from_utf8;
 use std::alloc::{AllocError, Global};
 use std::marker::Model;
 
-/// What inputs give, once all of them are accepted.
+/// What inputs give, once all of them are accepted; the lists of a universe are derived from it.
 #[derive(Drop)]
-pub struct Loaded {
+pub struct Export {
     policy: Policy,
     catalogue: Catalogue,
     namespaces: Vec<Word>,
@@ -43,7 +43,7 @@ pub struct Loaded {
     replaced: Vec<Replaced>,
 }
 
-impl Model for Loaded {
+impl Model for Export {
     ghost use Rattle.rbac_lists.specs.Meant.{lists_meant};
     ghost use Rattle.rbac_manifest.specs.Load.{LoadedView};
     ghost use Rattle.rbac_manifest.specs.Replaced.{replaced_name};
@@ -62,7 +62,7 @@ impl Model for Loaded {
     ghost invariant = { λ l. IsAscendingBy replaced_name l.replaced.items };
 }
 
-impl Loaded {
+impl Export {
     /// The policy of the objects that are kept. Doesn't allocate.
     pub fn policy(&self) -> &Policy
         ensures { result.now ≡ self.now.policy }
@@ -96,7 +96,7 @@ impl Loaded {
 
     /// The lists that a universe is made of (own): each as given by the last Universe document that
     /// has it, otherwise as derived from the objects that are kept, the catalogue, and Namespace
-    /// and ServiceAccount objects. They are made on each call.
+    /// and ServiceAccount objects. They are derived anew on each call.
     ///
     /// # Errors
     ///
@@ -228,17 +228,9 @@ fn unresolved(fault: ResolveFault) -> LoadFault
     }
 }
 
-/// Reads inputs, in order, into what they give: the policy of their objects, keeping only the last
-/// one of each kind, namespace and name (own), the catalogue of their API resource lists, what the
-/// lists of a universe are made of, and which objects were replaced. Version v1beta1 of the RBAC
-/// group is read as v1 (Kubernetes API). Documents of other kinds are passed over.
-///
-/// # Errors
-///
-/// The fault of the first document that has one; if that has several, the one with the least
-/// number. If no document has a fault, M11 if there are over 1,000,000 grants. M12 if it runs out
-/// of memory.
-pub fn load(alloc: Global, inputs: &[Input]) -> Result<Loaded, LoadFault>
+/// Reads inputs as [`load`](crate::load) does, with the same errors, but doesn't derive the lists of
+/// a universe.
+pub fn load_export(alloc: Global, inputs: &[Input]) -> Result<Export, LoadFault>
     ensures ok { IfOk result (IsLoaded inputs.now) }
     ensures fault { IfErr result (λ e. e.cause ≢ NoMemory → HasFault inputs.now e) }
     ensures memory { IfErr result (λ e. e.cause ≡ NoMemory → e.at ≡ None) }
@@ -257,7 +249,7 @@ pub fn load(alloc: Global, inputs: &[Input]) -> Result<Loaded, LoadFault>
         accounts.as_slice(),
     )?;
     let policy = policy_of(alloc, objects)?;
-    Ok(Loaded {
+    Ok(Export {
         policy,
         catalogue,
         namespaces,

@@ -1,14 +1,17 @@
 -- walks by runs
-use Rattle.std.proofs.Common.{◌≡◌, ℕ, length, ◌+◌, ◌<◌, ◌≤◌, ◌⊎◌, refl, ◌∙◌, sym, arith, inl, inr, subst}
+use Rattle.std.proofs.Common.{◌≡◌, ℕ, length, ◌+◌, ◌<◌, ◌≤◌, ◌⊎◌, refl, ◌∙◌, sym, arith, inl, inr, subst, ap, Bool, List, [], ◌∷◌}
 use Rattle.std.specs.Prelude.{Some, slice_get}
 use Rattle.std.proofs.lemmas.Bool.{cases_eq, cases_lt}
 use Rattle.std.proofs.lemmas.Option.{same_Some, slice_get_within}
+use Rattle.rbac_terms.specs.Text.{Text}
+use Rattle.rbac_terms.specs.Principals.{Who}
 use Rattle.rbac_terms.specs.Matching.{VerbOk}
 use Rattle.rbac_model.specs.Policies.{PolicyView, GrantView, BindingNames}
-use Rattle.rbac_model.specs.Universes.{LiveForSome}
+use Rattle.rbac_model.specs.Universes.{LiveForSome, UniverseView}
 use Rattle.rbac_index.specs.Bound.{IsNextRun}
-use Rattle.rbac_matrix.specs.Lines.{LineView}
-use Rattle.rbac_matrix.specs.Cursors.{IsAhead, IsBoundOn, IsCursorAt, IsNextBound, IsNextRunOn, IsWithin, steps_left}
+use Rattle.rbac_matrix.specs.Lines.{IsLineAt, LineView, line, next_verb}
+use Rattle.rbac_matrix.specs.Cursors.{AreKnownAt, AreRuns, AreRunsFrom, IsAhead, IsBoundOn, IsCursorAt, IsNextBound, IsNextRunOn, IsWithin, steps_left}
+use Rattle.rbac_matrix.specs.declared.line.Place.{Place}
 use Rattle.rbac_matrix.specs.declared.bound_runs.Run.{Run}
 use Rattle.rbac_matrix.specs.declared.bound_runs.Runs.{Runs}
 use Rattle.rbac_matrix.specs.declared.walk.Walk.{Walk}
@@ -100,3 +103,28 @@ module _ (p : PolicyView) (l : LineView) (w v : Walk) (no : ℕ) (step : IsNextB
             absurd (other_verb (subst (λ (h : GrantView). VerbOk h.rule.rule l.verb) same a.0.is.0))
         | inr later ↦ later.1
       ]
+
+-- grants are bound whatever the verb
+bound_for : (p : PolicyView) (l : LineView) (verb : Text) (k : ℕ) → IsBoundOn p (line l.who l.namespace verb) k → IsBoundOn p l k
+unfolding IsBoundOn
+bound_for p l verb k b = b
+
+runs_for : (p : PolicyView) (l : LineView) (verb : Text) (are_all : Bool) (from : ℕ) (runs : List Run) → AreRunsFrom p l are_all from runs → AreRunsFrom p (line l.who l.namespace verb) are_all from runs
+runs_for p l verb are_all from [] are = λ all n low bound. are all n low (bound_for p l verb n bound)
+runs_for p l verb are_all from (run ∷ runs) are = (are.0, runs_for p l verb are_all run.end runs are.1)
+
+-- the line after one has its runs, unless a namespace begins there
+pub known_after : (p : PolicyView) (u : UniverseView) (at : Place) (l : LineView) (runs : Runs) → IsLineAt u at l → AreRuns p l runs → AreKnownAt p u (next_verb at) runs
+known_after p u at l runs here are = λ later m there.
+    let who : l.who ≡ m.who = same_Some l.who m.who (sym here.principal ∙ there.principal) in
+    let namespace : l.namespace ≡ m.namespace = same_Some l.namespace m.namespace (sym here.namespace ∙ there.namespace) in
+    let same = runs_for p l m.verb runs.are_all 0 runs.kept.items are in
+    subst (λ (n : Text). AreRuns p (line m.who n m.verb) runs) namespace (subst (λ (w : Who). AreRuns p (line w l.namespace m.verb) runs) who same)
+
+pub known_moved : (p : PolicyView) (u : UniverseView) (at to : Place) (runs : Runs) → ((to ≡ at) ⊎ (to.verb ≡ 0)) → AreKnownAt p u at runs → AreKnownAt p u to runs
+known_moved p u at to runs (inl e) known = subst (λ (t : Place). AreKnownAt p u t runs) (sym e) known
+known_moved p u at to runs (inr none) known = λ later. absurd (omega (arith, none, later))
+
+pub begins_after : (at to : Place) → ((to ≡ at) ⊎ (to.verb ≡ 0)) → at.verb ≡ 0 → to.verb ≡ 0
+begins_after at to (inl e) none = ap (λ (t : Place). t.verb) e ∙ none
+begins_after at to (inr there) none = there

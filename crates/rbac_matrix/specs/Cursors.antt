@@ -4,7 +4,7 @@ use Rattle.std.specs.Prelude.{slice_get, drop, length}
 use Rattle.rbac_model.specs.Policies.{PolicyView, GrantView}
 use Rattle.rbac_model.specs.Universes.{UniverseView, IsCursor}
 use Rattle.rbac_index.specs.Bound.{IsBoundTo, IsNextRun}
-use Rattle.rbac_matrix.specs.Lines.{LineView, lines_from}
+use Rattle.rbac_matrix.specs.Lines.{LineView, IsLineAt, lines_from}
 use Rattle.rbac_matrix.specs.declared.bound_runs.Run.{Run}
 use Rattle.rbac_matrix.specs.declared.bound_runs.Runs.{Runs}
 use Rattle.rbac_matrix.specs.declared.line.Place.{Place}
@@ -36,6 +36,11 @@ AreRuns p l runs = AreRunsFrom p l runs.are_all 0 runs.kept.items
 abbrev pub AreRunsAt : PolicyView → UniverseView → Place → Runs → Type 0
 AreRunsAt p u at runs = (l : LineView) (ls : List LineView) → lines_from u at ≡ l ∷ ls
     → AreRuns p l runs
+
+-- the runs are those of the line at the place, if a line is there and isn't the first of its
+-- namespace
+abbrev pub AreKnownAt : PolicyView → UniverseView → Place → Runs → Type 0
+AreKnownAt p u at runs = 0 < at.verb → (l : LineView) → IsLineAt u at l → AreRuns p l runs
 
 -- the walk will still come to the cursor with that number
 abbrev pub IsAhead : PolicyView → LineView → Walk → ℕ → Type 0

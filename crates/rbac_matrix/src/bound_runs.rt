@@ -9,7 +9,7 @@ use arrayvec::ArrayVec;
 use rbac_index::Index;
 
 // The most runs of a line that are kept. Each walk looks up the others again.
-const MOST_KEPT: usize = 64;
+const MOST_KEPT: usize = 256;
 
 /// Consecutive grants of a binding: those with the numbers `start..end`.
 #[derive(Clone, Copy, Default)]

@@ -6,7 +6,7 @@ ghost use Rattle.rbac_model.specs.Universes.{IsUniverse, UniverseView, most_word
 ghost use Rattle.rbac_universe.specs.Sets.{IsWithinLimits};
 ghost use Rattle.rbac_matrix.specs.Shown.{line_of};
 ghost use Rattle.rbac_index.specs.Reaches.{AreReaches};
-ghost use Rattle.rbac_matrix.specs.Cursors.{AreRuns, AreRunsAt, IsBoundOn};
+ghost use Rattle.rbac_matrix.specs.Cursors.{AreKnownAt, AreRuns, AreRunsAt, IsBoundOn};
 ghost use Rattle.rbac_matrix.specs.Lines.{IsLineAt, lines_from};
 ghost use Rattle.rbac_matrix.specs.Passing.{EndsAll, EndsLine, FindsCell, FindsRow};
 ghost use Rattle.rbac_matrix.specs.Metering.{IsMetered, IsReady, Skips};
@@ -68,9 +68,19 @@ pub(crate) fn next_in_line(
     None
 }
 
+// Looks up the runs of a line where a namespace begins; its other lines have the same.
+fn renew(index: &Index<'_>, line: Line<'_>, at: Place, runs: &mut Runs)
+    requires { 0 < at.verb → AreRuns index.now (line_of line) runs.old }
+    ensures { AreRuns index.now (line_of line.entry) runs.new }
+{
+    if at.verb == 0 {
+        *runs = Runs::of(index, line);
+    }
+}
+
 // Seats the cursors of the next line, from this place on, that has cursors with an entry, and
 // returns its place; if there is none, returns the place past all lines. Expects all seats to be
-// empty.
+// empty, and the runs to be known.
 fn next_line(
     index: &Index<'_>,
     universe: &Universe,
@@ -83,6 +93,7 @@ fn next_line(
     requires policy { IsPolicy index.now }
     requires reaches { AreReaches index.now universe.now reaches.now }
     requires empty { AreEmpty index.now seats.old }
+    requires known { AreKnownAt index.now universe.now at runs.old }
     ensures skips { Skips index.now.held universe.now at result }
     ensures ready { IsReady index.now universe.now reaches.now result 0 0 seats.new }
     ensures runs { AreRunsAt index.now universe.now result runs.new }
@@ -90,7 +101,7 @@ fn next_line(
 {
     let mut at = settled(universe, at);
     while let Some(line) = line_at(universe, at) {
-        *runs = Runs::of(index, line);
+        renew(index, line, at, runs);
         if runs.is_empty() {
             at = settled(universe, past_idle(index, line, at));
         } else if seat_line(index, reaches, line, runs, 0, seats, meter) > 0 {
@@ -110,6 +121,7 @@ fn past_idle(index: &Index<'_>, line: Line<'_>, at: Place) -> Place
     requires few { (at.principal < most_words) × (at.namespace < most_words) }
     ensures skips { (u : UniverseView) → IsLineAt u at (line_of line.entry)
         → Skips index.now.held u at result }
+    ensures begins { result.verb ≡ 0 }
     ensures on { (u : UniverseView) → IsLineAt u at (line_of line.entry)
         → length (lines_from u result) < length (lines_from u at) }
 {

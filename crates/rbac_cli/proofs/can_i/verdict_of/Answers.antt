@@ -9,7 +9,7 @@ use Rattle.rbac_cli.proofs.can_i.verdict_of.Goals as goal
 
 pub returns : goal.returns
 returns c =
-    let l = c.args.loaded.now in
+    let l = c.args.export.now in
     let who = c.args.principal.now in
     let q = c.args.question.now in
     let target = c.in_ok-meant.meant.target in

@@ -20,4 +20,4 @@ returns-clause-err g c =
     let stops = subst (λ (p : PolicyView). StopsInEvery g.W.Write.contents c.args.sink.now c.args.page.now c.print_every_rows.new.sink c.print_every_rows.new.page k c.args.limit p.held c.in-Ok.lent.universe)
     c.in-Ok.ensures.index c.in-Err-print_every_rows.ensures.err in
     rw c.fault_of-in-Err-print_every_rows.ensures (stops_within g.W.Write.contents c.args.sink.now c.print_every_rows.new.sink c.args.page.now c.print_every_rows.new.page
-    c.args.loaded.now (Every k c.args.limit) c.in-Err-print_every_rows.fault (c.in-Ok.lent.universe, c.in-Ok.ensures.universe, stops))
+    c.args.export.now (Every k c.args.limit) c.in-Err-print_every_rows.fault (c.in-Ok.lent.universe, c.in-Ok.ensures.universe, stops))

@@ -11,7 +11,7 @@ returns-clause-err g c =
     let found = c.in-Ok.findings in
     let stopped = subst (λ (fs : List Finding). StopsIn g.W.Write.contents c.args.sink.now c.args.page.now c.print_lines.new.sink c.print_lines.new.page (findings_text fs)) c.as_slice.ensures c.in-Err-print_lines.ensures.err in
     rw c.fault_of-in-Err-print_lines.ensures (stops_within g.W.Write.contents c.args.sink.now c.print_lines.new.sink c.args.page.now c.print_lines.new.page
-    c.args.loaded.now Lint c.in-Err-print_lines.fault
+    c.args.export.now Lint c.in-Err-print_lines.fault
     (findings_text found, findings_status found, (found, c.in-Ok.ensures.ok, refl, refl), stopped))
 
 pub returns-in-Ok-print_lines-clause-ok : goal.returns-in-Ok-print_lines-clause-ok

@@ -20,4 +20,4 @@ returns-clause-err g c =
     let stops = subst (λ (p : PolicyView). StopsInListing g.W.Write.contents c.args.sink.now c.args.page.now c.print_rows.new.sink c.print_rows.new.page k c.args.limit p.held c.in-Ok.lent.universe)
     c.in-Ok.ensures.index c.in-Err-print_rows.ensures.err in
     rw c.fault_of-in-Err-print_rows.ensures (stops_within g.W.Write.contents c.args.sink.now c.print_rows.new.sink c.args.page.now c.print_rows.new.page
-    c.args.loaded.now (Matrix k c.args.limit) c.in-Err-print_rows.fault (c.in-Ok.lent.universe, c.in-Ok.ensures.universe, stops))
+    c.args.export.now (Matrix k c.args.limit) c.in-Err-print_rows.fault (c.in-Ok.lent.universe, c.in-Ok.ensures.universe, stops))

@@ -8,5 +8,5 @@ use Rattle.rbac_cli.proofs.who_can.print_holders.Goals as goal
 pub returns-clause-err : goal.returns-clause-err
 returns-clause-err g c =
     rw c.fault_of-in-Err-print_lines.ensures (stops_within g.W.Write.contents c.args.sink.now c.print_lines.new.sink c.args.page.now c.print_lines.new.page
-    c.args.loaded.now (WhoCan c.args.question.now) c.in-Err-print_lines.fault
+    c.args.export.now (WhoCan c.args.question.now) c.in-Err-print_lines.fault
     (holders_text c.in-Ok.holders, Zero, (c.in-Ok.holders, c.in-Ok.ensures, refl, refl), c.in-Err-print_lines.ensures.err))

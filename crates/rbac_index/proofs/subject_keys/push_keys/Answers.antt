@@ -16,11 +16,11 @@ loop-subject-preserved c =
     elim c.match-branch-2.branch [
       | in-Some+in_ok-push w ↦
           keys_with old mid c.args.binding.now c.args.place j subject there c.loop-subject.invariant w.in-Some.key c.match-branch-2.entries.items
-          (let key = rw w.in-Some.is at c.in_ok-key.ensures in rw (← c.as_ref.ensures.value) key)
+          (let key = rw w.in-Some.is at c.in_ok-key.ensures.key in rw (← c.as_ref.ensures.value) key)
           (rw w.entries-is w.in_ok-push.ensures.items)
       | in_default w ↦
           rw w.entries-is (keys_without old mid c.args.binding.now c.args.place j subject there c.loop-subject.invariant
-          (let none = rw w.in_default.is at c.in_ok-key.ensures in rw (← c.as_ref.ensures.value) none))
+          (let none = rw w.in_default.is at c.in_ok-key.ensures.key in rw (← c.as_ref.ensures.value) none))
     ]
 
 pub returns : goal.returns

@@ -3,6 +3,7 @@ use Rattle.rbac_matrix.specs.Shown.{line_of}
 use Rattle.rbac_matrix.specs.Lines.{LineView, lines_from}
 use Rattle.rbac_matrix.proofs.TouchLemmas.{metered_on}
 use Rattle.rbac_matrix.proofs.EnumLemmas.{leads_on, metered_over, ready_past}
+use Rattle.rbac_matrix.proofs.WalkLemmas.{known_after}
 use Rattle.rbac_matrix.proofs.steps.next_cell.Goals as goal
 
 pub loop-line-init : goal.loop-line-init
@@ -50,3 +51,7 @@ returns-clause-row c = record {
   leads = c.loop-line.invariant.leads;
   ready = ready_past c.args.index.now c.args.universe.now c.args.reaches.now c.loop-line.at c.loop-line.from c.loop-line.upto c.loop-line.seats c.loop-line.invariant.ready c.in_default.ensures.line;
 }
+
+pub next_line-at-requires-clause-known : goal.next_line-at-requires-clause-known
+next_line-at-requires-clause-known c =
+    rw c.after.ensures (known_after c.args.index.now c.args.universe.now c.loop-line.at (line_of c.in-Some.line) c.loop-line.runs c.in-Some.ensures.place (c.loop-line.invariant.runs (line_of c.in-Some.line) _ c.in-Some.ensures.line))

@@ -1,9 +1,10 @@
-use Rattle.std.proofs.Common.{◌≡◌, ◌∷◌, ◌∙◌, List, ap, sym, refl, arith, ℕ, ◌≤◌}
+use Rattle.std.proofs.Common.{◌≡◌, ◌∷◌, ◌∙◌, List, ap, sym, refl, arith, rules, ℕ, ◌≤◌}
 use Rattle.rbac_matrix.specs.Shown.{line_of}
 use Rattle.rbac_matrix.specs.Lines.{LineView, lines_from}
 use Rattle.rbac_matrix.proofs.SeatLemmas.{Costs-then}
 use Rattle.rbac_matrix.proofs.LineLemmas.{are_real}
 use Rattle.rbac_matrix.proofs.EnumLemmas.{idle_line, skips_line, skips_same, skips_then, unfilled}
+use Rattle.rbac_matrix.proofs.WalkLemmas.{begins_after, known_after, known_moved}
 use Rattle.rbac_matrix.proofs.steps.next_line.Goals as goal
 
 nought : (n : ℕ) → n ≤ 0 → n ≡ 0
@@ -22,6 +23,7 @@ loop-line-preserved-then-is_empty c = record {
       (skips_then c.args.index.now.held c.args.universe.now c.loop-line.at c.past_idle.result c.settled-at-then-is_empty.result (c.past_idle.ensures.skips c.args.universe.now c.in-Some.ensures.place)
       (skips_same c.args.index.now.held c.args.universe.now c.past_idle.result c.settled-at-then-is_empty.result c.settled-at-then-is_empty.ensures.same));
   empty = c.loop-line.invariant.empty;
+  known = λ later. absurd (omega (arith, later, begins_after c.past_idle.result c.settled-at-then-is_empty.result c.settled-at-then-is_empty.ensures.moved c.past_idle.ensures.begins));
   costs = c.loop-line.invariant.costs;
 }
 
@@ -36,6 +38,20 @@ loop-line-preserved c =
       skips = skips_then c.args.index.now.held c.args.universe.now c.args.at c.loop-line.at c.settled-at-else-seat_line-gt0.result c.loop-line.invariant.skips
           (skips_line c.args.index.now.held c.args.universe.now c.loop-line.at c.settled-at-else-seat_line-gt0.result (line_of c.in-Some.line) line
           (idle_line c.args.index.now c.args.universe.now c.args.reaches.now (line_of c.in-Some.line) c.seat_line.new.seats c.requires.policy c.line_at.ensures.universe c.requires.reaches c.line_at.ensures.limits.targets real c.seat_line.ensures.seated none));
+      known = known_moved c.args.index.now c.args.universe.now c.after.result c.settled-at-else-seat_line-gt0.result c.renew.new.runs c.settled-at-else-seat_line-gt0.ensures.moved
+          (rw c.after.ensures (known_after c.args.index.now c.args.universe.now c.loop-line.at (line_of c.in-Some.line) c.renew.new.runs c.in-Some.ensures.place c.renew.ensures));
       empty = unfilled c.args.index.now (line_of c.in-Some.line) c.args.reaches.now 0 0 c.seat_line.new.seats real c.seat_line.ensures.seated none;
       costs = Costs-then c.args.seats.now c.loop-line.seats c.seat_line.new.seats 0 0 0 0 c.args.meter.now c.loop-line.meter c.seat_line.new.meter c.loop-line.invariant.costs (c.seat_line.ensures.started refl);
     }
+
+pub loop-line-init : goal.loop-line-init
+loop-line-init c = record {
+  settled = c.settled-at.ensures.settled;
+  skips = skips_same c.args.index.now.held c.args.universe.now c.args.at c.settled-at.result c.settled-at.ensures.same;
+  empty = c.requires.empty;
+  known = known_moved c.args.index.now c.args.universe.now c.args.at c.settled-at.result c.args.runs.now c.settled-at.ensures.moved c.requires.known;
+  costs = search rules;
+}
+
+pub renew-requires : goal.renew-requires
+renew-requires c = λ later. c.loop-line.invariant.known later (line_of c.in-Some.line) c.in-Some.ensures.place

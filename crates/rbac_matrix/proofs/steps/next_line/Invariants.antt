@@ -1,4 +1,5 @@
 use Rattle.std.proofs.Common.{length}
+use Rattle.rbac_matrix.specs.Cursors.{AreKnownAt}
 use Rattle.rbac_matrix.specs.Lines.{IsSettled, lines_from}
 use Rattle.rbac_matrix.specs.Metering.{Skips}
 use Rattle.rbac_matrix.specs.Seats.{AreEmpty, Costs}
@@ -9,6 +10,7 @@ invariant-loop-line l = record {
   settled : IsSettled l.universe l.at;
   skips : Skips l.index.held l.universe l.fn.at l.at;
   empty : AreEmpty l.index l.seats;
+  known : AreKnownAt l.index l.universe l.at l.runs;
   costs : Costs 0 0 l.fn.seats l.seats l.fn.meter l.meter;
 }
 

@@ -15,12 +15,12 @@ loop-subject_place-preserved c = λ held namespace verb t at brings seen.
     elim c.match-branch-2.branch [
       | in-Some+in_ok-see w ↦
           seen_keyed held namespace verb t c.args.binding_place j c.args.binding.now subject at there w.in-Some.key c.loop-subject_place.self c.match-branch-2.self brings
-          (let key = rw w.in-Some.is at c.in_ok-key.ensures in rw (← c.as_ref.ensures.value) key)
+          (let key = rw w.in-Some.is at c.in_ok-key.ensures.key in rw (← c.as_ref.ensures.value) key)
           (rw w.self-is w.in_ok-see.ensures)
           before
       | in_default w ↦
           rw w.self-is (seen_unkeyed held namespace verb t c.args.binding_place j c.args.binding.now subject at there c.loop-subject_place.self
-          (let none = rw w.in_default.is at c.in_ok-key.ensures in rw (← c.as_ref.ensures.value) none)
+          (let none = rw w.in_default.is at c.in_ok-key.ensures.key in rw (← c.as_ref.ensures.value) none)
           before)
     ]
 

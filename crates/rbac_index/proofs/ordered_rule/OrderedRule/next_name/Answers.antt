@@ -1,4 +1,4 @@
-use Rattle.std.proofs.Common.{◌≡◌, List, Contains, rules, subst}
+use Rattle.std.proofs.Common.{rules, subst}
 use Rattle.std.specs.Prelude.{Option}
 use Rattle.rbac_index.specs.Matched.{IsBetween}
 use Rattle.std.specs.Ordering.{is_le}

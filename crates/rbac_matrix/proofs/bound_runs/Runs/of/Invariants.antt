@@ -7,8 +7,8 @@ use Rattle.rbac_matrix.proofs.bound_runs.Runs.of.Given as goal
 abbrev pub invariant-loop-from : goal.invariant-loop-from
 invariant-loop-from l = record {
   prefix : (are_all : Bool) (later : List Run) → AreRunsFrom l.index (line_of l.line) are_all l.from later → AreRunsFrom l.index (line_of l.line) are_all 0 (l.kept.items ++ later);
-  few : length l.kept.items ≤ 64;
+  few : length l.kept.items ≤ 256;
 }
 
 abbrev pub decreases-loop-from : goal.decreases-loop-from
-decreases-loop-from l = 64 - length l.kept.items
+decreases-loop-from l = 256 - length l.kept.items

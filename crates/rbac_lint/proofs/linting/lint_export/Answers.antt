@@ -7,11 +7,11 @@ use Rattle.rbac_lint.specs.Lines.{Adds}
 use Rattle.rbac_lint.specs.Findings.{IsDangling, IsUnused, IsRedundant, IsEscalation, IsAccountWithout, IsStale}
 use Rattle.rbac_lint.specs.Replaced.{IsReplaced}
 use Rattle.rbac_lint.proofs.AllFound.{all_found}
-use Rattle.rbac_lint.proofs.linting.lint.Goals as goal
+use Rattle.rbac_lint.proofs.linting.lint_export.Goals as goal
 
 pub returns-clause-ok : goal.returns-clause-ok
 returns-clause-ok c =
-    let h = c.args.loaded.now.policy.held in
+    let h = c.args.export.now.policy.held in
     let p = ap (λ (v : PolicyView). v.held) c.policy-policy.ensures in
     let e = c.objects-objects.ensures.held ∙ p in
     let b = c.find_dangling.new.found in
@@ -28,7 +28,7 @@ returns-clause-ok c =
     let P5 : Held → Type 0 = λ v. Adds (IsAccountWithout v) s w in
     let P6 : Held → Type 0 = λ v. Adds (IsStale v) w z in
     let P7 : List Replaced → Type 0 = λ rs. Adds (IsReplaced rs) z k in
-    all_found h c.args.loaded.now.replaced c.new-found.result b u r s w z k c.new-found.ensures
+    all_found h c.args.export.now.replaced c.new-found.result b u r s w z k c.new-found.ensures
     (subst P1 e c.in_ok-find_dangling.ensures) (subst P2 p c.in_ok-find_unused.ensures) (subst P3 e c.in_ok-find_redundant.ensures)
     (subst P4 e c.in_ok-find_escalations.ensures) (subst P5 e c.in_ok-find_accounts.ensures) (subst P6 p c.in_ok-find_stale.ensures)
     (subst P7 c.replaced.ensures.replaced c.in_ok-find_replaced.ensures)

@@ -8,7 +8,7 @@ use Rattle.rbac_manifest.specs.Contents.{ContentsView, sorted_contents}
 use Rattle.rbac_manifest.specs.Load.{HasFault, all_contents}
 use Rattle.rbac_manifest.specs.declared.fault.Cause.TheVariants.{NoMemory}
 use Rattle.rbac_manifest.proofs.Outcomes.{loaded, refused}
-use Rattle.rbac_manifest.proofs.loading.load.Goals as goal
+use Rattle.rbac_manifest.proofs.loading.load_export.Goals as goal
 
 pub returns-in_err-policy-clause-fault : goal.returns-in_err-policy-clause-fault
 returns-in_err-policy-clause-fault c =
