@@ -8,14 +8,13 @@ use Rattle.rbac_terms.specs.Text.{Text}
 use Rattle.rbac_terms.specs.Targets.{What, Resource, Url, IsProper}
 use Rattle.rbac_terms.specs.Matching.{WordMatches, ResourceWordMatches, UrlWordMatches, NameMatches, VerbOk, RuleAllows}
 use Rattle.rbac_model.specs.Universes.{Covers}
-use Rattle.rbac_lint.specs.Covering.{IsResourceText, IsPath, IsUrlSample, IsLongerThanAll, IsNameSample, IsSample, AllowsSamples, AllowsVerb, AllowsGroup, AllowsResource, AllowsName, AllowsUrl, AllowsVerbs, AllowsGroups, AllowsResources, AllowsNames, AllowsUrls, GivesPath, HasResource, HasUrl, CoversResources, CoversUrls}
-use Rattle.rbac_lint.proofs.Words.{WordMatches-own, WordMatches-through, ResourceWordMatches-own, ResourceWordMatches-through, IsResourceText-word}
-use Rattle.rbac_lint.proofs.Urls.{UrlWordMatches-own, Through, sample-through}
+use Rattle.rbac_lint.specs.Covering.{IsResourceText, IsPath, IsLongerThanAll, IsNameSample, IsSample, AllowsSamples, AllowsVerb, AllowsGroup, AllowsResource, AllowsName, AllowsUrl, AllowsVerbs, AllowsGroups, AllowsResources, AllowsNames, AllowsUrls, GivesPath, HasResource, HasUrl, CoversResources, CoversUrls}
+use Rattle.rbac_model.specs.OwnWords.{IsUrlSample}
+use Rattle.rbac_model.proofs.OwnWords.{ResourceWordMatches-own, UrlWordMatches-own, WordMatches-own, any_from}
+use Rattle.rbac_lint.proofs.Words.{WordMatches-through, ResourceWordMatches-through, IsResourceText-word}
+use Rattle.rbac_lint.proofs.Urls.{Through, sample-through}
 
 module _ {X : Type 0} where
-  any_from : (P : X → Type 0) (xs : List X) (x : X) → Contains xs x → P x → Any P xs
-  any_from P xs x c p = (c.0, x, c.1, c.2, p)
-
   any_weaker : (P Q : X → Type 0) (xs : List X) → ((x : X) → P x → Q x) → Any P xs → Any Q xs
   any_weaker P Q xs f a = (a.0, a.1, a.2, a.3, f a.1 a.4)
 

@@ -9,8 +9,10 @@ use Rattle.rbac_terms.specs.Text.{Text, star, slash, BeginsWith}
 use Rattle.rbac_terms.specs.Matching.{UrlWordMatches, EndsInStar}
 use Rattle.rbac_terms.proofs.Texts.{one_more_star, same_prefix, shorter}
 use Rattle.rbac_terms.specs.declared.matching.Rule.{Rule}
-use Rattle.rbac_lint.specs.Covering.{IsPath, IsStars, IsUrlSample, sample_prefix, AllowsUrl, GivesPath, MatchesEachPath}
+use Rattle.rbac_lint.specs.Covering.{IsPath, IsStars, AllowsUrl, GivesPath, MatchesEachPath}
 use Rattle.rbac_lint.specs.Listing.{IsPrefix}
+use Rattle.rbac_model.specs.OwnWords.{IsUrlSample, sample_prefix}
+use Rattle.rbac_model.proofs.OwnWords.{UrlWordMatches-own}
 
 pub BeginsWith-through : (x f q : Text) → BeginsWith x f → BeginsWith f q → BeginsWith x q
 BeginsWith-through x f q a b = (b.0 ++ a.0, a.1 ∙ ap (λ t. t ++ a.0) b.1 ∙ append_assoc q b.0 a.0)
@@ -101,15 +103,6 @@ IsUrlSample-one w x y (inl a) (inr b) = absurd (a.0 (ends w b.0 b.1 b.2))
 IsUrlSample-one w x y (inr a) (inl b) = absurd (b.0 (ends w a.0 a.1 a.2))
 IsUrlSample-one w x y (inr a) (inr b) =
     a.4 ∙ ap (λ q. sample_prefix q ++ star ∷ []) (same_prefix a.0 b.0 (a.1 + 1) (b.1 + 1) a.3 b.3 (sym a.2 ∙ b.2)) ∙ sym b.4
-
--- a word allows its sample
-begins_itself : (q : Text) → BeginsWith (sample_prefix q ++ star ∷ []) q
-begins_itself [] = (codes "/" ++ star ∷ [], refl)
-begins_itself (c ∷ q) = (star ∷ [], refl)
-
-pub UrlWordMatches-own : (w x : Text) → IsUrlSample w x → UrlWordMatches w x
-UrlWordMatches-own w x (inl a) = inl (sym a.1)
-UrlWordMatches-own w x (inr a) = let P : Text → Type 0 = λ t. BeginsWith t a.0 in inr (a.0, a.1, a.2, a.3, subst P (sym a.4) (begins_itself a.0))
 
 -- each word is a prefix and stars
 record Unstarred (w : Text) : Type 0 where

@@ -6,15 +6,9 @@ use Rattle.rbac_terms.specs.Matching.{WordMatches, ResourceWordMatches, FollowsF
 use Rattle.rbac_terms.proofs.Texts.{IsCutAtFirst-one, IsCutAtFirst-contains}
 use Rattle.rbac_lint.specs.Covering.{IsResourceText}
 
-pub WordMatches-own : (w : Text) → WordMatches w w
-WordMatches-own w = inr refl
-
 pub WordMatches-through : (u w x : Text) → WordMatches u w → WordMatches w x → WordMatches u x
 WordMatches-through u w x (inl e) m = inl e
 WordMatches-through u w x (inr e) m = let P : Text → Type 0 = λ t. WordMatches t x in subst P (sym e) m
-
-pub ResourceWordMatches-own : (w : Text) → ResourceWordMatches w w
-ResourceWordMatches-own w = inl (inr refl)
 
 -- `*` has no slash
 no_slash : (k : ℕ) → k < 1 → get_or (star ∷ []) k slash ≡ slash → ⊥

@@ -1,12 +1,12 @@
 -- When a rule covers another: it allows everything that the other one does. What has to be asked to
 -- decide that is finite: the other's samples.
-use Rattle.std.specs.Prelude.{◌≡◌, ◌≢◌, ℕ, ◌+◌, ◌<◌, ◌⊎◌, List, [], ◌∷◌, ◌++◌, All, Any, Contains}
-use Rattle.std.specs.Prelude.{length, replicate, codes}
+use Rattle.std.specs.Prelude.{◌≡◌, ◌≢◌, ◌<◌, ◌⊎◌, List, [], All, Any, Contains, length, codes}
 use Rattle.rbac_terms.specs.declared.matching.Rule.{Rule}
 use Rattle.rbac_terms.specs.Text.{Text, star, BeginsWith}
+use Rattle.rbac_model.specs.OwnWords.{IsUrlSample}
 use Rattle.rbac_terms.specs.Targets.{What, Resource, Url}
 use Rattle.rbac_terms.specs.Matching.{WordMatches, ResourceWordMatches, UrlWordMatches, NameMatches}
-use Rattle.rbac_terms.specs.Matching.{EndsInStar, VerbOk, RuleAllows}
+use Rattle.rbac_terms.specs.Matching.{VerbOk, RuleAllows}
 
 -- a resource text isn't empty and doesn't begin with a slash; a path does (own, after the paths of
 -- API requests)
@@ -15,18 +15,6 @@ IsResourceText text = (text ≢ []) × (¬ BeginsWith text (codes "/"))
 
 abbrev pub IsPath : Text → Type 0
 IsPath path = BeginsWith path (codes "/")
-
--- what comes before the star of a URL sample: the word without its stars, or `/` if nothing is left
-abbrev pub sample_prefix : Text → Text
-sample_prefix [] = codes "/"
-sample_prefix (c ∷ q) = c ∷ q
-
--- a URL word taken as a text: itself, or with only one star if it ends in stars; `/*` if it is
--- nothing but stars (own)
-abbrev pub IsUrlSample : Text → Text → Type 0
-IsUrlSample w x = ((¬ EndsInStar w) × (x ≡ w))
-    ⊎ ((q : Text) × (k : ℕ) × (w ≡ q ++ replicate (k + 1) star) × (¬ EndsInStar q)
-    × (x ≡ sample_prefix q ++ star ∷ []))
 
 -- longer than each of the names
 abbrev pub IsLongerThanAll : Text → List Text → Type 0

@@ -22,5 +22,5 @@ mod unused_role;
 pub use coverage::covers;
 pub use fault::LintFault;
 pub use finding::{Finding, Findings};
-pub use laws::{findings_are_one_list, words_match_themselves};
+pub use laws::findings_are_one_list;
 pub use linting::{lint, lint_export};

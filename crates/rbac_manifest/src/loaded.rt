@@ -24,6 +24,7 @@ pub struct Loaded {
 }
 
 impl Model for Loaded {
+    ghost use Rattle.std.specs.Prelude.{◌≡◌};
     ghost use Rattle.rbac_manifest.specs.Load.{LoadedView};
 
     ghost Value = { LoadedView };

@@ -1,10 +1,10 @@
 -- rows printed since a page began, and how the page ends
-use Rattle.std.proofs.Common.{◌≡◌, ◌≢◌, ℕ, ◌+◌, ◌-◌, zero, suc, Bool, true, false, eqb, List, [], ◌∷◌, ◌++◌, length, take, refl, ap, ap₂, ◌∙◌, sym, subst, arith, inl, inr, append_assoc, append-nil, length-append, zero-add}
-use Rattle.std.specs.Prelude.{Option, Some, None, Result, Ok, Err, OnErr, IfErr, codes, nat_lt}
+use Rattle.std.proofs.Common.{◌≡◌, ◌≢◌, ℕ, ◌+◌, ◌-◌, zero, suc, Bool, true, false, eqb, List, [], ◌∷◌, ◌++◌, length, take, drop, refl, ap, ap₂, ◌∙◌, sym, subst, arith, inl, inr, append_assoc, append-nil, length-append, zero-add}
+use Rattle.std.specs.Prelude.{Option, Some, None, Result, Ok, Err, OnOk, OnErr, IfErr, codes, nat_lt}
 use Rattle.std.specs.List.{last_or}
 use Rattle.std.specs.Option.{option_eq, option_map}
-use Rattle.std.proofs.Math.Seq.{take-append-add}
-use Rattle.std.proofs.lemmas.List.{take_all}
+use Rattle.std.proofs.Math.Seq.{drop-append-add, take-append-add}
+use Rattle.std.proofs.lemmas.List.{drop_all, take_all}
 use Rattle.std.proofs.lemmas.Bool.{false≢true}
 use Rattle.std.proofs.lemmas.Bool.Decides.{nat_tests}
 use Rattle.std.proofs.lemmas.Grind.{flat_map-append}
@@ -22,11 +22,11 @@ use Rattle.rbac_matrix.specs.Enumeration.{AreLeft, GoesOn}
 use Rattle.rbac_matrix.specs.Every.{name_of}
 use Rattle.rbac_matrix.specs.EveryLeft.{AreEveryLeft, pairs_here}
 use Rattle.rbac_matrix.specs.EveryPages.{every_last_words}
-use Rattle.rbac_matrix.specs.Pages.{cut_at, last_words, next_words}
+use Rattle.rbac_matrix.specs.Pages.{cut_at, last_words, left_by, next_words}
 use Rattle.rbac_matrix.specs.Pairs.{AreThose, IsGranted}
 use Rattle.rbac_matrix.specs.Passing.{cells_left}
 use Rattle.rbac_matrix.specs.Printed.{StopsWithin, rows_text}
-use Rattle.rbac_matrix.specs.RowTexts.{Shows, key_shown}
+use Rattle.rbac_matrix.specs.RowTexts.{Shows, key_shown, texts_shown}
 use Rattle.rbac_matrix.specs.ShownTokens.{last_line}
 use Rattle.rbac_matrix.specs.declared.enumeration.Rows.{Rows}
 use Rattle.rbac_matrix.specs.declared.row.Row.{Row}
@@ -58,7 +58,7 @@ abbrev Printed : Type 0
 Printed = KeyTexts × Binding
 
 abbrev of_shown : Row → Printed
-of_shown row = (key_shown row, row.binding.now)
+of_shown row = (texts_shown row, row.binding.now)
 
 abbrev of_row : RowView → Printed
 of_row row = (row_key row, row.binding)
@@ -124,6 +124,21 @@ cut_later : (limit left : Option ℕ) (rows : List RowView) (row : RowView) (oth
 cut_later limit None rows row others is some = rw is (others, refl)
 cut_later limit (Some zero) rows row others is some = absurd (some refl)
 cut_later limit (Some (suc k)) rows row others is some = rw is (take k others, take-append-add rows (row ∷ others) (suc k))
+
+-- what is left past the row after a page: nothing where no more are left
+none_past : (limit left : Option ℕ) (rows : List RowView) → IsLimit limit (length rows) left → left_by limit rows ≡ []
+none_past limit None rows is = rw is refl
+none_past limit (Some k) rows is = rw is (drop_all (length rows + k + 1) rows (omega arith))
+
+those_past : (limit : Option ℕ) (rows : List RowView) (row : RowView) (others : List RowView) → IsLimit limit (length rows) (Some 0) → left_by limit (rows ++ row ∷ others) ≡ others
+those_past limit rows row others is =
+    let one : length rows + 0 + 1 ≡ length rows + 1 = omega arith in
+    rw is (ap (λ (n : ℕ). drop n (rows ++ row ∷ others)) one ∙ drop-append-add rows (row ∷ others) 1)
+
+-- a claim of the answer that is handed on
+pub if_ok : {T E Q : Type 0} (r : Result T E) → Q → OnOk r Q
+if_ok (Ok x) q = q
+if_ok (Err e) q = tt
 
 -- ---- how the rows that are left are told, and what stands on the last line
 
@@ -211,6 +226,14 @@ module _ {W S : Type 0} (Left : S → List RowView → Type 0) (one_left : IsOne
       pub prints_end : Prints contents now at new after end_line → (all : List RowView) → Left s all → Prints contents old page new after (text_of of (cut_at limit all))
       prints_end prints all is = whole end_line prints all (ended all is)
 
+      -- and after it none
+      pub left_end : (u : S) → Left u [] → (all : List RowView) → Left s all → Left u (left_by limit all)
+      left_end u over all is =
+          let there = g.given all is in
+          let nothing : there.0 ≡ [] = one_left t there.0 there.1 none in
+          let same : all ≡ g.rows = there.2 ∙ ap (λ (l : List RowView). g.rows ++ l) nothing ∙ append-nil g.rows in
+          subst (Left u) (sym (ap (left_by limit) same ∙ none_past limit left g.rows g.count)) over
+
       pub stops_end : StopsIn contents now at new after end_line → StopsWithin contents old page new after IsPage
       stops_end stops = within end_line stops (λ all is. ([], ended all is ∙ sym (append-nil (rows_text g.rows ++ end_line))))
 
@@ -235,6 +258,11 @@ module _ {W S : Type 0} (Left : S → List RowView → Type 0) (one_left : IsOne
 
         pub prints_next : Prints contents now at new after (last_line of last) → (all : List RowView) → Left s all → Prints contents old page new after (text_of of (cut_at limit all))
         prints_next prints all is = whole (last_line of last) prints all (followed all is)
+
+        pub left_next : (all : List RowView) → Left s all → Left u (left_by limit all)
+        left_next all is =
+            let there = split all is in
+            subst (Left u) (sym (ap (left_by limit) there.2 ∙ those_past limit g.rows row there.0 (subst (λ (l : Option ℕ). IsLimit limit (length g.rows) l) full g.count))) there.1
 
         pub stops_next : StopsIn contents now at new after (last_line of last) → StopsWithin contents old page new after IsPage
         stops_next stops = within (last_line of last) stops (λ all is. ([], followed all is ∙ sym (append-nil (rows_text g.rows ++ last_line of last))))
@@ -271,5 +299,5 @@ module _ {W S : Type 0} (Left : S → List RowView → Type 0) (one_left : IsOne
               (Prints-trans contents old now new page at after (rows_text g.rows) (row_text (key_shown r) r.binding.now) g.printed prints);
           given = λ all is. let there = split all is in (there.0, there.1, there.2 ∙ sym (append_assoc g.rows (row ∷ []) there.0));
           count = limit_less limit left (length g.rows) (length (g.rows ++ row ∷ [])) (length-append g.rows (row ∷ [])) g.count some;
-          ends = ap Some (ap₂ (λ (k : KeyTexts) (b : Binding). let p : Printed = (k, b) in p) shows.key shows.binding) ∙ ap (option_map of_row) (sym (last_of None g.rows row));
+          ends = ap Some (ap₂ (λ (k : KeyTexts) (b : Binding). let p : Printed = (k, b) in p) shows.texts shows.binding) ∙ ap (option_map of_row) (sym (last_of None g.rows row));
         }

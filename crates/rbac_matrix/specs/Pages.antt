@@ -1,6 +1,6 @@
 -- A page of rows as it is printed, and its last line.
-use Rattle.std.specs.Prelude.{◌≡◌, ℕ, Bool, true, false, List, [], ◌∷◌, ◌++◌, codes, Option, Some}
-use Rattle.std.specs.Prelude.{None}
+use Rattle.std.specs.Prelude.{◌≡◌, ℕ, ◌+◌, Bool, true, false, List, [], ◌∷◌, ◌++◌, codes, drop}
+use Rattle.std.specs.Prelude.{Option, Some, None}
 use Rattle.std.specs.List.{last_or}
 use Rattle.rbac_terms.specs.Text.{Text}
 use Rattle.rbac_terms.specs.Keys.{KeyTexts}
@@ -17,6 +17,12 @@ use Rattle.rbac_matrix.specs.declared.enumeration.Rows.{Rows}
 abbrev pub cut_at : Option ℕ → List RowView → List RowView × Bool
 cut_at None rows = (rows, false)
 cut_at (Some n) rows = page None n rows
+
+-- those of these rows that are left after a page: without a limit none, otherwise those after the
+-- row that follows the page, which it looked at
+abbrev pub left_by : Option ℕ → List RowView → List RowView
+left_by None rows = []
+left_by (Some n) rows = drop (n + 1) rows
 
 -- `next` and the token of a key
 abbrev pub next_words : KeyTexts → Text

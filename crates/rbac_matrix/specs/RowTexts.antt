@@ -4,7 +4,7 @@ use Rattle.rbac_terms.specs.Keys.{KeyTexts, key_of}
 use Rattle.rbac_model.specs.Universes.{RowView, cell_key}
 use Rattle.rbac_matrix.specs.declared.row.Row.{Row}
 
--- the key of a row's request
+-- the key of the request that a row is printed for
 abbrev pub key_shown : Row → KeyTexts
 key_shown r = key_of r.who.now r.namespace.now r.verb.now r.target.now
 

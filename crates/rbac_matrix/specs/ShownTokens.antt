@@ -6,18 +6,18 @@ use Rattle.rbac_token.specs.Marks.{mark_text}
 use Rattle.rbac_token.specs.Token.{token_text}
 use Rattle.rbac_token.specs.declared.mark.Mark.{Mark as RowMark}
 use Rattle.rbac_matrix.specs.Every.{name_of}
-use Rattle.rbac_matrix.specs.RowTexts.{key_shown}
+use Rattle.rbac_matrix.specs.RowTexts.{texts_shown}
 use Rattle.rbac_matrix.specs.declared.row.Row.{Row}
 use Rattle.rbac_matrix.specs.declared.token.TokenOf.{TokenOf}
 use Rattle.rbac_matrix.specs.declared.token.TokenOf.TheVariants.{Key, Mark}
 
--- the mark of the row that is shown
+-- the mark of the texts and the binding that a row shows
 abbrev pub mark_shown : Row → RowMark
-mark_shown row = record { key = key_shown row; binding = Some (name_of row.binding.now) }
+mark_shown row = record { key = texts_shown row; binding = Some (name_of row.binding.now) }
 
--- the token of the row's key, or that of its mark
+-- the token of the key of the row's texts, or that of its mark
 abbrev pub token_shown : TokenOf → Row → Text
-token_shown Key row = token_text (key_shown row)
+token_shown Key row = token_text (texts_shown row)
 token_shown Mark row = mark_text (mark_shown row)
 
 -- `next` and that token, joined by a tab

@@ -6,7 +6,7 @@ ghost use Rattle.rbac_streams.specs.Taken.{Prints};
 ghost use Rattle.rbac_matrix.specs.Enumeration.{GoesOn};
 ghost use Rattle.rbac_matrix.specs.EveryLeft.{AreEveryLeft, IsGoingEvery};
 ghost use Rattle.rbac_matrix.specs.EveryPages.{StopsInEveryPage, every_page_text};
-ghost use Rattle.rbac_matrix.specs.Pages.{cut_at};
+ghost use Rattle.rbac_matrix.specs.Pages.{cut_at, left_by};
 
 use crate::every_rows::EveryRows;
 use crate::pages::{one_less, print_last, print_row};
@@ -17,7 +17,8 @@ use std::io::Write;
 
 /// Prints a page of the rows of every granting binding (own) as `print_page` does, except that the
 /// token on the last line is that of the last row's mark, so that the next page goes on with the
-/// next binding of the same request. Keeps no list of rows.
+/// next binding of the same request. Keeps no list of rows, and takes the row after the page, as
+/// `print_page` does.
 ///
 /// If the sink fails, or memory for a line runs out, a prefix of the page was printed. In either
 /// case the rows can still be used.
@@ -35,6 +36,9 @@ pub fn print_every_page<W: Write + Drop>(
         → Prints W.contents sink.old page.old sink.new page.new
         (every_page_text (cut_at limit all))) }
     ensures rows { IsGoingEvery rows.new × GoesOn rows.old.rows rows.new.rows }
+    ensures left { OnOk result
+        ((all : List RowView) → AreEveryLeft rows.old all
+        → AreEveryLeft rows.new (left_by limit all)) }
     ensures works { OnOk result (sink.new.has_failed ≡ false) }
     ensures err { OnErr result
         (StopsInEveryPage W.contents sink.old page.old sink.new page.new limit rows.old) }

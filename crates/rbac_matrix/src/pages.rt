@@ -7,7 +7,7 @@ ghost use Rattle.rbac_model.specs.Universes.{RowView};
 ghost use Rattle.rbac_streams.specs.Taken.{Prints};
 ghost use Rattle.rbac_text.specs.Row.{newline, row_text};
 ghost use Rattle.rbac_matrix.specs.Enumeration.{AreLeft, GoesOn, IsGoing};
-ghost use Rattle.rbac_matrix.specs.Pages.{StopsInPage, cut_at, page_text};
+ghost use Rattle.rbac_matrix.specs.Pages.{StopsInPage, cut_at, left_by, page_text};
 ghost use Rattle.rbac_matrix.specs.Printed.{StopsBy};
 ghost use Rattle.rbac_matrix.specs.RowTexts.{key_shown};
 ghost use Rattle.rbac_matrix.specs.ShownTokens.{last_line, next_token};
@@ -29,6 +29,9 @@ const END: &[u8] = b"end\n";
 /// If more rows follow, the last line is `next` and the token of the last row, joined by a tab;
 /// otherwise it is `end`. Keeps no list of rows.
 ///
+/// To know whether more follow it takes the row after the page, so `rows` has those after that one.
+/// Whoever wants it too begins anew, after the page's last key.
+///
 /// If the sink fails, or memory for a line runs out, a prefix of the page was printed. In either
 /// case the rows can still be used.
 pub fn print_page<W: Write + Drop>(
@@ -44,6 +47,8 @@ pub fn print_page<W: Write + Drop>(
         ((all : List RowView) → AreLeft rows.old all
         → Prints W.contents sink.old page.old sink.new page.new (page_text (cut_at limit all))) }
     ensures rows { IsGoing rows.new × GoesOn rows.old rows.new }
+    ensures left { OnOk result
+        ((all : List RowView) → AreLeft rows.old all → AreLeft rows.new (left_by limit all)) }
     ensures works { OnOk result (sink.new.has_failed ≡ false) }
     ensures err { OnErr result
         (StopsInPage W.contents sink.old page.old sink.new page.new limit rows.old) }

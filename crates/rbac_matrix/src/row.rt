@@ -9,7 +9,7 @@ use crate::fault::MatrixFault;
 use crate::line::Line;
 use rbac_terms::{Binding, Key, Principal, Target, Word};
 use rbac_text::put_row;
-use std::alloc::{AllocError, Global};
+use std::alloc::AllocError;
 
 /// A row of the matrix: a request that fits and is allowed, given by the six texts of its key, with
 /// the first binding that grants it, or, among the rows of every granting binding, one that does.
@@ -35,12 +35,19 @@ pub struct Row<'m> {
 }
 
 impl Row<'_> {
-    /// The key of the row's request. Y1 NoMemory if it runs out of memory.
-    pub fn key(&self, alloc: Global) -> Result<Key, MatrixFault>
-        ensures ok { IfOk result (λ k. k ≡ key_shown self.now) }
+    /// The key of the row's six texts. Y1 NoMemory if it runs out of memory.
+    pub fn key(&self) -> Result<Key, MatrixFault>
+        ensures ok { IfOk result (λ k. k ≡ texts_shown self.now) }
         ensures only_memory { IfErr result (λ e. e ≡ MatrixFault.NoMemory) }
     {
-        Ok(Key::of(alloc, self.who, self.namespace, self.verb, self.target)?)
+        Ok(Key::of_texts(
+            self.principal,
+            self.namespace,
+            self.verb,
+            self.group,
+            self.resource,
+            self.name,
+        )?)
     }
 
     // Replaces what `line` held with the row's line.

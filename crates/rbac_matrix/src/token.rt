@@ -4,7 +4,7 @@ ghost use Rattle.std.specs.Prelude.{◌≡◌, IfOk};
 ghost use Rattle.rbac_token.specs.Marks.{mark_text};
 ghost use Rattle.rbac_token.specs.Token.{token_text};
 ghost use Rattle.rbac_matrix.specs.Every.{name_of};
-ghost use Rattle.rbac_matrix.specs.RowTexts.{key_shown};
+ghost use Rattle.rbac_matrix.specs.RowTexts.{texts_shown};
 ghost use Rattle.rbac_matrix.specs.ShownTokens.{mark_shown, token_shown};
 
 use crate::fault::MatrixFault;
@@ -33,9 +33,9 @@ pub(crate) fn token_of_row(alloc: Global, of: TokenOf, row: Row<'_>) -> Result<W
 }
 
 fn key_token(alloc: Global, row: Row<'_>) -> Result<Word, MatrixFault>
-    ensures { IfOk result (λ token. token ≡ token_text (key_shown row.entry)) }
+    ensures { IfOk result (λ token. token ≡ token_text (texts_shown row.entry)) }
 {
-    let key = row.key(alloc)?;
+    let key = row.key()?;
     Ok(token_of(alloc, &key)?)
 }
 
@@ -50,7 +50,7 @@ fn mark_token(alloc: Global, row: Row<'_>) -> Result<Word, MatrixFault>
 fn mark_of(alloc: Global, row: Row<'_>) -> Result<Mark, MatrixFault>
     ensures { IfOk result (λ mark. mark ≡ mark_shown row.entry) }
 {
-    let key = row.key(alloc)?;
+    let key = row.key()?;
     let name = name_of_binding(alloc, row.binding)?;
     Ok(Mark {
         key,

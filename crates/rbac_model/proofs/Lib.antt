@@ -21,6 +21,7 @@ pub mod Masked
 pub mod NamePlaces
 pub mod OneKept
 pub mod OneList
+pub mod OwnWords
 pub mod Searched
 pub mod Stairs
 pub mod UpTo

@@ -4,6 +4,7 @@ pub mod Holders
 pub mod Kept
 pub mod Labelled
 pub mod Lists
+pub mod OwnWords
 pub mod Places
 pub mod Policies
 pub mod Sources

@@ -1,5 +1,5 @@
 //! Policies: the objects of an export, and the grants that follow from them. The terms that they
-//! are made of are defined in `rbac_terms`, and re-exported here.
+//! are made of are defined in `rbac_terms`; those that a user of policies needs are re-exported here.
 #![tactic(auto)]
 
 mod aggregation;
@@ -18,13 +18,13 @@ mod replacement;
 mod visit_order;
 
 pub use fault::ResolveFault;
-pub use laws::{grants_are_one_list, kept_objects_are_one};
+pub use laws::{grants_are_one_list, kept_objects_are_one, words_match_themselves};
 pub use live::is_live;
 pub use objects::{Object, Objects};
 pub use places::{GrantPlace, RolePlace};
 pub use policy::Policy;
 pub use rbac_terms::{
-    Binding, ClusterRole, Key, Labels, ModelFault, Principal, Requirement, Requirements, Role,
+    Binding, ClusterRole, Items, Key, Labels, ModelFault, Principal, Requirement, Requirements, Role,
     RoleRef, Rule, Rules, SelectOp, Selector, Selectors, Subject, Subjects, Target, Word, Words,
     account_user, group_matches, name_matches, names, resource_matches, rule_allows, selects,
     subject_key, target_matches, url_matches, verb_matches,

@@ -65,6 +65,31 @@ impl Key {
         })
     }
 
+    /// The key of these six texts, whether a request has them or not. Fails only if it runs out of
+    /// memory, with P5 NoMemory.
+    pub fn of_texts(
+        principal: &Word,
+        namespace: &Word,
+        verb: &Word,
+        group: &Word,
+        resource: &Word,
+        name: &Word,
+    ) -> Result<Self, ModelFault>
+        ensures ok { IfOk result
+            (λ k. k ≡ record { principal = principal.now; namespace = namespace.now;
+            verb = verb.now; group = group.now; resource = resource.now; name = name.now }) }
+        ensures only_memory { IfErr result (λ e. e ≡ ModelFault.NoMemory) }
+    {
+        Ok(Key {
+            principal: principal.clone()?,
+            namespace: namespace.clone()?,
+            verb: verb.clone()?,
+            group: group.clone()?,
+            resource: resource.clone()?,
+            name: name.clone()?,
+        })
+    }
+
     /// The text at this place, from 0 to 5 in the key's order. Doesn't allocate.
     pub fn field(&self, place: usize) -> &Word
         requires { place < 6 }

@@ -2,7 +2,7 @@ use Rattle.std.proofs.Common.{◌∙◌, sym}
 use Rattle.rbac_matrix.specs.Enumeration.{AreLeft}
 use Rattle.rbac_matrix.specs.declared.token.TokenOf.TheVariants.{Key}
 use Rattle.std.proofs.lemmas.Result.{err_from_is_err_and, on_ok_weaker}
-use Rattle.rbac_matrix.proofs.PageLemmas.{begins, goes_further, goes_nowhere, goes_on, if_err_weaker, is_full, not_full, prints_end, prints_next, rows_none, stops_end, stops_next, stops_row}
+use Rattle.rbac_matrix.proofs.PageLemmas.{begins, goes_further, goes_nowhere, goes_on, if_err_weaker, if_ok, is_full, left_end, left_next, not_full, prints_end, prints_next, rows_none, stops_end, stops_next, stops_row}
 use Rattle.rbac_matrix.proofs.pages.print_page.Goals as goal
 
 pub loop-row-init : goal.loop-row-init
@@ -64,3 +64,16 @@ returns-clause-err g c =
     (λ fault stopped. stops_end AreLeft rows_none Key g.W.Write.contents c.args.sink.now c.args.page.now c.args.rows.now c.args.limit c.loop-row.sink c.loop-row.page c.loop-row.rows c.loop-row.left c.loop-row.last
     c.loop-row.invariant.goes c.print_last-2.new.sink c.print_last-2.new.page c.in_default.ensures.steps.0 stopped.stops)
     c.print_last-2.ensures.err
+
+pub returns-then-eq-clause-left : goal.returns-then-eq-clause-left
+returns-then-eq-clause-left g c =
+    let full = is_full c.loop-row.left (sym c.eq.ensures ∙ c.if-eq.true) in
+    if_ok c.print_last.result
+    (left_next AreLeft rows_none Key g.W.Write.contents c.args.sink.now c.args.page.now c.args.rows.now c.args.limit c.loop-row.sink c.loop-row.page c.loop-row.rows c.loop-row.left c.loop-row.last
+    c.loop-row.invariant.goes c.print_last.new.sink c.print_last.new.page c.next.new.self c.in-Some.row c.in-Some.ensures.steps.row c.in-Some.ensures.steps.shows (λ all. (c.in-Some.ensures.steps.left all).0) full)
+
+pub returns-clause-left : goal.returns-clause-left
+returns-clause-left g c =
+    if_ok c.print_last-2.result
+    (left_end AreLeft rows_none Key g.W.Write.contents c.args.sink.now c.args.page.now c.args.rows.now c.args.limit c.loop-row.sink c.loop-row.page c.loop-row.rows c.loop-row.left c.loop-row.last
+    c.loop-row.invariant.goes c.print_last-2.new.sink c.print_last-2.new.page c.in_default.ensures.steps.0 c.next.new.self c.in_default.ensures.steps.1)
