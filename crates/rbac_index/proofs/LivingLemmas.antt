@@ -1,5 +1,5 @@
 -- bindings are in order of namespaces, the ClusterRoleBindings first
-use Rattle.std.proofs.Common.{◌≡◌, ℕ, ◌<◌, ◌≤◌, List, [], ◌∷◌, length, get_or, ap, sym, ◌∙◌, refl, inl, inr, arith, ◌↔◌, Bool, true, false}
+use Rattle.std.proofs.Common.{◌≡◌, ℕ, ◌<◌, ◌≤◌, List, [], ◌∷◌, length, get_or, ap, sym, ◌∙◌, refl, inl, inr, arith, ◌↔◌, Any, Bool, true, false}
 use Rattle.std.specs.Prelude.{Option, Some, None, slice_get, is_none}
 use Rattle.std.specs.Cmp.Lexicographic.{slice_cmp}
 use Rattle.std.specs.Ordering.{ordering_index, is_lt, is_le}
@@ -9,10 +9,11 @@ use Rattle.std.specs.declared.cmp.Ordering.TheVariants.{Less, Equal, Greater}
 use Rattle.std.proofs.lemmas.Bool.{cases_eq, cases_lt}
 use Rattle.std.proofs.lemmas.Cmp.{nat_list_cmp_total, alike_right, tied_itself}
 use Rattle.std.proofs.lemmas.Map.Lookups.{exact_bytes}
-use Rattle.std.proofs.lemmas.Option.{slice_get_within, get_or_from_slice_get}
+use Rattle.std.proofs.lemmas.Option.{slice_get_within, get_or_from_slice_get, slice_get-get_or}
 use Rattle.rbac_terms.specs.Text.{Text, text_cmp}
 use Rattle.rbac_terms.specs.declared.granting.Binding.{Binding}
 use Rattle.rbac_terms.proofs.Cases.{by_ordering}
+use Rattle.rbac_terms.proofs.Reading.{read_some}
 use Rattle.rbac_terms.proofs.Orderings.{then_less, lt_back, le_back, between_is}
 use Rattle.rbac_model.specs.Lists.{IsAscendingBy}
 use Rattle.rbac_model.specs.Policies.{binding_name, binding_name_at}
@@ -105,3 +106,15 @@ between_points xs asked first last before upto at b there =
           let tied : namespace_cmp b.namespace asked ≡ Equal = ap (λ (m : Option Text). namespace_cmp m asked) e ∙ tied_itself nat_list_cmp_total asked in
           (point_before xs lt first before at b there (ap is_lt tied), point_past xs le last upto at b there (ap is_le tied)),
     )
+
+-- some binding is in a namespace where its range isn't empty
+pub some_between : (xs : List Binding) (namespace : Text) (first last : ℕ) → last ≤ length xs → ((at : ℕ) (b : Binding) → slice_get xs at ≡ Some b → ((first ≤ at) × (at < last)) ↔ (b.namespace ≡ Some namespace)) → (first < last) ↔ Any (λ b. b.namespace ≡ Some namespace) xs
+some_between xs namespace first last within between = (
+  λ lt.
+      let b = read_some xs first (omega (arith, lt, within)) in
+      (first, b.0, slice_get_within xs first b.0 b.1, get_or_from_slice_get xs first b.0 b.0 b.1, (between first b.0 b.1).0 (omega arith, lt)),
+  λ a.
+      let there : slice_get xs a.0 ≡ Some a.1 = slice_get-get_or xs a.0 a.1 a.2 ∙ ap (λ (b : Binding). Some b) a.3 in
+      let in_range = (between a.0 a.1 there).1 a.4 in
+      omega (arith, in_range.0, in_range.1),
+)

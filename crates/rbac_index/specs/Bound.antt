@@ -1,8 +1,8 @@
 -- Which grants a principal has in a namespace, whatever their rules.
-use Rattle.std.specs.Prelude.{◌≡◌, ℕ, ◌<◌, ◌≤◌, Some, slice_get}
+use Rattle.std.specs.Prelude.{◌≡◌, ℕ, ◌<◌, ◌≤◌, Any, Some, slice_get}
 use Rattle.rbac_terms.specs.Text.{Text}
 use Rattle.rbac_terms.specs.Principals.{Who}
-use Rattle.rbac_model.specs.Policies.{PolicyView, GrantView, BindingNames, IsOfBinding}
+use Rattle.rbac_model.specs.Policies.{Held, PolicyView, GrantView, BindingNames, IsOfBinding}
 use Rattle.rbac_model.specs.Universes.{LiveForSome}
 
 -- the binding of the grant with that number names who asks
@@ -14,6 +14,10 @@ IsNamedBy p who number = (g : GrantView) × (slice_get p.grants number ≡ Some 
 abbrev pub IsBoundTo : PolicyView → Who → Text → ℕ → Type 0
 IsBoundTo p who namespace number = (g : GrantView) × (slice_get p.grants number ≡ Some g)
     × BindingNames g.binding who × LiveForSome g.binding.namespace namespace
+
+-- a RoleBinding is in that namespace
+abbrev pub HasRoleBindings : Held → Text → Type 0
+HasRoleBindings held namespace = Any (λ b. b.namespace ≡ Some namespace) held.bindings
 
 -- the grants numbered from `start` up to `end` are bound to who asks in that namespace, none of
 -- those from `from` up to `start` is, and from `from` on the binding of the first has no others

@@ -4,10 +4,10 @@ ghost use Rattle.std.specs.Prelude.{◌≡◌, ◌<◌, ◌≤◌, ◌↔◌, �
 ghost use Rattle.std.specs.Prelude.{Any, Contains, IfOk, IfSome, MatchOption};
 ghost use Rattle.std.specs.List.Sorted.{IsStrictlyIncreasing};
 ghost use Rattle.rbac_model.specs.Sources.{grant_of};
-ghost use Rattle.rbac_model.specs.Policies.{Allows, IsFirst, IsOfBinding};
+ghost use Rattle.rbac_model.specs.Policies.{Allows, IsFirst, IsOfBinding, IsPolicy};
 ghost use Rattle.rbac_model.specs.Holders.{AreHolders};
 ghost use Rattle.rbac_index.specs.Indexed.{AreCandidates, HaveNumbers, IsAllowedBy};
-ghost use Rattle.rbac_index.specs.Bound.{IsNamedBy, IsBoundTo, IsNextRun};
+ghost use Rattle.rbac_index.specs.Bound.{HasRoleBindings, IsNamedBy, IsBoundTo, IsNextRun};
 ghost use Rattle.rbac_index.specs.Deciding.{IsWhyShown};
 ghost use Rattle.rbac_index.specs.Holding.{AllowsByHolders};
 ghost use Rattle.rbac_index.specs.Reaches.{AreAlike};
@@ -17,7 +17,7 @@ use crate::deciding::{Why, why_allowed};
 use crate::fault::IndexFault;
 use crate::holders::Holders;
 use crate::listing::{Listing, listing_of, matching};
-use crate::live_bindings::{Live, live_for_some};
+use crate::live_bindings::{Live, live_for_some, of_namespace};
 use crate::merge::{Numbers, merged};
 use crate::numbers::GrantNos;
 use crate::rule_rows::{Written, laid_out, rows_of};
@@ -156,6 +156,15 @@ impl<'p> Index<'p> {
             to: 0,
         };
         next_for(self.named.as_slice(), principal, everywhere, 0).is_some()
+    }
+
+    /// Whether a RoleBinding is in this namespace. Doesn't allocate.
+    pub fn has_role_bindings(&self, namespace: &Word) -> bool
+        ensures has { IsTrue result ↔ HasRoleBindings self.now.held namespace.now }
+        ensures policy { IsPolicy self.now }
+    {
+        let (from, to) = of_namespace(self.policy.bindings(), namespace);
+        from < to
     }
 
     /// The next grants, from this number on, of bindings that name the principal and are live in

@@ -22,7 +22,7 @@ pub(crate) fn cluster_wide(bindings: &[Binding]) -> usize
 }
 
 // The places of the RoleBindings of this namespace: from the first up to the second.
-fn of_namespace(bindings: &[Binding], namespace: &Word) -> (usize, usize)
+pub(crate) fn of_namespace(bindings: &[Binding], namespace: &Word) -> (usize, usize)
     requires { IsAscendingBy binding_name bindings.now }
     ensures within { result.1 ≤ length bindings.now }
     ensures between { (at : ℕ) (b : Binding) → slice_get bindings.now at ≡ Some b

@@ -1,16 +1,17 @@
 -- walks by runs
 use Rattle.std.proofs.Common.{◌≡◌, ℕ, length, ◌+◌, ◌<◌, ◌≤◌, ◌⊎◌, refl, ◌∙◌, sym, arith, inl, inr, subst, ap, Bool, List, [], ◌∷◌}
-use Rattle.std.specs.Prelude.{Some, slice_get}
+use Rattle.std.specs.Prelude.{Option, Some, None, IsTrue, not, slice_get, true, false}
 use Rattle.std.proofs.lemmas.Bool.{cases_eq, cases_lt}
-use Rattle.std.proofs.lemmas.Option.{same_Some, slice_get_within}
+use Rattle.std.proofs.lemmas.Option.{get_or_from_slice_get, same_Some, slice_get_within}
 use Rattle.rbac_terms.specs.Text.{Text}
 use Rattle.rbac_terms.specs.Principals.{Who}
 use Rattle.rbac_terms.specs.Matching.{VerbOk}
-use Rattle.rbac_model.specs.Policies.{PolicyView, GrantView, BindingNames}
+use Rattle.rbac_model.specs.Policies.{PolicyView, GrantView, BindingNames, IsPolicy}
 use Rattle.rbac_model.specs.Universes.{LiveForSome, UniverseView}
-use Rattle.rbac_index.specs.Bound.{IsNextRun}
-use Rattle.rbac_matrix.specs.Lines.{IsLineAt, LineView, line, next_verb}
-use Rattle.rbac_matrix.specs.Cursors.{AreKnownAt, AreRuns, AreRunsFrom, IsAhead, IsBoundOn, IsCursorAt, IsNextBound, IsNextRunOn, IsWithin, steps_left}
+use Rattle.rbac_model.proofs.BindingPlaces.{of_some_binding}
+use Rattle.rbac_index.specs.Bound.{HasRoleBindings, IsBoundTo, IsNextRun}
+use Rattle.rbac_matrix.specs.Lines.{IsLineAt, IsMoved, LineView, line, next_verb}
+use Rattle.rbac_matrix.specs.Cursors.{AreKnownAt, AreRuns, AreRunsFrom, ServeBare, IsAhead, IsBoundOn, IsCursorAt, IsNextBound, IsNextRunOn, IsWithin, steps_left}
 use Rattle.rbac_matrix.specs.declared.line.Place.{Place}
 use Rattle.rbac_matrix.specs.declared.bound_runs.Run.{Run}
 use Rattle.rbac_matrix.specs.declared.bound_runs.Runs.{Runs}
@@ -113,18 +114,80 @@ runs_for : (p : PolicyView) (l : LineView) (verb : Text) (are_all : Bool) (from 
 runs_for p l verb are_all from [] are = λ all n low bound. are all n low (bound_for p l verb n bound)
 runs_for p l verb are_all from (run ∷ runs) are = (are.0, runs_for p l verb are_all run.end runs are.1)
 
+-- a binding that is live in a namespace where it isn't is live in all
+lives_elsewhere : (o : Option Text) (a b : Text) → (o ≡ Some a → ⊥) → LiveForSome o a → LiveForSome o b
+lives_elsewhere None a b ne lives = tt
+lives_elsewhere (Some n) a b ne lives = absurd (ne (ap (λ (t : Text). Some t) lives.1))
+
+module _ (p : PolicyView) (ok : IsPolicy p) (who : Who) (a b : Text) (bare : ¬ HasRoleBindings p.held a) where
+  bound_elsewhere : (k : ℕ) → IsBoundTo p who a k → IsBoundTo p who b k
+  bound_elsewhere k bound =
+      let g = bound.0 in
+      let of = of_some_binding p ok k (slice_get_within p.grants k g bound.1) in
+      let same : of.1.0 ≡ g = same_Some of.1.0 g (sym of.1.1 ∙ bound.1) in
+      let there : slice_get p.held.bindings of.0 ≡ Some g.binding = of.1.2 ∙ ap (λ (h : GrantView). Some h.binding) same in
+      let ne : g.binding.namespace ≡ Some a → ⊥ = λ e. bare (of.0, g.binding, slice_get_within p.held.bindings of.0 g.binding there, get_or_from_slice_get p.held.bindings of.0 g.binding g.binding there, e) in
+      (g, bound.1, bound.2, lives_elsewhere g.binding.namespace a b ne bound.3)
+
+-- the runs in one namespace without a RoleBinding are those in another
+module _ (p : PolicyView) (ok : IsPolicy p) (who : Who) (a b : Text) (bare : ¬ HasRoleBindings p.held a) (other : ¬ HasRoleBindings p.held b) where
+  next_elsewhere : (from start end : ℕ) → IsNextRun p who a from start end → IsNextRun p who b from start end
+  next_elsewhere from start end is = record {
+    after = is.after;
+    some = is.some;
+    bound = λ n low high. bound_elsewhere p ok who a b bare n (is.bound n low high);
+    none_before = λ n low high bound. is.none_before n low high (bound_elsewhere p ok who b a other n bound);
+    whole = is.whole;
+  }
+
+  runs_elsewhere : (v w : Text) (are_all : Bool) (from : ℕ) (runs : List Run) → AreRunsFrom p (line who a v) are_all from runs → AreRunsFrom p (line who b w) are_all from runs
+  unfolding IsBoundOn
+  runs_elsewhere v w are_all from [] are = λ all n low bound. are all n low (bound_elsewhere p ok who b a other n bound)
+  runs_elsewhere v w are_all from (run ∷ runs) are = (next_elsewhere from run.start run.end are.0, runs_elsewhere v w are_all run.end runs are.1)
+
+pub serve_bare : (p : PolicyView) → IsPolicy p → (l : LineView) (runs : Runs) → ((IsTrue runs.is_bare) → HasRoleBindings p.held l.namespace → ⊥) → AreRuns p l runs → ServeBare p l.who runs
+serve_bare p ok l runs bare are = λ is namespace verb other. runs_elsewhere p ok l.who l.namespace namespace (bare is) other l.verb verb runs.are_all 0 runs.kept.items are
+
 -- the line after one has its runs, unless a namespace begins there
-pub known_after : (p : PolicyView) (u : UniverseView) (at : Place) (l : LineView) (runs : Runs) → IsLineAt u at l → AreRuns p l runs → AreKnownAt p u (next_verb at) runs
-known_after p u at l runs here are = λ later m there.
-    let who : l.who ≡ m.who = same_Some l.who m.who (sym here.principal ∙ there.principal) in
-    let namespace : l.namespace ≡ m.namespace = same_Some l.namespace m.namespace (sym here.namespace ∙ there.namespace) in
-    let same = runs_for p l m.verb runs.are_all 0 runs.kept.items are in
-    subst (λ (n : Text). AreRuns p (line m.who n m.verb) runs) namespace (subst (λ (w : Who). AreRuns p (line w l.namespace m.verb) runs) who same)
+pub known_after : (p : PolicyView) (u : UniverseView) (at : Place) (l : LineView) (runs : Runs) → IsLineAt u at l → AreRuns p l runs → ServeBare p l.who runs → AreKnownAt p u (next_verb at) runs
+known_after p u at l runs here are bare = record {
+  verbs = λ later m there.
+      let who : l.who ≡ m.who = same_Some l.who m.who (sym here.principal ∙ there.principal) in
+      let namespace : l.namespace ≡ m.namespace = same_Some l.namespace m.namespace (sym here.namespace ∙ there.namespace) in
+      let same = runs_for p l m.verb runs.are_all 0 runs.kept.items are in
+      subst (λ (n : Text). AreRuns p (line m.who n m.verb) runs) namespace (subst (λ (w : Who). AreRuns p (line w l.namespace m.verb) runs) who same);
+  bare = λ later who there. subst (λ (w : Who). ServeBare p w runs) (same_Some l.who who (sym here.principal ∙ there)) bare;
+}
 
-pub known_moved : (p : PolicyView) (u : UniverseView) (at to : Place) (runs : Runs) → ((to ≡ at) ⊎ (to.verb ≡ 0)) → AreKnownAt p u at runs → AreKnownAt p u to runs
+pub known_moved : (p : PolicyView) (u : UniverseView) (at to : Place) (runs : Runs) → IsMoved at to → AreKnownAt p u at runs → AreKnownAt p u to runs
 known_moved p u at to runs (inl e) known = subst (λ (t : Place). AreKnownAt p u t runs) (sym e) known
-known_moved p u at to runs (inr none) known = λ later. absurd (omega (arith, none, later))
+known_moved p u at to runs (inr (none, inl first)) known = record {
+  verbs = λ later. absurd (omega (arith, none, later));
+  bare = λ later. elim later [ | inl l ↦ absurd (omega (arith, first, l)) | inr l ↦ absurd (omega (arith, none, l)) ];
+}
+known_moved p u at to runs (inr (none, inr same)) known = record {
+  verbs = λ later. absurd (omega (arith, none, later));
+  bare = λ later who there. known.bare (inr same.1) who (subst (λ (n : ℕ). slice_get u.principals n ≡ Some who) same.0 there);
+}
 
-pub begins_after : (at to : Place) → ((to ≡ at) ⊎ (to.verb ≡ 0)) → at.verb ≡ 0 → to.verb ≡ 0
-begins_after at to (inl e) none = ap (λ (t : Place). t.verb) e ∙ none
-begins_after at to (inr there) none = there
+-- and so at the first line of the next namespace
+pub known_past : (p : PolicyView) (u : UniverseView) (at to : Place) (l : LineView) (runs : Runs) → IsLineAt u at l → ServeBare p l.who runs → to.verb ≡ 0 → (to.namespace ≡ 0) ⊎ (to.principal ≡ at.principal) → AreKnownAt p u to runs
+known_past p u at to l runs here bare none (inl first) = record {
+  verbs = λ later. absurd (omega (arith, none, later));
+  bare = λ later. elim later [ | inl n ↦ absurd (omega (arith, first, n)) | inr n ↦ absurd (omega (arith, none, n)) ];
+}
+known_past p u at to l runs here bare none (inr same) = record {
+  verbs = λ later. absurd (omega (arith, none, later));
+  bare = λ later who there. subst (λ (w : Who). ServeBare p w runs) (same_Some l.who who (sym here.principal ∙ subst (λ (n : ℕ). slice_get u.principals n ≡ Some who) same there)) bare;
+}
+
+-- one move after another
+pub moved_twice : (at mid to : Place) (verbs : ℕ) → 0 < verbs → ((mid ≡ at) ⊎ ((mid.verb ≡ 0) × (mid.principal ≡ at.principal) × (verbs ≤ at.verb))) → ((to ≡ mid) ⊎ ((to.verb ≡ 0) × (to.namespace ≡ 0))) → IsMoved at to
+moved_twice at mid to verbs some first (inr second) = inr (second.0, inl second.1)
+moved_twice at mid to verbs some (inl e) (inl f) = inl (f ∙ e)
+moved_twice at mid to verbs some (inr moved) (inl f) =
+    inr (ap (λ (t : Place). t.verb) f ∙ moved.0, inr (ap (λ (t : Place). t.principal) f ∙ moved.1, omega (arith, some, moved.2)))
+
+pub not_both : (b : Bool) → IsTrue (not b) → IsTrue b → ⊥
+not_both true t u = cc
+not_both false t u = cc

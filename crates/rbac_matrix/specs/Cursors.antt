@@ -1,10 +1,12 @@
 -- The cursors of a line: the grants that may allow something on it.
-use Rattle.std.specs.Prelude.{◌≡◌, ℕ, ◌+◌, ◌<◌, ◌≤◌, ◌-◌, Bool, IsTrue, List, [], ◌∷◌, Some}
+use Rattle.std.specs.Prelude.{◌≡◌, ℕ, ◌+◌, ◌<◌, ◌≤◌, ◌-◌, ◌⊎◌, Bool, IsTrue, List, [], ◌∷◌, Some}
 use Rattle.std.specs.Prelude.{slice_get, drop, length}
 use Rattle.rbac_model.specs.Policies.{PolicyView, GrantView}
 use Rattle.rbac_model.specs.Universes.{UniverseView, IsCursor}
-use Rattle.rbac_index.specs.Bound.{IsBoundTo, IsNextRun}
-use Rattle.rbac_matrix.specs.Lines.{LineView, IsLineAt, lines_from}
+use Rattle.rbac_terms.specs.Text.{Text}
+use Rattle.rbac_terms.specs.Principals.{Who}
+use Rattle.rbac_index.specs.Bound.{HasRoleBindings, IsBoundTo, IsNextRun}
+use Rattle.rbac_matrix.specs.Lines.{LineView, IsLineAt, line, lines_from}
 use Rattle.rbac_matrix.specs.declared.bound_runs.Run.{Run}
 use Rattle.rbac_matrix.specs.declared.bound_runs.Runs.{Runs}
 use Rattle.rbac_matrix.specs.declared.line.Place.{Place}
@@ -32,15 +34,23 @@ AreRunsFrom p l are_all from (run ∷ runs) = IsNextRun p l.who l.namespace from
 abbrev pub AreRuns : PolicyView → LineView → Runs → Type 0
 AreRuns p l runs = AreRunsFrom p l runs.are_all 0 runs.kept.items
 
+-- if `is_bare` is true, the runs are those of who asks in each namespace without a RoleBinding
+abbrev pub ServeBare : PolicyView → Who → Runs → Type 0
+ServeBare p who runs = IsTrue runs.is_bare → (namespace verb : Text)
+    → ¬ HasRoleBindings p.held namespace → AreRuns p (line who namespace verb) runs
+
 -- the runs are those of the line at the place, if there is a line there
 abbrev pub AreRunsAt : PolicyView → UniverseView → Place → Runs → Type 0
 AreRunsAt p u at runs = (l : LineView) (ls : List LineView) → lines_from u at ≡ l ∷ ls
-    → AreRuns p l runs
+    → AreRuns p l runs × ServeBare p l.who runs
 
--- the runs are those of the line at the place, if a line is there and isn't the first of its
--- namespace
-abbrev pub AreKnownAt : PolicyView → UniverseView → Place → Runs → Type 0
-AreKnownAt p u at runs = 0 < at.verb → (l : LineView) → IsLineAt u at l → AreRuns p l runs
+-- what is known of the runs of the line before the one at the place: they are that line's too, if
+-- it isn't the first of its namespace; and they are those of its principal, if it isn't the first
+-- of its principal
+pub record AreKnownAt (p : PolicyView) (u : UniverseView) (at : Place) (runs : Runs) : Type 0 where
+  pub verbs : 0 < at.verb → (l : LineView) → IsLineAt u at l → AreRuns p l runs
+  pub bare : (0 < at.namespace) ⊎ (0 < at.verb) → (who : Who)
+      → slice_get u.principals at.principal ≡ Some who → ServeBare p who runs
 
 -- the walk will still come to the cursor with that number
 abbrev pub IsAhead : PolicyView → LineView → Walk → ℕ → Type 0

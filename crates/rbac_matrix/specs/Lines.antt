@@ -42,6 +42,12 @@ place p n v = record { principal = p; namespace = n; verb = v }
 abbrev pub next_verb : Place → Place
 next_verb at = place at.principal at.namespace (at.verb + 1)
 
+-- the place, or the first one of the next namespace or of a later principal
+abbrev pub IsMoved : Place → Place → Type 0
+IsMoved at to =
+    (to ≡ at)
+    ⊎ ((to.verb ≡ 0) × ((to.namespace ≡ 0) ⊎ ((to.principal ≡ at.principal) × (0 < at.verb))))
+
 -- the place is that of the line
 pub record IsLineAt (u : UniverseView) (at : Place) (l : LineView) : Type 0 where
   pub principal : slice_get u.principals at.principal ≡ Some l.who

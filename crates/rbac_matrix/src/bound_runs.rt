@@ -2,11 +2,13 @@
 
 ghost use Rattle.std.specs.Prelude.{◌≡◌, ◌↔◌, [], IsTrue};
 ghost use Rattle.rbac_matrix.specs.Shown.{line_of};
-ghost use Rattle.rbac_matrix.specs.Cursors.{AreRuns};
+ghost use Rattle.rbac_index.specs.Bound.{HasRoleBindings};
+ghost use Rattle.rbac_matrix.specs.Cursors.{AreRuns, ServeBare};
 
 use crate::line::Line;
 use arrayvec::ArrayVec;
 use rbac_index::Index;
+use rbac_terms::Word;
 
 // The most runs of a line that are kept. Each walk looks up the others again.
 const MOST_KEPT: usize = 256;
@@ -24,6 +26,9 @@ pub(crate) struct Runs {
     kept: ArrayVec<Run, MOST_KEPT>,
     // Whether there are no other runs.
     are_all: bool,
+    // Whether the namespace of the line has no RoleBinding. Then the runs are those of
+    // ClusterRoleBindings, and the same in every such namespace.
+    is_bare: bool,
 }
 
 impl Runs {
@@ -32,13 +37,16 @@ impl Runs {
         Runs {
             kept: ArrayVec::new(),
             are_all: true,
+            is_bare: false,
         }
     }
 
     // The first runs of the line.
     pub(crate) fn of(index: &Index<'_>, line: Line<'_>) -> Self
-        ensures { AreRuns index.now (line_of line.entry) result }
+        ensures runs { AreRuns index.now (line_of line.entry) result }
+        ensures bare { ServeBare index.now line.entry.principal.now result }
     {
+        let is_bare = !index.has_role_bindings(line.namespace);
         let mut kept = ArrayVec::new();
         let mut from = 0;
         while !kept.is_full() {
@@ -46,6 +54,7 @@ impl Runs {
                 return Runs {
                     kept,
                     are_all: true,
+                    is_bare,
                 };
             };
             kept.push(Run { start, end });
@@ -54,7 +63,16 @@ impl Runs {
         Runs {
             kept,
             are_all: false,
+            is_bare,
         }
+    }
+
+    // Whether these runs, of somebody in one namespace, are known to be those in this one too.
+    pub(crate) fn serve(&self, index: &Index<'_>, namespace: &Word) -> bool
+        ensures { IsTrue result
+            → IsTrue self.now.is_bare × (¬ HasRoleBindings index.now.held namespace.now) }
+    {
+        self.is_bare && !index.has_role_bindings(namespace)
     }
 
     // The runs that are kept.

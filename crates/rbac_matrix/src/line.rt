@@ -4,8 +4,8 @@ ghost use Rattle.std.specs.Prelude.{◌≡◌, ◌∷◌, [], ◌<◌, ◌≤◌
 ghost use Rattle.std.specs.Prelude.{MatchOption};
 ghost use Rattle.rbac_model.specs.Universes.{IsUniverse, most_words};
 ghost use Rattle.rbac_universe.specs.Sets.{IsWithinLimits};
-ghost use Rattle.rbac_matrix.specs.Lines.{LineView, IsLineAt, IsSettled, lines_from, next_verb};
-ghost use Rattle.rbac_matrix.specs.Lines.{place};
+ghost use Rattle.rbac_matrix.specs.Lines.{LineView, IsLineAt, IsMoved, IsSettled, lines_from};
+ghost use Rattle.rbac_matrix.specs.Lines.{next_verb, place};
 ghost use Rattle.rbac_matrix.specs.Shown.{line_of};
 
 use rbac_terms::{Principal, Word};
@@ -82,7 +82,8 @@ pub(crate) fn after(at: Place) -> Place
 // The place, or the first place in the next namespace if it is past the last verb.
 fn after_verbs(universe: &Universe, at: Place) -> Place
     ensures same { lines_from universe.now result ≡ lines_from universe.now at }
-    ensures moved { (result ≡ at) ⊎ (result.verb ≡ 0) }
+    ensures moved { (result ≡ at) ⊎ ((result.verb ≡ 0) × (result.principal ≡ at.principal)
+        × (length universe.now.verbs ≤ at.verb)) }
     ensures verb { 0 < length universe.now.verbs → result.namespace < length universe.now.namespaces
         → result.verb < length universe.now.verbs }
 {
@@ -98,7 +99,7 @@ fn after_verbs(universe: &Universe, at: Place) -> Place
 fn after_namespaces(universe: &Universe, at: Place) -> Place
     requires { at.namespace < length universe.now.namespaces → at.verb < length universe.now.verbs }
     ensures same { lines_from universe.now result ≡ lines_from universe.now at }
-    ensures moved { (result ≡ at) ⊎ (result.verb ≡ 0) }
+    ensures moved { (result ≡ at) ⊎ ((result.verb ≡ 0) × (result.namespace ≡ 0)) }
     ensures settled { 0 < length universe.now.namespaces → 0 < length universe.now.verbs
         → IsSettled universe.now result }
 {
@@ -114,7 +115,7 @@ fn after_namespaces(universe: &Universe, at: Place) -> Place
 pub(crate) fn settled(universe: &Universe, at: Place) -> Place
     ensures settled { IsSettled universe.now result }
     ensures same { lines_from universe.now result ≡ lines_from universe.now at }
-    ensures moved { (result ≡ at) ⊎ (result.verb ≡ 0) }
+    ensures moved { IsMoved at result }
 {
     if universe.namespaces().is_empty() {
         return at;

@@ -6,7 +6,7 @@ ghost use Rattle.rbac_model.specs.Universes.{IsUniverse, UniverseView, most_word
 ghost use Rattle.rbac_universe.specs.Sets.{IsWithinLimits};
 ghost use Rattle.rbac_matrix.specs.Shown.{line_of};
 ghost use Rattle.rbac_index.specs.Reaches.{AreReaches};
-ghost use Rattle.rbac_matrix.specs.Cursors.{AreKnownAt, AreRuns, AreRunsAt, IsBoundOn};
+ghost use Rattle.rbac_matrix.specs.Cursors.{AreKnownAt, AreRuns, AreRunsAt, IsBoundOn, ServeBare};
 ghost use Rattle.rbac_matrix.specs.Lines.{IsLineAt, lines_from};
 ghost use Rattle.rbac_matrix.specs.Passing.{EndsAll, EndsLine, FindsCell, FindsRow};
 ghost use Rattle.rbac_matrix.specs.Metering.{IsMetered, IsReady, Skips};
@@ -68,14 +68,22 @@ pub(crate) fn next_in_line(
     None
 }
 
-// Looks up the runs of a line where a namespace begins; its other lines have the same.
+// Makes the runs of the line before this one those of this line: they are, within a namespace, and
+// in all namespaces of a principal that have no RoleBinding.
 fn renew(index: &Index<'_>, line: Line<'_>, at: Place, runs: &mut Runs)
-    requires { 0 < at.verb → AreRuns index.now (line_of line) runs.old }
-    ensures { AreRuns index.now (line_of line.entry) runs.new }
+    requires verbs { 0 < at.verb → AreRuns index.now (line_of line) runs.old }
+    requires bare { (0 < at.namespace) ⊎ (0 < at.verb)
+        → ServeBare index.now line.principal.now runs.old }
+    ensures runs { AreRuns index.now (line_of line.entry) runs.new }
+    ensures bare { ServeBare index.now line.entry.principal.now runs.new }
 {
-    if at.verb == 0 {
-        *runs = Runs::of(index, line);
+    if 0 < at.verb {
+        return;
     }
+    if 0 < at.namespace && runs.serve(index, line.namespace) {
+        return;
+    }
+    *runs = Runs::of(index, line);
 }
 
 // Seats the cursors of the next line, from this place on, that has cursors with an entry, and
@@ -121,7 +129,8 @@ fn past_idle(index: &Index<'_>, line: Line<'_>, at: Place) -> Place
     requires few { (at.principal < most_words) × (at.namespace < most_words) }
     ensures skips { (u : UniverseView) → IsLineAt u at (line_of line.entry)
         → Skips index.now.held u at result }
-    ensures begins { result.verb ≡ 0 }
+    ensures begins { (result.verb ≡ 0)
+        × ((result.namespace ≡ 0) ⊎ (result.principal ≡ at.principal)) }
     ensures on { (u : UniverseView) → IsLineAt u at (line_of line.entry)
         → length (lines_from u result) < length (lines_from u at) }
 {

@@ -54,4 +54,5 @@ returns-clause-row c = record {
 
 pub next_line-at-requires-clause-known : goal.next_line-at-requires-clause-known
 next_line-at-requires-clause-known c =
-    rw c.after.ensures (known_after c.args.index.now c.args.universe.now c.loop-line.at (line_of c.in-Some.line) c.loop-line.runs c.in-Some.ensures.place (c.loop-line.invariant.runs (line_of c.in-Some.line) _ c.in-Some.ensures.line))
+    let known = c.loop-line.invariant.runs (line_of c.in-Some.line) _ c.in-Some.ensures.line in
+    rw c.after.ensures (known_after c.args.index.now c.args.universe.now c.loop-line.at (line_of c.in-Some.line) c.loop-line.runs c.in-Some.ensures.place known.0 known.1)

@@ -4,7 +4,7 @@ use Rattle.rbac_matrix.specs.Lines.{LineView, lines_from}
 use Rattle.rbac_matrix.proofs.SeatLemmas.{Costs-then}
 use Rattle.rbac_matrix.proofs.LineLemmas.{are_real}
 use Rattle.rbac_matrix.proofs.EnumLemmas.{idle_line, skips_line, skips_same, skips_then, unfilled}
-use Rattle.rbac_matrix.proofs.WalkLemmas.{begins_after, known_after, known_moved}
+use Rattle.rbac_matrix.proofs.WalkLemmas.{known_after, known_moved, known_past}
 use Rattle.rbac_matrix.proofs.steps.next_line.Goals as goal
 
 nought : (n : ℕ) → n ≤ 0 → n ≡ 0
@@ -23,7 +23,8 @@ loop-line-preserved-then-is_empty c = record {
       (skips_then c.args.index.now.held c.args.universe.now c.loop-line.at c.past_idle.result c.settled-at-then-is_empty.result (c.past_idle.ensures.skips c.args.universe.now c.in-Some.ensures.place)
       (skips_same c.args.index.now.held c.args.universe.now c.past_idle.result c.settled-at-then-is_empty.result c.settled-at-then-is_empty.ensures.same));
   empty = c.loop-line.invariant.empty;
-  known = λ later. absurd (omega (arith, later, begins_after c.past_idle.result c.settled-at-then-is_empty.result c.settled-at-then-is_empty.ensures.moved c.past_idle.ensures.begins));
+  known = known_moved c.args.index.now c.args.universe.now c.past_idle.result c.settled-at-then-is_empty.result c.renew.new.runs c.settled-at-then-is_empty.ensures.moved
+      (known_past c.args.index.now c.args.universe.now c.loop-line.at c.past_idle.result (line_of c.in-Some.line) c.renew.new.runs c.in-Some.ensures.place c.renew.ensures.bare c.past_idle.ensures.begins.0 c.past_idle.ensures.begins.1);
   costs = c.loop-line.invariant.costs;
 }
 
@@ -39,7 +40,7 @@ loop-line-preserved c =
           (skips_line c.args.index.now.held c.args.universe.now c.loop-line.at c.settled-at-else-seat_line-gt0.result (line_of c.in-Some.line) line
           (idle_line c.args.index.now c.args.universe.now c.args.reaches.now (line_of c.in-Some.line) c.seat_line.new.seats c.requires.policy c.line_at.ensures.universe c.requires.reaches c.line_at.ensures.limits.targets real c.seat_line.ensures.seated none));
       known = known_moved c.args.index.now c.args.universe.now c.after.result c.settled-at-else-seat_line-gt0.result c.renew.new.runs c.settled-at-else-seat_line-gt0.ensures.moved
-          (rw c.after.ensures (known_after c.args.index.now c.args.universe.now c.loop-line.at (line_of c.in-Some.line) c.renew.new.runs c.in-Some.ensures.place c.renew.ensures));
+          (rw c.after.ensures (known_after c.args.index.now c.args.universe.now c.loop-line.at (line_of c.in-Some.line) c.renew.new.runs c.in-Some.ensures.place c.renew.ensures.runs c.renew.ensures.bare));
       empty = unfilled c.args.index.now (line_of c.in-Some.line) c.args.reaches.now 0 0 c.seat_line.new.seats real c.seat_line.ensures.seated none;
       costs = Costs-then c.args.seats.now c.loop-line.seats c.seat_line.new.seats 0 0 0 0 c.args.meter.now c.loop-line.meter c.seat_line.new.meter c.loop-line.invariant.costs (c.seat_line.ensures.started refl);
     }
@@ -53,5 +54,8 @@ loop-line-init c = record {
   costs = search rules;
 }
 
-pub renew-requires : goal.renew-requires
-renew-requires c = λ later. c.loop-line.invariant.known later (line_of c.in-Some.line) c.in-Some.ensures.place
+pub renew-requires-clause-verbs : goal.renew-requires-clause-verbs
+renew-requires-clause-verbs c = λ later. c.loop-line.invariant.known.verbs later (line_of c.in-Some.line) c.in-Some.ensures.place
+
+pub renew-requires-clause-bare : goal.renew-requires-clause-bare
+renew-requires-clause-bare c = λ later. c.loop-line.invariant.known.bare later c.in-Some.line.principal.now c.in-Some.ensures.place.principal
