@@ -1,4 +1,4 @@
-"""What each public call of the libraries does where an allocation fails: calls.py [FOLDER]
+"""What each public call of the libraries does where an allocation fails: calls.py [FOLDER | --once]
 
 tests/calls is a program that makes the calls, each between two marks, and tells what each answered; tests/refuse.c, preloaded,
 makes the Nth allocation between two marks fail, that one alone or with all that follow. A sweep counts N upwards until a run meets
@@ -7,7 +7,8 @@ of before, and a prefix of what would have been added), the same call answers wi
 calls after it. Calls that allocate nothing meet no failure where every allocation would fail. A sweep that met none has failed.
 
 The program is proved and built in a repository of its own in FOLDER, which keeps what was proved for the next time; without
-FOLDER in one that is gone afterwards. The last line is `N passed, M failed`.
+FOLDER in one that is gone afterwards. With --once, as in the gate, the program isn't proved, and each call is made with memory alone:
+so it can't rot unseen. The last line is `N passed, M failed`.
 """
 
 import concurrent.futures
@@ -24,6 +25,8 @@ from common import TOP, checked, results
 SOURCES = os.path.join(TOP, 'tests', 'calls')
 EXPORT = os.path.join(SOURCES, 'export.json')
 GROUPS = 'requests', 'growing', 'exports', 'matrix', 'commands'
+# Calls may be added; fewer would be a group that isn't made.
+LEAST_CALLS = 84
 # The texts of this project's errors, and of the kit's.
 OUT_OF_MEMORY = 'out of memory', 'memory allocation failed'
 NEVER = 10 ** 9
@@ -38,9 +41,9 @@ def copied(source, folder):
             (shutil.copytree if os.path.isdir(source) else shutil.copy2)(source, folder)
 
 
-def build(folder):
-    """Makes the repository: copies of the libraries, and the program above them. The gate reads each .rt file of this repository, so
-    the program's have another ending here."""
+def lay_out(folder):
+    """Makes the repository: copies of the libraries, and the program above them, whose folder is given. The gate reads each .rt file
+    of this repository, so the program's have another ending here."""
     with open(os.path.join(TOP, 'crates.txt'), encoding='utf-8') as file:
         lines = [line for line in file if not line.startswith(('#', 'rbacaudit:', 'rbac_examples:'))]
     libraries = [line.partition(':')[0] for line in lines]
@@ -56,7 +59,25 @@ def build(folder):
     copied(os.path.join(TOP, 'HANDLES'), os.path.join(folder, 'HANDLES'))
     with open(os.path.join(folder, 'crates.txt'), 'w', encoding='utf-8') as file:
         file.writelines([*lines, 'calls: %s\n' % ' '.join(libraries)])
-    return subprocess.run(['rt', 'run', '--', 'requests', EXPORT], cwd=crate, stdout=subprocess.PIPE, stderr=subprocess.STDOUT)
+    return crate
+
+
+def build(folder):
+    words = ['rt', 'run', '--', 'requests', EXPORT]
+    return subprocess.run(words, cwd=lay_out(folder), stdout=subprocess.PIPE, stderr=subprocess.STDOUT)
+
+
+def make_once(folder):
+    """Makes each call with memory, by the program unproved."""
+    words = ['rt', 'try', '--data', 'export.json=' + EXPORT, '--', 'all', 'export.json']
+    tried = subprocess.run(words, cwd=lay_out(folder), stdout=subprocess.PIPE, stderr=subprocess.PIPE)
+    lines = [line.split('\t') for line in tried.stdout.decode().splitlines()]
+    lines = [line for line in lines if line[0] in ('call', 'print', 'free')]
+    said = repr(tried.stdout[-1000:] + tried.stderr[-1000:])
+    checked('each call is made once', tried.returncode == 0 and len(lines) >= LEAST_CALLS, said)
+    for line in lines:
+        well = len(line) == 6 and line[3].startswith('ok ') and line[5].startswith('ok ')
+        checked('%s succeeds with memory' % line[1], well, repr(line))
 
 
 class Program:
@@ -138,16 +159,23 @@ def calls(program):
     print('the calls met %d failures' % total)
 
 
+def sweep_all(room):
+    folder = os.path.abspath(sys.argv[1]) if len(sys.argv) > 1 else room
+    program = Program(folder)
+    built = build(folder)
+    checked('the program that makes the calls is proved and built', built.returncode == 0, built.stdout.decode()[-2000:])
+    words = ['cc', '-O2', '-Wall', '-Werror', '-shared', '-fPIC', '-o', program.shim, os.path.join(TOP, 'tests', 'refuse.c')]
+    checked('what refuses is built', subprocess.run(words).returncode == 0)
+    if all(results):
+        calls(program)
+
+
 def main():
     with tempfile.TemporaryDirectory() as room:
-        folder = os.path.abspath(sys.argv[1]) if len(sys.argv) > 1 else room
-        program = Program(folder)
-        built = build(folder)
-        checked('the program that makes the calls is proved and built', built.returncode == 0, built.stdout.decode()[-2000:])
-        words = ['cc', '-O2', '-Wall', '-Werror', '-shared', '-fPIC', '-o', program.shim, os.path.join(TOP, 'tests', 'refuse.c')]
-        checked('what refuses is built', subprocess.run(words).returncode == 0)
-        if all(results):
-            calls(program)
+        if sys.argv[1:] == ['--once']:
+            make_once(room)
+        else:
+            sweep_all(room)
     print('%d passed, %d failed' % (results.count(True), results.count(False)))
     return 0 if all(results) else 1
 
