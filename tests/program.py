@@ -18,6 +18,10 @@ from transcripts import example_cluster, loop_of_pages, transcripts
 MOST_BYTES = 67_108_864
 LEAST = b'{"apiVersion":"v1","kind":"List"}'
 
+# The user, the verb or the target is empty.
+EMPTY_WORDS = (['can-i', '--as', '', 'get', 'pods'], ['can-i', '--as', 'alice', '', 'pods'], ['can-i', '--as', 'alice', 'get', ''],
+               ['who-can', '', 'pods'], ['who-can', 'get', ''])
+
 
 def run(words, given=b'', **how):
     return subprocess.run([PROGRAM, *words], input=given, stdout=how.get('stdout', subprocess.PIPE),
@@ -66,6 +70,8 @@ def streams():
     expect('a bad document has status 2', ALICE_GETS_PODS, 2, err=b'rbacaudit: file 1: M1 not JSON\n', given=b'')
     expect('an empty word has status 2', ['can-i', '--as', 'alice', 'get', '.apps'], 2,
            err=b'rbacaudit: U2 empty word\n')
+    for words in EMPTY_WORDS:
+        expect('an empty word has status 2: %r' % (words,), words, 2, err=b'rbacaudit: U2 empty word\n')
     expect('a subresource of a URL has status 2',
            ['can-i', '--as', 'alice', '--subresource', 'log', 'get', '/healthz'], 2,
            err=b'rbacaudit: U3 subresource with a URL\n')

@@ -152,6 +152,20 @@ def few_holders():
                 'u:system:serviceaccount:dev:ci\tRoleBinding/dev/b\nu:bob-who-has-a-rather-long-name\tRoleBinding/dev/b\n')
 
 
+def findings():
+    return Case('lint', ['lint'], export(*WORKED, *SLIPS), 1, FINDINGS)
+
+
+def odd_names():
+    """Names that a line can't have as they are."""
+    given = export(
+        item('ClusterRole', {'name': 'r'}, rules=[PODS]),
+        item('ClusterRoleBinding', {'name': 'b'}, roleRef=role_ref('ClusterRole', 'r'), subjects=users('a\tb\\c')),
+        universe(principals=[{'user': 'a\tb\\c'}], namespaces=[''], verbs=['get'], resources=[{'resource': 'pods'}], names=['', '-'], urls=[]))
+    rows = ['u:a\\x09b\\\\c\t-\tget\t-\tpods\t%s\tClusterRoleBinding/b\n' % name for name in ('-', '\\x2d')]
+    return Case('odd names', ['matrix'], given, 0, ''.join([*rows, 'end\n']))
+
+
 def many_grants():
     """A thousand rules by 1,001 bindings."""
     bindings = [item('ClusterRoleBinding', {'name': 'b%d' % i}, roleRef=role_ref('ClusterRole', 'r'), subjects=[]) for i in range(1001)]
@@ -253,7 +267,7 @@ def answers():
                'yes\nClusterRoleBinding/a\tClusterRole/admin\tClusterRole/%s\t1\t1\n' % LONG)
     yield Case('can-i -q', [*ALICE, '-q', 'get', 'po'], export(*WORKED), 0)
     yield few_holders()
-    yield Case('lint', ['lint'], export(*WORKED, *SLIPS), 1, FINDINGS)
+    yield findings()
     yield Case('lint, no findings', ['lint'], export(*WORKED), 0)
 
 
@@ -324,10 +338,23 @@ def failed_reads(shim):
             tell_sweep('%s in reads of up to %d bytes, %s' % (errno.errorcode[error], piece, which(mode)), met, once=mode)
 
 
+def endless_input(shim):
+    """An input that comes byte by byte and never ends is given up after one byte too many."""
+    with tempfile.TemporaryFile() as log:
+        environment = dict(LD_PRELOAD=shim, REFUSE='endless', REFUSE_LOG=str(log.fileno()))
+        ended = subprocess.run([PROGRAM, *ALICE_GETS_PODS], stdin=subprocess.DEVNULL, stdout=subprocess.PIPE, stderr=subprocess.PIPE,
+                               env=environment, pass_fds=[log.fileno()], timeout=120)
+        log.seek(0)
+        got = ended.returncode, ended.stdout, ended.stderr, log.read()
+    wanted = 2, b'', b'rbacaudit: file 1: I2 too long\n', b'67108865'
+    checked('an endless input is too long after 67,108,865 reads of a byte', got == wanted, 'got %r' % (got,))
+
+
 def failed_writes(shim):
-    """Each write in turn: of a long text as it is written in pieces, and of a short one of which each write takes a byte."""
-    who, listing = few_holders(), long_matrix()
-    for (case, piece), error in itertools.product(((who, 1), (listing, 0), (listing, 10_000)), (errno.ENOSPC, errno.EINTR, 0)):
+    """Each write in turn: of a long text as it is written in pieces, and of short ones that are taken at once or byte by byte."""
+    shorts = few_holders(), findings(), odd_names()
+    pieces = [(long_matrix(), 0), (long_matrix(), 10_000), *itertools.product(shorts, (0, 1))]
+    for (case, piece), error in itertools.product(pieces, (errno.ENOSPC, errno.EINTR, 0)):
         for mode in (False, True):
             met = sweep(shim, case, 'write', is_write_fault, error, mode, piece)
             why = errno.errorcode[error] if error else 'nothing taken'
@@ -494,6 +521,7 @@ def main():
         is_met()
         refused_memory(shim, room)
         failed_reads(shim)
+        endless_input(shim)
         failed_writes(shim)
         closed_streams(room)
         pipes()

@@ -5,10 +5,14 @@
    file that is open as REFUSE_LOG, so that the test knows how many were met. Reads, and writes to standard output, move at most
    REFUSE_PIECE bytes. What happens before the constructor, which is libc's own, is let be.
 
+   With REFUSE=endless each read gives one byte, a space, and there is no end; when the program ends, the file that is open as
+   REFUSE_LOG gets how many reads there were.
+
    With REFUSE_BETWEEN=K only the calls between two marks are numbered: the Kth write to standard error that begins with `(`, and
    the next one that begins with `)`. */
 
 #include <errno.h>
+#include <stdio.h>
 #include <stdlib.h>
 #include <string.h>
 #include <sys/syscall.h>
@@ -24,7 +28,7 @@ extern void *__libc_memalign(size_t alignment, size_t size);
 static const char *refused_kind = "";
 static unsigned long long first, last, made, most_bytes;
 static unsigned long long wanted_mark, marks;
-static int error, met, is_between;
+static int error, met, is_between, is_endless;
 
 static unsigned long long number(const char *name)
 {
@@ -42,6 +46,15 @@ __attribute__((constructor)) static void begin(void)
     wanted_mark = number("REFUSE_BETWEEN");
     if (getenv("REFUSE"))
         refused_kind = getenv("REFUSE");
+    is_endless = strcmp(refused_kind, "endless") == 0;
+}
+
+__attribute__((destructor)) static void end(void)
+{
+    char text[24];
+    int length = snprintf(text, sizeof text, "%llu", made);
+    if (is_endless)
+        syscall(SYS_write, met, text, (size_t)length);
 }
 
 /* Whether this call, one more of its kind, is to fail; errno then says why. */
@@ -93,6 +106,11 @@ static size_t piece(size_t count)
 
 ssize_t read(int file, void *bytes, size_t count)
 {
+    if (is_endless) {
+        made++;
+        *(char *)bytes = ' ';
+        return 1;
+    }
     if (is_refused("read"))
         return error ? -1 : 0;
     return syscall(SYS_read, file, bytes, piece(count));

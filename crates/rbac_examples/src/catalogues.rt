@@ -1,6 +1,6 @@
 //! Type words that no command passes on: one with a slash, and those with nothing before their dot.
 
-use crate::words::{built, is, word};
+use crate::words::{built, check, is, word};
 use rbac_catalogue::{Catalogue, Entries, Entry};
 use rbac_terms::{Word, Words};
 use std::alloc::Global;
@@ -50,5 +50,41 @@ fn a_word_that_names_nothing_stands_as_written(rt: HostRuntime) {
     let catalogue = pods_and_logs(&rt, alloc);
     for row in WORDS {
         assert!(rt; means(&rt, alloc, &catalogue, row));
+    }
+}
+
+// The entries of `widgets` in two versions of a group, by whether each is namespaced.
+fn widgets(rt: &impl Abort, alloc: Global, namespaced: &[bool]) -> Catalogue {
+    let mut catalogue = Catalogue::new(alloc);
+    for is_namespaced in namespaced {
+        let mut entries = Entries::new(alloc);
+        let widgets = Entry {
+            group: word(rt, alloc, "x.io"),
+            namespaced: *is_namespaced,
+            ..entry(rt, alloc, "widgets")
+        };
+        built(rt, entries.push(widgets));
+        built(rt, catalogue.give(entries));
+    }
+    catalogue
+}
+
+// A resource of the group, whether it is outside all namespaces where the second version alone is
+// namespaced, and where neither is.
+const CLUSTER_ONLY: &[(&str, bool, bool)] = &[
+    ("widgets", false, true),
+    ("widgets/scale", false, true),
+    ("gadgets", false, false),
+];
+
+#[test]
+fn a_resource_namespaced_in_one_version_is_namespaced(rt: HostRuntime) {
+    let alloc = rt.alloc();
+    let (mixed, neither) = (widgets(&rt, alloc, &[false, true]), widgets(&rt, alloc, &[false, false]));
+    let group = word(&rt, alloc, "x.io");
+    for (text, in_mixed, in_neither) in CLUSTER_ONLY {
+        let resource = word(&rt, alloc, text);
+        check(&rt, text, mixed.cluster_only(&group, &resource) == *in_mixed);
+        check(&rt, text, neither.cluster_only(&group, &resource) == *in_neither);
     }
 }

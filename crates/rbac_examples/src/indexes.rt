@@ -3,7 +3,7 @@
 use crate::policies::{BindingRow, RuleRow, TO_ALICE, policy};
 use crate::universes::{Listed, universe};
 use crate::words::{built, is};
-use rbac_index::Index;
+use rbac_index::{Index, Meter, Reach};
 use rbac_terms::{Principal, Word};
 use rbac_text::put_place;
 use rbac_universe::Universe;
@@ -83,6 +83,56 @@ fn candidates_are_the_grants_whose_rule_allows(rt: HostRuntime) {
     let index = built(&rt, Index::build(alloc, &policy));
     assert!(rt; index.len() == 4 && are_by_their_rules(&index));
     assert!(rt; has_candidates(&rt, alloc, &index));
+}
+
+// A rule that repeats its verb and names the resource besides `*`.
+const REPEATED_WORDS: &[RuleRow<'static>] = &[[&["get", "*", "get"], &[""], &["pods", "*"], &[]]];
+
+const PODS_ALONE: &Listed<'static> = &Listed {
+    users: &["alice"],
+    groups: &[],
+    namespaces: &[""],
+    verbs: &["get"],
+    resources: &[("", "pods", true)],
+    names: &[""],
+    urls: &[],
+};
+
+// Whether the one grant is the one candidate of the universe's one request.
+fn is_candidate_once(
+    rt: &impl Abort,
+    alloc: Global,
+    index: &Index<'_>,
+    universe: &Universe,
+) -> bool {
+    let mut got = Vec::new(alloc);
+    put_candidates(rt, alloc, index, universe, &mut got);
+    index.len() == 1 && got.as_slice() == [0, END].as_slice()
+}
+
+// Whether the reach of the first grant has one place, the first, which takes one read.
+fn reaches_first_place(
+    rt: &impl Abort,
+    alloc: Global,
+    index: &Index<'_>,
+    universe: &Universe,
+) -> bool {
+    if index.len() == 0 {
+        return false;
+    }
+    let reach = built(rt, Reach::of(alloc, index, 0, universe));
+    let mut meter = Meter::new();
+    reach.len() == 1 && reach.place(0, &mut meter) == 0 && meter.count() == 1
+}
+
+#[test]
+fn words_that_repeat_or_hold_each_other_count_once(rt: HostRuntime) {
+    let alloc = rt.alloc();
+    let universe = universe(&rt, alloc, PODS_ALONE);
+    let policy = policy(&rt, alloc, REPEATED_WORDS, TO_ALICE);
+    let index = built(&rt, Index::build(alloc, &policy));
+    assert!(rt; is_candidate_once(&rt, alloc, &index, &universe));
+    assert!(rt; reaches_first_place(&rt, alloc, &index, &universe));
 }
 
 const GETS_PODS: &[RuleRow<'static>] = &[[&["get"], &[""], &["pods"], &[]]];

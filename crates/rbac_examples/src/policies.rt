@@ -19,7 +19,7 @@ fn rule(rt: &impl Abort, alloc: Global, row: &RuleRow<'_>) -> Rule {
     }
 }
 
-fn rules(rt: &impl Abort, alloc: Global, rows: &[RuleRow<'_>]) -> Rules {
+pub(crate) fn rules(rt: &impl Abort, alloc: Global, rows: &[RuleRow<'_>]) -> Rules {
     let mut all = Rules::new(alloc);
     for row in rows {
         built(rt, all.push(rule(rt, alloc, row)));

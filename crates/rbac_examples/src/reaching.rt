@@ -1,5 +1,6 @@
 //! Which cluster roles an aggregated one reaches.
 
+use crate::policies::{binding, rules};
 use crate::words::{built, check, is, word};
 use rbac_model::{Object, Objects, Policy};
 use rbac_terms::{ClusterRole, Labels, Requirements, Rules, Selector, Selectors, Word, Words};
@@ -42,13 +43,13 @@ fn role(
     name: &str,
     label: &str,
     aggregation: Option<Selectors>,
-) -> Object {
-    Object::ClusterRole(ClusterRole {
+) -> ClusterRole {
+    ClusterRole {
         name: word(rt, alloc, name),
         labels: labels(rt, alloc, label),
         rules: Rules::new(alloc),
         aggregation,
-    })
+    }
 }
 
 // The roles edit, view and admin select one another in a ring, and view selects the plain role q
@@ -63,13 +64,12 @@ const SMALL_RING: &[(&str, &str, &str)] = &[
 
 fn small_ring(rt: &impl Abort, alloc: Global) -> Policy {
     let mut objects = Objects::new(alloc);
-    built(rt, objects.put(role(rt, alloc, "q", "view", None)));
+    let plain = role(rt, alloc, "q", "view", None);
+    built(rt, objects.put(Object::ClusterRole(plain)));
     for (name, label, selected) in SMALL_RING {
         let selected = selectors(rt, alloc, selected);
-        built(
-            rt,
-            objects.put(role(rt, alloc, name, label, Some(selected))),
-        );
+        let aggregated = role(rt, alloc, name, label, Some(selected));
+        built(rt, objects.put(Object::ClusterRole(aggregated)));
     }
     built(rt, Policy::resolve(alloc, objects))
 }
@@ -105,20 +105,33 @@ fn ring_name(rt: &impl Abort, alloc: Global, number: u32) -> String {
 }
 
 // The role with this number, which selects the next one by its label.
-fn ring_role(rt: &impl Abort, alloc: Global, number: u32, next: u32) -> Object {
+fn ring_role(rt: &impl Abort, alloc: Global, number: u32, next: u32) -> ClusterRole {
     let name = ring_name(rt, alloc, number);
     let next = selectors(rt, alloc, ring_name(rt, alloc, next).as_str());
     role(rt, alloc, name.as_str(), name.as_str(), Some(next))
 }
 
-// A ring of roles whose last one selects the first, and a plain role with the first one's label.
+// A plain role of one rule, with the label of the ring's first role.
+fn plain_role(rt: &impl Abort, alloc: Global) -> ClusterRole {
+    ClusterRole {
+        rules: rules(rt, alloc, &[[&["get"], &[""], &["pods"], &[]]]),
+        ..role(rt, alloc, "plain", "r000", None)
+    }
+}
+
+// A ring of roles whose last one selects the first, and a plain role that it selects too; each role
+// of the ring is bound.
 fn great_ring(rt: &impl Abort, alloc: Global) -> Policy {
     let mut objects = Objects::new(alloc);
     for number in 0..RING {
         let next = if number < RING - 1 { number + 1 } else { 0 };
-        built(rt, objects.put(ring_role(rt, alloc, number, next)));
+        let aggregated = ring_role(rt, alloc, number, next);
+        built(rt, objects.put(Object::ClusterRole(aggregated)));
+        let name = ring_name(rt, alloc, number);
+        let row = (None, name.as_str(), name.as_str(), ["alice"].as_slice());
+        built(rt, objects.put(binding(rt, alloc, &row)));
     }
-    built(rt, objects.put(role(rt, alloc, "plain", "r000", None)));
+    built(rt, objects.put(Object::ClusterRole(plain_role(rt, alloc))));
     built(rt, Policy::resolve(alloc, objects))
 }
 
@@ -139,6 +152,10 @@ fn are_ring(rt: &impl Abort, alloc: Global, got: &[Word]) -> bool {
 fn two_hundred_roles_in_a_ring_reach_all_of_them(rt: HostRuntime) {
     let alloc = rt.alloc();
     let policy = great_ring(&rt, alloc);
-    let got = reached(&rt, alloc, &policy, "r077");
-    assert!(rt; are_ring(&rt, alloc, got.as_slice()));
+    assert!(rt; policy.len() == RING);
+    for number in 0..RING {
+        let name = ring_name(&rt, alloc, number);
+        let got = reached(&rt, alloc, &policy, name.as_str());
+        check(&rt, name.as_str(), are_ring(&rt, alloc, got.as_slice()));
+    }
 }

@@ -3,7 +3,7 @@
 use crate::requests::keys_of;
 use crate::universes::Listed;
 use crate::words::{built, check, is, is_of, word};
-use rbac_terms::Key;
+use rbac_terms::{Key, Word};
 use rbac_token::{Mark, TokenFault, key_of_token, mark_of_token, token_of, token_of_mark};
 use std::alloc::Global;
 use std::process::Abort;
@@ -132,6 +132,68 @@ fn another_text_is_no_token(rt: HostRuntime) {
         let alloc = rt.alloc();
         let got = key_of_token(alloc, &word(&rt, alloc, text)).err();
         check(&rt, text, got == Some(*fault));
+    }
+}
+
+const FIRST_TOKEN: &str = "MQl1OmFsaWNlCS0JZ2V0CS0JcG9kcwkt";
+
+// Whether a byte is one of the 64 that a token is made of.
+fn is_digit(byte: u8) -> bool {
+    byte.is_ascii_alphanumeric() || byte == b'-' || byte == b'_'
+}
+
+// Whether the answer is right for the first token with this byte at this place: K1 for a byte that
+// no token has; K2 if the first three bytes, in which the version and its tab are, say something
+// else; otherwise the key whose token the text is, or K3.
+fn is_right_at(rt: &impl Abort, alloc: Global, text: &Word, at: usize, byte: u8) -> bool {
+    match key_of_token(alloc, text) {
+        Err(TokenFault::NotBase64) => !is_digit(byte),
+        Err(TokenFault::BadVersion) => is_digit(byte) && at < 3,
+        Err(TokenFault::NotCanonical) => is_digit(byte) && 2 <= at,
+        Err(TokenFault::NoMemory) => false,
+        Ok(key) => 2 <= at && built(rt, token_of(alloc, &key)).as_bytes() == text.as_bytes(),
+    }
+}
+
+// The first token with this byte at this place.
+fn with_byte(rt: &impl Abort, alloc: Global, at: usize, byte: u8) -> Word {
+    let mut text = Word::new(alloc);
+    for (place, own) in FIRST_TOKEN.as_bytes().iter().enumerate() {
+        built(rt, text.push(if place == at { byte } else { *own }));
+    }
+    text
+}
+
+#[test]
+fn each_byte_of_a_token_counts(rt: HostRuntime) {
+    let alloc = rt.alloc();
+    for (at, own) in FIRST_TOKEN.as_bytes().iter().enumerate() {
+        for byte in 0..=u8::MAX {
+            let text = with_byte(&rt, alloc, at, byte);
+            assert!(rt; byte == *own || is_right_at(&rt, alloc, &text, at, byte));
+        }
+    }
+}
+
+// Whether the answer is right for the first bytes of a token, fewer than all: never a key. One byte
+// past a multiple of four is no base64, and neither are bits at the end that aren't zero; the
+// version is whole from the first byte on.
+fn refuses_prefix(alloc: Global, prefix: &Word) -> bool {
+    let past_four = prefix.as_bytes().len() % 4;
+    match key_of_token(alloc, prefix) {
+        Err(TokenFault::NotBase64) => past_four != 0,
+        Err(TokenFault::BadVersion) => prefix.is_empty(),
+        Err(TokenFault::NotCanonical) => !prefix.is_empty() && past_four != 1,
+        _ => false,
+    }
+}
+
+#[test]
+fn no_prefix_of_a_token_is_one(rt: HostRuntime) {
+    let alloc = rt.alloc();
+    for end in 0..FIRST_TOKEN.len() {
+        let prefix = built(&rt, Word::from_slice(alloc, &FIRST_TOKEN.as_bytes()[..end]));
+        assert!(rt; refuses_prefix(alloc, &prefix));
     }
 }
 

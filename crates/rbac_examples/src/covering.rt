@@ -1,0 +1,82 @@
+//! Which rules cover which.
+
+use crate::words::{check, words};
+use rbac_lint::covers;
+use rbac_terms::Rule;
+use std::alloc::Global;
+use std::process::Abort;
+
+// The verbs, groups, resources, names and URLs of a rule.
+type Row<'a> = [&'a [&'a str]; 5];
+
+fn rule(rt: &impl Abort, alloc: Global, row: &Row<'_>) -> Rule {
+    let [verbs, groups, resources, names, urls] = *row;
+    Rule {
+        verbs: words(rt, alloc, verbs),
+        groups: words(rt, alloc, groups),
+        resources: words(rt, alloc, resources),
+        resource_names: words(rt, alloc, names),
+        urls: words(rt, alloc, urls),
+    }
+}
+
+const PODS: Row<'static> = [&["get"], &[""], &["pods"], &[], &[]];
+
+const POD_A: Row<'static> = [&["get"], &[""], &["pods"], &["a"], &[]];
+
+const LOGS: Row<'static> = [&["get"], &[""], &["*/log"], &[], &[]];
+
+const POD_LOGS: Row<'static> = [&["get"], &[""], &["pods/log"], &[], &[]];
+
+// What is asked, two rules, and whether the first covers the second.
+const COVERS: &[(&str, Row<'static>, Row<'static>, bool)] = &[
+    (
+        "URLs by their prefix",
+        [&["get"], &[], &[], &[], &["/a*"]],
+        [&["get"], &[], &[], &[], &["/a*", "/ab"]],
+        true,
+    ),
+    (
+        "a URL by those below it",
+        [&["get"], &[], &[], &[], &["/a/*"]],
+        [&["get"], &[], &[], &[], &["/a"]],
+        false,
+    ),
+    (
+        "all URLs by all paths",
+        [&["get"], &[], &[], &[], &["/*"]],
+        [&["get"], &[], &[], &[], &["*"]],
+        true,
+    ),
+    ("a subresource by each", LOGS, POD_LOGS, true),
+    ("each subresource by one", POD_LOGS, LOGS, false),
+    (
+        "the text pods/* by */*",
+        [&["get"], &[""], &["*/*"], &[], &[]],
+        [&["get"], &[""], &["pods/*"], &[], &[]],
+        true,
+    ),
+    (
+        "all verbs by two",
+        [&["get", "list"], &[""], &["pods"], &[], &[]],
+        [&["*"], &[""], &["pods"], &[], &[]],
+        false,
+    ),
+    ("a name by all", PODS, POD_A, true),
+    ("all names by one", POD_A, PODS, false),
+    (
+        "nothing by anything",
+        PODS,
+        [&["get"], &[""], &[""], &[], &[]],
+        true,
+    ),
+];
+
+#[test]
+fn a_rule_covers_what_its_words_reach(rt: HostRuntime) {
+    let alloc = rt.alloc();
+    for (name, first, second, wanted) in COVERS {
+        let got = covers(&rule(&rt, alloc, first), &rule(&rt, alloc, second));
+        check(&rt, name, got == *wanted);
+    }
+}
