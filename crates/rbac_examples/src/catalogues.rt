@@ -80,11 +80,22 @@ const CLUSTER_ONLY: &[(&str, bool, bool)] = &[
 #[test]
 fn a_resource_namespaced_in_one_version_is_namespaced(rt: HostRuntime) {
     let alloc = rt.alloc();
-    let (mixed, neither) = (widgets(&rt, alloc, &[false, true]), widgets(&rt, alloc, &[false, false]));
+    let (mixed, neither) = (
+        widgets(&rt, alloc, &[false, true]),
+        widgets(&rt, alloc, &[false, false]),
+    );
     let group = word(&rt, alloc, "x.io");
     for (text, in_mixed, in_neither) in CLUSTER_ONLY {
         let resource = word(&rt, alloc, text);
-        check(&rt, text, mixed.cluster_only(&group, &resource) == *in_mixed);
-        check(&rt, text, neither.cluster_only(&group, &resource) == *in_neither);
+        check(
+            &rt,
+            text,
+            mixed.cluster_only(&group, &resource) == *in_mixed,
+        );
+        check(
+            &rt,
+            text,
+            neither.cluster_only(&group, &resource) == *in_neither,
+        );
     }
 }

@@ -111,12 +111,12 @@ matches_first_of_stem b r (Resource h y m) (Resource g x n) of is ok none = (
 -- where names and a stem match, one of the stem is matched by its name
 named_itself : (r : Rule) (t : What) → IsResource t → StemOk r t → ¬ (r.resource_names ≡ []) → TargetOk r t ↔ Contains r.resource_names (name_of t)
 named_itself r (Url path) is ok named = cc
-named_itself r (Resource g x n) is ok named = (λ m. elim (m.2) [ | inl none ↦ absurd (named none) | inr has ↦ has ], λ has. (ok.0, ok.1, inr has))
+named_itself r (Resource g x n) is ok named = (λ m. elim (m.2) [ inl none ↦ absurd (named none) | inr has ↦ has ], λ has. (ok.0, ok.1, inr has))
 
 named_of_stem : (b : Option Text) (r : Rule) (t u : What) → IsLaterOfStem b t u → StemOk r t → ¬ (r.resource_names ≡ []) → TargetOk r u ↔ Contains r.resource_names (name_of u)
 named_of_stem b r t (Url path) of ok named = absurd (none_below (name_of t) of.name.0)
 named_of_stem b r t (Resource g x n) of ok named = (
-  λ m. elim (m.2) [ | inl none ↦ absurd (named none) | inr has ↦ has ],
+  λ m. elim (m.2) [ inl none ↦ absurd (named none) | inr has ↦ has ],
   λ has. (subst (λ (w : Text). Any (λ v. WordMatches v w) r.groups) (sym of.group) ok.0, subst (λ (w : Text). Any (λ v. ResourceWordMatches v w) r.resources) (sym of.text) ok.1, inr has),
 )
 

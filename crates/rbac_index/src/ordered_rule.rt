@@ -5,8 +5,9 @@ ghost use Rattle.rbac_terms.specs.Text.{Text};
 ghost use Rattle.rbac_terms.specs.Matching.{TargetOk};
 ghost use Rattle.rbac_index.specs.Matched.{IsBetween, StemOk};
 
-use rbac_terms::{Rule, Target, Word, group_matches, is_among, resource_matches, sorted_copy};
-use rbac_terms::target_matches;
+use rbac_terms::{
+    Rule, Target, Word, group_matches, is_among, resource_matches, sorted_copy, target_matches,
+};
 use std::alloc::AllocError;
 use std::marker::Model;
 

@@ -163,7 +163,7 @@ pub known_moved : (p : PolicyView) (u : UniverseView) (at to : Place) (runs : Ru
 known_moved p u at to runs (inl e) known = subst (λ (t : Place). AreKnownAt p u t runs) (sym e) known
 known_moved p u at to runs (inr (none, inl first)) known = record {
   verbs = λ later. absurd (omega (arith, none, later));
-  bare = λ later. elim later [ | inl l ↦ absurd (omega (arith, first, l)) | inr l ↦ absurd (omega (arith, none, l)) ];
+  bare = λ later. elim later [ inl l ↦ absurd (omega (arith, first, l)) | inr l ↦ absurd (omega (arith, none, l)) ];
 }
 known_moved p u at to runs (inr (none, inr same)) known = record {
   verbs = λ later. absurd (omega (arith, none, later));
@@ -174,7 +174,7 @@ known_moved p u at to runs (inr (none, inr same)) known = record {
 pub known_past : (p : PolicyView) (u : UniverseView) (at to : Place) (l : LineView) (runs : Runs) → IsLineAt u at l → ServeBare p l.who runs → to.verb ≡ 0 → (to.namespace ≡ 0) ⊎ (to.principal ≡ at.principal) → AreKnownAt p u to runs
 known_past p u at to l runs here bare none (inl first) = record {
   verbs = λ later. absurd (omega (arith, none, later));
-  bare = λ later. elim later [ | inl n ↦ absurd (omega (arith, first, n)) | inr n ↦ absurd (omega (arith, none, n)) ];
+  bare = λ later. elim later [ inl n ↦ absurd (omega (arith, first, n)) | inr n ↦ absurd (omega (arith, none, n)) ];
 }
 known_past p u at to l runs here bare none (inr same) = record {
   verbs = λ later. absurd (omega (arith, none, later));

@@ -11,11 +11,10 @@ use crate::input::Input;
 use crate::sink::Failed;
 use std::alloc::Global;
 use std::error::Error;
-use std::fmt;
-use std::fs;
 use std::io::Read;
 use std::marker::Model;
 use std::rt::Files;
+use std::{fmt, fs};
 
 /// The most bytes that an input may have: 64 MiB (own).
 pub const MOST_BYTES: usize = 67_108_864;

@@ -76,8 +76,14 @@ impl Key {
         name: &Word,
     ) -> Result<Self, ModelFault>
         ensures ok { IfOk result
-            (λ k. k ≡ record { principal = principal.now; namespace = namespace.now;
-            verb = verb.now; group = group.now; resource = resource.now; name = name.now }) }
+            (λ k. k ≡ record {
+              principal = principal.now;
+              namespace = namespace.now;
+              verb = verb.now;
+              group = group.now;
+              resource = resource.now;
+              name = name.now;
+            }) }
         ensures only_memory { IfErr result (λ e. e ≡ ModelFault.NoMemory) }
     {
         Ok(Key {
