@@ -53,7 +53,8 @@ impl<'m, 's> Matrix<'m, 's> {
     }
 
     /// The rows whose key is greater than this one, which may be of the universe or not; without a
-    /// key, all rows. Rows come in order of keys, each once. Doesn't allocate.
+    /// key, all rows. Rows come in order of keys, each once. Doesn't allocate. No clause says what
+    /// the matrix is once the rows are dropped: for other rows build it anew.
     pub fn rows_after(&mut self, key: Option<&Key>) -> Rows<'_, 'm>
         requires { AreLent self.old }
         ensures going { IsGoing result }
@@ -75,7 +76,7 @@ impl<'m, 's> Matrix<'m, 's> {
 
     /// The rows of every granting binding that come after this mark, whose request and binding may
     /// exist or not; without a mark, all of them. Rows come in order of keys, then of bindings,
-    /// each once. Doesn't allocate.
+    /// each once. Doesn't allocate. For other rows build the matrix anew, as after `rows_after`.
     pub fn every_after(&mut self, mark: Option<&Mark>) -> EveryRows<'_, 'm>
         requires { AreLent self.old }
         ensures going { IsGoingEvery result }

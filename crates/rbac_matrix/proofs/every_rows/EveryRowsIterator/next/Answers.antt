@@ -44,7 +44,7 @@ returns-in_err-place-clause-going c =
     }
 
 pub advance-requires-clause-runs : goal.advance-requires-clause-runs
-advance-requires-clause-runs c = c.next_cell-found.ensures.runs (line_of c.in_ok-line.line) _ c.in_ok-line.ensures.line
+advance-requires-clause-runs c = (c.next_cell-found.ensures.runs (line_of c.in_ok-line.line) _ c.in_ok-line.ensures.line).0
 
 pub advance-requires-clause-seated : goal.advance-requires-clause-seated
 advance-requires-clause-seated c =
