@@ -44,9 +44,10 @@ SHARE = $(DESTDIR)$(PREFIX)/share
 
 install: build
 	install -d $(DESTDIR)$(PREFIX)/bin $(SHARE)/bash-completion/completions $(SHARE)/zsh/site-functions \
-	    $(SHARE)/fish/vendor_completions.d $(SHARE)/man/man1
+	    $(SHARE)/fish/vendor_completions.d $(SHARE)/man/man1 $(DESTDIR)$(PREFIX)/lib/kubectl-rbacaudit
 	install -m 755 $(PROGRAM) $(DESTDIR)$(PREFIX)/bin/rbacaudit
 	install -m 755 plugin/kubectl-rbacaudit $(DESTDIR)$(PREFIX)/bin/kubectl-rbacaudit
+	install -m 644 plugin/kubectl-rbacaudit.d/*.sh $(DESTDIR)$(PREFIX)/lib/kubectl-rbacaudit
 	install -m 644 completions/rbacaudit.bash $(SHARE)/bash-completion/completions/rbacaudit
 	install -m 644 completions/_rbacaudit $(SHARE)/zsh/site-functions/_rbacaudit
 	install -m 644 completions/rbacaudit.fish $(SHARE)/fish/vendor_completions.d/rbacaudit.fish

@@ -59,6 +59,7 @@ FIXED = ['cluster.json', 'namespaced.json', 'namespaces.json', 'accounts.json']
 WHOLE = sorted(FIXED + ['api-v1.json', 'api-apps-v1.json', 'api-metrics.k8s.io-v1beta1.json', 'api-rbac.authorization.k8s.io-v1.json'])
 KIM = ['--as', 'kim@example.com', '--groups', 'shop-developers', '-n', 'shop']
 CI = ['--as', 'system:serviceaccount:shop:ci', '-n', 'shop']
+VERSIONS = 'kubectl-rbacaudit 0.1.0\nrbacaudit 0.1.0\n'
 FINDINGS = ''.join('%s\n' % line for line in (
     'L2\tunused-role\tClusterRole/odd\t-\t-', 'L4\tescalation\tClusterRole/cluster-admin\t1\tbind',
     'L4\tescalation\tClusterRole/cluster-admin\t1\tescalate', 'L4\tescalation\tRole/shop-staging/owner\t1\tbind',
@@ -293,10 +294,11 @@ def closed_folder(it):
     for path, folders, names in os.walk(it.path):
         for name in folders:
             os.chmod(os.path.join(path, name), 0o777)
-    shutil.copy(PLUGIN, it.at('plugin'))
+    shutil.copytree(os.path.dirname(PLUGIN), it.at('plugin'))
     os.mkdir(os.path.join(it.work, 'closed'), 0o555)
-    ended = subprocess.run([it.shell, it.at('plugin'), 'export', os.path.join(it.work, 'closed')], cwd=it.work, stdin=subprocess.DEVNULL,
-                           env=it.environment(), stdout=subprocess.PIPE, stderr=subprocess.PIPE, timeout=60, **nobody())
+    ended = subprocess.run([it.shell, it.at('plugin/kubectl-rbacaudit'), 'export', os.path.join(it.work, 'closed')], cwd=it.work,
+                           stdin=subprocess.DEVNULL, env=it.environment(), stdout=subprocess.PIPE, stderr=subprocess.PIPE, timeout=60,
+                           **nobody())
     it.checked('a folder that may not be written', ended.returncode == 2 and not ended.stdout and
             ended.stderr.endswith(b"can't make a temporary folder in %s\n" % os.path.join(it.work, 'closed').encode()), ended)
     it.checked('it stays empty', not it.files('closed'), it.files('closed'))
@@ -664,7 +666,7 @@ def tools(it):
     it.expect('an export needs no kubectl', ['can-i', '--export', 'prod', *KIM, 'list', 'pods'], 0, 'yes\n', environment=environment)
     status, out, err = got = it.run('lint', environment=environment)
     it.checked('a fresh one does', (status, out) == (2, '') and 'there is no kubectl on the PATH' in err, got)
-    it.expect('versions', ['--version'], 0, 'kubectl-rbacaudit 0.1.0\nrbacaudit 0.1.0\n')
+    it.expect('versions', ['--version'], 0, VERSIONS)
     for line, said in ((['--help'], 'kubectl rbacaudit who-can'), (['-h'], '--partial'), (['export', '--help'], 'incomplete.txt'),
                        (['universe', '-h'], 'Universe document'), (['can-i', '--help'], '--why'),
                        (['who-can', '-Ah'], 'with kubectl rbacaudit who-can'), (['matrix', '-h'], '--after'), (['lint', '--help'], 'dangling-role')):
@@ -682,16 +684,35 @@ def tools(it):
 
 
 def script():
-    """The script itself: shellcheck, and make install."""
+    """The script itself, with its parts: shellcheck, and what make install installs, called by links to it."""
     if shutil.which('shellcheck'):
-        ended = subprocess.run(['shellcheck', PLUGIN], stdout=subprocess.PIPE, stderr=subprocess.STDOUT, timeout=120)
+        ended = subprocess.run(['shellcheck', '-x', PLUGIN], cwd=TOP, stdout=subprocess.PIPE, stderr=subprocess.STDOUT, timeout=120)
         checked('shellcheck', ended.returncode == 0, ended.stdout.decode())
     else:
         print('skipped: shellcheck, which this machine lacks')
     checked('the plugin may be run', os.stat(PLUGIN).st_mode & 0o111 == 0o111, stat.filemode(os.stat(PLUGIN).st_mode))
-    with open(os.path.join(TOP, 'Makefile'), encoding='utf-8') as file:
-        lines = file.read().splitlines()
-    checked('make install installs it', '\tinstall -m 755 plugin/kubectl-rbacaudit $(DESTDIR)$(PREFIX)/bin/kubectl-rbacaudit' in lines, 'no such line')
+    with tempfile.TemporaryDirectory() as path:
+        # (the program is built, and isn't to be proved once more)
+        subprocess.run(['make', '-s', '-o', 'build', 'install', 'PREFIX=' + path], cwd=TOP, check=True, timeout=60)
+        os.mkdir(os.path.join(path, 'far'))
+        os.symlink('../bin/kubectl-rbacaudit', os.path.join(path, 'far', 'near'))
+        os.symlink(os.path.join(path, 'far', 'near'), os.path.join(path, 'link'))
+        for called in ('bin/kubectl-rbacaudit', 'far/near', 'link', './link'):
+            got = told([os.path.join(path, called), '--version'], path)
+            checked('installed, called as %s' % called, got == (0, VERSIONS, ''), repr(got))
+        for shell in SHELLS:
+            got = told([shell, 'kubectl-rbacaudit', '--version'], os.path.join(path, 'bin'))
+            checked('installed, as a script of %s' % shell, got == (0, VERSIONS, ''), repr(got))
+        shutil.rmtree(os.path.join(path, 'lib'))
+        status, out, err = got = told([os.path.join(path, 'link'), '--version'], path)
+        checked('without its parts', (status, out) == (2, '') and "the parts of this plugin aren't there" in err, repr(got))
+
+
+def told(words_, folder):
+    """Status, standard output and standard error of a command in a folder, with the program on the PATH."""
+    ended = subprocess.run(words_, cwd=folder, env=dict(os.environ, PATH=os.path.dirname(PROGRAM) + os.pathsep + os.environ['PATH']),
+                           stdin=subprocess.DEVNULL, stdout=subprocess.PIPE, stderr=subprocess.PIPE, timeout=60)
+    return ended.returncode, ended.stdout.decode(), ended.stderr.decode()
 
 
 if __name__ == '__main__':

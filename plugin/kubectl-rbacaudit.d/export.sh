@@ -1,0 +1,96 @@
+# shellcheck shell=sh
+# The command export.
+
+export_command() {
+    dir=
+    option=
+    for word do
+        if [ -n "$option" ]; then
+            set_next "$word"
+            continue
+        fi
+        case $word in
+            --force) force=yes ;;
+            -h | --help) help=yes ;;
+            --context | --context=* | --kubeconfig | --kubeconfig=*) take_own "$word" ;;
+            -?*) refuse "export has no $word; kubectl rbacaudit export --help lists its options" ;;
+            '') refuse 'the name of the folder is empty' ;;
+            *)
+                [ -z "$dir" ] || refuse 'export writes one folder; put its name in quotes if it has spaces'
+                set_dir "$word"
+                ;;
+        esac
+    done
+    if [ "$help" = yes ]; then
+        export_usage
+        exit 0
+    fi
+    [ -z "$option" ] || refuse "$option needs a value"
+    [ -n "$dir" ] || refuse 'export needs a folder: kubectl rbacaudit export DIR'
+    need_kubectl
+    write_export
+}
+
+write_export() {
+    make_room
+    make_scratch "$dir/.rbacaudit.XXXXXX"
+    stage=$scratch/stage
+    mkdir "$stage" || refuse "can't write into $dir"
+    fetch_parts cluster.json namespaced.json namespaces.json accounts.json api
+    missing=no
+    [ ! -f "$stage/incomplete.txt" ] || missing=yes
+    publish
+    if [ "$missing" = yes ]; then
+        report "a part of the export is missing; $dir/incomplete.txt repeats it"
+        exit 1
+    fi
+    printf 'The export in %s is whole: %s files.\n' "$dir" "$fetched"
+}
+
+# Makes the folder if it isn't there. A folder with an export is refused.
+make_room() {
+    if [ ! -d "$dir" ]; then
+        mkdir -p "$dir" || refuse "can't make the folder $dir"
+        made=$dir
+    fi
+    refuse_old
+}
+
+refuse_old() {
+    [ "$force" = no ] || return 0
+    for_each_old refuse_over
+}
+
+refuse_over() {
+    refuse "$dir already holds an export (${1##*/}); --force puts a new one in its place"
+}
+
+# Calls the function with each file of an export that $dir has.
+for_each_old() {
+    for old in "$dir/cluster.json" "$dir/namespaced.json" "$dir/namespaces.json" "$dir/accounts.json" "$dir"/api-*.json \
+        "$dir/incomplete.txt"; do
+        [ ! -e "$old" ] || "$1" "$old"
+    done
+}
+
+# Puts the files of $stage in the place of the old ones. From the first change to the last, incomplete.txt says that this
+# goes on: so whatever interrupts it, no question takes the files for a whole export.
+publish() {
+    refuse_old
+    marker=$dir/incomplete.txt
+    printf 'export: it was interrupted while its files were put in place\n' >"$scratch/marker" || refuse "can't write $marker"
+    mv -f "$scratch/marker" "$marker" || refuse "can't write $marker"
+    for_each_old remove_old
+    for file in "$stage"/*.json; do
+        mv -f "$file" "$dir/" || refuse "can't write $dir/${file##*/}"
+    done
+    if [ "$missing" = yes ]; then
+        mv -f "$stage/incomplete.txt" "$marker" || refuse "can't write $marker"
+    else
+        rm -f "$marker" || refuse "can't remove $marker"
+    fi
+}
+
+remove_old() {
+    [ "$1" = "$marker" ] || rm -f "$1" || refuse "can't remove $1"
+}

@@ -1,0 +1,147 @@
+# shellcheck shell=sh
+# Types: which the API resource lists have, and the command universe.
+
+# An awk function: the JSON text of a field of a line. A field has backslashes doubled, as JSON has, and control bytes as
+# \x and two digits; - is the empty text.
+JSON_TEXT='
+function json_text(field,    text, at, one) {
+    if (field == "-") return "\"\""
+    for (at = 1; at <= length(field); at++) {
+        one = substr(field, at, 1)
+        if (one == "\"") one = "\\\""
+        else if (one == "\\" && substr(field, ++at, 1) == "\\") one = "\\\\"
+        else if (one == "\\") { one = "\\u00" substr(field, at + 1, 2); at += 2 }
+        text = text one
+    }
+    return "\"" text "\""
+}'
+
+# Writes to $scratch/rows the types that these files name, as rbacaudit reads them: a user who may get everything is asked
+# about, and so the matrix has a row for each type in the whole cluster, and one in the namespace n if the type is
+# namespaced. No role in a cluster has a slash in its name, so the probe takes no role's place.
+list_types() {
+    cat >"$scratch/probe.json" <<'EOF'
+{"apiVersion": "v1", "kind": "List", "items": [
+  {"apiVersion": "rbac.authorization.k8s.io/v1", "kind": "ClusterRole", "metadata": {"name": "/"},
+   "rules": [{"verbs": ["get"], "apiGroups": ["*"], "resources": ["*"]}]},
+  {"apiVersion": "rbac.authorization.k8s.io/v1", "kind": "ClusterRoleBinding", "metadata": {"name": "/"},
+   "roleRef": {"kind": "ClusterRole", "name": "/"}, "subjects": [{"kind": "User", "name": "probe"}]},
+  {"apiVersion": "rbacaudit/v1", "kind": "Universe", "principals": [{"user": "probe"}], "namespaces": ["", "n"],
+   "verbs": ["get"], "names": [""], "urls": []}]}
+EOF
+    ask matrix "$@" "$scratch/probe.json" >"$scratch/rows" || exit "$answered"
+}
+
+# Reports a type in TARGET that the API resource lists don't have, or a subresource that they don't have of a type that they have.
+check_type() {
+    find_place 3 "$@"
+    object=
+    case $found in
+        /*) return ;;
+        */*) object=${found#*/} ;;
+    esac
+    type=${found%%/*}
+    if ! has_lists; then
+        report "the export has no API resource lists, so the type $type is taken as written"
+        return
+    fi
+    reads=api
+    with_files list_types
+    grant_listed
+    if with_files is_listed "$subresource"; then
+        check_object
+        return
+    fi
+    unknown="type $type"
+    if [ -n "$subresource" ] && with_files is_listed ''; then
+        unknown="subresource $type/$subresource"
+    fi
+    report "the API resource lists of the export don't have the $unknown: check the spelling"
+}
+
+# Reports an object's name that is also a subresource of the type: pods/exec in TARGET means a pod named exec.
+check_object() {
+    if [ -z "$subresource" ] && [ -n "$object" ] && with_files is_listed "$object"; then
+        report "$type/$object is taken for an object named $object: to ask about the subresource, write $type --subresource $object"
+    fi
+}
+
+# Writes to $scratch/known.json a user who may get each type of $scratch/rows.
+grant_listed() {
+    LC_ALL=C awk -F '\t' "$JSON_TEXT"'
+        BEGIN {
+            version = "\"apiVersion\": \"rbac.authorization.k8s.io/v1\""
+            print "{\"apiVersion\": \"v1\", \"kind\": \"List\", \"items\": ["
+            print "{" version ", \"kind\": \"ClusterRoleBinding\", \"metadata\": {\"name\": \"/\"},"
+            print " \"roleRef\": {\"kind\": \"ClusterRole\", \"name\": \"/\"},"
+            print " \"subjects\": [{\"kind\": \"User\", \"name\": \"probe\"}]},"
+            print "{" version ", \"kind\": \"ClusterRole\", \"metadata\": {\"name\": \"/\"}, \"rules\": ["
+        }
+        NF == 7 && $2 == "-" {
+            print comma "{\"verbs\": [\"get\"], \"apiGroups\": [" json_text($4) "], \"resources\": [" json_text($5) "]}"
+            comma = ","
+        }
+        END { print "]}]}" }' "$scratch/rows" >"$scratch/known.json"
+}
+
+# Whether the API resource lists have the type, or its subresource of this name if that isn't empty. rbacaudit looks the type up, over
+# the same lists and a user who may get exactly what they have: its no means that it took the word as written.
+is_listed() {
+    below=$1
+    shift
+    ask can-i -q --as probe "--subresource=$below" -- get "$type" "$@" "$scratch/known.json"
+    [ "$answered" -le 1 ] || exit "$answered"
+    return "$answered"
+}
+
+universe_command() {
+    option=
+    for word do
+        if [ -n "$option" ]; then
+            set_next "$word"
+            continue
+        fi
+        case $word in
+            -h | --help) help=yes ;;
+            *) take_own "$word" || refuse "universe has no $word; kubectl rbacaudit --help lists its options" ;;
+        esac
+    done
+    if [ "$help" = yes ]; then
+        usage
+        exit 0
+    fi
+    need_rbacaudit
+    check_options
+    parts_of universe
+    open_export
+    : >"$scratch/listed"
+    if has_lists; then
+        reads=api
+        with_files list_types
+        mv -f "$scratch/rows" "$scratch/listed"
+    fi
+    reads='cluster.json namespaced.json'
+    with_files list_types
+    write_universe
+}
+
+# Prints the types of the API resource lists, and then those that only rules name. Such a subresource is namespaced if its resource
+# is, as rbacaudit takes it; any other such type is namespaced.
+write_universe() {
+    LC_ALL=C awk -F '\t' "$JSON_TEXT"'
+        NF != 7 { next }
+        $2 != "-" { inside[part, $4, $5] = 1; next }
+        { listed[part, $4, $5] = 1 }
+        !(($4, $5) in seen) { seen[$4, $5] = 1; group[++count] = $4; name[count] = $5 }
+        function namespaced(of, type) {
+            if (!(("api", of, type) in listed)) sub(/\/.*/, "", type)
+            return !(("api", of, type) in listed) || (("api", of, type) in inside)
+        }
+        END {
+            print "{\n  \"apiVersion\": \"rbacaudit/v1\",\n  \"kind\": \"Universe\",\n  \"resources\": ["
+            for (at = 1; at <= count; at++)
+                print "    {\"group\": " json_text(group[at]) ", \"resource\": " json_text(name[at]) ", \"namespaced\": " \
+                    (namespaced(group[at], name[at]) ? "true" : "false") "}" (at < count ? "," : "")
+            print "  ],\n  \"names\": [\"\"]\n}"
+        }' part=api "$scratch/listed" part=rules "$scratch/rows"
+}

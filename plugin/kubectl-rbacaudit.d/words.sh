@@ -1,0 +1,107 @@
+# shellcheck shell=sh
+# The words of the command line.
+
+# Begins to read words as rbacaudit reads them.
+begin_words() {
+    awaits=no   # the option whose value the next word is, or no
+    literal=no  # whether -- stood
+    places=0    # how many words were a VERB, a TARGET or a FILE
+}
+
+# Reads a word. Leaves in `place` whether it is a VERB, a TARGET or a FILE.
+read_word() {
+    place=no
+    if [ "$awaits" != no ]; then
+        [ "$awaits" != --subresource ] || subresource=$1
+        awaits=no
+    elif [ "$literal" = yes ]; then
+        place=yes
+    else
+        case $1 in
+            --) literal=yes ;;
+            --help) help=yes ;;
+            --as | --groups | --namespace | --subresource | --after | --limit) awaits=$1 ;;
+            --subresource=*) subresource=${1#*=} ;;
+            --*) ;;
+            -?*) read_letters "${1#-}" ;;
+            *) place=yes ;;
+        esac
+    fi
+    [ "$place" = no ] || places=$((places + 1))
+}
+
+# Reads the letters of a word such as -qA, -n or -nshop.
+read_letters() {
+    letters=$1
+    while [ -n "$letters" ]; do
+        after=${letters#?}
+        case $letters in
+            h*) help=yes ;;
+            n*)
+                [ -n "$after" ] || awaits=-n
+                return
+                ;;
+        esac
+        letters=$after
+    done
+}
+
+# Leaves in `found` the word at this place, counted from 1, among the words that follow.
+find_place() {
+    wanted=$1
+    shift
+    begin_words
+    for word do
+        read_word "$word"
+        found=$word
+        [ "$place" = no ] || [ "$places" -ne "$wanted" ] || return 0
+    done
+    found=
+}
+
+# Takes a word that is an option of the plugin, or fails. Leaves in `option` the one whose value the next word is.
+take_own() {
+    case $1 in
+        --partial) partial=yes ;;
+        --export | --context | --kubeconfig) option=$1 ;;
+        --export=* | --context=* | --kubeconfig=*) set_option "${1%%=*}" "${1#*=}" ;;
+        *) return 1 ;;
+    esac
+}
+
+# An empty value is refused: from an unset variable, it would ask another cluster than was meant.
+set_option() {
+    [ -n "$2" ] || refuse "$1 needs a value"
+    case $1 in
+        --export)
+            [ -z "$export_dir" ] || refuse '--export is given twice'
+            set_dir "$2"
+            export_dir=$dir
+            ;;
+        --context)
+            [ -z "$context" ] || refuse '--context is given twice'
+            context=$2
+            ;;
+        --kubeconfig)
+            [ -z "$kubeconfig" ] || refuse '--kubeconfig is given twice'
+            kubeconfig=$2
+            ;;
+    esac
+    option=
+}
+
+# The same for a value that is a word of its own: one that begins with a dash is an option, and the value was forgotten.
+set_next() {
+    case $1 in
+        -*) refuse "$option needs a value; if $1 is the value, write $option=$1" ;;
+    esac
+    set_option "$option" "$1"
+}
+
+# Leaves in `dir` the folder, written so that no program takes it for an option, and awk doesn't take it for an assignment.
+set_dir() {
+    case $1 in
+        -* | [!/]*=*) dir=./$1 ;;
+        *) dir=$1 ;;
+    esac
+}
