@@ -6,7 +6,8 @@ PROGRAM = crates/rbacaudit/out/rbacaudit
 .PHONY: run test fuzz calls wrong-bodies build install
 
 # One question on the example export: may the CI account of the shop update deployments there, and why? The proved program
-# answers if it is built and no source has changed since; otherwise the sources answer, unproved.
+# answers if it is built and no source has changed since; otherwise the sources answer, unproved. What the kit says of such a try
+# is shown only if it fails.
 QUESTION = can-i --as system:serviceaccount:shop:ci -n shop --why update deployments.apps
 SOURCES = crates.txt $(wildcard crates/*/src crates/*/specs crates/*/proofs)
 
@@ -15,7 +16,8 @@ run:
 	    $(PROGRAM) $(QUESTION) examples/shop.json; \
 	else \
 	    echo 'make run: this answer isn'\''t from a proved build, and takes a few minutes; make build proves and builds the program' >&2; \
-	    cd crates/rbacaudit && rt try --data shop.json=../../examples/shop.json -- $(QUESTION) shop.json; \
+	    cd crates/rbacaudit && { said=$$(rt try --data shop.json=../../examples/shop.json -- $(QUESTION) shop.json 2>&1 >&3) || \
+	        { echo "$$said" >&2; false; } } 3>&1; \
 	fi
 
 # Everything that must hold; the last line is `N passed, M failed`.

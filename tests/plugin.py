@@ -388,12 +388,30 @@ def words(it):
         status, out, err = got = it.run(*line)
         it.checked('refused: %s' % ' '.join(line), (status, out) == (2, '') and said in err, got)
     it.checked('no line was refused after a call', not it.lines('calls'), 'a call')
+    for line, said in ((['can-i', '--as', '-kim', 'get', 'pods'], 'if -kim is the value of --as, write --as=-kim'),
+                       (['who-can', '-An', '-x', 'get', 'pods'], 'if -x is the value of -n, write -n=-x')):
+        status, out, err = got = it.run(*line)
+        it.checked('a value with a dash: %s' % ' '.join(line), status == 2 and err.endswith('kubectl-rbacaudit: %s\n' % said), got)
     it.run('export', 'prod')
+    it.expect('a value with a dash', ['can-i', '--as=-kim', '-n=-x', '--export', 'prod', 'get', 'pods'], 1, 'no\n')
     it.run('export', './-x')
     it.expect('a folder that looks like an option', ['can-i', '--export=-x', *KIM, 'list', 'pods'], 0, 'yes\n')
     it.expect('a user that looks like a command', ['can-i', '--export', 'prod', '--as', 'export', 'list', 'pods'], 1, 'no\n')
     it.expect('an option after -- is a word', ['can-i', '--export', 'prod', *KIM, '--', 'list', 'pods', '--export'], 2, '',
               'rbacaudit: file 1: I1 read fault\nkubectl-rbacaudit: file 1 is --export\n')
+
+
+def a_role(name, **fields):
+    return {'metadata': {'labels': {'name': 'wrong'}, 'name': name, 'namespace': 'shop'}, **fields}
+
+
+# Faults of an item: the list that has it, and what is said of it. Names in other places are no names.
+NAMED_FAULTS = [
+    ('a typed list', {'items': [a_role('a', rules=[]), a_role('b "q', rules=[{'metadata': {'name': 'no'}}])],
+                      'apiVersion': V1, 'kind': 'RoleList'}, ('2: M5 bad rule 1', '2 of it is Role shop/b \\"q')),
+    ('a list of any kinds', {'apiVersion': 'v1', 'kind': 'List', 'metadata': {'name': 'no'}, 'items': [
+        a_role('a', apiVersion=V1, kind='Role'), {'apiVersion': V1, 'kind': 'ClusterRole', 'rules': {}, 'metadata': {'name': 'c'}}]},
+     ('2: M5 bad rule 1', '2 of it is ClusterRole c'))]
 
 
 @in_each_shell
@@ -419,12 +437,54 @@ def files(it):
     it.write(json.dumps({'apiVersion': 'v1', 'kind': 'List', 'items': [{'apiVersion': V1, 'kind': 'Role'}]}), 'prod', 'namespaced.json')
     it.expect('a bad file of the export', ['lint', '--export', 'prod', 'my universe.json'], 2, '',
               'rbacaudit: file 3 item 1: M4 bad metadata\nkubectl-rbacaudit: file 3 is prod/namespaced.json\n')
+    it.write(json.dumps({'apiVersion': V1, 'kind': 'Role', 'metadata': {'name': 'x', 'namespace': 's'}, 'rules': 5}), 'bad.json')
+    it.expect('a bad document with a name', ['lint', '--export', 'prod', 'bad.json'], 2, '',
+              'rbacaudit: file 1: M5 bad rule 1\nkubectl-rbacaudit: file 1 is bad.json, Role s/x\n')
+    for name, fields, said in NAMED_FAULTS:
+        it.write(json.dumps(fields), 'prod', 'namespaced.json')
+        it.expect('the object of a fault: ' + name, ['lint', '--export', 'prod'], 2, '',
+                  'rbacaudit: file 2 item %s\nkubectl-rbacaudit: file 2 is prod/namespaced.json; item %s\n' % said)
     it.write('', 'prod', 'api-v1.json')
     status, out, err = got = it.run('can-i', *KIM, 'list', 'pods', '--export', 'prod')
     it.checked('a bad API list', (status, out) == (2, '') and err.endswith(' is prod/api-v1.json\n'), got)
     it.serve({'accounts': {'apiVersion': 'v1', 'kind': 'List', 'items': [5]}})
     it.expect('a bad file of a fresh export', ['matrix'], 2, '', 'rbacaudit: file 4 item 1: M2 not an object\nkubectl-rbacaudit: '
               'file 4 is accounts.json of the fresh export; kubectl rbacaudit export DIR would keep it\n')
+
+
+# Universe documents that say something else than was meant, and what is said of them.
+NO_FIELD = 'kubectl-rbacaudit: u.json: %s has no field %s, so it is ignored\n'
+NO_UNIVERSE = ('kubectl-rbacaudit: u.json: a document of the version %s and the kind %s is ignored: a Universe document has rbacaudit/v1 '
+               'and Universe\n')
+UNIVERSE_FAULTS = [
+    ({'namespace': ['shop'], 'names': ['"names": ["x"]', 'verb']}, NO_FIELD % ('a Universe document', 'namespace')),
+    ({'principals': [{'user': 'kim', 'group ': ['x']}, {'user': 'lee'}]}, NO_FIELD % ('an item of principals', 'group ')),
+    ({'resources': [{'resource': 'pods', 'namspaced': False}] * 2}, NO_FIELD % ('an item of resources', 'namspaced')),
+    ({'kind': 'Universes'}, NO_UNIVERSE % ('rbacaudit/v1', 'Universes')),
+    ({'apiVersion': 'v1'}, NO_UNIVERSE % ('v1', 'Universe')), ({'apiVersion': 'rbacaudit/v2'}, NO_UNIVERSE % ('rbacaudit/v2', 'Universe')),
+    ({'metadata': {'name': 'u', 'x': 'y'}, 'principals': [{'user': 'kim', 'groups': ['verb', 'items']}, {'group': 'g'}], 'verbs': [],
+      'namespaces': [''], 'resources': [{'group': '', 'resource': 'pods', 'namespaced': True}], 'urls': ['/x']}, '')]
+
+
+@in_each_shell
+def universe_faults(it):
+    """A Universe document's mistyped field, kind or version is reported, in a file of its own and in a list; other files aren't."""
+    it.run('export', 'prod')
+    for fields, said in UNIVERSE_FAULTS:
+        universe = {'apiVersion': 'rbacaudit/v1', 'kind': 'Universe', **fields}
+        listed = {'apiVersion': 'v1', 'kind': 'List', 'items': [universe, {'apiVersion': 'v1', 'kind': 'Pod', 'verb': 'Universe'}]}
+        for value in (universe, listed, dict(reversed(listed.items()))):
+            for indent in (None, 2):
+                it.write(json.dumps(value, indent=indent), 'u.json')
+                status, out, err = got = it.run('matrix', '--limit', '1', '--export', 'prod', 'u.json')
+                it.checked('universe %s' % json.dumps(value), (status, err) == (0, said) and out, got)
+    it.write('{"kind": "Universe", "x', 'u.json')
+    it.expect('no JSON', ['matrix', '--export', 'prod', 'u.json'], 2, '',
+              'rbacaudit: file 1: M1 not JSON\nkubectl-rbacaudit: file 1 is u.json\n')
+    it.lines('calls')
+    it.write(json.dumps({'apiVersion': 'rbacaudit/v1', 'kind': 'Universe', 'verb': []}), 'a=b')
+    status, out, err = got = it.run('matrix', 'a=b', trouble=['down apis'])
+    it.checked('it is said before the cluster is read', (status, out) == (2, '') and err.startswith('kubectl-rbacaudit: a=b: '), got)
 
 
 REFUSAL = 'kubectl-rbacaudit: a part of the export is missing, so nothing is answered; with --partial, what is there answers\n'
@@ -708,13 +768,25 @@ def script():
         checked('without its parts', (status, out) == (2, '') and "the parts of this plugin aren't there" in err, repr(got))
 
 
-def told(words_, folder):
-    """Status, standard output and standard error of a command in a folder, with the program on the PATH."""
-    ended = subprocess.run(words_, cwd=folder, env=dict(os.environ, PATH=os.path.dirname(PROGRAM) + os.pathsep + os.environ['PATH']),
-                           stdin=subprocess.DEVNULL, stdout=subprocess.PIPE, stderr=subprocess.PIPE, timeout=60)
+def make_run():
+    """`make run` without a built program shows the answer of the sources and where it is from, and the kit's own lines only if it fails."""
+    with tempfile.TemporaryDirectory() as path:
+        for status, said in ((0, ''), (3, 'run=ended status=3\n')):
+            with open(os.path.join(path, 'rt'), 'w', encoding='utf-8') as file:
+                file.write('#!/bin/sh\necho yes\necho run=ended status=%d >&2\nexit %d\n' % (status, status))
+            os.chmod(os.path.join(path, 'rt'), 0o755)
+            ended, out, err = got = told(['make', '-s', 'run', 'PROGRAM=none'], TOP, path)
+            notes = [line for line in err.splitlines(True) if not line.startswith(('make', 'make run:'))]
+            checked('make run: the kit ends with %d' % status, (bool(ended), out, ''.join(notes)) == (bool(status), 'yes\n', said), repr(got))
+            checked('make run says that it is unproved', "make run: this answer isn't from a proved build" in err, err)
+
+
+def told(words_, folder, tools_=os.path.dirname(PROGRAM)):
+    """Status, standard output and standard error of a command in a folder, with the program or other tools first on the PATH."""
+    ended = subprocess.run(words_, cwd=folder, env=dict(os.environ, PATH=tools_ + os.pathsep + os.environ['PATH']), stdin=subprocess.DEVNULL, stdout=subprocess.PIPE, stderr=subprocess.PIPE, timeout=60)
     return ended.returncode, ended.stdout.decode(), ended.stderr.decode()
 
 
 if __name__ == '__main__':
-    sys.exit(tested(whole_export, export_faults, no_export, closed_folder, old_exports, questions, words, files, parts, gaps, types, subresources,
-                    universes, interruptions, publishing, tools, script))
+    sys.exit(tested(whole_export, export_faults, no_export, closed_folder, old_exports, questions, words, files, universe_faults, parts, gaps, types, subresources,
+                    universes, interruptions, publishing, tools, script, make_run))

@@ -13,7 +13,7 @@ import sys
 import tempfile
 import textwrap
 
-from common import PROGRAM, TOP, checked
+from common import PODS, PROGRAM, TOP, V1, checked, export
 
 EXAMPLES = os.path.join(TOP, 'examples')
 FOLDERS = {'RECIPES.md': 'cluster'}
@@ -51,6 +51,23 @@ def shown(name, command, wanted, folder):
     ended = subprocess.run(['bash', '-c', command], cwd=folder, env=environment, stdout=subprocess.PIPE, stderr=subprocess.STDOUT,
                            timeout=60)
     checked('%s: %s' % (name, command), ended.stdout.decode() == wanted, 'got %r' % ended.stdout.decode())
+
+
+def spaced_bindings():
+    """The recipe "What a binding adds" counts bindings whose names hold a space: of these three, `b c` alone grants `list`."""
+    def bound(name, role):
+        return {'apiVersion': V1, 'kind': 'ClusterRoleBinding', 'metadata': {'name': name}, 'roleRef': {'kind': 'ClusterRole', 'name': role},
+                'subjects': [{'kind': 'User', 'name': 'kim'}]}
+
+    def role(verb):
+        return {'apiVersion': V1, 'kind': 'ClusterRole', 'metadata': {'name': verb}, 'rules': [{**PODS, 'verbs': [verb]}]}
+
+    part = text_of('docs', 'RECIPES.md').partition('### What a binding adds\n')[2].partition('\n## ')[0]
+    with tempfile.TemporaryDirectory() as folder:
+        with open(os.path.join(folder, 'all.json'), 'wb') as file:
+            file.write(export(role('get'), role('list'), bound('b', 'get'), bound('b d', 'get'), bound('b c', 'list'),
+                              {'apiVersion': 'rbacaudit/v1', 'kind': 'Universe', 'namespaces': ['']}))
+        shown('bindings with spaces', next(steps(part))[0] + '; cat one-binding.rows', 'u:kim\t-\tlist\t-\tpods\t-\tClusterRoleBinding/b c\n', folder)
 
 
 def loop_of_pages():

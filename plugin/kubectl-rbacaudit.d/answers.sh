@@ -80,38 +80,57 @@ with_files() {
     "$@"
 }
 
-# Runs rbacaudit and gives its status. After a fault that gives a file by its number, reports the file's name.
+# Runs rbacaudit and gives its status. After a fault that gives a file by its number, reports the file's name, and the object.
 ask() {
     run rbacaudit "$@" 2>"$scratch/said"
     answered=$?
     cat "$scratch/said" >&2
     number=$(sed -n 's/^rbacaudit: file \([0-9][0-9]*\)[: ].*/\1/p' "$scratch/said")
+    item=$(sed -n 's/^rbacaudit: file [0-9]* item \([0-9][0-9]*\): .*/\1/p' "$scratch/said")
     [ -z "$number" ] || name_file "$number" "$@"
     return "$answered"
 }
 
 # The command itself is the first place; VERB and TARGET are two more.
 name_file() {
-    case $2 in
-        can-i | who-can) before=3 ;;
-        *) before=1 ;;
-    esac
+    set_most "$2"
     number=$1
     shift
-    find_place $((before + number)) "$@"
+    find_place $((most + number)) "$@"
+    find_object "$found" "${item:-0}"
+    between=', '
+    [ -z "$item" ] || between="; item $item of it is "
+    object=${object:+$between$object}
     case $found in
-        "$scratch"/*) report "file $number is ${found##*/} of the fresh export; kubectl rbacaudit export DIR would keep it" ;;
-        *) report "file $number is $found" ;;
+        "$scratch"/*) report "file $number is ${found##*/} of the fresh export$object; kubectl rbacaudit export DIR would keep it" ;;
+        *) report "file $number is $found$object" ;;
     esac
+}
+
+# Leaves in `most` how many places of a command stand before its FILEs.
+set_most() {
+    case $1 in
+        can-i | who-can) most=3 ;;
+        *) most=1 ;;
+    esac
+}
+
+# Calls a function with each FILE among the words of a command.
+for_each_file() {
+    each=$1
+    shift
+    set_most "$1"
+    begin_words
+    for word do
+        read_word "$word"
+        [ "$place" = no ] || [ "$places" -le "$most" ] || "$each" "$word"
+    done
 }
 
 # Lets rbacaudit read the words, without FILEs, over an export that grants nothing. A line that it refuses ends here, before
 # any call to a cluster.
 accept_words() {
-    case $1 in
-        can-i | who-can) most=3 ;;
-        *) most=1 ;;
-    esac
+    set_most "$1"
     left=$#
     begin_words
     while [ "$left" -gt 0 ]; do
@@ -127,10 +146,10 @@ accept_words() {
 {"apiVersion": "v1", "kind": "List"}
 EOF
     answered=$?
-    if [ "$answered" -gt 1 ]; then
-        cat "$scratch/said" >&2
-        exit "$answered"
-    fi
+    [ "$answered" -gt 1 ] || return 0
+    cat "$scratch/said" >&2
+    [ -z "$dashed" ] || report "if ${dashed#*=} is the value of ${dashed%%=*}, write $dashed"
+    exit "$answered"
 }
 
 # Takes the words of a question, without the plugin's own options, to rbacaudit.
@@ -154,6 +173,7 @@ question_command() {
     [ "$help" = no ] || question_help
     check_options
     accept_words "$@"
+    [ "$command" != matrix ] || for_each_file look_for_universe "$@"
     parts_of "$command"
     open_export
     case $command in

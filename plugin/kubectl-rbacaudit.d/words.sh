@@ -6,6 +6,7 @@ begin_words() {
     awaits=no   # the option whose value the next word is, or no
     literal=no  # whether -- stood
     places=0    # how many words were a VERB, a TARGET or a FILE
+    dashed=     # the last value that begins with a dash, and its option, as they have to be written
 }
 
 # Reads a word. Leaves in `place` whether it is a VERB, a TARGET or a FILE.
@@ -13,6 +14,9 @@ read_word() {
     place=no
     if [ "$awaits" != no ]; then
         [ "$awaits" != --subresource ] || subresource=$1
+        case $1 in
+            -*) dashed=$awaits=$1 ;;
+        esac
         awaits=no
     elif [ "$literal" = yes ]; then
         place=yes
