@@ -187,7 +187,7 @@ question_command() {
 question_help() {
     rbacaudit "$command" --help || exit
     printf '\n%s\n%s\n' "With kubectl rbacaudit $command, the files of the export follow by themselves." \
-        'kubectl rbacaudit --help lists its options: --export DIR, --partial, --context NAME, --kubeconfig FILE.'
+        'kubectl rbacaudit --help lists its options: --export, --partial, --context, --kubeconfig, --request-timeout.'
     exit 0
 }
 
@@ -196,8 +196,8 @@ check_options() {
     [ -z "$option" ] || refuse "$option needs a value"
     if [ -z "$export_dir" ]; then
         need_kubectl
-    elif [ -n "$context$kubeconfig" ]; then
-        refuse 'an export answers without a cluster: give either --export, or --context and --kubeconfig'
+    elif [ -n "$context$kubeconfig$timeout" ]; then
+        refuse 'an export answers without a cluster: give either --export, or --context, --kubeconfig and --request-timeout'
     fi
     set_dir "${TMPDIR:-/tmp}"
     make_scratch "$dir/kubectl-rbacaudit.XXXXXX"

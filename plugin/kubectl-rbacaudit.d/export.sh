@@ -5,21 +5,7 @@ export_command() {
     dir=
     option=
     for word do
-        if [ -n "$option" ]; then
-            set_next "$word"
-            continue
-        fi
-        case $word in
-            --force) force=yes ;;
-            -h | --help) help=yes ;;
-            --context | --context=* | --kubeconfig | --kubeconfig=*) take_own "$word" ;;
-            -?*) refuse "export has no $word; kubectl rbacaudit export --help lists its options" ;;
-            '') refuse 'the name of the folder is empty' ;;
-            *)
-                [ -z "$dir" ] || refuse 'export writes one folder; put its name in quotes if it has spaces'
-                set_dir "$word"
-                ;;
-        esac
+        take_export_word "$word"
     done
     if [ "$help" = yes ]; then
         export_usage
@@ -31,12 +17,35 @@ export_command() {
     write_export
 }
 
+take_export_word() {
+    if [ -n "$option" ]; then
+        set_next "$1"
+        return
+    fi
+    case $1 in
+        --force) force=yes ;;
+        -h | --help) help=yes ;;
+        --context | --context=* | --kubeconfig | --kubeconfig=* | --request-timeout | --request-timeout=*) take_own "$1" ;;
+        -n | --namespace | --as | --as-group) option=$1 ;;
+        --namespace=* | --as=* | --as-group=*) set_option "${1%%=*}" "${1#*=}" ;;
+        -n=*) set_option -n "${1#-n=}" ;;
+        -n*) set_option -n "${1#-n}" ;;
+        -?*) refuse "export has no $1; kubectl rbacaudit export --help lists its options" ;;
+        '') refuse 'the name of the folder is empty' ;;
+        *)
+            [ -z "$dir" ] || refuse 'export writes one folder; put its name in quotes if it has spaces'
+            set_dir "$1"
+            ;;
+    esac
+}
+
 write_export() {
     make_room
     make_scratch "$dir/.rbacaudit.XXXXXX"
     stage=$scratch/stage
     mkdir "$stage" || refuse "can't write into $dir"
-    fetch_parts cluster.json namespaced.json namespaces.json accounts.json api
+    fetch_parts cluster.json namespaced.json namespaces.json accounts.json version api
+    write_about
     missing=no
     [ ! -f "$stage/incomplete.txt" ] || missing=yes
     publish
@@ -44,7 +53,20 @@ write_export() {
         report "a part of the export is missing; $dir/incomplete.txt repeats it"
         exit 1
     fi
-    printf 'The export in %s is whole: %s files.\n' "$dir" "$fetched"
+    printf 'The export in %s is whole%s: %s files.\n' "$dir" "${only_in:+ for the namespace $only_in}" "$fetched"
+}
+
+# What was read, for whoever finds the export later. A question without -n asks in the namespace; only says that no other was read.
+write_about() {
+    look_at_context
+    version=
+    [ ! -f "$stage/version" ] || version=$(sed -n 's/.*"gitVersion": *"\([^"]*\)".*/\1/p' "$stage/version")
+    namespace=${only_in:-${context_namespace:-default}}
+    {
+        printf '%s\n' "context: $context_name" "server: $server" "version: $version" "namespace: $namespace"
+        [ -z "$only_in" ] || printf 'only: %s\n' "$only_in"
+        date -u '+time: %Y-%m-%dT%H:%M:%SZ'
+    } | printable >"$stage/about.txt" || refuse "can't write about.txt"
 }
 
 # Makes the folder if it isn't there. A folder with an export is refused.
@@ -68,7 +90,7 @@ refuse_over() {
 # Calls the function with each file of an export that $dir has.
 for_each_old() {
     for old in "$dir/cluster.json" "$dir/namespaced.json" "$dir/namespaces.json" "$dir/accounts.json" "$dir"/api-*.json \
-        "$dir/incomplete.txt"; do
+        "$dir/about.txt" "$dir/incomplete.txt"; do
         [ ! -e "$old" ] || "$1" "$old"
     done
 }
@@ -81,7 +103,7 @@ publish() {
     printf 'export: it was interrupted while its files were put in place\n' >"$scratch/marker" || refuse "can't write $marker"
     mv -f "$scratch/marker" "$marker" || refuse "can't write $marker"
     for_each_old remove_old
-    for file in "$stage"/*.json; do
+    for file in "$stage"/*.json "$stage/about.txt"; do
         mv -f "$file" "$dir/" || refuse "can't write $dir/${file##*/}"
     done
     if [ "$missing" = yes ]; then

@@ -1,66 +1,180 @@
 # shellcheck shell=sh
 # Reading the cluster with kubectl.
 
-kubectl_get() {
-    run kubectl get "$@" ${context:+"--context=$context"} ${kubeconfig:+"--kubeconfig=$kubeconfig"}
+SIDE_BY_SIDE=8  # how many calls go on at once: each takes about 50 MB, and most of its time is waiting
+NEWLINE='
+'
+
+# Calls a function with the words of a call of kubectl, and the options that each call gets.
+with_kubectl() {
+    set -- "$@" ${context:+"--context=$context"} ${kubeconfig:+"--kubeconfig=$kubeconfig"} \
+        ${as_user:+"--as=$as_user"} ${timeout:+"--request-timeout=$timeout"}
+    groups_left=$as_groups
+    while [ -n "$groups_left" ]; do
+        set -- "$@" "--as-group=${groups_left%%"$NEWLINE"*}"
+        groups_left=${groups_left#*"$NEWLINE"}
+    done
+    "$@"
 }
 
-# Writes what kubectl prints to the file of this name in $stage, whole or not at all. Reports and notes if it can't be had.
+# Reads into the file of this name in $stage, which is needed, or only wanted. The first call is made alone, with this
+# script's standard input and error, so that whoever has to sign in can do it; the others go on side by side.
 fetch() {
-    name=$1
-    shift
-    kubectl_get "$@" >"$stage/part"
-    failed=$?
-    if [ "$failed" -eq 0 ] && [ -s "$stage/part" ]; then
-        mv -f "$stage/part" "$stage/$name" || refuse "can't write $name"
-        fetched=$((fetched + 1))
-        return
+    need=$1
+    name=$2
+    shift 2
+    begun=$((begun + 1))
+    printf '%s\n' "$need" "$name" "kubectl get $*" >"$scratch/call.$begun"
+    : >"$scratch/said.$begun"
+    if [ "$signed_in" = no ]; then
+        signed_in=yes
+        with_kubectl run kubectl get "$@" >"$scratch/got.$begun"
+        failed=$?
+        settle
+    else
+        with_kubectl start kubectl get "$@"
+        [ $((begun - settled)) -lt "$SIDE_BY_SIDE" ] || collect
     fi
+}
+
+start() {
+    "$@" </dev/null >"$scratch/got.$begun" 2>"$scratch/said.$begun" 3<&- 4<&- &
+    children="$children$! "
+}
+
+# Waits for the oldest call that goes on.
+collect() {
+    wait "${children%% *}"
+    failed=$?
+    children=${children#* }
+    settle
+}
+
+# Takes what the next call printed to its file, whole or not at all. Reports and notes what is needed and can't be had.
+settle() {
+    settled=$((settled + 1))
+    got=$scratch/got.$settled
+    said=$scratch/said.$settled
+    { read -r need; read -r name; read -r asked; } <"$scratch/call.$settled"
+    if [ "$failed" -eq 0 ] && [ -s "$got" ]; then
+        show_said
+        mv -f "$got" "$stage/$name" || refuse "can't write $name"
+        [ "$need" = wanted ] || fetched=$((fetched + 1))
+    elif [ "$need" = needed ]; then
+        show_said
+        note_missing
+    fi
+    rm -f "$got" "$said" "$scratch/call.$settled"
+    show_progress
+}
+
+# Shows what kubectl said, now that its call has ended.
+show_said() {
+    [ -s "$said" ] || return 0
+    erase_progress
+    printable <"$said" >&2
+}
+
+# The note has the server's own reason too, without kubectl's warnings and log.
+note_missing() {
     why="ended with status $failed"
     [ "$failed" -ne 0 ] || why='printed nothing'
-    report "$name can't be had: kubectl get $* $why"
-    printf '%s: kubectl get %s %s\n' "$name" "$*" "$why" >>"$stage/incomplete.txt" || refuse "can't write incomplete.txt"
+    erase_progress
+    report "$name can't be had: $asked $why"
+    reason=$(sed '/^Warning: /d; /^[EFIW][0-9]\{4\} /d' "$said" | printable | tr '\n' ' ')
+    reason=${reason% }
+    printf '%s: %s %s%s\n' "$name" "$asked" "$why" "${reason:+: $reason}" >>"$stage/incomplete.txt" ||
+        refuse "can't write incomplete.txt"
+}
+
+# On a terminal, a line says how far the reading is, and goes away.
+show_progress() {
+    [ -t 2 ] || return 0
+    printf '\rkubectl-rbacaudit: %s of %s files' "$settled" "$total" >&2
+    drawn=yes
+}
+
+erase_progress() {
+    [ "$drawn" = no ] || printf '\r%60s\r' '' >&2
+    drawn=no
 }
 
 # Fetches the API resource list of each version. The versions are those of /apis: kubectl api-versions leaves out a group
 # that doesn't answer just now, and so would pass over it.
 fetch_lists() {
-    fetch api-v1.json --raw /api/v1
+    fetch needed api-v1.json --raw /api/v1
+    used=
     while IFS= read -r version <&4; do
-        name=api-$(printf '%s' "$version" | tr / -)
-        while [ -e "$stage/$name.json" ]; do
-            name=${name}_   # two versions of one name, such as a-b/v1 and a/b-v1
+        list=api-$(printf '%s' "$version" | tr / -)
+        while case "$used" in *"$NEWLINE$list$NEWLINE"*) true ;; *) false ;; esac; do
+            list=${list}_   # two versions of one name, such as a-b/v1 and a/b-v1
         done
-        fetch "$name.json" --raw "/apis/$version"
+        used=$used$NEWLINE$list$NEWLINE
+        fetch needed "$list.json" --raw "/apis/$version"
     done 4<"$scratch/versions"
 }
 
 # Writes the API versions to $scratch/versions. Texts stand between quotes, and a quote inside of a text has a backslash
 # before it: so a version is what stands after groupVersion, a quote, a colon and a quote.
 list_versions() {
-    kubectl_get --raw /apis >"$scratch/apis" ||
+    with_kubectl run kubectl get --raw /apis >"$scratch/apis" ||
         refuse "the API groups can't be had: kubectl get --raw /apis ended with status $?; so nothing is read"
+    signed_in=yes
     LC_ALL=C awk 'BEGIN { RS = "\"" }
         before == "groupVersion" && between ~ /^[ \t\r\n]*:[ \t\r\n]*$/ && !seen[$0]++ { print }
         { before = between; between = $0 }' "$scratch/apis" >"$scratch/versions"
     [ -s "$scratch/versions" ] || refuse "the API groups can't be had: kubectl get --raw /apis printed none; so nothing is read"
+    while IFS= read -r version; do
+        total=$((total + 1))
+    done <"$scratch/versions"
 }
 
 # Fetches parts of an export into the folder $stage: those named, where api stands for all API resource lists.
 fetch_parts() {
     fetched=0
+    begun=0
+    settled=0
+    total=$#
+    signed_in=no
     case " $* " in *' api '*) list_versions ;; esac
     for part do
-        case $part in
-            cluster.json)
-                fetch "$part" clusterroles.rbac.authorization.k8s.io,clusterrolebindings.rbac.authorization.k8s.io -o json ;;
-            namespaced.json)
-                fetch "$part" roles.rbac.authorization.k8s.io,rolebindings.rbac.authorization.k8s.io --all-namespaces -o json ;;
-            namespaces.json) fetch "$part" namespaces -o json ;;
-            accounts.json) fetch "$part" serviceaccounts --all-namespaces -o json ;;
-            api) fetch_lists ;;
-        esac
+        fetch_part "$part"
     done
-    rm -f "$stage/part"
+    while [ "$settled" -lt "$begun" ]; do
+        collect
+    done
+    erase_progress
     [ "$fetched" -ne 0 ] || refuse 'nothing could be read'
+}
+
+# With export -n, of one namespace.
+fetch_part() {
+    set -- "$1" ${only_in:+-n "$only_in"}
+    [ $# -gt 1 ] || set -- "$1" --all-namespaces
+    rbac=rbac.authorization.k8s.io
+    case $1 in
+        cluster.json) fetch needed "$1" "clusterroles.$rbac,clusterrolebindings.$rbac" -o json ;;
+        namespaced.json)
+            shift
+            fetch needed namespaced.json "roles.$rbac,rolebindings.$rbac" "$@" -o json
+            ;;
+        namespaces.json) fetch needed "$1" namespaces ${only_in:+"$only_in"} -o json ;;
+        accounts.json)
+            shift
+            fetch needed accounts.json serviceaccounts "$@" -o json
+            ;;
+        version) fetch wanted "$1" --raw /version ;;
+        api) fetch_lists ;;
+    esac
+}
+
+# Leaves in `context_name`, `server` and `context_namespace` what the kubeconfig says, or nothing where kubectl has none.
+look_at_context() {
+    with_kubectl kubectl config view --minify -o \
+        'jsonpath={.current-context}{"\n"}{.clusters[0].cluster.server}{"\n"}{.contexts[0].context.namespace}{"\n"}' \
+        </dev/null >"$scratch/context" 2>/dev/null
+    { IFS= read -r context_name; IFS= read -r server; IFS= read -r context_namespace; } <"$scratch/context"
+    case $server in
+        *://*@*) server=${server%%://*}://${server#*@} ;;  # a name and a password are nobody else's business
+    esac
 }

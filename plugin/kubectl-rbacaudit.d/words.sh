@@ -67,8 +67,8 @@ find_place() {
 take_own() {
     case $1 in
         --partial) partial=yes ;;
-        --export | --context | --kubeconfig) option=$1 ;;
-        --export=* | --context=* | --kubeconfig=*) set_option "${1%%=*}" "${1#*=}" ;;
+        --export | --context | --kubeconfig | --request-timeout) option=$1 ;;
+        --export=* | --context=* | --kubeconfig=* | --request-timeout=*) set_option "${1%%=*}" "${1#*=}" ;;
         *) return 1 ;;
     esac
 }
@@ -78,20 +78,22 @@ set_option() {
     [ -n "$2" ] || refuse "$1 needs a value"
     case $1 in
         --export)
-            [ -z "$export_dir" ] || refuse '--export is given twice'
+            refuse_second "$1" "$export_dir"
             set_dir "$2"
             export_dir=$dir
             ;;
-        --context)
-            [ -z "$context" ] || refuse '--context is given twice'
-            context=$2
-            ;;
-        --kubeconfig)
-            [ -z "$kubeconfig" ] || refuse '--kubeconfig is given twice'
-            kubeconfig=$2
-            ;;
+        --context) refuse_second "$1" "$context" && context=$2 ;;
+        --kubeconfig) refuse_second "$1" "$kubeconfig" && kubeconfig=$2 ;;
+        --request-timeout) refuse_second "$1" "$timeout" && timeout=$2 ;;
+        -n | --namespace) refuse_second "$1" "$only_in" && only_in=$2 ;;
+        --as) refuse_second "$1" "$as_user" && as_user=$2 ;;
+        --as-group) as_groups=$as_groups$2$NEWLINE ;;
     esac
     option=
+}
+
+refuse_second() {
+    [ -z "$2" ] || refuse "$1 is given twice"
 }
 
 # The same for a value that is a word of its own: one that begins with a dash is an option, and the value was forgotten.
