@@ -1,0 +1,174 @@
+'use strict';
+
+// What the page holds. Rows are coded by tables of words: each field has the list of its words and a column of places in it. A word
+// stays spelled as `matrix` prints it, so a copied or saved row is the matrix's own line; what is shown is the text that it means.
+
+const FIELDS = ['who', 'namespace', 'verb', 'group', 'resource', 'name', 'binding'];
+const HEADS = {change: 'Change', who: 'Who', namespace: 'Namespace', verb: 'Verb', group: 'API group',
+    resource: 'Resource or URL', name: 'Object name', binding: 'Binding'};
+// What an empty field means.
+const EMPTY = {namespace: 'whole cluster', group: 'core'};
+const CHANGES = {'+': 'gained', '-': 'lost'};
+
+class Rows {
+    constructor({count, words, columns}, fields) {
+        this.fields = fields;
+        this.length = count;
+        this.words = {};
+        this.columns = {};
+        fields.forEach((field, at) => {
+            this.words[field] = words[at];
+            this.columns[field] = numbersOf(columns[at], words[at].length);
+        });
+    }
+
+    word(row, field) {
+        return this.words[field][this.columns[field][row]];
+    }
+
+    line(row) {
+        return this.fields.map(field => this.word(row, field)).join('\t');
+    }
+
+    // Whether this row is about the same request as the one before: with --every, one that another binding grants too.
+    repeats(row) {
+        return row > 0 && FIELDS.every(field => field === 'binding' || this.columns[field][row] === this.columns[field][row - 1]);
+    }
+
+    // For each word of a field, whether it is wanted: 1 or 0.
+    mask(field, wanted) {
+        const wants = wantedBy(wanted);
+        return Uint8Array.from(this.words[field], word => wants(word, field));
+    }
+
+    // The rows that pass: for each field that is named, by its filter; with q, by any field; and by a test of the row's place.
+    matching(filters, test) {
+        const each = this.fields.filter(field => filters[field]).map(field => [this.columns[field], this.mask(field, filters[field])]);
+        const some = filters.q ? this.fields.map(field => [this.columns[field], this.mask(field, filters.q)]) : null;
+        const found = new Uint32Array(this.length);
+        let count = 0;
+        for (let row = 0; row < this.length; row++) {
+            const passes = ([column, mask]) => mask[column[row]];
+            if (each.every(passes) && (!some || some.some(passes)) && (!test || test(row))) {
+                found[count++] = row;
+            }
+        }
+        return found.subarray(0, count);
+    }
+}
+
+// A column's numbers, from their base64: one, two or four bytes each, by how many words there are.
+function numbersOf(text, words) {
+    const binary = atob(text);
+    const bytes = new Uint8Array(binary.length);
+    for (let at = 0; at < bytes.length; at++) {
+        bytes[at] = binary.charCodeAt(at);
+    }
+    const Numbers = words <= 256 ? Uint8Array : words <= 65536 ? Uint16Array : Uint32Array;
+    return new Numbers(bytes.buffer);
+}
+
+// The test of a filter: `=WORD` wants a field that is printed so, any other text one whose text has it, in small or capital letters.
+function wantedBy(wanted) {
+    if (wanted.startsWith('=')) {
+        return word => word === wanted.slice(1);
+    }
+    const small = wanted.toLowerCase();
+    return (word, field) => meaning(word, field).toLowerCase().includes(small);
+}
+
+// ---- texts
+
+// The text that a printed field stands for.
+function textOf(word) {
+    if (word === '-') {
+        return '';
+    }
+    return word.includes('\\') ? word.replace(/\\\\|\\x([0-9a-f]{2})/g, (_, code) => code ? String.fromCharCode(parseInt(code, 16)) : '\\') : word;
+}
+
+function meaning(word, field) {
+    if (field === 'change') {
+        return CHANGES[word];
+    }
+    return word === '-' ? EMPTY[field] || '' : textOf(word);
+}
+
+// Characters that can't be seen, or change how their neighbours are shown: control, format and ignorable ones, and odd blanks.
+const UNSEEN = /[\p{Cc}\p{Cf}\p{Cs}\p{Zl}\p{Zp}\p{Default_Ignorable_Code_Point}]|(?! )\p{Zs}/gu;
+const LONGEST = 300;
+
+function codeOf(character) {
+    return 'U+' + character.codePointAt(0).toString(16).toUpperCase().padStart(4, '0');
+}
+
+function counted(count, one, many = one + 's') {
+    return count.toLocaleString('en') + ' ' + (count === 1 ? one : many);
+}
+
+// A text as nodes: each unseen character as its code, and a long text cut, which it says, unless all of it is wanted.
+function nodesOf(text, most = LONGEST) {
+    const cut = text.length > most ? text.slice(0, most) : text;
+    const nodes = [];
+    let from = 0;
+    for (const found of cut.matchAll(UNSEEN)) {
+        nodes.push(cut.slice(from, found.index), make('span', {class: 'unseen'}, codeOf(found[0])));
+        from = found.index + found[0].length;
+    }
+    nodes.push(cut.slice(from));
+    if (cut !== text) {
+        nodes.push(make('span', {class: 'muted'}, '… ' + counted(text.length, 'character')));
+    }
+    return nodes;
+}
+
+// The same as one line of text, for titles and labels.
+function lineOf(text) {
+    const cut = text.length > LONGEST ? text.slice(0, LONGEST) + '…' : text;
+    return cut.replace(UNSEEN, character => '[' + codeOf(character) + ']');
+}
+
+// An element with attributes and children; a text is only ever a text.
+function make(name, attributes = {}, ...children) {
+    const element = document.createElement(name);
+    for (const [key, value] of Object.entries(attributes)) {
+        if (typeof value === 'function') {
+            element.addEventListener(key, value);
+        } else if (value !== false && value !== undefined) {
+            element.setAttribute(key, value === true ? '' : value);
+        }
+    }
+    element.append(...children.flat(3));
+    return element;
+}
+
+// What stands for a field's word on the page.
+function fieldNodes(word, field) {
+    if (field === 'who') {
+        return principalNodes(word);
+    }
+    if (field === 'change') {
+        return [make('span', {class: word === '+' ? 'gained' : 'lost'}, `${word === '-' ? '−' : word} ${CHANGES[word]}`)];
+    }
+    return word === '-' ? [make('span', {class: 'muted'}, EMPTY[field] || '–')] : nodesOf(textOf(word));
+}
+
+const ACCOUNT = /^u:system:serviceaccount:[^:]+:[^:]+$/;
+
+function kindOf(word) {
+    return word.startsWith('g:') ? 'group' : ACCOUNT.test(word) ? 'service account' : 'user';
+}
+
+const SHORT_KINDS = {group: 'group', 'service account': 'account', user: 'user'};
+
+// A principal: what kind it is, and its name; a service account without the words that all of them share.
+function principalNodes(word) {
+    const kind = kindOf(word);
+    const name = textOf(word).slice(kind === 'service account' ? 'u:system:serviceaccount:'.length : 2);
+    return [make('span', {class: 'kind ' + SHORT_KINDS[kind]}, SHORT_KINDS[kind]), ' ', make('bdi', {}, nodesOf(name))];
+}
+
+// The name of a type as one writes it in a question: deployments.apps, pods, /metrics.
+function typeOf(group, resource) {
+    return textOf(resource) + (group === '-' ? '' : '.' + textOf(group));
+}

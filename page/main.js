@@ -1,0 +1,107 @@
+// The address after # says what is shown: a view and its parameters.
+
+const VIEWS = {
+    who: ['Who', () => new WhoView()],
+    what: ['What', () => new WhatView()],
+    watch: ['Watch list', () => new WatchView()],
+    rows: ['Rows', () => new RowsView(ROWS, 'Rows', 'rows', 'A filter takes the rows whose field contains it. With = before it, the field '
+        + 'has to be printed exactly so: =- is the empty field, which as a namespace means the whole cluster, and as an API group the core '
+        + 'group.')],
+};
+if (PAGE.findings) {
+    VIEWS.findings = ['Findings', () => new FindingsView()];
+}
+if (DIFF) {
+    VIEWS.changes = ['Changes', () => new RowsView(DIFF, 'Changes', 'changes', 'Gained is what is allowed now and wasn’t before; lost is what '
+        + 'was allowed before and isn’t now. The binding is the first one that grants it, or granted it.')];
+}
+const COUNTS = {who: PRINCIPALS.length, rows: ROWS.length, findings: PAGE.findings?.length, changes: DIFF?.length};
+const built = {};
+let current = '';
+
+function address() {
+    const [view, query = ''] = location.hash.slice(1).split(/\?(.*)/s);
+    return [view in VIEWS || view === 'find' ? view : 'who', Object.fromEntries(new URLSearchParams(query))];
+}
+
+function go(view, params) {
+    location.hash = link(view, params);
+}
+
+// Changes some parameters of the view that is shown, in place: the way back doesn't lead through each letter typed.
+function change(some) {
+    const [view, params] = address();
+    history.replaceState(null, '', link(view, {...params, ...some}));
+    render();
+}
+
+function say(text) {
+    const said = document.getElementById('said');
+    said.textContent = text;
+    said.classList.add('is-told');
+    setTimeout(() => said.classList.remove('is-told'), 4000);
+}
+
+function render() {
+    const [view, params] = address();
+    const main = document.getElementById('main');
+    if (view !== 'what' || !params.cell) {
+        document.getElementById('cell').close();
+    }
+    built[view] ||= view === 'find' ? new FindView() : VIEWS[view][1]();
+    if (view !== current) {
+        main.replaceChildren(built[view].element);
+        main.className = built[view].element.className === 'text' ? 'scrolls' : '';
+        main.scrollTop = 0;
+        current = view;
+        for (const it of document.querySelectorAll('#views a')) {
+            it.setAttribute('aria-current', it.dataset.view === view ? 'page' : 'false');
+        }
+    }
+    built[view].update(params);
+    const wanted = document.getElementById('wanted');
+    if (view !== 'find' && document.activeElement !== wanted) {
+        wanted.value = '';
+    }
+}
+
+function begin() {
+    document.getElementById('facts').textContent = [counted(ROWS.length, 'row'), counted(PRINCIPALS.length, 'principal'),
+        counted(ROWS.words.namespace.filter(word => word !== '-').length, 'namespace'),
+        counted(ROWS.words.binding.length, 'granting binding')].join(' · ');
+    document.getElementById('views').append(...Object.entries(VIEWS).map(([view, [title]]) => make('li', {},
+        make('a', {href: link(view), 'data-view': view}, title, COUNTS[view] === undefined ? '' : [' ', make('small', {},
+            COUNTS[view].toLocaleString('en'))]))));
+    const notice = document.getElementById('notice');
+    notice.hidden = PAGE.whole;
+    notice.textContent = PAGE.whole ? '' : 'This is a part of the matrix: --limit left out the rows after the last one here.';
+    listen();
+    render();
+}
+
+function listen() {
+    const wanted = document.getElementById('wanted');
+    wanted.addEventListener('input', () => {
+        if (address()[0] === 'find') {
+            change({q: wanted.value});
+        } else {
+            go('find', {q: wanted.value});
+        }
+    });
+    document.getElementById('search').addEventListener('submit', event => event.preventDefault());
+    document.getElementById('cell').addEventListener('close', () => {
+        if (address()[0] === 'what' && address()[1].cell) {
+            change({cell: ''});
+        }
+    });
+    window.addEventListener('hashchange', render);
+    window.addEventListener('keydown', event => {
+        const isTyping = /^(INPUT|SELECT|TEXTAREA)$/.test(document.activeElement.tagName);
+        if (event.key === '/' && !isTyping && !event.ctrlKey && !event.metaKey && !event.altKey) {
+            event.preventDefault();
+            wanted.focus();
+        }
+    });
+}
+
+begin();

@@ -1,0 +1,147 @@
+// Tables that draw only what is seen: between two spacers that are as large as all that isn't drawn.
+
+const ROW_HEIGHT = 28;   // as in page.css
+const CELL_WIDTH = 80;   // as in page.css
+const BEYOND = 8;        // how many rows or columns are drawn past the edges
+const PRINTED = 5000;    // how many rows are printed at most
+
+const sheets = new Set();
+
+// Which of `count` things of this size are seen, or nearly.
+function seen(from, room, size, count) {
+    const first = Math.max(0, Math.floor(from / size) - BEYOND);
+    return [Math.min(first, count), Math.min(count, Math.ceil((from + room) / size) + BEYOND)];
+}
+
+// A scrolling table: `heads` are its header cells, and `draw` gives the cells of the row at a place.
+class Sheet {
+    constructor(label, heads, draw, className = '') {
+        this.draw = draw;
+        this.count = 0;
+        this.drawn = '';
+        this.body = make('tbody');
+        this.head = make('tr', {'aria-rowindex': 1}, heads);
+        this.table = make('table', {class: className, 'aria-label': label}, make('thead', {}, this.head), this.body);
+        this.more = make('p', {class: 'only-printed'});
+        this.element = make('div', {class: 'sheet', tabindex: 0, role: 'region', 'aria-label': label}, this.table, this.more);
+        this.element.addEventListener('scroll', () => this.redraw());
+        sheets.add(this);
+    }
+
+    show(count) {
+        this.count = count;
+        this.drawn = '';
+        this.table.setAttribute('aria-rowcount', count + 1);
+        this.element.scrollTop = 0;
+        this.redraw();
+    }
+
+    // Draws the rows in view, or, to print, all from the first one on.
+    redraw(isPrinted = false) {
+        const [first, end] = isPrinted ? [0, Math.min(this.count, PRINTED)]
+            : seen(this.element.scrollTop, this.element.clientHeight, ROW_HEIGHT, this.count);
+        this.more.textContent = isPrinted && end < this.count
+            ? `${counted(this.count - end, 'more row')} of ${this.count.toLocaleString('en')} aren’t printed; the page itself has them.` : '';
+        const range = `${first} ${end} ${this.columnsInView(isPrinted)}`;
+        if (range === this.drawn) {
+            return;
+        }
+        this.drawn = range;
+        const focused = this.body.contains(document.activeElement) ? document.activeElement.getAttribute('href') : null;
+        const rows = [];
+        for (let at = first; at < end; at++) {
+            rows.push(make('tr', {'aria-rowindex': at + 2, class: at % 2 ? 'odd' : false}, this.draw(at)));
+        }
+        this.body.replaceChildren(spacer(first), ...rows, spacer(isPrinted ? 0 : this.count - end));
+        if (focused !== null) {
+            [...this.body.querySelectorAll('a')].find(link => link.getAttribute('href') === focused)?.focus({preventScroll: true});
+        }
+    }
+
+    columnsInView() {
+        return '';
+    }
+}
+
+function spacer(rows) {
+    const row = make('tr', {class: 'spacer', 'aria-hidden': 'true'}, make('td'));
+    row.style.height = rows * ROW_HEIGHT + 'px';
+    return row;
+}
+
+// A sheet with many narrow columns, of which it draws those in view too. `corner` is the first header cell, `top` gives the header
+// cell of a column, `side` the header cell of a row, and `cell` that of both.
+class Grid extends Sheet {
+    constructor(label, corner, top, side, cell) {
+        super(label, [], at => [side(at), gap(this.before), this.span((column) => cell(at, column)), gap(this.after)], 'grid');
+        this.corner = corner;
+        this.top = top;
+        this.columns = 0;
+    }
+
+    showGrid(rows, columns) {
+        this.columns = columns;
+        this.table.setAttribute('aria-colcount', columns + 1);
+        this.element.scrollLeft = 0;
+        this.show(rows);
+    }
+
+    columnsInView(isPrinted) {
+        const room = this.element.clientWidth;
+        [this.from, this.to] = isPrinted ? [0, this.columns] : seen(this.element.scrollLeft, room, CELL_WIDTH, this.columns);
+        this.before = this.from;
+        this.after = this.columns - this.to;
+        const range = `${this.from} ${this.to}`;
+        if (this.top && (range !== this.headed || this.drawn === '')) {
+            this.headed = range;
+            this.head.replaceChildren(this.corner, gap(this.before), ...this.span(this.top), gap(this.after));
+        }
+        return range;
+    }
+
+    span(draw) {
+        const cells = [];
+        for (let column = this.from; column < this.to; column++) {
+            const cell = draw(column);
+            cell.setAttribute('aria-colindex', column + 2);
+            cells.push(cell);
+        }
+        return cells;
+    }
+}
+
+// A cell in place of columns that aren't drawn.
+function gap(columns) {
+    const cell = make('td', {class: 'gap', 'aria-hidden': 'true'});
+    cell.style.minWidth = cell.style.width = columns * CELL_WIDTH + 'px';
+    return cell;
+}
+
+function redrawAll(isPrinted) {
+    for (const sheet of sheets) {
+        if (sheet.element.isConnected) {
+            sheet.drawn = '';
+            sheet.redraw(isPrinted);
+        }
+    }
+}
+
+window.addEventListener('resize', () => redrawAll(false));
+window.addEventListener('beforeprint', () => redrawAll(true));
+window.addEventListener('afterprint', () => redrawAll(false));
+
+// A short table that stands whole in the text: its first `most` rows, and a button for the next ones.
+function plainTable(label, heads, items, draw, most = 100) {
+    const body = make('tbody');
+    const button = make('button', {type: 'button', click: () => more()});
+    let shown = 0;
+    function more() {
+        body.append(...items.slice(shown, shown + most).map(item => make('tr', {}, draw(item).map(cell => make('td', {}, cell)))));
+        shown = Math.min(items.length, shown + most);
+        button.textContent = `Show ${Math.min(most, items.length - shown)} more of ${items.length.toLocaleString('en')}`;
+        button.hidden = shown === items.length;
+    }
+    more();
+    const head = make('tr', {}, heads.map(head => make('th', {scope: 'col'}, head)));
+    return [make('table', {class: 'plain', 'aria-label': label}, make('thead', {}, head), body), button];
+}
