@@ -5,7 +5,7 @@
 
 const FIELDS = ['who', 'namespace', 'verb', 'group', 'resource', 'name', 'binding'];
 const HEADS = {change: 'Change', who: 'Who', namespace: 'Namespace', verb: 'Verb', group: 'API group',
-    resource: 'Resource or URL', name: 'Object name', binding: 'Binding'};
+    resource: 'Resource or URL', name: 'Name', binding: 'Binding'};
 // What an empty field means.
 const EMPTY = {namespace: 'whole cluster', group: 'core'};
 const CHANGES = {'+': 'gained', '-': 'lost'};

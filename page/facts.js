@@ -5,27 +5,27 @@ const RBAC_ROLES = ['roles.rbac.authorization.k8s.io', 'clusterroles.rbac.author
 // What to watch: pairs of verbs and types. A type that ends in /* stands for all its subresources. The last one has none: it is
 // about all that the page lists.
 const WATCHED = [
-    {id: 'secrets', title: 'Reads secrets', pairs: [[['get', 'list', 'watch'], ['secrets']]],
+    {id: 'secrets', short: 'secrets', title: 'Reads secrets', pairs: [[['get', 'list', 'watch'], ['secrets']]],
         why: 'Secrets hold passwords, keys and tokens. Listing or watching shows their contents as much as getting one does.'},
-    {id: 'exec', title: 'Execs into pods',
+    {id: 'exec', short: 'exec', title: 'Execs into pods',
         pairs: [[['get', 'create'], ['pods/exec', 'pods/attach', 'nodes/proxy']], [['patch', 'update'], ['pods/ephemeralcontainers']]],
         why: 'Runs commands inside running pods, with all that the pods may do: by exec or attach, through a node’s proxy, or in an '
             + 'ephemeral container.'},
-    {id: 'workloads', title: 'Creates pods or workloads',
+    {id: 'workloads', short: 'workloads', title: 'Creates pods or workloads',
         pairs: [[['create'], ['pods', 'replicationcontrollers', 'deployments.apps', 'daemonsets.apps', 'statefulsets.apps',
             'replicasets.apps', 'jobs.batch', 'cronjobs.batch']]],
         why: 'A new pod may use any service account of its namespace, and mount its secrets.'},
-    {id: 'impersonate', title: 'Impersonates',
+    {id: 'impersonate', short: 'impersonate', title: 'Impersonates',
         pairs: [[['impersonate'], ['users', 'groups', 'serviceaccounts', 'uids.authentication.k8s.io',
             'userextras/*.authentication.k8s.io']]],
         why: 'Acts as another user, group or service account, with all that those may do.'},
-    {id: 'bind', title: 'Binds roles', pairs: [[['bind'], RBAC_ROLES]],
+    {id: 'bind', short: 'bind', title: 'Binds roles', pairs: [[['bind'], RBAC_ROLES]],
         why: 'May give somebody a role whose permissions the giver doesn’t have.'},
-    {id: 'escalate', title: 'Escalates roles', pairs: [[['escalate'], RBAC_ROLES]],
+    {id: 'escalate', short: 'escalate', title: 'Escalates roles', pairs: [[['escalate'], RBAC_ROLES]],
         why: 'May write permissions into a role that the writer doesn’t have.'},
-    {id: 'tokens', title: 'Creates tokens', pairs: [[['create'], ['serviceaccounts/token']]],
+    {id: 'tokens', short: 'tokens', title: 'Creates tokens', pairs: [[['create'], ['serviceaccounts/token']]],
         why: 'A token of a service account lets its holder act as that account, from anywhere.'},
-    {id: 'everything', title: 'Has everything (*)', pairs: [],
+    {id: 'everything', short: 'everything', title: 'Has everything (*)', pairs: [],
         why: 'May use every verb on every type that this page lists for the whole cluster or for a namespace, as a rule of stars '
             + 'allows; or has a row for * itself.'},
 ];
@@ -56,8 +56,7 @@ class Watch {
 
     // Which pairs have the type of a row, as bits.
     typePairs(row) {
-        const {group, resource} = this.rows.columns;
-        const key = group[row] * this.rows.words.resource.length + resource[row];
+        const key = keyOfType(row, this.rows);
         if (!this.targets.has(key)) {
             const type = typeOf(this.rows.word(row, 'group'), this.rows.word(row, 'resource'));
             this.targets.set(key, places(this.pairs, pair => pair.types.some(wanted => isType(type, wanted))));
@@ -89,10 +88,10 @@ class Watch {
         for (let row = 0; row < rows.length; row++) {
             const resource = rows.word(row, 'resource');
             if (rows.word(row, 'name') === '-' && !resource.startsWith('/') && !rows.repeats(row)) {
-                const {who, namespace, group} = rows.columns;
+                const {who, namespace} = rows.columns;
                 const scope = this.scope(who[row], namespace[row]);
                 held.set(scope, (held.get(scope) || 0) + 1);
-                types[namespace[row]].add(group[row] * rows.words.resource.length + rows.columns.resource[row]);
+                types[namespace[row]].add(keyOfType(row, rows));
             }
         }
         const verbs = rows.words.verb.length;
@@ -102,6 +101,11 @@ class Watch {
         };
         return new Set([...held].filter(([scope, count]) => isAll(scope, count)).map(([scope]) => scope));
     }
+}
+
+// A number for the type of a row.
+function keyOfType(row, rows = ROWS) {
+    return rows.columns.group[row] * rows.words.resource.length + rows.columns.resource[row];
 }
 
 function places(list, test) {
@@ -130,6 +134,35 @@ function principalsOf(rows, watch) {
         it.watchedAt.set(namespace, it.watchedAt.get(namespace) | bits);
     }
     return found;
+}
+
+// ---- orders and groups
+
+function grouped(items, key) {
+    const groups = new Map();
+    for (const item of items) {
+        const name = key(item);
+        if (!groups.has(name)) {
+            groups.set(name, []);
+        }
+        groups.get(name).push(item);
+    }
+    return groups;
+}
+
+function byText(a, b) {
+    return a < b ? -1 : a > b ? 1 : 0;
+}
+
+// The whole cluster, then namespaces by name.
+function byNamespace(a, b) {
+    return (a !== '-') - (b !== '-') || byText(a, b);
+}
+
+// Types by group and name, the core group first; URLs stand last.
+function byType(a, b) {
+    const isUrl = it => it.resource.startsWith('/');
+    return isUrl(a) - isUrl(b) || (a.group !== '-') - (b.group !== '-') || byText(a.group, b.group) || byText(a.resource, b.resource);
 }
 
 // The verbs that have a letter; all others are a dot.

@@ -38,28 +38,25 @@ class WhatView {
 
     // The rows of the namespace, by principal and type.
     gather(namespace, params) {
-        const {columns, words} = ROWS;
+        const {columns} = ROWS;
         const wantsWho = ROWS.mask('who', params.who || '');
         const wanted = (params.type || '').toLowerCase();
-        this.cells = new Map();
         const types = new Map();
-        const principals = new Set();
+        const rows = [];
         for (let row = 0; row < ROWS.length; row++) {
-            if (columns.namespace[row] !== namespace || !wantsWho[columns.who[row]]) {
-                continue;
-            }
-            const key = columns.group[row] * words.resource.length + columns.resource[row];
-            if (!types.has(key)) {
-                types.set(key, typeAt(row, key, wanted));
-            }
-            if (types.get(key).isWanted) {
-                principals.add(columns.who[row]);
-                const cell = columns.who[row] + ' ' + key;
-                this.cells.set(cell, [...this.cells.get(cell) || [], row]);
+            if (columns.namespace[row] === namespace && wantsWho[columns.who[row]]) {
+                const key = keyOfType(row);
+                if (!types.has(key)) {
+                    types.set(key, typeAt(row, key, wanted));
+                }
+                if (types.get(key).isWanted) {
+                    rows.push(row);
+                }
             }
         }
+        this.cells = grouped(rows, row => columns.who[row] + ' ' + keyOfType(row));
         this.types = [...types.values()].filter(type => type.isWanted).sort(byType);
-        this.principals = [...principals];
+        this.principals = [...new Set(rows.map(row => columns.who[row]))];
     }
 
     typeHead(type) {
@@ -86,21 +83,10 @@ class WhatView {
     }
 }
 
-// The order of namespaces in the list: the whole cluster, then by name.
-function byNamespace(a, b) {
-    return (a !== '-') - (b !== '-') || (a < b ? -1 : a > b ? 1 : 0);
-}
-
 function typeAt(row, key, wanted) {
     const group = ROWS.word(row, 'group');
     const resource = ROWS.word(row, 'resource');
     return {key, group, resource, isWanted: typeOf(group, resource).toLowerCase().includes(wanted)};
-}
-
-// Types by group and name; URLs stand last.
-function byType(a, b) {
-    const key = ({group, resource}) => `${resource.startsWith('/') ? 1 : 0}\t${group}\t${resource}`;
-    return key(a) < key(b) ? -1 : 1;
 }
 
 // The verbs' letters, each in its place; one that counts for some object names only is marked.

@@ -51,7 +51,7 @@ function render() {
     built[view] ||= view === 'find' ? new FindView() : VIEWS[view][1]();
     if (view !== current) {
         main.replaceChildren(built[view].element);
-        main.className = built[view].element.className === 'text' ? 'scrolls' : '';
+        main.className = built[view].element.classList.contains('text') ? 'scrolls' : '';
         main.scrollTop = 0;
         current = view;
         for (const it of document.querySelectorAll('#views a')) {

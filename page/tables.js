@@ -1,7 +1,7 @@
 // Tables that draw only what is seen: between two spacers that are as large as all that isn't drawn.
 
 const ROW_HEIGHT = 28;   // as in page.css
-const CELL_WIDTH = 80;   // as in page.css
+const CELL_WIDTH = 74;   // as in page.css
 const BEYOND = 8;        // how many rows or columns are drawn past the edges
 const PRINTED = 5000;    // how many rows are printed at most
 

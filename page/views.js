@@ -37,8 +37,8 @@ function fill(element, params) {
 }
 
 function badges(bits, principal) {
-    return WATCHED.filter((_, at) => bits >> at & 1).map(({id, title}) =>
-        [anchor('rows', {who: '=' + principal, watch: id}, make('span', {class: 'badge'}, title.replace(' (*)', ''))), ' ']);
+    return WATCHED.filter((_, at) => bits >> at & 1).map(({id, short, title}) =>
+        [make('a', {href: link('rows', {who: '=' + principal, watch: id}), class: 'badge', title}, short), ' ']);
 }
 
 function bindingLinks(places_) {
@@ -127,8 +127,9 @@ class PrincipalView {
             this.sheet.show(0);
             return;
         }
-        this.summary.textContent = `${counted(it.permissions, 'permission')}: ${counted(it.cluster, 'one', 'of them')} in the whole cluster, `
-            + `the others in ${counted(it.namespaces.size, 'namespace')}; from ${counted(it.bindings.size, 'binding')}.`;
+        this.summary.textContent = [counted(it.permissions, 'permission') + ': ' + it.cluster.toLocaleString('en') + ' in the whole cluster',
+            (it.permissions - it.cluster).toLocaleString('en') + ' in ' + counted(it.namespaces.size, 'namespace'),
+            'from ' + counted(it.bindings.size, 'binding')].join(', ') + '.';
         this.watched.replaceChildren(...badges(it.watched, it.word).flat());
         this.links.replaceChildren(anchor('rows', {who: '=' + it.word}, 'All rows'));
         this.show(linesOf(it.rows), params);
@@ -155,25 +156,16 @@ class PrincipalView {
     }
 }
 
-// Rows by namespace and target: the verbs and bindings of each.
+// Rows by namespace and target: the verbs and bindings of each. The whole cluster comes first, then namespaces by name.
 function linesOf(rows) {
-    const lines = new Map();
-    for (const row of rows) {
-        const word = field => ROWS.word(row, field);
-        const target = [word('group'), word('resource'), word('name')].join('\t');
-        const key = word('namespace') + '\t' + target;
-        if (!lines.has(key)) {
-            lines.set(key, {namespace: word('namespace'), group: word('group'), resource: word('resource'), name: word('name'), target,
-                verbs: new Set(), bindings: new Set()});
-        }
-        lines.get(key).verbs.add(word('verb'));
-        lines.get(key).bindings.add(ROWS.columns.binding[row]);
-    }
-    const byNamespace = new Map();
-    for (const line of lines.values()) {
-        byNamespace.set(line.namespace, [...byNamespace.get(line.namespace) || [], line]);
-    }
-    return [...byNamespace.values()].flat();
+    const targetOf = row => ['group', 'resource', 'name'].map(field => ROWS.word(row, field)).join('\t');
+    const lines = [...grouped(rows, row => ROWS.word(row, 'namespace') + '\t' + targetOf(row)).values()].map(found => {
+        const [row] = found;
+        return {namespace: ROWS.word(row, 'namespace'), group: ROWS.word(row, 'group'), resource: ROWS.word(row, 'resource'),
+            name: ROWS.word(row, 'name'), target: targetOf(row), verbs: new Set(found.map(it => ROWS.word(it, 'verb'))),
+            bindings: new Set(found.map(it => ROWS.columns.binding[it]))};
+    });
+    return lines.sort((a, b) => byNamespace(a.namespace, b.namespace) || byType(a, b));
 }
 
 // A type, with its group set back.
@@ -186,21 +178,20 @@ function typeNodes(group, resource) {
 
 class WatchView {
     constructor() {
+        const held = WATCHED.map((_, at) => holdersOf(at));
         this.element = make('div', {class: 'text'}, make('h2', {}, 'Watch list'),
-            make('ul', {class: 'tiles'}, WATCHED.map((watched, at) => this.tile(watched, at))),
-            WATCHED.map((watched, at) => this.section(watched, at)));
-        this.params = {};
+            make('ul', {class: 'tiles'}, WATCHED.map((watched, at) => this.tile(watched, held[at]))),
+            WATCHED.map((watched, at) => this.section(watched, held[at])));
     }
 
-    tile({id, title}, at) {
-        const held = holdersOf(at);
+    tile({id, title}, held) {
         const whole = held.filter(isClusterWide).length;
-        return make('li', {}, make('a', {href: link('watch', {at: id}), click: () => this.jump(id)}, make('b', {}, held.length.toLocaleString('en')),
-            make('span', {}, title), make('small', {class: 'muted'}, whole ? `${whole.toLocaleString('en')} in the whole cluster` : held.length ? 'in namespaces alone' : 'nobody')));
+        const where = whole ? `${whole.toLocaleString('en')} in the whole cluster` : held.length ? 'in namespaces alone' : 'nobody';
+        return make('li', {}, make('a', {href: link('watch', {at: id}), click: () => this.jump(id)},
+            make('b', {}, held.length.toLocaleString('en')), make('span', {}, title), make('small', {class: 'muted'}, where)));
     }
 
-    section({id, title, why}, at) {
-        const held = holdersOf(at);
+    section({id, title, why}, held) {
         const parts = held.length ? plainTable(title, ['Principal', 'Where', 'Verbs and types', 'Bindings'], held, it => this.line(it, id))
             : make('p', {}, 'Nobody, by the rows of this page.');
         return make('section', {id: 'watch-' + id, 'aria-labelledby': 'title-' + id},
@@ -267,7 +258,7 @@ class RowsView {
         this.summary = make('span', {class: 'muted'});
         this.watch = make('select', {'aria-label': 'Only rows of the watch list', 'data-param': 'watch',
             change: event => change({watch: event.target.value})},
-            make('option', {value: ''}, 'whole list'), WATCHED.map(({id, title: it}) => make('option', {value: id}, it)));
+            make('option', {value: ''}, 'watched or not'), WATCHED.map(({id, title: it}) => make('option', {value: id}, it)));
         this.element = make('div', {class: 'view'},
             make('div', {class: 'tools'}, make('h2', {}, title), filterInput('Filter by any field', 'q', 'any field'),
                 rows === ROWS ? this.watch : [], this.summary,
@@ -337,11 +328,8 @@ const FINDINGS = {
 
 class FindingsView {
     constructor() {
-        const codes = new Map();
-        for (const finding of PAGE.findings) {
-            codes.set(finding[0], [...codes.get(finding[0]) || [], finding]);
-        }
-        this.element = make('div', {class: 'text'}, make('h2', {}, 'Findings'),
+        const codes = grouped(PAGE.findings, finding => finding[0]);
+        this.element = make('div', {class: 'text findings'}, make('h2', {}, 'Findings'),
             codes.size ? [...codes.values()].map(found => this.section(found)) : make('p', {}, 'lint found nothing.'));
     }
 
@@ -351,7 +339,7 @@ class FindingsView {
         return make('section', {}, make('h3', {}, nodesOf(title), ' ', make('span', {class: 'muted'}, found.length.toLocaleString('en'))),
             make('p', {class: 'why'}, FINDINGS[code] || ''),
             plainTable(title, ['Object', 'Rule or subject', 'What belongs to it'], found,
-                finding => finding.slice(2).map(word => word === '-' ? '' : nodesOf(textOf(word)))));
+                finding => finding.slice(2).map(word => word === '-' ? make('span', {class: 'muted'}, '–') : nodesOf(textOf(word)))));
     }
 
     update() {}
