@@ -3,7 +3,8 @@
 const ROW_HEIGHT = 28;   // as in page.css
 const CELL_WIDTH = 74;   // as in page.css
 const BEYOND = 8;        // how many rows or columns are drawn past the edges
-const PRINTED = 5000;    // how many rows are printed at most
+const PRINTED = 2000;    // how many rows are printed at most
+const ACROSS = 15;       // how many types of a grid fit on a sheet of paper
 
 const sheets = new Set();
 
@@ -40,8 +41,7 @@ class Sheet {
     redraw(isPrinted = false) {
         const [first, end] = isPrinted ? [0, Math.min(this.count, PRINTED)]
             : seen(this.element.scrollTop, this.element.clientHeight, ROW_HEIGHT, this.count);
-        this.more.textContent = isPrinted && end < this.count
-            ? `${counted(this.count - end, 'more row')} of ${this.count.toLocaleString('en')} aren’t printed; the page itself has them.` : '';
+        this.more.textContent = isPrinted ? this.leftOut(end) : '';
         const range = `${first} ${end} ${this.columnsInView(isPrinted)}`;
         if (range === this.drawn) {
             return;
@@ -60,6 +60,12 @@ class Sheet {
 
     columnsInView() {
         return '';
+    }
+
+    // What a print lacks.
+    leftOut(end) {
+        return end < this.count ? `${counted(this.count - end, 'more row')} of ${this.count.toLocaleString('en')} aren’t printed: filter them, or `
+            + 'look into the page itself. ' : '';
     }
 }
 
@@ -87,8 +93,12 @@ class Grid extends Sheet {
     }
 
     columnsInView(isPrinted) {
-        const room = this.element.clientWidth;
-        [this.from, this.to] = isPrinted ? [0, this.columns] : seen(this.element.scrollLeft, room, CELL_WIDTH, this.columns);
+        const {scrollLeft, clientWidth} = this.element;
+        [this.from, this.to] = seen(scrollLeft, clientWidth, CELL_WIDTH, this.columns);
+        if (isPrinted) {
+            this.from = Math.floor(scrollLeft / CELL_WIDTH);
+            this.to = Math.min(this.columns, this.from + ACROSS);
+        }
         this.before = this.from;
         this.after = this.columns - this.to;
         const range = `${this.from} ${this.to}`;
@@ -97,6 +107,12 @@ class Grid extends Sheet {
             this.head.replaceChildren(this.corner, gap(this.before), ...this.span(this.top), gap(this.after));
         }
         return range;
+    }
+
+    leftOut(end) {
+        const columns = Math.min(this.columns, ACROSS);
+        return super.leftOut(end) + (columns < this.columns ? `${columns} of ${counted(this.columns, 'type')} are printed: filter the types, or scroll `
+            + 'to the first one to be printed.' : '');
     }
 
     span(draw) {
