@@ -22,6 +22,8 @@ class WhatView {
         const words = ROWS.words.namespace;
         const namespace = words.includes(params.ns) ? params.ns : words.toSorted(byNamespace)[0];
         fill(this.element, {...params, ns: namespace});
+        this.namespace = namespace;
+        this.params = params;
         const shown = JSON.stringify([namespace, params.who, params.type]);
         if (shown !== this.shown) {
             this.shown = shown;
@@ -31,8 +33,6 @@ class WhatView {
         } else {
             this.grid.redraw();
         }
-        this.namespace = namespace;
-        this.params = params;
         showCell(params.cell, namespace);
     }
 
