@@ -41,15 +41,18 @@ wrong-bodies:
 build:
 	@python3 tools/build.py
 
-# The completions and the man page go where each shell and man look.
+# The completions and the man page go where each shell and man look; the files of the page where rbacaudit-page looks.
 SHARE = $(DESTDIR)$(PREFIX)/share
 
 install: build
 	install -d $(DESTDIR)$(PREFIX)/bin $(SHARE)/bash-completion/completions $(SHARE)/zsh/site-functions \
-	    $(SHARE)/fish/vendor_completions.d $(SHARE)/man/man1 $(DESTDIR)$(PREFIX)/lib/kubectl-rbacaudit
+	    $(SHARE)/fish/vendor_completions.d $(SHARE)/man/man1 $(DESTDIR)$(PREFIX)/lib/kubectl-rbacaudit \
+	    $(SHARE)/rbacaudit/page
 	install -m 755 $(PROGRAM) $(DESTDIR)$(PREFIX)/bin/rbacaudit
 	install -m 755 plugin/kubectl-rbacaudit $(DESTDIR)$(PREFIX)/bin/kubectl-rbacaudit
 	install -m 644 plugin/kubectl-rbacaudit.d/*.sh $(DESTDIR)$(PREFIX)/lib/kubectl-rbacaudit
+	install -m 755 plugin/rbacaudit-page $(DESTDIR)$(PREFIX)/bin/rbacaudit-page
+	install -m 644 page/* $(SHARE)/rbacaudit/page
 	install -m 644 completions/rbacaudit.bash $(SHARE)/bash-completion/completions/rbacaudit
 	install -m 644 completions/_rbacaudit $(SHARE)/zsh/site-functions/_rbacaudit
 	install -m 644 completions/rbacaudit.fish $(SHARE)/fish/vendor_completions.d/rbacaudit.fish

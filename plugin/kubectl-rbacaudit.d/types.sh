@@ -114,6 +114,11 @@ universe_command() {
     check_options
     parts_of universe
     open_export
+    make_universe
+}
+
+# Prints a Universe document for the export that is open.
+make_universe() {
     : >"$scratch/listed"
     if has_lists; then
         reads=api

@@ -88,6 +88,8 @@ set_option() {
         -n | --namespace) refuse_second "$1" "$only_in" && only_in=$2 ;;
         --as) refuse_second "$1" "$as_user" && as_user=$2 ;;
         --as-group) as_groups=$as_groups$2$NEWLINE ;;
+        --title) refuse_second "$1" "$title" && title=$2 ;;
+        --diff) refuse_second "$1" "$diff" && diff=$2 ;;
     esac
     option=
 }
