@@ -1,10 +1,13 @@
 'use strict';
 
-// What the page holds. Rows are coded by tables of words: each field has the list of its words and a column of places in it. A word
-// stays spelled as `matrix` prints it, so a copied or saved row is the matrix's own line; what is shown is the text that it means.
+// What the page holds. Rows are coded by tables of words: each field has the list of its words and
+// a column of places in it. A word
+// stays spelled as `matrix` prints it, so a copied or saved row is the matrix's own line; what is
+// shown is the text that it means.
 
 const FIELDS = ['who', 'namespace', 'verb', 'group', 'resource', 'name', 'binding'];
-const HEADS = {change: 'Change', who: 'Who', namespace: 'Namespace', verb: 'Verb', group: 'API group',
+const HEADS = {change: 'Change', who: 'Who', namespace: 'Namespace', verb: 'Verb',
+    group: 'API group',
     resource: 'Resource or URL', name: 'Name', binding: 'Binding'};
 // What an empty field means.
 const EMPTY = {namespace: 'whole cluster', group: 'core'};
@@ -30,9 +33,11 @@ class Rows {
         return this.fields.map(field => this.word(row, field)).join('\t');
     }
 
-    // Whether this row is about the same request as the one before: with --every, one that another binding grants too.
+    // Whether this row is about the same request as the one before: with --every, one that another
+    // binding grants too.
     repeats(row) {
-        return row > 0 && FIELDS.every(field => field === 'binding' || this.columns[field][row] === this.columns[field][row - 1]);
+        return row > 0 && FIELDS.every(field => field === 'binding'
+            || this.columns[field][row] === this.columns[field][row - 1]);
     }
 
     // For each word of a field, whether it is wanted: 1 or 0.
@@ -41,10 +46,13 @@ class Rows {
         return Uint8Array.from(this.words[field], word => wants(word, field));
     }
 
-    // The rows that pass: for each field that is named, by its filter; with q, by any field; and by a test of the row's place.
+    // The rows that pass: for each field that is named, by its filter; with q, by any field; and by
+    // a test of the row's place.
     matching(filters, test) {
-        const each = this.fields.filter(field => filters[field]).map(field => [this.columns[field], this.mask(field, filters[field])]);
-        const some = filters.q ? this.fields.map(field => [this.columns[field], this.mask(field, filters.q)]) : null;
+        const each = this.fields.filter(field => filters[field])
+            .map(field => [this.columns[field], this.mask(field, filters[field])]);
+        const some = filters.q ? this.fields.map(field => [this.columns[field],
+            this.mask(field, filters.q)]) : null;
         const found = new Uint32Array(this.length);
         let count = 0;
         for (let row = 0; row < this.length; row++) {
@@ -68,7 +76,8 @@ function numbersOf(text, words) {
     return new Numbers(bytes.buffer);
 }
 
-// The test of a filter: `=WORD` wants a field that is printed so, any other text one whose text has it, in small or capital letters.
+// The test of a filter: `=WORD` wants a field that is printed so, any other text one whose text has
+// it, in small or capital letters.
 function wantedBy(wanted) {
     if (wanted.startsWith('=')) {
         return word => word === wanted.slice(1);
@@ -84,7 +93,8 @@ function textOf(word) {
     if (word === '-') {
         return '';
     }
-    return word.includes('\\') ? word.replace(/\\\\|\\x([0-9a-f]{2})/g, (_, code) => code ? String.fromCharCode(parseInt(code, 16)) : '\\') : word;
+    return word.includes('\\') ? word.replace(/\\\\|\\x([0-9a-f]{2})/g, (_, code) => code
+        ? String.fromCharCode(parseInt(code, 16)) : '\\') : word;
 }
 
 function meaning(word, field) {
@@ -94,7 +104,8 @@ function meaning(word, field) {
     return word === '-' ? EMPTY[field] || '' : textOf(word);
 }
 
-// Characters that can't be seen, or change how their neighbours are shown: control, format and ignorable ones, and odd blanks.
+// Characters that can't be seen, or change how their neighbours are shown: control, format and
+// ignorable ones, and odd blanks.
 const UNSEEN = /[\p{Cc}\p{Cf}\p{Cs}\p{Zl}\p{Zp}\p{Default_Ignorable_Code_Point}]|(?! )\p{Zs}/gu;
 const LONGEST = 300;
 
@@ -102,11 +113,16 @@ function codeOf(character) {
     return 'U+' + character.codePointAt(0).toString(16).toUpperCase().padStart(4, '0');
 }
 
-function counted(count, one, many = one + 's') {
-    return count.toLocaleString('en') + ' ' + (count === 1 ? one : many);
+function figure(count) {
+    return count.toLocaleString('en');
 }
 
-// A text as nodes: each unseen character as its code, and a long text cut, which it says, unless all of it is wanted.
+function counted(count, one, many = one + 's') {
+    return figure(count) + ' ' + (count === 1 ? one : many);
+}
+
+// A text as nodes: each unseen character as its code, and a long text cut, which it says, unless
+// all of it is wanted.
 function nodesOf(text, most = LONGEST) {
     const cut = text.length > most ? text.slice(0, most) : text;
     const nodes = [];
@@ -117,7 +133,7 @@ function nodesOf(text, most = LONGEST) {
     }
     nodes.push(cut.slice(from));
     if (cut !== text) {
-        nodes.push(make('span', {class: 'muted'}, '… ' + counted(text.length, 'character')));
+        nodes.push(muted('… ' + counted(text.length, 'character')));
     }
     return nodes;
 }
@@ -142,15 +158,22 @@ function make(name, attributes = {}, ...children) {
     return element;
 }
 
+// Text that is set back.
+function muted(...children) {
+    return make('span', {class: 'muted'}, children);
+}
+
 // What stands for a field's word on the page.
 function fieldNodes(word, field) {
     if (field === 'who') {
         return principalNodes(word);
     }
     if (field === 'change') {
-        return [make('span', {class: word === '+' ? 'gained' : 'lost'}, `${word === '-' ? '−' : word} ${CHANGES[word]}`)];
+        return [make('span', {class: word === '+' ? 'gained' : 'lost'},
+            `${word === '-' ? '−' : word} ${CHANGES[word]}`)];
     }
-    return word === '-' ? [make('span', {class: 'muted'}, EMPTY[field] || '–')] : nodesOf(textOf(word));
+    return word === '-' ? [muted(EMPTY[field] || '–')]
+        : nodesOf(textOf(word));
 }
 
 const ACCOUNT = /^u:system:serviceaccount:[^:]+:[^:]+$/;
@@ -161,11 +184,14 @@ function kindOf(word) {
 
 const SHORT_KINDS = {group: 'group', 'service account': 'account', user: 'user'};
 
-// A principal: what kind it is, and its name; a service account without the words that all of them share.
+// A principal: what kind it is, and its name; a service account without the words that all of them
+// share.
 function principalNodes(word) {
     const kind = kindOf(word);
-    const name = textOf(word).slice(kind === 'service account' ? 'u:system:serviceaccount:'.length : 2);
-    return [make('span', {class: 'kind ' + SHORT_KINDS[kind]}, SHORT_KINDS[kind]), ' ', make('bdi', {}, nodesOf(name))];
+    const name = textOf(word).slice(kind === 'service account' ? 'u:system:serviceaccount:'.length
+        : 2);
+    return [make('span', {class: 'kind ' + SHORT_KINDS[kind]}, SHORT_KINDS[kind]), ' ',
+        make('bdi', {}, nodesOf(name))];
 }
 
 // The name of a type as one writes it in a question: deployments.apps, pods, /metrics.

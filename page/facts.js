@@ -2,54 +2,57 @@
 
 const RBAC_ROLES = ['roles.rbac.authorization.k8s.io', 'clusterroles.rbac.authorization.k8s.io'];
 
-// What to watch: pairs of verbs and types. A type that ends in /* stands for all its subresources. The last one has none: it is
-// about all that the page lists.
+// What to watch: pairs of verbs and types. A type with /* stands for all its subresources. The last
+// one has no pairs: it is about all that the page lists.
 const WATCHED = [
-    {id: 'secrets', short: 'secrets', title: 'Reads secrets', pairs: [[['get', 'list', 'watch'], ['secrets']]],
-        why: 'Secrets hold passwords, keys and tokens. Listing or watching shows their contents as much as getting one does.'},
+    {id: 'secrets', short: 'secrets', title: 'Reads secrets',
+        pairs: [[['get', 'list', 'watch'], ['secrets']]],
+        why: 'Secrets hold passwords, keys and tokens. Listing or watching shows their contents '
+            + 'as much as getting one does.'},
     {id: 'exec', short: 'exec', title: 'Execs into pods',
-        pairs: [[['get', 'create'], ['pods/exec', 'pods/attach', 'nodes/proxy']], [['patch', 'update'], ['pods/ephemeralcontainers']]],
-        why: 'Runs commands inside running pods, with all that the pods may do: by exec or attach, through a node’s proxy, or in an '
-            + 'ephemeral container.'},
+        pairs: [[['get', 'create'], ['pods/exec', 'pods/attach', 'nodes/proxy']],
+            [['patch', 'update'], ['pods/ephemeralcontainers']]],
+        why: 'Runs commands inside running pods, with all that the pods may do: by exec or '
+            + 'attach, through a node’s proxy, or in an ephemeral container.'},
     {id: 'workloads', short: 'workloads', title: 'Creates pods or workloads',
-        pairs: [[['create'], ['pods', 'replicationcontrollers', 'deployments.apps', 'daemonsets.apps', 'statefulsets.apps',
-            'replicasets.apps', 'jobs.batch', 'cronjobs.batch']]],
+        pairs: [[['create'], ['pods', 'replicationcontrollers', 'deployments.apps',
+            'daemonsets.apps', 'statefulsets.apps', 'replicasets.apps', 'jobs.batch',
+            'cronjobs.batch']]],
         why: 'A new pod may use any service account of its namespace, and mount its secrets.'},
     {id: 'impersonate', short: 'impersonate', title: 'Impersonates',
-        pairs: [[['impersonate'], ['users', 'groups', 'serviceaccounts', 'uids.authentication.k8s.io',
-            'userextras/*.authentication.k8s.io']]],
+        pairs: [[['impersonate'], ['users', 'groups', 'serviceaccounts',
+            'uids.authentication.k8s.io', 'userextras/*.authentication.k8s.io']]],
         why: 'Acts as another user, group or service account, with all that those may do.'},
     {id: 'bind', short: 'bind', title: 'Binds roles', pairs: [[['bind'], RBAC_ROLES]],
         why: 'May give somebody a role whose permissions the giver doesn’t have.'},
-    {id: 'escalate', short: 'escalate', title: 'Escalates roles', pairs: [[['escalate'], RBAC_ROLES]],
+    {id: 'escalate', short: 'escalate', title: 'Escalates roles',
+        pairs: [[['escalate'], RBAC_ROLES]],
         why: 'May write permissions into a role that the writer doesn’t have.'},
-    {id: 'tokens', short: 'tokens', title: 'Creates tokens', pairs: [[['create'], ['serviceaccounts/token']]],
+    {id: 'tokens', short: 'tokens', title: 'Creates tokens',
+        pairs: [[['create'], ['serviceaccounts/token']]],
         why: 'A token of a service account lets its holder act as that account, from anywhere.'},
     {id: 'everything', short: 'everything', title: 'Has everything (*)', pairs: [],
-        why: 'May use every verb on every type that this page lists for the whole cluster or for a namespace, as a rule of stars '
-            + 'allows; or has a row for * itself.'},
+        why: 'May use every verb on every type that this page lists for the whole cluster or for '
+            + 'a namespace, as a rule of stars allows; or has a row for * itself.'},
 ];
 const EVERYTHING = 1 << (WATCHED.length - 1);
 
-function bitsOf(word, part) {
-    return WATCHED.map((watched, at) => watched.pairs.some(pair => pair[part].some(wanted => isType(word, wanted))) ? 1 << at : 0)
-        .reduce((all, bit) => all | bit, 0);
-}
-
 function isType(word, wanted) {
     const [before, after] = wanted.split('/*');
-    return after === undefined ? word === wanted : word.startsWith(before + '/') && word.endsWith(after);
+    return after === undefined ? word === wanted
+        : word.startsWith(before + '/') && word.endsWith(after);
 }
 
-// A category may have several pairs, and a verb of one goes with no type of another: so each pair is looked at by itself.
+// A category may have several pairs, and a verb of one goes with no type of another: so each pair
+// is looked at by itself.
 class Watch {
     constructor(rows) {
         this.rows = rows;
-        const pairs = WATCHED.flatMap((watched, at) => watched.pairs.map(([verbs, types]) => ({bit: 1 << at, verbs, types})));
-        this.bits = pairs.map(pair => pair.bit);
-        this.verbs = rows.words.verb.map(word => places(pairs, pair => pair.verbs.includes(textOf(word))));
+        this.pairs = WATCHED.flatMap((watched, at) =>
+            watched.pairs.map(([verbs, types]) => ({bit: 1 << at, verbs, types})));
+        this.verbs = rows.words.verb.map(word =>
+            places(this.pairs, pair => pair.verbs.includes(textOf(word))));
         this.targets = new Map();
-        this.pairs = pairs;
         this.stars = rows.words.verb.map(word => word === '*');
         this.everything = this.whoHasEverything();
     }
@@ -59,7 +62,8 @@ class Watch {
         const key = keyOfType(row, this.rows);
         if (!this.targets.has(key)) {
             const type = typeOf(this.rows.word(row, 'group'), this.rows.word(row, 'resource'));
-            this.targets.set(key, places(this.pairs, pair => pair.types.some(wanted => isType(type, wanted))));
+            const isHere = pair => pair.types.some(wanted => isType(type, wanted));
+            this.targets.set(key, places(this.pairs, isHere));
         }
         return this.targets.get(key);
     }
@@ -67,20 +71,23 @@ class Watch {
     // Which categories a row belongs to, as bits.
     of(row) {
         const {who, namespace, verb} = this.rows.columns;
+        const held = this.verbs[verb[row]] & this.typePairs(row);
         let found = 0;
-        for (let pairs = this.verbs[verb[row]] & this.typePairs(row), at = 0; pairs; pairs >>= 1, at++) {
-            found |= pairs & 1 ? this.bits[at] : 0;
+        for (let at = 0; held >> at; at++) {
+            found |= held >> at & 1 ? this.pairs[at].bit : 0;
         }
-        const isStar = this.stars[verb[row]] || this.rows.word(row, 'resource') === '*' || this.rows.word(row, 'group') === '*';
-        return isStar || this.everything.has(this.scope(who[row], namespace[row])) ? found | EVERYTHING : found;
+        const isStar = this.stars[verb[row]] || this.rows.word(row, 'resource') === '*'
+            || this.rows.word(row, 'group') === '*';
+        return isStar || this.everything.has(this.scope(who[row], namespace[row]))
+            ? found | EVERYTHING : found;
     }
 
     scope(who, namespace) {
         return who * this.rows.words.namespace.length + namespace;
     }
 
-    // The scopes (a principal in a namespace, or in the whole cluster) with every verb on every type that has rows there. A
-    // page of one verb or one type doesn't tell.
+    // The scopes (a principal in a namespace, or in the whole cluster) with every verb on every
+    // type that has rows there. A page of one verb or one type doesn't tell.
     whoHasEverything() {
         const {rows} = this;
         const held = new Map();
@@ -99,7 +106,8 @@ class Watch {
             const there = types[scope % types.length].size;
             return verbs > 1 && there > 1 && count === verbs * there;
         };
-        return new Set([...held].filter(([scope, count]) => isAll(scope, count)).map(([scope]) => scope));
+        return new Set([...held].filter(([scope, count]) => isAll(scope, count))
+            .map(([scope]) => scope));
     }
 }
 
@@ -112,10 +120,11 @@ function places(list, test) {
     return list.reduce((bits, item, at) => test(item) ? bits | 1 << at : bits, 0);
 }
 
-// Each principal that has a row: its rows' places and counts. Namespaces and bindings are sets of places in their words.
+// Each principal that has a row: its rows' places and counts. Namespaces and bindings are sets of
+// places in their words.
 function principalsOf(rows, watch) {
-    const found = rows.words.who.map((word, who) => ({who, word, rows: [], permissions: 0, cluster: 0, watched: 0,
-        namespaces: new Set(), bindings: new Set(), watchedAt: new Map()}));
+    const found = rows.words.who.map((word, who) => ({who, word, rows: [], permissions: 0,
+        cluster: 0, watched: 0, namespaces: new Set(), bindings: new Set(), watchedAt: new Map()}));
     const cluster = rows.words.namespace.indexOf('-');
     for (let row = 0; row < rows.length; row++) {
         const it = found[rows.columns.who[row]];
@@ -162,11 +171,13 @@ function byNamespace(a, b) {
 // Types by group and name, the core group first; URLs stand last.
 function byType(a, b) {
     const isUrl = it => it.resource.startsWith('/');
-    return isUrl(a) - isUrl(b) || (a.group !== '-') - (b.group !== '-') || byText(a.group, b.group) || byText(a.resource, b.resource);
+    return isUrl(a) - isUrl(b) || (a.group !== '-') - (b.group !== '-') || byText(a.group, b.group)
+        || byText(a.resource, b.resource);
 }
 
 // The verbs that have a letter; all others are a dot.
-const LETTERS = [['get', 'g'], ['list', 'l'], ['watch', 'w'], ['create', 'c'], ['update', 'u'], ['patch', 'p'], ['delete', 'd']];
+const LETTERS = [['get', 'g'], ['list', 'l'], ['watch', 'w'], ['create', 'c'], ['update', 'u'],
+    ['patch', 'p'], ['delete', 'd']];
 
 function letterAt(verb) {
     const at = LETTERS.findIndex(([name]) => name === verb);

@@ -1,4 +1,5 @@
-// What: principals against types, in a namespace or in the whole cluster; a cell has its verbs as letters.
+// What: principals against types, in a namespace or in the whole cluster; a cell has its verbs as
+// letters.
 
 class WhatView {
     constructor() {
@@ -6,15 +7,19 @@ class WhatView {
         this.types = [];
         this.cells = new Map();
         const words = ROWS.words.namespace;
-        this.place = make('select', {'aria-label': 'Namespace', 'data-param': 'ns', change: event => change({ns: event.target.value, cell: ''})},
-            words.toSorted(byNamespace).map(word => make('option', {value: word}, lineOf(meaning(word, 'namespace')))));
-        this.summary = make('span', {class: 'muted'});
-        this.grid = new Grid('Verbs of each principal on each type', make('th', {scope: 'col', class: 'corner'}, 'Principal'),
+        this.place = make('select', {'aria-label': 'Namespace', 'data-param': 'ns',
+            change: event => change({ns: event.target.value, cell: ''})},
+            words.toSorted(byNamespace).map(word => make('option', {value: word},
+                lineOf(meaning(word, 'namespace')))));
+        this.summary = muted();
+        this.grid = new Grid('Verbs of each principal on each type',
+            make('th', {scope: 'col', class: 'corner'}, 'Principal'),
             column => this.typeHead(this.types[column]), at => this.side(this.principals[at]),
             (at, column) => this.cell(this.principals[at], this.types[column]));
         this.element = make('div', {class: 'view'},
             make('div', {class: 'tools'}, make('h2', {}, 'What they may do in'), this.place,
-                filterInput('Filter principals', 'who', 'principals'), filterInput('Filter types', 'type', 'types'), this.summary),
+                filterInput('Filter principals', 'who', 'principals'),
+                filterInput('Filter types', 'type', 'types'), this.summary),
             legend(), this.grid.element);
     }
 
@@ -28,7 +33,8 @@ class WhatView {
         if (shown !== this.shown) {
             this.shown = shown;
             this.gather(words.indexOf(namespace), params);
-            this.summary.textContent = `${counted(this.principals.length, 'principal')}, ${counted(this.types.length, 'type')}`;
+            this.summary.textContent = `${counted(this.principals.length, 'principal')}, `
+                + `${counted(this.types.length, 'type')}`;
             this.grid.showGrid(this.principals.length, this.types.length);
         } else {
             this.grid.redraw();
@@ -61,12 +67,14 @@ class WhatView {
 
     typeHead(type) {
         const title = lineOf(typeOf(type.group, type.resource));
-        return make('th', {scope: 'col', class: 'type', title}, make('div', {}, typeNodes(type.group, type.resource)));
+        return make('th', {scope: 'col', class: 'type', title},
+            make('div', {}, typeNodes(type.group, type.resource)));
     }
 
     side(who) {
         const word = ROWS.words.who[who];
-        return make('th', {scope: 'row', title: lineOf(textOf(word))}, anchor('who', {who: word}, principalNodes(word)));
+        return make('th', {scope: 'row', title: lineOf(textOf(word))},
+            anchor('who', {who: word}, principalNodes(word)));
     }
 
     cell(who, type) {
@@ -75,10 +83,13 @@ class WhatView {
             return make('td');
         }
         const verbs = new Set(rows.map(row => ROWS.word(row, 'verb')));
-        const plain = new Set(rows.filter(row => ROWS.word(row, 'name') === '-').map(row => ROWS.word(row, 'verb')));
+        const plain = new Set(rows.filter(row => ROWS.word(row, 'name') === '-')
+            .map(row => ROWS.word(row, 'verb')));
         const named = [...verbs].every(verb => !plain.has(verb)) ? ', some objects only' : '';
-        const address = {...this.params, ns: this.namespace, cell: [ROWS.words.who[who], type.group, type.resource].join('\t')};
-        return make('td', {}, make('a', {href: link('what', address), 'aria-label': [...verbs].map(textOf).map(lineOf).join(', ') + named},
+        const address = {...this.params, ns: this.namespace,
+            cell: [ROWS.words.who[who], type.group, type.resource].join('\t')};
+        return make('td', {}, make('a', {href: link('what', address),
+            'aria-label': [...verbs].map(textOf).map(lineOf).join(', ') + named},
             lettersOf(verbs, plain)));
     }
 }
@@ -91,16 +102,19 @@ function typeAt(row, key, wanted) {
 
 // The verbs' letters, each in its place; one that counts for some object names only is marked.
 function lettersOf(verbs, plain) {
-    return [...LETTERS.map(([verb, letter]) => ({held: verbs.has(verb) ? [verb] : [], letter})),
-        {held: [...verbs].filter(verb => letterAt(verb) === LETTERS.length), letter: '·'}].map(({held, letter}) => {
-        const isNamed = held.length > 0 && held.every(verb => !plain.has(verb));
-        return held.length ? make('span', {class: classOf(held[0]) + (isNamed ? ' named' : '')}, letter) : make('span', {class: 'none'}, ' ');
+    return [...LETTERS.map(([, letter]) => letter), '·'].map((letter, at) => {
+        const held = [...verbs].filter(verb => letterAt(verb) === at);
+        const isNamed = held.every(verb => !plain.has(verb));
+        return held.length === 0 ? ' '
+            : make('span', {class: classOf(held[0]) + (isNamed ? ' named' : '')}, letter);
     });
 }
 
 function legend() {
-    return make('p', {class: 'why legend'}, LETTERS.map(([verb, letter]) => [make('b', {class: classOf(verb)}, letter), ` ${verb} `]),
-        make('b', {class: 'other'}, '·'), ' any other verb  ', make('b', {class: 'read named'}, 'g'),
+    return make('p', {class: 'why legend'},
+        LETTERS.map(([verb, letter]) => [make('b', {class: classOf(verb)}, letter), ` ${verb} `]),
+        make('b', {class: 'other'}, '·'), ' any other verb  ',
+        make('b', {class: 'read named'}, 'g'),
         ' for some object names only. A cell tells its rows and bindings.');
 }
 
@@ -113,14 +127,17 @@ function showCell(cell, namespace) {
         dialog.close();
         return;
     }
-    const filters = {who: '=' + who, namespace: '=' + namespace, group: '=' + group, resource: '=' + resource};
+    const filters = {who: '=' + who, namespace: '=' + namespace, group: '=' + group,
+        resource: '=' + resource};
+    const fields = ['verb', 'name', 'binding'];
     const rows = [...ROWS.matching(filters)];
     dialog.replaceChildren(
         make('h2', {id: 'cell-title'}, typeNodes(group, resource)),
-        make('p', {}, principalNodes(who), make('span', {class: 'muted'}, ' in '), fieldNodes(namespace, 'namespace')),
-        ...plainTable('Rows', ['Verb', 'Object name', 'Binding'], rows, row => ['verb', 'name', 'binding']
-            .map(field => fieldNodes(ROWS.word(row, field), field))),
-        make('p', {class: 'tools'}, anchor('rows', filters, 'These rows'), anchor('who', {who}, 'All that they have'),
+        make('p', {}, principalNodes(who), muted(' in '), fieldNodes(namespace, 'namespace')),
+        ...plainTable('Rows', fields.map(field => HEADS[field]), rows,
+            row => fields.map(field => fieldNodes(ROWS.word(row, field), field))),
+        make('p', {class: 'tools'}, anchor('rows', filters, 'These rows'),
+            anchor('who', {who}, 'All that they have'),
             make('button', {type: 'button', click: () => dialog.close()}, 'Close')));
     if (!dialog.open) {
         dialog.showModal();

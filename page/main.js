@@ -4,31 +4,36 @@ const VIEWS = {
     who: ['Who', () => new WhoView()],
     what: ['What', () => new WhatView()],
     watch: ['Watch list', () => new WatchView()],
-    rows: ['Rows', () => new RowsView(ROWS, 'Rows', 'rows', 'A filter takes the rows whose field contains it. With = before it, the field '
-        + 'has to be printed exactly so: =- is the empty field, which as a namespace means the whole cluster, and as an API group the core '
-        + 'group.')],
+    rows: ['Rows', () => new RowsView(ROWS, 'Rows', 'rows',
+        'A filter takes the rows whose field contains it. With = before it, the field has to be '
+        + 'printed exactly so: =- is the empty field, which as a namespace means the whole '
+        + 'cluster, and as an API group the core group.')],
 };
 if (PAGE.findings) {
     VIEWS.findings = ['Findings', () => new FindingsView()];
 }
 if (DIFF) {
-    VIEWS.changes = ['Changes', () => new RowsView(DIFF, 'Changes', 'changes', 'Gained is what is allowed now and wasn’t before; lost is what '
-        + 'was allowed before and isn’t now. The binding is the first one that grants it, or granted it.')];
+    VIEWS.changes = ['Changes', () => new RowsView(DIFF, 'Changes', 'changes',
+        'Gained is what is allowed now and wasn’t before; lost is what was allowed before and '
+        + 'isn’t now. The binding is the first one that grants it, or granted it.')];
 }
-const COUNTS = {who: PRINCIPALS.length, rows: ROWS.length, findings: PAGE.findings?.length, changes: DIFF?.length};
+const COUNTS = {who: PRINCIPALS.length, rows: ROWS.length, findings: PAGE.findings?.length,
+    changes: DIFF?.length};
 const built = {};
 let current = '';
 
 function address() {
     const [view, query = ''] = location.hash.slice(1).split(/\?(.*)/s);
-    return [view in VIEWS || view === 'find' ? view : 'who', Object.fromEntries(new URLSearchParams(query))];
+    return [Object.hasOwn(VIEWS, view) || view === 'find' ? view : 'who',
+        Object.fromEntries(new URLSearchParams(query))];
 }
 
 function go(view, params) {
     location.hash = link(view, params);
 }
 
-// Changes some parameters of the view that is shown, in place: the way back doesn't lead through each letter typed.
+// Changes some parameters of the view that is shown, in place: the way back doesn't lead through
+// each letter typed.
 function change(some) {
     const [view, params] = address();
     history.replaceState(null, '', link(view, {...params, ...some}));
@@ -66,15 +71,19 @@ function render() {
 }
 
 function begin() {
-    document.getElementById('facts').textContent = [counted(ROWS.length, 'row'), counted(PRINCIPALS.length, 'principal'),
+    document.getElementById('facts').textContent = [counted(ROWS.length, 'row'),
+        counted(PRINCIPALS.length, 'principal'),
         counted(ROWS.words.namespace.filter(word => word !== '-').length, 'namespace'),
         counted(ROWS.words.binding.length, 'granting binding')].join(' · ');
-    document.getElementById('views').append(...Object.entries(VIEWS).map(([view, [title]]) => make('li', {},
-        make('a', {href: link(view), 'data-view': view}, title, COUNTS[view] === undefined ? '' : [' ', make('small', {},
-            COUNTS[view].toLocaleString('en'))]))));
+    document.getElementById('views').append(...Object.entries(VIEWS)
+        .map(([view, [title]]) => make('li', {},
+        make('a', {href: link(view), 'data-view': view}, title, COUNTS[view] === undefined ? ''
+            : [' ', make('small', {},
+            figure(COUNTS[view]))]))));
     const notice = document.getElementById('notice');
     notice.hidden = PAGE.whole;
-    notice.textContent = PAGE.whole ? '' : 'This is a part of the matrix: --limit left out the rows after the last one here.';
+    notice.textContent = PAGE.whole ? ''
+        : 'This is a part of the matrix: --limit left out the rows after the last one here.';
     listen();
     render();
 }

@@ -1,4 +1,5 @@
-// Tables that draw only what is seen: between two spacers that are as large as all that isn't drawn.
+// Tables that draw only what is seen: between two spacers that are as large as all that isn't
+// drawn.
 
 const ROW_HEIGHT = 28;   // as in page.css
 const CELL_WIDTH = 74;   // as in page.css
@@ -14,7 +15,8 @@ function seen(from, room, size, count) {
     return [Math.min(first, count), Math.min(count, Math.ceil((from + room) / size) + BEYOND)];
 }
 
-// A scrolling table: `heads` are its header cells, and `draw` gives the cells of the row at a place.
+// A scrolling table: `heads` are its header cells, and `draw` gives the cells of the row at a
+// place.
 class Sheet {
     constructor(label, heads, draw, className = '') {
         this.draw = draw;
@@ -22,9 +24,11 @@ class Sheet {
         this.drawn = '';
         this.body = make('tbody');
         this.head = make('tr', {'aria-rowindex': 1}, heads);
-        this.table = make('table', {class: className, 'aria-label': label}, make('thead', {}, this.head), this.body);
+        this.table = make('table', {class: className, 'aria-label': label},
+            make('thead', {}, this.head), this.body);
         this.more = make('p', {class: 'only-printed'});
-        this.element = make('div', {class: 'sheet', tabindex: 0, role: 'region', 'aria-label': label}, this.table, this.more);
+        this.element = make('div', {class: 'sheet', tabindex: 0, role: 'region',
+            'aria-label': label}, this.table, this.more);
         this.element.addEventListener('scroll', () => this.redraw());
         sheets.add(this);
     }
@@ -47,14 +51,17 @@ class Sheet {
             return;
         }
         this.drawn = range;
-        const focused = this.body.contains(document.activeElement) ? document.activeElement.getAttribute('href') : null;
+        const focused = this.body.contains(document.activeElement)
+            ? document.activeElement.getAttribute('href') : null;
         const rows = [];
         for (let at = first; at < end; at++) {
-            rows.push(make('tr', {'aria-rowindex': at + 2, class: at % 2 ? 'odd' : false}, this.draw(at)));
+            rows.push(make('tr', {'aria-rowindex': at + 2, class: at % 2 ? 'odd' : false},
+                this.draw(at)));
         }
         this.body.replaceChildren(spacer(first), ...rows, spacer(isPrinted ? 0 : this.count - end));
         if (focused !== null) {
-            [...this.body.querySelectorAll('a')].find(link => link.getAttribute('href') === focused)?.focus({preventScroll: true});
+            const links = [...this.body.querySelectorAll('a')];
+            links.find(it => it.getAttribute('href') === focused)?.focus({preventScroll: true});
         }
     }
 
@@ -64,8 +71,8 @@ class Sheet {
 
     // What a print lacks.
     leftOut(end) {
-        return end < this.count ? `${counted(this.count - end, 'more row')} of ${this.count.toLocaleString('en')} aren’t printed: filter them, or `
-            + 'look into the page itself. ' : '';
+        return end === this.count ? '' : counted(this.count - end, 'more row') + ' of '
+            + figure(this.count) + ' aren’t printed: filter them, or look into the page itself. ';
     }
 }
 
@@ -75,11 +82,12 @@ function spacer(rows) {
     return row;
 }
 
-// A sheet with many narrow columns, of which it draws those in view too. `corner` is the first header cell, `top` gives the header
-// cell of a column, `side` the header cell of a row, and `cell` that of both.
+// A sheet with many narrow columns, of which it draws those in view alone. `corner` is the first
+// header cell, `top` gives that of a column, `side` that of a row, and `cell` the cell of both.
 class Grid extends Sheet {
     constructor(label, corner, top, side, cell) {
-        super(label, [], at => [side(at), gap(this.before), this.span((column) => cell(at, column)), gap(this.after)], 'grid');
+        super(label, [], at => [side(at), gap(this.before),
+            this.span(column => cell(at, column)), gap(this.after)], 'grid');
         this.corner = corner;
         this.top = top;
         this.columns = 0;
@@ -104,15 +112,17 @@ class Grid extends Sheet {
         const range = `${this.from} ${this.to}`;
         if (this.top && (range !== this.headed || this.drawn === '')) {
             this.headed = range;
-            this.head.replaceChildren(this.corner, gap(this.before), ...this.span(this.top), gap(this.after));
+            this.head.replaceChildren(this.corner, gap(this.before), ...this.span(this.top),
+                gap(this.after));
         }
         return range;
     }
 
     leftOut(end) {
         const columns = Math.min(this.columns, ACROSS);
-        return super.leftOut(end) + (columns < this.columns ? `${columns} of ${counted(this.columns, 'type')} are printed: filter the types, or scroll `
-            + 'to the first one to be printed.' : '');
+        return super.leftOut(end) + (columns === this.columns ? '' : columns + ' of '
+            + counted(this.columns, 'type') + ' are printed: filter the types, or scroll to the '
+            + 'first one to be printed.');
     }
 
     span(draw) {
@@ -146,18 +156,22 @@ window.addEventListener('resize', () => redrawAll(false));
 window.addEventListener('beforeprint', () => redrawAll(true));
 window.addEventListener('afterprint', () => redrawAll(false));
 
-// A short table that stands whole in the text: its first `most` rows, and a button for the next ones.
+// A short table that stands whole in the text: its first `most` rows, and a button for the next
+// ones.
 function plainTable(label, heads, items, draw, most = 100) {
     const body = make('tbody');
     const button = make('button', {type: 'button', click: () => more()});
     let shown = 0;
     function more() {
-        body.append(...items.slice(shown, shown + most).map(item => make('tr', {}, draw(item).map(cell => make('td', {}, cell)))));
+        body.append(...items.slice(shown, shown + most)
+            .map(item => make('tr', {}, draw(item).map(cell => make('td', {}, cell)))));
         shown = Math.min(items.length, shown + most);
-        button.textContent = `Show ${Math.min(most, items.length - shown)} more of ${items.length.toLocaleString('en')}`;
+        button.textContent = `Show ${Math.min(most, items.length - shown)} more of `
+            + figure(items.length);
         button.hidden = shown === items.length;
     }
     more();
     const head = make('tr', {}, heads.map(head => make('th', {scope: 'col'}, head)));
-    return [make('table', {class: 'plain', 'aria-label': label}, make('thead', {}, head), body), button];
+    return [make('table', {class: 'plain', 'aria-label': label}, make('thead', {}, head), body),
+        button];
 }

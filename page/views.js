@@ -1,4 +1,5 @@
-// The views. Each has an element, which is made once, and `update`, which shows what the address after # says.
+// The views. Each has an element, which is made once, and `update`, which shows what the address
+// after # says.
 
 function link(view, params = {}) {
     const given = Object.entries(params).filter(([, value]) => value);
@@ -20,7 +21,8 @@ function cell(className, ...children) {
 
 // An input that writes one parameter into the address.
 function filterInput(label, param, placeholder) {
-    return make('input', {type: 'search', 'aria-label': label, placeholder, 'data-param': param, spellcheck: 'false', autocomplete: 'off',
+    return make('input', {type: 'search', 'aria-label': label, placeholder, 'data-param': param,
+        spellcheck: 'false', autocomplete: 'off',
         input: event => change({[param]: event.target.value})});
 }
 
@@ -38,35 +40,45 @@ function fill(element, params) {
 
 function badges(bits, principal) {
     return WATCHED.filter((_, at) => bits >> at & 1).map(({id, short, title}) =>
-        [make('a', {href: link('rows', {who: '=' + principal, watch: id}), class: 'badge', title}, short), ' ']);
+        [make('a', {href: link('rows', {who: '=' + principal, watch: id}), class: 'badge', title},
+            short), ' ']);
 }
 
 function bindingLinks(places_) {
     const words = [...places_].map(place => ROWS.words.binding[place]);
-    const shown = words.slice(0, 3).map(word => [anchor('rows', {binding: '=' + word}, fieldNodes(word, 'binding')), ' ']);
-    return words.length > 3 ? [shown, make('span', {class: 'muted'}, `and ${words.length - 3} more`)] : shown;
+    const shown = words.slice(0, 3).map(word => [anchor('rows', {binding: '=' + word},
+        fieldNodes(word, 'binding')), ' ']);
+    return words.length > 3 ? [shown, muted(`and ${words.length - 3} more`)] : shown;
 }
 
 // ---- Who
 
 const WHO_COLUMNS = [
     {id: 'who', title: 'Principal', why: 'In the order of the matrix'},
-    {id: 'permissions', title: 'Permissions', why: 'Requests that the matrix has for them', value: it => it.permissions},
-    {id: 'cluster', title: 'Whole cluster', why: 'Those of them in the whole cluster', value: it => it.cluster},
-    {id: 'namespaces', title: 'Namespaces', why: 'Namespaces in which they have any', value: it => it.namespaces.size},
-    {id: 'bindings', title: 'Bindings', why: 'Bindings in their rows', value: it => it.bindings.size},
+    {id: 'permissions', title: 'Permissions', why: 'Requests that the matrix has for them',
+        value: it => it.permissions},
+    {id: 'cluster', title: 'Whole cluster', why: 'Those of them in the whole cluster',
+        value: it => it.cluster},
+    {id: 'namespaces', title: 'Namespaces', why: 'Namespaces in which they have any',
+        value: it => it.namespaces.size},
+    {id: 'bindings', title: 'Bindings', why: 'Bindings in their rows',
+        value: it => it.bindings.size},
 ];
 
 class WhoView {
     constructor() {
         this.shown = [];
-        this.sorts = WHO_COLUMNS.map(column => make('th', {scope: 'col', class: column.value ? 'number' : 'wide'},
-            make('button', {type: 'button', title: column.why, click: () => change({sort: column.id})}, column.title)));
-        this.sheet = new Sheet('Principals', [...this.sorts, head('Worth watching', 'As in the watch list', 'wide')],
+        this.sorts = WHO_COLUMNS.map(column => make('th',
+            {scope: 'col', class: column.value ? 'number' : 'wide'},
+            make('button', {type: 'button', title: column.why,
+                click: () => change({sort: column.id})}, column.title)));
+        this.sheet = new Sheet('Principals',
+            [...this.sorts, head('Worth watching', 'As in the watch list', 'wide')],
             at => this.row(this.shown[at]), 'who');
-        this.summary = make('span', {class: 'muted'});
+        this.summary = muted();
         this.list = make('div', {class: 'view'},
-            make('div', {class: 'tools'}, make('h2', {}, 'Who has what'), filterInput('Filter principals', 'q', 'filter principals'), this.summary),
+            make('div', {class: 'tools'}, make('h2', {}, 'Who has what'),
+                filterInput('Filter principals', 'q', 'filter principals'), this.summary),
             this.sheet.element);
         this.detail = new PrincipalView();
         this.element = make('div', {class: 'view'});
@@ -93,9 +105,10 @@ class WhoView {
     }
 
     row(it) {
-        const numbers = WHO_COLUMNS.slice(1).map(({value}) => cell('number', value(it) ? value(it).toLocaleString('en')
-            : make('span', {class: 'muted'}, '–')));
-        const name = make('th', {scope: 'row', title: lineOf(textOf(it.word))}, anchor('who', {who: it.word}, principalNodes(it.word)));
+        const numbers = WHO_COLUMNS.slice(1)
+            .map(({value}) => cell('number', value(it) ? figure(value(it)) : muted('–')));
+        const name = make('th', {scope: 'row', title: lineOf(textOf(it.word))},
+            anchor('who', {who: it.word}, principalNodes(it.word)));
         return [name, ...numbers, cell('', badges(it.watched, it.word))];
     }
 }
@@ -104,16 +117,19 @@ class WhoView {
 class PrincipalView {
     constructor() {
         this.shown = [];
-        this.sheet = new Sheet('What they have', [head('Namespace'), head('Resource or URL'), head('Object name'), head('Verbs'),
+        this.sheet = new Sheet('What they have',
+            [head('Namespace'), head('Resource or URL'), head('Object name'), head('Verbs'),
             head('Bindings')], at => this.line(this.shown[at]), 'principal');
         this.title = make('h2');
         this.summary = make('p', {class: 'muted'});
         this.watched = make('p', {class: 'badges'});
-        this.whole = make('input', {type: 'checkbox', 'data-param': 'all', change: event => change({all: event.target.checked ? '1' : ''})});
+        this.whole = make('input', {type: 'checkbox', 'data-param': 'all',
+            change: event => change({all: event.target.checked ? '1' : ''})});
         this.hidden = make('label', {}, this.whole, ' ', make('span'));
         this.links = make('span');
         this.element = make('div', {class: 'view'}, this.title, this.summary, this.watched,
-            make('div', {class: 'tools'}, filterInput('Filter by namespace, resource or verb', 'q', 'filter'), this.hidden, this.links),
+            make('div', {class: 'tools'}, filterInput('Filter by namespace, resource or verb', 'q',
+                'filter'), this.hidden, this.links),
             this.sheet.element);
     }
 
@@ -127,8 +143,10 @@ class PrincipalView {
             this.sheet.show(0);
             return;
         }
-        this.summary.textContent = [counted(it.permissions, 'permission') + ': ' + it.cluster.toLocaleString('en') + ' in the whole cluster',
-            (it.permissions - it.cluster).toLocaleString('en') + ' in ' + counted(it.namespaces.size, 'namespace'),
+        this.summary.textContent = [counted(it.permissions, 'permission') + ': '
+            + figure(it.cluster) + ' in the whole cluster',
+            figure(it.permissions - it.cluster) + ' in '
+            + counted(it.namespaces.size, 'namespace'),
             'from ' + counted(it.bindings.size, 'binding')].join(', ') + '.';
         this.watched.replaceChildren(...badges(it.watched, it.word).flat());
         this.links.replaceChildren(anchor('rows', {who: '=' + it.word}, 'All rows'));
@@ -136,14 +154,17 @@ class PrincipalView {
     }
 
     show(lines, params) {
-        const whole = new Map(lines.filter(line => line.namespace === '-').map(line => [line.target, line.verbs]));
-        const isMore = line => line.namespace === '-' || ![...line.verbs].every(verb => whole.get(line.target)?.has(verb));
+        const whole = new Map(lines.filter(line => line.namespace === '-')
+            .map(line => [line.target, line.verbs]));
+        const isMore = line => line.namespace === '-'
+            || ![...line.verbs].every(verb => whole.get(line.target)?.has(verb));
         const more = lines.filter(isMore);
         this.hidden.hidden = more.length === lines.length;
-        this.hidden.lastChild.textContent = `also the ${counted(lines.length - more.length, 'line')} that follow from the whole cluster`;
+        this.hidden.lastChild.textContent = 'also what follows from the whole cluster: '
+            + counted(lines.length - more.length, 'line');
         const wants = wantedBy(params.q || '');
-        const isWanted = ({namespace, group, resource, name, verbs}) => wants(namespace, 'namespace') || wants(group, 'group')
-            || wants(resource, 'resource') || wants(name, 'name') || [...verbs].some(verb => wants(verb, 'verb'));
+        const isWanted = line => [...line.verbs].some(verb => wants(verb, 'verb'))
+            || ['namespace', 'group', 'resource', 'name'].some(field => wants(line[field], field));
         this.shown = (params.all ? lines : more).filter(isWanted);
         this.sheet.show(this.shown.length);
     }
@@ -151,19 +172,22 @@ class PrincipalView {
     line({namespace, group, resource, name, verbs, bindings}) {
         return [cell('', anchor('what', {ns: namespace}, fieldNodes(namespace, 'namespace'))),
             cell('', typeNodes(group, resource)), cell('', fieldNodes(name, 'name')),
-            cell('', [...verbs].map(verb => [make('span', {class: classOf(verb)}, nodesOf(textOf(verb))), ' '])),
+            cell('', [...verbs].map(verb =>
+                [make('span', {class: classOf(verb)}, nodesOf(textOf(verb))), ' '])),
             cell('', bindingLinks(bindings))];
     }
 }
 
-// Rows by namespace and target: the verbs and bindings of each. The whole cluster comes first, then namespaces by name.
+// Rows by namespace and target: the verbs and bindings of each. The whole cluster comes first, then
+// namespaces by name.
 function linesOf(rows) {
-    const targetOf = row => ['group', 'resource', 'name'].map(field => ROWS.word(row, field)).join('\t');
-    const lines = [...grouped(rows, row => ROWS.word(row, 'namespace') + '\t' + targetOf(row)).values()].map(found => {
-        const [row] = found;
-        return {namespace: ROWS.word(row, 'namespace'), group: ROWS.word(row, 'group'), resource: ROWS.word(row, 'resource'),
-            name: ROWS.word(row, 'name'), target: targetOf(row), verbs: new Set(found.map(it => ROWS.word(it, 'verb'))),
-            bindings: new Set(found.map(it => ROWS.columns.binding[it]))};
+    const fields = ['namespace', 'group', 'resource', 'name'];
+    const groups = grouped(rows, row => fields.map(field => ROWS.word(row, field)).join('\t'));
+    const lines = [...groups].map(([key, found]) => {
+        const [namespace, group, resource, name] = key.split('\t');
+        return {namespace, group, resource, name, target: key.slice(namespace.length),
+            verbs: new Set(found.map(row => ROWS.word(row, 'verb'))),
+            bindings: new Set(found.map(row => ROWS.columns.binding[row]))};
     });
     return lines.sort((a, b) => byNamespace(a.namespace, b.namespace) || byType(a, b));
 }
@@ -171,7 +195,8 @@ function linesOf(rows) {
 // A type, with its group set back.
 function typeNodes(group, resource) {
     return [make('bdi', {}, nodesOf(textOf(resource))),
-        group === '-' ? [] : make('span', {class: 'muted'}, '.', make('bdi', {}, nodesOf(textOf(group))))];
+        group === '-' ? [] : muted('.',
+            make('bdi', {}, nodesOf(textOf(group))))];
 }
 
 // ---- Watch list
@@ -180,23 +205,29 @@ class WatchView {
     constructor() {
         const held = WATCHED.map((_, at) => holdersOf(at));
         this.element = make('div', {class: 'text'}, make('h2', {}, 'Watch list'),
-            make('ul', {class: 'tiles'}, WATCHED.map((watched, at) => this.tile(watched, held[at]))),
+            make('ul', {class: 'tiles'},
+                WATCHED.map((watched, at) => this.tile(watched, held[at]))),
             WATCHED.map((watched, at) => this.section(watched, held[at])));
     }
 
     tile({id, title}, held) {
         const whole = held.filter(isClusterWide).length;
-        const where = whole ? `${whole.toLocaleString('en')} in the whole cluster` : held.length ? 'in namespaces alone' : 'nobody';
+        const where = whole ? `${figure(whole)} in the whole cluster`
+            : held.length ? 'in namespaces alone' : 'nobody';
         return make('li', {}, make('a', {href: link('watch', {at: id}), click: () => this.jump(id)},
-            make('b', {}, held.length.toLocaleString('en')), make('span', {}, title), make('small', {class: 'muted'}, where)));
+            make('b', {}, figure(held.length)), make('span', {}, title),
+            make('small', {class: 'muted'}, where)));
     }
 
     section({id, title, why}, held) {
-        const parts = held.length ? plainTable(title, ['Principal', 'Where', 'Verbs and types', 'Bindings'], held, it => this.line(it, id))
+        const heads = ['Principal', 'Where', 'Verbs and types', 'Bindings'];
+        const parts = held.length ? plainTable(title, heads, held, it => this.line(it, id))
             : make('p', {}, 'Nobody, by the rows of this page.');
         return make('section', {id: 'watch-' + id, 'aria-labelledby': 'title-' + id},
-            make('h3', {id: 'title-' + id}, title, ' ', make('span', {class: 'muted'}, held.length.toLocaleString('en'))),
-            make('p', {class: 'why'}, why, ' ', held.length ? anchor('rows', {watch: id}, 'All rows') : ''), parts);
+            make('h3', {id: 'title-' + id}, title, ' ',
+                muted(figure(held.length))),
+            make('p', {class: 'why'}, why, ' ',
+                held.length ? anchor('rows', {watch: id}, 'All rows') : ''), parts);
     }
 
     line({it, rows, places: where}, id) {
@@ -205,19 +236,24 @@ class WatchView {
         const uses = new Map();
         for (const line of lines) {
             const type = line.group + '\t' + line.resource;
-            uses.set(type, {...line, verbs: new Set([...uses.get(type)?.verbs || [], ...line.verbs])});
+            const before = uses.get(type)?.verbs || [];
+            uses.set(type, {...line, verbs: new Set([...before, ...line.verbs])});
         }
         const shown = [...uses.values()].slice(0, 4).map(({verbs, group, resource}) =>
-            make('div', {}, make('span', {class: 'muted'}, [...verbs].map(textOf).map(lineOf).join(', '), ' '), typeNodes(group, resource)));
+            make('div', {}, muted([...verbs].map(textOf).map(lineOf).join(', '), ' '),
+                typeNodes(group, resource)));
         return [anchor('who', {who: it.word}, principalNodes(it.word)),
             whole ? make('b', {class: 'whole'}, 'whole cluster') : this.namespaces(where),
-            id === 'everything' ? `every verb on ${counted(uses.size, 'type')}` : [shown, uses.size > 4 ? `and ${uses.size - 4} more types` : ''],
+            id === 'everything' ? `every verb on ${counted(uses.size, 'type')}`
+            : [shown, uses.size > 4 ? `and ${uses.size - 4} more types` : ''],
             bindingLinks(new Set(rows.map(row => ROWS.columns.binding[row])))];
     }
 
     namespaces(words) {
-        const shown = words.slice(0, 4).map(word => [anchor('what', {ns: word}, fieldNodes(word, 'namespace')), ' ']);
-        return words.length > 4 ? [shown, make('span', {class: 'muted'}, `and ${words.length - 4} more`)] : shown;
+        const shown = words.slice(0, 4).map(word => [anchor('what', {ns: word},
+            fieldNodes(word, 'namespace')), ' ']);
+        return words.length > 4 ? [shown,
+            muted(`and ${words.length - 4} more`)] : shown;
     }
 
     jump(id) {
@@ -231,12 +267,15 @@ class WatchView {
     }
 }
 
-// Who is in a category, with the rows that tell and their namespaces; those in the whole cluster come first.
+// Who is in a category, with the rows that tell and their namespaces; those in the whole cluster
+// come first.
 function holdersOf(at) {
     const held = PRINCIPALS.filter(it => it.watched >> at & 1).map(it => {
-        const places_ = [...it.watchedAt].filter(([, bits]) => bits >> at & 1).map(([namespace]) => ROWS.words.namespace[namespace]);
+        const places_ = [...it.watchedAt].filter(([, bits]) => bits >> at & 1)
+            .map(([namespace]) => ROWS.words.namespace[namespace]);
         const isWhole = places_.includes('-');
-        const rows = it.rows.filter(row => WATCH.of(row) >> at & 1 && (!isWhole || ROWS.word(row, 'namespace') === '-'));
+        const rows = it.rows.filter(row => WATCH.of(row) >> at & 1
+            && (!isWhole || ROWS.word(row, 'namespace') === '-'));
         return {it, rows, places: places_};
     });
     return [...held.filter(isClusterWide), ...held.filter(holder => !isClusterWide(holder))];
@@ -253,14 +292,18 @@ class RowsView {
         this.rows = rows;
         this.name = name;
         this.shown = [];
-        this.sheet = new Sheet(title, rows.fields.map(field => make('th', {scope: 'col'}, make('span', {}, HEADS[field]),
-            this.filter(field))), at => this.line(this.shown[at]), 'rows ' + name);
-        this.summary = make('span', {class: 'muted'});
-        this.watch = make('select', {'aria-label': 'Only rows of the watch list', 'data-param': 'watch',
+        const heads = rows.fields.map(field =>
+            make('th', {scope: 'col'}, make('span', {}, HEADS[field]), this.filter(field)));
+        this.sheet = new Sheet(title, heads, at => this.line(this.shown[at]), 'rows ' + name);
+        this.summary = muted();
+        this.watch = make('select', {'aria-label': 'Only rows of the watch list',
+            'data-param': 'watch',
             change: event => change({watch: event.target.value})},
-            make('option', {value: ''}, 'watched or not'), WATCHED.map(({id, title: it}) => make('option', {value: id}, it)));
+            make('option', {value: ''}, 'watched or not'),
+            WATCHED.map(({id, title: it}) => make('option', {value: id}, it)));
         this.element = make('div', {class: 'view'},
-            make('div', {class: 'tools'}, make('h2', {}, title), filterInput('Filter by any field', 'q', 'any field'),
+            make('div', {class: 'tools'}, make('h2', {}, title),
+                filterInput('Filter by any field', 'q', 'any field'),
                 rows === ROWS ? this.watch : [], this.summary,
                 make('button', {type: 'button', click: () => this.copy()}, 'Copy'),
                 make('button', {type: 'button', click: () => this.save()}, 'Save as TSV'),
@@ -272,24 +315,27 @@ class RowsView {
         if (field !== 'change') {
             return filterInput('Filter ' + HEADS[field], field, 'contains');
         }
-        return make('select', {'aria-label': 'Filter changes', 'data-param': field, change: event => change({change: event.target.value})},
+        return make('select', {'aria-label': 'Filter changes', 'data-param': field,
+            change: event => change({change: event.target.value})},
             ['', 'gained', 'lost'].map(value => make('option', {value}, value || 'both')));
     }
 
     update(params) {
         fill(this.element, params);
         const at = WATCHED.findIndex(({id}) => id === params.watch);
-        this.shown = this.rows.matching(params, at >= 0 && this.rows === ROWS ? row => WATCH.of(row) >> at & 1 : undefined);
-        const all = this.rows.length.toLocaleString('en');
-        this.summary.textContent = this.shown.length === this.rows.length ? counted(this.rows.length, 'row')
-            : `${this.shown.length.toLocaleString('en')} of ${all} rows`;
+        const isWatched = at < 0 || this.rows !== ROWS ? null : row => WATCH.of(row) >> at & 1;
+        this.shown = this.rows.matching(params, isWatched);
+        this.summary.textContent = this.shown.length === this.rows.length
+            ? counted(this.rows.length, 'row')
+            : `${figure(this.shown.length)} of ${counted(this.rows.length, 'row')}`;
         this.sheet.show(this.shown.length);
     }
 
     line(row) {
         return this.rows.fields.map(field => {
             const word = this.rows.word(row, field);
-            return make('td', {title: lineOf(field === 'change' ? CHANGES[word] : textOf(word))}, fieldNodes(word, field));
+            return make('td', {title: lineOf(field === 'change' ? CHANGES[word] : textOf(word))},
+                fieldNodes(word, field));
         });
     }
 
@@ -299,11 +345,13 @@ class RowsView {
 
     copy() {
         const wanted = navigator.clipboard?.writeText(this.text()) || Promise.reject();
-        wanted.then(() => say(`${counted(this.shown.length, 'row')} copied`), () => say('This browser lets no page copy here: save the rows instead'));
+        wanted.then(() => say(`${counted(this.shown.length, 'row')} copied`),
+            () => say('This browser lets no page copy here: save the rows instead'));
     }
 
     save() {
-        const address = URL.createObjectURL(new Blob([this.text()], {type: 'text/tab-separated-values'}));
+        const address = URL.createObjectURL(new Blob([this.text()],
+            {type: 'text/tab-separated-values'}));
         make('a', {href: address, download: this.name + '.tsv'}).click();
         setTimeout(() => URL.revokeObjectURL(address), 60000);
         say(`${counted(this.shown.length, 'row')} saved`);
@@ -313,33 +361,42 @@ class RowsView {
 // ---- Findings
 
 const FINDINGS = {
-    L1: 'The binding refers to a role that isn’t in the files, so it grants nothing, until somebody creates a role of that name. Check that '
-        + 'all files were passed; then delete the binding, or correct its role.',
-    L2: 'No binding refers to the role, neither directly nor through aggregation. Delete it if nobody is going to bind it.',
-    L3: 'Another rule of the same role, the one whose number stands last, allows everything that this one does. Without the redundant rule '
-        + 'the answer to every request stays the same.',
-    L4: 'The rule allows bind or escalate on roles or cluster roles. With it, users can bind roles whose permissions they don’t have, or '
-        + 'write such roles. Take it from everybody who isn’t an administrator.',
-    L5: 'This service account in a ClusterRoleBinding has no namespace, so it names nobody. Add the namespace.',
-    L6: 'The rules written in the aggregated role aren’t those that its selectors collect. rbacaudit ignores them, but a cluster grants them '
-        + 'until its controller overwrites them. Export the role again; if the finding stays, see whether the controller runs.',
-    L7: 'The files have this object more than once. Only the last one counts; the last field says how many came before it.',
+    L1: 'The binding refers to a role that isn’t in the files, so it grants nothing, until '
+        + 'somebody creates a role of that name. Check that all files were passed; then delete '
+        + 'the binding, or correct its role.',
+    L2: 'No binding refers to the role, neither directly nor through aggregation. Delete it if '
+        + 'nobody is going to bind it.',
+    L3: 'Another rule of the same role, the one whose number stands last, allows everything that '
+        + 'this one does. Without the redundant rule the answer to every request stays the same.',
+    L4: 'The rule allows bind or escalate on roles or cluster roles. With it, users can bind '
+        + 'roles whose permissions they don’t have, or write such roles. Take it from everybody '
+        + 'who isn’t an administrator.',
+    L5: 'This service account in a ClusterRoleBinding has no namespace, so it names nobody. Add '
+        + 'the namespace.',
+    L6: 'The rules written in the aggregated role aren’t those that its selectors collect. '
+        + 'rbacaudit ignores them, but a cluster grants them until its controller overwrites '
+        + 'them. Export the role again; if the finding stays, see whether the controller runs.',
+    L7: 'The files have this object more than once. Only the last one counts; the last field '
+        + 'says how many came before it.',
 };
 
 class FindingsView {
     constructor() {
         const codes = grouped(PAGE.findings, finding => finding[0]);
         this.element = make('div', {class: 'text findings'}, make('h2', {}, 'Findings'),
-            codes.size ? [...codes.values()].map(found => this.section(found)) : make('p', {}, 'lint found nothing.'));
+            codes.size ? [...codes.values()].map(found => this.section(found))
+            : make('p', {}, 'lint found nothing.'));
     }
 
     section(found) {
         const [code, name] = found[0];
         const title = `${textOf(code)} ${textOf(name)}`;
-        return make('section', {}, make('h3', {}, nodesOf(title), ' ', make('span', {class: 'muted'}, found.length.toLocaleString('en'))),
-            make('p', {class: 'why'}, FINDINGS[code] || ''),
+        return make('section', {}, make('h3', {}, nodesOf(title), ' ',
+            muted(figure(found.length))),
+            make('p', {class: 'why'}, Object.hasOwn(FINDINGS, code) ? FINDINGS[code] : ''),
             plainTable(title, ['Object', 'Rule or subject', 'What belongs to it'], found,
-                finding => finding.slice(2).map(word => word === '-' ? make('span', {class: 'muted'}, '–') : nodesOf(textOf(word)))));
+                finding => finding.slice(2).map(word => word === '-'
+                    ? muted('–') : nodesOf(textOf(word)))));
     }
 
     update() {}
@@ -356,16 +413,22 @@ class FindView {
         const search = (field, view, params) => {
             const wants = wantedBy(q);
             const words = ROWS.words[field].filter(word => wants(word, field));
-            return words.length ? [make('h3', {}, HEADS[field], ' ', make('span', {class: 'muted'}, words.length.toLocaleString('en'))),
-                plainTable(HEADS[field], [HEADS[field]], words, word => [anchor(view, params(word), fieldNodes(word, field))], 25)] : [];
+            return words.length ? [make('h3', {}, HEADS[field], ' ',
+                muted(figure(words.length))),
+                plainTable(HEADS[field], [HEADS[field]], words,
+                    word => [anchor(view, params(word), fieldNodes(word, field))], 25)] : [];
         };
-        const found = q === '' ? [] : [search('who', 'who', word => ({who: word})), search('namespace', 'what', word => ({ns: word})),
-            search('resource', 'rows', word => ({resource: '=' + word})), search('name', 'rows', word => ({name: '=' + word})),
+        const found = q === '' ? [] : [search('who', 'who', word => ({who: word})),
+            search('namespace', 'what', word => ({ns: word})),
+            search('resource', 'rows', word => ({resource: '=' + word})),
+            search('name', 'rows', word => ({name: '=' + word})),
             search('binding', 'rows', word => ({binding: '=' + word}))].flat();
         this.element.replaceChildren(make('h2', {}, 'Found'), ...found.flat(3));
         if (!found.length) {
-            this.element.append(make('p', {}, q === '' ? 'Write a name, a namespace, a resource or a binding into the search box.'
-                : 'No principal, namespace, resource, object name or binding of this page has this text.'));
+            this.element.append(make('p', {}, q === ''
+                ? 'Write a name, a namespace, a resource or a binding into the search box.'
+                : 'No principal, namespace, resource, object name or binding of this page has '
+                    + 'this text.'));
         }
     }
 }

@@ -1,6 +1,8 @@
-"""A headless Chromium, driven by its DevTools protocol over two pipes: what tests/page.py needs of it, and no more.
+"""A headless Chromium, driven by its DevTools protocol over two pipes: what tests/page.py needs of
+it, and no more.
 
-A message is JSON that ends in a zero byte. The browser gets a profile of its own, and is ended by its own process.
+A message is JSON that ends in a zero byte. The browser gets a profile of its own, and is ended by
+its own process.
 """
 
 import contextlib
@@ -14,8 +16,10 @@ import time
 
 NAMES = ('chromium', 'chromium-browser', 'google-chrome')
 # (a container has no room in /dev/shm, and root no sandbox)
-OPTIONS = ['--headless', '--remote-debugging-pipe', '--no-sandbox', '--disable-gpu', '--disable-dev-shm-usage', '--no-first-run',
-           '--no-default-browser-check', '--disable-background-networking', '--disable-component-update', '--disable-extensions',
+OPTIONS = ['--headless', '--remote-debugging-pipe', '--no-sandbox', '--disable-gpu',
+           '--disable-dev-shm-usage', '--no-first-run',
+           '--no-default-browser-check', '--disable-background-networking',
+           '--disable-component-update', '--disable-extensions',
            '--hide-scrollbars', '--force-device-scale-factor=1', '--lang=en-US']
 PATIENCE = 120
 
@@ -33,9 +37,12 @@ class Browser:
         self.into, from_browser = os.pipe()
         # (bash, since other shells redirect no descriptor above 9; the protocol wants 3 and 4)
         launch = 'exec "$@" 3<&%d 4>&%d' % (to_browser, from_browser)
-        command = [found(), *OPTIONS, '--user-data-dir=' + profile, '--window-size=%d,%d' % size, 'about:blank']
-        self.process = subprocess.Popen(['bash', '-c', launch, 'browser', *command], pass_fds=(to_browser, from_browser),
-                                        stdin=subprocess.DEVNULL, stdout=subprocess.DEVNULL, stderr=subprocess.DEVNULL)
+        command = [found(), *OPTIONS, '--user-data-dir=' + profile, '--window-size=%d,%d' % size,
+                   'about:blank']
+        self.process = subprocess.Popen(['bash', '-c', launch, 'browser', *command],
+                                        pass_fds=(to_browser, from_browser),
+                                        stdin=subprocess.DEVNULL, stdout=subprocess.DEVNULL,
+                                        stderr=subprocess.DEVNULL)
         os.close(to_browser)
         os.close(from_browser)
         self.waiting, self.number, self.session = b'', 0, None
@@ -59,10 +66,12 @@ class Browser:
         return json.loads(message)
 
     def note(self, message):
-        """Writes down what a page does by itself: what it logs, what fails in it, and what it asks for."""
+        """Writes down what a page does by itself: what it logs, what fails in it, and what it asks
+        for."""
         method, given = message.get('method'), message.get('params', {})
         if method == 'Runtime.consoleAPICalled':
-            self.messages.append('%s: %s' % (given['type'], [it.get('value') for it in given['args']]))
+            self.messages.append('%s: %s' % (given['type'],
+                                             [it.get('value') for it in given['args']]))
         elif method == 'Runtime.exceptionThrown':
             self.messages.append(json.dumps(given['exceptionDetails'])[:2000])
         elif method == 'Log.entryAdded':
@@ -96,7 +105,8 @@ class Browser:
 
     def do(self, script):
         """The value of a script in the page, once it has settled if it is a promise."""
-        answer = self.ask('Runtime.evaluate', expression=script, returnByValue=True, awaitPromise=True, userGesture=True)
+        answer = self.ask('Runtime.evaluate', expression=script, returnByValue=True,
+                          awaitPromise=True, userGesture=True)
         if 'exceptionDetails' in answer:
             raise RuntimeError('%s: %s' % (script, json.dumps(answer['exceptionDetails'])[:2000]))
         return answer['result'].get('value')
@@ -134,7 +144,8 @@ class Browser:
 
     def press(self, key, code, text=''):
         for kind in ('keyDown', 'keyUp'):
-            self.ask('Input.dispatchKeyEvent', type=kind, key=key, code=key, windowsVirtualKeyCode=code, **({'text': text} if text else {}))
+            self.ask('Input.dispatchKeyEvent', type=kind, key=key, code=key,
+                     windowsVirtualKeyCode=code, **({'text': text} if text else {}))
         self.frame()
 
     def close(self):
