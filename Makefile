@@ -56,4 +56,7 @@ install: build
 	install -m 644 completions/rbacaudit.bash $(SHARE)/bash-completion/completions/rbacaudit
 	install -m 644 completions/_rbacaudit $(SHARE)/zsh/site-functions/_rbacaudit
 	install -m 644 completions/rbacaudit.fish $(SHARE)/fish/vendor_completions.d/rbacaudit.fish
-	install -m 644 man/rbacaudit.1 $(SHARE)/man/man1/rbacaudit.1
+	install -m 644 completions/rbacaudit-page.bash $(SHARE)/bash-completion/completions/rbacaudit-page
+	install -m 644 completions/_rbacaudit-page $(SHARE)/zsh/site-functions/_rbacaudit-page
+	install -m 644 completions/rbacaudit-page.fish $(SHARE)/fish/vendor_completions.d/rbacaudit-page.fish
+	install -m 644 man/rbacaudit.1 man/rbacaudit-page.1 $(SHARE)/man/man1

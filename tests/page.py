@@ -193,8 +193,7 @@ def policy():
                if key in ('src', 'href', 'style') or key.startswith('on')]
     same('no element refers to anything', strange, [])
     for name in sorted(os.listdir(os.path.join(TOP, 'page'))):
-        with open(os.path.join(TOP, 'page', name), encoding='utf-8') as file:
-            text = file.read()
+        text = contents('page', name)
         same('page/%s names no address' % name,
              re.findall(r'https?:|//\w|@import|url\(|innerHTML|document\.write|eval\(', text), [])
 
@@ -255,6 +254,68 @@ def limits():
                 and 'make install' in err, repr(got))
 
 
+def contents(*path):
+    with open(os.path.join(TOP, *path), encoding='utf-8') as file:
+        return file.read()
+
+
+def told(*words, **how):
+    """What a command writes, its faults too."""
+    return subprocess.run(words, stdout=subprocess.PIPE, stderr=subprocess.STDOUT, timeout=60,
+                          **how).stdout.decode()
+
+
+def helped():
+    """Help, the man page and the completions have the same options, in the same words."""
+    told_ = told(sys.executable, FILTER, '--help', env=dict(os.environ, COLUMNS='100'))
+    options = dict(re.findall(r'^  (?:-h, )?--(\w+)(?: [A-Z]+)?  +(.*)$', told_, re.M))
+    same('help: the options', [*options], ['help', 'lint', 'diff', 'title'])
+    man = contents('man', 'rbacaudit-page.1')
+    same('man: the options', re.findall(r'^\.TP\n.*\\-\\-(\w+)\\fR', man, re.M), [*options])
+    checked('man: the default of --title', 'Default: Who can do what.' in man)
+    checked('man: the most rows', re.search(r'More than ([\d,]+) rows', man)[1] == '500,000')
+    fish = contents('completions', 'rbacaudit-page.fish')
+    same('fish: the options', dict(re.findall(r"-l (\w+) .*?-d '(.*)'$", fish, re.M)), options)
+    zsh = contents('completions', '_rbacaudit-page')
+    same('zsh: the options', dict(re.findall(r"--(\w+)=?\}?'?\[(.*?)\]", zsh)), options)
+    path = os.path.join(TOP, 'completions', 'rbacaudit-page.bash')
+    for line, wanted in (('rbacaudit-page --', '--lint --diff --title --help'),
+                         ('rbacaudit-page --lint x --t', '--title'),
+                         ('rbacaudit-page --title -', '')):
+        script = ('compopt() { :; }; . "$0"; COMP_WORDS=(%s); COMP_CWORD=%d; _rbacaudit_page; '
+                  'echo ${COMPREPLY[*]}' % (line, line.count(' ')))
+        same('bash: %s' % line, told('bash', '-c', script, path).strip(), wanted)
+    for words in (['mandoc', '-Tlint'], ['groff', '-man', '-ww', '-Tascii', '-z']):
+        if shutil.which(words[0]):
+            same('%s finds no fault' % words[0],
+                 told(*words, os.path.join(TOP, 'man', 'rbacaudit-page.1')), '')
+    for shell in ('zsh', 'fish'):
+        if shutil.which(shell):
+            name = {'zsh': '_rbacaudit-page', 'fish': 'rbacaudit-page.fish'}[shell]
+            same('%s reads its file' % shell,
+                 told(shell, '-n', os.path.join(TOP, 'completions', name)), '')
+
+
+def installed():
+    """`make install` puts the filter, its files, its man page and its completions where they are
+    looked for."""
+    with tempfile.TemporaryDirectory() as room:
+        # (the program is built, and isn't to be proved once more)
+        subprocess.run(['make', '-s', '-o', 'build', 'install', 'PREFIX=' + room], cwd=TOP,
+                       check=True, timeout=60)
+        same('make install: the page is the same',
+             made(SMALL, path=os.path.join(room, 'bin', 'rbacaudit-page')), made(SMALL))
+        for name, place in (('man/rbacaudit-page.1', 'man/man1/rbacaudit-page.1'),
+                            ('completions/rbacaudit-page.bash',
+                             'bash-completion/completions/rbacaudit-page'),
+                            ('completions/_rbacaudit-page', 'zsh/site-functions/_rbacaudit-page'),
+                            ('completions/rbacaudit-page.fish',
+                             'fish/vendor_completions.d/rbacaudit-page.fish')):
+            path = os.path.join(room, 'share', place)
+            checked('make install: share/%s' % place,
+                    os.path.isfile(path) and contents(path) == contents(name))
+
+
 def contrast(one, other):
     """How much two colours differ, as WCAG 2 defines it."""
     def light(colour):
@@ -270,8 +331,7 @@ def contrast(one, other):
 def colours():
     """Each colour of a text can be read on what it stands on, in light and dark: at least 4.5 to
     1."""
-    with open(os.path.join(TOP, 'page', 'page.css'), encoding='utf-8') as file:
-        themes = re.findall(r':root \{(.*?)\}', file.read(), re.S)
+    themes = re.findall(r':root \{(.*?)\}', contents('page', 'page.css'), re.S)
     for theme, text in zip(('light', 'dark'), themes):
         found = dict(re.findall(r'--([\w-]+): (#[0-9a-f]{6});', text))
         pairs = [(ink, back) for ink in ('ink', 'muted', 'accent', 'read', 'write', 'other',
@@ -714,9 +774,9 @@ def in_browser():
 def skipped():
     if not browser.found():
         print('skipped: everything that needs a browser, since this machine has no chromium: '
-              'views, clicks, filters, strangers\' names on '
-              'screen, print, and the time of large pages')
+              'views, clicks, filters, names on screen, print, and the time of large pages')
 
 
 if __name__ == '__main__':
-    sys.exit(tested(written, no_markup, policy, refusals, limits, colours, in_browser, skipped))
+    sys.exit(tested(written, no_markup, policy, refusals, limits, helped, installed, colours,
+                    in_browser, skipped))
