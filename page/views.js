@@ -38,10 +38,16 @@ function fill(element, params) {
     }
 }
 
+// What of the watch list a principal has; everything comes first.
 function badges(bits, principal) {
-    return WATCHED.filter((_, at) => bits >> at & 1).map(({id, short, title}) =>
-        [make('a', {href: link('rows', {who: '=' + principal, watch: id}), class: 'badge', title},
-            short), ' ']);
+    const held = WATCHED.filter((_, at) => bits >> at & 1);
+    if (bits & EVERYTHING) {
+        held.unshift(held.pop());
+    }
+    return held.map(({id, short, title}) => {
+        const href = link('rows', {who: '=' + principal, watch: id});
+        return [make('a', {href, class: 'badge', title}, short), ' '];
+    });
 }
 
 function bindingLinks(places_) {

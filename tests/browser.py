@@ -2,15 +2,17 @@
 it, and no more.
 
 A message is JSON that ends in a zero byte. The browser gets a profile of its own, and is ended by
-its own process.
+its own process. `browser.py PAGE '#ADDRESS' PICTURE.png` takes a picture of a page.
 """
 
+import base64
 import contextlib
 import json
 import os
 import select
 import shutil
 import subprocess
+import sys
 import tempfile
 import time
 
@@ -169,3 +171,19 @@ def browser(**how):
             yield it
         finally:
             it.close()
+
+
+def picture(page, address, path):
+    """Writes a picture of a page, as docs/page.png is one of examples/cluster."""
+    with browser() as it:
+        it.ask('Emulation.setDeviceMetricsOverride', width=1280, height=760, deviceScaleFactor=1,
+               mobile=False)
+        it.open(os.path.abspath(page))
+        it.do('location.hash = %s' % json.dumps(address))
+        it.frame()
+        with open(path, 'wb') as file:
+            file.write(base64.b64decode(it.ask('Page.captureScreenshot', format='png')['data']))
+
+
+if __name__ == '__main__':
+    picture(*sys.argv[1:])
