@@ -21,7 +21,7 @@ import textwrap
 import time
 
 from common import PROGRAM, TOP, V1, V1BETA1, checked, tested
-from page import Parts, lines_in
+from written import Parts, lines_in
 
 PLUGIN = os.path.join(TOP, 'plugin', 'kubectl-rbacaudit')
 SHELLS = ['dash' if shutil.which('dash') else 'sh', 'bash']

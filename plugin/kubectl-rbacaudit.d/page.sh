@@ -65,7 +65,7 @@ write_page() {
 
 page_usage() {
     cat <<'EOT'
-Write everything about the export as one HTML file, which any browser opens without a network.
+Write everything about the export as one HTML file, which any current browser opens.
 
   kubectl rbacaudit page [--title TEXT] [--diff FILE] [--every] [FILE].. > access.html
 

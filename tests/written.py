@@ -1,0 +1,129 @@
+"""What the tests of rbacaudit-page share: rows, names of strangers, the filter, and a page taken
+apart.
+"""
+
+import base64
+import contextlib
+import html.parser
+import json
+import os
+import struct
+import subprocess
+import sys
+import tempfile
+
+from common import TOP, checked
+
+FILTER = os.path.join(TOP, 'plugin', 'rbacaudit-page')
+
+
+def rows_of(text):
+    """Rows written with spaces: who, namespace, verb, group, resource, name, binding."""
+    return [line.replace(' ', '\t') for line in text.strip().splitlines()]
+
+
+SMALL = rows_of("""
+g:devs - get - /metrics - ClusterRoleBinding/scrapers
+g:devs dev create - pods - RoleBinding/dev/devs
+g:devs dev get - pods - RoleBinding/dev/devs
+g:devs dev get - secrets - RoleBinding/dev/devs
+g:devs prod get - pods - RoleBinding/prod/readers
+u:ann - create - pods/exec - ClusterRoleBinding/ops
+u:ann - get - secrets - ClusterRoleBinding/ops
+u:ann dev create - pods/exec - ClusterRoleBinding/ops
+u:ann dev get - secrets - ClusterRoleBinding/ops
+u:ann dev update - configmaps app RoleBinding/dev/ann
+u:system:serviceaccount:dev:ci dev deletecollection apps deployments - RoleBinding/dev/ci
+u:system:serviceaccount:dev:ci dev patch apps deployments - RoleBinding/dev/ci
+""")
+FINDINGS = ['L2\tunused-role\tRole/dev/old\t-\t-', 'L3\tredundant-rule\tRole/dev/ops\t2\t1',
+            'L3\tredundant-rule\tRole/dev/web\t4\t3',
+            'L99\tnew-code\tRole/dev/web\t1\t\\x2d']
+CHANGES = ['+\tu:ann\tdev\tget\t-\tpods\t-\tRoleBinding/dev/ann',
+           '-\tu:bob\t*\t*\tapps\t*\t\\x2a\tClusterRoleBinding/bobs']
+# Names of strangers as a field prints them, and what is seen of them.
+NAMES = {
+    '</script><script>alert(1)</script>': '</script><script>alert(1)</script>',
+    '"><img src=x onerror=alert(2)>': '"><img src=x onerror=alert(2)>',
+    'javascript:alert(3)': 'javascript:alert(3)', '<!--': '<!--', '-->': '-->',
+    ']]>&lt;&amp;': ']]>&lt;&amp;', '{{data}}': '{{data}}',
+    '`${alert(4)}`': '`${alert(4)}`', '__proto__': '__proto__', 'é中': 'é中',
+    'a\\x09b\\\\x41\\x7f': 'aU+0009b\\x41U+007F',
+    'x\u202eyes\u2066': 'xU+202EyesU+2066',
+    'in\u200bvi\ufeffs\u00adible': 'inU+200BviU+FEFFsU+00ADible',
+    'b\u00a0l\u3000k': 'bU+00A0lU+3000k',
+    'line\u2028end\u0085': 'lineU+2028endU+0085', '\U000e0041tag': 'U+E0041tag',
+    '\ufff9r': 'U+FFF9r', '\\x2d': '-',
+    'm' * 1048576: 'm' * 300 + '… 1,048,576 characters'}
+
+
+def made(rows, *words, last='end', **how):
+    """Status, output and error of the filter over rows."""
+    given = ''.join(row + '\n' for row in [*rows, *([last] if last is not None else [])])
+    ended = subprocess.run([sys.executable, how.get('path', FILTER), *words], input=given.encode(),
+                           stdout=subprocess.PIPE,
+                           stderr=subprocess.PIPE, timeout=120)
+    return ended.returncode, ended.stdout.decode(), ended.stderr.decode()
+
+
+@contextlib.contextmanager
+def file_of(lines, name='lines'):
+    with tempfile.TemporaryDirectory() as room:
+        path = os.path.join(room, name)
+        with open(path, 'w', encoding='utf-8') as file:
+            file.write(''.join(line + '\n' for line in lines))
+        yield path
+
+
+def same(name, got, wanted):
+    checked(name, got == wanted, 'got %.2000r, wanted %.2000r' % (got, wanted))
+
+
+def contents(*path):
+    with open(os.path.join(TOP, *path), encoding='utf-8') as file:
+        return file.read()
+
+
+def strangers():
+    """Rows in which each name stands in each field that may have it."""
+    for name in NAMES:
+        yield '\t'.join(['g:' + name, name, name, name, name, name, 'RoleBinding/' + name])
+        yield '\t'.join(['u:ann', '-', 'get', '-', '/' + name, '-', 'ClusterRoleBinding/' + name])
+
+
+class Parts(html.parser.HTMLParser):
+    """The elements of a page with their attributes, and the texts of its title, style and
+    scripts."""
+
+    def __init__(self, text):
+        super().__init__(convert_charrefs=True)
+        self.elements, self.texts, self.open = [], {}, None
+        self.feed(text)
+        self.close()
+
+    def handle_starttag(self, tag, attrs):
+        self.elements.append((tag, dict(attrs)))
+        self.open = (tag, dict(attrs).get('type')) if tag in ('title', 'style', 'script',
+                                                              'h1') else None
+
+    def handle_endtag(self, tag):
+        self.open = None
+
+    def handle_data(self, data):
+        if self.open:
+            self.texts[self.open] = self.texts.get(self.open, '') + data
+
+    def data(self):
+        return json.loads(self.texts['script', 'application/json'])
+
+
+def lines_in(coded):
+    """The lines that a page's tables of words and columns stand for."""
+    columns = []
+    for words, column in zip(coded['words'], coded['columns']):
+        width, letter = next((width, letter) for width, letter in ((1, 'B'), (2, 'H'), (4, 'I'))
+                             if len(words) <= 1 << 8 * width)
+        numbers = base64.b64decode(column)
+        columns.append([words[number] for number in struct.unpack('<%d%s' % (len(numbers) // width,
+                                                                             letter), numbers)])
+    return ['\t'.join(fields) for fields in zip(*columns)]
