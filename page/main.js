@@ -7,7 +7,8 @@ const VIEWS = {
     rows: ['Rows', () => new RowsView(ROWS, 'Rows', 'rows',
         'A filter takes the rows whose field contains it. With = before it, the field has to be '
         + 'printed exactly so: =- is the empty field, which as a namespace means the whole '
-        + 'cluster, and as an API group the core group.')],
+        + 'cluster, and as an API group the core group. The binding is the first that grants, '
+        + 'unless the matrix was made with --every.')],
 };
 if (PAGE.findings) {
     VIEWS.findings = ['Findings', () => new FindingsView()];
@@ -74,7 +75,7 @@ function begin() {
     document.getElementById('facts').textContent = [counted(ROWS.length, 'row'),
         counted(PRINCIPALS.length, 'principal'),
         counted(ROWS.words.namespace.filter(word => word !== '-').length, 'namespace'),
-        counted(ROWS.words.binding.length, 'granting binding')].join(' · ');
+        counted(ROWS.words.binding.length, 'binding') + ' in these rows'].join(' · ');
     document.getElementById('views').append(...Object.entries(VIEWS)
         .map(([view, [title]]) => make('li', {},
         make('a', {href: link(view), 'data-view': view}, title, COUNTS[view] === undefined ? ''

@@ -156,7 +156,8 @@ class PrincipalView {
             'from ' + counted(it.bindings.size, 'binding')].join(', ') + '.';
         this.watched.replaceChildren(...badges(it.watched, it.word).flat());
         this.links.replaceChildren(anchor('rows', {who: '=' + it.word}, 'All rows'));
-        this.show(linesOf(it.rows), params);
+        it.lines ||= linesOf(it.rows);
+        this.show(it.lines, params);
     }
 
     show(lines, params) {

@@ -69,11 +69,11 @@ def policy():
     sums = {name: hashlib.sha256(parts.texts[name, None].encode()).digest()
             for name in ('style', 'script')}
     hashes = {name: "'sha256-%s'" % base64.b64encode(it).decode() for name, it in sums.items()}
-    policies = [attributes['content'] for tag, attributes in parts.elements
+    policies = [attributes['content'].split() for tag, attributes in parts.elements
                 if attributes.get('http-equiv') == 'Content-Security-Policy']
-    same('the policy', policies,
-         ["default-src 'none'; style-src %s; script-src %s; base-uri 'none'; form-action 'none'" % (
-        hashes['style'], hashes['script'])])
+    same('the policy', policies, [[
+        'default-src', "'none';", 'style-src', hashes['style'] + ';', 'script-src',
+        hashes['script'] + ';', 'base-uri', "'none';", 'form-action', "'none'"]])
     strange = [(tag, key) for tag, attributes in parts.elements for key in attributes
                if key in ('src', 'href', 'style') or key.startswith('on')]
     same('no element refers to anything', strange, [])

@@ -88,7 +88,7 @@ def seen_who(page):
         ['user ann', '5', '2', '1', '2', 'secrets exec '],
         ['account dev:ci', '2', '–', '1', '1', '']])
     same('who: the facts', page.text('#facts'),
-         '12 rows · 3 principals · 2 namespaces · 6 granting bindings')
+         '12 rows · 3 principals · 2 namespaces · 6 bindings in these rows')
     page.click('document.querySelectorAll(".who thead button")[1]')
     same('who: sorted by permissions', [row[0] for row in page.cells()],
          ['group devs', 'user ann', 'account dev:ci'])
@@ -349,9 +349,10 @@ def cluster_page(it, room):
     *rows, last = cluster_rows()
     page = Shown(it, room, 'cluster', made(rows, last=last)[1])
     fields = [row.split('\t') for row in rows]
+    words = [len({row[at] for row in fields} - {'-'}) for at in (0, 1, 6)]
     same('cluster: the facts', page.text('#facts'),
-         '%s rows · %d principals · %d namespaces · %d granting bindings' % (
-             format(len(rows), ','), *(len({row[at] for row in fields} - {'-'}) for at in (0, 1, 6))))
+         '%s rows · %d principals · %d namespaces · %d bindings in these rows' % (
+             format(len(rows), ','), *words))
     counts = {who: [0, 0] for who, *_ in fields}
     for who, namespace, *_ in fields:
         counts[who][0] += 1
