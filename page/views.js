@@ -238,22 +238,23 @@ class WatchView {
     }
 
     line({it, rows, places: where}, id) {
-        const lines = linesOf(rows);
-        const whole = where.includes('-');
-        const uses = new Map();
-        for (const line of lines) {
-            const type = line.group + '\t' + line.resource;
-            const before = uses.get(type)?.verbs || [];
-            uses.set(type, {...line, verbs: new Set([...before, ...line.verbs])});
-        }
-        const shown = [...uses.values()].slice(0, 4).map(({verbs, group, resource}) =>
-            make('div', {}, muted([...verbs].map(textOf).map(lineOf).join(', '), ' '),
-                typeNodes(group, resource)));
+        const uses = grouped(linesOf(rows), line => line.group + '\t' + line.resource);
+        const shown = [...uses.values()].slice(0, 4).map(lines => this.use(lines));
         return [anchor('who', {who: it.word}, principalNodes(it.word)),
-            whole ? make('b', {class: 'whole'}, 'whole cluster') : this.namespaces(where),
+            where.includes('-') ? make('b', {class: 'whole'}, 'whole cluster')
+                : this.namespaces(where),
             id === 'everything' ? `every verb on ${counted(uses.size, 'type')}`
-            : [shown, uses.size > 4 ? `and ${uses.size - 4} more types` : ''],
+                : [shown, uses.size > 4 ? `and ${uses.size - 4} more types` : ''],
             bindingLinks(new Set(rows.map(row => ROWS.columns.binding[row])))];
+    }
+
+    // The verbs that somebody has on a type, by the lines about it.
+    use(lines) {
+        const verbs = [...new Set(lines.flatMap(line => [...line.verbs]))].map(textOf).map(lineOf);
+        const isNamed = lines.every(line => line.name !== '-');
+        return make('div', {}, muted(verbs.join(', '), ' '),
+            typeNodes(lines[0].group, lines[0].resource),
+            isNamed ? muted(', some objects only') : '');
     }
 
     namespaces(words) {

@@ -8,6 +8,7 @@ but one says so. The last line is `N passed, M failed`.
 import base64
 import hashlib
 import os
+import pty
 import re
 import shutil
 import subprocess
@@ -139,6 +140,19 @@ def limits():
                 and 'make install' in err, repr(got))
 
 
+def terminals():
+    """Nobody types rows, and nobody reads a page on a terminal."""
+    for at in (0, 1):
+        streams = {0: subprocess.DEVNULL, 1: subprocess.PIPE}
+        ours, streams[at] = pty.openpty()
+        ended = subprocess.run([sys.executable, FILTER], stdin=streams[0], stdout=streams[1],
+                               stderr=subprocess.PIPE, timeout=60)
+        os.close(ours)
+        os.close(streams[at])
+        checked('a terminal as %d is refused' % at, ended.returncode == 2 and ended.stderr.endswith(
+            b'rbacaudit matrix *.json | rbacaudit-page > access.html\n'), repr(ended))
+
+
 def told(*words, **how):
     """What a command writes, its faults too."""
     return subprocess.run(words, stdout=subprocess.PIPE, stderr=subprocess.STDOUT, timeout=60,
@@ -223,5 +237,5 @@ def colours():
 
 
 if __name__ == '__main__':
-    sys.exit(tested(written, no_markup, policy, refusals, limits, helped, installed, colours,
+    sys.exit(tested(written, no_markup, policy, refusals, limits, terminals, helped, installed, colours,
                     in_browser, skipped))

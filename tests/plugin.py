@@ -833,6 +833,13 @@ def pages(it):
                        (['--title', '--every'], '--title needs a value'), (['--export', 'nothing'], 'there is no folder nothing')):
         status, out, err = got = it.run('page', *line)
         it.checked('refused: page %s' % ' '.join(line), (status, out) == (2, '') and said in err, got)
+    ours, terminal = pty.openpty()
+    ended = subprocess.run([it.shell, PLUGIN, 'page'], cwd=it.work, env=it.environment(), stdin=subprocess.DEVNULL, stdout=terminal,
+                           stderr=subprocess.PIPE, timeout=60)
+    os.close(ours)
+    os.close(terminal)
+    it.checked('refused: a page on a terminal', (ended.returncode, ended.stderr) == (
+        2, b'kubectl-rbacaudit: the page goes into a file: kubectl rbacaudit page > access.html\n'), ended)
     it.checked('nothing was read for it', not it.lines('calls'), 'a call')
     it.checked('help', '--every' in it.run('page', '--help')[1], 'no help')
     it.expect('rows as changes', ['page', '--export', 'prod', '--diff', 'my verbs.json'], 2, '', 'rbacaudit-page: my verbs.json line 1: no line of changes\n')

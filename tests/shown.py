@@ -264,6 +264,14 @@ def stars(it, room):
     same('so is every verb on every type', [row[:3] for row in page.cells('#watch-everything')], [
         ['user all', 'whole cluster', 'every verb on 3 types'],
         ['user dev', 'dev ', 'every verb on 2 types']])
+    named = rows_of('u:ann dev get - secrets a RoleBinding/dev/a\n'
+                    'u:bob dev get - secrets - RoleBinding/dev/b\n'
+                    'u:bob dev list - secrets a RoleBinding/dev/b')
+    page = Shown(it, room, 'named', made(named)[1])
+    page.go('#watch')
+    same('what is limited to object names is told', page.cells('#watch-secrets'), [
+        ['user ann', 'dev ', 'get secrets, some objects only', 'RoleBinding/dev/a '],
+        ['user bob', 'dev ', 'get, list secrets', 'RoleBinding/dev/b ']])
     every = rows_of('u:ann - get - pods - ClusterRoleBinding/a\nu:ann - get - pods - '
                     'ClusterRoleBinding/b')
     page = Shown(it, room, 'every', made(every)[1])

@@ -38,6 +38,7 @@ page_command() {
         page_usage
         exit 0
     fi
+    [ ! -t 1 ] || refuse 'the page goes into a file: kubectl rbacaudit page > access.html'
     need_rbacaudit
     need rbacaudit-page 'make install in its repository puts it beside this plugin'
     check_options
