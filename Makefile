@@ -3,16 +3,17 @@
 PREFIX ?= /usr/local
 PROGRAM = crates/rbacaudit/out/rbacaudit
 
-.PHONY: run test fuzz calls wrong-bodies build install
+.PHONY: run test fuzz calls wrong-bodies build install dist
 
 # One question on the example export: may the CI account of the shop update deployments there, and why? The proved program
 # answers if it is built and no source has changed since; otherwise the sources answer, unproved. What the kit says of such a try
 # is shown only if it fails.
 QUESTION = can-i --as system:serviceaccount:shop:ci -n shop --why update deployments.apps
 SOURCES = crates.txt $(wildcard crates/*/src crates/*/specs crates/*/proofs)
+IS_BUILT = [ -x $(PROGRAM) ] && [ -z "$$(find $(SOURCES) -newer $(PROGRAM) | head -n 1)" ]
 
 run:
-	@if [ -x $(PROGRAM) ] && [ -z "$$(find $(SOURCES) -newer $(PROGRAM) | head -n 1)" ]; then \
+	@if $(IS_BUILT); then \
 	    $(PROGRAM) $(QUESTION) examples/shop.json; \
 	else \
 	    echo 'make run: this answer isn'\''t from a proved build, and takes a few minutes; make build proves and builds the program' >&2; \
@@ -60,3 +61,9 @@ install: build
 	install -m 644 completions/_rbacaudit-page $(SHARE)/zsh/site-functions/_rbacaudit-page
 	install -m 644 completions/rbacaudit-page.fish $(SHARE)/fish/vendor_completions.d/rbacaudit-page.fish
 	install -m 644 man/rbacaudit.1 man/rbacaudit-page.1 $(SHARE)/man/man1
+
+# What others install without the kit, in dist/: an archive, a Containerfile, a manifest for krew, and SHA256SUMS. GATE=FILE is what
+# `make test` printed, whose last line goes into PROVED.txt; URL=ADDRESS is where the archive is going to be, for krew.
+dist:
+	@$(IS_BUILT) || { echo 'make dist: the program isn'\''t built, or a source has changed since: make build first' >&2; exit 1; }
+	@python3 tools/dist.py "$(GATE)" "$(URL)"
