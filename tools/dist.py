@@ -32,7 +32,7 @@ commit  {commit}
 date    {date}
 kit     {kit}
 gate    {gate}
-needs   glibc {glibc} or later, and libgcc
+needs   {libraries}; glibc {glibc} or later
 
 make dist wrote this. The date is the commit's, and the kit the one that was there then. bin/rbacaudit was built from the
 sources of the commit, and is stripped of its symbols. docs/PROMISES.md says what is proved, what is only tested, and what
@@ -52,6 +52,11 @@ def said(*words):
 def bytes_of(path):
     with open(path, 'rb') as file:
         return file.read()
+
+
+def packable(path):
+    """A file's mode and bytes."""
+    return 0o755 if os.access(path, os.X_OK) else 0o644, bytes_of(path)
 
 
 def commit():
@@ -82,18 +87,20 @@ def installed(stage):
     subprocess.run(['make', '-s', '-o', 'build', 'install', 'DESTDIR=' + stage, 'PREFIX='], cwd=TOP, env=environment, check=True)
     subprocess.run(['strip', os.path.join(stage, 'bin', 'rbacaudit')], check=True)
     names = (os.path.join(folder, name) for folder, _, names in os.walk(stage) for name in names)
-    return {os.path.relpath(path, stage): (0o755 if os.access(path, os.X_OK) else 0o644, bytes_of(path)) for path in names}
+    return {os.path.relpath(path, stage): packable(path) for path in names}
 
 
 def documents():
     """The documents and examples of the commit: each file's mode and bytes by its name."""
-    return {name: (0o644, bytes_of(os.path.join(TOP, name))) for name in said('git', 'ls-files', *DOCUMENTS).splitlines()}
+    return {name: packable(os.path.join(TOP, name)) for name in said('git', 'ls-files', *DOCUMENTS).splitlines()}
 
 
-def glibc_of(program):
-    """The oldest glibc that has all that the program calls."""
-    versions = re.findall(r'GLIBC_([0-9]+)\.([0-9]+)', said('readelf', '-V', program))
-    return '%d.%d' % max((int(major), int(minor)) for major, minor in versions)
+def needs_of(program):
+    """The libraries that the program loads, and the oldest glibc that has all that it calls."""
+    text = said('readelf', '-dV', program)
+    versions = re.findall(r'\bGLIBC_([0-9]+)\.([0-9]+)', text)
+    glibc = '%d.%d' % max((int(major), int(minor)) for major, minor in versions)
+    return ', '.join(sorted(re.findall(r'\(NEEDED\).*\[(.+)\]', text))), glibc
 
 
 def archive(root, files, seconds):
@@ -125,9 +132,10 @@ def contents(gate):
         program = os.path.join(stage, 'bin', 'rbacaudit')
         files = {**installed(stage), **documents()}
         version = said(program, '--version').split()[-1]
+        libraries, glibc = needs_of(program)
         proved = PROVED.format(version=version, commit=name, date=date, kit=said('rt', 'version'), gate=gate,
-                               glibc=glibc_of(program))
-    files['install.sh'] = 0o755, bytes_of(os.path.join(PACKAGING, 'install.sh'))
+                               libraries=libraries, glibc=glibc)
+    files['install.sh'] = packable(os.path.join(PACKAGING, 'install.sh'))
     files['PROVED.txt'] = 0o644, proved.encode()
     return version, int(seconds), files
 
