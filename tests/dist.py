@@ -1,0 +1,456 @@
+"""What `make dist` packs: the same bytes each time, from the commit alone, and at work where there is no kit.
+
+It packs copies of this repository that have one commit, of a known date, and the built program. The archive is unpacked into
+an empty folder, where the PATH has the base tools alone. There it is installed, as the Containerfile and krew do it too, and
+the jobs of docs/RECIPES.md use it, whose shell parts run as they are written. What the machine lacks is reported and not
+counted. The last line is `N passed, M failed`.
+"""
+
+import glob
+import hashlib
+import json
+import os
+import re
+import shutil
+import stat
+import subprocess
+import sys
+import tarfile
+import tempfile
+import textwrap
+
+from common import PROGRAM, TOP, checked, tested
+from transcripts import contents, steps, text_of
+
+ROOT = 'rbacaudit-0.1.0-x86_64-linux'
+ARCHIVE = ROOT + '.tar.gz'
+MADE = ['Containerfile', 'SHA256SUMS', 'krew.yaml', ARCHIVE]
+# The commit's date, and the seconds from 1970 to it: 11,356 days, and 4 hours, 5 minutes and 6 seconds.
+DATE, SECONDS = '2001-02-03T04:05:06+00:00', 11_356 * 86_400 + 4 * 3600 + 5 * 60 + 6
+NOT_COPIED = '.git', 'out', 'dist', '__pycache__', 'must-fail', 'wrong-bodies'
+WHO = {'GIT_%s_%s' % (who, what): value for who in ('AUTHOR', 'COMMITTER')
+       for what, value in (('NAME', 'tests'), ('EMAIL', 'tests@example.com'), ('DATE', DATE))}
+GIT = {'GIT_CONFIG_GLOBAL': '/dev/null', 'GIT_CONFIG_SYSTEM': '/dev/null', **WHO}
+# What every system has, and with it tar and gzip. The plugin's tools are those that its help names.
+BASE = 'cat cp dirname find gzip install mkdir mv readlink rm sh sha256sum sort tar tr'.split()
+PLUGIN_TOOLS = 'awk', 'mktemp', 'sed'
+QUESTION = 'can-i --as system:serviceaccount:shop:ci -n shop --why update deployments.apps'.split()
+ANSWER = 'yes\nRoleBinding/shop/ci-deploys\tRole/shop/deployer\tRole/shop/deployer\t1\t1\n'
+PLACES = {'bin/rbacaudit': None, 'bin/kubectl-rbacaudit': 'plugin/kubectl-rbacaudit',
+          'share/bash-completion/completions/rbacaudit': 'completions/rbacaudit.bash',
+          'share/zsh/site-functions/_rbacaudit': 'completions/_rbacaudit',
+          'share/fish/vendor_completions.d/rbacaudit.fish': 'completions/rbacaudit.fish',
+          'share/man/man1/rbacaudit.1': 'man/rbacaudit.1'}
+
+
+def run(words, folder, environment=None, **how):
+    """What a command in a folder ends with: its status, and all that it prints."""
+    ended = subprocess.run(words, cwd=folder, env=environment, stdin=subprocess.DEVNULL, stdout=subprocess.PIPE,
+                           stderr=subprocess.STDOUT, timeout=120, **how)
+    return ended.returncode, ended.stdout.decode(errors='replace')
+
+
+def expect(name, words, folder, environment, status, out):
+    got = run(words, folder, environment)
+    checked(name, got == (status, out), 'got %r' % (got,))
+
+
+def git(folder, *words):
+    status, out = run(['git', *words], folder, dict(os.environ, **GIT))
+    if status:
+        raise RuntimeError('git %s: %s' % (words[0], out))
+    return out.strip()
+
+
+def write(text, *path):
+    with open(os.path.join(*path), 'w', encoding='utf-8') as file:
+        file.write(text)
+
+
+def bytes_of(*path):
+    with open(os.path.join(*path), 'rb') as file:
+        return file.read()
+
+
+# ---- the repository that is packed, and what make dist made there
+
+class Room:
+    """A temporary folder with a copy of this repository, with one commit, and all that is made from it."""
+
+    def __init__(self, path):
+        self.path, self.repository = path, os.path.join(path, 'repository')
+        shutil.copytree(TOP, self.repository, ignore=shutil.ignore_patterns(*NOT_COPIED))
+        for words in (['init', '-q'], ['add', '-A'], ['commit', '-q', '-m', 'All']):
+            git(self.repository, *words)
+        self.put_program(self.repository)
+        self.tools = self.linked('tools', *BASE, *PLUGIN_TOOLS)
+
+    def at(self, *names):
+        return os.path.join(self.path, *names)
+
+    @staticmethod
+    def put_program(repository):
+        out = os.path.join(repository, os.path.relpath(os.path.dirname(PROGRAM), TOP))
+        os.makedirs(out)
+        shutil.copy(PROGRAM, out)
+
+    def linked(self, name, *tools):
+        """A folder of links to these tools, for a PATH."""
+        os.mkdir(self.at(name))
+        for tool in tools:
+            os.symlink(shutil.which(tool), self.at(name, tool))
+        return self.at(name)
+
+    def without_kit(self, *folders, **more):
+        """An environment whose PATH has these folders and the base tools."""
+        return {'PATH': os.pathsep.join([*folders, self.tools]), 'HOME': self.path, **more}
+
+    def make(self, *words, repository=None, **how):
+        return run(['make', '-s', 'dist', *words], repository or self.repository, dict(os.environ, **GIT), **how)
+
+    def made(self, *names):
+        return os.path.join(self.repository, 'dist', *names)
+
+    def unpacked(self, name):
+        """The archive's folder, unpacked into a new folder by the base tools."""
+        os.mkdir(self.at(name))
+        run(['tar', '-xzf', self.made(ARCHIVE)], self.at(name), self.without_kit())
+        return self.at(name, ROOT)
+
+    def export(self, examples):
+        """A folder with the files of an export, of the example."""
+        folder = self.at('export')
+        os.mkdir(folder)
+        shutil.copy(examples + '/shop.json', folder + '/cluster.json')
+        shutil.copy(examples + '/shop-api.json', folder + '/api-shop.json')
+        write('{"apiVersion": "v1", "kind": "List"}', folder, 'namespaced.json')
+        return folder
+
+
+def packed(room):
+    """The four files, and the same bytes from another copy of the commit, at another time and by another user's settings."""
+    got = room.make()
+    checked('make dist', got[0] == 0 and sorted(os.listdir(room.made())) == MADE, got)
+    other = room.at('other')
+    git(room.path, 'clone', '-q', room.repository, other)
+    room.put_program(other)
+    os.utime(os.path.join(other, 'README.md'))
+    got = room.make(repository=other, preexec_fn=lambda: os.umask(0o077))
+    checked('make dist in another copy', got[0] == 0, got)
+    first, second = contents(room.made()), contents(os.path.join(other, 'dist'))
+    for name in MADE:
+        checked('the same bytes twice: ' + name, name in first and first[name] == second.get(name))
+    expect('SHA256SUMS', ['sha256sum', '-c', 'SHA256SUMS'], room.made(), None, 0,
+           'Containerfile: OK\nkrew.yaml: OK\n%s: OK\n' % ARCHIVE)
+
+
+def entries(room):
+    """What the archive has, and for whom."""
+    with tarfile.open(room.made(ARCHIVE)) as tar:
+        found = {entry.name: entry for entry in tar.getmembers()}
+    documents = git(room.repository, 'ls-files', 'README.md', 'bench/README.md', 'docs', 'examples').splitlines()
+    wanted = sorted('%s/%s' % (ROOT, name) for name in (*PLACES, *documents, 'PROVED.txt', 'install.sh'))
+    checked('the names, in order', list(found) == wanted, list(found))
+    checked('files alone', all(entry.isreg() for entry in found.values()))
+    checked('owners and times', {(entry.uid, entry.gid, entry.uname, entry.gname, entry.mtime) for entry in found.values()}
+            == {(0, 0, '', '', SECONDS)})
+    for name in ('bin/rbacaudit', 'bin/kubectl-rbacaudit', 'install.sh'):
+        checked('may be run: ' + name, found[ROOT + '/' + name].mode == 0o755)
+    checked('may be read: README.md', found[ROOT + '/README.md'].mode == 0o644)
+
+
+def proved_text(room, gate):
+    """What PROVED.txt says, but for the libraries, which only the program knows."""
+    commit, kit = git(room.repository, 'rev-parse', 'HEAD'), run(['rt', 'version'], room.path)[1].strip()
+    return ('rbacaudit 0.1.0 for Linux on x86-64\n\ncommit  %s\ndate    %s\nkit     %s\ngate    %s\n' % (commit, DATE, kit, gate))
+
+
+def proved(room):
+    """PROVED.txt, with the gate's last line and without."""
+    text = bytes_of(room.unpacked('proved'), 'PROVED.txt').decode()
+    wanted = proved_text(room, "not known: make dist wasn't given what the gate printed")
+    checked('PROVED.txt', text.startswith(wanted), text)
+    needs = re.search(r'^needs   (.*); glibc (2\.\d+) or later$', text, re.M)
+    loaded = run(['ldd', PROGRAM], room.path)[1]
+    checked('PROVED.txt names what is loaded', needs and 'libc.so.6' in needs[1] and all(
+        name in loaded for name in needs[1].split(', ')), text)
+    write('ok   all\n7 passed, 0 failed\n', room.at('gate'))
+    got = room.make('GATE=' + room.at('gate'))
+    text = bytes_of(room.unpacked('with-gate'), 'PROVED.txt').decode()
+    checked('PROVED.txt with GATE', got[0] == 0 and text.startswith(proved_text(room, '7 passed, 0 failed')), (got, text))
+
+
+# ---- what make dist refuses
+
+def refused(room, name, said, *words):
+    shutil.rmtree(room.made(), ignore_errors=True)
+    status, out = room.make(*words)
+    checked('refused: ' + name, status != 0 and said in out and not os.path.exists(room.made()), (status, out))
+
+
+def refusals(room):
+    """A gate that failed, a change that isn't in the commit, and a program that isn't built from these sources."""
+    for text in ('6 passed, 1 failed\n', '', '7 passed, 0 failed\nmore\n'):
+        write(text, room.at('gate'))
+        refused(room, 'a gate that printed %r' % text, "doesn't end as a gate that passed", 'GATE=' + room.at('gate'))
+    refused(room, 'a file that is not there', "can't read %s" % room.at('none'), 'GATE=' + room.at('none'))
+    write('new', room.repository, 'docs', 'NEW.md')
+    refused(room, 'a file that is not in the commit', "docs/NEW.md isn't as in the commit")
+    os.remove(os.path.join(room.repository, 'docs', 'NEW.md'))
+    readme = bytes_of(room.repository, 'README.md').decode()
+    write(readme + 'more\n', room.repository, 'README.md')
+    refused(room, 'a file that has changed', "README.md isn't as in the commit")
+    write(readme, room.repository, 'README.md')
+    program = os.path.join(room.repository, os.path.relpath(PROGRAM, TOP))
+    os.utime(os.path.join(room.repository, 'crates.txt'), (os.stat(program).st_mtime + 1,) * 2)
+    refused(room, 'a source that is newer than the program', 'a source has changed since')
+    os.utime(program)
+    os.rename(program, room.at('program'))
+    refused(room, 'no program', "the program isn't built")
+    os.rename(room.at('program'), program)
+    os.utime(program, (os.stat(os.path.join(room.repository, 'crates.txt')).st_mtime + 2,) * 2)
+    got = room.make()
+    checked('after these, make dist', got[0] == 0, got)
+
+
+# ---- installed without the kit
+
+def same_files(room, to, unpacked):
+    """Each file stands where it is looked for, and may be read by everybody."""
+    for place, source in PLACES.items():
+        path = os.path.join(to, place)
+        well = os.path.isfile(path) and bytes_of(path) == bytes_of(*([TOP, source] if source else [unpacked, place]))
+        checked('installed: ' + place, well and stat.S_IMODE(os.stat(path).st_mode) == (0o755 if 'bin/' in place else 0o644))
+    documents = contents(os.path.join(to, 'share/doc/rbacaudit'))
+    for name in ('PROVED.txt', 'README.md', 'docs/FORMATS.md', 'examples/shop.json'):
+        checked('installed: share/doc/rbacaudit/' + name, documents.get(name) == bytes_of(unpacked, name))
+
+
+def installed(room):
+    """install.sh with PREFIX, and then the first question; with DESTDIR."""
+    unpacked, to = room.unpacked('unpacked'), room.at('prefix')
+    expect('install.sh with PREFIX', ['sh', ROOT + '/install.sh'], room.at('unpacked'), room.without_kit(PREFIX=to), 0,
+           'rbacaudit is installed: %s/bin/rbacaudit\n' % to)
+    same_files(room, to, unpacked)
+    symbols = run(['readelf', '-SW', to + '/bin/rbacaudit'], room.path)[1]
+    checked('the program is stripped', '.dynsym' in symbols and '.symtab' not in symbols, symbols)
+    path = room.without_kit(to + '/bin')
+    examples = to + '/share/doc/rbacaudit/examples'
+    expect('the first question', ['rbacaudit', *QUESTION, 'shop.json'], examples, path, 0, ANSWER)
+    export = room.export(examples)
+    expect('the plugin', ['kubectl-rbacaudit', *QUESTION, '--export', export], room.path, path, 0, ANSWER)
+    got = run(['sh', unpacked + '/install.sh'], room.path, room.without_kit(DESTDIR=room.at('destination'), PREFIX='/usr'))
+    checked('install.sh with DESTDIR', got[0] == 0 and os.access(room.at('destination/usr/bin/rbacaudit'), os.X_OK), got)
+    same = contents(to + '/bin') == contents(room.at('destination/usr/bin'))
+    checked('install.sh once more, over the same', same and run(['sh', unpacked + '/install.sh'], room.path,
+                                                                room.without_kit(PREFIX=to))[0] == 0)
+
+
+# ---- the Containerfile, as commands
+
+class Image:
+    """The steps of a Containerfile as commands: each stage is a folder, and what is at / in an image is in that folder."""
+
+    def __init__(self, room):
+        self.room, self.arguments, self.stages = room, {}, {}
+        for line in bytes_of(room.made('Containerfile')).decode().splitlines():
+            word, _, rest = line.partition(' ')
+            if line and word != '#':
+                getattr(self, 'do_' + word)(self.given(rest))
+
+    def given(self, text):
+        """The text with the arguments in their places."""
+        return re.sub(r'\$([A-Z]+)', lambda place: self.arguments[place[1]], text)
+
+    def path(self, name):
+        """A path of the stage, seen from outside."""
+        return self.root + os.path.join(self.folder, name)
+
+    def environment(self):
+        return self.room.without_kit(self.root + '/usr/local/bin')
+
+    def do_ARG(self, rest):
+        self.arguments.update([rest.split('=')])
+
+    def do_FROM(self, rest):
+        self.base, _, name = rest.partition(' AS ')
+        self.root, self.folder = self.room.at('stage%d' % len(self.stages)), '/'
+        self.stages[name] = self.root
+        os.mkdir(self.root)
+
+    def do_WORKDIR(self, rest):
+        self.folder = rest
+        os.makedirs(self.path(''), exist_ok=True)
+
+    def do_COPY(self, rest):
+        *stage, source, to = rest.split(' ')
+        source = self.stages[stage[0].partition('=')[2]] + source if stage else self.room.made(source)
+        os.makedirs(os.path.dirname(self.path(to)), exist_ok=True)
+        shutil.copy(source, self.path(to))
+
+    def do_RUN(self, rest):
+        got = run(['sh', '-c', rest], self.path(''), self.environment())
+        checked('Containerfile: RUN ' + rest, got[0] == 0, got)
+
+    def do_USER(self, rest):
+        self.user = rest
+
+    def do_ENTRYPOINT(self, rest):
+        self.entry = json.loads(rest)
+
+
+def containerfile(room):
+    """An image with the program alone, which another user than root may run, and what it answers."""
+    image = Image(room)
+    checked('the image is based on Debian', image.base == 'debian:bookworm-slim', image.base)
+    checked('the image has the program alone', [*contents(image.root)] == ['usr/local/bin/rbacaudit'], [*contents(image.root)])
+    checked("the image's user isn't root", re.fullmatch('[1-9][0-9]*:[1-9][0-9]*', image.user), image.user)
+    mode = os.stat(image.root + '/usr/local/bin/rbacaudit').st_mode
+    checked('the image: anybody may run the program', mode & 0o555 == 0o555, stat.filemode(mode))
+    shutil.copy(os.path.join(TOP, 'examples', 'shop.json'), image.path(''))
+    expect('the image answers', [*image.entry, *QUESTION, 'shop.json'], image.path(''), image.environment(), 0, ANSWER)
+
+
+# ---- krew
+
+def field(text, name):
+    return re.search(r'^ *-? ?%s: (.*)$' % name, text, re.M)[1]
+
+
+def krew(room):
+    """What krew does with the manifest: checks the sum, moves the files to its store, and links to the plugin alone."""
+    text = bytes_of(room.made(), 'krew.yaml').decode()
+    checked('krew: nothing is left to fill in', '@' not in text, text)
+    checked('krew: the sum', field(text, 'sha256') == hashlib.sha256(bytes_of(room.made(ARCHIVE))).hexdigest())
+    checked('krew: the version', field(text, 'version') == 'v0.1.0')
+    checked('krew: the address', field(text, 'uri') == 'https://downloads.example.com/' + ARCHIVE)
+    store, links = room.at('store'), room.at('links')
+    for folder in (store, links):
+        os.mkdir(folder)
+    for path in glob.glob(os.path.join(os.path.dirname(room.unpacked('for-krew')), field(text, 'from'))):
+        shutil.move(path, store)
+    os.symlink(os.path.join(store, field(text, 'bin')), os.path.join(links, 'kubectl-rbacaudit'))
+    checked('krew: the store', sorted(os.listdir(store)) == ['kubectl-rbacaudit', 'rbacaudit'], os.listdir(store))
+    path = room.without_kit(links)
+    expect('krew: the versions', ['kubectl-rbacaudit', '--version'], room.path, path, 0, 'kubectl-rbacaudit 0.1.0\nrbacaudit 0.1.0\n')
+    expect('krew: the plugin', ['kubectl-rbacaudit', *QUESTION, '--export', room.at('export')], room.path, path, 0, ANSWER)
+    got = room.make('URL=https://files.example.com/a.tar.gz')
+    text = bytes_of(room.made(), 'krew.yaml').decode()
+    checked('krew: with URL', got[0] == 0 and field(text, 'uri') == 'https://files.example.com/a.tar.gz', (got, text))
+
+
+# ---- the jobs of docs/RECIPES.md
+
+# Serves the archive, under the address of the jobs alone.
+CURL = """#!/bin/sh
+[ "$*" = "-fsSLo rbacaudit.tar.gz https://downloads.example.com/%s" ] && cp '%s' rbacaudit.tar.gz
+"""
+JOB_TOOLS = 'bash', 'cut', 'git', 'comm', 'wc'
+NEW = """### Newly allowed: 10. New findings: 2.
+
+    u:system:serviceaccount:ci:deploy-checkout\tcheckout\tget\t-\tsecrets\t-
+    u:system:serviceaccount:ci:deploy-checkout\tcheckout\tlist\t-\tsecrets\t-
+    u:system:serviceaccount:ci:deploy-payments\tpayments\tget\t-\tsecrets\t-
+    u:system:serviceaccount:ci:deploy-payments\tpayments\tlist\t-\tsecrets\t-
+    u:system:serviceaccount:ci:deploy-payments\tpayments-staging\tget\t-\tsecrets\t-
+    u:system:serviceaccount:ci:deploy-payments\tpayments-staging\tlist\t-\tsecrets\t-
+    u:system:serviceaccount:ci:deploy-search\tsearch\tget\t-\tsecrets\t-
+    u:system:serviceaccount:ci:deploy-search\tsearch\tlist\t-\tsecrets\t-
+    u:system:serviceaccount:search:indexer\tsearch\tget\t-\tconfigmaps\t-
+    u:system:serviceaccount:search:indexer\tsearch\tlist\t-\tconfigmaps\t-
+    L5\taccount-without-namespace\tClusterRoleBinding/indexer-metrics\t1\tindexer
+    L5\taccount-without-namespace\tClusterRoleBinding/indexer-nodes\t1\tindexer
+"""
+SAME = '### Newly allowed: 0. New findings: 0.\n\n'
+
+
+def jobs_text():
+    """The shell parts of the two jobs, as GitHub and GitLab run them, and the script that both call."""
+    text = text_of('docs', 'RECIPES.md')
+    github, gitlab = re.findall(r'^```yaml\n(.*?)^```', text, re.S | re.M)
+    script = next(command for command, _ in steps(text) if command.startswith('cat > review.sh '))
+    after = re.search(r'^  after_script:\n((?:    - .*\n)+)', gitlab, re.M)[1]
+    return (textwrap.dedent(re.search(r'^      - run: \|\n((?:          .*\n)+)', github, re.M)[1]),
+            'set -eo pipefail\n' + dashed(re.search(r'^  script:\n((?:    - .*\n)+)', gitlab, re.M)[1]), dashed(after), script)
+
+
+def dashed(items):
+    return re.sub('^    - ', '', items, flags=re.M)
+
+
+def origin(room, script):
+    """A repository whose main branch has the example cluster; `more` allows more, `same` the same, and `bad` has a bad file."""
+    folder, cluster = room.at('origin'), os.path.join(TOP, 'examples', 'cluster')
+    os.makedirs(folder + '/rbac')
+    for path in glob.glob(cluster + '/*.json'):
+        shutil.copy(path, folder + '/rbac')
+    run(['bash', '-c', script], folder)
+    git(folder, 'init', '-q', '-b', 'main')
+    for branch, name, text in (('main', 'README', 'roles'), ('same', 'README', 'the roles'), ('bad', 'rbac/roles.json', '{'),
+                               ('more', 'rbac/roles.json', bytes_of(cluster, 'change/roles.json').decode())):
+        git(folder, *(['checkout', '-q', '-b', branch, 'main'] if branch != 'main' else ['status']))
+        write(text, folder, name)
+        git(folder, 'add', '-A')
+        git(folder, 'commit', '-q', '-m', branch)
+    return 'file://' + folder
+
+
+class Job:
+    """A job in a checkout of one branch, as deep as GitHub's."""
+
+    def __init__(self, room, address, branch):
+        self.folder = tempfile.mkdtemp(dir=room.path)
+        git(self.folder, 'clone', '-q', '--depth', '1', '--branch', branch, address, 'work')
+        self.work, self.summary = os.path.join(self.folder, 'work'), os.path.join(self.folder, 'summary')
+        self.environment = room.without_kit(
+            room.at('job-tools'), **GIT, ARCHIVE='https://downloads.example.com/' + ARCHIVE, GITHUB_BASE_REF='main',
+            GITHUB_STEP_SUMMARY=self.summary, CI_MERGE_REQUEST_TARGET_BRANCH_NAME='main',
+            SHA256=hashlib.sha256(bytes_of(room.made(ARCHIVE))).hexdigest())
+
+    def run(self, shell, **more):
+        return run(['bash', '-ec', shell], self.work, {**self.environment, **more})
+
+    def told(self):
+        return bytes_of(self.summary).decode() if os.path.exists(self.summary) else None
+
+
+def jobs(room):
+    """Both jobs: a change that allows more, one that doesn't, one with a bad file, and an archive with another sum."""
+    github, gitlab, after, script = jobs_text()
+    tools = room.linked('job-tools', *JOB_TOOLS)
+    write(CURL % (ARCHIVE, room.made(ARCHIVE)), tools, 'curl')
+    os.chmod(os.path.join(tools, 'curl'), 0o755)
+    address = origin(room, script)
+    for branch, status, told in (('more', 1, NEW), ('same', 0, SAME)):
+        job = Job(room, address, branch)
+        got = job.run(github)
+        checked('GitHub: ' + branch, got[0] == status and job.told() == told, (got, job.told()))
+        job = Job(room, address, branch)
+        got = job.run(gitlab)
+        checked('GitLab: ' + branch, got[0] == status and job.run(after) == (0, told), got)
+    for name, shell in (('GitHub', github), ('GitLab', gitlab)):
+        job = Job(room, address, 'bad')
+        got = job.run(shell)
+        checked(name + ': bad', got[0] == 2 and 'M1 not JSON' in got[1] and not job.told(), got)
+        job = Job(room, address, 'same')
+        got = job.run(shell, SHA256='0' * 64)
+        checked(name + ': another sum', got[0] != 0 and 'Newly allowed' not in got[1] and not job.told()
+                and not os.path.exists(job.work + '/main'), got)
+        job.run(shell)
+        shutil.rmtree(job.work + '/main')
+        checked(name + ': once more in the same folder', job.run(shell)[0] == 0)
+
+
+def all_of_it():
+    for tool in ('git', 'readelf', 'strip'):
+        if not shutil.which(tool):
+            print('skipped: this machine has no %s' % tool)
+            return
+    with tempfile.TemporaryDirectory() as path:
+        room = Room(path)
+        for part in (packed, entries, proved, refusals, installed, containerfile, krew, jobs):
+            part(room)
+
+
+if __name__ == '__main__':
+    sys.exit(tested(all_of_it))
