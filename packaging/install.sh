@@ -15,7 +15,7 @@ put() {
 for file in bin/*; do
     put 755 "$file" "$file"
 done
-find share -type f | while IFS= read -r file; do
+find lib share -type f | while IFS= read -r file; do
     put 644 "$file" "$file"
 done
 find PROVED.txt README.md bench docs examples -type f | while IFS= read -r file; do

@@ -36,11 +36,14 @@ BASE = 'cat cp dirname find gzip install mkdir mv readlink rm sh sha256sum sort 
 PLUGIN_TOOLS = 'awk', 'mktemp', 'sed'
 QUESTION = 'can-i --as system:serviceaccount:shop:ci -n shop --why update deployments.apps'.split()
 ANSWER = 'yes\nRoleBinding/shop/ci-deploys\tRole/shop/deployer\tRole/shop/deployer\t1\t1\n'
-PLACES = {'bin/rbacaudit': None, 'bin/kubectl-rbacaudit': 'plugin/kubectl-rbacaudit',
-          'share/bash-completion/completions/rbacaudit': 'completions/rbacaudit.bash',
-          'share/zsh/site-functions/_rbacaudit': 'completions/_rbacaudit',
-          'share/fish/vendor_completions.d/rbacaudit.fish': 'completions/rbacaudit.fish',
-          'share/man/man1/rbacaudit.1': 'man/rbacaudit.1'}
+PLACES = {'bin/rbacaudit': None, 'bin/kubectl-rbacaudit': 'plugin/kubectl-rbacaudit', 'bin/rbacaudit-page': 'plugin/rbacaudit-page',
+          **{'share/bash-completion/completions/' + name: 'completions/%s.bash' % name for name in ('rbacaudit', 'rbacaudit-page')},
+          **{'share/zsh/site-functions/_' + name: 'completions/_' + name for name in ('rbacaudit', 'rbacaudit-page')},
+          **{'share/fish/vendor_completions.d/%s.fish' % name: 'completions/%s.fish' % name for name in ('rbacaudit', 'rbacaudit-page')},
+          **{'share/man/man1/%s.1' % name: 'man/%s.1' % name for name in ('rbacaudit', 'rbacaudit-page')},
+          **{'lib/kubectl-rbacaudit/' + name: 'plugin/kubectl-rbacaudit.d/' + name
+             for name in os.listdir(os.path.join(TOP, 'plugin', 'kubectl-rbacaudit.d'))},
+          **{'share/rbacaudit/page/' + name: 'page/' + name for name in os.listdir(os.path.join(TOP, 'page'))}}
 
 
 def run(words, folder, environment=None, **how):
@@ -330,7 +333,7 @@ def krew(room):
     for path in glob.glob(os.path.join(os.path.dirname(room.unpacked('for-krew')), field(text, 'from'))):
         shutil.move(path, store)
     os.symlink(os.path.join(store, field(text, 'bin')), os.path.join(links, 'kubectl-rbacaudit'))
-    checked('krew: the store', sorted(os.listdir(store)) == ['kubectl-rbacaudit', 'rbacaudit'], os.listdir(store))
+    checked('krew: the store', {'bin', 'lib', 'share'} <= set(os.listdir(store)), os.listdir(store))
     path = room.without_kit(links)
     expect('krew: the versions', ['kubectl-rbacaudit', '--version'], room.path, path, 0, 'kubectl-rbacaudit 0.1.0\nrbacaudit 0.1.0\n')
     expect('krew: the plugin', ['kubectl-rbacaudit', *QUESTION, '--export', room.at('export')], room.path, path, 0, ANSWER)
