@@ -121,9 +121,15 @@ def api_groups():
     return {'kind': 'APIGroupList', 'apiVersion': 'v1', 'groups': groups, 'groupVersionHash': 'wrong/v2'}
 
 
+# Beside the namespaces and accounts of the example: those that bindings and questions name.
+MORE = [{'apiVersion': 'v1', 'kind': 'Namespace', 'metadata': {'name': 'default'}},
+        {'apiVersion': 'v1', 'kind': 'Namespace', 'metadata': {'name': 'monitoring'}},
+        {'apiVersion': 'v1', 'kind': 'ServiceAccount', 'metadata': {'name': 'prometheus', 'namespace': 'monitoring'}}]
+
+
 def served():
     """Each file that the stand-in serves, by its name."""
-    items = example('shop.json')['items'] + [ODD_ROLE]
+    items = example('shop.json')['items'] + MORE + [ODD_ROLE]
     core, apps = example('shop-api.json')['items']
     return {'cluster': of_kinds(items, 'ClusterRole', 'ClusterRoleBinding'), 'namespaced': of_kinds(items, 'Role', 'RoleBinding'),
             'namespaces': of_kinds(items, 'Namespace'), 'accounts': of_kinds(items, 'ServiceAccount'), 'apis': api_groups(),
@@ -520,6 +526,143 @@ def questions(it):
     it.expect('lint of such a cluster', ['lint'], 1, FINDINGS)
 
 
+IMPLIED = 'kubectl-rbacaudit: the question is about the namespace %s; -n NS asks about another, and -A about the whole cluster\n'
+NO_SPACE = 'kubectl-rbacaudit: the export has no namespace %s: check the spelling\n'
+NO_ACCOUNT = 'kubectl-rbacaudit: the export has no service account %s in the namespace %s: check the spelling\n'
+DANA = 'u:dana@example.com\tClusterRoleBinding/admins\n'
+DEVELOPERS = 'g:shop-developers\tRoleBinding/shop/developers-view\n'
+
+
+@in_each_shell
+def namespaces(it):
+    """Without -n a question is about the context's namespace, or the export's, and says so; one that isn't there is reported."""
+    for context, name in (('shop', 'shop'), ('', 'default'), ('shpo', 'shpo')):
+        it.at_context(context)
+        it.run('export', '--force', 'prod')
+        it.at_context('other')
+        said = IMPLIED % name + (NO_SPACE % name if name == 'shpo' else '')
+        holders = DANA + (DEVELOPERS if name == 'shop' else '')
+        it.expect('who-can in %s of the export' % name, ['who-can', '--export', 'prod', 'list', 'pods'], 0, holders, said)
+        it.at_context(context)
+        it.expect('who-can in %s of the context' % name, ['who-can', 'list', 'pods'], 0, holders, said)
+        for words_ in (['-A', 'list', 'pods'], ['--all-namespaces', 'list', 'pods'], ['list', 'nodes'], ['list', 'no/a']):
+            it.expect('who-can %s in %s' % (words_, name), ['who-can', *words_], 0, DANA)
+        for option in (['-n', 'shop'], ['-nshop'], ['-n=shop'], ['--namespace', 'shop'], ['--namespace=shop']):
+            it.expect('who-can %s in %s' % (option, name), ['who-can', *option, 'list', 'pods'], 0, DANA + DEVELOPERS)
+    os.remove(os.path.join(it.work, 'prod', 'about.txt'))
+    it.expect('an export that says nothing of itself', ['who-can', '--export', 'prod', 'list', 'pods'], 0, DANA, IMPLIED % 'default')
+    it.expect('a namespace that isn\'t there', ['who-can', '--export', 'prod', '-n', 'shpo', 'list', 'pods'], 0, DANA, NO_SPACE % 'shpo')
+    it.expect('a namespace that only looks like one', ['who-can', '-n', 'sho.', 'list', 'pods'], 0, DANA, NO_SPACE % 'sho.')
+    it.expect('it doesn\'t matter to nodes', ['who-can', '--export', 'prod', '-n', 'shpo', 'list', 'nodes'], 0, DANA)
+    it.expect('namespaces may be unknown', ['who-can', '-n', 'shpo', 'list', 'pods'], 0, DANA, trouble=['forbid namespaces'])
+
+
+@in_each_shell
+def accounts(it):
+    """A service account that the export doesn't have is reported; whoever may not read accounts gets the answer alone."""
+    it.run('export', 'prod')
+    for asker, said in (('shop:ci', ''), ('shop:cii', NO_ACCOUNT % ('cii', 'shop')), ('shpo:ci', NO_ACCOUNT % ('ci', 'shpo')),
+                        ('monitoring:prometheus', ''), ('shop:c.', NO_ACCOUNT % ('c.', 'shop'))):
+        for place in ([], ['--export', 'prod']):
+            for option in (['--as', 'system:serviceaccount:' + asker], ['--as=system:serviceaccount:' + asker]):
+                it.expect('account %s %s' % (option, place), ['can-i', *place, *option, '-n', 'shop', 'delete', 'pods'], 1, 'no\n', said)
+    it.expect('an account and a URL', ['can-i', '--as=system:serviceaccount:a:b', 'get', '/metrics'], 1, 'no\n', NO_ACCOUNT % ('b', 'a'))
+    it.expect('accounts may be unknown', ['can-i', '--as', 'system:serviceaccount:shop:cii', '-n', 'shop', 'delete', 'pods'], 1, 'no\n',
+              trouble=['forbid accounts'])
+    it.run('export', '-n', 'shop', 'own')
+    own = ['can-i', '--export', 'own', '--as', 'system:serviceaccount:monitoring:b', 'delete', 'pods']
+    it.expect('an export of another namespace knows no accounts of it', own, 1, 'no\n', IMPLIED % 'shop')
+
+
+ALONE = 'kubectl-rbacaudit: the export has the namespace shop alone'
+
+
+@in_each_shell
+def alone(it):
+    """An export of one namespace answers about it and the cluster; of another only with --partial."""
+    it.at_context('other')
+    it.run('export', '-n', 'shop', 'own')
+    who = ['who-can', '--export', 'own']
+    it.expect('about its namespace', [*who, '-n', 'shop', 'list', 'pods'], 0, DANA + DEVELOPERS)
+    it.expect('without -n too', [*who, 'list', 'pods'], 0, DANA + DEVELOPERS, IMPLIED % 'shop')
+    it.expect('about the cluster', [*who, '-A', 'list', 'pods'], 0, DANA)
+    it.expect('about another', [*who, '-n', 'monitoring', 'list', 'pods'], 2, '', ALONE + '\n' + REFUSAL)
+    it.expect('about another, --partial', [*who, '-n', 'monitoring', '--partial', 'list', 'pods'], 0, DANA,
+              ALONE + '\n' + CAUTION + NO_SPACE % 'monitoring')
+    for line in (['lint'], ['matrix', '--limit', '1']):
+        status, out, err = got = it.run(*line, '--export', 'own')
+        it.checked('%s of it' % line[0], status < 2 and out and err == ALONE + ', and this answer knows no other\n', got)
+
+
+@in_each_shell
+def idle_groups(it):
+    """A dead API group refuses a question only if the type may be one of its own."""
+    metrics, core = 'down api-metrics.k8s.io-v1beta1', 'down api-v1'
+    for number, (trouble, words_, answers) in enumerate([
+            (metrics, ['list', 'pods'], True), (metrics, ['list', 'po/x'], True), (metrics, ['list', 'pods', '--subresource', 'log'], True),
+            (metrics, ['list', 'deployments.apps'], True), (metrics, ['get', '/metrics'], True), (metrics, ['list', 'pods.'], True),
+            (metrics, ['list', 'deploy'], False), (metrics, ['list', 'pods.metrics.k8s.io'], False), (metrics, ['list', 'secert'], False),
+            (core, ['list', 'pods'], False), (core, ['list', 'pods.'], False), (core, ['list', 'deployments.apps'], True)]):
+        folder = 'prod%d' % number
+        it.run('export', folder, trouble=[trouble])
+        for place in ([], ['--export', folder]):
+            status, out, err = got = it.run('who-can', '-n', 'shop', *place, *words_, trouble=[trouble])
+            it.checked('%s: %s %s' % (trouble, words_, place), (status, DANA in out, REFUSAL in err) == ((0, True, False) if answers else
+                                                                                                        (2, False, True)), got)
+        it.checked('an export of it says nothing', not answers or err in ('', UNLISTED % ('type ' + words_[1])), err)
+        for line in (['matrix', 'u.json'], ['universe']):
+            it.write(json.dumps({'apiVersion': 'rbacaudit/v1', 'kind': 'Universe', 'names': ['']}), 'u.json')
+            status, out, err = got = it.run(*line, '--export', folder)
+            it.checked('%s needs all lists' % line[0], (status, out) == (2, '') and err.endswith(REFUSAL), got)
+
+
+def stale_roles():
+    """Two roles that select each other and still have a rule whose own role is gone; one more that nobody uses."""
+    def aggregated(name, selects):
+        return {'apiVersion': V1, 'kind': 'ClusterRole', 'metadata': {'name': name, 'labels': {'is': name}},
+                'aggregationRule': {'clusterRoleSelectors': [{'matchLabels': {'is': selects}}]},
+                'rules': [{'verbs': ['delete'], 'apiGroups': [''], 'resources': ['pods']}]}
+
+    def plain(name, verb):
+        return {'apiVersion': V1, 'kind': 'ClusterRole', 'metadata': {'name': name, 'labels': {'is': name}},
+                'rules': [{'verbs': [verb], 'apiGroups': [''], 'resources': ['pods']}]}
+
+    def bound(name, user):
+        return {'apiVersion': V1, 'kind': 'ClusterRoleBinding', 'metadata': {'name': name}, 'roleRef': {'kind': 'ClusterRole', 'name': name},
+                'subjects': [{'kind': 'User', 'name': user}]}
+
+    return of_kinds([aggregated('a', 'b'), aggregated('b', 'a'), aggregated('unused', 'none'), aggregated('late', 'new'), plain('new', 'watch'),
+                     plain('plain', 'list'), bound('a', 'kim'), bound('plain', 'lee'), bound('late', 'max')],
+                    'ClusterRole', 'ClusterRoleBinding')
+
+
+STALE = 'kubectl-rbacaudit: the cluster %s until its stale aggregates (L6 of lint) have settled: ClusterRole/a, ClusterRole/b, ClusterRole/late\n'
+
+
+@in_each_shell
+def stale_aggregates(it):
+    """Stale aggregates are reported once, where what is written in them would change the answer."""
+    it.serve({'cluster': stale_roles()})
+    it.run('export', 'prod')
+    for place in ([], ['--export', 'prod']):
+        it.expect('the cluster says yes %s' % place, ['can-i', *place, '--as', 'kim', '-n', 'shop', 'delete', 'pods'], 1, 'no\n',
+                  STALE % 'answers yes')
+        it.expect('the cluster says no %s' % place, ['can-i', *place, '--as', 'max', '-A', '--why', 'watch', 'pods'], 0,
+                  'yes\nClusterRoleBinding/late\tClusterRole/late\tClusterRole/new\t1\t1\n', STALE % 'answers no')
+        it.expect('both say no %s' % place, ['can-i', *place, '--as', 'lee', '-n', 'shop', 'delete', 'pods'], 1, 'no\n')
+        it.expect('both say yes %s' % place, ['can-i', *place, '--as', 'lee', '-n', 'shop', 'list', 'pods'], 0, 'yes\n')
+        it.expect('more holders %s' % place, ['who-can', *place, '-A', 'delete', 'pods'], 0, '', STALE % 'has other holders')
+        it.expect('fewer holders %s' % place, ['who-can', *place, '-A', 'watch', 'pods'], 0, 'u:max\tClusterRoleBinding/late\n',
+                  STALE % 'has other holders')
+        it.expect('the same holders %s' % place, ['who-can', *place, '-A', 'list', 'pods'], 0, 'u:lee\tClusterRoleBinding/plain\n')
+        status, out, err = got = it.run('matrix', *place)
+        it.checked('a matrix %s' % place, status == 0 and out.endswith('\nend\n') and err == (
+            'kubectl-rbacaudit: stale aggregates (L6 of lint): ClusterRole/a, ClusterRole/b, ClusterRole/late; the cluster grants what is '
+            'written in them, and this matrix has what they gather\n'), got)
+        status, out, err = got = it.run('lint', *place)
+        it.checked('lint has its own lines %s' % place, (status, err, out.count('\nL6\t')) == (1, '', 4), got)
+
+
 @in_each_shell
 def words(it):
     """Words that rbacaudit refuses end before a call to a cluster; what looks like an option may be a value."""
@@ -544,10 +687,11 @@ def words(it):
         status, out, err = got = it.run(*line)
         it.checked('a value with a dash: %s' % ' '.join(line), status == 2 and err.endswith('kubectl-rbacaudit: %s\n' % said), got)
     it.run('export', 'prod')
-    it.expect('a value with a dash', ['can-i', '--as=-kim', '-n=-x', '--export', 'prod', 'get', 'pods'], 1, 'no\n')
+    it.expect('a value with a dash', ['can-i', '--as=-kim', '-n=-x', '--export', 'prod', 'get', 'pods'], 1, 'no\n', NO_SPACE % '-x')
     it.run('export', './-x')
     it.expect('a folder that looks like an option', ['can-i', '--export=-x', *KIM, 'list', 'pods'], 0, 'yes\n')
-    it.expect('a user that looks like a command', ['can-i', '--export', 'prod', '--as', 'export', 'list', 'pods'], 1, 'no\n')
+    it.expect('a user that looks like a command', ['can-i', '--export', 'prod', '--as', 'export', 'list', 'pods'], 1, 'no\n',
+              IMPLIED % 'default')
     it.expect('an option after -- is a word', ['can-i', '--export', 'prod', *KIM, '--', 'list', 'pods', '--export'], 2, '',
               'rbacaudit: file 1: I1 read fault\nkubectl-rbacaudit: file 1 is --export\n')
 
@@ -643,16 +787,17 @@ CAUTION = 'kubectl-rbacaudit: a part of the export is missing: this answer knows
 
 
 UPDATE = ['can-i', *CI, 'update', 'deployments.apps']
-DOWN = ['down api-metrics.k8s.io-v1beta1']
+DOWN = ['down api-apps-v1']
 
 
 @in_each_shell
 def parts(it):
     """A fresh export with a part missing answers with --partial alone, and says so."""
-    down = "Warning: old\nError from server (ServiceUnavailable): try later\nkubectl-rbacaudit: api-metrics.k8s.io-v1beta1.json can't be had: " \
-           "kubectl get --raw /apis/metrics.k8s.io/v1beta1 ended with status 1\n"
+    down = "Warning: old\nError from server (ServiceUnavailable): try later\nkubectl-rbacaudit: api-apps-v1.json can't be had: " \
+           "kubectl get --raw /apis/apps/v1 ended with status 1\n"
     it.expect('a group is down', UPDATE, 2, '', down + REFUSAL, trouble=DOWN)
-    it.expect('a group is down, --partial', [*UPDATE, '--partial'], 0, 'yes\n', down + CAUTION, trouble=DOWN)
+    it.expect('a group is down, --partial', [*UPDATE, '--partial'], 0, 'yes\n',
+              down + CAUTION + UNLISTED % 'type deployments.apps', trouble=DOWN)
     it.expect('a universe of what isn\'t whole', ['universe'], 2, '', down + REFUSAL, trouble=DOWN)
     it.expect('what lint doesn\'t read may be down', ['lint'], 1, FINDINGS, trouble=DOWN)
     it.expect('accounts matter to a matrix alone', UPDATE, 0, 'yes\n', trouble=['forbid accounts'])
@@ -668,10 +813,11 @@ def gaps(it):
     it.run('export', 'prod', trouble=DOWN)
     noted = 'kubectl-rbacaudit: ' + it.read('prod', 'incomplete.txt')
     it.expect('an export that lacks a group', [*UPDATE, '--export', 'prod'], 2, '', noted + REFUSAL)
-    it.expect('an export that lacks a group, --partial', [*UPDATE, '--partial', '--export', 'prod'], 0, 'yes\n', noted + CAUTION)
-    it.write(json.dumps(METRICS), 'prod', 'api-metrics.k8s.io-v1beta1.json')
+    it.expect('an export that lacks a group, --partial', [*UPDATE, '--partial', '--export', 'prod'], 0, 'yes\n',
+              noted + CAUTION + UNLISTED % 'type deployments.apps')
+    it.write(json.dumps(served()['api-apps-v1']), 'prod', 'api-apps-v1.json')
     it.expect('a group that was fetched by hand', [*UPDATE, '--export', 'prod'], 0, 'yes\n')
-    os.remove(os.path.join(it.work, 'prod', 'api-metrics.k8s.io-v1beta1.json'))
+    os.remove(os.path.join(it.work, 'prod', 'api-apps-v1.json'))
     it.expect('an export that lacks what lint doesn\'t read', ['lint', '--export', 'prod'], 1, FINDINGS)
     for noted, said in (('export: it was interrupted\n', 'export: it was interrupted'), ('export: cut', 'export: cut'),
                         ('export: \x1b[2J\x07\x7f\u00e9\n', 'export: ?[2J??\u00e9')):
@@ -706,7 +852,7 @@ UNLISTED = "kubectl-rbacaudit: the API resource lists of the export don't have t
 
 def dana_alone(it, name, words_, said=''):
     """One check of a question that names no namespace with bindings: its answer, and what is reported before it."""
-    it.expect(name, ['who-can', '--export', 'prod', '-n', 'nowhere', *words_], 0, 'u:dana@example.com\tClusterRoleBinding/admins\n', said)
+    it.expect(name, ['who-can', '--export', 'prod', '-n', 'monitoring', *words_], 0, 'u:dana@example.com\tClusterRoleBinding/admins\n', said)
 
 
 @in_each_shell
@@ -998,5 +1144,5 @@ def told(words_, folder, tools_=os.path.dirname(PROGRAM)):
 
 
 if __name__ == '__main__':
-    sys.exit(tested(whole_export, about, one_namespace, side_by_side, progress, exporter, export_faults, no_export, closed_folder, old_exports, questions, words, files, universe_faults, parts, gaps, types, subresources,
+    sys.exit(tested(whole_export, about, one_namespace, side_by_side, progress, exporter, export_faults, no_export, closed_folder, old_exports, questions, namespaces, accounts, alone, idle_groups, stale_aggregates, words, files, universe_faults, parts, gaps, types, subresources,
                     universes, pages, interruptions, publishing, tools, script, make_run))

@@ -1,12 +1,17 @@
 # shellcheck shell=sh
 # The export that answers, and questions to rbacaudit.
 
-# Leaves in `needed` the parts that a command reads.
+# Leaves in `needed` the parts that a command reads, and in `wanted` those that only remarks need.
 parts_of() {
+    wanted=
     case $1 in
         lint) needed='cluster.json namespaced.json' ;;
         matrix) needed='cluster.json namespaced.json namespaces.json accounts.json api' ;;
         *) needed='cluster.json namespaced.json api' ;;
+    esac
+    [ -z "$asked_in" ] || wanted=namespaces.json
+    case $asker in
+        system:serviceaccount:*) wanted="$wanted accounts.json" ;;
     esac
 }
 
@@ -16,13 +21,11 @@ open_export() {
     if [ -z "$export_dir" ]; then
         stage=$scratch/export
         mkdir "$stage" || refuse "can't write into $scratch"
-        # shellcheck disable=SC2086  # the names of parts have no spaces
-        fetch_parts $needed
-        [ ! -f "$stage/incomplete.txt" ] || lacks=yes
+        fetch_parts
         export_dir=$stage
+        look_for_gaps lack
     else
-        [ -d "$export_dir" ] || refuse "there is no folder $export_dir: kubectl rbacaudit export makes one"
-        look_for_gaps
+        look_for_gaps gap
     fi
     [ -f "$export_dir/cluster.json" ] || [ -f "$export_dir/namespaced.json" ] ||
         refuse 'neither cluster.json nor namespaced.json is there, so nothing can be answered'
@@ -32,30 +35,72 @@ open_export() {
     report 'a part of the export is missing: this answer knows only what is there'
 }
 
-# Reports each needed part that the export in $export_dir doesn't have, and what its incomplete.txt says of needed parts.
+# Calls the function for each needed part that the export in $export_dir doesn't have, and for what its incomplete.txt says of
+# needed parts.
 look_for_gaps() {
     for part in $needed; do
         case $part in
-            api) has_lists || gap "there is no api-*.json in $export_dir" ;;
-            *) [ -f "$export_dir/$part" ] || gap "there is no $part in $export_dir" ;;
+            api) has_lists || "$1" "there is no api-*.json in $export_dir" ;;
+            *) [ -f "$export_dir/$part" ] || "$1" "there is no $part in $export_dir" ;;
         esac
     done
+    [ -z "$only" ] || look_for_other "$1"
     [ -e "$export_dir/incomplete.txt" ] || return 0
     [ -f "$export_dir/incomplete.txt" ] || refuse "can't read $export_dir/incomplete.txt"
-    while IFS= read -r line || [ -n "$line" ]; do
+    while IFS= read -r line <&4 || [ -n "$line" ]; do
         case $line in
-            export:*) gap "$line" ;;
+            export:*) "$1" "$line" ;;
             api-*)
                 # A file that was fetched by hand since then is no gap.
-                [ "${needed%api}" = "$needed" ] || [ -f "$export_dir/${line%%: *}" ] || gap "$line"
+                [ "${needed%api}" = "$needed" ] || [ -f "$export_dir/${line%%: *}" ] || is_idle "$line" || "$1" "$line"
                 ;;
         esac
-    done <"$export_dir/incomplete.txt" || refuse "can't read $export_dir/incomplete.txt"
+    done 4<"$export_dir/incomplete.txt" || refuse "can't read $export_dir/incomplete.txt"
 }
 
 gap() {
-    lacks=yes
+    lack
     report "$1"
+}
+
+lack() {
+    lacks=yes
+}
+
+# An export of one namespace can't answer about another, and is a part for all others.
+look_for_other() {
+    case $command in
+        can-i | who-can) [ -z "$asked_in" ] || [ "$asked_in" = "$only" ] || "$1" "the export has the namespace $only alone" ;;
+        *) report "the export has the namespace $only alone, and this answer knows no other" ;;
+    esac
+}
+
+# Whether a missing API resource list can't change the answer to a question: its target is a URL or of another API group, or
+# the core group has the type, which then stands for no other.
+is_idle() {
+    case $command in
+        can-i | who-can) ;;
+        *) return 1 ;;
+    esac
+    [ -n "$type" ] || return 0
+    group=
+    case $1 in
+        *' --raw /apis/'*)
+            group=${1#*' --raw /apis/'}
+            group=${group%%/*}
+            ;;
+    esac
+    case $type in
+        *.*) [ "$group" != "${type#*.}" ] ;;
+        *) [ -n "$group" ] && core_has_type ;;
+    esac
+}
+
+core_has_type() {
+    [ -f "$export_dir/api-v1.json" ] || return 1
+    list_types "$export_dir/api-v1.json"
+    grant_listed
+    is_listed '' "$export_dir/api-v1.json"
 }
 
 has_lists() {
@@ -97,13 +142,13 @@ name_file() {
     number=$1
     shift
     find_place $((most + number)) "$@"
-    find_object "$found" "${item:-0}"
+    find_culprit "$found" "${item:-0}"
     between=', '
     [ -z "$item" ] || between="; item $item of it is "
-    object=${object:+$between$object}
+    culprit=${culprit:+$between$culprit}
     case $found in
-        "$scratch"/*) report "file $number is ${found##*/} of the fresh export$object; kubectl rbacaudit export DIR would keep it" ;;
-        *) report "file $number is $found$object" ;;
+        "$scratch"/*) report "file $number is ${found##*/} of the fresh export$culprit; kubectl rbacaudit export DIR would keep it" ;;
+        *) report "file $number is $found$culprit" ;;
     esac
 }
 
@@ -173,15 +218,73 @@ question_command() {
     [ "$help" = no ] || question_help
     check_options
     accept_words "$@"
+    find_target "$@"
+    look_at_about
+    choose_namespace
     [ "$command" != matrix ] || for_each_file look_for_universe "$@"
     parts_of "$command"
     open_export
     case $command in
-        can-i | who-can) check_type "$@" ;;
+        can-i | who-can) remark_on_question ;;
     esac
-    reads=$needed
-    with_files ask "$@"
+    if [ -n "$implied" ]; then
+        shift
+        set -- "$command" "--namespace=$implied" "$@"
+    fi
+    answer "$@"
     exit "$answered"
+}
+
+# Leaves in `type` and `object` what a question is about: nothing if that is a URL.
+find_target() {
+    type=
+    object=
+    case $command in
+        can-i | who-can) find_place 3 "$@" ;;
+        *) return ;;
+    esac
+    case $found in
+        /*) return ;;
+        */*) object=${found#*/} ;;
+    esac
+    type=${found%%/*}
+}
+
+# Leaves in `only` and `context_namespace` what an export says of itself.
+look_at_about() {
+    only=
+    context_namespace=
+    [ -n "$export_dir" ] || return 0
+    [ -d "$export_dir" ] || refuse "there is no folder $export_dir: kubectl rbacaudit export makes one"
+    [ -f "$export_dir/about.txt" ] || return 0
+    only=$(sed -n 's/^only: //p' "$export_dir/about.txt")
+    context_namespace=$(sed -n 's/^namespace: //p' "$export_dir/about.txt")
+}
+
+# Leaves in `asked_in` the namespace that a question is about, as far as the words say it: nothing for a URL or the whole
+# cluster. Without -n it is the context's, as for kubectl, and `implied` is it.
+choose_namespace() {
+    asked_in=
+    implied=
+    [ -n "$type" ] && [ "$everywhere" = no ] || return 0
+    asked_in=${namespace:-default}
+    [ "$has_namespace" = no ] || return 0
+    [ -n "$export_dir" ] || look_at_context
+    implied=${context_namespace:-default}
+    asked_in=$implied
+}
+
+# Answers, and then says so if the cluster may answer differently.
+answer() {
+    reads=$needed
+    find_stale
+    if [ -n "$stale" ] && [ "$command" = who-can ]; then
+        with_files ask "$@" >"$scratch/answer"
+        cat "$scratch/answer"
+    else
+        with_files ask "$@"
+    fi
+    [ -z "$stale" ] || [ "$answered" -gt 1 ] || with_files remark_on_stale "$@"
 }
 
 question_help() {

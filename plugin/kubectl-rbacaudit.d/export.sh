@@ -44,7 +44,9 @@ write_export() {
     make_scratch "$dir/.rbacaudit.XXXXXX"
     stage=$scratch/stage
     mkdir "$stage" || refuse "can't write into $dir"
-    fetch_parts cluster.json namespaced.json namespaces.json accounts.json version api
+    needed='cluster.json namespaced.json namespaces.json accounts.json api'
+    wanted=version
+    fetch_parts
     write_about
     missing=no
     [ ! -f "$stage/incomplete.txt" ] || missing=yes

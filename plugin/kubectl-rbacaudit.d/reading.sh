@@ -17,14 +17,13 @@ with_kubectl() {
     "$@"
 }
 
-# Reads into the file of this name in $stage, which is needed, or only wanted. The first call is made alone, with this
-# script's standard input and error, so that whoever has to sign in can do it; the others go on side by side.
+# Reads into the file of this name in $stage. It is needed, or only wanted if it is among `wanted`. The first call is made
+# alone, with this script's standard input and error, so that whoever has to sign in can do it; the others go on side by side.
 fetch() {
-    need=$1
-    name=$2
-    shift 2
+    name=$1
+    shift
     begun=$((begun + 1))
-    printf '%s\n' "$need" "$name" "kubectl get $*" >"$scratch/call.$begun"
+    printf '%s\n' "$name" "kubectl get $*" >"$scratch/call.$begun"
     : >"$scratch/said.$begun"
     if [ "$signed_in" = no ]; then
         signed_in=yes
@@ -55,12 +54,14 @@ settle() {
     settled=$((settled + 1))
     got=$scratch/got.$settled
     said=$scratch/said.$settled
-    { read -r need; read -r name; read -r asked; } <"$scratch/call.$settled"
+    { read -r name; read -r asked; } <"$scratch/call.$settled"
+    is_wanted=no
+    case " $wanted " in *" $name "*) is_wanted=yes ;; esac
     if [ "$failed" -eq 0 ] && [ -s "$got" ]; then
         show_said
         mv -f "$got" "$stage/$name" || refuse "can't write $name"
-        [ "$need" = wanted ] || fetched=$((fetched + 1))
-    elif [ "$need" = needed ]; then
+        [ "$is_wanted" = yes ] || fetched=$((fetched + 1))
+    elif [ "$is_wanted" = no ]; then
         show_said
         note_missing
     fi
@@ -102,7 +103,7 @@ erase_progress() {
 # Fetches the API resource list of each version. The versions are those of /apis: kubectl api-versions leaves out a group
 # that doesn't answer just now, and so would pass over it.
 fetch_lists() {
-    fetch needed api-v1.json --raw /api/v1
+    fetch api-v1.json --raw /api/v1
     used=
     while IFS= read -r version <&4; do
         list=api-$(printf '%s' "$version" | tr / -)
@@ -110,7 +111,7 @@ fetch_lists() {
             list=${list}_   # two versions of one name, such as a-b/v1 and a/b-v1
         done
         used=$used$NEWLINE$list$NEWLINE
-        fetch needed "$list.json" --raw "/apis/$version"
+        fetch "$list.json" --raw "/apis/$version"
     done 4<"$scratch/versions"
 }
 
@@ -129,8 +130,10 @@ list_versions() {
     done <"$scratch/versions"
 }
 
-# Fetches parts of an export into the folder $stage: those named, where api stands for all API resource lists.
+# Fetches parts of an export into the folder $stage: those in `needed` and `wanted`, where api stands for all API resource lists.
 fetch_parts() {
+    # shellcheck disable=SC2086  # the names of parts have no spaces
+    set -- $needed $wanted
     fetched=0
     begun=0
     settled=0
@@ -153,17 +156,17 @@ fetch_part() {
     [ $# -gt 1 ] || set -- "$1" --all-namespaces
     rbac=rbac.authorization.k8s.io
     case $1 in
-        cluster.json) fetch needed "$1" "clusterroles.$rbac,clusterrolebindings.$rbac" -o json ;;
+        cluster.json) fetch "$1" "clusterroles.$rbac,clusterrolebindings.$rbac" -o json ;;
         namespaced.json)
             shift
-            fetch needed namespaced.json "roles.$rbac,rolebindings.$rbac" "$@" -o json
+            fetch namespaced.json "roles.$rbac,rolebindings.$rbac" "$@" -o json
             ;;
-        namespaces.json) fetch needed "$1" namespaces ${only_in:+"$only_in"} -o json ;;
+        namespaces.json) fetch "$1" namespaces ${only_in:+"$only_in"} -o json ;;
         accounts.json)
             shift
-            fetch needed accounts.json serviceaccounts "$@" -o json
+            fetch accounts.json serviceaccounts "$@" -o json
             ;;
-        version) fetch wanted "$1" --raw /version ;;
+        version) fetch "$1" --raw /version ;;
         api) fetch_lists ;;
     esac
 }

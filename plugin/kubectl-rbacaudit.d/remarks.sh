@@ -85,11 +85,89 @@ look_for_universe() {
     done <"$scratch/remarks"
 }
 
-# Leaves in `object` what a fault of rbacaudit is about, by the words `item N` of its message or their absence, in this file:
-# nothing if the file can't be read again or the object has no name.
-find_object() {
-    object=
+# Leaves in `culprit` the object that a fault of rbacaudit is about, an item of this file or the document itself (0): nothing if
+# the file can't be read again or the object has no name.
+find_culprit() {
+    culprit=
     if [ -f "$1" ] && [ -r "$1" ]; then
-        object=$(LC_ALL=C awk -v item="$2" "$OBJECT_AT" <"$1")
+        culprit=$(LC_ALL=C awk -v item="$2" "$OBJECT_AT" <"$1")
     fi
+}
+
+# What is said before an answer: the type, and then the namespace and the account.
+remark_on_question() {
+    [ -z "$type" ] || check_type
+    if [ -n "$asked_in" ]; then
+        [ -z "$implied" ] || report "the question is about the namespace $implied; -n NS asks about another, and -A about the whole cluster"
+        is_there namespaces.json 2 "$asked_in" '"principals": [{"user": "probe"}]' ||
+            report "the export has no namespace $asked_in: check the spelling"
+    fi
+    case $asker in
+        system:serviceaccount:*:*) check_account ;;
+    esac
+}
+
+check_account() {
+    account=${asker#system:serviceaccount:}
+    home=${account%%:*}
+    [ -z "$only" ] || [ "$only" = "$home" ] || return 0
+    is_there accounts.json 1 "u:$asker" '"namespaces": [""]' ||
+        report "the export has no service account ${account#*:} in the namespace $home: check the spelling"
+}
+
+# Whether an object has a name, by what rbacaudit derives from a file of the export: this field of a row of a matrix in which
+# everybody may do the one thing that is asked about. The last word is a member of its universe. A file that the export doesn't
+# have or rbacaudit refuses tells nothing.
+is_there() {
+    [ -f "$export_dir/$1" ] || return 0
+    cat >"$scratch/everybody.json" <<EOF
+{"apiVersion": "v1", "kind": "List", "items": [
+  {"apiVersion": "rbac.authorization.k8s.io/v1", "kind": "ClusterRole", "metadata": {"name": "/"},
+   "rules": [{"verbs": ["get"], "apiGroups": [""], "resources": ["x"]}]},
+  {"apiVersion": "rbac.authorization.k8s.io/v1", "kind": "ClusterRoleBinding", "metadata": {"name": "/"},
+   "roleRef": {"kind": "ClusterRole", "name": "/"}, "subjects": [{"kind": "Group", "name": "system:authenticated"}]},
+  {"apiVersion": "rbacaudit/v1", "kind": "Universe", "verbs": ["get"], "resources": [{"resource": "x"}], "names": [""], "urls": [], $4}]}
+EOF
+    rbacaudit matrix "$export_dir/$1" "$scratch/everybody.json" >"$scratch/there" 2>/dev/null || return 0
+    LC_ALL=C WANTED=$3 awk -F '\t' -v at="$2" '$at == ENVIRON["WANTED"] { found = 1; exit } END { exit !found }' "$scratch/there"
+}
+
+# Leaves in `stale` the aggregated roles in use whose rules aren't those that they gather.
+find_stale() {
+    stale=
+    [ "$command" != lint ] && [ -f "$export_dir/cluster.json" ] || return 0
+    reads='cluster.json namespaced.json'
+    with_files rbacaudit lint >"$scratch/findings" 2>/dev/null
+    reads=$needed
+    stale=$(LC_ALL=C awk -F '\t' '
+        $1 == "L2" { unused[$3] = 1 }
+        $1 == "L6" && !($3 in unused) { said = said (said == "" ? "" : ", ") $3 }
+        END { print said }' "$scratch/findings")
+}
+
+# Asks again, and counts the rules that are written in aggregated roles, as a cluster does: a later document replaces an earlier
+# one. No other object has the field, and a text that looks like it has a backslash before its last quote.
+remark_on_stale() {
+    if [ "$command" = matrix ]; then
+        report "stale aggregates (L6 of lint): $stale; the cluster grants what is written in them, and this matrix has what they gather"
+        return
+    fi
+    sed 's/"aggregationRule":/"was":/g' "$export_dir/cluster.json" >"$scratch/as-written.json"
+    rbacaudit "$@" "$scratch/as-written.json" >"$scratch/written" 2>/dev/null
+    written=$?
+    case $command$answered$written in
+        can-i10) differs='answers yes' ;;
+        can-i01) differs='answers no' ;;
+        who-can00)
+            ! has_holders_of "$scratch/answer" "$scratch/written" || ! has_holders_of "$scratch/written" "$scratch/answer" || return 0
+            differs='has other holders'
+            ;;
+        *) return 0 ;;
+    esac
+    report "the cluster $differs until its stale aggregates (L6 of lint) have settled: $stale"
+}
+
+# Whether each holder of the second list is in the first.
+has_holders_of() {
+    LC_ALL=C awk -F '\t' '!begun { there[$1]; next } !($1 in there) { lacks = 1 } END { exit lacks }' "$1" begun=1 "$2"
 }

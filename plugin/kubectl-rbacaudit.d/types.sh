@@ -32,15 +32,9 @@ EOF
     ask matrix "$@" "$scratch/probe.json" >"$scratch/rows" || exit "$answered"
 }
 
-# Reports a type in TARGET that the API resource lists don't have, or a subresource that they don't have of a type that they have.
+# Reports a type that the API resource lists don't have, or a subresource that they don't have of a type that they have. A
+# question about a type that they have as cluster-scoped is about no namespace: that leaves `asked_in` empty.
 check_type() {
-    find_place 3 "$@"
-    object=
-    case $found in
-        /*) return ;;
-        */*) object=${found#*/} ;;
-    esac
-    type=${found%%/*}
     if ! has_lists; then
         report "the export has no API resource lists, so the type $type is taken as written"
         return
@@ -48,14 +42,15 @@ check_type() {
     reads=api
     with_files list_types
     grant_listed
-    if with_files is_listed "$subresource"; then
+    has_type=no
+    ! with_files is_listed '' || has_type=yes
+    [ "$has_type" = no ] || with_files is_inside || asked_in=
+    if [ "$has_type$subresource" = yes ] || { [ -n "$subresource" ] && with_files is_listed "$subresource"; }; then
         check_object
         return
     fi
     unknown="type $type"
-    if [ -n "$subresource" ] && with_files is_listed ''; then
-        unknown="subresource $type/$subresource"
-    fi
+    [ "$has_type" = no ] || unknown="subresource $type/$subresource"
     report "the API resource lists of the export don't have the $unknown: check the spelling"
 }
 
@@ -66,15 +61,17 @@ check_object() {
     fi
 }
 
-# Writes to $scratch/known.json a user who may get each type of $scratch/rows.
+# Writes to $scratch/known.json a user who may get each type of $scratch/rows, and another who may do it in the namespace n.
 grant_listed() {
     LC_ALL=C awk -F '\t' "$JSON_TEXT"'
         BEGIN {
             version = "\"apiVersion\": \"rbac.authorization.k8s.io/v1\""
             print "{\"apiVersion\": \"v1\", \"kind\": \"List\", \"items\": ["
             print "{" version ", \"kind\": \"ClusterRoleBinding\", \"metadata\": {\"name\": \"/\"},"
-            print " \"roleRef\": {\"kind\": \"ClusterRole\", \"name\": \"/\"},"
-            print " \"subjects\": [{\"kind\": \"User\", \"name\": \"probe\"}]},"
+            role = "\"roleRef\": {\"kind\": \"ClusterRole\", \"name\": \"/\"}"
+            print " " role ", \"subjects\": [{\"kind\": \"User\", \"name\": \"probe\"}]},"
+            print "{" version ", \"kind\": \"RoleBinding\", \"metadata\": {\"name\": \"/\", \"namespace\": \"n\"},"
+            print " " role ", \"subjects\": [{\"kind\": \"User\", \"name\": \"inside\"}]},"
             print "{" version ", \"kind\": \"ClusterRole\", \"metadata\": {\"name\": \"/\"}, \"rules\": ["
         }
         NF == 7 && $2 == "-" {
@@ -89,7 +86,16 @@ grant_listed() {
 is_listed() {
     below=$1
     shift
-    ask can-i -q --as probe "--subresource=$below" -- get "$type" "$@" "$scratch/known.json"
+    ask_probe --as=probe "--subresource=$below" -- get "$type" "$@"
+}
+
+# Whether a RoleBinding can grant the type: rbacaudit asks about a cluster-scoped type in no namespace.
+is_inside() {
+    ask_probe --as=inside --namespace=n -- get "$type" "$@"
+}
+
+ask_probe() {
+    ask can-i -q "$@" "$scratch/known.json"
     [ "$answered" -le 1 ] || exit "$answered"
     return "$answered"
 }
@@ -112,6 +118,10 @@ universe_command() {
     fi
     need_rbacaudit
     check_options
+    command=universe
+    type=
+    look_at_about
+    choose_namespace
     parts_of universe
     open_export
     make_universe

@@ -13,7 +13,7 @@ begin_words() {
 read_word() {
     place=no
     if [ "$awaits" != no ]; then
-        [ "$awaits" != --subresource ] || subresource=$1
+        take_value "$awaits" "$1"
         case $1 in
             -*) dashed=$awaits=$1 ;;
         esac
@@ -25,13 +25,26 @@ read_word() {
             --) literal=yes ;;
             --help) help=yes ;;
             --as | --groups | --namespace | --subresource | --after | --limit) awaits=$1 ;;
-            --subresource=*) subresource=${1#*=} ;;
+            --as=* | --namespace=* | --subresource=*) take_value "${1%%=*}" "${1#*=}" ;;
+            --all-namespaces) everywhere=yes ;;
             --*) ;;
             -?*) read_letters "${1#-}" ;;
             *) place=yes ;;
         esac
     fi
     [ "$place" = no ] || places=$((places + 1))
+}
+
+# Keeps what the plugin has to know of a question.
+take_value() {
+    case $1 in
+        --as) asker=$2 ;;
+        -n | --namespace)
+            namespace=$2
+            has_namespace=yes
+            ;;
+        --subresource) subresource=$2 ;;
+    esac
 }
 
 # Reads the letters of a word such as -qA, -n or -nshop.
@@ -41,8 +54,9 @@ read_letters() {
         after=${letters#?}
         case $letters in
             h*) help=yes ;;
+            A*) everywhere=yes ;;
             n*)
-                [ -n "$after" ] || awaits=-n
+                if [ -n "$after" ]; then take_value -n "${after#=}"; else awaits=-n; fi
                 return
                 ;;
         esac
