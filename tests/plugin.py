@@ -22,8 +22,11 @@ import time
 
 from common import PROGRAM, TOP, V1, V1BETA1, checked, tested
 from written import Parts, lines_in
+from shells import commands, contents, options, options_in, renders
 
 PLUGIN = os.path.join(TOP, 'plugin', 'kubectl-rbacaudit')
+COMPLETER = os.path.join(TOP, 'plugin', 'kubectl_complete-rbacaudit')
+MAN = os.path.join(TOP, 'man', 'kubectl-rbacaudit.1')
 SHELLS = ['dash' if shutil.which('dash') else 'sh', 'bash']
 
 # A call is one line of words, each with a | before it; one that isn't a reading call of the plugin is written to `strange`. The
@@ -1102,7 +1105,7 @@ def tools(it):
 def script():
     """The script itself, with its parts: shellcheck, and what make install installs, called by links to it."""
     if shutil.which('shellcheck'):
-        ended = subprocess.run(['shellcheck', '-x', PLUGIN], cwd=TOP, stdout=subprocess.PIPE, stderr=subprocess.STDOUT, timeout=120)
+        ended = subprocess.run(['shellcheck', '-x', PLUGIN, COMPLETER], cwd=TOP, stdout=subprocess.PIPE, stderr=subprocess.STDOUT, timeout=120)
         checked('shellcheck', ended.returncode == 0, ended.stdout.decode())
     else:
         print('skipped: shellcheck, which this machine lacks')
@@ -1113,6 +1116,9 @@ def script():
         os.mkdir(os.path.join(path, 'far'))
         os.symlink('../bin/kubectl-rbacaudit', os.path.join(path, 'far', 'near'))
         os.symlink(os.path.join(path, 'far', 'near'), os.path.join(path, 'link'))
+        for installed in ('bin/kubectl_complete-rbacaudit', 'share/man/man1/kubectl-rbacaudit.1'):
+            checked('installed: %s' % installed, os.path.isfile(os.path.join(path, installed)), 'no file')
+        checked('the completer may be run', os.access(os.path.join(path, 'bin/kubectl_complete-rbacaudit'), os.X_OK), 'no')
         for called in ('bin/kubectl-rbacaudit', 'far/near', 'link', './link'):
             got = told([os.path.join(path, called), '--version'], path)
             checked('installed, called as %s' % called, got == (0, VERSIONS, ''), repr(got))
@@ -1122,6 +1128,88 @@ def script():
         shutil.rmtree(os.path.join(path, 'lib'))
         status, out, err = got = told([os.path.join(path, 'link'), '--version'], path)
         checked('without its parts', (status, out) == (2, '') and "the parts of this plugin aren't there" in err, repr(got))
+
+
+# ---- completions, and the man page
+
+OWN = {('--export',): 'DIR', ('--partial',): '', ('--context',): 'NAME', ('--kubeconfig',): 'FILE', ('--request-timeout',): 'TIME'}
+HELP = ('-h', '--help')
+OF_EXPORT = {('--force',): '', ('-n', '--namespace'): 'NS', ('--context',): 'NAME', ('--kubeconfig',): 'FILE',
+             ('--request-timeout',): 'TIME', ('--as',): 'USER', ('--as-group',): 'GROUP'}
+VERBS = 'get list watch create update patch delete deletecollection use bind escalate impersonate'.split()
+NOTHING, FILES, FOLDERS = ':4', ':0', ':16'
+COMPLETED = [
+    ([''], ['can-i', 'who-can', 'matrix', 'lint', 'universe', 'export'], NOTHING), (['m'], ['matrix'], NOTHING),
+    (['-'], ['-h', '--help', '-V', '--version'], NOTHING), (['no', ''], [], NOTHING), (['no', '-'], [], NOTHING),
+    (['can-i', ''], VERBS, NOTHING), (['who-can', '-nshop', 'delete'], ['delete', 'deletecollection'], NOTHING),
+    (['can-i', '--as', 'x', '-qA', 'get', ''], [], NOTHING), (['who-can', '-An', 'shop', 'get', 'pods', ''], [], FILES),
+    (['who-can', '-n=shop', '--', '-x', '-y', '-'], [], FILES), (['matrix', '--limit', ''], [], NOTHING),
+    (['matrix', '--limit=3', 'a'], [], FILES), (['lint', '--export', ''], [], FOLDERS), (['lint', '--kubeconfig', 'x'], [], FILES),
+    (['lint', '--context', ''], ['far away', 'near'], NOTHING), (['export', '--context', 'n'], ['near'], NOTHING),
+    (['export', ''], [], FOLDERS), (['export', '--as-group', 'x', '--as-'], ['--as-group'], NOTHING), (['export', 'x', ''], [], NOTHING),
+    (['universe', ''], [], NOTHING), (['can-i', '-qAn', 'x', '--as=y', '--g'], ['--groups'], NOTHING),
+    (['can-i', '-qA', '--a'], ['--as'], NOTHING), (['can-i', '--namespace', 'x', '-n'], [], NOTHING)]
+
+
+def options_of(command):
+    """The options of a command of the plugin, with their values: those of rbacaudit, and the plugin's own."""
+    if command in ('export', 'universe'):
+        return {**(OF_EXPORT if command == 'export' else OWN), HELP: ''}
+    return {**{names: value for names, (value, _) in options(command).items()}, **OWN}
+
+
+@in_each_shell
+def completions(it):
+    """What kubectl is told to offer; each command has the options that it takes, each once."""
+    with open(os.path.join(it.bin, 'kubectl'), 'w', encoding='utf-8') as file:
+        file.write("#!/bin/sh\n[ \"$*\" = 'config get-contexts -o name' ] && printf 'far away\\nnear\\n'\n")
+
+    def offered(words_):
+        ended = subprocess.run([it.shell, COMPLETER, *words_], env=it.environment(), stdout=subprocess.PIPE, stderr=subprocess.STDOUT,
+                               timeout=60)
+        *found, last = ended.stdout.decode().splitlines()
+        return [line.partition('\t')[0] for line in found], last
+
+    for words_, found, last in COMPLETED:
+        got = offered(words_)
+        it.checked('completions of %s' % words_, (sorted(got[0]), got[1]) == (sorted(found), last), got)
+    for command in (*commands(), 'universe', 'export'):
+        here = options_of(command)
+        got = offered([command, '-'])
+        it.checked('the options of %s' % command, sorted(got[0]) == sorted(name for names in here for name in names), got)
+        for names, value in here.items():
+            for name in names if names != HELP else ():
+                got = offered([command, name, *['x'] * bool(value), '--'])[0]
+                wanted = [others[-1] for others in here if others != names or names == ('--as-group',)]
+                it.checked('%s %s is given once' % (command, name), sorted(got) == sorted(wanted), got)
+
+
+def in_kubectl():
+    """kubectl itself finds the completer, where it is installed and new enough."""
+    with tempfile.TemporaryDirectory() as home:
+        environment = dict(os.environ, HOME=home, KUBECONFIG=os.path.join(home, 'none'),
+                           PATH=os.path.dirname(PLUGIN) + os.pathsep + os.environ['PATH'])
+        version = shutil.which('kubectl') and subprocess.run(['kubectl', 'version', '--client'], env=environment, stdout=subprocess.PIPE,
+                                                             stderr=subprocess.DEVNULL, timeout=60).stdout.decode()
+        found = re.search(r'v1\.(\d+)', version or '')
+        if not found or int(found[1]) < 26:
+            print('skipped: this machine has no kubectl 1.26')
+            return
+        ended = subprocess.run(['kubectl', '__complete', 'rbacaudit', 'who-can', 'del'], env=environment, stdout=subprocess.PIPE,
+                               stderr=subprocess.DEVNULL, timeout=60)
+        checked('kubectl completes', ended.stdout.decode() == 'delete\ndeletecollection\n:4\n', repr(ended.stdout))
+
+
+def man_page():
+    """The man page has the options of help with their values, the version, and is rendered well."""
+    text = contents(MAN)
+    wanted = {**OWN, **OF_EXPORT, HELP: '', ('-V', '--version'): ''}
+    got = {names: value for names, (value, _) in options_in(text).items()}
+    checked('man: the options', got == wanted, repr(got))
+    checked('man: the version', '"kubectl\\-rbacaudit 0.1.0"' in text, text[:300])
+    for command in (*commands(), 'universe', 'export'):
+        checked('man: %s' % command, '.SY "kubectl rbacaudit %s"' % command.replace('-', '\\-') in text, 'no synopsis')
+    renders(MAN, {name for names in wanted for name in names})
 
 
 def make_run():
@@ -1145,4 +1233,5 @@ def told(words_, folder, tools_=os.path.dirname(PROGRAM)):
 
 if __name__ == '__main__':
     sys.exit(tested(whole_export, about, one_namespace, side_by_side, progress, exporter, export_faults, no_export, closed_folder, old_exports, questions, namespaces, accounts, alone, idle_groups, stale_aggregates, words, files, universe_faults, parts, gaps, types, subresources,
-                    universes, pages, interruptions, publishing, tools, script, make_run))
+                    universes, pages, interruptions, publishing, tools, script, make_run, completions,
+                    in_kubectl, man_page))

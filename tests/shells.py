@@ -201,10 +201,14 @@ def man_facts():
 
 
 def rendered():
-    """Each renderer that there is writes the page without a warning, and loses none of the options."""
-    names = {name for command in ('', *commands()) for names in options(*command.split()) for name in names}
-    renderers = {'man': ['man', '--warnings', '-l', MAN], 'groff': ['groff', '-man', '-ww', '-Tascii', '-P-c', MAN],
-                 'mandoc': ['mandoc', '-Tascii', MAN]}
+    """The page is rendered well."""
+    renders(MAN, {name for command in ('', *commands()) for names in options(*command.split()) for name in names})
+
+
+def renders(page, names):
+    """Each renderer that there is writes a page without a warning, and loses none of the options."""
+    renderers = {'man': ['man', '--warnings', '-l', page], 'groff': ['groff', '-man', '-ww', '-Tascii', '-P-c', page],
+                 'mandoc': ['mandoc', '-Tascii', page]}
     for renderer, words in renderers.items():
         if not shutil.which(renderer):
             skipped(renderer)
@@ -213,9 +217,9 @@ def rendered():
                                env=dict(os.environ, LC_ALL='C', MANWIDTH='80', MANPAGER='cat'))
         text = re.sub(r'.\x08', '', ended.stdout.decode())
         lost = [name for name in names if not re.search(r'(?<![\w-])%s(?![\w-])' % name, text)]
-        checked('%s renders the page' % renderer, ended.returncode == 0 and not ended.stderr and not lost, '%r %r' % (lost, ended.stderr))
+        checked('%s renders %s' % (renderer, os.path.basename(page)), ended.returncode == 0 and not ended.stderr and not lost, '%r %r' % (lost, ended.stderr))
     if shutil.which('mandoc'):
-        ended = subprocess.run(['mandoc', '-Tlint', MAN], stdout=subprocess.PIPE, stderr=subprocess.STDOUT, timeout=60)
+        ended = subprocess.run(['mandoc', '-Tlint', page], stdout=subprocess.PIPE, stderr=subprocess.STDOUT, timeout=60)
         checked('mandoc -Tlint finds nothing', ended.returncode == 0 and not ended.stdout, ended.stdout.decode())
 
 
