@@ -237,5 +237,5 @@ def colours():
 
 
 if __name__ == '__main__':
-    sys.exit(tested(written, no_markup, policy, refusals, limits, terminals, helped, installed, colours,
-                    in_browser, skipped))
+    sys.exit(tested(written, no_markup, policy, refusals, limits, terminals, helped, installed,
+                    colours, in_browser, skipped))

@@ -5,13 +5,15 @@ typed into, printed, and compared with the rows that they were made of.
 import contextlib
 import json
 import os
+import re
 import subprocess
 import tempfile
 import time
 
 import browser
 from common import PROGRAM, TOP, checked
-from written import CHANGES, FINDINGS, NAMES, SMALL, file_of, made, rows_of, same, strangers
+from written import (CHANGES, FINDINGS, NAMES, SMALL, contents, file_of, made, rows_of, same,
+                     strangers)
 
 CLUSTER = os.path.join(TOP, 'examples', 'cluster')
 
@@ -236,6 +238,16 @@ def small_page(it, room):
     for part in (seen_who, seen_what, seen_watch, seen_beside, seen_keys):
         part(page)
     page.is_quiet()
+
+
+def watched(it, room):
+    """The watch list is that of docs/FORMATS.md."""
+    part = contents('docs', 'FORMATS.md').partition('| Category |')[2].partition('\n\n')[0]
+    lines = [[re.findall(r'`(.*?)`', cell) or cell.strip() for cell in line.split('|')[1:-1]]
+             for line in part.splitlines()[2:]]
+    Shown(it, room, 'watched', made(SMALL)[1])
+    same('the watch list', it.do('WATCHED.flatMap(({title, pairs}) => pairs.map(pair => '
+                                 '[title, ...pair]))'), lines)
 
 
 def stars(it, room):
@@ -465,7 +477,7 @@ def in_browser():
         return
     with browser.browser() as it, tempfile.TemporaryDirectory() as room:
         it.ask('Browser.setDownloadBehavior', behavior='allow', downloadPath=room)
-        for part in (small_page, stars, widths, hostile_page, cluster_page, themes, large):
+        for part in (small_page, watched, stars, widths, hostile_page, cluster_page, themes, large):
             try:
                 part(it, room)
             except (OSError, EOFError, RuntimeError, LookupError, TypeError) as fault:
