@@ -292,6 +292,17 @@ def stars(it, room):
     page.is_quiet()
 
 
+def empty(it, room):
+    """A matrix without rows has a page too."""
+    with file_of([]) as none:
+        page = Shown(it, room, 'empty', made([], '--lint', none, '--diff', none)[1])
+    for view in ('who', 'what', 'watch', 'rows', 'findings', 'changes', 'find?q=a',
+                 'who?who=u:ann'):
+        page.go('#' + view)
+        same('no rows: %s' % view, page.cells('main'), [])
+    page.is_quiet()
+
+
 def widths(it, room):
     """Columns of one, two and four bytes for each row are read as they were written."""
     for count in (1, 256, 257, 65536, 65537):
@@ -475,13 +486,18 @@ def in_browser():
     """The pages in a browser, if this machine has one."""
     if not browser.found():
         return
-    with browser.browser() as it, tempfile.TemporaryDirectory() as room:
-        it.ask('Browser.setDownloadBehavior', behavior='allow', downloadPath=room)
-        for part in (small_page, watched, stars, widths, hostile_page, cluster_page, themes, large):
-            try:
-                part(it, room)
-            except (OSError, EOFError, RuntimeError, LookupError, TypeError) as fault:
-                checked('%s comes to its end' % part.__name__, False, repr(fault))
+    faults = (OSError, EOFError, RuntimeError, LookupError, TypeError)
+    try:
+        with browser.browser() as it, tempfile.TemporaryDirectory() as room:
+            it.ask('Browser.setDownloadBehavior', behavior='allow', downloadPath=room)
+            for part in (small_page, watched, stars, empty, widths, hostile_page, cluster_page,
+                         themes, large):
+                try:
+                    part(it, room)
+                except faults as fault:
+                    checked('%s comes to its end' % part.__name__, False, repr(fault))
+    except faults as fault:
+        checked('%s starts and ends' % browser.found(), False, repr(fault))
 
 
 def skipped():
