@@ -16,6 +16,7 @@ import sys
 import tempfile
 
 from common import TOP, checked, tested
+from plugin_page import plugin_pages, plugin_refusals
 from shown import in_browser, skipped
 from written import (CHANGES, FILTER, FINDINGS, SMALL, Parts, contents, file_of, lines_in, made,
                      rows_of, same, strangers)
@@ -238,4 +239,4 @@ def colours():
 
 if __name__ == '__main__':
     sys.exit(tested(written, no_markup, policy, refusals, limits, terminals, helped, installed,
-                    colours, in_browser, skipped))
+                    plugin_pages, plugin_refusals, colours, in_browser, skipped))

@@ -8,7 +8,6 @@ import contextlib
 import fnmatch
 import json
 import os
-import pty
 import re
 import resource
 import shutil
@@ -21,7 +20,6 @@ import textwrap
 import time
 
 from common import PROGRAM, TOP, V1, V1BETA1, checked, tested
-from written import Parts, lines_in
 from shells import commands, contents, options, options_in, renders
 
 PLUGIN = os.path.join(TOP, 'plugin', 'kubectl-rbacaudit')
@@ -154,7 +152,6 @@ class Room:
             file.write(STAND_IN)
         os.chmod(os.path.join(self.bin, 'kubectl'), 0o755)
         os.symlink(PROGRAM, os.path.join(self.bin, 'rbacaudit'))
-        os.symlink(os.path.join(os.path.dirname(PLUGIN), 'rbacaudit-page'), os.path.join(self.bin, 'rbacaudit-page'))
         self.serve(served())
         self.at_context('')
 
@@ -945,64 +942,6 @@ def universes(it):
     it.checked('a universe of nothing is a document too', status == 0 and document(out) == {**wanted, 'resources': []}, got)
 
 
-# ---- pages
-
-def on_page(text):
-    """The title of a page, and its rows, findings and changes as lines, without the last line of the matrix."""
-    parts = Parts(text)
-    data = parts.data()
-    findings = ['\t'.join(finding) for finding in data['findings']]
-    return parts.texts['title', None], lines_in(data['rows']), findings, data['changes'] and lines_in(data['changes'])
-
-
-@in_each_shell
-def pages(it):
-    """A page has the rows of the universe that `universe` writes, and the findings; with FILEs, options, and faults."""
-    it.run('export', 'prod')
-    it.write(it.run('universe', '--export', 'prod')[1], 'universe.json')
-    rows = it.run('matrix', '--export', 'prod', 'universe.json')[1].splitlines()[:-1]
-    again = {'apiVersion': V1, 'kind': 'ClusterRoleBinding', 'metadata': {'name': 'again'}, 'subjects': [{'kind': 'User', 'name': 'dana@example.com'}],
-             'roleRef': {'kind': 'ClusterRole', 'name': 'cluster-admin'}}
-    it.write(json.dumps(again), 'again.json')
-    every = it.run('matrix', '--every', '--export', 'prod', 'universe.json', 'again.json')[1].splitlines()[:-1]
-    findings = it.run('lint', '--export', 'prod')[1].splitlines()
-    it.checked('there is something to show', len(every) > len(rows) > 5 and findings, (len(every), len(rows), findings))
-    it.write(rows[0].join(['+\t', '\n']), 'chan ges')
-    it.write(json.dumps({'apiVersion': 'rbacaudit/v1', 'kind': 'Universe', 'verbs': ['get']}), 'my verbs.json')
-    gets = [row for row in rows if row.split('\t')[2] == 'get']
-    for line, wanted in ((['--export', 'prod'], ('Who can do what', rows, findings, None)), ([], ('Who can do what', rows, findings, None)),
-                         (['--every', '--export=prod', 'again.json', '--title', "it's <b>"], ("it's <b>", every, findings, None)),
-                         (['my verbs.json', '--export', 'prod', '--title=-x', '--diff', 'chan ges'], ('-x', gets, findings, ['+\t' + rows[0]])),
-                         (['--diff=chan ges', '--', 'my verbs.json'], ('Who can do what', gets, findings, ['+\t' + rows[0]]))):
-        status, out, err = got = it.run('page', *line)
-        it.checked('page %s' % ' '.join(line), (status, err) == (0, '') and on_page(out) == wanted, repr(got)[:2000])
-    it.lines('calls')
-    for line, said in ((['--wrong'], 'page has no --wrong'), (['--title', 'a', '--title=b'], '--title is given twice'), (['--diff'], '--diff needs a value'),
-                       (['--diff', 'a', '--diff', 'b'], '--diff is given twice'), (['--diff', 'nothing'], "can't read nothing"),
-                       (['--title', '--every'], '--title needs a value'), (['--export', 'nothing'], 'there is no folder nothing')):
-        status, out, err = got = it.run('page', *line)
-        it.checked('refused: page %s' % ' '.join(line), (status, out) == (2, '') and said in err, got)
-    ours, terminal = pty.openpty()
-    ended = subprocess.run([it.shell, PLUGIN, 'page'], cwd=it.work, env=it.environment(), stdin=subprocess.DEVNULL, stdout=terminal,
-                           stderr=subprocess.PIPE, timeout=60)
-    os.close(ours)
-    os.close(terminal)
-    it.checked('refused: a page on a terminal', (ended.returncode, ended.stderr) == (
-        2, b'kubectl-rbacaudit: the page goes into a file: kubectl rbacaudit page > access.html\n'), ended)
-    it.checked('nothing was read for it', not it.lines('calls'), 'a call')
-    it.checked('help', '--every' in it.run('page', '--help')[1], 'no help')
-    it.expect('rows as changes', ['page', '--export', 'prod', '--diff', 'my verbs.json'], 2, '', 'rbacaudit-page: my verbs.json line 1: no line of changes\n')
-    it.write('{}', 'bad.json')
-    it.expect('a bad FILE', ['page', '--export', 'prod', 'bad.json'], 2, '', 'rbacaudit: file 2: M2 not an object\nkubectl-rbacaudit: file 2 is bad.json\n')
-    status, out, err = got = it.run('page', trouble=['forbid accounts'])
-    it.checked('a part is missing', (status, out) == (2, '') and err.endswith(REFUSAL), got)
-    status, out, err = got = it.run('page', '--partial', trouble=['forbid accounts'])
-    it.checked('a part is missing, --partial', status == 0 and err.endswith(CAUTION) and on_page(out)[1] == rows, repr(got)[:2000])
-    os.remove(os.path.join(it.bin, 'rbacaudit-page'))
-    status, out, err = got = it.run('page', '--export', 'prod')
-    it.checked('without rbacaudit-page', (status, out) == (2, '') and 'there is no rbacaudit-page on the PATH' in err, got)
-
-
 # ---- interruptions, tools, texts
 
 ENDING = (signal.SIGINT, signal.SIGQUIT, signal.SIGTERM, signal.SIGHUP)
@@ -1233,5 +1172,5 @@ def told(words_, folder, tools_=os.path.dirname(PROGRAM)):
 
 if __name__ == '__main__':
     sys.exit(tested(whole_export, about, one_namespace, side_by_side, progress, exporter, export_faults, no_export, closed_folder, old_exports, questions, namespaces, accounts, alone, idle_groups, stale_aggregates, words, files, universe_faults, parts, gaps, types, subresources,
-                    universes, pages, interruptions, publishing, tools, script, make_run, completions,
+                    universes, interruptions, publishing, tools, script, make_run, completions,
                     in_kubectl, man_page))
