@@ -55,13 +55,14 @@ install: build
 	install -m 644 plugin/kubectl-rbacaudit.d/*.sh $(DESTDIR)$(PREFIX)/lib/kubectl-rbacaudit
 	install -m 755 plugin/rbacaudit-page $(DESTDIR)$(PREFIX)/bin/rbacaudit-page
 	install -m 644 page/* $(SHARE)/rbacaudit/page
-	install -m 644 completions/rbacaudit.bash $(SHARE)/bash-completion/completions/rbacaudit
-	install -m 644 completions/_rbacaudit $(SHARE)/zsh/site-functions/_rbacaudit
-	install -m 644 completions/rbacaudit.fish $(SHARE)/fish/vendor_completions.d/rbacaudit.fish
+	install -m 644 man/rbacaudit-page.1 $(SHARE)/man/man1/rbacaudit-page.1
 	install -m 644 completions/rbacaudit-page.bash $(SHARE)/bash-completion/completions/rbacaudit-page
 	install -m 644 completions/_rbacaudit-page $(SHARE)/zsh/site-functions/_rbacaudit-page
 	install -m 644 completions/rbacaudit-page.fish $(SHARE)/fish/vendor_completions.d/rbacaudit-page.fish
-	install -m 644 man/rbacaudit.1 man/rbacaudit-page.1 man/kubectl-rbacaudit.1 $(SHARE)/man/man1
+	install -m 644 completions/rbacaudit.bash $(SHARE)/bash-completion/completions/rbacaudit
+	install -m 644 completions/_rbacaudit $(SHARE)/zsh/site-functions/_rbacaudit
+	install -m 644 completions/rbacaudit.fish $(SHARE)/fish/vendor_completions.d/rbacaudit.fish
+	install -m 644 man/rbacaudit.1 man/kubectl-rbacaudit.1 $(SHARE)/man/man1
 
 # What others install without the kit, in dist/: an archive, a Containerfile, a manifest for krew, and SHA256SUMS. GATE=FILE is what
 # `make test` printed, whose last line goes into PROVED.txt; URL=ADDRESS is where the archive is going to be, for krew.
