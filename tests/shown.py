@@ -459,14 +459,15 @@ def generated(count):
 def large(it, room):
     """300,000 rows open in less than ten times the time of 30,000, draw only what is seen, and can
     be scrolled to the last."""
-    least = {}
-    for count in (30000, 300000):
-        rows = generated(count)
-        page = Shown(it, room, 'large%d' % count, made(rows)[1])
-        least[count] = min([page.seconds, *(it.open(page.path) for _ in range(2))])
-    print('300,000 rows open in %.2f s, 30,000 in %.2f s' % (least[300000], least[30000]))
-    checked('300,000 rows open in less than ten times the time of 30,000',
-            least[300000] < 10 * least[30000], repr(least))
+    fewer = Shown(it, room, 'fewer', made(generated(30000))[1])
+    rows = generated(300000)
+    page = Shown(it, room, 'large', made(rows)[1])
+    # (in turn, so that what else the machine does befalls both)
+    times = [(it.open(fewer.path), it.open(page.path)) for _ in range(4)]
+    few, many = map(min, zip(*times))
+    print('300,000 rows open in %.2f s, 30,000 in %.2f s' % (many, few))
+    checked('300,000 rows open in less than ten times the time of 30,000', many < 10 * few,
+            repr(times))
     page.go('#rows')
     checked('few are drawn', 10 < len(page.cells()) < 100, str(len(page.cells())))
     it.do('document.querySelector(".sheet").scrollTop = 1e9')
