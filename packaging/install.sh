@@ -6,7 +6,7 @@ set -eu
 cd "$(dirname "$0")"
 to=${DESTDIR-}${PREFIX:-/usr/local}
 
-# Puts a file with this mode in its place below $to. A program that runs meanwhile keeps its old file.
+# Puts a file with a mode in its place below $to. A program that runs meanwhile keeps its old file.
 put() {
     mkdir -p "$to/${3%/*}"
     install -m "$1" "$2" "$to/$3"

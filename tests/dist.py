@@ -1,9 +1,10 @@
-"""What `make dist` packs: the same bytes each time, from the commit alone, and at work where there is no kit.
+"""What `make dist` packs: the same bytes each time, from the commit alone, at work without the kit.
 
-It packs copies of this repository that have one commit, of a known date, and the built program. The archive is unpacked into
-an empty folder, where the PATH has the base tools alone. There it is installed, as the Containerfile and krew do it too, and
-the jobs of docs/RECIPES.md use it, whose shell parts run as they are written. What the machine lacks is reported and not
-counted. The last line is `N passed, M failed`.
+It packs copies of this repository that have one commit, of a known date, and the built program. The
+archive is unpacked into an empty folder and installed, with the base tools alone on the PATH.
+The Containerfile's steps are tried as commands, krew's as its documents tell them, and the jobs of
+docs/RECIPES.md as they are written. What the machine lacks is reported and not counted. The last
+line is `N passed, M failed`.
 """
 
 import glob
@@ -17,16 +18,16 @@ import subprocess
 import sys
 import tarfile
 import tempfile
-import textwrap
 
-from common import PROGRAM, TOP, checked, tested
+from common import PROGRAM, TOP, checked, results, tested
 from transcripts import contents, steps, text_of
 
 ROOT = 'rbacaudit-0.1.0-x86_64-linux'
 ARCHIVE = ROOT + '.tar.gz'
 MADE = ['Containerfile', 'SHA256SUMS', 'krew.yaml', ARCHIVE]
-# The commit's date, and the seconds from 1970 to it: 11,356 days, and 4 hours, 5 minutes and 6 seconds.
+# The commit's date, and the seconds from 1970 to it: 11,356 days, 4 hours, 5 minutes, 6 seconds.
 DATE, SECONDS = '2001-02-03T04:05:06+00:00', 11_356 * 86_400 + 4 * 3600 + 5 * 60 + 6
+DOCUMENTS = 'README.md', 'bench/README.md', 'docs', 'examples'
 NOT_COPIED = '.git', 'out', 'dist', '__pycache__', 'must-fail', 'wrong-bodies'
 WHO = {'GIT_%s_%s' % (who, what): value for who in ('AUTHOR', 'COMMITTER')
        for what, value in (('NAME', 'tests'), ('EMAIL', 'tests@example.com'), ('DATE', DATE))}
@@ -48,14 +49,19 @@ PLACES = {'bin/rbacaudit': None, 'bin/kubectl-rbacaudit': 'plugin/kubectl-rbacau
 
 def run(words, folder, environment=None, **how):
     """What a command in a folder ends with: its status, and all that it prints."""
-    ended = subprocess.run(words, cwd=folder, env=environment, stdin=subprocess.DEVNULL, stdout=subprocess.PIPE,
+    ended = subprocess.run(words, cwd=folder, env=environment, stdin=subprocess.DEVNULL,
+                           stdout=subprocess.PIPE,
                            stderr=subprocess.STDOUT, timeout=120, **how)
     return ended.returncode, ended.stdout.decode(errors='replace')
 
 
+def holds(name, well, got=None):
+    checked(name, well, 'got %r' % (got,))
+
+
 def expect(name, words, folder, environment, status, out):
     got = run(words, folder, environment)
-    checked(name, got == (status, out), 'got %r' % (got,))
+    holds(name, got == (status, out), got)
 
 
 def git(folder, *words):
@@ -75,10 +81,14 @@ def bytes_of(*path):
         return file.read()
 
 
+def sum_of(path):
+    return hashlib.sha256(bytes_of(path)).hexdigest()
+
+
 # ---- the repository that is packed, and what make dist made there
 
 class Room:
-    """A temporary folder with a copy of this repository, with one commit, and all that is made from it."""
+    """A temporary folder with a copy of this repository, of one commit, and what it makes."""
 
     def __init__(self, path):
         self.path, self.repository = path, os.path.join(path, 'repository')
@@ -109,7 +119,8 @@ class Room:
         return {'PATH': os.pathsep.join([*folders, self.tools]), 'HOME': self.path, **more}
 
     def make(self, *words, repository=None, **how):
-        return run(['make', '-s', 'dist', *words], repository or self.repository, dict(os.environ, **GIT), **how)
+        words = ['make', '-s', 'dist', *words]
+        return run(words, repository or self.repository, dict(os.environ, **GIT), **how)
 
     def made(self, *names):
         return os.path.join(self.repository, 'dist', *names)
@@ -131,18 +142,18 @@ class Room:
 
 
 def packed(room):
-    """The four files, and the same bytes from another copy of the commit, at another time and by another user's settings."""
+    """The four files, and the same bytes from another copy, later and with another umask."""
     got = room.make()
-    checked('make dist', got[0] == 0 and sorted(os.listdir(room.made())) == MADE, got)
+    holds('make dist', got[0] == 0 and sorted(os.listdir(room.made())) == MADE, got)
     other = room.at('other')
     git(room.path, 'clone', '-q', room.repository, other)
     room.put_program(other)
     os.utime(os.path.join(other, 'README.md'))
     got = room.make(repository=other, preexec_fn=lambda: os.umask(0o077))
-    checked('make dist in another copy', got[0] == 0, got)
+    holds('make dist in another copy', got[0] == 0, got)
     first, second = contents(room.made()), contents(os.path.join(other, 'dist'))
     for name in MADE:
-        checked('the same bytes twice: ' + name, name in first and first[name] == second.get(name))
+        holds('the same bytes twice: ' + name, name in first and first[name] == second.get(name))
     expect('SHA256SUMS', ['sha256sum', '-c', 'SHA256SUMS'], room.made(), None, 0,
            'Containerfile: OK\nkrew.yaml: OK\n%s: OK\n' % ARCHIVE)
 
@@ -151,36 +162,41 @@ def entries(room):
     """What the archive has, and for whom."""
     with tarfile.open(room.made(ARCHIVE)) as tar:
         found = {entry.name: entry for entry in tar.getmembers()}
-    documents = git(room.repository, 'ls-files', 'README.md', 'bench/README.md', 'docs', 'examples').splitlines()
-    wanted = sorted('%s/%s' % (ROOT, name) for name in (*PLACES, *documents, 'PROVED.txt', 'install.sh'))
-    checked('the names, in order', list(found) == wanted, list(found))
-    checked('files alone', all(entry.isreg() for entry in found.values()))
-    checked('owners and times', {(entry.uid, entry.gid, entry.uname, entry.gname, entry.mtime) for entry in found.values()}
-            == {(0, 0, '', '', SECONDS)})
+    documents = git(room.repository, 'ls-files', *DOCUMENTS).splitlines()
+    names = (*PLACES, *documents, 'PROVED.txt', 'install.sh')
+    wanted = sorted('%s/%s' % (ROOT, name) for name in names)
+    holds('the names, in order', list(found) == wanted, list(found))
+    holds('files alone', all(entry.isreg() for entry in found.values()))
+    given = {(entry.uid, entry.gid, entry.uname, entry.gname, entry.mtime)
+             for entry in found.values()}
+    holds('owners and times', given == {(0, 0, '', '', SECONDS)}, given)
     for name in ('bin/rbacaudit', 'bin/kubectl-rbacaudit', 'install.sh'):
-        checked('may be run: ' + name, found[ROOT + '/' + name].mode == 0o755)
-    checked('may be read: README.md', found[ROOT + '/README.md'].mode == 0o644)
+        holds('may be run: ' + name, found[ROOT + '/' + name].mode == 0o755)
+    holds('may be read: README.md', found[ROOT + '/README.md'].mode == 0o644)
 
 
 def proved_text(room, gate):
     """What PROVED.txt says, but for the libraries, which only the program knows."""
-    commit, kit = git(room.repository, 'rev-parse', 'HEAD'), run(['rt', 'version'], room.path)[1].strip()
-    return ('rbacaudit 0.1.0 for Linux on x86-64\n\ncommit  %s\ndate    %s\nkit     %s\ngate    %s\n' % (commit, DATE, kit, gate))
+    commit = git(room.repository, 'rev-parse', 'HEAD')
+    kit = run(['rt', 'version'], room.path)[1].strip()
+    return ('rbacaudit 0.1.0 for Linux on x86-64\n\n'
+            'commit  %s\ndate    %s\nkit     %s\ngate    %s\n' % (commit, DATE, kit, gate))
 
 
 def proved(room):
-    """PROVED.txt, with the gate's last line and without."""
+    """PROVED.txt, without the gate's last line and with it."""
     text = bytes_of(room.unpacked('proved'), 'PROVED.txt').decode()
     wanted = proved_text(room, "not known: make dist wasn't given what the gate printed")
-    checked('PROVED.txt', text.startswith(wanted), text)
+    holds('PROVED.txt', text.startswith(wanted), text)
     needs = re.search(r'^needs   (.*); glibc (2\.\d+) or later$', text, re.M)
     loaded = run(['ldd', PROGRAM], room.path)[1]
-    checked('PROVED.txt names what is loaded', needs and 'libc.so.6' in needs[1] and all(
+    holds('PROVED.txt names what is loaded', needs and 'libc.so.6' in needs[1] and all(
         name in loaded for name in needs[1].split(', ')), text)
     write('ok   all\n7 passed, 0 failed\n', room.at('gate'))
     got = room.make('GATE=' + room.at('gate'))
     text = bytes_of(room.unpacked('with-gate'), 'PROVED.txt').decode()
-    checked('PROVED.txt with GATE', got[0] == 0 and text.startswith(proved_text(room, '7 passed, 0 failed')), (got, text))
+    well = got[0] == 0 and text.startswith(proved_text(room, '7 passed, 0 failed'))
+    holds('PROVED.txt with GATE', well, (got, text))
 
 
 # ---- what make dist refuses
@@ -188,15 +204,18 @@ def proved(room):
 def refused(room, name, said, *words):
     shutil.rmtree(room.made(), ignore_errors=True)
     status, out = room.make(*words)
-    checked('refused: ' + name, status != 0 and said in out and not os.path.exists(room.made()), (status, out))
+    well = status != 0 and said in out and not os.path.exists(room.made())
+    holds('refused: ' + name, well, (status, out))
 
 
 def refusals(room):
-    """A gate that failed, a change that isn't in the commit, and a program that isn't built from these sources."""
+    """A gate that failed, a change outside the commit, a program that isn't there or is too old."""
     for text in ('6 passed, 1 failed\n', '', '7 passed, 0 failed\nmore\n'):
         write(text, room.at('gate'))
-        refused(room, 'a gate that printed %r' % text, "doesn't end as a gate that passed", 'GATE=' + room.at('gate'))
-    refused(room, 'a file that is not there', "can't read %s" % room.at('none'), 'GATE=' + room.at('none'))
+        refused(room, 'a gate that printed %r' % text, "doesn't end as a gate that passed",
+                'GATE=' + room.at('gate'))
+    refused(room, 'a file that is not there', "can't read %s" % room.at('none'),
+            'GATE=' + room.at('none'))
     write('new', room.repository, 'docs', 'NEW.md')
     refused(room, 'a file that is not in the commit', "docs/NEW.md isn't as in the commit")
     os.remove(os.path.join(room.repository, 'docs', 'NEW.md'))
@@ -213,7 +232,7 @@ def refusals(room):
     os.rename(room.at('program'), program)
     os.utime(program, (os.stat(os.path.join(room.repository, 'crates.txt')).st_mtime + 2,) * 2)
     got = room.make()
-    checked('after these, make dist', got[0] == 0, got)
+    holds('after these, make dist', got[0] == 0, got)
 
 
 # ---- installed without the kit
@@ -222,37 +241,43 @@ def same_files(room, to, unpacked):
     """Each file stands where it is looked for, and may be read by everybody."""
     for place, source in PLACES.items():
         path = os.path.join(to, place)
-        well = os.path.isfile(path) and bytes_of(path) == bytes_of(*([TOP, source] if source else [unpacked, place]))
-        checked('installed: ' + place, well and stat.S_IMODE(os.stat(path).st_mode) == (0o755 if 'bin/' in place else 0o644))
+        wanted = bytes_of(TOP, source) if source else bytes_of(unpacked, place)
+        mode = 0o755 if place.startswith('bin/') else 0o644
+        well = os.path.isfile(path) and bytes_of(path) == wanted
+        holds('installed: ' + place, well and stat.S_IMODE(os.stat(path).st_mode) == mode)
     documents = contents(os.path.join(to, 'share/doc/rbacaudit'))
     for name in ('PROVED.txt', 'README.md', 'docs/FORMATS.md', 'examples/shop.json'):
-        checked('installed: share/doc/rbacaudit/' + name, documents.get(name) == bytes_of(unpacked, name))
+        well = documents.get(name) == bytes_of(unpacked, name)
+        holds('installed: share/doc/rbacaudit/' + name, well)
 
 
 def installed(room):
     """install.sh with PREFIX, and then the first question; with DESTDIR."""
     unpacked, to = room.unpacked('unpacked'), room.at('prefix')
-    expect('install.sh with PREFIX', ['sh', ROOT + '/install.sh'], room.at('unpacked'), room.without_kit(PREFIX=to), 0,
+    expect('install.sh with PREFIX', ['sh', ROOT + '/install.sh'], room.at('unpacked'),
+           room.without_kit(PREFIX=to), 0,
            'rbacaudit is installed: %s/bin/rbacaudit\n' % to)
     same_files(room, to, unpacked)
     symbols = run(['readelf', '-SW', to + '/bin/rbacaudit'], room.path)[1]
-    checked('the program is stripped', '.dynsym' in symbols and '.symtab' not in symbols, symbols)
+    holds('the program is stripped', '.dynsym' in symbols and '.symtab' not in symbols, symbols)
     path = room.without_kit(to + '/bin')
     examples = to + '/share/doc/rbacaudit/examples'
     expect('the first question', ['rbacaudit', *QUESTION, 'shop.json'], examples, path, 0, ANSWER)
     export = room.export(examples)
-    expect('the plugin', ['kubectl-rbacaudit', *QUESTION, '--export', export], room.path, path, 0, ANSWER)
-    got = run(['sh', unpacked + '/install.sh'], room.path, room.without_kit(DESTDIR=room.at('destination'), PREFIX='/usr'))
-    checked('install.sh with DESTDIR', got[0] == 0 and os.access(room.at('destination/usr/bin/rbacaudit'), os.X_OK), got)
-    same = contents(to + '/bin') == contents(room.at('destination/usr/bin'))
-    checked('install.sh once more, over the same', same and run(['sh', unpacked + '/install.sh'], room.path,
-                                                                room.without_kit(PREFIX=to))[0] == 0)
+    words = ['kubectl-rbacaudit', *QUESTION, '--export', export]
+    expect('the plugin', words, room.path, path, 0, ANSWER)
+    again, destination = ['sh', unpacked + '/install.sh'], room.at('destination')
+    got = run(again, room.path, room.without_kit(DESTDIR=destination, PREFIX='/usr'))
+    well = contents(to + '/bin') == contents(destination + '/usr/bin')
+    holds('install.sh with DESTDIR', got[0] == 0 and well, got)
+    got = run(again, room.path, room.without_kit(PREFIX=to))
+    holds('install.sh once more, over the same', got[0] == 0, got)
 
 
 # ---- the Containerfile, as commands
 
 class Image:
-    """The steps of a Containerfile as commands: each stage is a folder, and what is at / in an image is in that folder."""
+    """The steps of a Containerfile as commands: each stage is a folder, which stands for its /."""
 
     def __init__(self, room):
         self.room, self.arguments, self.stages = room, {}, {}
@@ -287,13 +312,16 @@ class Image:
 
     def do_COPY(self, rest):
         *stage, source, to = rest.split(' ')
-        source = self.stages[stage[0].partition('=')[2]] + source if stage else self.room.made(source)
+        if stage:
+            source = self.stages[stage[0].partition('=')[2]] + source
+        else:
+            source = self.room.made(source)
         os.makedirs(os.path.dirname(self.path(to)), exist_ok=True)
         shutil.copy(source, self.path(to))
 
     def do_RUN(self, rest):
         got = run(['sh', '-c', rest], self.path(''), self.environment())
-        checked('Containerfile: RUN ' + rest, got[0] == 0, got)
+        holds('Containerfile: RUN ' + rest, got[0] == 0, got)
 
     def do_USER(self, rest):
         self.user = rest
@@ -303,15 +331,18 @@ class Image:
 
 
 def containerfile(room):
-    """An image with the program alone, which another user than root may run, and what it answers."""
+    """An image with the program alone, which other users than root may run, and what it answers."""
     image = Image(room)
-    checked('the image is based on Debian', image.base == 'debian:bookworm-slim', image.base)
-    checked('the image has the program alone', [*contents(image.root)] == ['usr/local/bin/rbacaudit'], [*contents(image.root)])
-    checked("the image's user isn't root", re.fullmatch('[1-9][0-9]*:[1-9][0-9]*', image.user), image.user)
+    holds('the image is based on Debian', image.base == 'debian:bookworm-slim', image.base)
+    names = [*contents(image.root)]
+    holds('the image has the program alone', names == ['usr/local/bin/rbacaudit'], names)
+    well = re.fullmatch('[1-9][0-9]*:[1-9][0-9]*', image.user)
+    holds("the image's user isn't root", well, image.user)
     mode = os.stat(image.root + '/usr/local/bin/rbacaudit').st_mode
-    checked('the image: anybody may run the program', mode & 0o555 == 0o555, stat.filemode(mode))
+    holds('the image: anybody may run the program', mode & 0o555 == 0o555, stat.filemode(mode))
     shutil.copy(os.path.join(TOP, 'examples', 'shop.json'), image.path(''))
-    expect('the image answers', [*image.entry, *QUESTION, 'shop.json'], image.path(''), image.environment(), 0, ANSWER)
+    expect('the image answers', [*image.entry, *QUESTION, 'shop.json'], image.path(''),
+           image.environment(), 0, ANSWER)
 
 
 # ---- krew
@@ -321,25 +352,30 @@ def field(text, name):
 
 
 def krew(room):
-    """What krew does with the manifest: checks the sum, moves the files to its store, and links to the plugin alone."""
+    """What krew does: check the sum, move files to its store, and link to the plugin alone."""
     text = bytes_of(room.made(), 'krew.yaml').decode()
-    checked('krew: nothing is left to fill in', '@' not in text, text)
-    checked('krew: the sum', field(text, 'sha256') == hashlib.sha256(bytes_of(room.made(ARCHIVE))).hexdigest())
-    checked('krew: the version', field(text, 'version') == 'v0.1.0')
-    checked('krew: the address', field(text, 'uri') == 'https://downloads.example.com/' + ARCHIVE)
+    holds('krew: nothing is left to fill in', '@' not in text, text)
+    holds('krew: the sum', field(text, 'sha256') == sum_of(room.made(ARCHIVE)))
+    holds('krew: the version', field(text, 'version') == 'v0.1.0')
+    holds('krew: the address', field(text, 'uri') == 'https://downloads.example.com/' + ARCHIVE)
     store, links = room.at('store'), room.at('links')
     for folder in (store, links):
         os.mkdir(folder)
-    for path in glob.glob(os.path.join(os.path.dirname(room.unpacked('for-krew')), field(text, 'from'))):
+    top = os.path.dirname(room.unpacked('for-krew'))
+    for path in glob.glob(os.path.join(top, field(text, 'from'))):
         shutil.move(path, store)
     os.symlink(os.path.join(store, field(text, 'bin')), os.path.join(links, 'kubectl-rbacaudit'))
-    checked('krew: the store', {'bin', 'lib', 'share'} <= set(os.listdir(store)), os.listdir(store))
+    names = sorted(os.listdir(store))
+    holds('krew: the store', {'bin', 'lib', 'share'} <= set(names), names)
     path = room.without_kit(links)
-    expect('krew: the versions', ['kubectl-rbacaudit', '--version'], room.path, path, 0, 'kubectl-rbacaudit 0.1.0\nrbacaudit 0.1.0\n')
-    expect('krew: the plugin', ['kubectl-rbacaudit', *QUESTION, '--export', room.at('export')], room.path, path, 0, ANSWER)
+    expect('krew: the versions', ['kubectl-rbacaudit', '--version'], room.path, path, 0,
+           'kubectl-rbacaudit 0.1.0\nrbacaudit 0.1.0\n')
+    words = ['kubectl-rbacaudit', *QUESTION, '--export', room.at('export')]
+    expect('krew: the plugin', words, room.path, path, 0, ANSWER)
     got = room.make('URL=https://files.example.com/a.tar.gz')
     text = bytes_of(room.made(), 'krew.yaml').decode()
-    checked('krew: with URL', got[0] == 0 and field(text, 'uri') == 'https://files.example.com/a.tar.gz', (got, text))
+    well = got[0] == 0 and field(text, 'uri') == 'https://files.example.com/a.tar.gz'
+    holds('krew: with URL', well, (got, text))
 
 
 # ---- the jobs of docs/RECIPES.md
@@ -348,6 +384,9 @@ def krew(room):
 CURL = """#!/bin/sh
 [ "$*" = "-fsSLo rbacaudit.tar.gz https://downloads.example.com/%s" ] && cp '%s' rbacaudit.tar.gz
 """
+UNIVERSE = '''{"apiVersion": "rbacaudit/v1", "kind": "Universe", "verbs": ["get", "list"],
+  "names": [""], "urls": [], "resources": [{"resource": "configmaps"}, {"resource": "secrets"}]}
+'''
 JOB_TOOLS = 'bash', 'cut', 'git', 'comm', 'wc'
 NEW = """### Newly allowed: 10. New findings: 2.
 
@@ -367,35 +406,43 @@ NEW = """### Newly allowed: 10. New findings: 2.
 SAME = '### Newly allowed: 0. New findings: 0.\n\n'
 
 
+def part_of(job, key, margin):
+    """The lines of a job below a key, without their margin."""
+    lines = re.search(r'^ *(?:- )?%s:(?: \|)?\n((?:%s.*\n)+)' % (key, margin), job, re.M)[1]
+    return re.sub('^' + margin, '', lines, flags=re.M)
+
+
 def jobs_text():
-    """The shell parts of the two jobs, as GitHub and GitLab run them, and the script that both call."""
+    """The shell parts of the jobs, as GitHub and GitLab run them, and the script that both call."""
     text = text_of('docs', 'RECIPES.md')
     github, gitlab = re.findall(r'^```yaml\n(.*?)^```', text, re.S | re.M)
     script = next(command for command, _ in steps(text) if command.startswith('cat > review.sh '))
-    after = re.search(r'^  after_script:\n((?:    - .*\n)+)', gitlab, re.M)[1]
-    return (textwrap.dedent(re.search(r'^      - run: \|\n((?:          .*\n)+)', github, re.M)[1]),
-            'set -eo pipefail\n' + dashed(re.search(r'^  script:\n((?:    - .*\n)+)', gitlab, re.M)[1]), dashed(after), script)
-
-
-def dashed(items):
-    return re.sub('^    - ', '', items, flags=re.M)
+    return (part_of(github, 'run', ' ' * 10),
+            'set -eo pipefail\n' + part_of(gitlab, 'script', '    - '),
+            part_of(gitlab, 'after_script', '    - '), script)
 
 
 def origin(room, script):
-    """A repository whose main branch has the example cluster; `more` allows more, `same` the same, and `bad` has a bad file."""
-    folder, cluster = room.at('origin'), os.path.join(TOP, 'examples', 'cluster')
+    """A repository with the example cluster: `more` allows more, `bad` has a bad file."""
+    folder = room.at('origin')
     os.makedirs(folder + '/rbac')
-    for path in glob.glob(cluster + '/*.json'):
+    for path in glob.glob(os.path.join(TOP, 'examples/cluster/*.json')):
         shutil.copy(path, folder + '/rbac')
     run(['bash', '-c', script], folder)
     git(folder, 'init', '-q', '-b', 'main')
-    for branch, name, text in (('main', 'README', 'roles'), ('same', 'README', 'the roles'), ('bad', 'rbac/roles.json', '{'),
-                               ('more', 'rbac/roles.json', bytes_of(cluster, 'change/roles.json').decode())):
-        git(folder, *(['checkout', '-q', '-b', branch, 'main'] if branch != 'main' else ['status']))
-        write(text, folder, name)
-        git(folder, 'add', '-A')
-        git(folder, 'commit', '-q', '-m', branch)
+    committed(folder, 'rbac/universe.json', UNIVERSE)
+    change = text_of('examples/cluster/change/roles.json')
+    for branch, name, text in (('same', 'README', 'roles'), ('bad', 'rbac/roles.json', '{'),
+                               ('more', 'rbac/roles.json', change)):
+        git(folder, 'checkout', '-q', '-b', branch, 'main')
+        committed(folder, name, text)
     return 'file://' + folder
+
+
+def committed(folder, name, text):
+    write(text, folder, name)
+    git(folder, 'add', '-A')
+    git(folder, 'commit', '-q', '-m', name)
 
 
 class Job:
@@ -404,11 +451,13 @@ class Job:
     def __init__(self, room, address, branch):
         self.folder = tempfile.mkdtemp(dir=room.path)
         git(self.folder, 'clone', '-q', '--depth', '1', '--branch', branch, address, 'work')
-        self.work, self.summary = os.path.join(self.folder, 'work'), os.path.join(self.folder, 'summary')
+        self.work = os.path.join(self.folder, 'work')
+        self.summary = os.path.join(self.folder, 'summary')
         self.environment = room.without_kit(
-            room.at('job-tools'), **GIT, ARCHIVE='https://downloads.example.com/' + ARCHIVE, GITHUB_BASE_REF='main',
+            room.at('job-tools'), **GIT, ARCHIVE='https://downloads.example.com/' + ARCHIVE,
+            GITHUB_BASE_REF='main',
             GITHUB_STEP_SUMMARY=self.summary, CI_MERGE_REQUEST_TARGET_BRANCH_NAME='main',
-            SHA256=hashlib.sha256(bytes_of(room.made(ARCHIVE))).hexdigest())
+            SHA256=sum_of(room.made(ARCHIVE)))
 
     def run(self, shell, **more):
         return run(['bash', '-ec', shell], self.work, {**self.environment, **more})
@@ -418,7 +467,7 @@ class Job:
 
 
 def jobs(room):
-    """Both jobs: a change that allows more, one that doesn't, one with a bad file, and an archive with another sum."""
+    """Both jobs: more is allowed, the same is, a file is bad, the archive has another sum."""
     github, gitlab, after, script = jobs_text()
     tools = room.linked('job-tools', *JOB_TOOLS)
     write(CURL % (ARCHIVE, room.made(ARCHIVE)), tools, 'curl')
@@ -427,21 +476,21 @@ def jobs(room):
     for branch, status, told in (('more', 1, NEW), ('same', 0, SAME)):
         job = Job(room, address, branch)
         got = job.run(github)
-        checked('GitHub: ' + branch, got[0] == status and job.told() == told, (got, job.told()))
+        holds('GitHub: ' + branch, got[0] == status and job.told() == told, (got, job.told()))
         job = Job(room, address, branch)
         got = job.run(gitlab)
-        checked('GitLab: ' + branch, got[0] == status and job.run(after) == (0, told), got)
+        holds('GitLab: ' + branch, got[0] == status and job.run(after) == (0, told), got)
     for name, shell in (('GitHub', github), ('GitLab', gitlab)):
         job = Job(room, address, 'bad')
         got = job.run(shell)
-        checked(name + ': bad', got[0] == 2 and 'M1 not JSON' in got[1] and not job.told(), got)
+        holds(name + ': bad', got[0] == 2 and 'M1 not JSON' in got[1] and not job.told(), got)
         job = Job(room, address, 'same')
         got = job.run(shell, SHA256='0' * 64)
-        checked(name + ': another sum', got[0] != 0 and 'Newly allowed' not in got[1] and not job.told()
+        holds(name + ': another sum', got[0] != 0 and 'Newly' not in got[1] and not job.told()
                 and not os.path.exists(job.work + '/main'), got)
         job.run(shell)
         shutil.rmtree(job.work + '/main')
-        checked(name + ': once more in the same folder', job.run(shell)[0] == 0)
+        holds(name + ': once more in the same folder', job.run(shell)[0] == 0)
 
 
 def all_of_it():
@@ -451,7 +500,9 @@ def all_of_it():
             return
     with tempfile.TemporaryDirectory() as path:
         room = Room(path)
-        for part in (packed, entries, proved, refusals, installed, containerfile, krew, jobs):
+        packed(room)
+        parts = entries, proved, refusals, installed, containerfile, krew, jobs
+        for part in parts if all(results) else ():
             part(room)
 
 

@@ -1,10 +1,11 @@
-"""Packs the proved program for machines without the kit, as `make dist` asks once it knows that the program is built.
+"""Packs the proved program for machines without the kit: `make dist`, which sees that it is built.
 
 usage: python3 tools/dist.py [GATE [URL]]
 
-Writes the archive to dist/, a Containerfile and a manifest for krew that are filled in for it, and SHA256SUMS. The same
-commit and the same build give the same bytes: names in order, owners and modes fixed, times those of the commit. GATE is a
-file with what the gate printed, and URL the address that the archive is going to have.
+Writes the archive to dist/, a Containerfile and a manifest for krew that are filled in for it, and
+SHA256SUMS. The same commit and the same build give the same bytes: names are in order, owners and
+modes fixed, and times those of the commit. GATE is a file with what the gate printed, and URL the
+address that the archive is going to have.
 """
 
 import gzip
@@ -34,9 +35,9 @@ kit     {kit}
 gate    {gate}
 needs   {libraries}; glibc {glibc} or later
 
-make dist wrote this. The date is the commit's, and the kit the one that was there then. bin/rbacaudit was built from the
-sources of the commit, and is stripped of its symbols. docs/PROMISES.md says what is proved, what is only tested, and what
-is trusted.
+make dist wrote this. The date is the commit's, and the kit the one that was there then.
+bin/rbacaudit was built from the sources of the commit, and is stripped of its symbols.
+docs/PROMISES.md says what is proved, what is only tested, and what is trusted.
 """
 
 
@@ -46,7 +47,8 @@ def refuse(why):
 
 def said(*words):
     """What a command prints, without the newline at its end."""
-    return subprocess.run(words, cwd=TOP, check=True, stdout=subprocess.PIPE, text=True).stdout.rstrip('\n')
+    ended = subprocess.run(words, cwd=TOP, check=True, stdout=subprocess.PIPE, text=True)
+    return ended.stdout.rstrip('\n')
 
 
 def bytes_of(path):
@@ -60,7 +62,7 @@ def packable(path):
 
 
 def commit():
-    """The commit, its date, and its date in seconds. What is packed has to be what the commit has."""
+    """The commit, its date, and that in seconds. What is packed has to be what the commit has."""
     changed = said('git', 'status', '--porcelain').splitlines()
     if changed:
         refuse("%s isn't as in the commit: commit it, or take it away" % changed[0][3:])
@@ -83,8 +85,8 @@ def gate_line(path):
 def installed(stage):
     """What `make install` installs, stripped: each file's mode and bytes by its name."""
     # (the program is built, and what was said to make dist isn't for this make)
-    environment = {name: value for name, value in os.environ.items() if name not in ('MAKEFLAGS', 'MAKEOVERRIDES')}
-    subprocess.run(['make', '-s', '-o', 'build', 'install', 'DESTDIR=' + stage, 'PREFIX='], cwd=TOP, env=environment, check=True)
+    words = ['make', '-s', '-o', 'build', 'install', 'DESTDIR=' + stage, 'PREFIX=']
+    subprocess.run(words, cwd=TOP, env=dict(os.environ, MAKEFLAGS=''), check=True)
     subprocess.run(['strip', os.path.join(stage, 'bin', 'rbacaudit')], check=True)
     names = (os.path.join(folder, name) for folder, _, names in os.walk(stage) for name in names)
     return {os.path.relpath(path, stage): packable(path) for path in names}
@@ -92,7 +94,8 @@ def installed(stage):
 
 def documents():
     """The documents and examples of the commit: each file's mode and bytes by its name."""
-    return {name: packable(os.path.join(TOP, name)) for name in said('git', 'ls-files', *DOCUMENTS).splitlines()}
+    names = said('git', 'ls-files', *DOCUMENTS).splitlines()
+    return {name: packable(os.path.join(TOP, name)) for name in names}
 
 
 def needs_of(program):
@@ -133,8 +136,8 @@ def contents(gate):
         files = {**installed(stage), **documents()}
         version = said(program, '--version').split()[-1]
         libraries, glibc = needs_of(program)
-        proved = PROVED.format(version=version, commit=name, date=date, kit=said('rt', 'version'), gate=gate,
-                               libraries=libraries, glibc=glibc)
+        proved = PROVED.format(version=version, commit=name, date=date, kit=said('rt', 'version'),
+                               gate=gate, libraries=libraries, glibc=glibc)
     files['install.sh'] = packable(os.path.join(PACKAGING, 'install.sh'))
     files['PROVED.txt'] = 0o644, proved.encode()
     return version, int(seconds), files
@@ -147,8 +150,10 @@ def pack(gate, url):
     packed = archive(root, files, seconds)
     values = {'VERSION': version, 'ROOT': root, 'ARCHIVE': name, 'SHA256': sum_of(packed),
               'URI': url or 'https://downloads.example.com/' + name}
-    made = {'Containerfile': filled('Containerfile', values), 'krew.yaml': filled('krew.yaml', values), name: packed}
-    made['SHA256SUMS'] = ''.join('%s  %s\n' % (sum_of(data), name) for name, data in made.items()).encode()
+    made = {template: filled(template, values) for template in ('Containerfile', 'krew.yaml')}
+    made[name] = packed
+    sums = ('%s  %s\n' % (sum_of(data), name) for name, data in made.items())
+    made['SHA256SUMS'] = ''.join(sums).encode()
     os.makedirs(DIST, exist_ok=True)
     for name, data in made.items():
         with open(os.path.join(DIST, name), 'wb') as file:
