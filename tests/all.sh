@@ -1,7 +1,7 @@
 #!/usr/bin/env bash
 # The whole gate: each edit still fits, every proof, must-fail edit and test by `rt ci`, then what only a process can show, the
-# kubectl plugin, completions and man page, the page in a browser, what make dist packs, random
-# matrices, bad documents, refused memory, reads and writes, and each public call by itself. The last line counts all of it, as `N passed, M failed`.
+# kubectl plugin, completions and man page, the page in a browser, what make dist packs, random matrices, bad documents, refused
+# memory, reads and writes, and each public call by itself. The last line counts all of it, as `N passed, M failed`.
 set -u
 cd "$(dirname "$0")/.."
 log=$(mktemp)

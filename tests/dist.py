@@ -34,14 +34,15 @@ WHO = {'GIT_%s_%s' % (who, what): value for who in ('AUTHOR', 'COMMITTER')
 GIT = {'GIT_CONFIG_GLOBAL': '/dev/null', 'GIT_CONFIG_SYSTEM': '/dev/null', **WHO}
 # What every system has, and with it tar and gzip. The plugin's tools are those that its help names.
 BASE = 'cat cp dirname find gzip install mkdir mv readlink rm sh sha256sum sort tar tr'.split()
-PLUGIN_TOOLS = 'awk', 'mktemp', 'sed'
+PLUGIN_TOOLS = 'awk', 'date', 'mktemp', 'sed'
 QUESTION = 'can-i --as system:serviceaccount:shop:ci -n shop --why update deployments.apps'.split()
 ANSWER = 'yes\nRoleBinding/shop/ci-deploys\tRole/shop/deployer\tRole/shop/deployer\t1\t1\n'
-PLACES = {'bin/rbacaudit': None, 'bin/kubectl-rbacaudit': 'plugin/kubectl-rbacaudit', 'bin/rbacaudit-page': 'plugin/rbacaudit-page',
+PLACES = {'bin/rbacaudit': None, 'bin/kubectl-rbacaudit': 'plugin/kubectl-rbacaudit', 
+          'bin/rbacaudit-page': 'plugin/rbacaudit-page', 'bin/kubectl_complete-rbacaudit': 'plugin/kubectl_complete-rbacaudit',
           **{'share/bash-completion/completions/' + name: 'completions/%s.bash' % name for name in ('rbacaudit', 'rbacaudit-page')},
           **{'share/zsh/site-functions/_' + name: 'completions/_' + name for name in ('rbacaudit', 'rbacaudit-page')},
           **{'share/fish/vendor_completions.d/%s.fish' % name: 'completions/%s.fish' % name for name in ('rbacaudit', 'rbacaudit-page')},
-          **{'share/man/man1/%s.1' % name: 'man/%s.1' % name for name in ('rbacaudit', 'rbacaudit-page')},
+          **{'share/man/man1/%s.1' % name: 'man/%s.1' % name for name in ('rbacaudit', 'rbacaudit-page', 'kubectl-rbacaudit')},
           **{'lib/kubectl-rbacaudit/' + name: 'plugin/kubectl-rbacaudit.d/' + name
              for name in os.listdir(os.path.join(TOP, 'plugin', 'kubectl-rbacaudit.d'))},
           **{'share/rbacaudit/page/' + name: 'page/' + name for name in os.listdir(os.path.join(TOP, 'page'))}}
@@ -274,13 +275,23 @@ def installed(room):
     holds('install.sh once more, over the same', got[0] == 0, got)
 
 
+def as_told(room):
+    """The commands of README.md, in a folder with what make dist wrote."""
+    part = re.search(r'^## Install a built archive\n(.*?)^## ', text_of('README.md'), re.S | re.M)[1]
+    commands = ''.join(re.findall(r'^    (.*\n)', part, re.M))
+    folder = shutil.copytree(room.made(), room.at('handed-on'))
+    got = run(['sh', '-ec', commands], folder, room.without_kit())
+    well = contents(room.at('.local/bin')) == contents(room.at('prefix/bin'))
+    holds('README.md installs the same', got[0] == 0 and well, got)
+
+
 # ---- the Containerfile, as commands
 
 class Image:
     """The steps of a Containerfile as commands: each stage is a folder, which stands for its /."""
 
     def __init__(self, room):
-        self.room, self.arguments, self.stages = room, {}, {}
+        self.room, self.arguments, self.stages, self.user = room, {}, {}, ''
         for line in bytes_of(room.made('Containerfile')).decode().splitlines():
             word, _, rest = line.partition(' ')
             if line and word != '#':
@@ -501,7 +512,7 @@ def all_of_it():
     with tempfile.TemporaryDirectory() as path:
         room = Room(path)
         packed(room)
-        parts = entries, proved, refusals, installed, containerfile, krew, jobs
+        parts = entries, proved, refusals, installed, as_told, containerfile, krew, jobs
         for part in parts if all(results) else ():
             part(room)
 
