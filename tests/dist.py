@@ -94,8 +94,8 @@ class Room:
     def __init__(self, path):
         self.path, self.repository = path, os.path.join(path, 'repository')
         shutil.copytree(TOP, self.repository, ignore=shutil.ignore_patterns(*NOT_COPIED))
-        for words in (['init', '-q'], ['add', '-A'], ['commit', '-q', '-m', 'All']):
-            git(self.repository, *words)
+        git(self.repository, 'init', '-q')
+        commit(self.repository, {})
         self.put_program(self.repository)
         self.tools = self.linked('tools', *BASE, *PLUGIN_TOOLS)
 
@@ -277,7 +277,7 @@ def installed(room):
 
 def as_told(room):
     """The commands of README.md, in a folder with what make dist wrote."""
-    part = re.search(r'^## Install a built archive\n(.*?)^## ', text_of('README.md'), re.S | re.M)[1]
+    part = text_of('README.md').partition('\n## Install a built archive\n')[2].partition('\n## ')[0]
     commands = ''.join(re.findall(r'^    (.*\n)', part, re.M))
     folder = shutil.copytree(room.made(), room.at('handed-on'))
     got = run(['sh', '-ec', commands], folder, room.without_kit())
@@ -434,26 +434,27 @@ def jobs_text():
 
 
 def origin(room, script):
-    """A repository with the example cluster: `more` allows more, `bad` has a bad file."""
+    """A repository with the example cluster. In `more`, more is allowed, and the check is off."""
     folder = room.at('origin')
     os.makedirs(folder + '/rbac')
     for path in glob.glob(os.path.join(TOP, 'examples/cluster/*.json')):
         shutil.copy(path, folder + '/rbac')
     run(['bash', '-c', script], folder)
     git(folder, 'init', '-q', '-b', 'main')
-    committed(folder, 'rbac/universe.json', UNIVERSE)
-    change = text_of('examples/cluster/change/roles.json')
-    for branch, name, text in (('same', 'README', 'roles'), ('bad', 'rbac/roles.json', '{'),
-                               ('more', 'rbac/roles.json', change)):
+    commit(folder, {'rbac/universe.json': UNIVERSE})
+    more = text_of('examples/cluster/change/roles.json')
+    for branch, files in (('same', {'README': 'roles'}), ('bad', {'rbac/roles.json': '{'}),
+                          ('more', {'rbac/roles.json': more, 'review.sh': 'exit 0'})):
         git(folder, 'checkout', '-q', '-b', branch, 'main')
-        committed(folder, name, text)
+        commit(folder, files)
     return 'file://' + folder
 
 
-def committed(folder, name, text):
-    write(text, folder, name)
+def commit(folder, files):
+    for name, text in files.items():
+        write(text, folder, name)
     git(folder, 'add', '-A')
-    git(folder, 'commit', '-q', '-m', name)
+    git(folder, 'commit', '-q', '-m', 'Roles')
 
 
 class Job:
