@@ -54,20 +54,26 @@ def shown(name, command, wanted, folder):
 
 
 def spaced_bindings():
-    """The recipe "What a binding adds" counts bindings whose names hold a space: of these three, `b c` alone grants `list`."""
+    """The recipe "What a binding adds" counts bindings whose names hold a space: of these three, `b c`
+    alone grants `list`."""
     def bound(name, role):
-        return {'apiVersion': V1, 'kind': 'ClusterRoleBinding', 'metadata': {'name': name}, 'roleRef': {'kind': 'ClusterRole', 'name': role},
+        return {'apiVersion': V1, 'kind': 'ClusterRoleBinding', 'metadata': {'name': name},
+                'roleRef': {'kind': 'ClusterRole', 'name': role},
                 'subjects': [{'kind': 'User', 'name': 'kim'}]}
 
     def role(verb):
-        return {'apiVersion': V1, 'kind': 'ClusterRole', 'metadata': {'name': verb}, 'rules': [{**PODS, 'verbs': [verb]}]}
+        return {'apiVersion': V1, 'kind': 'ClusterRole', 'metadata': {'name': verb},
+                'rules': [{**PODS, 'verbs': [verb]}]}
 
-    part = text_of('docs', 'RECIPES.md').partition('### What a binding adds\n')[2].partition('\n## ')[0]
+    part = text_of('docs', 'RECIPES.md').partition('### What a binding adds\n')[2]
     with tempfile.TemporaryDirectory() as folder:
         with open(os.path.join(folder, 'all.json'), 'wb') as file:
-            file.write(export(role('get'), role('list'), bound('b', 'get'), bound('b d', 'get'), bound('b c', 'list'),
-                              {'apiVersion': 'rbacaudit/v1', 'kind': 'Universe', 'namespaces': ['']}))
-        shown('bindings with spaces', next(steps(part))[0] + '; cat one-binding.rows', 'u:kim\t-\tlist\t-\tpods\t-\tClusterRoleBinding/b c\n', folder)
+            file.write(export(role('get'), role('list'), bound('b', 'get'), bound('b d', 'get'),
+                              bound('b c', 'list'),
+                              {'apiVersion': 'rbacaudit/v1', 'kind': 'Universe',
+                               'namespaces': ['']}))
+        shown('bindings with spaces', next(steps(part))[0] + '; cat one-binding.rows',
+              'u:kim\t-\tlist\t-\tpods\t-\tClusterRoleBinding/b c\n', folder)
 
 
 def loop_of_pages():

@@ -15,7 +15,8 @@ parts_of() {
     esac
 }
 
-# Makes a fresh export, or looks at the one in $export_dir. If a part is missing, only --partial goes on.
+# Makes a fresh export, or looks at the one in $export_dir. If a part is missing, only --partial
+# goes on.
 open_export() {
     lacks=no
     if [ -z "$export_dir" ]; then
@@ -35,8 +36,8 @@ open_export() {
     report 'a part of the export is missing: this answer knows only what is there'
 }
 
-# Calls the function for each needed part that the export in $export_dir doesn't have, and for what its incomplete.txt says of
-# needed parts.
+# Calls the function for each needed part that the export in $export_dir doesn't have, and for what
+# its incomplete.txt says of needed parts.
 look_for_gaps() {
     for part in $needed; do
         case $part in
@@ -52,7 +53,8 @@ look_for_gaps() {
             export:*) "$1" "$line" ;;
             api-*)
                 # A file that was fetched by hand since then is no gap.
-                [ "${needed%api}" = "$needed" ] || [ -f "$export_dir/${line%%: *}" ] || is_idle "$line" || "$1" "$line"
+                [ "${needed%api}" = "$needed" ] || [ -f "$export_dir/${line%%: *}" ] ||
+                    is_idle "$line" || "$1" "$line"
                 ;;
         esac
     done 4<"$export_dir/incomplete.txt" || refuse "can't read $export_dir/incomplete.txt"
@@ -70,13 +72,16 @@ lack() {
 # An export of one namespace can't answer about another, and is a part for all others.
 look_for_other() {
     case $command in
-        can-i | who-can) [ -z "$asked_in" ] || [ "$asked_in" = "$only" ] || "$1" "the export has the namespace $only alone" ;;
+        can-i | who-can)
+            [ -z "$asked_in" ] || [ "$asked_in" = "$only" ] ||
+                "$1" "the export has the namespace $only alone"
+            ;;
         *) report "the export has the namespace $only alone, and this answer knows no other" ;;
     esac
 }
 
-# Whether a missing API resource list can't change the answer to a question: its target is a URL or of another API group, or
-# the core group has the type, which then stands for no other.
+# Whether a missing API resource list can't change the answer to a question: its target is a URL or
+# of another API group, or the core group has the type, which then stands for no other.
 is_idle() {
     case $command in
         can-i | who-can) ;;
@@ -110,7 +115,8 @@ has_lists() {
     return 1
 }
 
-# Calls a function with the words that follow and, after them, the files of $export_dir for the parts in `reads`.
+# Calls a function with the words that follow and, after them, the files of $export_dir for the
+# parts in `reads`.
 with_files() {
     for part in $reads; do
         case $part in
@@ -125,7 +131,8 @@ with_files() {
     "$@"
 }
 
-# Runs rbacaudit and gives its status. After a fault that gives a file by its number, reports the file's name, and the object.
+# Runs rbacaudit and gives its status. After a fault that gives a file by its number, reports the
+# file's name, and the object.
 ask() {
     run rbacaudit "$@" 2>"$scratch/said"
     answered=$?
@@ -147,9 +154,12 @@ name_file() {
     [ -z "$item" ] || between="; item $item of it is "
     culprit=${culprit:+$between$culprit}
     case $found in
-        "$scratch"/*) report "file $number is ${found##*/} of the fresh export$culprit; kubectl rbacaudit export DIR would keep it" ;;
-        *) report "file $number is $found$culprit" ;;
+        "$scratch"/*)
+            found="${found##*/} of the fresh export"
+            culprit="$culprit; kubectl rbacaudit export DIR would keep it"
+            ;;
     esac
+    report "file $number is $found$culprit"
 }
 
 # Leaves in `most` how many places of a command stand before its FILEs.
@@ -172,8 +182,8 @@ for_each_file() {
     done
 }
 
-# Lets rbacaudit read the words, without FILEs, over an export that grants nothing. A line that it refuses ends here, before
-# any call to a cluster.
+# Lets rbacaudit read the words, without FILEs, over an export that grants nothing. A line that it
+# refuses ends here, before any call to a cluster.
 accept_words() {
     set_most "$1"
     left=$#
@@ -255,14 +265,16 @@ look_at_about() {
     only=
     context_namespace=
     [ -n "$export_dir" ] || return 0
-    [ -d "$export_dir" ] || refuse "there is no folder $export_dir: kubectl rbacaudit export makes one"
+    [ -d "$export_dir" ] ||
+        refuse "there is no folder $export_dir: kubectl rbacaudit export makes one"
     [ -f "$export_dir/about.txt" ] || return 0
     only=$(sed -n 's/^only: //p' "$export_dir/about.txt")
     context_namespace=$(sed -n 's/^namespace: //p' "$export_dir/about.txt")
 }
 
-# Leaves in `asked_in` the namespace that a question is about, as far as the words say it: nothing for a URL or the whole
-# cluster. Without -n it is the context's, as for kubectl, and `implied` is it.
+# Leaves in `asked_in` the namespace that a question is about, as far as the words say it: nothing
+# for a URL or the whole cluster. Without -n it is the context's, as for kubectl, and `implied` is
+# it.
 choose_namespace() {
     asked_in=
     implied=
@@ -290,7 +302,7 @@ answer() {
 question_help() {
     rbacaudit "$command" --help || exit
     printf '\n%s\n%s\n' "With kubectl rbacaudit $command, the files of the export follow by themselves." \
-        'kubectl rbacaudit --help lists its options: --export, --partial, --context, --kubeconfig, --request-timeout.'
+        'kubectl rbacaudit --help lists its options, such as --export DIR and --partial.'
     exit 0
 }
 
@@ -300,7 +312,7 @@ check_options() {
     if [ -z "$export_dir" ]; then
         need_kubectl
     elif [ -n "$context$kubeconfig$timeout" ]; then
-        refuse 'an export answers without a cluster: give either --export, or --context, --kubeconfig and --request-timeout'
+        refuse 'an export answers without a cluster: with --export, give no option of kubectl'
     fi
     set_dir "${TMPDIR:-/tmp}"
     make_scratch "$dir/kubectl-rbacaudit.XXXXXX"

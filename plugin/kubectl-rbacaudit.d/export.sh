@@ -25,7 +25,8 @@ take_export_word() {
     case $1 in
         --force) force=yes ;;
         -h | --help) help=yes ;;
-        --context | --context=* | --kubeconfig | --kubeconfig=* | --request-timeout | --request-timeout=*) take_own "$1" ;;
+        --context | --context=* | --kubeconfig | --kubeconfig=*) take_own "$1" ;;
+        --request-timeout | --request-timeout=*) take_own "$1" ;;
         -n | --namespace | --as | --as-group) option=$1 ;;
         --namespace=* | --as=* | --as-group=*) set_option "${1%%=*}" "${1#*=}" ;;
         -n=*) set_option -n "${1#-n=}" ;;
@@ -33,7 +34,8 @@ take_export_word() {
         -?*) refuse "export has no $1; kubectl rbacaudit export --help lists its options" ;;
         '') refuse 'the name of the folder is empty' ;;
         *)
-            [ -z "$dir" ] || refuse 'export writes one folder; put its name in quotes if it has spaces'
+            [ -z "$dir" ] ||
+                refuse 'export writes one folder; put its name in quotes if it has spaces'
             set_dir "$1"
             ;;
     esac
@@ -55,17 +57,21 @@ write_export() {
         report "a part of the export is missing; $dir/incomplete.txt repeats it"
         exit 1
     fi
-    printf 'The export in %s is whole%s: %s files.\n' "$dir" "${only_in:+ for the namespace $only_in}" "$fetched"
+    printf 'The export in %s is whole%s: %s files.\n' \
+        "$dir" "${only_in:+ for the namespace $only_in}" "$fetched"
 }
 
-# What was read, for whoever finds the export later. A question without -n asks in the namespace; only says that no other was read.
+# What was read, for whoever finds the export later. A question without -n asks in the namespace;
+# only says that no other was read.
 write_about() {
     look_at_context
     version=
-    [ ! -f "$stage/version" ] || version=$(sed -n 's/.*"gitVersion": *"\([^"]*\)".*/\1/p' "$stage/version")
+    [ ! -f "$stage/version" ] ||
+        version=$(sed -n 's/.*"gitVersion": *"\([^"]*\)".*/\1/p' "$stage/version")
     namespace=${only_in:-${context_namespace:-default}}
     {
-        printf '%s\n' "context: $context_name" "server: $server" "version: $version" "namespace: $namespace"
+        printf '%s\n' "context: $context_name" "server: $server" \
+            "version: $version" "namespace: $namespace"
         [ -z "$only_in" ] || printf 'only: %s\n' "$only_in"
         date -u '+time: %Y-%m-%dT%H:%M:%SZ'
     } | printable >"$stage/about.txt" || refuse "can't write about.txt"
@@ -97,8 +103,9 @@ for_each_old() {
     done
 }
 
-# Puts the files of $stage in the place of the old ones. From the first change to the last, incomplete.txt says that this
-# goes on: so whatever interrupts it, no question takes the files for a whole export.
+# Puts the files of $stage in the place of the old ones. From the first change to the last,
+# incomplete.txt says that this goes on: so whatever interrupts it, no question takes the files for
+# a whole export.
 publish() {
     refuse_old
     marker=$dir/incomplete.txt

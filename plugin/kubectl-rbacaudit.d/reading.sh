@@ -1,7 +1,7 @@
 # shellcheck shell=sh
 # Reading the cluster with kubectl.
 
-SIDE_BY_SIDE=8  # how many calls go on at once: each takes about 50 MB, and most of its time is waiting
+SIDE_BY_SIDE=8  # how many calls go on at once, which wait for most of their time
 NEWLINE='
 '
 
@@ -17,8 +17,9 @@ with_kubectl() {
     "$@"
 }
 
-# Reads into the file of this name in $stage. It is needed, or only wanted if it is among `wanted`. The first call is made
-# alone, with this script's standard input and error, so that whoever has to sign in can do it; the others go on side by side.
+# Reads into the file of this name in $stage. It is needed, or only wanted if it is among `wanted`.
+# The first call is made alone, with this script's standard input and error, so that whoever has to
+# sign in can do it; the others go on side by side.
 fetch() {
     name=$1
     shift
@@ -49,7 +50,8 @@ collect() {
     settle
 }
 
-# Takes what the next call printed to its file, whole or not at all. Reports and notes what is needed and can't be had.
+# Takes what the next call printed to its file, whole or not at all. Reports and notes what is
+# needed and can't be had.
 settle() {
     settled=$((settled + 1))
     got=$scratch/got.$settled
@@ -84,7 +86,8 @@ note_missing() {
     report "$name can't be had: $asked $why"
     reason=$(sed '/^Warning: /d; /^[EFIW][0-9]\{4\} /d' "$said" | printable | tr '\n' ' ')
     reason=${reason% }
-    printf '%s: %s %s%s\n' "$name" "$asked" "$why" "${reason:+: $reason}" >>"$stage/incomplete.txt" ||
+    reason=${reason:+: $reason}
+    printf '%s\n' "$name: $asked $why$reason" >>"$stage/incomplete.txt" ||
         refuse "can't write incomplete.txt"
 }
 
@@ -100,8 +103,8 @@ erase_progress() {
     drawn=no
 }
 
-# Fetches the API resource list of each version. The versions are those of /apis: kubectl api-versions leaves out a group
-# that doesn't answer just now, and so would pass over it.
+# Fetches the API resource list of each version. The versions are those of /apis: kubectl
+# api-versions leaves out a group that doesn't answer just now, and so would pass over it.
 fetch_lists() {
     fetch api-v1.json --raw /api/v1
     used=
@@ -115,8 +118,9 @@ fetch_lists() {
     done 4<"$scratch/versions"
 }
 
-# Writes the API versions to $scratch/versions. Texts stand between quotes, and a quote inside of a text has a backslash
-# before it: so a version is what stands after groupVersion, a quote, a colon and a quote.
+# Writes the API versions to $scratch/versions. Texts stand between quotes, and a quote inside of a
+# text has a backslash before it: so a version is what stands after groupVersion, a quote, a colon
+# and a quote.
 list_versions() {
     with_kubectl run kubectl get --raw /apis >"$scratch/apis" ||
         refuse "the API groups can't be had: kubectl get --raw /apis ended with status $?; so nothing is read"
@@ -130,7 +134,8 @@ list_versions() {
     done <"$scratch/versions"
 }
 
-# Fetches parts of an export into the folder $stage: those in `needed` and `wanted`, where api stands for all API resource lists.
+# Fetches parts of an export into the folder $stage: those in `needed` and `wanted`, where api
+# stands for all API resource lists.
 fetch_parts() {
     # shellcheck disable=SC2086  # the names of parts have no spaces
     set -- $needed $wanted
@@ -171,13 +176,20 @@ fetch_part() {
     esac
 }
 
-# Leaves in `context_name`, `server` and `context_namespace` what the kubeconfig says, or nothing where kubectl has none.
+# Leaves in `context_name`, `server` and `context_namespace` what the kubeconfig says, or nothing
+# where kubectl has none.
 look_at_context() {
-    with_kubectl kubectl config view --minify -o \
-        'jsonpath={.current-context}{"\n"}{.clusters[0].cluster.server}{"\n"}{.contexts[0].context.namespace}{"\n"}' \
+    parts_said='{.current-context}{"\n"}{.clusters[0].cluster.server}{"\n"}'
+    parts_said=$parts_said'{.contexts[0].context.namespace}{"\n"}'
+    with_kubectl kubectl config view --minify -o "jsonpath=$parts_said" \
         </dev/null >"$scratch/context" 2>/dev/null
-    { IFS= read -r context_name; IFS= read -r server; IFS= read -r context_namespace; } <"$scratch/context"
+    {
+        IFS= read -r context_name
+        IFS= read -r server
+        IFS= read -r context_namespace
+    } <"$scratch/context"
+    # A name and a password in the URL are nobody else's business.
     case $server in
-        *://*@*) server=${server%%://*}://${server#*@} ;;  # a name and a password are nobody else's business
+        *://*@*) server=${server%%://*}://${server#*@} ;;
     esac
 }

@@ -1,10 +1,12 @@
 # shellcheck shell=sh
-# What is said beside an answer: what stands in a file, where that is read for a remark and for no answer.
+# What is said beside an answer: what stands in a file, where that is read for a remark and for no
+# answer.
 
-# Awk functions that read a JSON text from string to string: a text stands between quotes, and a quote inside of it has a
-# backslash before it. A program that has these defines three functions: on_field(), at the name of a member; on_text(text),
-# at a text that is a value; on_end(), at the end of an object. They find in `depth` how many objects and lists are open, and
-# for each depth in `is_list` whether it is a list, in `place` which item of it is read, and in `field` the last name.
+# Awk functions that read a JSON text from string to string: a text stands between quotes, and a
+# quote inside of it has a backslash before it. A program that has these defines three functions:
+# on_field(), at the name of a member; on_text(text), at a text that is a value; on_end(), at the
+# end of an object. They find in `depth` how many objects and lists are open, and for each depth in
+# `is_list` whether it is a list, in `place` which item of it is read, and in `field` the last name.
 # base() is the depth of the document that is read: that of an item of a list, or 1.
 JSON_WALK='
 BEGIN { RS = "\"" }
@@ -22,7 +24,11 @@ function pass(between,    mark) {
     while (match(between, /[][{},:]/)) {
         mark = substr(between, RSTART, 1)
         between = substr(between, RSTART + 1)
-        if (mark == "{" || mark == "[") { is_list[++depth] = mark == "["; place[depth] = 1; field[depth] = "" }
+        if (mark == "{" || mark == "[") {
+            is_list[++depth] = mark == "["
+            place[depth] = 1
+            field[depth] = ""
+        }
         if (mark == "}") on_end()
         if (mark == "}" || mark == "]") depth--
         if (mark == ",") place[depth]++
@@ -32,7 +38,8 @@ function pass(between,    mark) {
 function base() { return depth > 2 && field[1] == "items" && is_list[2] ? 3 : 1 }
 '
 
-# Prints kind, namespace and name of an item of standard input, or of the document itself for item 0.
+# Prints kind, namespace and name of an item of standard input, or of the document itself for item
+# 0.
 OBJECT_AT=$JSON_WALK'
 function on_field() {}
 function on_end() {}
@@ -40,16 +47,18 @@ function on_text(text) {
     if (depth == 1 && field[1] == "kind") listed = text
     if (base() != (item ? 3 : 1) || item && place[2] != item) return
     if (depth == base() && field[depth] == "kind") kind = text
-    if (depth == base() + 1 && field[base()] == "metadata" && field[depth] == "name") name = text
-    if (depth == base() + 1 && field[base()] == "metadata" && field[depth] == "namespace") namespace = text
+    if (depth != base() + 1 || field[base()] != "metadata") return
+    if (field[depth] == "name") name = text
+    if (field[depth] == "namespace") namespace = text "/"
 }
 END {
     sub(/List$/, "", listed)
-    if (name != "") print (kind == "" ? listed : kind) " " (namespace == "" ? "" : namespace "/") name
+    if (namespace == "/") namespace = ""
+    if (name != "") print (kind == "" ? listed : kind) " " namespace name
 }'
 
-# Prints a line for each document of standard input that is meant to be a Universe document and is none, and for each field that
-# such a document doesn't have.
+# Prints a line for each document of standard input that is meant to be a Universe document and is
+# none, and for each field that such a document doesn't have.
 UNIVERSE_FAULTS=$JSON_WALK'
 BEGIN { known = " apiVersion kind metadata principals namespaces verbs names resources urls "
     of["principals"] = " user groups group "; of["resources"] = " group resource namespaced " }
@@ -58,7 +67,8 @@ function on_field(    top) {
     if (depth == 1 && field[1] == "items") { count = 0; kind = version = ""; return }
     if (depth == top && !index(known, " " field[depth] " "))
         said[++count] = "a Universe document has no field " field[depth] ", so it is ignored"
-    if (depth == top + 2 && is_list[top + 1] && (field[top] in of) && !index(of[field[top]], " " field[depth] " "))
+    if (depth == top + 2 && is_list[top + 1] && (field[top] in of) &&
+        !index(of[field[top]], " " field[depth] " "))
         said[++count] = "an item of " field[top] " has no field " field[depth] ", so it is ignored"
 }
 function on_text(text) {
@@ -67,15 +77,18 @@ function on_text(text) {
 }
 function on_end(    at) {
     if (depth != base()) return
-    if (kind == "Universe" && version == "rbacaudit/v1") for (at = 1; at <= count; at++) tell(said[at])
+    if (kind == "Universe" && version == "rbacaudit/v1")
+        for (at = 1; at <= count; at++) tell(said[at])
     else if (kind == "Universe" || version ~ /^rbacaudit/)
-        tell("a document of the version " version " and the kind " kind " is ignored: a Universe document has rbacaudit/v1 and Universe")
+        tell("a document of the version " version " and the kind " kind " is ignored: " \
+            "a Universe document has rbacaudit/v1 and Universe")
     count = 0; kind = version = ""
 }
 function tell(line) { if (!told[line]++) print line }
 '
 
-# Reports what of a file is meant for a universe, and is ignored. A pipe is left alone, since rbacaudit has to read it.
+# Reports what of a file is meant for a universe, and is ignored. A pipe is left alone, since
+# rbacaudit has to read it.
 look_for_universe() {
     [ -f "$1" ] && [ -r "$1" ] || return 0
     LC_ALL=C awk '/rbacaudit|"Universe"/ { found = 1; exit } END { exit !found }' <"$1" || return 0
@@ -85,8 +98,8 @@ look_for_universe() {
     done <"$scratch/remarks"
 }
 
-# Leaves in `culprit` the object that a fault of rbacaudit is about, an item of this file or the document itself (0): nothing if
-# the file can't be read again or the object has no name.
+# Leaves in `culprit` the object that a fault of rbacaudit is about, an item of this file or the
+# document itself (0): nothing if the file can't be read again or the object has no name.
 find_culprit() {
     culprit=
     if [ -f "$1" ] && [ -r "$1" ]; then
@@ -98,7 +111,8 @@ find_culprit() {
 remark_on_question() {
     [ -z "$type" ] || check_type
     if [ -n "$asked_in" ]; then
-        [ -z "$implied" ] || report "the question is about the namespace $implied; -n NS asks about another, and -A about the whole cluster"
+        [ -z "$implied" ] || report "the question is about the namespace $implied; \
+-n NS asks about another, and -A about the whole cluster"
         is_there namespaces.json 2 "$asked_in" '"principals": [{"user": "probe"}]' ||
             report "the export has no namespace $asked_in: check the spelling"
     fi
@@ -112,24 +126,30 @@ check_account() {
     home=${account%%:*}
     [ -z "$only" ] || [ "$only" = "$home" ] || return 0
     is_there accounts.json 1 "u:$asker" '"namespaces": [""]' ||
-        report "the export has no service account ${account#*:} in the namespace $home: check the spelling"
+        report "the export has no service account ${account#*:} in the namespace $home: \
+check the spelling"
 }
 
-# Whether an object has a name, by what rbacaudit derives from a file of the export: this field of a row of a matrix in which
-# everybody may do the one thing that is asked about. The last word is a member of its universe. A file that the export doesn't
-# have or rbacaudit refuses tells nothing.
+# Whether an object has a name, by what rbacaudit derives from a file of the export: this field of a
+# row of a matrix in which everybody may do the one thing that is asked about. The last word is a
+# member of its universe. A file that the export doesn't have or rbacaudit refuses tells nothing.
 is_there() {
     [ -f "$export_dir/$1" ] || return 0
     cat >"$scratch/everybody.json" <<EOF
 {"apiVersion": "v1", "kind": "List", "items": [
   {"apiVersion": "rbac.authorization.k8s.io/v1", "kind": "ClusterRole", "metadata": {"name": "/"},
    "rules": [{"verbs": ["get"], "apiGroups": [""], "resources": ["x"]}]},
-  {"apiVersion": "rbac.authorization.k8s.io/v1", "kind": "ClusterRoleBinding", "metadata": {"name": "/"},
-   "roleRef": {"kind": "ClusterRole", "name": "/"}, "subjects": [{"kind": "Group", "name": "system:authenticated"}]},
-  {"apiVersion": "rbacaudit/v1", "kind": "Universe", "verbs": ["get"], "resources": [{"resource": "x"}], "names": [""], "urls": [], $4}]}
+  {"apiVersion": "rbac.authorization.k8s.io/v1", "kind": "ClusterRoleBinding",
+   "metadata": {"name": "/"}, "roleRef": {"kind": "ClusterRole", "name": "/"},
+   "subjects": [{"kind": "Group", "name": "system:authenticated"}]},
+  {"apiVersion": "rbacaudit/v1", "kind": "Universe", "verbs": ["get"],
+   "resources": [{"resource": "x"}], "names": [""], "urls": [], $4}]}
 EOF
-    rbacaudit matrix "$export_dir/$1" "$scratch/everybody.json" >"$scratch/there" 2>/dev/null || return 0
-    LC_ALL=C WANTED=$3 awk -F '\t' -v at="$2" '$at == ENVIRON["WANTED"] { found = 1; exit } END { exit !found }' "$scratch/there"
+    rbacaudit matrix "$export_dir/$1" "$scratch/everybody.json" >"$scratch/there" 2>/dev/null ||
+        return 0
+    LC_ALL=C WANTED=$3 awk -F '\t' -v at="$2" '
+        $at == ENVIRON["WANTED"] { found = 1; exit }
+        END { exit !found }' "$scratch/there"
 }
 
 # Leaves in `stale` the aggregated roles in use whose rules aren't those that they gather.
@@ -145,11 +165,13 @@ find_stale() {
         END { print said }' "$scratch/findings")
 }
 
-# Asks again, and counts the rules that are written in aggregated roles, as a cluster does: a later document replaces an earlier
-# one. No other object has the field, and a text that looks like it has a backslash before its last quote.
+# Asks again, and counts the rules that are written in aggregated roles, as a cluster does: a later
+# document replaces an earlier one. No other object has the field, and a text that looks like it has
+# a backslash before its last quote.
 remark_on_stale() {
     if [ "$command" = matrix ]; then
-        report "stale aggregates (L6 of lint): $stale; the cluster grants what is written in them, and this matrix has what they gather"
+        report "stale aggregates (L6 of lint): $stale; the cluster grants what is written in them, \
+and this matrix has what they gather"
         return
     fi
     sed 's/"aggregationRule":/"was":/g' "$export_dir/cluster.json" >"$scratch/as-written.json"
@@ -159,15 +181,21 @@ remark_on_stale() {
         can-i10) differs='answers yes' ;;
         can-i01) differs='answers no' ;;
         who-can00)
-            ! has_holders_of "$scratch/answer" "$scratch/written" || ! has_holders_of "$scratch/written" "$scratch/answer" || return 0
+            if has_holders_of "$scratch/answer" "$scratch/written" &&
+                has_holders_of "$scratch/written" "$scratch/answer"; then
+                return
+            fi
             differs='has other holders'
             ;;
         *) return 0 ;;
     esac
-    report "the cluster $differs until its stale aggregates (L6 of lint) have settled: $stale"
+    report "the cluster $differs now, because of stale aggregates (L6 of lint): $stale"
 }
 
 # Whether each holder of the second list is in the first.
 has_holders_of() {
-    LC_ALL=C awk -F '\t' '!begun { there[$1]; next } !($1 in there) { lacks = 1 } END { exit lacks }' "$1" begun=1 "$2"
+    LC_ALL=C awk -F '\t' '
+        !begun { there[$1]; next }
+        !($1 in there) { lacks = 1 }
+        END { exit lacks }' "$1" begun=1 "$2"
 }

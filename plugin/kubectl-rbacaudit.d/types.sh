@@ -1,8 +1,8 @@
 # shellcheck shell=sh
 # Types: which the API resource lists have, and the command universe.
 
-# An awk function: the JSON text of a field of a line. A field has backslashes doubled, as JSON has, and control bytes as
-# \x and two digits; - is the empty text.
+# An awk function: the JSON text of a field of a line. A field has backslashes doubled, as JSON has,
+# and control bytes as \x and two digits; - is the empty text.
 JSON_TEXT='
 function json_text(field,    text, at, one) {
     if (field == "-") return "\"\""
@@ -16,9 +16,10 @@ function json_text(field,    text, at, one) {
     return "\"" text "\""
 }'
 
-# Writes to $scratch/rows the types that these files name, as rbacaudit reads them: a user who may get everything is asked
-# about, and so the matrix has a row for each type in the whole cluster, and one in the namespace n if the type is
-# namespaced. No role in a cluster has a slash in its name, so the probe takes no role's place.
+# Writes to $scratch/rows the types that these files name, as rbacaudit reads them: a user who may
+# get everything is asked about, and so the matrix has a row for each type in the whole cluster, and
+# one in the namespace n if the type is namespaced. No role in a cluster has a slash in its name, so
+# the probe takes no role's place.
 list_types() {
     cat >"$scratch/probe.json" <<'EOF'
 {"apiVersion": "v1", "kind": "List", "items": [
@@ -32,8 +33,9 @@ EOF
     ask matrix "$@" "$scratch/probe.json" >"$scratch/rows" || exit "$answered"
 }
 
-# Reports a type that the API resource lists don't have, or a subresource that they don't have of a type that they have. A
-# question about a type that they have as cluster-scoped is about no namespace: that leaves `asked_in` empty.
+# Reports a type that the API resource lists don't have, or a subresource that they don't have of a
+# type that they have. A question about a type that they have as cluster-scoped is about no
+# namespace: that leaves `asked_in` empty.
 check_type() {
     if ! has_lists; then
         report "the export has no API resource lists, so the type $type is taken as written"
@@ -45,7 +47,8 @@ check_type() {
     has_type=no
     ! with_files is_listed '' || has_type=yes
     [ "$has_type" = no ] || with_files is_inside || asked_in=
-    if [ "$has_type$subresource" = yes ] || { [ -n "$subresource" ] && with_files is_listed "$subresource"; }; then
+    if [ "$has_type$subresource" = yes ] ||
+        { [ -n "$subresource" ] && with_files is_listed "$subresource"; }; then
         check_object
         return
     fi
@@ -54,14 +57,16 @@ check_type() {
     report "the API resource lists of the export don't have the $unknown: check the spelling"
 }
 
-# Reports an object's name that is also a subresource of the type: pods/exec in TARGET means a pod named exec.
+# Reports an object's name that is also a subresource of the type: pods/exec in TARGET means a pod
+# named exec.
 check_object() {
     if [ -z "$subresource" ] && [ -n "$object" ] && with_files is_listed "$object"; then
         report "$type/$object is taken for an object named $object: to ask about the subresource, write $type --subresource $object"
     fi
 }
 
-# Writes to $scratch/known.json a user who may get each type of $scratch/rows, and another who may do it in the namespace n.
+# Writes to $scratch/known.json a user who may get each type of $scratch/rows, and another who may
+# do it in the namespace n.
 grant_listed() {
     LC_ALL=C awk -F '\t' "$JSON_TEXT"'
         BEGIN {
@@ -70,7 +75,8 @@ grant_listed() {
             print "{" version ", \"kind\": \"ClusterRoleBinding\", \"metadata\": {\"name\": \"/\"},"
             role = "\"roleRef\": {\"kind\": \"ClusterRole\", \"name\": \"/\"}"
             print " " role ", \"subjects\": [{\"kind\": \"User\", \"name\": \"probe\"}]},"
-            print "{" version ", \"kind\": \"RoleBinding\", \"metadata\": {\"name\": \"/\", \"namespace\": \"n\"},"
+            print "{" version ", \"kind\": \"RoleBinding\","
+            print " \"metadata\": {\"name\": \"/\", \"namespace\": \"n\"},"
             print " " role ", \"subjects\": [{\"kind\": \"User\", \"name\": \"inside\"}]},"
             print "{" version ", \"kind\": \"ClusterRole\", \"metadata\": {\"name\": \"/\"}, \"rules\": ["
         }
@@ -81,15 +87,17 @@ grant_listed() {
         END { print "]}]}" }' "$scratch/rows" >"$scratch/known.json"
 }
 
-# Whether the API resource lists have the type, or its subresource of this name if that isn't empty. rbacaudit looks the type up, over
-# the same lists and a user who may get exactly what they have: its no means that it took the word as written.
+# Whether the API resource lists have the type, or its subresource of this name if that isn't empty.
+# rbacaudit looks the type up, over the same lists and a user who may get exactly what they have:
+# its no means that it took the word as written.
 is_listed() {
     below=$1
     shift
     ask_probe --as=probe "--subresource=$below" -- get "$type" "$@"
 }
 
-# Whether a RoleBinding can grant the type: rbacaudit asks about a cluster-scoped type in no namespace.
+# Whether a RoleBinding can grant the type: rbacaudit asks about a cluster-scoped type in no
+# namespace.
 is_inside() {
     ask_probe --as=inside --namespace=n -- get "$type" "$@"
 }
@@ -140,8 +148,9 @@ make_universe() {
     write_universe
 }
 
-# Prints the types of the API resource lists, and then those that only rules name. Such a subresource is namespaced if its resource
-# is, as rbacaudit takes it; any other such type is namespaced.
+# Prints the types of the API resource lists, and then those that only rules name. Such a
+# subresource is namespaced if its resource is, as rbacaudit takes it; any other such type is
+# namespaced.
 write_universe() {
     LC_ALL=C awk -F '\t' "$JSON_TEXT"'
         NF != 7 { next }

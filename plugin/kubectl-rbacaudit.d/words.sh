@@ -77,12 +77,15 @@ find_place() {
     found=
 }
 
-# Takes a word that is an option of the plugin, or fails. Leaves in `option` the one whose value the next word is.
+# Takes a word that is an option of the plugin, or fails. Leaves in `option` the one whose value the
+# next word is.
 take_own() {
     case $1 in
         --partial) partial=yes ;;
         --export | --context | --kubeconfig | --request-timeout) option=$1 ;;
-        --export=* | --context=* | --kubeconfig=* | --request-timeout=*) set_option "${1%%=*}" "${1#*=}" ;;
+        --export=* | --context=* | --kubeconfig=* | --request-timeout=*)
+            set_option "${1%%=*}" "${1#*=}"
+            ;;
         *) return 1 ;;
     esac
 }
@@ -112,7 +115,8 @@ refuse_second() {
     [ -z "$2" ] || refuse "$1 is given twice"
 }
 
-# The same for a value that is a word of its own: one that begins with a dash is an option, and the value was forgotten.
+# The same for a value that is a word of its own: one that begins with a dash is an option, and the
+# value was forgotten.
 set_next() {
     case $1 in
         -*) refuse "$option needs a value; if $1 is the value, write $option=$1" ;;
@@ -120,7 +124,8 @@ set_next() {
     set_option "$option" "$1"
 }
 
-# Leaves in `dir` the folder, written so that no program takes it for an option, and awk doesn't take it for an assignment.
+# Leaves in `dir` the folder, written so that no program takes it for an option, and awk doesn't
+# take it for an assignment.
 set_dir() {
     case $1 in
         -* | [!/]*=*) dir=./$1 ;;

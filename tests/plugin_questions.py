@@ -1,0 +1,518 @@
+"""Questions of the kubectl plugin: rbacaudit's own answers, and what is said beside them."""
+
+import json
+import os
+import subprocess
+
+from common import PROGRAM, TOP, V1, V1BETA1
+from plugin_room import (CAUTION, CI, DANA, DEVELOPERS, FINDINGS, IMPLIED, KIM, NO_ACCOUNT,
+                         NO_SPACE, ODD, READ, REFUSAL, UNLISTED, document, in_each_shell, of_kinds,
+                         served)
+
+
+@in_each_shell
+def questions(it):
+    """Fresh exports and exports in a folder give rbacaudit's own answers and statuses, with all options and words."""
+    it.run('export', 'my export')
+    granted = 'yes\nRoleBinding/shop/developers-view\tClusterRole/shop-view\tClusterRole/shop-view-workloads\t1\t1\n'
+    for place in ([], ['--export', 'my export'], ['--export=my export']):
+        it.expect('yes %s' % place, ['can-i', *place, *KIM, '--why', 'list', 'pods'], 0, granted)
+        it.expect('no %s' % place, ['can-i', *KIM, 'delete', *place, 'pods'], 1, 'no\n')
+        it.expect('a quiet no %s' % place, ['can-i', *place, '-qA', *KIM, '--', 'list', 'pods'], 1)
+        it.expect('a short type and a subresource %s' % place, ['can-i', *KIM, 'get', 'po', '--subresource=log', *place], 0, 'yes\n')
+        it.expect('holders %s' % place, ['who-can', '-nshop', 'update', 'deploy', *place], 0,
+                  'u:dana@example.com\tClusterRoleBinding/admins\nu:system:serviceaccount:shop:ci\tRoleBinding/shop/ci-deploys\n')
+        it.expect('a URL %s' % place, ['can-i', '--as', 'system:serviceaccount:monitoring:prometheus', *place, 'get', '/metrics'], 0, 'yes\n')
+        it.expect('findings %s' % place, ['lint', *place], 1, FINDINGS)
+    os.remove(os.path.join(it.work, 'my export', 'namespaces.json'))
+    it.expect('a part that the command doesn\'t read', ['can-i', *KIM, '--export', 'my export', 'delete', 'pods'], 1, 'no\n')
+    it.lines('calls')
+    it.expect('lint of a fresh export', ['lint'], 1, FINDINGS)
+    it.checked('lint reads roles and bindings alone', len(it.lines('calls')) == 2, 'other calls')
+    it.run('who-can', 'get', 'pods', '--context', 'far')
+    it.checked('a question passes its context on', set(it.lines('targets')) == {'|--context=far'},
+               'another')
+    it.run('lint', '--request-timeout', '9s')
+    it.checked('and its time', it.lines('targets') == ['|--request-timeout=9s'] * 2, 'another')
+    it.serve({name: {**value, 'items': [{**item, 'apiVersion': V1BETA1} for item in value['items']]}
+              for name, value in served().items() if name in ('cluster', 'namespaced')})
+    it.expect('a question to a cluster that serves v1beta1', ['can-i', *KIM, '--why', 'list', 'pods'], 0, granted)
+    it.expect('lint of such a cluster', ['lint'], 1, FINDINGS)
+
+
+@in_each_shell
+def namespaces(it):
+    """Without -n a question is about the context's namespace, or the export's, and says so; one that isn't
+    there is reported."""
+    for context, name in (('shop', 'shop'), ('', 'default'), ('shpo', 'shpo')):
+        it.at_context(context)
+        it.run('export', '--force', 'prod')
+        it.at_context('other')
+        said = IMPLIED % name + (NO_SPACE % name if name == 'shpo' else '')
+        holders = DANA + (DEVELOPERS if name == 'shop' else '')
+        it.expect('who-can in %s of the export' % name,
+                  ['who-can', '--export', 'prod', 'list', 'pods'], 0, holders, said)
+        it.at_context(context)
+        it.expect('who-can in %s of the context' % name, ['who-can', 'list', 'pods'], 0, holders,
+                  said)
+        for words_ in (['-A', 'list', 'pods'], ['--all-namespaces', 'list', 'pods'],
+                       ['list', 'nodes'], ['list', 'no/a']):
+            it.expect('who-can %s in %s' % (words_, name), ['who-can', *words_], 0, DANA)
+        for option in (['-n', 'shop'], ['-nshop'], ['-n=shop'], ['--namespace', 'shop'],
+                       ['--namespace=shop']):
+            it.expect('who-can %s in %s' % (option, name), ['who-can', *option, 'list', 'pods'], 0,
+                      DANA + DEVELOPERS)
+    os.remove(os.path.join(it.work, 'prod', 'about.txt'))
+    it.expect('an export that says nothing of itself',
+              ['who-can', '--export', 'prod', 'list', 'pods'], 0, DANA, IMPLIED % 'default')
+    it.expect('a namespace that isn\'t there',
+              ['who-can', '--export', 'prod', '-n', 'shpo', 'list', 'pods'], 0, DANA,
+              NO_SPACE % 'shpo')
+    it.expect('a namespace that only looks like one', ['who-can', '-n', 'sho.', 'list', 'pods'], 0,
+              DANA, NO_SPACE % 'sho.')
+    it.expect('it doesn\'t matter to nodes', ['who-can', '--export', 'prod', '-n', 'shpo', 'list',
+                                              'nodes'], 0, DANA)
+    it.expect('namespaces may be unknown', ['who-can', '-n', 'shpo', 'list', 'pods'], 0, DANA,
+              trouble=['forbid namespaces'])
+
+
+@in_each_shell
+def accounts(it):
+    """A service account that the export doesn't have is reported, to those who may read accounts."""
+    it.run('export', 'prod')
+    for asker, said in (('shop:ci', ''), ('shop:cii', NO_ACCOUNT % ('cii', 'shop')),
+                        ('shpo:ci', NO_ACCOUNT % ('ci', 'shpo')),
+                        ('monitoring:prometheus', ''), ('shop:c.', NO_ACCOUNT % ('c.', 'shop'))):
+        for place in ([], ['--export', 'prod']):
+            for option in (['--as', 'system:serviceaccount:' + asker],
+                           ['--as=system:serviceaccount:' + asker]):
+                it.expect('account %s %s' % (option, place),
+                          ['can-i', *place, *option, '-n', 'shop', 'delete', 'pods'], 1, 'no\n',
+                          said)
+    it.expect('an account and a URL', ['can-i', '--as=system:serviceaccount:a:b', 'get',
+                                       '/metrics'], 1, 'no\n', NO_ACCOUNT % ('b', 'a'))
+    it.expect('accounts may be unknown', ['can-i', '--as', 'system:serviceaccount:shop:cii', '-n',
+                                          'shop', 'delete', 'pods'], 1, 'no\n',
+              trouble=['forbid accounts'])
+    it.run('export', '-n', 'shop', 'own')
+    own = ['can-i', '--export', 'own', '--as', 'system:serviceaccount:monitoring:b', 'delete',
+           'pods']
+    it.expect('an export of another namespace knows no accounts of it', own, 1, 'no\n',
+              IMPLIED % 'shop')
+
+
+ALONE = 'kubectl-rbacaudit: the export has the namespace shop alone'
+
+
+@in_each_shell
+def alone(it):
+    """An export of one namespace answers about it and the cluster, and with --partial about others."""
+    it.at_context('other')
+    it.run('export', '-n', 'shop', 'own')
+    who = ['who-can', '--export', 'own']
+    it.expect('about its namespace', [*who, '-n', 'shop', 'list', 'pods'], 0, DANA + DEVELOPERS)
+    it.expect('without -n too', [*who, 'list', 'pods'], 0, DANA + DEVELOPERS, IMPLIED % 'shop')
+    it.expect('about the cluster', [*who, '-A', 'list', 'pods'], 0, DANA)
+    it.expect('about another', [*who, '-n', 'monitoring', 'list', 'pods'], 2, '',
+              ALONE + '\n' + REFUSAL)
+    it.expect('about another, --partial', [*who, '-n', 'monitoring', '--partial', 'list', 'pods'],
+              0, DANA,
+              ALONE + '\n' + CAUTION + NO_SPACE % 'monitoring')
+    for line in (['lint'], ['matrix', '--limit', '1']):
+        status, out, err = got = it.run(*line, '--export', 'own')
+        it.checked('%s of it' % line[0], status < 2 and out
+                   and err == ALONE + ', and this answer knows no other\n', got)
+
+
+@in_each_shell
+def idle_groups(it):
+    """A dead API group refuses a question only if the type may be one of its own."""
+    metrics, core = 'down api-metrics.k8s.io-v1beta1', 'down api-v1'
+    for number, (trouble, words_, answers) in enumerate([
+            (metrics, ['list', 'pods'], True), (metrics, ['list', 'po/x'], True),
+        (metrics, ['list', 'pods', '--subresource', 'log'], True),
+            (metrics, ['list', 'deployments.apps'], True), (metrics, ['get', '/metrics'], True),
+        (metrics, ['list', 'pods.'], True),
+            (metrics, ['list', 'deploy'], False), (metrics, ['list', 'pods.metrics.k8s.io'], False),
+        (metrics, ['list', 'secert'], False),
+            (core, ['list', 'pods'], False), (core, ['list', 'pods.'], False),
+        (core, ['list', 'deployments.apps'], True)]):
+        folder = 'prod%d' % number
+        it.run('export', folder, trouble=[trouble])
+        for place in ([], ['--export', folder]):
+            status, out, err = got = it.run('who-can', '-n', 'shop', *place, *words_,
+                                            trouble=[trouble])
+            wanted = (0, True, False) if answers else (2, False, True)
+            it.checked('%s: %s %s' % (trouble, words_, place),
+                       (status, DANA in out, REFUSAL in err) == wanted, got)
+        it.checked('an export of it says nothing', not answers
+                   or err in ('', UNLISTED % ('type ' + words_[1])), err)
+        for line in (['matrix', 'u.json'], ['universe']):
+            it.write(json.dumps({'apiVersion': 'rbacaudit/v1', 'kind': 'Universe', 'names': ['']}),
+                     'u.json')
+            status, out, err = got = it.run(*line, '--export', folder)
+            it.checked('%s needs all lists' % line[0], (status, out) == (2, '')
+                       and err.endswith(REFUSAL), got)
+
+
+def stale_roles():
+    """Two roles that select each other and have a rule whose own role is gone; one that nobody uses."""
+    def aggregated(name, selects):
+        return {'apiVersion': V1, 'kind': 'ClusterRole',
+                'metadata': {'name': name, 'labels': {'is': name}},
+                'aggregationRule': {'clusterRoleSelectors': [{'matchLabels': {'is': selects}}]},
+                'rules': [{'verbs': ['delete'], 'apiGroups': [''], 'resources': ['pods']}]}
+
+    def plain(name, verb):
+        return {'apiVersion': V1, 'kind': 'ClusterRole',
+                'metadata': {'name': name, 'labels': {'is': name}},
+                'rules': [{'verbs': [verb], 'apiGroups': [''], 'resources': ['pods']}]}
+
+    def bound(name, user):
+        return {'apiVersion': V1, 'kind': 'ClusterRoleBinding', 'metadata': {'name': name},
+                'roleRef': {'kind': 'ClusterRole', 'name': name},
+                'subjects': [{'kind': 'User', 'name': user}]}
+
+    return of_kinds([aggregated('a', 'b'), aggregated('b', 'a'), aggregated('unused', 'none'),
+                     aggregated('late', 'new'), plain('new', 'watch'),
+                     plain('plain', 'list'), bound('a', 'kim'), bound('plain', 'lee'),
+                     bound('late', 'max')],
+                    'ClusterRole', 'ClusterRoleBinding')
+
+
+STALE = ('kubectl-rbacaudit: the cluster %s now, because of stale aggregates (L6 of lint): '
+         'ClusterRole/a, ClusterRole/b, ClusterRole/late\n')
+
+
+@in_each_shell
+def stale_aggregates(it):
+    """Stale aggregates are reported once, where what is written in them would change the answer."""
+    it.serve({'cluster': stale_roles()})
+    it.run('export', 'prod')
+    for place in ([], ['--export', 'prod']):
+        it.expect('the cluster says yes %s' % place,
+                  ['can-i', *place, '--as', 'kim', '-n', 'shop', 'delete', 'pods'], 1, 'no\n',
+                  STALE % 'answers yes')
+        it.expect('the cluster says no %s' % place,
+                  ['can-i', *place, '--as', 'max', '-A', '--why', 'watch', 'pods'], 0,
+                  'yes\nClusterRoleBinding/late\tClusterRole/late\tClusterRole/new\t1\t1\n',
+                  STALE % 'answers no')
+        it.expect('both say no %s' % place, ['can-i', *place, '--as', 'lee', '-n', 'shop', 'delete',
+                                             'pods'], 1, 'no\n')
+        it.expect('both say yes %s' % place, ['can-i', *place, '--as', 'lee', '-n', 'shop', 'list',
+                                              'pods'], 0, 'yes\n')
+        it.expect('more holders %s' % place, ['who-can', *place, '-A', 'delete', 'pods'], 0, '',
+                  STALE % 'has other holders')
+        it.expect('fewer holders %s' % place, ['who-can', *place, '-A', 'watch', 'pods'], 0,
+                  'u:max\tClusterRoleBinding/late\n',
+                  STALE % 'has other holders')
+        it.expect('the same holders %s' % place, ['who-can', *place, '-A', 'list', 'pods'], 0,
+                  'u:lee\tClusterRoleBinding/plain\n')
+        status, out, err = got = it.run('matrix', *place)
+        it.checked('a matrix %s' % place, status == 0 and out.endswith('\nend\n') and err == (
+            'kubectl-rbacaudit: stale aggregates (L6 of lint): ClusterRole/a, ClusterRole/b, '
+            'ClusterRole/late; the cluster grants what is written in them, and this matrix has what they gather\n'), got)
+        status, out, err = got = it.run('lint', *place)
+        it.checked('lint has its own lines %s' % place,
+                   (status, err, out.count('\nL6\t')) == (1, '', 4), got)
+
+
+@in_each_shell
+def words(it):
+    """Words that rbacaudit refuses end before a call to a cluster; what looks like an option may be a value."""
+    for line, said in ((['can-i', 'get', 'pods'], '--as'), (['can-i', *KIM, 'list'], '<TARGET>'), (['who-can', 'get'], '<TARGET>'),
+                       (['can-i', *KIM, '--wy', 'list', 'pods'], '--wy'), (['matrix', '--limit', '0'], '--limit'),
+                       (['matrix', '--after', 'x'], 'U4 bad token'), (['can-i', '--as', '', 'get', 'pods'], 'U2 empty word'),
+                       (['can-i', '--as', '--partial', 'get', 'pods'], '--as'), (['lint', '--limit', '1'], '--limit'),
+                       (['lint', '--export'], '--export needs a value'), (['lint', '--export='], '--export needs a value'),
+                       (['lint', '--export', ''], '--export needs a value'), (['lint', '--context', ''], '--context needs a value'),
+                       (['lint', '--export', '--partial'], '--export needs a value'),
+                       (['lint', '--export', 'x', '--export=y'], '--export is given twice'),
+                       (['lint', '--context', 'x', '--context', 'y'], '--context is given twice'),
+                       (['lint', '--kubeconfig=x', '--kubeconfig', 'y'], '--kubeconfig is given twice'),
+                       (['lint', '--export', 'x', '--context', 'y'], 'an export answers without a cluster'),
+                       (['lint', '--export', 'x'], 'there is no folder x'), (['universe', 'x'], 'universe has no x'),
+                       (['who-knows'], 'there is no command who-knows'), ([], 'a command is missing')):
+        status, out, err = got = it.run(*line)
+        it.checked('refused: %s' % ' '.join(line), (status, out) == (2, '') and said in err, got)
+    it.checked('no line was refused after a call', not it.lines('calls'), 'a call')
+    for line, said in ((['can-i', '--as', '-kim', 'get', 'pods'],
+                        'if -kim is the value of --as, write --as=-kim'),
+                       (['who-can', '-An', '-x', 'get', 'pods'],
+                        'if -x is the value of -n, write -n=-x')):
+        status, out, err = got = it.run(*line)
+        it.checked('a value with a dash: %s' % ' '.join(line), status == 2
+                   and err.endswith('kubectl-rbacaudit: %s\n' % said), got)
+    it.run('export', 'prod')
+    it.expect('a value with a dash', ['can-i', '--as=-kim', '-n=-x', '--export', 'prod', 'get',
+                                      'pods'], 1, 'no\n', NO_SPACE % '-x')
+    it.run('export', './-x')
+    it.expect('a folder that looks like an option', ['can-i', '--export=-x', *KIM, 'list', 'pods'], 0, 'yes\n')
+    it.expect('a user that looks like a command',
+              ['can-i', '--export', 'prod', '--as', 'export', 'list', 'pods'], 1, 'no\n',
+              IMPLIED % 'default')
+    it.expect('an option after -- is a word', ['can-i', '--export', 'prod', *KIM, '--', 'list', 'pods', '--export'], 2, '',
+              'rbacaudit: file 1: I1 read fault\nkubectl-rbacaudit: file 1 is --export\n')
+
+
+def a_role(name, **fields):
+    return {'metadata': {'labels': {'name': 'wrong'}, 'name': name, 'namespace': 'shop'}, **fields}
+
+
+# Faults of an item: the list that has it, and what is said of it. Other names are no names.
+NAMED_FAULTS = [
+    ('a typed list',
+     {'items': [a_role('a', rules=[]), a_role('b "q', rules=[{'metadata': {'name': 'no'}}])],
+                      'apiVersion': V1, 'kind': 'RoleList'},
+     ('2: M5 bad rule 1', '2 of it is Role shop/b \\"q')),
+    ('a list of any kinds',
+     {'apiVersion': 'v1', 'kind': 'List', 'metadata': {'name': 'no'}, 'items': [
+        a_role('a', apiVersion=V1, kind='Role'),
+         {'apiVersion': V1, 'kind': 'ClusterRole', 'rules': {}, 'metadata': {'name': 'c'}}]},
+     ('2: M5 bad rule 1', '2 of it is ClusterRole c'))]
+
+
+@in_each_shell
+def files(it):
+    """Files that the user names stand before those of the export; a matrix reads all, a fault's file is named."""
+    it.run('export', 'prod')
+    with open(os.path.join(TOP, 'examples', 'shop-universe.json'), encoding='utf-8') as file:
+        it.write(file.read(), 'my universe.json')
+    whole = subprocess.run([PROGRAM, 'matrix', 'my universe.json'] + [os.path.join('prod', name)
+                                                                      for name in READ],
+                           cwd=it.work,
+                           stdout=subprocess.PIPE, timeout=60, check=True).stdout.decode()
+    it.checked('the matrix has rows', whole.count('\n') > 5 and whole.endswith('\nend\n'), whole)
+    it.expect('a matrix of all files', ['matrix', 'my universe.json', '--export', 'prod'], 0, whole)
+    it.expect('a matrix of a fresh export', ['matrix', 'my universe.json'], 0, whole)
+    page = it.run('matrix', '--export', 'prod', '--limit', '2', 'my universe.json')[1]
+    it.checked('a page', page.startswith(''.join(whole.splitlines(True)[:2])) and '\nnext\t' in page, page)
+    it.expect('the page after it', ['matrix', 'my universe.json', '--after', page.split('\t')[-1][:-1], '--export', 'prod'], 0,
+              ''.join(whole.splitlines(True)[2:]))
+    it.write(json.dumps({'apiVersion': V1, 'kind': 'Role', 'metadata': {}}), 'bad.json')
+    bad = 'rbacaudit: file %d: M4 bad metadata\nkubectl-rbacaudit: file %d is %s\n'
+    it.expect('a bad file among others', ['matrix', 'my universe.json', '--limit', '5', 'bad.json', '--export', 'prod'], 2, '',
+              bad % (2, 2, 'bad.json'))
+    it.expect('a bad file of a question', ['can-i', *KIM, 'list', 'pods', 'bad.json', '--export', 'prod'], 2, '', bad % (1, 1, 'bad.json'))
+    it.write(json.dumps({'apiVersion': 'v1', 'kind': 'List', 'items': [{'apiVersion': V1, 'kind': 'Role'}]}), 'prod', 'namespaced.json')
+    it.expect('a bad file of the export', ['lint', '--export', 'prod', 'my universe.json'], 2, '',
+              'rbacaudit: file 3 item 1: M4 bad metadata\nkubectl-rbacaudit: file 3 is prod/namespaced.json\n')
+    it.write(json.dumps({'apiVersion': V1, 'kind': 'Role',
+                         'metadata': {'name': 'x', 'namespace': 's'}, 'rules': 5}), 'bad.json')
+    it.expect('a bad document with a name', ['lint', '--export', 'prod', 'bad.json'], 2, '',
+              'rbacaudit: file 1: M5 bad rule 1\nkubectl-rbacaudit: file 1 is bad.json, Role s/x\n')
+    for name, fields, said in NAMED_FAULTS:
+        it.write(json.dumps(fields), 'prod', 'namespaced.json')
+        it.expect('the object of a fault: ' + name, ['lint', '--export', 'prod'], 2, '',
+                  'rbacaudit: file 2 item %s\n'
+                  'kubectl-rbacaudit: file 2 is prod/namespaced.json; item %s\n' % said)
+    it.write('', 'prod', 'api-v1.json')
+    status, out, err = got = it.run('can-i', *KIM, 'list', 'pods', '--export', 'prod')
+    it.checked('a bad API list', (status, out) == (2, '') and err.endswith(' is prod/api-v1.json\n'), got)
+    it.serve({'accounts': {'apiVersion': 'v1', 'kind': 'List', 'items': [5]}})
+    it.expect('a bad file of a fresh export', ['matrix'], 2, '', 'rbacaudit: file 4 item 1: M2 not an object\nkubectl-rbacaudit: '
+              'file 4 is accounts.json of the fresh export; kubectl rbacaudit export DIR would keep it\n')
+
+
+# Universe documents that say something else than was meant, and what is said of them.
+NO_FIELD = 'kubectl-rbacaudit: u.json: %s has no field %s, so it is ignored\n'
+NO_UNIVERSE = ('kubectl-rbacaudit: u.json: a document of the version %s and the kind %s is ignored: '
+               'a Universe document has rbacaudit/v1 and Universe\n')
+UNIVERSE_FAULTS = [
+    ({'namespace': ['shop'], 'names': ['"names": ["x"]', 'verb']},
+     NO_FIELD % ('a Universe document', 'namespace')),
+    ({'principals': [{'user': 'kim', 'group ': ['x']}, {'user': 'lee'}]},
+     NO_FIELD % ('an item of principals', 'group ')),
+    ({'resources': [{'resource': 'pods', 'namspaced': False}] * 2},
+     NO_FIELD % ('an item of resources', 'namspaced')),
+    ({'kind': 'Universes'}, NO_UNIVERSE % ('rbacaudit/v1', 'Universes')),
+    ({'apiVersion': 'v1'}, NO_UNIVERSE % ('v1', 'Universe')),
+    ({'apiVersion': 'rbacaudit/v2'}, NO_UNIVERSE % ('rbacaudit/v2', 'Universe')),
+    ({'metadata': {'name': 'u', 'x': 'y'},
+      'principals': [{'user': 'kim', 'groups': ['verb', 'items']}, {'group': 'g'}], 'verbs': [],
+      'namespaces': [''], 'resources': [{'group': '', 'resource': 'pods', 'namespaced': True}],
+      'urls': ['/x']}, '')]
+
+
+@in_each_shell
+def universe_faults(it):
+    """A Universe document's mistyped field, kind or version is reported, alone and in a list."""
+    it.run('export', 'prod')
+    for fields, said in UNIVERSE_FAULTS:
+        universe = {'apiVersion': 'rbacaudit/v1', 'kind': 'Universe', **fields}
+        listed = {'apiVersion': 'v1', 'kind': 'List',
+                  'items': [universe, {'apiVersion': 'v1', 'kind': 'Pod', 'verb': 'Universe'}]}
+        for value in (universe, listed, dict(reversed(listed.items()))):
+            for indent in (None, 2):
+                it.write(json.dumps(value, indent=indent), 'u.json')
+                status, out, err = got = it.run('matrix', '--limit', '1', '--export', 'prod',
+                                                'u.json')
+                it.checked('universe %s' % json.dumps(value), (status, err) == (0, said) and out,
+                           got)
+    it.write('{"kind": "Universe", "x', 'u.json')
+    it.expect('no JSON', ['matrix', '--export', 'prod', 'u.json'], 2, '',
+              'rbacaudit: file 1: M1 not JSON\nkubectl-rbacaudit: file 1 is u.json\n')
+    it.lines('calls')
+    it.write(json.dumps({'apiVersion': 'rbacaudit/v1', 'kind': 'Universe', 'verb': []}), 'a=b')
+    status, out, err = got = it.run('matrix', 'a=b', trouble=['down apis'])
+    it.checked('it is said before the cluster is read', (status, out) == (2, '')
+               and err.startswith('kubectl-rbacaudit: a=b: '), got)
+
+
+UPDATE = ['can-i', *CI, 'update', 'deployments.apps']
+DOWN = ['down api-apps-v1']
+
+
+@in_each_shell
+def parts(it):
+    """A fresh export with a part missing answers with --partial alone, and says so."""
+    down = "Warning: old\nError from server (ServiceUnavailable): try later\n" \
+           "kubectl-rbacaudit: api-apps-v1.json can't be had: kubectl get --raw /apis/apps/v1 ended with status 1\n"
+    it.expect('a group is down', UPDATE, 2, '', down + REFUSAL, trouble=DOWN)
+    it.expect('a group is down, --partial', [*UPDATE, '--partial'], 0, 'yes\n',
+              down + CAUTION + UNLISTED % 'type deployments.apps', trouble=DOWN)
+    it.expect('a universe of what isn\'t whole', ['universe'], 2, '', down + REFUSAL, trouble=DOWN)
+    it.expect('what lint doesn\'t read may be down', ['lint'], 1, FINDINGS, trouble=DOWN)
+    it.expect('accounts matter to a matrix alone', UPDATE, 0, 'yes\n', trouble=['forbid accounts'])
+    status, out, err = got = it.run('matrix', trouble=['forbid accounts'])
+    it.checked('and there they matter', (status, out) == (2, '') and err.endswith(REFUSAL), got)
+    status, out, err = got = it.run(*UPDATE, '--partial', trouble=['forbid cluster', 'forbid namespaced'])
+    it.checked('without roles nothing answers', (status, out) == (2, '') and 'nothing can be answered' in err, got)
+
+
+@in_each_shell
+def gaps(it):
+    """The same of an export in a folder, by what is noted and by what is there."""
+    it.run('export', 'prod', trouble=DOWN)
+    noted = 'kubectl-rbacaudit: ' + it.read('prod', 'incomplete.txt')
+    it.expect('an export that lacks a group', [*UPDATE, '--export', 'prod'], 2, '', noted + REFUSAL)
+    it.expect('an export that lacks a group, --partial', [*UPDATE, '--partial', '--export', 'prod'],
+              0, 'yes\n',
+              noted + CAUTION + UNLISTED % 'type deployments.apps')
+    it.write(json.dumps(served()['api-apps-v1']), 'prod', 'api-apps-v1.json')
+    it.expect('a group that was fetched by hand', [*UPDATE, '--export', 'prod'], 0, 'yes\n')
+    os.remove(os.path.join(it.work, 'prod', 'api-apps-v1.json'))
+    it.expect('an export that lacks what lint doesn\'t read', ['lint', '--export', 'prod'], 1, FINDINGS)
+    for noted, said in (('export: it was interrupted\n', 'export: it was interrupted'), ('export: cut', 'export: cut'),
+                        ('export: \x1b[2J\x07\x7f\u00e9\n', 'export: ?[2J??\u00e9')):
+        it.write(noted, 'prod', 'incomplete.txt')
+        it.expect('an export that says %r' % noted, ['lint', '--export', 'prod'], 2, '', 'kubectl-rbacaudit: %s\n' % said + REFUSAL)
+    os.remove(os.path.join(it.work, 'prod', 'incomplete.txt'))
+    os.mkfifo(os.path.join(it.work, 'prod', 'incomplete.txt'))
+    it.expect('a pipe in place of what is noted', ['lint', '--export', 'prod'], 2, '',
+              "kubectl-rbacaudit: can't read prod/incomplete.txt\n")
+    os.remove(os.path.join(it.work, 'prod', 'incomplete.txt'))
+    it.run('export', '--force', 'prod')
+    os.remove(os.path.join(it.work, 'prod', 'cluster.json'))
+    missing = 'kubectl-rbacaudit: there is no cluster.json in prod\n'
+    it.expect('a file that is gone', [*UPDATE, '--export', 'prod'], 2, '', missing + REFUSAL)
+    it.expect('a file that is gone, --partial', [*UPDATE, '--export', 'prod', '--partial'], 0, 'yes\n', missing + CAUTION)
+    for name in it.files('prod'):
+        if name.startswith('api-'):
+            os.remove(os.path.join(it.work, 'prod', name))
+    missing += 'kubectl-rbacaudit: there is no api-*.json in prod\n'
+    it.expect('no API lists', [*UPDATE, '--export', 'prod'], 2, '', missing + REFUSAL)
+    it.expect('no API lists, --partial', [*UPDATE, '--export', 'prod', '--partial'], 0, 'yes\n', missing + CAUTION +
+              'kubectl-rbacaudit: the export has no API resource lists, so the type deployments.apps is taken as written\n')
+    it.expect('no API lists know no subresource', [*UPDATE, '--subresource', 'exce', '--export', 'prod', '--partial'], 1, 'no\n', missing +
+              CAUTION + 'kubectl-rbacaudit: the export has no API resource lists, so the type deployments.apps is taken as written\n')
+    os.remove(os.path.join(it.work, 'prod', 'namespaced.json'))
+    status, out, err = got = it.run(*UPDATE, '--partial', '--export', 'prod')
+    it.checked('an export without roles never answers', (status, out) == (2, '') and 'nothing can be answered' in err, got)
+
+
+def dana_alone(it, name, words_, said=''):
+    """One check of a question that names no namespace with bindings: its answer, and what is reported before it."""
+    it.expect(name, ['who-can', '--export', 'prod', '-n', 'monitoring', *words_], 0,
+              'u:dana@example.com\tClusterRoleBinding/admins\n', said)
+
+
+@in_each_shell
+def types(it):
+    """A type that the API lists don't have is reported, and the question answered; a label or another text is no type."""
+    core = served()['api-v1']
+    core['resources'].append({'name': 'services', 'singularName': 'fooled', 'namespaced': True, 'verbs': ['"widgets"'], 'shortNames': ['svc', '']})
+    it.serve({'api-v1': core})
+    it.run('export', 'prod')
+    for type_ in ('pods', 'pod', 'po', 'po/web', 'deployments', 'deploy', 'deploy.apps', 'deployment.apps/web', 'nodes.metrics.k8s.io',
+                  'role', 'svc', 'fooled', 'pods.', '/metrics'):
+        dana_alone(it, 'known: ' + type_, ['drain', type_])
+    for type_ in ('secert', 'Pods', 'widgets', '"widgets"', 'deployments.app', 'pods.apps', 'po.apps', 'apps', 'v1', 'pod*', '*',
+                  'deployments.v1.apps', 'a\\x2d', 'list', '-'):
+        dana_alone(it, 'unknown: ' + type_, ['drain', type_], UNLISTED % ('type ' + type_))
+    it.expect('unknown: secert/x, of a fresh export', ['can-i', *KIM, 'get', 'secert/x'], 1, 'no\n', UNLISTED % 'type secert')
+    it.expect('unknown: a word with a dash before it', ['can-i', '--export', 'prod', *KIM, 'get', '--', '-q'], 1, 'no\n', UNLISTED % 'type -q')
+
+
+# A list of subresources alone, as there are: their type is in no list, and yet they aren't unknown.
+CONSOLES = {'kind': 'APIResourceList', 'apiVersion': 'v1', 'groupVersion': 'consoles.example.com/v1', 'resources': [
+    {'name': 'machines/console', 'singularName': '', 'namespaced': True, 'verbs': ['get']}]}
+
+
+@in_each_shell
+def subresources(it):
+    """So is a subresource that the API lists don't have of a type that they have; what is no subresource is none of them."""
+    it.run('export', 'prod')
+    it.write(json.dumps(CONSOLES), 'prod', 'api-consoles.example.com-v1.json')
+    for type_, subresource in (('pods', 'log'), ('pod', 'log'), ('po/web', 'log'), ('pods', ''), ('po/web', ''),
+                               ('machines.consoles.example.com', 'console')):
+        for given in (['--subresource', subresource], ['--subresource=' + subresource]):
+            dana_alone(it, 'known: %s %s' % (type_, given), [*given, 'drain', type_])
+    for type_, subresource, said in (
+            ('pods', 'exce', 'subresource pods/exce'), ('po/web', 'exce', 'subresource po/exce'), ('pods', 'Log', 'subresource pods/Log'),
+            ('pods', 'log/x', 'subresource pods/log/x'), ('pods', 'pods/log', 'subresource pods/pods/log'), ('pods', '*', 'subresource pods/*'),
+            ('pods', 'odd', 'subresource pods/odd'), ('no', 'log', 'subresource no/log'), ('deploy.apps', 'log', 'subresource deploy.apps/log'),
+            ('pods.metrics.k8s.io', 'log', 'subresource pods.metrics.k8s.io/log'), ('secert', 'log', 'type secert'),
+            ('machines', 'console', 'type machines'), ('machines.consoles.example.com', 'log', 'type machines.consoles.example.com')):
+        for given in (['--subresource', subresource, 'drain', type_], ['drain', type_, '--subresource=' + subresource]):
+            dana_alone(it, 'unknown: %s' % ' '.join(given), given, UNLISTED % said)
+    it.expect('unknown: pods/exce of a fresh export', ['can-i', *KIM, '--subresource', 'exce', 'get', 'pods'], 1, 'no\n',
+              UNLISTED % 'subresource pods/exce')
+    it.expect('a name is no subresource', ['can-i', '--export', 'prod', *KIM, 'get', 'pods/exce'], 0, 'yes\n')
+    named = 'kubectl-rbacaudit: %s/log is taken for an object named log: to ask about the subresource, write %s --subresource log\n'
+    for type_ in ('pods', 'po'):
+        dana_alone(it, 'a name that is one: %s/log' % type_, ['drain', type_ + '/log'], named % (type_, type_))
+    for given in (['pods/log', '--subresource', 'log'], ['pods/'], ['pods/log/x'], ['pods/x/log'], ['no/log'], ['pods.metrics.k8s.io/log']):
+        dana_alone(it, 'a name that is none: %s' % ' '.join(given), ['drain', *given])
+    dana_alone(it, 'nor is a name of an unknown type', ['drain', 'machines.consoles.example.com/console'],
+               UNLISTED % 'type machines.consoles.example.com')
+    it.expect('a subresource of a URL ends before', ['who-can', '--export', 'prod', '--subresource', 'exce', 'get', '/metrics'], 2, '',
+              'rbacaudit: U3 subresource with a URL\n')
+
+
+@in_each_shell
+def universes(it):
+    """A universe has the types of the API lists, and those that only rules name, each as rbacaudit takes it."""
+    it.run('export', 'prod')
+    resources = [('', 'nodes', False), ('', 'pods', True), ('', 'pods/log', True), ('apps', 'deployments', True),
+                 ('metrics.k8s.io', 'nodes', False), ('metrics.k8s.io', 'pods', True), ('rbac.authorization.k8s.io', 'roles', True),
+                 ('', '-', True), ('', 'configmaps', True), ('', 'nodes/metrics', False), ('', 'pods/odd', True), ('', 'services', True),
+                 ('apps', 'deployments/scale', True), ('odd"group', ODD, True), ('odd"group', 'deployments', True)]
+    wanted = {'apiVersion': 'rbacaudit/v1', 'kind': 'Universe', 'names': [''], 'resources': [
+        {'group': group, 'resource': name, 'namespaced': namespaced} for group, name, namespaced in resources]}
+    os.mkdir(os.path.join(it.work, 't=u'))
+    for place, temporary in ((['--export', 'prod'], it.temporary), ([], it.temporary), ([], 't=u')):
+        status, out, err = got = it.run('universe', *place, environment={**it.environment(), 'TMPDIR': temporary})
+        it.checked('a universe %s, by way of %s' % (place, temporary), (status, err) == (0, '') and document(out) == wanted, got)
+    it.write(out, 'universe.json')
+    status, rows, err = got = it.run('matrix', '--export', 'prod', 'universe.json')
+    row = 'u:dana@example.com\t%s\tget\t%s\t%s\t-\tClusterRoleBinding/admins\n'
+    it.checked('matrix takes it', (status, err) == (0, '') and rows.endswith('\nend\n'), got)
+    for place in ('-', 'shop'):
+        printed = 'a"b\\\\c\\x09d/é\\x7f\\\\x2d'
+        it.checked('its matrix has %s in %s' % (printed, place), row % (place, 'odd"group', printed) in rows, rows)
+        it.checked('and nodes/metrics in the cluster alone: %s' % place, (row % (place, '-', 'nodes/metrics') in rows) == (place == '-'), rows)
+    for name in it.files('prod'):
+        if name.startswith('api-'):
+            os.remove(os.path.join(it.work, 'prod', name))
+    status, out, err = got = it.run('universe', '--export', 'prod', '--partial')
+    named = ['{"group": "", "resource": "%s", "namespaced": true}' % name in out for name in ('nodes/metrics', 'nodes')]
+    it.checked('without API lists, the types of rules', status == 0 and named == [True, False], got)
+    it.serve({'cluster': of_kinds([]), 'namespaced': of_kinds([]), **{name: {**value, 'resources': []} for name, value in served().items()
+                                                                         if name.startswith('api-')}})
+    status, out, err = got = it.run('universe')
+    it.checked('a universe of nothing is a document too', status == 0 and document(out) == {**wanted, 'resources': []}, got)
+
+
+CHECKS = [questions, namespaces, accounts, alone, idle_groups, stale_aggregates, words, files,
+          universe_faults, parts, gaps, types, subresources, universes]
