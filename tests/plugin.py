@@ -104,12 +104,13 @@ def script():
 OWN = {('--export',): 'DIR', ('--partial',): '', ('--context',): 'NAME', ('--kubeconfig',): 'FILE',
        ('--request-timeout',): 'TIME'}
 HELP = ('-h', '--help')
+OF_PAGE = {('--every',): '', ('--title',): 'TEXT', ('--diff',): 'FILE'}
 OF_EXPORT = {('--force',): '', ('-n', '--namespace'): 'NS', ('--context',): 'NAME',
              ('--kubeconfig',): 'FILE',
              ('--request-timeout',): 'TIME', ('--as',): 'USER', ('--as-group',): 'GROUP'}
 NOTHING, FILES, FOLDERS = ':4', ':0', ':16'
 COMPLETED = [
-    ([''], ['can-i', 'who-can', 'matrix', 'lint', 'universe', 'export'], NOTHING),
+    ([''], ['can-i', 'who-can', 'matrix', 'lint', 'universe', 'page', 'export'], NOTHING),
     (['m'], ['matrix'], NOTHING),
     (['-'], ['-h', '--help', '-V', '--version'], NOTHING), (['no', ''], [], NOTHING),
     (['no', '-'], [], NOTHING),
@@ -125,6 +126,8 @@ COMPLETED = [
     (['export', '--context', 'n'], ['near'], NOTHING),
     (['export', ''], [], FOLDERS), (['export', '--as-group', 'x', '--as-'], ['--as-group'],
                                     NOTHING), (['export', 'x', ''], [], NOTHING),
+    (['page', '--title', ''], [], NOTHING), (['page', '--diff', ''], [], FILES),
+    (['page', ''], [], FILES),
     (['universe', ''], [], NOTHING), (['can-i', '-qAn', 'x', '--as=y', '--g'], ['--groups'],
                                       NOTHING),
     (['can-i', '-qA', '--a'], ['--as'], NOTHING),
@@ -133,8 +136,9 @@ COMPLETED = [
 
 def options_of(command):
     """The options of a command, with their values: those of rbacaudit, and the plugin's own."""
-    if command in ('export', 'universe'):
-        return {**(OF_EXPORT if command == 'export' else OWN), HELP: ''}
+    if command in ('export', 'universe', 'page'):
+        own = {'export': OF_EXPORT, 'universe': OWN, 'page': {**OWN, **OF_PAGE}}[command]
+        return {**own, HELP: ''}
     return {**{names: value for names, (value, _) in options(command).items()}, **OWN}
 
 
@@ -156,7 +160,7 @@ def completions(it):
         got = offered(words_)
         it.checked('completions of %s' % words_, (sorted(got[0]), got[1]) == (sorted(found), last),
                    got)
-    for command in (*commands(), 'universe', 'export'):
+    for command in (*commands(), 'universe', 'page', 'export'):
         here = options_of(command)
         got = offered([command, '-'])
         it.checked('the options of %s' % command,
@@ -194,11 +198,11 @@ def in_kubectl():
 def man_page():
     """The man page has the options of help with their values, the version, and is rendered well."""
     text = contents(MAN)
-    wanted = {**OWN, **OF_EXPORT, HELP: '', ('-V', '--version'): ''}
+    wanted = {**OWN, **OF_EXPORT, **OF_PAGE, HELP: '', ('-V', '--version'): ''}
     got = {names: value for names, (value, _) in options_in(text).items()}
     checked('man: the options', got == wanted, repr(got))
     checked('man: the version', '"kubectl\\-rbacaudit 0.1.0"' in text, text[:300])
-    for command in (*commands(), 'universe', 'export'):
+    for command in (*commands(), 'universe', 'page', 'export'):
         checked('man: %s' % command,
                 '.SY "kubectl rbacaudit %s"' % command.replace('-', '\\-') in text, 'no synopsis')
     renders(MAN, {name for names in wanted for name in names})

@@ -1,4 +1,5 @@
-"""`kubectl rbacaudit page`, under dash and under bash, with the stand-in for kubectl of plugin.py.
+"""`kubectl rbacaudit page`, under dash and under bash, with the stand-in for kubectl of
+plugin_room.py.
 
 tests/page.py runs this.
 """
@@ -9,7 +10,7 @@ import pty
 import subprocess
 
 from common import V1
-from plugin import CAUTION, PLUGIN, REFUSAL, in_each_shell
+from plugin_room import CAUTION, PLUGIN, REFUSAL, in_each_shell
 from written import FILTER, Parts, lines_in
 
 TITLE = 'Who can do what'

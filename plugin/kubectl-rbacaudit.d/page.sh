@@ -43,6 +43,10 @@ page_command() {
     need rbacaudit-page 'make install in its repository puts it beside this plugin'
     check_options
     [ -z "$diff" ] || [ -r "$diff" ] || refuse "can't read $diff"
+    command=matrix
+    type=
+    look_at_about
+    choose_namespace
     parts_of matrix
     open_export
     write_page "$@"
