@@ -34,7 +34,8 @@ def steps(text):
 
 def transcripts():
     """Each console block of README.md and of docs/."""
-    for path in ['README.md', *sorted(os.path.join('docs', name) for name in os.listdir(os.path.join(TOP, 'docs')))]:
+    documents = sorted(name for name in os.listdir(os.path.join(TOP, 'docs')) if name.endswith('.md'))
+    for path in ['README.md', *(os.path.join('docs', name) for name in documents)]:
         with tempfile.TemporaryDirectory() as room:
             examples = shutil.copytree(EXAMPLES, os.path.join(room, 'examples'))
             name = os.path.basename(path)
