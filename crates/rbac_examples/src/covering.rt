@@ -1,5 +1,6 @@
 //! Which rules cover which.
 
+use crate::policies::rule;
 use crate::words::{check, words};
 use rbac_lint::covers;
 use rbac_terms::Rule;
@@ -9,14 +10,11 @@ use std::process::Abort;
 // The verbs, groups, resources, names and URLs of a rule.
 type Row<'a> = [&'a [&'a str]; 5];
 
-fn rule(rt: &impl Abort, alloc: Global, row: &Row<'_>) -> Rule {
+fn rule_with_urls(rt: &impl Abort, alloc: Global, row: &Row<'_>) -> Rule {
     let [verbs, groups, resources, names, urls] = *row;
     Rule {
-        verbs: words(rt, alloc, verbs),
-        groups: words(rt, alloc, groups),
-        resources: words(rt, alloc, resources),
-        resource_names: words(rt, alloc, names),
         urls: words(rt, alloc, urls),
+        ..rule(rt, alloc, &[verbs, groups, resources, names])
     }
 }
 
@@ -76,7 +74,8 @@ const COVERS: &[(&str, Row<'static>, Row<'static>, bool)] = &[
 fn a_rule_covers_what_its_words_reach(rt: HostRuntime) {
     let alloc = rt.alloc();
     for (name, first, second, wanted) in COVERS {
-        let got = covers(&rule(&rt, alloc, first), &rule(&rt, alloc, second));
-        check(&rt, name, got == *wanted);
+        let first = rule_with_urls(&rt, alloc, first);
+        let second = rule_with_urls(&rt, alloc, second);
+        check(&rt, name, covers(&first, &second) == *wanted);
     }
 }

@@ -9,7 +9,7 @@ use std::process::Abort;
 // Verbs, groups, resources and names of a rule.
 pub(crate) type RuleRow<'a> = [&'a [&'a str]; 4];
 
-fn rule(rt: &impl Abort, alloc: Global, row: &RuleRow<'_>) -> Rule {
+pub(crate) fn rule(rt: &impl Abort, alloc: Global, row: &RuleRow<'_>) -> Rule {
     Rule {
         verbs: words(rt, alloc, row[0]),
         groups: words(rt, alloc, row[1]),

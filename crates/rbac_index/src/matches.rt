@@ -1,7 +1,8 @@
 //! The targets that a rule matches, verbs aside, stem by stem: a rule is asked about each stem, and
 //! where it has names, they are looked up among the stem's.
 
-ghost use Rattle.std.specs.Prelude.{◌≡◌, ◌<◌, ◌≤◌, ℕ, Some, Contains, IfOk, OnOk, length, slice_get};
+ghost use Rattle.std.specs.Prelude.{◌≡◌, ◌<◌, ◌≤◌, ℕ, Some, Contains, IfOk, OnOk, length};
+ghost use Rattle.std.specs.Prelude.{slice_get};
 ghost use Rattle.rbac_model.specs.Lists.{IsAscendingBy};
 ghost use Rattle.rbac_terms.specs.Targets.{What, name_of};
 ghost use Rattle.rbac_index.specs.Matched.{what_texts, AreStems, IsByName, IsStem, IsWhole};

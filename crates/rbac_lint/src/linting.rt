@@ -32,8 +32,8 @@ pub fn lint(alloc: Global, loaded: &Loaded) -> Result<Findings, LintFault>
     lint_export(alloc, loaded.export())
 }
 
-/// What [`lint`] finds in an export, whose lists of a universe aren't asked about. N1 if it runs out
-/// of memory.
+/// What [`lint`] finds in an export, whose lists of a universe aren't asked about. N1 if it runs
+/// out of memory.
 pub fn lint_export(alloc: Global, export: &Export) -> Result<Findings, LintFault>
     ensures ok { IfOk result (AreFindings export.now.policy.held export.now.replaced) }
     ensures only_memory { IfErr result (λ e. e ≡ LintFault.NoMemory) }

@@ -228,8 +228,8 @@ fn unresolved(fault: ResolveFault) -> LoadFault
     }
 }
 
-/// Reads inputs as [`load`](crate::load) does, with the same errors, but doesn't derive the lists of
-/// a universe.
+/// Reads inputs as [`load`](crate::load) does, with the same errors, but doesn't derive the lists
+/// of a universe.
 pub fn load_export(alloc: Global, inputs: &[Input]) -> Result<Export, LoadFault>
     ensures ok { IfOk result (IsLoaded inputs.now) }
     ensures fault { IfErr result (λ e. e.cause ≢ NoMemory → HasFault inputs.now e) }

@@ -30,5 +30,8 @@ pub use laws::{
 };
 pub use matrix::Matrix;
 pub use pages::print_page;
+pub use rbac_token::{
+    BindingName, Mark, TokenFault, key_of_token, mark_of_token, token_of, token_of_mark,
+};
 pub use row::Row;
 pub use seat::Seat;

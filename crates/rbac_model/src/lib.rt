@@ -1,5 +1,6 @@
 //! Policies: the objects of an export, and the grants that follow from them. The terms that they
-//! are made of are defined in `rbac_terms`; those that a user of policies needs are re-exported here.
+//! are made of are defined in `rbac_terms`; those that a user of policies needs are re-exported
+//! here.
 #![tactic(auto)]
 
 mod aggregation;

@@ -50,19 +50,16 @@ impl Key {
         ensures ok { IfOk result (λ k. k ≡ key_of principal.now namespace.now verb.now target.now) }
         ensures only_memory { IfErr result (λ e. e ≡ ModelFault.NoMemory) }
     {
-        let namespace = if target.is_url() {
-            Word::new(alloc)
-        } else {
-            namespace.clone()?
-        };
-        Ok(Key {
-            principal: principal.key().clone()?,
+        let none = Word::new(alloc);
+        let namespace = if target.is_url() { &none } else { namespace };
+        Key::of_texts(
+            principal.key(),
             namespace,
-            verb: verb.clone()?,
-            group: target.group().clone()?,
-            resource: target.text().clone()?,
-            name: target.name().clone()?,
-        })
+            verb,
+            target.group(),
+            target.text(),
+            target.name(),
+        )
     }
 
     /// The key of these six texts, whether a request has them or not. Fails only if it runs out of
