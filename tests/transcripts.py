@@ -32,10 +32,15 @@ def steps(text):
             yield (command + re.sub('^> ', '', more, flags=re.M)).rstrip('\n'), wanted
 
 
+def documents():
+    """The paths of README.md, of each document of docs/, and of bench/README.md."""
+    names = sorted(name for name in os.listdir(os.path.join(TOP, 'docs')) if name.endswith('.md'))
+    return ['README.md', *(os.path.join('docs', name) for name in names), 'bench/README.md']
+
+
 def transcripts():
-    """Each console block of README.md and of docs/."""
-    documents = sorted(name for name in os.listdir(os.path.join(TOP, 'docs')) if name.endswith('.md'))
-    for path in ['README.md', *(os.path.join('docs', name) for name in documents)]:
+    """Each console block of the documents."""
+    for path in documents():
         with tempfile.TemporaryDirectory() as room:
             examples = shutil.copytree(EXAMPLES, os.path.join(room, 'examples'))
             name = os.path.basename(path)
@@ -77,10 +82,36 @@ def spaced_bindings():
               'u:kim\t-\tlist\t-\tpods\t-\tClusterRoleBinding/b c\n', folder)
 
 
+def headings(text):
+    """The names of a document's headings in links, as GitHub makes them."""
+    found = re.findall(r'^#+ (.*)$', re.sub(r'^```.*?^```', '', text, flags=re.S | re.M), re.M)
+    return {re.sub(r'[^\w -]', '', heading.lower()).replace(' ', '-') for heading in found}
+
+
+def leads(path, target):
+    """Whether a link in a document leads to a file, and to a heading that it has."""
+    name, _, heading = target.partition('#')
+    file = os.path.normpath(os.path.join(os.path.dirname(path), name)) if name else path
+    is_there = os.path.isfile(os.path.join(TOP, file))
+    return is_there and (not heading or heading in headings(text_of(file)))
+
+
+def links_and_heads():
+    """Links lead somewhere, each document says at its head whom it is for, and README.md is short."""
+    for path in documents():
+        text = text_of(path)
+        wrong = [it for it in re.findall(r'\]\(([^)\s]+)\)', text) if not leads(path, it)]
+        checked('%s: its links lead somewhere' % path, not wrong, 'not so: %r' % wrong)
+        head = re.match(r'# .*\n(?:(?!## ).*\n)*?(?:For|This page is for) \w', text)
+        checked('%s says whom it is for' % path, head, text[:300])
+    lines = text_of('README.md').count('\n')
+    checked('README.md has at most 350 lines', lines <= 350, 'it has %d' % lines)
+
+
 def loop_of_pages():
-    """README.md shows the loop of examples/pages.sh."""
+    """docs/RECIPES.md shows the loop of examples/pages.sh."""
     loop = re.search(r'^after=\n.*^done\n', text_of('examples', 'pages.sh'), re.S | re.M)[0]
-    checked('the loop of examples/pages.sh', textwrap.indent(loop, '    ') in text_of('README.md'))
+    checked('the loop of examples/pages.sh', textwrap.indent(loop, '    ') in text_of('docs', 'RECIPES.md'))
 
 
 def example_cluster():
