@@ -1,7 +1,8 @@
 """Tests of the built program: what only a process can show.
 
 Texts and statuses on the real streams, files that can't be read, full disks, inputs at the limits, and every
-`console` block of the documents (transcripts.py). The last line is `N passed, M failed`.
+`console` block of the documents (transcripts.py). What is skipped stands in the last line but one; the last line is
+`N passed, M failed`.
 """
 
 import base64

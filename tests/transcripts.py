@@ -2,7 +2,7 @@
 
 A command begins with `$ `, and lines with `> ` right below carry it on; so what is printed never begins with these. The commands
 of a document run in order, in a copy of examples/ of its own: those of docs/RECIPES.md in cluster/, all others at the top. A
-command with sqlite3 is skipped where that isn't installed.
+command with sqlite3 is skipped where that isn't installed, which the last line but one says.
 """
 
 import os
@@ -13,7 +13,7 @@ import sys
 import tempfile
 import textwrap
 
-from common import PODS, PROGRAM, TOP, V1, checked, export
+from common import PODS, PROGRAM, TOP, V1, checked, export, skipped
 
 EXAMPLES = os.path.join(TOP, 'examples')
 FOLDERS = {'RECIPES.md': 'cluster'}
@@ -51,7 +51,7 @@ def transcripts():
 def shown(name, command, wanted, folder):
     """Whether the command prints in this folder what the document shows."""
     if re.search(r'\bsqlite3\b', command) and not shutil.which('sqlite3'):
-        print('skip %s: %s: no sqlite3' % (name, command))
+        skipped('sqlite3', 'commands of ' + name)
         return
     environment = dict(os.environ, PATH=os.path.dirname(PROGRAM) + os.pathsep + os.environ['PATH'])
     ended = subprocess.run(['bash', '-c', command], cwd=folder, env=environment, stdout=subprocess.PIPE, stderr=subprocess.STDOUT,
