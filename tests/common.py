@@ -27,7 +27,7 @@ def checked(name, well, said=''):
 
 
 def skipped(tool, what):
-    """Notes what isn't tested, since this machine has no such tool. The last line but one tells it, as
+    """Notes what isn't tested, since this machine has no such tool. The last line but one tells it:
     two counts can be compared only where the same was skipped."""
     skips.setdefault(tool, {})[what] = None
 

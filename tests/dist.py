@@ -3,8 +3,8 @@
 It packs copies of this repository that have one commit, of a known date, and the built program. The
 archive is unpacked into an empty folder and installed, with the base tools alone on the PATH.
 The Containerfile's steps are tried as commands, krew's as its documents tell them, and the jobs of
-docs/RECIPES.md as they are written. If the machine lacks a tool, all is skipped, as the last line but
-one says. The last line is `N passed, M failed`.
+docs/RECIPES.md as they are written. If the machine lacks a tool, all is skipped, as the last line
+but one says. The last line is `N passed, M failed`.
 """
 
 import glob

@@ -1,8 +1,8 @@
 """rbacaudit-page: what it writes and refuses, and its pages in a browser (shown.py).
 
 What the pages show is compared with rows that are written by hand (written.py), or with the built
-program's rows of examples/cluster. What is skipped, since this machine lacks a browser, a shell or a
-renderer, stands in the last line but one. The last line is `N passed, M failed`.
+program's rows of examples/cluster. What is skipped, since this machine lacks a browser, a shell or
+a renderer, stands in the last line but one. The last line is `N passed, M failed`.
 """
 
 import base64

@@ -2,8 +2,8 @@
 
 plugin_room.py has the stand-in, plugin_exports.py the exports, and plugin_questions.py the questions.
 Here are the tools that the plugin needs, its texts, completions and man page, and make. What is
-skipped, since this machine lacks a tool, stands in the last line but one. The last line is `N passed,
-M failed`.
+skipped, since this machine lacks a tool, stands in the last line but one. The last line is
+`N passed, M failed`.
 """
 
 import os

@@ -168,7 +168,7 @@ LISTED = re.compile(r'\|get\|([a-z.,0-9]+)\|')
 
 @in_each_shell
 def exporter(it):
-    """The ClusterRole of export --help is that of docs/EXPORT.md, and has just what the calls ask for."""
+    """The ClusterRole of export --help is docs/EXPORT.md's, and has just what the calls ask for."""
     role = textwrap.dedent(re.search(r'^  apiVersion: .*?\n\n', it.run('export', '--help')[1],
                                      re.S | re.M)[0]).strip()
     with open(os.path.join(TOP, 'docs', 'EXPORT.md'), encoding='utf-8') as file:

@@ -97,7 +97,7 @@ def leads(path, target):
 
 
 def links_and_heads():
-    """Links lead somewhere, each document says at its head whom it is for, and README.md is short."""
+    """Links lead somewhere, documents say at their head whom they are for, and README.md is short."""
     for path in documents():
         text = text_of(path)
         wrong = [it for it in re.findall(r'\]\(([^)\s]+)\)', text) if not leads(path, it)]
@@ -111,7 +111,8 @@ def links_and_heads():
 def loop_of_pages():
     """docs/RECIPES.md shows the loop of examples/pages.sh."""
     loop = re.search(r'^after=\n.*^done\n', text_of('examples', 'pages.sh'), re.S | re.M)[0]
-    checked('the loop of examples/pages.sh', textwrap.indent(loop, '    ') in text_of('docs', 'RECIPES.md'))
+    shows = textwrap.indent(loop, '    ') in text_of('docs', 'RECIPES.md')
+    checked('the loop of examples/pages.sh', shows)
 
 
 def example_cluster():
