@@ -14,6 +14,7 @@ pub mod NextRunLemmas
 pub mod OneHolders
 pub mod ReachLemmas
 pub mod ReadLemmas
+pub mod ReasonLemmas
 pub mod RowLemmas
 pub mod RunLemmas
 pub mod SeenLemmas

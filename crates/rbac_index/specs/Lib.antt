@@ -9,4 +9,5 @@ pub mod Living
 pub mod Matched
 pub mod Reaches
 pub mod Spans
+pub mod WhyHeld
 pub mod Written

@@ -53,7 +53,12 @@ pub(crate) fn binding_at<'p>(policy: &'p Policy, place: usize) -> &'p Binding
 
 // The number of the first grant of the binding at this place whose rule allows the verb on the
 // target.
-fn first_allowing(policy: &Policy, place: usize, verb: &Word, target: &Target) -> Option<u32>
+pub(crate) fn first_allowing(
+    policy: &Policy,
+    place: usize,
+    verb: &Word,
+    target: &Target,
+) -> Option<u32>
     ensures { MatchOption result
         (NoneAllowing policy.now verb.now target.now place)
         (IsFirstAllowing policy.now verb.now target.now place) }

@@ -1,11 +1,13 @@
 //! Laws of holders, each stated by the contract of a function that does nothing.
 
-ghost use Rattle.std.specs.Prelude.{◌≡◌, List};
+ghost use Rattle.std.specs.Prelude.{◌≡◌, ◌≤◌, ℕ, List};
+ghost use Rattle.rbac_terms.specs.Principals.{Who, AsMember, who_key};
 ghost use Rattle.rbac_terms.specs.Targets.{What};
 ghost use Rattle.rbac_terms.specs.Text.{Text};
-ghost use Rattle.rbac_model.specs.Policies.{Held};
+ghost use Rattle.rbac_model.specs.Policies.{GrantView, Held, IsWhy, PolicyView};
 ghost use Rattle.rbac_model.specs.Holders.{HolderView, AreHolders};
-ghost use Rattle.rbac_index.specs.Holding.{AllowsByHolders};
+ghost use Rattle.rbac_index.specs.Holding.{AllowsByHolders, IsKeyFor};
+ghost use Rattle.rbac_index.specs.WhyHeld.{IsWhyHeld};
 
 /// Who may use a verb on a target in a namespace, given the objects that are held, is one list: any
 /// two lists of the holders are the same, in the same order (own).
@@ -21,4 +23,20 @@ pub fn holders_decide()
     ensures { (held : Held) (namespace verb : Text) (t : What) (xs : List HolderView)
         → AreHolders held namespace verb t xs
         → AllowsByHolders held namespace verb t xs }
+{}
+
+/// Why a principal may use a verb on a target is why one of its keys holds it: its own, or that of
+/// one of its groups. It is by no later grant than any of these keys holds it; and why a member of
+/// one group alone may use it is why the group's key holds it (own).
+pub fn keys_explain()
+    ensures by_a_key { (p : PolicyView) (who : Who) (namespace verb : Text) (t : What)
+        (g : GrantView) (at : ℕ) → IsWhy p who namespace verb t g at
+        → (key : Text) × IsKeyFor who key × IsWhyHeld p key namespace verb t g at }
+    ensures no_later { (p : PolicyView) (who : Who) (namespace verb : Text) (t : What)
+        (f g : GrantView) (k at : ℕ) (key : Text) → IsKeyFor who key
+        → (why : IsWhy p who namespace verb t f k)
+        → (held : IsWhyHeld p key namespace verb t g at) → why.grant.0 ≤ held.grant.0 }
+    ensures member { (p : PolicyView) (group namespace verb : Text) (t : What) (g : GrantView)
+        (at : ℕ) → IsWhyHeld p (who_key (AsMember group)) namespace verb t g at
+        → IsWhy p (AsMember group) namespace verb t g at }
 {}

@@ -1,4 +1,5 @@
 pub mod Field
 pub mod Finding
 pub mod Row
+pub mod Rule
 pub mod Why

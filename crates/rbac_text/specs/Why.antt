@@ -6,7 +6,7 @@ use Rattle.rbac_terms.specs.declared.granting.RoleRef.{RoleRef}
 use Rattle.rbac_terms.specs.declared.granting.RoleRef.TheVariants.{Role, ClusterRole}
 use Rattle.rbac_model.specs.Policies.{Source, InRole, InClusterRole}
 use Rattle.rbac_text.specs.Field.{field_text}
-use Rattle.rbac_text.specs.Row.{tab, newline, binding_text}
+use Rattle.rbac_text.specs.Row.{tab, newline, field_and_tab, binding_text}
 
 -- a role of a namespace, as one field
 abbrev pub role_text : Text → Text → Text
@@ -39,7 +39,15 @@ roles_text b source = named_text b.namespace b.role ++ tab ∷ source_text sourc
 abbrev pub places_text : ℕ → ℕ → Text
 places_text rule subject = place_text rule ++ tab ∷ place_text subject
 
--- the line that explains a yes: the binding, its roles, and the places, joined by tabs
+-- what explains a yes: the binding, its roles, and the places, joined by tabs
+abbrev pub reason_text : Binding → Source → ℕ → ℕ → Text
+reason_text b source rule subject =
+    binding_text b ++ tab ∷ roles_text b source ++ tab ∷ places_text rule subject
+
+-- the line that explains a yes
 abbrev pub why_text : Binding → Source → ℕ → ℕ → Text
-why_text b source rule subject =
-    binding_text b ++ tab ∷ roles_text b source ++ tab ∷ places_text rule subject ++ newline ∷ []
+why_text b source rule subject = reason_text b source rule subject ++ newline ∷ []
+
+-- the line of a holder with the reason: its key, and what explains a yes
+abbrev pub holder_why_text : Text → Binding → Source → ℕ → ℕ → Text
+holder_why_text key b source rule subject = field_and_tab key ++ why_text b source rule subject

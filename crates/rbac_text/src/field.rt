@@ -52,7 +52,7 @@ fn is_control(byte: u8) -> bool
     byte < 32 || byte == 127
 }
 
-fn put_byte(line: &mut Vec<u8>, byte: u8) -> Result<(), AllocError>
+pub(crate) fn put_byte(line: &mut Vec<u8>, byte: u8) -> Result<(), AllocError>
     ensures { OnOk result (line.new.items ≡ line.old.items ++ byte_text byte) }
 {
     if byte == b'\\' {
@@ -66,7 +66,7 @@ fn put_byte(line: &mut Vec<u8>, byte: u8) -> Result<(), AllocError>
 }
 
 // Adds a byte by its code.
-fn put_code(line: &mut Vec<u8>, byte: u8) -> Result<(), AllocError>
+pub(crate) fn put_code(line: &mut Vec<u8>, byte: u8) -> Result<(), AllocError>
     ensures { OnOk result (line.new.items ≡ line.old.items ++ code_text byte) }
 {
     let code = [b'\\', b'x', hex_digit(byte / 16), hex_digit(byte % 16)];

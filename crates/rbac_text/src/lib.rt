@@ -5,11 +5,15 @@
 mod field;
 mod finding;
 mod holder;
+mod holder_why;
 mod row;
+mod rule;
 mod why;
 
 pub use field::put_field;
 pub use finding::put_finding;
 pub use holder::put_holder;
+pub use holder_why::put_holder_why;
 pub use row::{put_binding, put_row};
+pub use rule::{put_grant, put_rule};
 pub use why::{put_place, put_role, put_why};

@@ -4,7 +4,7 @@ ghost use Rattle.std.specs.Prelude.{◌≡◌, ◌++◌, ◌∷◌, [], OnErr, O
 ghost use Rattle.rbac_model.specs.Sources.{source_of};
 ghost use Rattle.rbac_text.specs.Row.{tab};
 ghost use Rattle.rbac_text.specs.Why.{role_text, cluster_role_text, named_text, source_text};
-ghost use Rattle.rbac_text.specs.Why.{place_text, roles_text, places_text, why_text};
+ghost use Rattle.rbac_text.specs.Why.{place_text, roles_text, places_text, reason_text, why_text};
 
 use crate::field::put_text;
 use crate::row::put_binding;
@@ -60,16 +60,31 @@ pub fn put_why(
         ≡ line.old.items
         ++ why_text binding.now (source_of source.entry) rule_place subject_place) }
 {
-    put_binding(line, binding)?;
-    put_tab(line)?;
-    put_roles(line, binding, source)?;
-    put_tab(line)?;
-    put_places(line, rule_place, subject_place)?;
+    put_reason(line, binding, source, rule_place, subject_place)?;
     line.push(b'\n')?;
     Ok(())
 }
 
-fn put_tab(line: &mut Vec<u8>) -> Result<(), AllocError>
+// Adds the fields of the line that explains why a request is allowed.
+pub(crate) fn put_reason(
+    line: &mut Vec<u8>,
+    binding: &Binding,
+    source: SourceRole<'_>,
+    rule_place: usize,
+    subject_place: usize,
+) -> Result<(), AllocError>
+    ensures { OnOk result (line.new.items
+        ≡ line.old.items
+        ++ reason_text binding.now (source_of source.entry) rule_place subject_place) }
+{
+    put_binding(line, binding)?;
+    put_tab(line)?;
+    put_roles(line, binding, source)?;
+    put_tab(line)?;
+    put_places(line, rule_place, subject_place)
+}
+
+pub(crate) fn put_tab(line: &mut Vec<u8>) -> Result<(), AllocError>
     ensures { OnOk result (line.new.items ≡ line.old.items ++ tab ∷ []) }
 {
     line.push(b'\t')?;

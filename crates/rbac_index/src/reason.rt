@@ -1,0 +1,44 @@
+//! Why a holder has a permission.
+
+ghost use Rattle.std.specs.Prelude.{IsSomeAnd, MatchOption};
+ghost use Rattle.rbac_terms.specs.Text.{Text};
+ghost use Rattle.rbac_model.specs.Holders.{IsHolder};
+ghost use Rattle.rbac_index.specs.Deciding.{NoneAllowing};
+ghost use Rattle.rbac_index.specs.HolderViews.{holder_shown};
+ghost use Rattle.rbac_index.specs.WhyHeld.{IsFirstShown, IsHeldShown};
+
+use crate::deciding::{Why, first_allowing};
+use crate::holders::Holder;
+use rbac_model::Policy;
+use rbac_terms::{Binding, Target, Word};
+
+/// Why a holder may use the verb on the target (own): the first grant that allows it to the
+/// holder's key, which is one of the holder's binding, and the first subject there with the key. A
+/// user that has the key may be allowed by an earlier grant, as a member of a group. `None` if no
+/// grant of that binding allows it. Doesn't allocate.
+pub fn why_held<'p>(
+    policy: &'p Policy,
+    holder: Holder<'_>,
+    verb: &Word,
+    target: &Target,
+) -> Option<Why<'p>>
+    ensures first { MatchOption result
+        (NoneAllowing policy.now verb.now target.now holder.entry.binding_place)
+        (IsFirstShown policy.now verb.now target.now
+        holder.entry.binding_place holder.entry.subject_place) }
+    ensures held { (namespace : Text)
+        → IsHolder policy.now.held namespace verb.now target.now (holder_shown holder.entry)
+        → IsSomeAnd result
+        (IsHeldShown policy.now holder.entry.principal.now namespace verb.now target.now) }
+{
+    let bindings: &'p [Binding] = policy.bindings();
+    let binding = bindings.get(holder.binding_place)?;
+    let no = first_allowing(policy, holder.binding_place, verb, target)?;
+    let grant = policy.grant(no);
+    Some(Why {
+        binding,
+        source: grant.source,
+        rule_place: grant.place,
+        subject_place: holder.subject_place,
+    })
+}

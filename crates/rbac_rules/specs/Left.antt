@@ -1,0 +1,51 @@
+-- The rules that an iteration has left.
+use Rattle.std.specs.Prelude.{◌≡◌, ◌<◌, ◌↔◌, List, [], ◌∷◌, Option, MatchOption, length}
+use Rattle.std.specs.Iterator.{Count, at_most}
+use Rattle.rbac_terms.specs.Principals.{Who}
+use Rattle.rbac_model.specs.Policies.{GrantView}
+use Rattle.rbac_model.specs.Sources.{grant_of}
+use Rattle.rbac_rules.specs.Effective.{ScopeView, Everywhere, InNamespace, ClusterWide, RuleView}
+use Rattle.rbac_rules.specs.Effective.{AreRulesBy}
+use Rattle.rbac_rules.specs.declared.scope.Scope.{Scope}
+use Rattle.rbac_rules.specs.declared.scope.Scope.TheVariants.{Everywhere as AskedEverywhere}
+use Rattle.rbac_rules.specs.declared.scope.Scope.TheVariants.{Namespace as AskedIn}
+use Rattle.rbac_rules.specs.declared.scope.Scope.TheVariants.{ClusterWide as AskedClusterWide}
+use Rattle.rbac_rules.specs.declared.effective.EffectiveRule.{EffectiveRule}
+
+-- where rules are asked for, as the program holds it
+abbrev pub scope_of : Scope → ScopeView
+scope_of AskedEverywhere = Everywhere
+scope_of (AskedIn namespace) = InNamespace namespace.now
+scope_of AskedClusterWide = ClusterWide
+
+-- the rule that is shown
+abbrev pub rule_shown : EffectiveRule → RuleView
+rule_shown x = record { grant = grant_of x.grant; subject_place = x.subject_place }
+
+-- what contracts see of an iteration: whose rules, where they are asked for, and the grants that
+-- haven't been passed
+pub record LeftView : Type 0 where
+  pub who : Who
+  pub scope : ScopeView
+  pub grants : List GrantView
+
+-- these rules are left
+abbrev pub AreLeft : LeftView → List RuleView → Type 0
+AreLeft v xs = AreRulesBy v.who v.scope v.grants xs
+
+-- x was the first rule that was left, and the others are left now
+pub record IsTaken (old new : LeftView) (x : RuleView) : Type 0 where
+  pub who : new.who ≡ old.who
+  pub scope : new.scope ≡ old.scope
+  pub fewer : length new.grants < length old.grants
+  pub left : (all : List RuleView) → AreLeft old all
+      ↔ ((others : List RuleView) × (all ≡ x ∷ others) × AreLeft new others)
+
+-- a call gave the first of the rules that were left, or nothing if none was left
+abbrev pub GivesRule : LeftView → Option EffectiveRule → LeftView → Type 0
+GivesRule old r new =
+    MatchOption r (AreLeft old [] × (new ≡ old)) (λ x. IsTaken old new (rule_shown x))
+
+-- how many grants haven't been passed; at most as many rules are left
+abbrev pub left_at_most : LeftView → Count
+left_at_most v = at_most (length v.grants)

@@ -1,0 +1,3 @@
+pub mod Effective
+pub mod Left
+pub mod Runs

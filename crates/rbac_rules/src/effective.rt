@@ -1,0 +1,96 @@
+//! The rules that somebody has.
+
+ghost use Rattle.std.specs.Prelude.{◌≡◌};
+ghost use Rattle.rbac_rules.specs.Left.{GivesRule, left_at_most, scope_of};
+
+use crate::run::{Run, next_run};
+use crate::scope::Scope;
+use rbac_model::{Grant, Policy};
+use rbac_terms::Principal;
+use std::marker::Model;
+
+/// A rule that somebody has.
+#[derive(Clone, Copy)]
+pub struct EffectiveRule<'a> {
+    /// The grant that brings the rule.
+    pub grant: Grant<'a>,
+    /// The place, among the subjects of the grant's binding, of the first one that names who has
+    /// the rule, from 0.
+    pub subject_place: usize,
+}
+
+/// The rules that somebody has and that weren't taken yet, in order of grants.
+#[derive(Drop)]
+pub struct EffectiveRules<'a> {
+    policy: &'a Policy,
+    who: &'a Principal,
+    scope: Scope<'a>,
+    run: Run,
+}
+
+impl<'a> Model for EffectiveRules<'a> {
+    ghost use Rattle.std.specs.Prelude.{drop};
+    ghost use Rattle.rbac_rules.specs.Left.{LeftView, scope_of};
+    ghost use Rattle.rbac_rules.specs.Runs.{IsRun};
+
+    ghost Value = { LeftView };
+
+    ghost view = { λ it. record {
+      who = it.who.now;
+      scope = scope_of it.scope;
+      grants = drop it.run.no it.policy.now.grants;
+    } };
+
+    ghost invariant = { λ it. IsRun it.policy.now it.who.now (scope_of it.scope) it.run };
+}
+
+/// The rules that a user with the groups given and implied, or a member of one group, has where
+/// they are asked for (Using RBAC Authorization): one for each grant whose binding is in force
+/// there and names them, in order of bindings, then of their rules (own). A dangling binding brings
+/// none, and an aggregated role those that it gathers. Neither this nor the iteration allocates.
+pub fn effective_rules<'a>(
+    policy: &'a Policy,
+    who: &'a Principal,
+    scope: Scope<'a>,
+) -> EffectiveRules<'a>
+    ensures { result ≡ record {
+      who = who.now;
+      scope = scope_of scope.entry;
+      grants = policy.now.grants;
+    } }
+{
+    let run = Run {
+        no: 0,
+        end: 0,
+        subject_place: 0,
+        next_place: 0,
+    };
+    EffectiveRules {
+        policy,
+        who,
+        scope,
+        run,
+    }
+}
+
+impl<'a> Iterator for EffectiveRules<'a> {
+    type Item = EffectiveRule<'a>;
+
+    ghost next_gives = { GivesRule };
+
+    ghost remaining = { left_at_most };
+
+    fn next(&mut self) -> Option<EffectiveRule<'a>> {
+        let policy: &'a Policy = self.policy;
+        let run = next_run(policy, self.who, self.scope, self.run)?;
+        let grant = policy.grant(run.no);
+        self.run = Run {
+            no: run.no + 1,
+            ..run
+        };
+        Some(EffectiveRule {
+            grant,
+            subject_place: run.subject_place,
+        })
+    }
+}

@@ -1,0 +1,40 @@
+//! Laws of effective rules, each stated by the contract of a function that does nothing.
+
+ghost use Rattle.std.specs.Prelude.{◌≡◌, [], List};
+ghost use Rattle.rbac_terms.specs.Principals.{Who};
+ghost use Rattle.rbac_terms.specs.Text.{Text};
+ghost use Rattle.rbac_model.specs.Policies.{PolicyView, IsPolicy};
+ghost use Rattle.rbac_rules.specs.Effective.{RuleView, ScopeView, Everywhere, InNamespace};
+ghost use Rattle.rbac_rules.specs.Effective.{ClusterWide, AreEffective, Decide, Explain};
+
+/// The rules that somebody has are one list: any two lists of them are the same, in the same order
+/// (own).
+pub fn effective_rules_are_one()
+    ensures { (p : PolicyView) (who : Who) (scope : ScopeView) (xs others : List RuleView)
+        → AreEffective p who scope xs → AreEffective p who scope others → xs ≡ others }
+{}
+
+/// Somebody may use a verb on a target in a namespace exactly if one of the rules that they have
+/// there, or of those that they have anywhere, allows it and is live there for the target. In no
+/// namespace, as for a URL, their ClusterRoleBindings' rules decide (Using RBAC Authorization).
+pub fn effective_rules_decide()
+    ensures there { (p : PolicyView) (who : Who) (namespace : Text) (xs : List RuleView)
+        → IsPolicy p → AreEffective p who (InNamespace namespace) xs
+        → Decide p who namespace xs }
+    ensures anywhere { (p : PolicyView) (who : Who) (namespace : Text) (xs : List RuleView)
+        → IsPolicy p → AreEffective p who Everywhere xs → Decide p who namespace xs }
+    ensures cluster_wide { (p : PolicyView) (who : Who) (xs : List RuleView) → IsPolicy p
+        → AreEffective p who ClusterWide xs → Decide p who [] xs }
+{}
+
+/// Why somebody may use a verb on a target in a namespace, by the first grant that allows it, is by
+/// the first rule that does so of those that they have there, or of those that they have anywhere.
+/// In no namespace, as for a URL, it is by the first of their ClusterRoleBindings' rules (own).
+pub fn effective_rules_explain()
+    ensures there { (p : PolicyView) (who : Who) (namespace : Text) (xs : List RuleView)
+        → AreEffective p who (InNamespace namespace) xs → Explain p who namespace xs }
+    ensures anywhere { (p : PolicyView) (who : Who) (namespace : Text) (xs : List RuleView)
+        → AreEffective p who Everywhere xs → Explain p who namespace xs }
+    ensures cluster_wide { (p : PolicyView) (who : Who) (xs : List RuleView)
+        → AreEffective p who ClusterWide xs → Explain p who [] xs }
+{}

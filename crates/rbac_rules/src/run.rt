@@ -1,0 +1,83 @@
+//! The grants of one binding, of which somebody has the rules.
+
+ghost use Rattle.std.specs.Prelude.{ℕ, ◌≤◌, ◌<◌, ◌+◌, MatchOption, length};
+ghost use Rattle.rbac_terms.specs.Granting.{Names};
+ghost use Rattle.rbac_terms.specs.declared.granting.Subject.{Subject};
+ghost use Rattle.rbac_model.specs.Lists.{IsFirstAt};
+ghost use Rattle.rbac_model.specs.Policies.{BindingNames, IsPolicy};
+ghost use Rattle.rbac_rules.specs.Left.{scope_of};
+ghost use Rattle.rbac_rules.specs.Runs.{HasAt, HasNone, IsRun, IsRunOf, IsNextRun};
+
+use crate::scope::{Scope, is_in_force};
+use rbac_model::Policy;
+use rbac_terms::{Binding, Principal, names};
+
+// The grants of one binding that are left, from number `no` up to `end`, the place of the first
+// subject that names who asks, and the place of the binding after it.
+#[derive(Clone, Copy)]
+pub(crate) struct Run {
+    pub(crate) no: u32,
+    pub(crate) end: u32,
+    pub(crate) subject_place: usize,
+    pub(crate) next_place: usize,
+}
+
+// The place of the first subject that names who asks.
+fn naming_place(binding: &Binding, who: &Principal) -> Option<usize>
+    ensures { MatchOption result (¬ BindingNames binding.now who.now)
+        (λ at. (s : Subject)
+        × IsFirstAt (λ s. Names s binding.now.namespace who.now) binding.now.subjects at s) }
+{
+    let namespace = binding.namespace.as_ref();
+    for (place, subject) in binding.subjects.as_slice().iter().enumerate() {
+        if names(subject, namespace, who) {
+            return Some(place);
+        }
+    }
+    None
+}
+
+// The grants of the binding at this place, if it has some and who asks has their rules.
+fn run_of(policy: &Policy, who: &Principal, scope: Scope<'_>, place: usize) -> Option<Run>
+    requires { place < length policy.now.held.bindings }
+    ensures run { MatchOption result
+        (HasNone policy.now who.now (scope_of scope.entry) place (place + 1))
+        (IsRunOf policy.now who.now (scope_of scope.entry) place) }
+    ensures policy { IsPolicy policy.now }
+{
+    let binding = &policy.bindings()[place];
+    if !is_in_force(scope, binding) {
+        return None;
+    }
+    let subject_place = naming_place(binding, who)?;
+    let (no, end) = policy.grants_of(place);
+    if no == end {
+        return None;
+    }
+    Some(Run {
+        no,
+        end,
+        subject_place,
+        next_place: place + 1,
+    })
+}
+
+// The run that the next rule is of, from this one on.
+pub(crate) fn next_run(policy: &Policy, who: &Principal, scope: Scope<'_>, run: Run) -> Option<Run>
+    requires { IsRun policy.now who.now (scope_of scope) run }
+    ensures next { MatchOption result
+        ((n at : ℕ) → run.no ≤ n → ¬ HasAt policy.now who.now (scope_of scope.entry) n at)
+        (IsNextRun policy.now who.now (scope_of scope.entry) run.no) }
+    ensures policy { IsPolicy policy.now }
+{
+    let places = policy.bindings().len();
+    if run.no < run.end {
+        return Some(run);
+    }
+    for place in run.next_place..places {
+        if let Some(next) = run_of(policy, who, scope, place) {
+            return Some(next);
+        }
+    }
+    None
+}
