@@ -1,20 +1,20 @@
 //! Verdicts.
 
-ghost use Rattle.std.specs.Prelude.{◌≡◌, false, IfOk, IfErr};
-ghost use Rattle.rbac_manifest.specs.Load.{LoadedView};
-ghost use Rattle.rbac_question.specs.declared.command.Action.{Action};
+ghost use Rattle.std.specs.Prelude.{◌≡◌, ◌×◌, false, IfOk, OnErr};
+ghost use Rattle.rbac_streams.specs.Taken.{Prints, StopsIn};
 ghost use Rattle.rbac_question.specs.declared.command.Action.TheVariants.{CanI};
 ghost use Rattle.rbac_cli.specs.Out.{Answers};
-ghost use Rattle.rbac_cli.specs.Ends.{is_write_fault};
-ghost use Rattle.rbac_cli.specs.Printing.{PrintsAnswer, StopsPrinting};
+ghost use Rattle.rbac_cli.specs.Printing.{is_sink_fault};
 ghost use Rattle.rbac_cli.specs.Verdicts.{verdict_text, verdict_status};
 
+use crate::lines::print_line;
 use crate::meaning::meant_by;
-use crate::outcome::{RunFault, Status, fault_of};
+use crate::outcome::Status;
+use crate::stop::Stop;
 use rbac_index::{Why, why_allowed};
 use rbac_manifest::Export;
 use rbac_question::Question;
-use rbac_streams::{Page, PrintFault, Sink};
+use rbac_streams::{Page, Sink};
 use rbac_terms::Principal;
 use rbac_text::put_why;
 use std::alloc::{AllocError, Global};
@@ -99,25 +99,17 @@ fn status_of(found: &Option<Why>) -> Status
 
 /// Prints a verdict.
 pub(crate) fn print_verdict<W: Write + Drop>(
-    verdict: Result<Verdict, AllocError>,
+    verdict: &Verdict,
     sink: &mut Sink<W>,
     page: &mut Page,
-) -> Result<Status, RunFault>
+) -> Result<Status, Stop>
     requires { sink.old.has_failed ≡ false }
-    ensures ok { (l : LoadedView) (action : Action)
-        → IfOk verdict (λ t. Answers l action t.text.items t.status)
-        → IfOk result (PrintsAnswer W.contents sink.old page.old sink.new page.new l action) }
-    ensures err { (l : LoadedView) (action : Action)
-        → IfOk verdict (λ t. Answers l action t.text.items t.status)
-        → IfErr result (StopsPrinting W.contents sink.old page.old sink.new page.new l action) }
-    ensures failed { sink.new.has_failed ≡ is_write_fault result }
+    ensures ok { IfOk result (λ status. (status ≡ verdict.now.status)
+        × Prints W.contents sink.old page.old sink.new page.new verdict.now.text.items) }
+    ensures err { OnErr result
+        (StopsIn W.contents sink.old page.old sink.new page.new verdict.now.text.items) }
+    ensures failed { sink.new.has_failed ≡ is_sink_fault result }
 {
-    let verdict = match verdict {
-        Ok(verdict) => verdict,
-        Err(_) => return Err(fault_of(page, PrintFault::NoMemory)),
-    };
-    match page.print(sink, verdict.text.as_slice()) {
-        Ok(()) => Ok(verdict.status),
-        Err(fault) => Err(fault_of(page, fault)),
-    }
+    print_line(verdict.text.as_slice(), sink, page)?;
+    Ok(verdict.status)
 }
