@@ -1,5 +1,5 @@
-use Rattle.std.specs.Prelude.{◌≡◌, ◌≢◌, ◌==◌, ◌++◌, ◌⊎◌, ℕ, Bool, true, false, not, length, List, []}
-use Rattle.std.specs.Prelude.{Option, Some, None, filter, codes, if◌then◌else◌}
+use Rattle.std.specs.Prelude.{◌≡◌, ◌≢◌, ◌==◌, ◌++◌, ◌⊎◌, ℕ, Bool, true, false, not, length}
+use Rattle.std.specs.Prelude.{List, [], Option, Some, None, filter, codes, if◌then◌else◌}
 use Rattle.std.specs.List.{slice_split}
 use Rattle.rbac_terms.specs.Text.{Text}
 use Rattle.rbac_terms.specs.Principals.{Who, AsUser, AsMember}
