@@ -4,40 +4,44 @@ use Rattle.std.specs.Prelude.{◌||◌}
 use Rattle.std.specs.Str.{bytes_eq}
 use Rattle.std.proofs.lemmas.Slice.Eq.{bytes_eq-Decides}
 use Rattle.clap.specs.Words.{Row, Text, first_of}
-use Rattle.rbac_question.specs.Lines.{QuestionParts, CanIParts, MatrixParts, MeansCanI, MeansWhoCan, MeansMatrix, AcceptsCanI, AcceptsQuestion, RefusesCanI, RefusesQuestion, RefusesMatrix, HasBadToken, IsAfter}
+use Rattle.rbac_question.specs.Lines.{CanIParts, WhoCanParts, RulesParts, MatrixParts, MeansCanI, MeansWhoCan, MeansRules, MeansMatrix, AcceptsCanI, AcceptsQuestion, RefusesCanI, RefusesQuestion, RefusesRules, RefusesMatrix, HasBadToken, IsAfter}
 use Rattle.rbac_question.specs.declared.command.Action.{Action}
-use Rattle.rbac_question.specs.declared.command.Action.TheVariants.{CanI, WhoCan, Matrix, Lint}
+use Rattle.rbac_question.specs.declared.command.Action.TheVariants.{CanI, WhoCan, Rules, Matrix, Lint}
 use Rattle.rbac_question.specs.declared.fault.QuestionFault.{QuestionFault}
-use Rattle.rbac_question.specs.declared.fault.QuestionFault.TheVariants.{EmptyWord, UrlSubresource, BadToken, NoMemory}
-use Rattle.rbac_command.specs.Meaning.{question_in, parts_in, has_flag, is_known, DoesAction, IsNumberAt, RefusesAction}
+use Rattle.rbac_question.specs.declared.fault.QuestionFault.TheVariants.{EmptyWord, UrlSubresource, BadToken, BadPrincipal, NoMemory}
+use Rattle.rbac_command.specs.Meaning.{question_in, parts_in, who_can_in, rules_in, has_flag, is_known, DoesAction, IsNumberAt, RefusesAction}
 
-first_of_four : (a b c d : Bool) → a || (b || (c || d)) ≡ true → b ≡ false → c ≡ false → d ≡ false → a ≡ true
-first_of_four true b c d h e k l = refl
-first_of_four false true c d h e k l = cc
-first_of_four false false true d h e k l = cc
-first_of_four false false false d h e k l = cc
+first_of_five : (a b c d e : Bool) → a || (b || (c || (d || e))) ≡ true → b ≡ false → c ≡ false → d ≡ false → e ≡ false → a ≡ true
+first_of_five true b c d e h i j k l = refl
+first_of_five false true c d e h i j k l = cc
+first_of_five false false true d e h i j k l = cc
+first_of_five false false false true e h i j k l = cc
+first_of_five false false false false e h i j k l = cc
 
 -- a known name that is none of the others is `can-i`
-pub the_other : (name : Text) (is_matrix is_who_can is_lint : Bool) → is_known name ≡ true
+pub the_other : (name : Text) (is_matrix is_who_can is_rules is_lint : Bool) → is_known name ≡ true
     → is_matrix ≡ bytes_eq name (codes "matrix") → is_matrix ≡ false
     → is_who_can ≡ bytes_eq name (codes "who-can") → is_who_can ≡ false
+    → is_rules ≡ bytes_eq name (codes "rules") → is_rules ≡ false
     → is_lint ≡ bytes_eq name (codes "lint") → is_lint ≡ false
     → name ≡ codes "can-i"
-the_other name is_matrix is_who_can is_lint known m no_matrix w no_who_can l no_lint =
+the_other name is_matrix is_who_can is_rules is_lint known m no_matrix w no_who_can r no_rules l no_lint =
     (bytes_eq-Decides name (codes "can-i")).0
-    (first_of_four (bytes_eq name (codes "can-i")) (bytes_eq name (codes "who-can")) (bytes_eq name (codes "matrix")) (bytes_eq name (codes "lint"))
-    known (sym w ∙ no_who_can) (sym m ∙ no_matrix) (sym l ∙ no_lint))
+    (first_of_five (bytes_eq name (codes "can-i")) (bytes_eq name (codes "who-can")) (bytes_eq name (codes "rules")) (bytes_eq name (codes "matrix"))
+    (bytes_eq name (codes "lint")) known (sym w ∙ no_who_can) (sym r ∙ no_rules) (sym m ∙ no_matrix) (sym l ∙ no_lint))
 
 as_can_i : (name : Text) (rows : List Row) (r : Result Action QuestionFault) → name ≡ codes "can-i"
     → MatchResult r (λ a. AcceptsCanI (parts_in rows) × MeansCanI (parts_in rows) a) (RefusesCanI (parts_in rows))
     → MatchResult r (DoesAction name rows) (RefusesAction name rows)
 as_can_i name rows (Ok (CanI principal quiet why question)) e h = (e, h.0, h.1)
-as_can_i name rows (Ok (WhoCan question)) e h = absurd h.1
+as_can_i name rows (Ok (WhoCan why question)) e h = absurd h.1
+as_can_i name rows (Ok (Rules principal scope)) e h = absurd h.1
 as_can_i name rows (Ok (Matrix every after limit)) e h = absurd h.1
 as_can_i name rows (Ok Lint) e h = absurd h.1
 as_can_i name rows (Err EmptyWord) e h = inl (e, h)
 as_can_i name rows (Err UrlSubresource) e h = inl (e, h)
 as_can_i name rows (Err BadToken) e h = absurd h
+as_can_i name rows (Err BadPrincipal) e h = absurd h
 as_can_i name rows (Err NoMemory) e h = tt
 
 pub can_i_line : (name : Text) (rows : List Row) (l : CanIParts) (r : Result Action QuestionFault) → name ≡ codes "can-i" → l ≡ parts_in rows
@@ -47,33 +51,57 @@ can_i_line name rows l r e same h =
     as_can_i name rows r e (subst (λ (parts : CanIParts). MatchResult r (λ a. AcceptsCanI parts × MeansCanI parts a) (RefusesCanI parts)) same h)
 
 as_who_can : (name : Text) (rows : List Row) (r : Result Action QuestionFault) → name ≡ codes "who-can"
-    → MatchResult r (λ a. AcceptsQuestion (question_in rows) × MeansWhoCan (question_in rows) a) (RefusesQuestion (question_in rows))
+    → MatchResult r (λ a. AcceptsQuestion (question_in rows) × MeansWhoCan (who_can_in rows) a) (RefusesQuestion (question_in rows))
     → MatchResult r (DoesAction name rows) (RefusesAction name rows)
 as_who_can name rows (Ok (CanI principal quiet why question)) e h = absurd h.1
-as_who_can name rows (Ok (WhoCan question)) e h = (e, h.0, h.1)
+as_who_can name rows (Ok (WhoCan why question)) e h = (e, h.0, h.1)
+as_who_can name rows (Ok (Rules principal scope)) e h = absurd h.1
 as_who_can name rows (Ok (Matrix every after limit)) e h = absurd h.1
 as_who_can name rows (Ok Lint) e h = absurd h.1
 as_who_can name rows (Err EmptyWord) e h = inr (e, h)
 as_who_can name rows (Err UrlSubresource) e h = inr (e, h)
 as_who_can name rows (Err BadToken) e h = absurd h
+as_who_can name rows (Err BadPrincipal) e h = absurd h
 as_who_can name rows (Err NoMemory) e h = tt
 
-pub who_can_line : (name : Text) (rows : List Row) (l : QuestionParts) (r : Result Action QuestionFault) → name ≡ codes "who-can" → l ≡ question_in rows
-    → MatchResult r (λ a. AcceptsQuestion l × MeansWhoCan l a) (RefusesQuestion l)
+pub who_can_line : (name : Text) (rows : List Row) (l : WhoCanParts) (r : Result Action QuestionFault) → name ≡ codes "who-can" → l ≡ who_can_in rows
+    → MatchResult r (λ a. AcceptsQuestion l.question × MeansWhoCan l a) (RefusesQuestion l.question)
     → MatchResult r (DoesAction name rows) (RefusesAction name rows)
 who_can_line name rows l r e same h =
-    as_who_can name rows r e (subst (λ (parts : QuestionParts). MatchResult r (λ a. AcceptsQuestion parts × MeansWhoCan parts a) (RefusesQuestion parts)) same h)
+    as_who_can name rows r e (subst (λ (parts : WhoCanParts). MatchResult r (λ a. AcceptsQuestion parts.question × MeansWhoCan parts a) (RefusesQuestion parts.question)) same h)
+
+as_rules : (name : Text) (rows : List Row) (r : Result Action QuestionFault) → name ≡ codes "rules"
+    → MatchResult r (MeansRules (rules_in rows)) (RefusesRules (rules_in rows))
+    → MatchResult r (DoesAction name rows) (RefusesAction name rows)
+as_rules name rows (Ok (CanI principal quiet why question)) e h = absurd h
+as_rules name rows (Ok (WhoCan why question)) e h = absurd h
+as_rules name rows (Ok (Rules principal scope)) e h = (e, h)
+as_rules name rows (Ok (Matrix every after limit)) e h = absurd h
+as_rules name rows (Ok Lint) e h = absurd h
+as_rules name rows (Err EmptyWord) e h = absurd h
+as_rules name rows (Err UrlSubresource) e h = absurd h
+as_rules name rows (Err BadToken) e h = absurd h
+as_rules name rows (Err BadPrincipal) e h = (e, h)
+as_rules name rows (Err NoMemory) e h = tt
+
+pub rules_line : (name : Text) (rows : List Row) (l : RulesParts) (r : Result Action QuestionFault) → name ≡ codes "rules" → l ≡ rules_in rows
+    → MatchResult r (MeansRules l) (RefusesRules l)
+    → MatchResult r (DoesAction name rows) (RefusesAction name rows)
+rules_line name rows l r e same h =
+    as_rules name rows r e (subst (λ (parts : RulesParts). MatchResult r (MeansRules parts) (RefusesRules parts)) same h)
 
 -- a `matrix` line does what `--every`, its token and its number say
 pub matrix_line : (name : Text) (rows : List Row) (l : MatrixParts) (r : Result Action QuestionFault) → name ≡ codes "matrix"
     → l.every ≡ has_flag (codes "every") rows → l.after ≡ first_of (codes "after") rows → IsNumberAt (codes "limit") rows l.limit → MatchResult r (MeansMatrix l) (RefusesMatrix l)
     → MatchResult r (DoesAction name rows) (RefusesAction name rows)
 matrix_line name rows l (Ok (CanI principal quiet why question)) e v f n h = absurd h
-matrix_line name rows l (Ok (WhoCan question)) e v f n h = absurd h
+matrix_line name rows l (Ok (WhoCan why question)) e v f n h = absurd h
+matrix_line name rows l (Ok (Rules principal scope)) e v f n h = absurd h
 matrix_line name rows l (Ok (Matrix every after limit)) e v f n h =
     (e, h.0 ∙ v, subst (λ (t : _). IsAfter t after) f h.1, subst (λ (m : _). IsNumberAt (codes "limit") rows m) (sym h.2) n)
 matrix_line name rows l (Ok Lint) e v f n h = absurd h
 matrix_line name rows l (Err EmptyWord) e v f n h = absurd h
 matrix_line name rows l (Err UrlSubresource) e v f n h = absurd h
 matrix_line name rows l (Err BadToken) e v f n h = (e, subst HasBadToken f h)
+matrix_line name rows l (Err BadPrincipal) e v f n h = absurd h
 matrix_line name rows l (Err NoMemory) e v f n h = tt

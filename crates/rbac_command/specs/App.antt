@@ -51,6 +51,10 @@ quiet_rule = record (new_rule (codes "quiet")) {
 abbrev pub why_rule : Rule
 why_rule = record (new_rule (codes "why")) { long = Some (codes "why"); action = Some SetTrue }
 
+-- WHO, which must be given
+abbrev pub who_rule : Rule
+who_rule = record (new_rule (codes "who")) { value_names = 1; required = true }
+
 -- VERB, which must be given
 abbrev pub verb_rule : Rule
 verb_rule = record (new_rule (codes "verb")) { value_names = 1; required = true }
@@ -98,9 +102,17 @@ can_i_app =
     with_question (with_rule
     (with_rule (with_scope (with_asker (new_app (codes "can-i")))) quiet_rule) why_rule)
 
--- who-can [-n NS] [-A] [--subresource S] VERB TARGET [FILE]..
+-- who-can [-n NS] [-A] [--subresource S] [--why] VERB TARGET [FILE]..
 abbrev pub who_can_app : App
-who_can_app = with_question (with_scope (new_app (codes "who-can")))
+who_can_app = with_question (with_rule (with_scope (new_app (codes "who-can"))) why_rule)
+
+-- rules [--groups A,B] [-n NS] [-A] WHO [FILE]..
+abbrev pub rules_app : App
+rules_app =
+    with_rule (with_rule
+    (with_rule (with_rule
+    (with_rule (new_app (codes "rules")) groups_rule) namespace_rule) all_rule) who_rule)
+    files_rule
 
 -- matrix [--every] [--after TOKEN] [--limit N] [FILE]..
 abbrev pub matrix_app : App
@@ -130,5 +142,6 @@ bare_app = as_program (new_app (codes "rbacaudit"))
 unfoldable pub rbac_app : App
 rbac_app =
     with_subcommand (with_subcommand
-    (with_subcommand (with_subcommand bare_app can_i_app.top) who_can_app.top) matrix_app.top)
+    (with_subcommand (with_subcommand
+    (with_subcommand bare_app can_i_app.top) who_can_app.top) rules_app.top) matrix_app.top)
     lint_app.top

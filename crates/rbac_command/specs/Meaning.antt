@@ -1,15 +1,17 @@
 -- What the words of a command line mean, according to `clap`'s matches.
-use Rattle.std.specs.Prelude.{◌≡◌, ◌||◌, ◌⊎◌, ◌<◌, ◌^◌, ℕ, Bool, true, false, List, [], Option}
+use Rattle.std.specs.Prelude.{◌≡◌, ◌||◌, ◌⊎◌, ◌<◌, ◌^◌, ℕ, Bool, List, [], Option}
 use Rattle.std.specs.Prelude.{Some, None, Result, map, codes, unwrap_or, MatchResult, string_bytes}
 use Rattle.std.specs.Str.{bytes_eq}
 use Rattle.std.specs.Str.Parse.{IsNumeral, without_leading_plus, digits_value}
 use Rattle.clap.specs.Words.{Row, Text, all_of, fault_of, first_of, kind_of, one_of, subcommand_of}
 use Rattle.clap.specs.Kinds.{IsAmong}
-use Rattle.rbac_question.specs.Lines.{QuestionParts, CanIParts, MeansCanI, MeansWhoCan, AcceptsCanI}
-use Rattle.rbac_question.specs.Lines.{AcceptsQuestion, RefusesCanI, RefusesQuestion, HasBadToken}
+use Rattle.rbac_question.specs.Lines.{QuestionParts, CanIParts, WhoCanParts, RulesParts, MeansCanI}
+use Rattle.rbac_question.specs.Lines.{MeansWhoCan, MeansRules, AcceptsCanI, AcceptsQuestion}
+use Rattle.rbac_question.specs.Lines.{RefusesCanI, RefusesQuestion, HasBadToken, HasBadPrincipal}
 use Rattle.rbac_question.specs.Lines.{IsAfter}
 use Rattle.rbac_question.specs.declared.command.Action.{Action}
-use Rattle.rbac_question.specs.declared.command.Action.TheVariants.{CanI, WhoCan, Matrix, Lint}
+use Rattle.rbac_question.specs.declared.command.Action.TheVariants.{CanI, WhoCan, Rules, Matrix}
+use Rattle.rbac_question.specs.declared.command.Action.TheVariants.{Lint}
 use Rattle.rbac_question.specs.declared.command.Command.{Command}
 use Rattle.rbac_question.specs.declared.fault.QuestionFault.{QuestionFault}
 use Rattle.rbac_question.specs.declared.fault.QuestionFault.TheVariants as question
@@ -17,7 +19,7 @@ use Rattle.rbac_command.specs.App.{rbac_app}
 use Rattle.rbac_command.specs.declared.fault.UsageFault.{UsageFault}
 use Rattle.rbac_command.specs.declared.fault.UsageFault.TheVariants.{Refused, EmptyWord}
 use Rattle.rbac_command.specs.declared.fault.UsageFault.TheVariants.{UrlSubresource, BadToken}
-use Rattle.rbac_command.specs.declared.fault.UsageFault.TheVariants.{NoMemory}
+use Rattle.rbac_command.specs.declared.fault.UsageFault.TheVariants.{BadPrincipal, NoMemory}
 
 -- ---- what is under an id
 
@@ -53,6 +55,19 @@ parts_in rows = record {
   question = question_in rows;
 }
 
+-- the parts of a `who-can` line
+abbrev pub who_can_in : List Row → WhoCanParts
+who_can_in rows = record { why = has_flag (codes "why") rows; question = question_in rows }
+
+-- the parts of a `rules` line
+abbrev pub rules_in : List Row → RulesParts
+rules_in rows = record {
+  who = text_at (codes "who") rows;
+  groups = text_at (codes "groups") rows;
+  namespace = text_at (codes "namespace") rows;
+  all_namespaces = has_flag (codes "all") rows;
+}
+
 -- the text is a 32-bit number: decimal digits, with an optional plus sign before them
 abbrev pub IsNumberText : Text → Type 0
 IsNumberText text = IsNumeral 10 (without_leading_plus text)
@@ -75,16 +90,19 @@ IsNumberAt id rows number = IsNumber (one_of id rows) number
 abbrev pub is_known : Text → Bool
 is_known name = bytes_eq name (codes "can-i")
     || (bytes_eq name (codes "who-can")
-    || (bytes_eq name (codes "matrix") || bytes_eq name (codes "lint")))
+    || (bytes_eq name (codes "rules")
+    || (bytes_eq name (codes "matrix") || bytes_eq name (codes "lint"))))
 
 -- what the subcommand of that name does, according to its matches
 abbrev pub DoesAction : Text → List Row → Action → Type 0
 DoesAction name rows (CanI principal quiet why question) =
     (name ≡ codes "can-i") × AcceptsCanI (parts_in rows)
     × MeansCanI (parts_in rows) (CanI principal quiet why question)
-DoesAction name rows (WhoCan question) =
+DoesAction name rows (WhoCan why question) =
     (name ≡ codes "who-can") × AcceptsQuestion (question_in rows)
-    × MeansWhoCan (question_in rows) (WhoCan question)
+    × MeansWhoCan (who_can_in rows) (WhoCan why question)
+DoesAction name rows (Rules principal scope) =
+    (name ≡ codes "rules") × MeansRules (rules_in rows) (Rules principal scope)
 DoesAction name rows (Matrix every after limit) =
     (name ≡ codes "matrix") × (every ≡ has_flag (codes "every") rows)
     × IsAfter (first_of (codes "after") rows) after × IsNumberAt (codes "limit") rows limit
@@ -103,11 +121,13 @@ Means (Some p) c = MeansRows p.0 p.1 c
 -- ---- refusals
 
 -- the refusal of a subcommand's matches: out of memory may come at any time; besides it, `matrix`
--- has only U4, no other has U4, and `lint` has none
+-- has only U4 and `rules` only U5, no other has these, and `lint` has none
 abbrev pub RefusesAction : Text → List Row → QuestionFault → Type 0
 RefusesAction name rows question.NoMemory = Unit {0}
 RefusesAction name rows question.BadToken = (name ≡ codes "matrix")
     × HasBadToken (first_of (codes "after") rows)
+RefusesAction name rows question.BadPrincipal = (name ≡ codes "rules")
+    × HasBadPrincipal (rules_in rows)
 RefusesAction name rows e = ((name ≡ codes "can-i") × RefusesCanI (parts_in rows) e)
     ⊎ ((name ≡ codes "who-can") × RefusesQuestion (question_in rows) e)
 
@@ -117,6 +137,7 @@ IsCauseOf None e = ⊥
 IsCauseOf (Some p) EmptyWord = RefusesAction p.0 p.1 question.EmptyWord
 IsCauseOf (Some p) UrlSubresource = RefusesAction p.0 p.1 question.UrlSubresource
 IsCauseOf (Some p) BadToken = RefusesAction p.0 p.1 question.BadToken
+IsCauseOf (Some p) BadPrincipal = RefusesAction p.0 p.1 question.BadPrincipal
 IsCauseOf (Some p) NoMemory = RefusesAction p.0 p.1 question.NoMemory
 IsCauseOf (Some p) (Refused e) = ⊥
 

@@ -7,7 +7,8 @@ ghost use Rattle.rbac_command.specs.App.{every_rule, after_rule, limit_rule, use
 ghost use Rattle.rbac_command.specs.App.{groups_rule, namespace_rule, all_rule, subresource_rule};
 ghost use Rattle.rbac_command.specs.App.{quiet_rule, why_rule, verb_rule, target_rule, files_rule};
 ghost use Rattle.rbac_command.specs.App.{with_scope, with_question, can_i_app, who_can_app};
-ghost use Rattle.rbac_command.specs.App.{matrix_app, lint_app, bare_app, rbac_app};
+ghost use Rattle.rbac_command.specs.App.{rules_app, matrix_app, lint_app, bare_app, rbac_app};
+ghost use Rattle.rbac_command.specs.App.{who_rule};
 
 use clap::{Arg, ArgAction, Command, value_parser};
 use std::alloc::{AllocError, Global};
@@ -41,9 +42,34 @@ const WHO_CAN_MORE: &str =
     "The exit status is 0, also where nobody may; 2 is an error. Holders that are limited to object
 names are listed only where TARGET names the object.
 
+With --why four fields follow the binding: ROLE, SOURCE, RULE and SUBJECT, as in can-i --help. They
+are of the first rule of that binding that allows it, and of the first subject that is the holder.
+
 Examples:
   rbacaudit who-can -n dev delete secrets cluster.json namespaced.json
+  rbacaudit who-can -n dev --why delete secrets cluster.json namespaced.json
   rbacaudit who-can get /metrics cluster.json";
+
+const RULES_MORE: &str = "A line has ten fields, joined by tabs:
+  BINDING    a binding that names WHO, or a group of WHO
+  ROLE       the role that the binding names
+  SOURCE     the role where the rule is written: an aggregated ROLE gathers it from there
+  RULE       the number of the rule in SOURCE, from 1
+  SUBJECT    the number of the first such subject in BINDING, from 1
+  VERBS      the verbs of the rule
+  GROUPS     its API groups
+  RESOURCES  its resources
+  NAMES      its object names
+  URLS       its URLs
+The last five are lists, as [get,list]. [] is the empty list; - in a list is the empty word, as the
+core API group; a comma in a word is \\x2c.
+
+WHO is the first field of a line of who-can or matrix, taken as it is: undo its escapes first. With
+a group, --groups is refused. The exit status is 0, also without a line; 2 is an error.
+
+Examples:
+  rbacaudit rules u:alice --groups dev cluster.json namespaced.json
+  rbacaudit rules u:system:serviceaccount:shop:ci -n shop *.json";
 
 const MATRIX_MORE: &str =
     "A line has seven fields, joined by tabs: who (u:USER or g:GROUP), namespace, verb,
@@ -79,6 +105,22 @@ const LINT_MORE: &str = "A line has five fields, joined by tabs; - is an empty f
 Example:
   rbacaudit lint cluster.json namespaced.json";
 
+// The help texts of options that several commands have.
+const NAMESPACE: &str = "Namespace to check (default: default)";
+
+const ALL: &str = "Check all namespaces at once: only ClusterRoleBindings grant this; overrides -n";
+
+const WHY: &str = "After yes, print why: BINDING, its ROLE, the SOURCE role, its RULE, the SUBJECT";
+
+const WHO_CAN_WHY: &str =
+    "After the binding, print why: its ROLE, the SOURCE role, its RULE, the SUBJECT";
+
+const RULES_NAMESPACE: &str =
+    "Namespace whose RoleBindings count, with all ClusterRoleBindings (default: any)";
+
+const RULES_ALL: &str =
+    "Only what holds in all namespaces at once: ClusterRoleBindings; overrides -n";
+
 fn user_arg<'a>(alloc: Global) -> Arg<'a>
     ensures rule { rule_of result ≡ user_rule }
     ensures local { result.global ≡ false }
@@ -100,7 +142,7 @@ fn groups_arg<'a>(alloc: Global) -> Arg<'a>
         .help("Groups of the user beside the implied ones, e.g. dev,ops (default: none)")
 }
 
-fn namespace_arg<'a>(alloc: Global) -> Arg<'a>
+fn namespace_arg<'a>(alloc: Global, help: &'a str) -> Arg<'a>
     ensures rule { rule_of result ≡ namespace_rule }
     ensures local { result.global ≡ false }
 {
@@ -108,10 +150,10 @@ fn namespace_arg<'a>(alloc: Global) -> Arg<'a>
         .short('n')
         .long("namespace")
         .value_name("NS")
-        .help("Namespace to check (default: default)")
+        .help(help)
 }
 
-fn all_arg<'a>(alloc: Global) -> Arg<'a>
+fn all_arg<'a>(alloc: Global, help: &'a str) -> Arg<'a>
     ensures rule { rule_of result ≡ all_rule }
     ensures local { result.global ≡ false }
 {
@@ -119,7 +161,7 @@ fn all_arg<'a>(alloc: Global) -> Arg<'a>
         .short('A')
         .long("all-namespaces")
         .action(ArgAction::SetTrue)
-        .help("Check all namespaces at once: only ClusterRoleBindings grant this; overrides -n")
+        .help(help)
 }
 
 fn subresource_arg<'a>(alloc: Global) -> Arg<'a>
@@ -143,14 +185,23 @@ fn quiet_arg<'a>(alloc: Global) -> Arg<'a>
         .help("Print nothing: the exit status is the answer")
 }
 
-fn why_arg<'a>(alloc: Global) -> Arg<'a>
+fn why_arg<'a>(alloc: Global, help: &'a str) -> Arg<'a>
     ensures rule { rule_of result ≡ why_rule }
     ensures local { result.global ≡ false }
 {
     Arg::new(alloc, "why")
         .long("why")
         .action(ArgAction::SetTrue)
-        .help("After yes, print why: BINDING, its ROLE, the SOURCE role, its RULE, the SUBJECT")
+        .help(help)
+}
+
+fn who_arg<'a>(alloc: Global) -> Arg<'a>
+    ensures rule { rule_of result ≡ who_rule }
+    ensures local { result.global ≡ false }
+{
+    Arg::new(alloc, "who").value_name("WHO").required(true).help(
+        "u:USER or g:GROUP, e.g. u:alice, u:system:serviceaccount:dev:ci or g:dev",
+    )
 }
 
 fn verb_arg<'a>(alloc: Global) -> Arg<'a>
@@ -233,8 +284,8 @@ fn with_scope<'a>(alloc: Global, command: Built<'a>) -> Built<'a>
     ensures app { IfOk result (λ r. IsOkAnd command.entry (λ c. app_of r ≡ with_scope (app_of c))) }
     ensures local { IfOk result (λ r. (fields_of r).has_globals ≡ false) }
 {
-    let command = with(command, namespace_arg(alloc));
-    let command = with(command, all_arg(alloc));
+    let command = with(command, namespace_arg(alloc, NAMESPACE));
+    let command = with(command, all_arg(alloc, ALL));
     with(command, subresource_arg(alloc))
 }
 
@@ -271,7 +322,7 @@ fn can_i<'a>(alloc: Global) -> Built<'a>
     let command = with(command, groups_arg(alloc));
     let command = with_scope(alloc, command);
     let command = with(command, quiet_arg(alloc));
-    let command = with(command, why_arg(alloc));
+    let command = with(command, why_arg(alloc, WHY));
     with_question(alloc, command)
 }
 
@@ -286,7 +337,25 @@ fn who_can<'a>(alloc: Global) -> Built<'a>
         WHO_CAN_MORE,
     );
     let command = with_scope(alloc, Ok(command));
+    let command = with(command, why_arg(alloc, WHO_CAN_WHY));
     with_question(alloc, command)
+}
+
+fn rules<'a>(alloc: Global) -> Built<'a>
+    ensures app { IfOk result (λ r. app_of r ≡ rules_app) }
+    ensures local { IfOk result (λ r. (fields_of r).has_globals ≡ false) }
+{
+    let command = named(
+        alloc,
+        "rules",
+        "List the rules that WHO has: a line for each, with the binding that brings it",
+        RULES_MORE,
+    );
+    let command = with(Ok(command), groups_arg(alloc));
+    let command = with(command, namespace_arg(alloc, RULES_NAMESPACE));
+    let command = with(command, all_arg(alloc, RULES_ALL));
+    let command = with(command, who_arg(alloc));
+    with(command, files_arg(alloc))
 }
 
 fn matrix<'a>(alloc: Global) -> Built<'a>
@@ -357,6 +426,7 @@ pub(crate) fn program<'a>(alloc: Global) -> Result<Command<'a>, AllocError>
     let command = with_bin_name(bare(alloc), "rbacaudit")?;
     let command = with_sub(command, can_i(alloc))?;
     let command = with_sub(command, who_can(alloc))?;
+    let command = with_sub(command, rules(alloc))?;
     let command = with_sub(command, matrix(alloc))?;
     with_sub(command, lint(alloc))
 }

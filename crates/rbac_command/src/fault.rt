@@ -19,6 +19,8 @@ pub enum UsageFault {
     UrlSubresource,
     /// U4: what follows `--after` isn't the token of any mark.
     BadToken,
+    /// U5: WHO isn't `u:` or `g:` with a name behind it, or `--groups` gives groups to a group.
+    BadPrincipal,
     /// Out of memory.
     NoMemory,
 }
@@ -53,6 +55,7 @@ impl From<QuestionFault> for UsageFault {
             QuestionFault::EmptyWord => UsageFault::EmptyWord,
             QuestionFault::UrlSubresource => UsageFault::UrlSubresource,
             QuestionFault::BadToken => UsageFault::BadToken,
+            QuestionFault::BadPrincipal => UsageFault::BadPrincipal,
             QuestionFault::NoMemory => UsageFault::NoMemory,
         }
     }
@@ -69,6 +72,7 @@ impl fmt::Display for UsageFault {
             UsageFault::EmptyWord => write!(f, "{}", QuestionFault::EmptyWord),
             UsageFault::UrlSubresource => write!(f, "{}", QuestionFault::UrlSubresource),
             UsageFault::BadToken => write!(f, "{}", QuestionFault::BadToken),
+            UsageFault::BadPrincipal => write!(f, "{}", QuestionFault::BadPrincipal),
             UsageFault::NoMemory => write!(f, "{}", QuestionFault::NoMemory),
         }
     }

@@ -8,13 +8,15 @@ ghost use Rattle.clap.specs.Words.{subcommand_of, fault_of};
 ghost use Rattle.rbac_command.specs.App.{rbac_app};
 ghost use Rattle.rbac_command.specs.Meaning.{text_at, has_flag, IsNumberAt, files_in, question_in};
 ghost use Rattle.rbac_command.specs.Meaning.{parts_in, is_known, DoesAction, RefusesAction, Means};
-ghost use Rattle.rbac_command.specs.Meaning.{IsCauseOf, IsRefusal, IsAnswer};
+ghost use Rattle.rbac_command.specs.Meaning.{IsCauseOf, IsRefusal, IsAnswer, who_can_in, rules_in};
 
 use crate::build::program;
 use crate::fault::UsageFault;
 use clap::ArgMatches;
 use clap::error::ErrorKind;
-use rbac_question::{Action, CanILine, Command, MatrixLine, QuestionFault, QuestionLine};
+use rbac_question::{
+    Action, CanILine, Command, MatrixLine, QuestionFault, QuestionLine, RulesLine, WhoCanLine,
+};
 use std::alloc::{AllocError, Global};
 
 // The first value of `id`, stated in terms of a parse's rows.
@@ -68,6 +70,31 @@ fn line_of<'a>(matches: &ArgMatches<'a>) -> CanILine<'a>
         quiet: flag_of(matches, "quiet"),
         why: flag_of(matches, "why"),
         question: question_of(matches),
+    }
+}
+
+// The parts of a `who-can` line.
+fn who_can_line_of<'a>(matches: &ArgMatches<'a>) -> WhoCanLine<'a>
+    ensures { result ≡ who_can_in (rows_of (found_of matches.now)) }
+{
+    let why = flag_of(matches, "why");
+    let question = question_of(matches);
+    WhoCanLine { why, question }
+}
+
+// The parts of a `rules` line.
+fn rules_line_of<'a>(matches: &ArgMatches<'a>) -> RulesLine<'a>
+    ensures { result ≡ rules_in (rows_of (found_of matches.now)) }
+{
+    let who = text_of(matches, "who");
+    let groups = text_of(matches, "groups");
+    let namespace = text_of(matches, "namespace");
+    let all_namespaces = flag_of(matches, "all");
+    RulesLine {
+        who,
+        groups,
+        namespace,
+        all_namespaces,
     }
 }
 
@@ -130,7 +157,10 @@ fn action_of(alloc: Global, name: &str, matches: &ArgMatches<'_>) -> Result<Acti
         return Action::matrix(alloc, &matrix_line_of(matches));
     }
     if name == "who-can" {
-        return Action::who_can(alloc, &question_of(matches));
+        return Action::who_can(alloc, &who_can_line_of(matches));
+    }
+    if name == "rules" {
+        return Action::rules(alloc, &rules_line_of(matches));
     }
     if name == "lint" {
         return Ok(Action::Lint);
@@ -163,7 +193,7 @@ fn meaning_of(alloc: Global, matches: &ArgMatches<'_>) -> Result<Command, UsageF
 
 /// The command that the words mean; the first word is the program's name.
 ///
-/// U1 if `clap` refuses the words, or help or the version is asked for, then U2, U3 and U4.
+/// U1 if `clap` refuses the words, or help or the version is asked for, then U2, U3, U4 and U5.
 pub fn command_of(alloc: Global, words: &[String]) -> Result<Command, UsageFault>
     ensures { IsAnswer (map string_bytes words.now) result }
 {

@@ -1,7 +1,18 @@
--- a byte that stands at no place isn't among a text's
-use Rattle.std.proofs.Common.{◌≢◌, ℕ, ◌<◌, length, get_or, Contains, ◌∙◌}
+-- a byte that stands at no place isn't among a text's, and names behind a key's mark
+use Rattle.std.proofs.Common.{◌≡◌, ◌≢◌, ℕ, ◌<◌, length, get_or, Contains, ◌∙◌, [], ◌++◌, false, ◌∷◌, Bor, MatchOption}
+use Rattle.std.specs.Prelude.{Option, Some, None, ◌==◌}
 use Rattle.std.proofs.lemmas.List.{get_or_default}
 use Rattle.rbac_terms.specs.Text.{Text}
 
 pub lacks : (x : Text) (b : ℕ) → ((i : ℕ) → i < length x → get_or x i 0 ≢ b) → Contains x b → ⊥
 lacks x b h w = h w.0 w.1 (get_or_default x w.0 0 b w.1 ∙ w.2)
+
+-- no name stands behind the mark, and so none that isn't empty
+pub not_behind : (key mark : Text) (r : Option (Bor Text)) → r ≡ None → ((name : Text) → key ≢ mark ++ name)
+    → MatchOption r ((name : Text) → key ≡ mark ++ name → name ≡ []) (λ name. (key ≡ mark ++ name.now) × (name.now ≢ []))
+not_behind key mark None e h = λ name k. absurd (h name k)
+not_behind key mark (Some x) e h = cc
+
+pub not_empty : (x : Text) → (length x == 0) ≡ false → x ≢ []
+not_empty [] h = cc
+not_empty (b ∷ x) h = λ e. cc

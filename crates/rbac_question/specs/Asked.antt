@@ -5,7 +5,8 @@ use Rattle.rbac_question.specs.declared.asked.AskedFor.TheVariants.{Url as ForUr
 use Rattle.rbac_question.specs.declared.asked.AskedFor.TheVariants.{Resource as ForResource}
 use Rattle.rbac_question.specs.declared.fault.QuestionFault.{QuestionFault}
 use Rattle.rbac_question.specs.declared.fault.QuestionFault.TheVariants.{EmptyWord, UrlSubresource}
-use Rattle.rbac_question.specs.declared.fault.QuestionFault.TheVariants.{BadToken, NoMemory}
+use Rattle.rbac_question.specs.declared.fault.QuestionFault.TheVariants.{BadToken, BadPrincipal}
+use Rattle.rbac_question.specs.declared.fault.QuestionFault.TheVariants.{NoMemory}
 
 -- a type word is not empty, has something before its first dot, and has no slash
 abbrev pub IsTypeWord : Text → Type 0
@@ -41,4 +42,5 @@ abbrev pub RefusesTarget : Text → Text → QuestionFault → Type 0
 RefusesTarget target subresource EmptyWord = LacksType target
 RefusesTarget target subresource UrlSubresource = HasUrlSubresource target subresource
 RefusesTarget target subresource BadToken = ⊥
+RefusesTarget target subresource BadPrincipal = ⊥
 RefusesTarget target subresource NoMemory = Unit {0}

@@ -1,7 +1,8 @@
 use Rattle.std.specs.Prelude.{List, ℕ, codes}
 use Rattle.rbac_question.specs.declared.fault.QuestionFault.{QuestionFault}
 use Rattle.rbac_question.specs.declared.fault.QuestionFault.TheVariants.{EmptyWord, UrlSubresource}
-use Rattle.rbac_question.specs.declared.fault.QuestionFault.TheVariants.{BadToken, NoMemory}
+use Rattle.rbac_question.specs.declared.fault.QuestionFault.TheVariants.{BadToken, BadPrincipal}
+use Rattle.rbac_question.specs.declared.fault.QuestionFault.TheVariants.{NoMemory}
 use Rattle.rbac_token.specs.declared.fault.TokenFault.{TokenFault}
 use Rattle.rbac_token.specs.declared.fault.TokenFault.TheVariants as token
 
@@ -10,6 +11,7 @@ abbrev pub fault_text : QuestionFault → List ℕ
 fault_text EmptyWord = codes "U2 empty word"
 fault_text UrlSubresource = codes "U3 subresource with a URL"
 fault_text BadToken = codes "U4 bad token"
+fault_text BadPrincipal = codes "U5 bad principal"
 fault_text NoMemory = codes "out of memory"
 
 -- why a text is no token, as the refusal of the line that contains it

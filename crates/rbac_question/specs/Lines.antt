@@ -1,17 +1,21 @@
-use Rattle.std.specs.Prelude.{◌≡◌, ◌≢◌, ◌==◌, ◌⊎◌, ℕ, Bool, true, false, not, length, List, []}
-use Rattle.std.specs.Prelude.{Option, Some, None, filter, codes, if◌then◌else◌}
+use Rattle.std.specs.Prelude.{◌≡◌, ◌≢◌, ◌==◌, ◌++◌, ◌⊎◌, ℕ, Bool, true, false, not, length}
+use Rattle.std.specs.Prelude.{List, [], Option, Some, None, filter, codes, if◌then◌else◌}
 use Rattle.std.specs.List.{slice_split}
 use Rattle.rbac_terms.specs.Text.{Text}
-use Rattle.rbac_terms.specs.Principals.{AsUser}
+use Rattle.rbac_terms.specs.Principals.{Who, AsUser, AsMember}
 use Rattle.rbac_token.specs.Marks.{IsTokenOfMark}
 use Rattle.rbac_token.specs.declared.mark.Mark.{Mark}
 use Rattle.rbac_question.specs.Asked.{AsksFor, LacksType, HasUrlSubresource}
 use Rattle.rbac_question.specs.declared.command.Action.{Action}
-use Rattle.rbac_question.specs.declared.command.Action.TheVariants.{CanI, WhoCan, Matrix}
+use Rattle.rbac_question.specs.declared.command.Action.TheVariants.{CanI, WhoCan, Matrix, Rules}
 use Rattle.rbac_question.specs.declared.command.Question.{Question}
+use Rattle.rbac_question.specs.declared.command.Scope.{Scope}
+use Rattle.rbac_question.specs.declared.command.Scope.TheVariants.{Everywhere, Namespace}
+use Rattle.rbac_question.specs.declared.command.Scope.TheVariants.{ClusterWide}
 use Rattle.rbac_question.specs.declared.fault.QuestionFault.{QuestionFault}
 use Rattle.rbac_question.specs.declared.fault.QuestionFault.TheVariants.{EmptyWord, UrlSubresource}
-use Rattle.rbac_question.specs.declared.fault.QuestionFault.TheVariants.{BadToken, NoMemory}
+use Rattle.rbac_question.specs.declared.fault.QuestionFault.TheVariants.{BadToken, BadPrincipal}
+use Rattle.rbac_question.specs.declared.fault.QuestionFault.TheVariants.{NoMemory}
 
 -- the parts of a line that ask a question; the text of an option that isn't given is empty
 pub record QuestionParts : Type 0 where
@@ -28,6 +32,18 @@ pub record CanIParts : Type 0 where
   pub quiet : Bool
   pub why : Bool
   pub question : QuestionParts
+
+-- the parts of a `who-can` line
+pub record WhoCanParts : Type 0 where
+  pub why : Bool
+  pub question : QuestionParts
+
+-- the parts of a `rules` line; the text of an option that isn't given is empty
+pub record RulesParts : Type 0 where
+  pub who : Text
+  pub groups : Text
+  pub namespace : Text
+  pub all_namespaces : Bool
 
 -- the parts of a `matrix` line: `--every`, the token of `--after` and the number of `--limit`
 pub record MatrixParts : Type 0 where
@@ -69,9 +85,29 @@ MeansCanI l (CanI principal quiet why question) =
 MeansCanI l action = ⊥
 
 -- what a `who-can` line means: it asks who is allowed what the question asks
-abbrev pub MeansWhoCan : QuestionParts → Action → Type 0
-MeansWhoCan l (WhoCan question) = IsQuestion l question
+abbrev pub MeansWhoCan : WhoCanParts → Action → Type 0
+MeansWhoCan l (WhoCan why question) = (why ≡ l.why) × IsQuestion l.question question
 MeansWhoCan l action = ⊥
+
+-- WHO names the principal: `u:` and a user's name, who is given the groups of `--groups`, or `g:`
+-- and a group's name, where `--groups` isn't given or is empty (own)
+abbrev pub NamesPrincipal : RulesParts → Who → Type 0
+NamesPrincipal l (AsUser name given) = (l.who ≡ codes "u:" ++ name) × (name ≢ [])
+    × (given ≡ groups_in l.groups)
+NamesPrincipal l (AsMember group) = (l.who ≡ codes "g:" ++ group) × (group ≢ [])
+    × (l.groups ≡ [])
+
+-- `-A` is all of the cluster at once and wins over `-n`; an empty or missing `-n` is everywhere
+-- (own)
+abbrev pub scope_meant : Bool → Text → Scope
+scope_meant true given = ClusterWide
+scope_meant false given = if length given == 0 then Everywhere else Namespace given
+
+-- what a `rules` line means: it asks for the rules that the principal has there
+abbrev pub MeansRules : RulesParts → Action → Type 0
+MeansRules l (Rules principal scope) = NamesPrincipal l principal
+    × (scope ≡ scope_meant l.all_namespaces l.namespace)
+MeansRules l action = ⊥
 
 -- the mark is the one whose token is given; there is none if no token is given (own)
 abbrev pub IsAfter : Option Text → Option Mark → Type 0
@@ -91,6 +127,7 @@ abbrev pub RefusesUser : Text → QuestionFault → Type 0
 RefusesUser user EmptyWord = user ≡ []
 RefusesUser user UrlSubresource = ⊥
 RefusesUser user BadToken = ⊥
+RefusesUser user BadPrincipal = ⊥
 RefusesUser user NoMemory = Unit {0}
 
 -- U2 of a question: VERB or TARGET is empty, or the type word has nothing before its dot (own)
@@ -106,6 +143,7 @@ abbrev pub RefusesQuestion : QuestionParts → QuestionFault → Type 0
 RefusesQuestion l EmptyWord = LacksWord l
 RefusesQuestion l UrlSubresource = (¬ LacksWord l) × HasUrlSubresource l.target l.subresource
 RefusesQuestion l BadToken = ⊥
+RefusesQuestion l BadPrincipal = ⊥
 RefusesQuestion l NoMemory = Unit {0}
 
 -- a `can-i` line without U2 and U3; here an empty USER is U2 too (own)
@@ -117,6 +155,7 @@ abbrev pub RefusesCanI : CanIParts → QuestionFault → Type 0
 RefusesCanI l EmptyWord = (l.user ≡ []) ⊎ LacksWord l.question
 RefusesCanI l UrlSubresource = (l.user ≢ []) × RefusesQuestion l.question UrlSubresource
 RefusesCanI l BadToken = ⊥
+RefusesCanI l BadPrincipal = ⊥
 RefusesCanI l NoMemory = Unit {0}
 
 -- U4: a text is given that isn't the token of any mark, with or without `--every` (own)
@@ -129,4 +168,17 @@ abbrev pub RefusesMatrix : MatrixParts → QuestionFault → Type 0
 RefusesMatrix l EmptyWord = ⊥
 RefusesMatrix l UrlSubresource = ⊥
 RefusesMatrix l BadToken = HasBadToken l.after
+RefusesMatrix l BadPrincipal = ⊥
 RefusesMatrix l NoMemory = Unit {0}
+
+-- U5: WHO and `--groups` name no principal (own)
+abbrev pub HasBadPrincipal : RulesParts → Type 0
+HasBadPrincipal l = (p : Who) → ¬ NamesPrincipal l p
+
+-- the refusal of a `rules` line; out of memory may come at any time
+abbrev pub RefusesRules : RulesParts → QuestionFault → Type 0
+RefusesRules l EmptyWord = ⊥
+RefusesRules l UrlSubresource = ⊥
+RefusesRules l BadToken = ⊥
+RefusesRules l BadPrincipal = HasBadPrincipal l
+RefusesRules l NoMemory = Unit {0}

@@ -16,6 +16,17 @@ pub struct Question {
     pub asked: Asked,
 }
 
+/// Where rules are asked for (own).
+#[derive(Drop)]
+pub enum Scope {
+    /// Wherever a binding is in force: neither `-n` nor `-A` is given.
+    Everywhere,
+    /// In the namespace that `-n` names; never empty.
+    Namespace(Word),
+    /// In all of the cluster at once: `-A` is given.
+    ClusterWide,
+}
+
 /// What to do.
 #[derive(Drop)]
 pub enum Action {
@@ -32,8 +43,17 @@ pub enum Action {
     },
     /// Lists who is allowed what is asked.
     WhoCan {
+        /// Whether each line goes on with why: the role, its source, the rule and the subject.
+        why: bool,
         /// What is asked.
         question: Question,
+    },
+    /// Lists the rules that a principal has.
+    Rules {
+        /// Who is asked about: the user or the group of WHO, a user with the groups of `--groups`.
+        principal: Principal,
+        /// Where, from `-n` and `-A`.
+        scope: Scope,
     },
     /// Lists everything that anyone may do.
     Matrix {

@@ -16,6 +16,8 @@ pub enum QuestionFault {
     UrlSubresource,
     /// U4: what follows `--after` isn't the token of any mark.
     BadToken,
+    /// U5: WHO isn't `u:` or `g:` with a name behind it, or `--groups` gives groups to a group.
+    BadPrincipal,
     /// Out of memory.
     NoMemory,
 }
@@ -66,6 +68,7 @@ impl fmt::Display for QuestionFault {
             QuestionFault::EmptyWord => write!(f, "U2 empty word"),
             QuestionFault::UrlSubresource => write!(f, "U3 subresource with a URL"),
             QuestionFault::BadToken => write!(f, "U4 bad token"),
+            QuestionFault::BadPrincipal => write!(f, "U5 bad principal"),
             QuestionFault::NoMemory => write!(f, "out of memory"),
         }
     }

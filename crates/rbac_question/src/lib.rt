@@ -8,6 +8,6 @@ mod fault;
 mod line;
 
 pub use asked::{Asked, AskedFor};
-pub use command::{Action, Command, Question};
+pub use command::{Action, Command, Question, Scope};
 pub use fault::QuestionFault;
-pub use line::{CanILine, MatrixLine, QuestionLine};
+pub use line::{CanILine, MatrixLine, QuestionLine, RulesLine, WhoCanLine};

@@ -1,15 +1,19 @@
 //! What the texts of a line mean.
 
-ghost use Rattle.std.specs.Prelude.{◌≡◌, ◌≢◌, ◌⊎◌, [], Some, IfOk, IfErr, MatchResult};
-ghost use Rattle.rbac_terms.specs.Principals.{AsUser};
+ghost use Rattle.std.specs.Prelude.{◌≡◌, ◌≢◌, ◌++◌, ◌⊎◌, [], Some, IfOk, IfErr, MatchResult};
+ghost use Rattle.std.specs.Prelude.{MatchOption};
+ghost use Rattle.rbac_terms.specs.Text.{Text};
+ghost use Rattle.rbac_terms.specs.Principals.{AsUser, AsMember};
 ghost use Rattle.rbac_token.specs.Marks.{IsTokenOfMark};
 ghost use Rattle.rbac_question.specs.Lines.{groups_in, namespace_meant, IsQuestion, MeansCanI};
 ghost use Rattle.rbac_question.specs.Lines.{MeansWhoCan, MeansMatrix, LacksWord, AcceptsQuestion};
 ghost use Rattle.rbac_question.specs.Lines.{RefusesQuestion, AcceptsCanI, RefusesCanI};
-ghost use Rattle.rbac_question.specs.Lines.{RefusesMatrix, RefusesUser, HasBadToken};
+ghost use Rattle.rbac_question.specs.Lines.{RefusesMatrix, RefusesUser, HasBadToken, MeansRules};
+ghost use Rattle.rbac_question.specs.Lines.{RefusesRules, HasBadPrincipal, NamesPrincipal};
+ghost use Rattle.rbac_question.specs.Lines.{scope_meant};
 
 use crate::asked::{Asked, check_target};
-use crate::command::{Action, Question};
+use crate::command::{Action, Question, Scope};
 use crate::fault::QuestionFault;
 use rbac_terms::{ModelFault, Principal, Word, Words};
 use rbac_token::{Mark, mark_of_token};
@@ -75,6 +79,51 @@ impl<'a> Model for CanILine<'a> {
     } };
 }
 
+/// The parts of a `who-can` line.
+#[derive(Drop)]
+pub struct WhoCanLine<'a> {
+    /// Whether `--why` is given.
+    pub why: bool,
+    /// The parts that ask the question.
+    pub question: QuestionLine<'a>,
+}
+
+impl<'a> Model for WhoCanLine<'a> {
+    ghost use Rattle.rbac_question.specs.Lines.{WhoCanParts};
+
+    ghost Value = { WhoCanParts };
+
+    ghost view = { λ l. record { why = l.why; question = l.question } };
+}
+
+/// The parts of a `rules` line; the text of an option that isn't given is empty.
+#[derive(Drop)]
+pub struct RulesLine<'a> {
+    /// WHO: a principal's key, `u:` and a user's name or `g:` and a group's. It is taken as it is,
+    /// like the name after `--as`: a backslash is a backslash, also where a line of output would
+    /// print it as `\\`.
+    pub who: &'a str,
+    /// The names after `--groups`, not yet split.
+    pub groups: &'a str,
+    /// The name after `-n`.
+    pub namespace: &'a str,
+    /// Whether `-A` is given.
+    pub all_namespaces: bool,
+}
+
+impl<'a> Model for RulesLine<'a> {
+    ghost use Rattle.rbac_question.specs.Lines.{RulesParts};
+
+    ghost Value = { RulesParts };
+
+    ghost view = { λ l. record {
+      who = l.who.now;
+      groups = l.groups.now;
+      namespace = l.namespace.now;
+      all_namespaces = l.all_namespaces;
+    } };
+}
+
 /// The parts of a `matrix` line.
 #[derive(Drop)]
 pub struct MatrixLine<'a> {
@@ -98,6 +147,12 @@ impl<'a> Model for MatrixLine<'a> {
       limit = l.limit;
     } };
 }
+
+// The mark of a user's key.
+const USER: &[u8] = b"u:";
+
+// The mark of the key of a member of a group.
+const MEMBER: &[u8] = b"g:";
 
 // The groups of `--groups`: the parts between commas that are not empty, in order (own).
 fn groups_from(alloc: Global, text: &str) -> Result<Words, AllocError>
@@ -127,12 +182,12 @@ fn namespace_from(alloc: Global, all: bool, given: &str) -> Result<Word, AllocEr
 }
 
 // The user who asks, with the groups given.
-fn principal_from(alloc: Global, user: &str, groups: &str) -> Result<Principal, QuestionFault>
+fn principal_from(alloc: Global, user: &[u8], groups: &str) -> Result<Principal, QuestionFault>
     ensures { MatchResult result
         (λ principal. (principal ≡ AsUser user.now (groups_in groups.now)) × (user.now ≢ []))
         (RefusesUser user.now) }
 {
-    let name = Word::from_slice(alloc, user.as_bytes())?;
+    let name = Word::from_slice(alloc, user)?;
     let given = groups_from(alloc, groups)?;
     match Principal::user(alloc, &name, &given) {
         Ok(principal) => Ok(principal),
@@ -140,6 +195,62 @@ fn principal_from(alloc: Global, user: &str, groups: &str) -> Result<Principal, 
         Err(ModelFault::NoMemory) => Err(QuestionFault::NoMemory),
         Err(ModelFault::BadTarget) => unreachable!(),
     }
+}
+
+// A member of this group.
+fn member_from(alloc: Global, group: &[u8]) -> Result<Principal, QuestionFault>
+    requires { group.now ≢ [] }
+    ensures { MatchResult result
+        (λ principal. principal ≡ AsMember group.now)
+        (λ e. e ≡ QuestionFault.NoMemory) }
+{
+    let name = Word::from_slice(alloc, group)?;
+    match Principal::group(alloc, &name) {
+        Ok(principal) => Ok(principal),
+        Err(ModelFault::NoMemory) => Err(QuestionFault::NoMemory),
+        Err(ModelFault::EmptyName | ModelFault::BadTarget) => unreachable!(),
+    }
+}
+
+// The name behind the mark of a principal's key; none if the key has another mark or ends there.
+fn name_behind<'a>(mark: &[u8], key: &'a str) -> Option<&'a [u8]>
+    ensures { MatchOption result
+        ((name : Text) → key.now ≡ mark.now ++ name → name ≡ [])
+        (λ name. (key.now ≡ mark.now ++ name.now) × (name.now ≢ [])) }
+{
+    let name = key.as_bytes().strip_prefix(mark)?;
+    if name.is_empty() {
+        return None;
+    }
+    Some(name)
+}
+
+// The principal that WHO and `--groups` name: U5 if there is none.
+fn principal_of(alloc: Global, line: &RulesLine<'_>) -> Result<Principal, QuestionFault>
+    ensures answer { MatchResult result (NamesPrincipal line.now) (RefusesRules line.now) }
+    ensures unnamed { HasBadPrincipal line.now → result ≡ Err QuestionFault.BadPrincipal }
+{
+    if let Some(user) = name_behind(USER, line.who) {
+        return principal_from(alloc, user, line.groups);
+    }
+    match name_behind(MEMBER, line.who) {
+        Some(group) if line.groups.is_empty() => member_from(alloc, group),
+        _ => Err(QuestionFault::BadPrincipal),
+    }
+}
+
+// Where `-A` and `-n` ask for rules (own): with `-A` in all of the cluster at once, otherwise in
+// the namespace given, or everywhere if none is given.
+fn scope_from(alloc: Global, all: bool, given: &str) -> Result<Scope, AllocError>
+    ensures { IfOk result (λ scope. scope ≡ scope_meant all given.now) }
+{
+    if all {
+        return Ok(Scope::ClusterWide);
+    }
+    if given.is_empty() {
+        return Ok(Scope::Everywhere);
+    }
+    Ok(Scope::Namespace(Word::from_slice(alloc, given.as_bytes())?))
 }
 
 // The mark whose token this is.
@@ -207,7 +318,7 @@ impl Action {
             → result ≡ Err QuestionFault.UrlSubresource }
     {
         check_can_i(line)?;
-        let principal = principal_from(alloc, line.user, line.groups)?;
+        let principal = principal_from(alloc, line.user.as_bytes(), line.groups)?;
         let question = question_of(alloc, &line.question)?;
         Ok(Action::CanI {
             principal,
@@ -221,17 +332,32 @@ impl Action {
     ///
     /// U2 if VERB or TARGET is empty, or TARGET begins with `.`; otherwise U3 if a URL has a
     /// subresource. Both are refused before anything is allocated.
-    pub fn who_can(alloc: Global, line: &QuestionLine<'_>) -> Result<Self, QuestionFault>
+    pub fn who_can(alloc: Global, line: &WhoCanLine<'_>) -> Result<Self, QuestionFault>
         ensures answer { MatchResult result
-            (λ action. AcceptsQuestion line.now × MeansWhoCan line.now action)
-            (RefusesQuestion line.now) }
-        ensures lacking { LacksWord line.now → result ≡ Err QuestionFault.EmptyWord }
-        ensures located { RefusesQuestion line.now QuestionFault.UrlSubresource
+            (λ action. AcceptsQuestion line.now.question × MeansWhoCan line.now action)
+            (RefusesQuestion line.now.question) }
+        ensures lacking { LacksWord line.now.question → result ≡ Err QuestionFault.EmptyWord }
+        ensures located { RefusesQuestion line.now.question QuestionFault.UrlSubresource
             → result ≡ Err QuestionFault.UrlSubresource }
     {
-        check_question(line)?;
+        check_question(&line.question)?;
         Ok(Action::WhoCan {
-            question: question_of(alloc, line)?,
+            why: line.why,
+            question: question_of(alloc, &line.question)?,
+        })
+    }
+
+    /// What a `rules` line means.
+    ///
+    /// U5 if WHO isn't `u:` or `g:` with a name behind it, or a `--groups` that isn't empty comes
+    /// with `g:`, even one without a name, as `,`. It is refused before anything is allocated.
+    pub fn rules(alloc: Global, line: &RulesLine<'_>) -> Result<Self, QuestionFault>
+        ensures answer { MatchResult result (MeansRules line.now) (RefusesRules line.now) }
+        ensures unnamed { HasBadPrincipal line.now → result ≡ Err QuestionFault.BadPrincipal }
+    {
+        Ok(Action::Rules {
+            principal: principal_of(alloc, line)?,
+            scope: scope_from(alloc, line.all_namespaces, line.namespace)?,
         })
     }
 

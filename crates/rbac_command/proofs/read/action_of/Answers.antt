@@ -2,7 +2,7 @@ use Rattle.std.proofs.Common.{◌∙◌, sym}
 use Rattle.std.specs.Prelude.{codes}
 use Rattle.std.proofs.lemmas.Slice.Eq.{bytes_eq-Decides}
 use Rattle.clap.specs.Words.{found_of, rows_of}
-use Rattle.rbac_command.proofs.Actions.{the_other, can_i_line, matrix_line, who_can_line}
+use Rattle.rbac_command.proofs.Actions.{the_other, can_i_line, matrix_line, rules_line, who_can_line}
 use Rattle.rbac_command.proofs.read.action_of.Goals as goal
 
 pub returns-then-eq : goal.returns-then-eq
@@ -14,11 +14,16 @@ returns-then-eq c =
 pub returns-then-eq-2 : goal.returns-then-eq-2
 returns-then-eq-2 c =
     who_can_line c.args.name.now (rows_of (found_of c.args.matches.now)) _ c.who_can.result
-    ((bytes_eq-Decides c.args.name.now (codes "who-can")).0 (sym c.eq-2.ensures ∙ c.if-eq-2.true)) c.question_of.ensures c.who_can.ensures.answer
+    ((bytes_eq-Decides c.args.name.now (codes "who-can")).0 (sym c.eq-2.ensures ∙ c.if-eq-2.true)) c.who_can_line_of.ensures c.who_can.ensures.answer
+
+pub returns-then-eq-3 : goal.returns-then-eq-3
+returns-then-eq-3 c =
+    rules_line c.args.name.now (rows_of (found_of c.args.matches.now)) _ c.rules.result
+    ((bytes_eq-Decides c.args.name.now (codes "rules")).0 (sym c.eq-3.ensures ∙ c.if-eq-3.true)) c.rules_line_of.ensures c.rules.ensures.answer
 
 pub returns : goal.returns
 returns c =
     can_i_line c.args.name.now (rows_of (found_of c.args.matches.now)) _ c.can_i.result
-    (the_other c.args.name.now c.eq.result c.eq-2.result c.eq-3.result c.requires c.eq.ensures c.if-eq.false c.eq-2.ensures c.if-eq-2.false
-    c.eq-3.ensures c.if-eq-3.false)
+    (the_other c.args.name.now c.eq.result c.eq-2.result c.eq-3.result c.eq-4.result c.requires c.eq.ensures c.if-eq.false c.eq-2.ensures c.if-eq-2.false
+    c.eq-3.ensures c.if-eq-3.false c.eq-4.ensures c.if-eq-4.false)
     c.line_of.ensures c.can_i.ensures.answer

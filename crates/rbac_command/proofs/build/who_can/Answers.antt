@@ -1,0 +1,10 @@
+use Rattle.std.proofs.Common.{Ok}
+use Rattle.rbac_command.specs.App.{with_scope, with_question}
+use Rattle.rbac_command.proofs.Steps.{from, rule_from}
+use Rattle.rbac_command.proofs.build.who_can.Goals as goal
+
+pub returns-clause-app : goal.returns-clause-app
+returns-clause-app c =
+    let scope = from (Ok c.named-command.result) c.with_scope-command.result with_scope _ c.named-command.ensures.app c.with_scope-command.ensures.app in
+    let why = rule_from c.with_scope-command.result c.with-command.result _ _ _ scope c.why_arg.ensures.rule c.with-command.ensures.app in
+    from c.with-command.result c.with_question.result with_question _ why c.with_question.ensures.app
