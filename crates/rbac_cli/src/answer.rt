@@ -7,6 +7,7 @@ use crate::can_i::verdict_of;
 use crate::lint::print_findings;
 use crate::matrix::print_matrix;
 use crate::outcome::Status;
+use crate::rules::print_rules;
 use crate::stop::Stop;
 use crate::who_can::print_holders;
 use rbac_manifest::Export;
@@ -41,7 +42,12 @@ pub(crate) fn print_answer<W: Write + Drop>(
             page.print(sink, verdict.text.as_slice())?;
             Ok(verdict.status)
         }
-        Action::WhoCan { question } => print_holders(alloc, export, question, sink, page),
+        Action::WhoCan { why, question } => {
+            print_holders(alloc, export, *why, question, sink, page)
+        }
+        Action::Rules { principal, scope } => {
+            print_rules(alloc, export, principal, scope, sink, page)
+        }
         Action::Matrix {
             every,
             after,

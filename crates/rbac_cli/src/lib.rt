@@ -12,6 +12,7 @@ mod matrix;
 mod meaning;
 mod outcome;
 mod pages;
+mod rules;
 mod running;
 mod stop;
 mod who_can;
@@ -20,7 +21,7 @@ pub use laws::{answers_are_one, runs_are_one};
 pub use outcome::{RunFault, Status};
 pub use rbac_command::{UsageFault, command_of};
 pub use rbac_manifest::{At, Cause, LoadFault};
-pub use rbac_question::{Action, Asked, AskedFor, Command, Question};
+pub use rbac_question::{Action, Asked, AskedFor, Command, Question, Scope};
 pub use rbac_streams::{
     Failed, Input, InputFault, Sink, Source, read_file, read_input, read_slice,
 };

@@ -14,7 +14,7 @@ use crate::stop::Stop;
 use rbac_manifest::Export;
 use rbac_question::Scope;
 use rbac_rules::{
-    EffectiveRule, EffectiveRules, Scope as AskedScope, effective_rules, effective_rules_are_there,
+    EffectiveRule, EffectiveRules, Scope as AskedScope, effective_rules,
 };
 use rbac_streams::{Page, PrintFault, Sink};
 use rbac_terms::Principal;
@@ -40,7 +40,7 @@ pub(crate) fn print_rules<W: Write + Drop>(
         (ListsRules principal.now scope.now)) }
     ensures failed { sink.new.has_failed ≡ is_sink_stop result }
 {
-    effective_rules_are_there();
+
     let rules = effective_rules(export.policy(), principal, asked_scope(scope));
     print_lines(alloc, rules, sink, page)?;
     Ok(Status::Zero)
