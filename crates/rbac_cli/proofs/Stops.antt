@@ -2,7 +2,7 @@
 use Rattle.std.proofs.Common.{◌≡◌, ◌∙◌, ℕ, Bool, List, [], Option, inl, inr, refl, sym, subst, ap}
 use Rattle.std.specs.Prelude.{Result, Ok, Err, OnErr, IfErr}
 use Rattle.rbac_streams.specs.Streams.{SinkView, PageView}
-use Rattle.rbac_streams.specs.Taken.{Took, Printed, Stopped, StopsIn}
+use Rattle.rbac_streams.specs.Taken.{Took, Printed, Stopped}
 use Rattle.rbac_streams.specs.declared.page.PrintFault.{PrintFault}
 use Rattle.rbac_streams.specs.declared.page.PrintFault.TheVariants as print
 use Rattle.rbac_manifest.specs.Load.{LoadedView}
