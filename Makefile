@@ -1,4 +1,4 @@
-# rbacaudit: the commands of this repository. They need the Rattle kit (`rt` on the PATH), make, a C compiler and Python 3.
+# rbacaudit: the commands of this repository. README.md says what they need of a machine ("Install").
 
 PREFIX ?= /usr/local
 PROGRAM = crates/rbacaudit/out/rbacaudit

@@ -1,4 +1,4 @@
-"""Makes the example cluster: an export as "Get an export" of README.md writes it, of a company's cluster.
+"""Makes the example cluster: an export as docs/EXPORT.md writes it, of a company's cluster.
 
     python3 make_cluster.py [FOLDER]
 

@@ -1,15 +1,18 @@
 #!/usr/bin/env bash
 # The whole gate: each edit still fits, every proof, must-fail edit and test by `rt ci`, then what only a process can show, the
 # kubectl plugin, completions and man page, the page in a browser, what make dist packs, random matrices, bad documents, refused
-# memory, reads and writes, and each public call by itself. The last line counts all of it, as `N passed, M failed`.
+# memory, reads and writes, and each public call by itself. The last line counts all of it, as `N passed, M failed`; if a test
+# skipped something that this machine lacks, the last line but one says what.
 set -u
 cd "$(dirname "$0")/.."
 log=$(mktemp)
 trap 'rm -f "$log"' EXIT
 passed=0
 failed=0
+skipped=
 
-# Runs a command and adds what its last line counts; a command that ends without such a line has failed.
+# Runs a command and adds what its last line counts, and what the line before says that it skipped; a command that ends without
+# a last line of that form has failed.
 counted() {
     "$@" 2>&1 | tee "$log"
     if [[ $(tail -n 1 "$log") =~ ^([0-9]+)\ passed,\ ([0-9]+)\ failed$ ]]; then
@@ -18,6 +21,9 @@ counted() {
     else
         failed=$((failed + 1))
     fi
+    local said
+    said=$(tail -n 2 "$log" | sed -n 's/^skipped: //p')
+    skipped=$skipped${said:+; $said}
 }
 
 # One check a processor, where there is memory for that many: by itself rt also spreads a check over processors that are idle, which
@@ -38,5 +44,6 @@ counted python3 tests/pages.py
 counted python3 tests/refusals.py
 counted python3 tests/fuzz.py 1 2000
 counted python3 tests/calls.py --once
+[ -z "$skipped" ] || echo "skipped: ${skipped#; }"
 echo "$passed passed, $failed failed"
 [ "$failed" -eq 0 ]

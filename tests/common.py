@@ -9,6 +9,7 @@ V1 = 'rbac.authorization.k8s.io/v1'
 V1BETA1 = V1 + 'beta1'
 PODS = {'verbs': ['get'], 'apiGroups': [''], 'resources': ['pods']}
 results = []
+skips = {}
 
 
 def export(*items):
@@ -25,10 +26,20 @@ def checked(name, well, said=''):
     print(('ok   ' if well else 'FAIL ') + name + ('' if well else ': ' + said), flush=True)
 
 
+def skipped(tool, what):
+    """Notes what isn't tested, since this machine has no such tool. The last line but one tells it:
+    two counts can be compared only where the same was skipped."""
+    skips.setdefault(tool, {})[what] = None
+
+
 def tested(*parts):
-    """Runs each part over the built program and prints the last line; the status to end with."""
+    """Runs each part over the built program, says what was skipped, and prints the last line; the
+    status to end with."""
     checked('the program is built', os.path.isfile(PROGRAM), 'no file %s' % os.path.relpath(PROGRAM, TOP))
     for part in parts if all(results) else ():
         part()
+    if skips:
+        print('skipped: ' + '; '.join('no %s: %s' % (tool, ', '.join(whats))
+                                      for tool, whats in sorted(skips.items())))
     print('%d passed, %d failed' % (results.count(True), results.count(False)))
     return 0 if all(results) else 1

@@ -3,8 +3,8 @@
 It packs copies of this repository that have one commit, of a known date, and the built program. The
 archive is unpacked into an empty folder and installed, with the base tools alone on the PATH.
 The Containerfile's steps are tried as commands, krew's as its documents tell them, and the jobs of
-docs/RECIPES.md as they are written. What the machine lacks is reported and not counted. The last
-line is `N passed, M failed`.
+docs/RECIPES.md as they are written. If the machine lacks a tool, all is skipped, as the last line
+but one says. The last line is `N passed, M failed`.
 """
 
 import glob
@@ -19,7 +19,7 @@ import sys
 import tarfile
 import tempfile
 
-from common import PROGRAM, TOP, checked, results, tested
+from common import PROGRAM, TOP, checked, results, skipped, tested
 from transcripts import contents, steps, text_of
 
 ROOT = 'rbacaudit-0.1.0-x86_64-linux'
@@ -508,7 +508,7 @@ def jobs(room):
 def all_of_it():
     for tool in ('git', 'readelf', 'strip'):
         if not shutil.which(tool):
-            print('skipped: this machine has no %s' % tool)
+            skipped(tool, 'everything')
             return
     with tempfile.TemporaryDirectory() as path:
         room = Room(path)

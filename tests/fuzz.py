@@ -303,6 +303,11 @@ RAWS = ['1e999', '-1e999', '1e-999', '0e999', '-0', '1E+2', '01', '.5', '5.', '1
         '9' * 400, '0.%s1' % ('0' * 400), '1%se-400' % ('0' * 400), '18446744073709551616', '-9223372036854775809', 'True', 'nul',
         "'x'", '[1,]', '{"x":1,}', '{"x"}', '{5:5}', '[1 2]', '/**/1', '"\\x41"', '"\\u12g4"', '"\t"', '"\x7f"', '"\\/\\b\\f"']
 PAIRS = [('[', '', ']'), ('[', '1', ']'), ('{"x":', '1', '}')]
+# Items with a member that no document has a use for; some begin like one that is read, or end like one.
+UNREAD = [b'{"apiVersion":"v1","kind":"Namespace","metadata":{"name":"a"},"status":%s}',
+          b'{"apiVersion":"v1","kind":"Namespace","metadata":{"name":"a","managedFields":[%s]}}',
+          b'{"apiVersion":"v1","kind":"Namespace","metadata":{"nam":%s,"name":"a","namespaces":1,"Labels":1}}',
+          b'{"apiVersion":"v1","kind":"Gadget","spec":{"metadata":%s,"kind":{}},"metadata":1}']
 # Halves of surrogate pairs, alone and in a wrong order; and a whole pair.
 ESCAPES = [b'\\ud800', b'\\udc00', b'\\ud83d\\ude00', b'\\uDE00\\uD83D', b'\\ud83d\\ud83d', b'\\ud83dx', b'\\ud83d\\n', b'\\u0000', b'\\\\ud800']
 BAD_UTF8 = [b'\xff', b'\x80', b'\xc0\x80', b'\xe2\x82', b'\xed\xa0\x80', b'\xf4\x90\x80\x80', b'\xf0\x9f\x94']
@@ -367,8 +372,19 @@ def single_texts():
             yield text % part
     for part in AROUND:
         yield from (part + b'{"kind":"Gadget"}', b'{"kind":"Gadget"}' + part)
+    yield from unread_texts()
     whole = plain(WORKED)
     yield from (whole[:end] for end in range(len(whole)))
+
+
+def unread_texts():
+    """Lists of one item that has an odd value, text or depth in a member that isn't read."""
+    odd = [*map(Raw, RAWS), *(nested(pair, levels) for pair in PAIRS for levels in range(DEEPEST - 6, DEEPEST - 1))]
+    values = [*map(plain, odd), *(b'"%s"' % part for part in [*ESCAPES, *BAD_UTF8, *GOOD_UTF8])]
+    for item, value in itertools.product(UNREAD, values):
+        yield b'{"apiVersion":"v1","kind":"List","items":[%s]}' % (item % value)
+    for part in [*ESCAPES, *BAD_UTF8, *GOOD_UTF8]:
+        yield b'{"apiVersion":"v1","kind":"List","items":[{"kind":"Gadget","%s":1}]}' % part
 
 
 def nested(pair, levels):

@@ -1,8 +1,8 @@
 """rbacaudit-page: what it writes and refuses, and its pages in a browser (shown.py).
 
 What the pages show is compared with rows that are written by hand (written.py), or with the built
-program's rows of examples/cluster. Without a browser the rest is tested alone, and the last line
-but one says so. The last line is `N passed, M failed`.
+program's rows of examples/cluster. What is skipped, since this machine lacks a browser, a shell or
+a renderer, stands in the last line but one. The last line is `N passed, M failed`.
 """
 
 import base64
@@ -15,9 +15,9 @@ import subprocess
 import sys
 import tempfile
 
-from common import TOP, checked, tested
+from common import TOP, checked, skipped, tested
 from plugin_page import plugin_pages, plugin_refusals
-from shown import in_browser, skipped
+from shown import in_browser
 from written import (CHANGES, FILTER, FINDINGS, SMALL, Parts, contents, file_of, lines_in, made,
                      rows_of, same, strangers)
 
@@ -184,11 +184,15 @@ def helped():
         if shutil.which(words[0]):
             same('%s finds no fault' % words[0],
                  told(*words, os.path.join(TOP, 'man', 'rbacaudit-page.1')), '')
+        else:
+            skipped(words[0], 'rbacaudit-page.1')
     for shell in ('zsh', 'fish'):
         if shutil.which(shell):
             name = {'zsh': '_rbacaudit-page', 'fish': 'rbacaudit-page.fish'}[shell]
             same('%s reads its file' % shell,
                  told(shell, '-n', os.path.join(TOP, 'completions', name)), '')
+        else:
+            skipped(shell, 'completions of rbacaudit-page')
 
 
 def installed():
@@ -239,4 +243,4 @@ def colours():
 
 if __name__ == '__main__':
     sys.exit(tested(written, no_markup, policy, refusals, limits, terminals, helped, installed,
-                    plugin_pages, plugin_refusals, colours, in_browser, skipped))
+                    plugin_pages, plugin_refusals, colours, in_browser))

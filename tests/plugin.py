@@ -1,8 +1,9 @@
 """The kubectl plugin, under dash and under bash, with a stand-in for kubectl and the built program.
 
 plugin_room.py has the stand-in, plugin_exports.py the exports, and plugin_questions.py the questions.
-Here are the tools that the plugin needs, its texts, completions and man page, and make. The last line
-is `N passed, M failed`.
+Here are the tools that the plugin needs, its texts, completions and man page, and make. What is
+skipped, since this machine lacks a tool, stands in the last line but one. The last line is
+`N passed, M failed`.
 """
 
 import os
@@ -15,7 +16,7 @@ import tempfile
 
 import plugin_exports
 import plugin_questions
-from common import PROGRAM, TOP, checked, tested
+from common import PROGRAM, TOP, checked, skipped, tested
 from plugin_room import KIM, PLUGIN, SHELLS, in_each_shell
 from shells import VERBS, commands, contents, options, options_in, renders
 
@@ -73,7 +74,7 @@ def script():
                                stdout=subprocess.PIPE, stderr=subprocess.STDOUT, timeout=120)
         checked('shellcheck', ended.returncode == 0, ended.stdout.decode())
     else:
-        print('skipped: shellcheck, which this machine lacks')
+        skipped('shellcheck', 'the scripts')
     checked('the plugin may be run', os.stat(PLUGIN).st_mode & 0o111 == 0o111, stat.filemode(os.stat(PLUGIN).st_mode))
     with tempfile.TemporaryDirectory() as path:
         # (the program is built, and isn't to be proved once more)
@@ -186,7 +187,7 @@ def in_kubectl():
                                                              timeout=60).stdout.decode()
         found = re.search(r'v1\.(\d+)', version or '')
         if not found or int(found[1]) < 26:
-            print('skipped: this machine has no kubectl 1.26')
+            skipped('kubectl 1.26', 'its completion')
             return
         ended = subprocess.run(['kubectl', '__complete', 'rbacaudit', 'who-can', 'del'],
                                env=environment, stdout=subprocess.PIPE,

@@ -168,11 +168,11 @@ LISTED = re.compile(r'\|get\|([a-z.,0-9]+)\|')
 
 @in_each_shell
 def exporter(it):
-    """The ClusterRole of export --help is README's, and has just what the calls ask for."""
+    """The ClusterRole of export --help is docs/EXPORT.md's, and has just what the calls ask for."""
     role = textwrap.dedent(re.search(r'^  apiVersion: .*?\n\n', it.run('export', '--help')[1],
                                      re.S | re.M)[0]).strip()
-    with open(os.path.join(TOP, 'README.md'), encoding='utf-8') as file:
-        it.checked('it is in README', textwrap.indent(role, '    ') in file.read(), role)
+    with open(os.path.join(TOP, 'docs', 'EXPORT.md'), encoding='utf-8') as file:
+        it.checked('it is in EXPORT.md', textwrap.indent(role, '    ') in file.read(), role)
     it.run('export', 'prod')
     calls = it.lines('calls')
     names = {name for call in calls for listed in LISTED.findall(call)

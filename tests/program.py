@@ -1,7 +1,8 @@
 """Tests of the built program: what only a process can show.
 
 Texts and statuses on the real streams, files that can't be read, full disks, inputs at the limits, and every
-`console` block of the documents (transcripts.py). The last line is `N passed, M failed`.
+`console` block of the documents (transcripts.py). What is skipped stands in the last line but one; the last line is
+`N passed, M failed`.
 """
 
 import base64
@@ -13,7 +14,8 @@ import sys
 import tempfile
 
 from common import PODS, PROGRAM, TOP, V1, V1BETA1, bare, checked, export, tested
-from transcripts import example_cluster, loop_of_pages, spaced_bindings, transcripts
+from transcripts import (example_cluster, links_and_heads, loop_of_pages, spaced_bindings,
+                         transcripts)
 
 MOST_BYTES = 67_108_864
 LEAST = b'{"apiVersion":"v1","kind":"List"}'
@@ -297,4 +299,5 @@ def ring():
 
 if __name__ == '__main__':
     sys.exit(tested(streams, help_and_usage, full_disk, little_memory, rows, matrix_streams, lint_streams, limits,
-                    universe_limits, ring, transcripts, spaced_bindings, loop_of_pages, example_cluster))
+                    universe_limits, ring, transcripts, links_and_heads, spaced_bindings, loop_of_pages,
+                    example_cluster))

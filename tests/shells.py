@@ -2,8 +2,8 @@
 
 Each of the four files has every command, every option under its command and every default that help has, and no others.
 Each shell that the machine has completes lines. The man page renders without a warning, and its examples are run in
-examples/. `make install` puts the files where they are looked for. What the machine lacks is reported and not counted.
-The last line is `N passed, M failed`.
+examples/. `make install` puts the files where they are looked for. What is skipped, since the machine lacks a shell or a
+renderer, stands in the last line but one. The last line is `N passed, M failed`.
 """
 
 import fcntl
@@ -19,7 +19,7 @@ import sys
 import tempfile
 import termios
 
-from common import PROGRAM, TOP, checked, tested
+from common import PROGRAM, TOP, checked, skipped, tested
 
 COMPLETIONS = os.path.join(TOP, 'completions')
 MAN = os.path.join(TOP, 'man', 'rbacaudit.1')
@@ -36,10 +36,6 @@ def contents(path):
 
 def path_with_program():
     return os.path.dirname(PROGRAM) + os.pathsep + os.environ['PATH']
-
-
-def skipped(what):
-    print('skipped: this machine has no %s' % what, flush=True)
 
 
 # ---- help
@@ -211,7 +207,7 @@ def renders(page, names):
                  'mandoc': ['mandoc', '-Tascii', page]}
     for renderer, words in renderers.items():
         if not shutil.which(renderer):
-            skipped(renderer)
+            skipped(renderer, os.path.basename(page))
             continue
         ended = subprocess.run(words, stdin=subprocess.DEVNULL, stdout=subprocess.PIPE, stderr=subprocess.PIPE, timeout=60,
                                env=dict(os.environ, LC_ALL='C', MANWIDTH='80', MANPAGER='cat'))
@@ -380,7 +376,7 @@ def write(folder, files):
 def at_work(shell, offered):
     """What the shell offers, by a function of lines, a home and a folder."""
     if not shutil.which(shell):
-        skipped(shell)
+        skipped(shell, 'completed lines')
         return
     wanted = {**dict(of_options()), **dict(of_words())}
     with tempfile.TemporaryDirectory() as home, tempfile.TemporaryDirectory() as folder:

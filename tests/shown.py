@@ -11,7 +11,7 @@ import tempfile
 import time
 
 import browser
-from common import PROGRAM, TOP, checked
+from common import PROGRAM, TOP, checked, skipped
 from written import (CHANGES, FINDINGS, NAMES, SMALL, contents, file_of, made, rows_of, same,
                      strangers)
 
@@ -486,6 +486,8 @@ def large(it, room):
 def in_browser():
     """The pages in a browser, if this machine has one."""
     if not browser.found():
+        skipped('chromium', 'views, clicks, filters, names on screen, print, and the time of large '
+                'pages')
         return
     faults = (OSError, EOFError, RuntimeError, LookupError, TypeError)
     try:
@@ -499,9 +501,3 @@ def in_browser():
                     checked('%s comes to its end' % part.__name__, False, repr(fault))
     except faults as fault:
         checked('%s starts and ends' % browser.found(), False, repr(fault))
-
-
-def skipped():
-    if not browser.found():
-        print('skipped: everything that needs a browser, since this machine has no chromium: '
-              'views, clicks, filters, names on screen, print, and the time of large pages')

@@ -2,7 +2,7 @@
 
 A command begins with `$ `, and lines with `> ` right below carry it on; so what is printed never begins with these. The commands
 of a document run in order, in a copy of examples/ of its own: those of docs/RECIPES.md in cluster/, all others at the top. A
-command with sqlite3 is skipped where that isn't installed.
+command with sqlite3 is skipped where that isn't installed, which the last line but one says.
 """
 
 import os
@@ -13,7 +13,7 @@ import sys
 import tempfile
 import textwrap
 
-from common import PODS, PROGRAM, TOP, V1, checked, export
+from common import PODS, PROGRAM, TOP, V1, checked, export, skipped
 
 EXAMPLES = os.path.join(TOP, 'examples')
 FOLDERS = {'RECIPES.md': 'cluster'}
@@ -32,10 +32,15 @@ def steps(text):
             yield (command + re.sub('^> ', '', more, flags=re.M)).rstrip('\n'), wanted
 
 
+def documents():
+    """The paths of README.md, of each document of docs/, and of bench/README.md."""
+    names = sorted(name for name in os.listdir(os.path.join(TOP, 'docs')) if name.endswith('.md'))
+    return ['README.md', *(os.path.join('docs', name) for name in names), 'bench/README.md']
+
+
 def transcripts():
-    """Each console block of README.md and of docs/."""
-    documents = sorted(name for name in os.listdir(os.path.join(TOP, 'docs')) if name.endswith('.md'))
-    for path in ['README.md', *(os.path.join('docs', name) for name in documents)]:
+    """Each console block of the documents."""
+    for path in documents():
         with tempfile.TemporaryDirectory() as room:
             examples = shutil.copytree(EXAMPLES, os.path.join(room, 'examples'))
             name = os.path.basename(path)
@@ -46,7 +51,7 @@ def transcripts():
 def shown(name, command, wanted, folder):
     """Whether the command prints in this folder what the document shows."""
     if re.search(r'\bsqlite3\b', command) and not shutil.which('sqlite3'):
-        print('skip %s: %s: no sqlite3' % (name, command))
+        skipped('sqlite3', 'commands of ' + name)
         return
     environment = dict(os.environ, PATH=os.path.dirname(PROGRAM) + os.pathsep + os.environ['PATH'])
     ended = subprocess.run(['bash', '-c', command], cwd=folder, env=environment, stdout=subprocess.PIPE, stderr=subprocess.STDOUT,
@@ -77,10 +82,37 @@ def spaced_bindings():
               'u:kim\t-\tlist\t-\tpods\t-\tClusterRoleBinding/b c\n', folder)
 
 
+def headings(text):
+    """The names of a document's headings in links, as GitHub makes them."""
+    found = re.findall(r'^#+ (.*)$', re.sub(r'^```.*?^```', '', text, flags=re.S | re.M), re.M)
+    return {re.sub(r'[^\w -]', '', heading.lower()).replace(' ', '-') for heading in found}
+
+
+def leads(path, target):
+    """Whether a link in a document leads to a file, and to a heading that it has."""
+    name, _, heading = target.partition('#')
+    file = os.path.normpath(os.path.join(os.path.dirname(path), name)) if name else path
+    is_there = os.path.isfile(os.path.join(TOP, file))
+    return is_there and (not heading or heading in headings(text_of(file)))
+
+
+def links_and_heads():
+    """Links lead somewhere, documents say at their head whom they are for, and README.md is short."""
+    for path in documents():
+        text = text_of(path)
+        wrong = [it for it in re.findall(r'\]\(([^)\s]+)\)', text) if not leads(path, it)]
+        checked('%s: its links lead somewhere' % path, not wrong, 'not so: %r' % wrong)
+        head = re.match(r'# .*\n(?:(?!## ).*\n)*?(?:For|This page is for) \w', text)
+        checked('%s says whom it is for' % path, head, text[:300])
+    lines = text_of('README.md').count('\n')
+    checked('README.md has at most 350 lines', lines <= 350, 'it has %d' % lines)
+
+
 def loop_of_pages():
-    """README.md shows the loop of examples/pages.sh."""
+    """docs/RECIPES.md shows the loop of examples/pages.sh."""
     loop = re.search(r'^after=\n.*^done\n', text_of('examples', 'pages.sh'), re.S | re.M)[0]
-    checked('the loop of examples/pages.sh', textwrap.indent(loop, '    ') in text_of('README.md'))
+    shows = textwrap.indent(loop, '    ') in text_of('docs', 'RECIPES.md')
+    checked('the loop of examples/pages.sh', shows)
 
 
 def example_cluster():

@@ -1,5 +1,6 @@
 pub mod Numbers
 pub mod Values
+pub mod Lean
 pub mod Puts
 pub mod Ahead
 pub mod Walks

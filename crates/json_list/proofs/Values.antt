@@ -5,14 +5,16 @@ use Rattle.json.specs.Token.{Token}
 use Rattle.json.specs.Json as json
 use Rattle.json.specs.Json.{after_end_array, read_key, parse_map}
 use Rattle.json.proofs.Grammar.{left, skip_value-shorter, read_key-shorter, items_end, items_fail, items_more, members_end, members_no_key, members_fail, members_more, value_is, value-begin_array, value-begin_object}
-use Rattle.serde_json.specs.Data.{Data, null, boolean, number, string, array, object, Items, no_items, item, Members, no_members, put}
+use Rattle.serde_json.specs.Data.{Num, Data, null, boolean, number, string, array, object, Items, no_items, item, Members, no_members, put}
 use Rattle.serde_json.specs.Read.{converted, number_of, of_json, of_items, of_members}
-use Rattle.serde_json.specs.View.{view, items_view}
+use Rattle.serde_json.specs.View.{view, items_of}
 use Rattle.serde_json.specs.declared.value.Value.{Value, the_lemmas}
 use Rattle.serde_json.specs.declared.value.Value.TheVariants.{Null as ANull, Bool as ABool, String as AString}
 use Rattle.json_list.specs.declared.fault.ReadFault.{ReadFault}
+use Rattle.json_list.specs.Lean.{lean}
 use Rattle.json_list.specs.List.{IsRead, IsUnread}
 use Rattle.json_list.specs.Values.{value_read, items_read, members_read}
+use Rattle.json_list.proofs.Lean.{whole}
 
 -- ---- what was read, and what it was read from
 
@@ -64,48 +66,48 @@ no_first j None is = refl
 no_first j (Some p) is = ap (λ r. followed_by p.1 (option_and_then (λ e. option_map (item e) (of_items p.0)) r)) is
 
 -- these items, and then those
-abbrev before : List Value → Items → Items
+abbrev before : List Data → Items → Items
 before [] rest = rest
-before (v ∷ vs) rest = item (view v) (before vs rest)
+before (d ∷ ds) rest = item d (before ds rest)
 
-before_none : (vs : List Value) → before vs no_items ≡ items_view vs
+before_none : (ds : List Data) → before ds no_items ≡ items_of ds
 before_none [] = refl
-before_none (v ∷ vs) = ap (item (view v)) (before_none vs)
+before_none (d ∷ ds) = ap (item d) (before_none ds)
 
-before_one : (vs : List Value) (v : Value) (rest : Items) → before vs (item (view v) rest) ≡ before (vs ++ v ∷ []) rest
-before_one [] v rest = refl
-before_one (w ∷ vs) v rest = ap (item (view w)) (before_one vs v rest)
+before_one : (ds : List Data) (d : Data) (rest : Items) → before ds (item d rest) ≡ before (ds ++ d ∷ []) rest
+before_one [] d rest = refl
+before_one (e ∷ ds) d rest = ap (item e) (before_one ds d rest)
 
-abbrev all_with : List Value → Option (Items × List Token) → Option (Items × List Token)
+abbrev all_with : List Data → Option (Items × List Token) → Option (Items × List Token)
 all_with found o = option_map (λ q. (before found q.0, q.1)) o
 
 all_with_none : (o : Option (Items × List Token)) → o ≡ all_with [] o
 all_with_none None = refl
 all_with_none (Some q) = refl
 
-all_with_one : (found : List Value) (v : Value) (o : Option (Items × List Token)) → all_with found (with_item (view v) o) ≡ all_with (found ++ v ∷ []) o
-all_with_one found v None = refl
-all_with_one found v (Some q) = ap (λ ds. Some (ds, q.1)) (before_one found v q.0)
+all_with_one : (found : List Data) (d : Data) (o : Option (Items × List Token)) → all_with found (with_item d o) ≡ all_with (found ++ d ∷ []) o
+all_with_one found d None = refl
+all_with_one found d (Some q) = ap (λ ds. Some (ds, q.1)) (before_one found d q.0)
 
 -- what was found, and then what is ahead, is all of it
-abbrev pub ItemsCome : ℕ → List Token → List Value → List Token → Type 0
+abbrev pub ItemsCome : ℕ → List Token → List Data → List Token → Type 0
 ItemsCome depth first found now = (turns : ℕ) × (length now ≤ turns) × (items_read depth (length first) first ≡ all_with found (items_read depth turns now))
 
 pub items_begin : (depth : ℕ) (first : List Token) → ItemsCome depth first [] first
 items_begin depth first = (length first, omega arith, all_with_none (items_read depth (length first) first))
 
-module _ (depth : ℕ) (first : List Token) (found : List Value) (now : List Token) (come : ItemsCome depth first found now) where
-  pub items_over : (r : List Token) → after_end_array now ≡ Some r → items_read depth (length first) first ≡ Some (items_view found, r)
+module _ (depth : ℕ) (first : List Token) (found : List Data) (now : List Token) (come : ItemsCome depth first found now) where
+  pub items_over : (r : List Token) → after_end_array now ≡ Some r → items_read depth (length first) first ≡ Some (items_of found, r)
   items_over r e = come.2 ∙ ap (λ o. all_with found (converted of_items o)) (items_end (json.value depth) come.0 now r come.1 e) ∙ ap (λ ds. Some (ds, r)) (before_none found)
 
-  pub item_found : (v : Value) (r : List Token) → after_end_array now ≡ None → value_read depth now ≡ Some (view v, r) → length r < length now → ItemsCome depth first (found ++ v ∷ []) r
-  item_found v r going e less =
-      let f = read_from (json.value depth now) (view v) r e in (
+  pub item_found : (d : Data) (r : List Token) → after_end_array now ≡ None → value_read depth now ≡ Some (d, r) → length r < length now → ItemsCome depth first (found ++ d ∷ []) r
+  item_found d r going e less =
+      let f = read_from (json.value depth now) d r e in (
         come.0 - 1,
         omega (arith, come.1),
         come.2
-            ∙ ap (all_with found) (ap (converted of_items) (items_more (json.value depth) come.0 now r f.0 (omega (arith, come.1)) going f.1) ∙ item_first f.0 (view v) _ f.2)
-            ∙ all_with_one found v (items_read depth (come.0 - 1) r),
+            ∙ ap (all_with found) (ap (converted of_items) (items_more (json.value depth) come.0 now r f.0 (omega (arith, come.1)) going f.1) ∙ item_first f.0 d _ f.2)
+            ∙ all_with_one found d (items_read depth (come.0 - 1) r),
       )
 
   no_item : (o : Option (json.Json × List Token)) → json.value depth now ≡ o → after_end_array now ≡ None → converted of_json o ≡ None → items_read depth come.0 now ≡ None
@@ -221,9 +223,8 @@ module _ (depth : ℕ) (old ts : List Token) where
   number_read : (s : List ℕ) → old ≡ Token.number s ∷ ts → value_read depth old ≡ followed_by ts (option_map number (number_of s))
   number_read s is = ap (value_read depth) is ∙ ap (converted of_json) (value_is depth (Token.number s ∷ ts))
 
-  pub number_is : (s : List ℕ) → old ≡ Token.number s ∷ ts → (r : Result Value ReadFault) → IfOk r (λ v. option_map number (number_of s) ≡ Some (view v)) → IfOk r (λ v. value_read depth old ≡ Some (view v, ts))
-  number_is s is (Ok v) e = number_read s is ∙ ap (followed_by ts) e
-  number_is s is (Err f) e = e
+  pub number_is : (s : List ℕ) → old ≡ Token.number s ∷ ts → (d : Data) → option_map number (number_of s) ≡ Some d → value_read depth old ≡ Some (d, ts)
+  number_is s is d e = number_read s is ∙ ap (followed_by ts) e
 
   pub number_refused : (s : List ℕ) → old ≡ Token.number s ∷ ts → option_map number (number_of s) ≡ None → value_read depth old ≡ None
   number_refused s is e = number_read s is ∙ ap (followed_by ts) e
@@ -243,8 +244,32 @@ module _ (depth : ℕ) (old ts : List Token) where
 pub nothing_refused : (depth : ℕ) (old : List Token) → old ≡ [] → value_read depth old ≡ None
 nothing_refused depth old is = ap (value_read depth) is ∙ ap (converted of_json) (value_is depth [])
 
--- ---- any value
+-- ---- what a call passed over
 
-pub are_read : (depth : ℕ) (old new : List Token) (r : Result Value ReadFault) → IfOk r (λ v. value_read depth old ≡ Some (view v, new)) → IfOk r (λ v. IsRead depth old (view v) new)
-are_read depth old new (Ok v) e = is_read depth old (view v) new e
-are_read depth old new (Err f) e = e
+pub array_passed : {T : Type 0} (depth : ℕ) (old ts new : List Token) (r : Result T ReadFault) → old ≡ Token.begin_array ∷ ts → 0 < depth
+    → IfOk r (λ _. (ds : Items) × (items_read (depth - 1) (length ts) ts ≡ Some (ds, new))) → IfOk r (λ _. (d : Data) × (value_read depth old ≡ Some (d, new)))
+array_passed depth old ts new (Ok t) is h e = (array e.0, array_read depth old ts is h ∙ ap arrays e.1)
+array_passed depth old ts new (Err f) is h e = e
+
+pub object_passed : {T : Type 0} (depth : ℕ) (old ts new : List Token) (r : Result T ReadFault) → old ≡ Token.begin_object ∷ ts → 0 < depth
+    → IfOk r (λ _. (ms : Members) × (members_read (depth - 1) (length ts) no_members ts ≡ Some (ms, new))) → IfOk r (λ _. (d : Data) × (value_read depth old ≡ Some (d, new)))
+object_passed depth old ts new (Ok t) is h e = (object e.0, object_read depth old ts is h ∙ ap objects e.1)
+object_passed depth old ts new (Err f) is h e = e
+
+-- ---- a number, of which nothing is left out
+
+number_kept : {K : Type 0} (under : K → List ℕ → Option K) (kept : K) (o : Option Num) (d : Data) → option_map number o ≡ Some d → d ≡ lean under kept d
+number_kept under kept None d e = absurd (cc)
+number_kept under kept (Some n) d e = let is : number n ≡ d = cc in sym is ∙ ap (lean under kept) is
+
+pub number_found : {K : Type 0} (under : K → List ℕ → Option K) (kept : K) (depth : ℕ) (old ts : List Token) (s : List ℕ) → old ≡ Token.number s ∷ ts
+    → (r : Result Value ReadFault) → IfOk r (λ v. option_map number (number_of s) ≡ Some (view v)) → IfOk r (λ v. (d : Data) × (value_read depth old ≡ Some (d, ts)) × (view v ≡ lean under kept d))
+number_found under kept depth old ts s is (Ok v) e = (view v, number_is depth old ts s is (view v) e, number_kept under kept (number_of s) (view v) e)
+number_found under kept depth old ts s is (Err f) e = e
+
+-- ---- a value of which nothing is left out
+
+pub all_read : {K : Type 0} (under : K → List ℕ → Option K) (kept : K) → ((name : List ℕ) → under kept name ≡ Some kept) → (depth : ℕ) (old new : List Token) (r : Result Value ReadFault)
+    → IfOk r (λ v. (d : Data) × (value_read depth old ≡ Some (d, new)) × (view v ≡ lean under kept d)) → IfOk r (λ v. IsRead depth old (view v) new)
+all_read under kept all depth old new (Ok v) e = is_read depth old (view v) new (e.1 ∙ ap (λ d. Some (d, new)) (sym (e.2 ∙ whole under kept all e.0)))
+all_read under kept all depth old new (Err f) e = e

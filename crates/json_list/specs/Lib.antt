@@ -1,3 +1,4 @@
+pub mod Lean
 pub mod List
 pub mod Places
 pub mod Values

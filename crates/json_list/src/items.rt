@@ -2,13 +2,15 @@
 
 ghost use Rattle.std.specs.Prelude.{◌≡◌, ◌<◌, [], length, option_map, Some, None, Err, IfOk};
 ghost use Rattle.std.specs.Prelude.{IfSome, OnErr, MatchOption};
-ghost use Rattle.serde_json.specs.Data.{no_items, item};
+ghost use Rattle.serde_json.specs.Data.{Data, no_items, item};
 ghost use Rattle.serde_json.specs.View.{view};
+ghost use Rattle.json_list.specs.Lean.{lean};
 ghost use Rattle.json_list.specs.List.{items_ahead};
 ghost use Rattle.json_list.specs.declared.fault.ReadFault.TheVariants.{Refused};
 
 use crate::fault::ReadFault;
-use crate::value::read_value;
+use crate::kept::Kept;
+use crate::value::read_kept;
 use json::Reader;
 use serde_json::Value;
 use std::alloc::Global;
@@ -59,16 +61,17 @@ impl<'a> Items<'a> {
         }
     }
 
-    /// The next item; after the last one, None, on every further call (own).
+    /// What is kept of the next item; after the last one, None, on every further call (own).
     ///
     /// # Errors
     ///
     /// Refused only if the rest of the list can't be read; some items may have been given before
     /// that is known. After any error, also out of memory, every further call is refused.
-    pub fn next_item(&mut self, alloc: Global) -> Result<Option<Value>, ReadFault>
+    pub fn next_item<K: Kept>(&mut self, alloc: Global, kept: K) -> Result<Option<Value>, ReadFault>
         ensures next { IfOk result (λ next. MatchOption next
             ((items_ahead self.old ≡ Some no_items) × (items_ahead self.new ≡ Some no_items))
-            (λ v. items_ahead self.old ≡ option_map (item (view v)) (items_ahead self.new))) }
+            (λ v. (d : Data) × (view v ≡ lean K.under kept d)
+            × (items_ahead self.old ≡ option_map (item d) (items_ahead self.new)))) }
         ensures shorter { IfOk result
             (λ next. IfSome next (λ _. length self.new < length self.old)) }
         ensures refused { result ≡ Err Refused → items_ahead self.old ≡ None }
@@ -84,7 +87,7 @@ impl<'a> Items<'a> {
             self.place = Place::Past;
             return Ok(None);
         }
-        match read_value(alloc, &mut self.reader, ITEM_DEPTH) {
+        match read_kept(alloc, &mut self.reader, ITEM_DEPTH, kept) {
             Ok(item) => Ok(Some(item)),
             Err(fault) => {
                 self.place = Place::Stopped;

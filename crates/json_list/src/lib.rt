@@ -4,9 +4,12 @@
 
 mod fault;
 mod items;
+mod kept;
 mod list;
+mod pass;
 mod value;
 
 pub use fault::ReadFault;
 pub use items::Items;
+pub use kept::Kept;
 pub use list::{OpenList, open_list};

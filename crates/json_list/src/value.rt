@@ -3,14 +3,17 @@
 ghost use Rattle.std.specs.Prelude.{◌≡◌, ◌<◌, [], length, option_map, Some, None, Err, IfOk};
 ghost use Rattle.std.specs.Prelude.{OnOk};
 ghost use Rattle.json.specs.Print.{IsNumber};
-ghost use Rattle.serde_json.specs.Data.{number, no_members};
+ghost use Rattle.serde_json.specs.Data.{Data, Items, Members, number, no_members};
 ghost use Rattle.serde_json.specs.Read.{number_of as number_in};
 ghost use Rattle.serde_json.specs.View.{view, items_view, members_view};
+ghost use Rattle.json_list.specs.Lean.{lean, lean_items, lean_members};
 ghost use Rattle.json_list.specs.List.{IsRead, IsUnread};
 ghost use Rattle.json_list.specs.Values.{value_read, items_read, members_read};
 ghost use Rattle.json_list.specs.declared.fault.ReadFault.TheVariants.{Refused};
 
 use crate::fault::ReadFault;
+use crate::kept::{Kept, Whole};
+use crate::pass::pass_value;
 use json::{Reader, Token};
 use serde_json::{Map, Value};
 use std::alloc::Global;
@@ -24,14 +27,29 @@ pub(crate) fn read_value(
     ensures read { IfOk result (λ v. IsRead depth reader.old (view v) reader.new) }
     ensures shorter { OnOk result (length reader.new < length reader.old) }
     ensures refused { result ≡ Err Refused → IsUnread depth reader.old }
+{
+    value_from(alloc, reader, depth, Whole)
+}
+
+// What is kept of the next value. Arrays and objects may nest `depth` deep.
+pub(crate) fn read_kept<K: Kept>(
+    alloc: Global,
+    reader: &mut Reader<'_>,
+    depth: usize,
+    kept: K,
+) -> Result<Value, ReadFault>
+    ensures read { IfOk result (λ v. (d : Data) × IsRead depth reader.old d reader.new
+        × (view v ≡ lean K.under kept d)) }
+    ensures shorter { OnOk result (length reader.new < length reader.old) }
+    ensures refused { result ≡ Err Refused → IsUnread depth reader.old }
     ensures none { reader.old ≡ [] → result ≡ Err Refused }
 {
-    value_from(alloc, reader, depth)
+    value_from(alloc, reader, depth, kept)
 }
 
 // A number, from its text.
 #[tactic(auto, using(crate::proofs::Numbers::read_number))]
-fn number_of(alloc: Global, text: &str) -> Result<Value, ReadFault>
+pub(crate) fn number_of(alloc: Global, text: &str) -> Result<Value, ReadFault>
     requires { IsNumber text.now }
     ensures read { IfOk result (λ v. option_map number (number_in text.now) ≡ Some (view v)) }
     ensures refused { result ≡ Err Refused → option_map number (number_in text.now) ≡ None }
@@ -43,10 +61,17 @@ fn number_of(alloc: Global, text: &str) -> Result<Value, ReadFault>
     }
 }
 
-// A value, from its first token on.
+// What is kept of a value, from its first token on.
 #[cycle(value_from)]
-fn value_from(alloc: Global, reader: &mut Reader<'_>, depth: usize) -> Result<Value, ReadFault>
-    ensures read { IfOk result (λ v. value_read depth reader.old ≡ Some (view v, reader.new)) }
+fn value_from<K: Kept>(
+    alloc: Global,
+    reader: &mut Reader<'_>,
+    depth: usize,
+    kept: K,
+) -> Result<Value, ReadFault>
+    ensures read { IfOk result
+        (λ v. (d : Data) × (value_read depth reader.old ≡ Some (d, reader.new))
+        × (view v ≡ lean K.under kept d)) }
     ensures shorter { OnOk result (length reader.new < length reader.old) }
     ensures refused { result ≡ Err Refused → value_read depth reader.old ≡ None }
     ensures none { reader.old ≡ [] → result ≡ Err Refused }
@@ -63,13 +88,13 @@ fn value_from(alloc: Global, reader: &mut Reader<'_>, depth: usize) -> Result<Va
             if depth == 0 {
                 return Err(ReadFault::Refused);
             }
-            Ok(Value::Array(items_from(alloc, reader, depth - 1)?))
+            Ok(Value::Array(items_from(alloc, reader, depth - 1, kept)?))
         }
         Token::BeginObject => {
             if depth == 0 {
                 return Err(ReadFault::Refused);
             }
-            Ok(Value::Object(members_from(alloc, reader, depth - 1)?))
+            Ok(Value::Object(members_from(alloc, reader, depth - 1, kept)?))
         }
         Token::EndArray => Err(ReadFault::Refused),
         Token::EndObject => Err(ReadFault::Refused),
@@ -80,40 +105,53 @@ fn value_from(alloc: Global, reader: &mut Reader<'_>, depth: usize) -> Result<Va
 
 // The items of an array, after the bracket that opens it.
 #[cycle(value_from)]
-fn items_from(alloc: Global, reader: &mut Reader<'_>, depth: usize) -> Result<Vec<Value>, ReadFault>
-    ensures read { IfOk result (λ v. items_read depth (length reader.old) reader.old
-        ≡ Some (items_view v.items, reader.new)) }
+fn items_from<K: Kept>(
+    alloc: Global,
+    reader: &mut Reader<'_>,
+    depth: usize,
+    kept: K,
+) -> Result<Vec<Value>, ReadFault>
+    ensures read { IfOk result (λ v. (ds : Items)
+        × (items_read depth (length reader.old) reader.old ≡ Some (ds, reader.new))
+        × (items_view v.items ≡ lean_items K.under kept ds)) }
     ensures shorter { OnOk result (length reader.new < length reader.old) }
     ensures refused { result ≡ Err Refused
         → items_read depth (length reader.old) reader.old ≡ None }
 {
     let mut found = Vec::new(alloc);
     'items: while !reader.take_end_array() {
-        let item = value_from(alloc, reader, depth)?;
+        let item = value_from(alloc, reader, depth, kept)?;
         found.push(item)?;
     }
     Ok(found)
 }
 
-// The members of an object, after the brace that opens it. The last of those with the same name
-// counts.
+// The members that are kept of an object, after the brace that opens it. The last of those with the
+// same name counts.
 #[cycle(value_from)]
-fn members_from(
+fn members_from<K: Kept>(
     alloc: Global,
     reader: &mut Reader<'_>,
     depth: usize,
+    kept: K,
 ) -> Result<Map<String, Value>, ReadFault>
-    ensures read { IfOk result (λ m. members_read depth (length reader.old) no_members reader.old
-        ≡ Some (members_view m.entries, reader.new)) }
+    ensures read { IfOk result (λ m. (ms : Members)
+        × (members_read depth (length reader.old) no_members reader.old ≡ Some (ms, reader.new))
+        × (members_view m.entries ≡ lean_members K.under kept ms)) }
     ensures shorter { OnOk result (length reader.new < length reader.old) }
     ensures refused { result ≡ Err Refused
         → members_read depth (length reader.old) no_members reader.old ≡ None }
 {
     let mut found = Map::new(alloc);
     'members: while let Some(key) = reader.next_key()? {
-        let name = String::from_str(alloc, key)?;
-        let value = value_from(alloc, reader, depth)?;
-        drop(found.insert(name, value)?);
+        match kept.under(key) {
+            Some(inner) => {
+                let name = String::from_str(alloc, key)?;
+                let value = value_from(alloc, reader, depth, inner)?;
+                drop(found.insert(name, value)?);
+            }
+            None => pass_value(alloc, reader, depth)?,
+        }
     }
     Ok(found)
 }

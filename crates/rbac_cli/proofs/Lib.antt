@@ -1,12 +1,11 @@
 pub mod Lines
-pub mod Listings
-pub mod Matrices
 pub mod Named
 pub mod OneAnswer
 pub mod OneListing
 pub mod OneMeant
 pub mod OneReason
 pub mod OneRun
+pub mod PageLemmas
 pub mod Stops
 pub mod TakenBytes
 pub mod Verdicts

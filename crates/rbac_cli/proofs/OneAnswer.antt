@@ -27,13 +27,14 @@ use Rattle.rbac_index.proofs.OneHolders.{one_holders}
 use Rattle.rbac_manifest.specs.Load.{LoadedView}
 use Rattle.rbac_lint.proofs.OneLines.{one_findings}
 use Rattle.rbac_question.specs.declared.command.Action.{Action}
-use Rattle.rbac_question.specs.declared.command.Action.TheVariants.{CanI, WhoCan, Matrix, Every, Lint}
+use Rattle.rbac_question.specs.declared.command.Action.TheVariants.{CanI, WhoCan, Matrix, Lint}
 use Rattle.rbac_question.specs.declared.command.Question.{Question}
 use Rattle.rbac_cli.specs.Out.{Answers, IsAllowed, IsDenied, AreHoldersMeant, holders_text, findings_text, findings_status, line_unless}
+use Rattle.rbac_cli.specs.Listings.{AreListed}
 use Rattle.rbac_cli.specs.declared.outcome.Status.{Status}
 use Rattle.rbac_matrix.specs.Every.{IsEvery, IsEveryRow, every_name}
 use Rattle.rbac_matrix.proofs.OneMatrix.{key_name, by_keys}
-use Rattle.rbac_cli.proofs.OneListing.{Line, line_of, one_every_listing, one_listing}
+use Rattle.rbac_cli.proofs.OneListing.{Line, line_of, one_listing}
 use Rattle.rbac_cli.proofs.OneMeant.{one_meant}
 use Rattle.rbac_cli.proofs.OneReason.{one_reason}
 
@@ -200,6 +201,13 @@ one_every_lines held lists u v rows others m n x y =
     one_list every_line_name (map line_of rows) (map line_of others) (every_lines_ascend rows x.ordered) (every_lines_ascend others y.ordered)
     (every_line_there held lists u v m n rows others x y) (every_line_there held lists v u n m others rows y x)
 
+-- ---- so whichever rows are listed print alike
+
+one_listed_lines : (every : Bool) (held : Held) (lists : UniverseLists) (u v : UniverseView) (rows others : List RowView) → AreSets lists u → AreSets lists v
+    → AreListed every held u rows → AreListed every held v others → map line_of rows ≡ map line_of others
+one_listed_lines false held lists u v rows others m n x y = one_lines held lists u v rows others m n x y
+one_listed_lines true held lists u v rows others m n x y = one_every_lines held lists u v rows others m n x y
+
 -- ---- the holders are one list
 
 one_holders_meant : (held : Held) (entries : List Entry) (q : Question) (xs ys : List HolderView) → AreHoldersMeant held entries q xs
@@ -226,12 +234,8 @@ one_answer l (CanI who quiet why q) text other status ending (inr a) (inl b) = a
 one_answer l (CanI who quiet why q) text other status ending (inr a) (inr b) = (a.1 ∙ sym b.1, a.2 ∙ sym b.2)
 one_answer l (WhoCan q) text other status ending (xs, are, e, s) (ys, others, f, t) =
     (e ∙ ap holders_text (one_holders_meant l.policy.held l.catalogue.entries q xs ys are others) ∙ sym f, s ∙ sym t)
-one_answer l (Matrix after limit) text other status ending (u, rows, m, x, e, s) (v, others, n, y, f, t) = (
-  e ∙ one_listing after limit rows others (one_lines l.policy.held l.lists u v rows others m.sets n.sets x y) ∙ sym f,
-  s ∙ sym t,
-)
-one_answer l (Every after limit) text other status ending (u, rows, m, x, e, s) (v, others, n, y, f, t) = (
-  e ∙ one_every_listing after limit rows others (one_every_lines l.policy.held l.lists u v rows others m.sets n.sets x y) ∙ sym f,
+one_answer l (Matrix every after limit) text other status ending (u, rows, m, x, e, s) (v, others, n, y, f, t) = (
+  e ∙ one_listing every after limit rows others (one_listed_lines every l.policy.held l.lists u v rows others m.sets n.sets x y) ∙ sym f,
   s ∙ sym t,
 )
 one_answer l Lint text other status ending (found, are, e, s) (others, these, f, t) =

@@ -8,7 +8,7 @@ use Rattle.rbac_model.specs.Universes.{UniverseView}
 use Rattle.rbac_manifest.specs.declared.fault.LoadFault.{LoadFault}
 use Rattle.rbac_manifest.specs.Load.{LoadedView, IsLoaded, HasFault}
 use Rattle.rbac_question.specs.declared.command.Action.{Action}
-use Rattle.rbac_question.specs.declared.command.Action.TheVariants.{CanI, WhoCan, Matrix, Every, Lint}
+use Rattle.rbac_question.specs.declared.command.Action.TheVariants.{CanI, WhoCan, Matrix, Lint}
 use Rattle.rbac_question.specs.declared.command.Command.{Command}
 use Rattle.rbac_cli.specs.Out.{Answers}
 use Rattle.rbac_cli.specs.Ends.{Ends, LacksUniverse, IsUnstopped}
@@ -52,8 +52,7 @@ lacks_for_one : (l : LoadedView) (action : Action) (f g : UniverseFault) → Lac
 lacks_for_one l (CanI who quiet why q) f g a b = absurd a
 lacks_for_one l (WhoCan q) f g a b = absurd a
 lacks_for_one l Lint f g a b = absurd a
-lacks_for_one l (Matrix after limit) f g a b = same_universe_fault l.lists f g a.0 a.1 b.0 b.1
-lacks_for_one l (Every after limit) f g a b = same_universe_fault l.lists f g a.0 a.1 b.0 b.1
+lacks_for_one l (Matrix every after limit) f g a b = same_universe_fault l.lists f g a.0 a.1 b.0 b.1
 
 module _ (loads_one : LoadsOne) (no_fault : HasNoFault) (one_fault : HasOneFault) (no_universe_fault : HasNoUniverseFault) where
   -- what has an answer lacks no universe
@@ -61,8 +60,7 @@ module _ (loads_one : LoadsOne) (no_fault : HasNoFault) (one_fault : HasOneFault
   not_lacking l (CanI who quiet why q) text status f a b = b
   not_lacking l (WhoCan q) text status f a b = b
   not_lacking l Lint text status f a b = b
-  not_lacking l (Matrix after limit) text status f (u, rows, is, matrix, e, zero) b = no_universe_fault l.lists u f is b.1 b.0
-  not_lacking l (Every after limit) text status f (u, rows, is, every, e, zero) b = no_universe_fault l.lists u f is b.1 b.0
+  not_lacking l (Matrix every after limit) text status f (u, rows, is, listed, e, zero) b = no_universe_fault l.lists u f is b.1 b.0
 
   module _ (command : Command) (inputs : List (List ℕ)) where
     answered : (took others : List ℕ → Type 0) (status : Status) (other : Result Status RunFault) → IsUnstopped other

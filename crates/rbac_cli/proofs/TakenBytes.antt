@@ -12,5 +12,5 @@ ends_as took gained f command inputs (Ok status) (l, is, (text, a, t)) = (l, is,
 ends_as took gained f command inputs (Err (Load fault)) a = (a.0, f [] a.1)
 ends_as took gained f command inputs (Err (Universe fault)) a = (a.0, f [] a.1)
 ends_as took gained f command inputs (Err (Memory n)) (inl a) = inl (f [] a.0, a.1)
-ends_as took gained f command inputs (Err (Memory n)) (inr (l, is, (prefix, begins, t, e))) = inr (l, is, (prefix, begins, f prefix t, e))
-ends_as took gained f command inputs (Err (Write n)) (l, is, (prefix, begins, t, e)) = (l, is, (prefix, begins, f prefix t, e))
+ends_as took gained f command inputs (Err (Memory n)) (inr (l, is, (text, status, a, (prefix, begins, t, e)))) = inr (l, is, (text, status, a, (prefix, begins, f prefix t, e)))
+ends_as took gained f command inputs (Err (Write n)) (l, is, (text, status, a, (prefix, begins, t, e))) = (l, is, (text, status, a, (prefix, begins, f prefix t, e)))

@@ -2,15 +2,15 @@
 use Rattle.std.specs.Prelude.{◌≡◌, ◌≢◌, ℕ, ◌⊎◌, Bool, true, false, List, [], length, Result, Ok}
 use Rattle.std.specs.Prelude.{Err, MatchResult}
 use Rattle.rbac_streams.specs.Taken.{counted}
+use Rattle.rbac_terms.specs.Text.{BeginsWith}
 use Rattle.rbac_universe.specs.Sets.{HasUniverseFault}
 use Rattle.rbac_universe.specs.declared.fault.UniverseFault.{UniverseFault}
 use Rattle.rbac_universe.specs.declared.fault.UniverseFault.TheVariants as universe
 use Rattle.rbac_manifest.specs.Load.{LoadedView, IsLoaded, HasFault}
 use Rattle.rbac_question.specs.declared.command.Action.{Action}
-use Rattle.rbac_question.specs.declared.command.Action.TheVariants.{CanI, WhoCan, Matrix, Every}
-use Rattle.rbac_question.specs.declared.command.Action.TheVariants.{Lint}
+use Rattle.rbac_question.specs.declared.command.Action.TheVariants.{Matrix}
 use Rattle.rbac_question.specs.declared.command.Command.{Command}
-use Rattle.rbac_cli.specs.Out.{Answers, IsPrefixOfAnswer}
+use Rattle.rbac_cli.specs.Out.{Answers}
 use Rattle.rbac_cli.specs.declared.outcome.Status.{Status}
 use Rattle.rbac_cli.specs.declared.outcome.RunFault.{RunFault}
 use Rattle.rbac_cli.specs.declared.outcome.RunFault.TheVariants.{Load, Universe, Memory, Write}
@@ -19,25 +19,21 @@ use Rattle.rbac_cli.specs.declared.outcome.RunFault.TheVariants.{Load, Universe,
 abbrev pub Writes : (List ℕ → Type 0) → LoadedView → Action → Status → Type 0
 Writes took l action status = (text : List ℕ) × Answers l action text status × took text
 
--- the writer took a prefix of what the action means, and n is how many bytes that is
+-- the writer took a prefix of a text that the action means, and n is how many bytes that is
 abbrev pub WritesPrefix : (List ℕ → Type 0) → LoadedView → Action → ℕ → Type 0
-WritesPrefix took l action n = (prefix : List ℕ) × IsPrefixOfAnswer l action prefix × took prefix
-    × (n ≡ counted 0 (length prefix))
+WritesPrefix took l action n = (text : List ℕ) × (status : Status) × Answers l action text status
+    × ((prefix : List ℕ) × BeginsWith text prefix × took prefix × (n ≡ counted 0 (length prefix)))
 
 -- the writer took nothing, and n is 0
 abbrev pub WritesNothing : (List ℕ → Type 0) → ℕ → Type 0
 WritesNothing took n = took [] × (n ≡ 0)
 
--- the action is `matrix`, with or without `--every`, and the lists make no universe because of this
--- fault; out of memory is a fault of its own
+-- the action is `matrix`, and the lists make no universe because of this fault; out of memory is a
+-- fault of its own
 abbrev pub LacksUniverse : LoadedView → Action → UniverseFault → Type 0
-LacksUniverse l (CanI who quiet why q) fault = ⊥
-LacksUniverse l (WhoCan q) fault = ⊥
-LacksUniverse l Lint fault = ⊥
-LacksUniverse l (Matrix after limit) fault = HasUniverseFault l.lists fault
+LacksUniverse l (Matrix every after limit) fault = HasUniverseFault l.lists fault
     × (fault ≢ universe.NoMemory)
-LacksUniverse l (Every after limit) fault = HasUniverseFault l.lists fault
-    × (fault ≢ universe.NoMemory)
+LacksUniverse l action fault = ⊥
 
 -- the inputs are loaded, and what the command means over them is written
 abbrev pub Succeeds : (List ℕ → Type 0) → Command → List (List ℕ) → Status → Type 0

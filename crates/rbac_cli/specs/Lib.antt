@@ -1,6 +1,9 @@
 pub mod Ends
+pub mod Left
+pub mod Listings
 pub mod Meant
 pub mod Out
 pub mod Printing
 pub mod RunTexts
+pub mod ShownTokens
 pub mod Verdicts

@@ -1,14 +1,13 @@
 //! The answer of each action.
 
 ghost use Rattle.std.specs.Prelude.{◌≡◌, false, IfOk, IfErr};
-ghost use Rattle.rbac_cli.specs.Ends.{is_write_fault};
-ghost use Rattle.rbac_cli.specs.Printing.{PrintsAnswer, StopsPrinting};
+ghost use Rattle.rbac_cli.specs.Printing.{PrintsAnswer, StopsPrinting, is_sink_stop};
 
-use crate::can_i::{print_verdict, verdict_of};
-use crate::every::print_every_listing;
+use crate::can_i::verdict_of;
 use crate::lint::print_findings;
-use crate::matrix::print_listing;
-use crate::outcome::{RunFault, Status};
+use crate::matrix::print_matrix;
+use crate::outcome::Status;
+use crate::stop::Stop;
 use crate::who_can::print_holders;
 use rbac_manifest::Export;
 use rbac_question::Action;
@@ -23,13 +22,13 @@ pub(crate) fn print_answer<W: Write + Drop>(
     action: &Action,
     sink: &mut Sink<W>,
     page: &mut Page,
-) -> Result<Status, RunFault>
+) -> Result<Status, Stop>
     requires { sink.old.has_failed ≡ false }
     ensures ok { IfOk result
         (PrintsAnswer W.contents sink.old page.old sink.new page.new export.now action.now) }
     ensures err { IfErr result
         (StopsPrinting W.contents sink.old page.old sink.new page.new export.now action.now) }
-    ensures failed { sink.new.has_failed ≡ is_write_fault result }
+    ensures failed { sink.new.has_failed ≡ is_sink_stop result }
 {
     match action {
         Action::CanI {
@@ -38,16 +37,16 @@ pub(crate) fn print_answer<W: Write + Drop>(
             why,
             question,
         } => {
-            let verdict = verdict_of(alloc, export, principal, *quiet, *why, question);
-            print_verdict(verdict, sink, page)
+            let verdict = verdict_of(alloc, export, principal, *quiet, *why, question)?;
+            page.print(sink, verdict.text.as_slice())?;
+            Ok(verdict.status)
         }
         Action::WhoCan { question } => print_holders(alloc, export, question, sink, page),
-        Action::Matrix { after, limit } => {
-            print_listing(alloc, export, after.as_ref(), *limit, sink, page)
-        }
-        Action::Every { after, limit } => {
-            print_every_listing(alloc, export, after.as_ref(), *limit, sink, page)
-        }
+        Action::Matrix {
+            every,
+            after,
+            limit,
+        } => print_matrix(alloc, export, *every, after.as_ref(), *limit, sink, page),
         Action::Lint => print_findings(alloc, export, sink, page),
     }
 }

@@ -1,30 +1,24 @@
 //! Verdicts.
 
-ghost use Rattle.std.specs.Prelude.{◌≡◌, false, IfOk, IfErr};
-ghost use Rattle.rbac_manifest.specs.Load.{LoadedView};
-ghost use Rattle.rbac_question.specs.declared.command.Action.{Action};
+ghost use Rattle.std.specs.Prelude.{◌≡◌, IfOk};
 ghost use Rattle.rbac_question.specs.declared.command.Action.TheVariants.{CanI};
 ghost use Rattle.rbac_cli.specs.Out.{Answers};
-ghost use Rattle.rbac_cli.specs.Ends.{is_write_fault};
-ghost use Rattle.rbac_cli.specs.Printing.{PrintsAnswer, StopsPrinting};
 ghost use Rattle.rbac_cli.specs.Verdicts.{verdict_text, verdict_status};
 
 use crate::meaning::meant_by;
-use crate::outcome::{RunFault, Status, fault_of};
+use crate::outcome::Status;
 use rbac_index::{Why, why_allowed};
 use rbac_manifest::Export;
 use rbac_question::Question;
-use rbac_streams::{Page, PrintFault, Sink};
 use rbac_terms::Principal;
 use rbac_text::put_why;
 use std::alloc::{AllocError, Global};
-use std::io::Write;
 
 // A verdict: its whole text and its status.
 #[derive(Drop)]
 pub(crate) struct Verdict {
-    text: Vec<u8>,
-    status: Status,
+    pub(crate) text: Vec<u8>,
+    pub(crate) status: Status,
 }
 
 /// The verdict on whether the principal is allowed what the question asks. With `quiet` it has a
@@ -94,30 +88,5 @@ fn status_of(found: &Option<Why>) -> Status
         Status::Zero
     } else {
         Status::One
-    }
-}
-
-/// Prints a verdict.
-pub(crate) fn print_verdict<W: Write + Drop>(
-    verdict: Result<Verdict, AllocError>,
-    sink: &mut Sink<W>,
-    page: &mut Page,
-) -> Result<Status, RunFault>
-    requires { sink.old.has_failed ≡ false }
-    ensures ok { (l : LoadedView) (action : Action)
-        → IfOk verdict (λ t. Answers l action t.text.items t.status)
-        → IfOk result (PrintsAnswer W.contents sink.old page.old sink.new page.new l action) }
-    ensures err { (l : LoadedView) (action : Action)
-        → IfOk verdict (λ t. Answers l action t.text.items t.status)
-        → IfErr result (StopsPrinting W.contents sink.old page.old sink.new page.new l action) }
-    ensures failed { sink.new.has_failed ≡ is_write_fault result }
-{
-    let verdict = match verdict {
-        Ok(verdict) => verdict,
-        Err(_) => return Err(fault_of(page, PrintFault::NoMemory)),
-    };
-    match page.print(sink, verdict.text.as_slice()) {
-        Ok(()) => Ok(verdict.status),
-        Err(fault) => Err(fault_of(page, fault)),
     }
 }

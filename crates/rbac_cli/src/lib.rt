@@ -5,13 +5,15 @@
 
 mod answer;
 mod can_i;
-mod every;
 mod laws;
 mod lint;
+mod listing;
 mod matrix;
 mod meaning;
 mod outcome;
+mod pages;
 mod running;
+mod stop;
 mod who_can;
 
 pub use laws::{answers_are_one, runs_are_one};

@@ -5,10 +5,11 @@ ghost use Rattle.rbac_text.specs.Finding.{finding_text};
 ghost use Rattle.rbac_streams.specs.Taken.{Prints, StopsIn};
 ghost use Rattle.rbac_question.specs.declared.command.Action.TheVariants.{Lint};
 ghost use Rattle.rbac_cli.specs.Out.{findings_text, findings_status};
-ghost use Rattle.rbac_cli.specs.Ends.{is_write_fault};
-ghost use Rattle.rbac_cli.specs.Printing.{PrintsAnswer, StopsPrinting, is_sink_fault};
+ghost use Rattle.rbac_cli.specs.Printing.{PrintsAnswer, StopsPrinting};
+ghost use Rattle.rbac_cli.specs.Printing.{is_sink_fault, is_sink_stop};
 
-use crate::outcome::{RunFault, Status, fault_of};
+use crate::outcome::Status;
+use crate::stop::Stop;
 use rbac_lint::{Finding, lint_export};
 use rbac_manifest::Export;
 use rbac_streams::{Page, PrintFault, Sink};
@@ -22,22 +23,17 @@ pub(crate) fn print_findings<W: Write + Drop>(
     export: &Export,
     sink: &mut Sink<W>,
     page: &mut Page,
-) -> Result<Status, RunFault>
+) -> Result<Status, Stop>
     requires { sink.old.has_failed ≡ false }
     ensures ok { IfOk result
         (PrintsAnswer W.contents sink.old page.old sink.new page.new export.now Lint) }
     ensures err { IfErr result
         (StopsPrinting W.contents sink.old page.old sink.new page.new export.now Lint) }
-    ensures failed { sink.new.has_failed ≡ is_write_fault result }
+    ensures failed { sink.new.has_failed ≡ is_sink_stop result }
 {
-    let findings = match lint_export(alloc, export) {
-        Ok(findings) => findings,
-        Err(_) => return Err(fault_of(page, PrintFault::NoMemory)),
-    };
-    match print_lines(alloc, findings.as_slice(), sink, page) {
-        Ok(()) => Ok(status_of(findings.as_slice())),
-        Err(fault) => Err(fault_of(page, fault)),
-    }
+    let findings = lint_export(alloc, export)?;
+    print_lines(alloc, findings.as_slice(), sink, page)?;
+    Ok(status_of(findings.as_slice()))
 }
 
 // The status: 1 if anything is found.
@@ -66,7 +62,7 @@ fn print_lines<W: Write + Drop>(
 {
     let mut line = Vec::new(alloc);
     for finding in findings {
-        if let Err(fault) = print_line(finding, &mut line, sink, page) {
+        if let Err(fault) = print_finding(finding, &mut line, sink, page) {
             return Err(fault);
         }
     }
@@ -74,7 +70,7 @@ fn print_lines<W: Write + Drop>(
 }
 
 // Prints the line of one finding, built in `line`.
-fn print_line<W: Write + Drop>(
+fn print_finding<W: Write + Drop>(
     finding: &Finding,
     line: &mut Vec<u8>,
     sink: &mut Sink<W>,

@@ -1,10 +1,6 @@
 //! How a run ends.
 
-ghost use Rattle.std.specs.Prelude.{◌≡◌};
-ghost use Rattle.rbac_cli.specs.Printing.{fault_at};
-
 use rbac_manifest::LoadFault;
-use rbac_streams::{Page, PrintFault};
 use rbac_universe::UniverseFault;
 use std::error::Error;
 use std::fmt;
@@ -49,14 +45,3 @@ impl fmt::Display for RunFault {
 }
 
 impl Error for RunFault {}
-
-// The fault of a run whose printing stopped with `fault`.
-pub(crate) fn fault_of(page: &Page, fault: PrintFault) -> RunFault
-    ensures { result ≡ fault_at page.now fault }
-{
-    let written = page.written();
-    match fault {
-        PrintFault::SinkFailed => RunFault::Write { written },
-        PrintFault::NoMemory => RunFault::Memory { written },
-    }
-}

@@ -7,7 +7,8 @@ ghost use Rattle.rbac_cli.specs.Ends.{Ends, FailsToLoad, Writes, is_write_fault}
 ghost use Rattle.rbac_cli.specs.Printing.{StopsWith};
 
 use crate::answer::print_answer;
-use crate::outcome::{RunFault, Status, fault_of};
+use crate::outcome::{RunFault, Status};
+use crate::stop::Stop;
 use rbac_manifest::{Cause, Export, LoadFault, load_export};
 use rbac_question::{Action, Command};
 use rbac_streams::{Input, Page, Sink};
@@ -98,10 +99,10 @@ fn write_answer<W: Write + Drop>(
 {
     let status = match print_answer(alloc, export, action, sink, page) {
         Ok(status) => status,
-        Err(fault) => return Err(fault),
+        Err(stop) => return Err(stop.fault(page)),
     };
     match page.flush(sink) {
         Ok(()) => Ok(status),
-        Err(fault) => Err(fault_of(page, fault)),
+        Err(fault) => Err(Stop::from(fault).fault(page)),
     }
 }

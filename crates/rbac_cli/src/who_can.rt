@@ -5,11 +5,12 @@ ghost use Rattle.rbac_text.specs.Row.{holder_text};
 ghost use Rattle.rbac_streams.specs.Taken.{Prints, StopsIn};
 ghost use Rattle.rbac_question.specs.declared.command.Action.TheVariants.{WhoCan};
 ghost use Rattle.rbac_cli.specs.Out.{AreHoldersMeant, holders_text};
-ghost use Rattle.rbac_cli.specs.Ends.{is_write_fault};
-ghost use Rattle.rbac_cli.specs.Printing.{PrintsAnswer, StopsPrinting, is_sink_fault};
+ghost use Rattle.rbac_cli.specs.Printing.{PrintsAnswer, StopsPrinting};
+ghost use Rattle.rbac_cli.specs.Printing.{is_sink_fault, is_sink_stop};
 
 use crate::meaning::meant_by;
-use crate::outcome::{RunFault, Status, fault_of};
+use crate::outcome::Status;
+use crate::stop::Stop;
 use rbac_index::{Holder, Holders, Index, IndexFault};
 use rbac_manifest::Export;
 use rbac_question::Question;
@@ -25,7 +26,7 @@ pub(crate) fn print_holders<W: Write + Drop>(
     question: &Question,
     sink: &mut Sink<W>,
     page: &mut Page,
-) -> Result<Status, RunFault>
+) -> Result<Status, Stop>
     requires { sink.old.has_failed ≡ false }
     ensures ok { IfOk result
         (PrintsAnswer W.contents sink.old page.old sink.new page.new export.now
@@ -33,16 +34,11 @@ pub(crate) fn print_holders<W: Write + Drop>(
     ensures err { IfErr result
         (StopsPrinting W.contents sink.old page.old sink.new page.new export.now
         (WhoCan question.now)) }
-    ensures failed { sink.new.has_failed ≡ is_write_fault result }
+    ensures failed { sink.new.has_failed ≡ is_sink_stop result }
 {
-    let holders = match holders_of(alloc, export, question) {
-        Ok(holders) => holders,
-        Err(_) => return Err(fault_of(page, PrintFault::NoMemory)),
-    };
-    match print_lines(alloc, &holders, sink, page) {
-        Ok(()) => Ok(Status::Zero),
-        Err(fault) => Err(fault_of(page, fault)),
-    }
+    let holders = holders_of(alloc, export, question)?;
+    print_lines(alloc, &holders, sink, page)?;
+    Ok(Status::Zero)
 }
 
 fn holders_of<'p>(
@@ -74,7 +70,7 @@ fn print_lines<W: Write + Drop>(
 {
     let mut line = Vec::new(alloc);
     for place in 0..holders.len() {
-        if let Err(fault) = print_line(holders.get(place), &mut line, sink, page) {
+        if let Err(fault) = print_holder(holders.get(place), &mut line, sink, page) {
             return Err(fault);
         }
     }
@@ -82,7 +78,7 @@ fn print_lines<W: Write + Drop>(
 }
 
 // Prints the line of one holder, built in `line`.
-fn print_line<W: Write + Drop>(
+fn print_holder<W: Write + Drop>(
     holder: Holder<'_>,
     line: &mut Vec<u8>,
     sink: &mut Sink<W>,

@@ -4,9 +4,9 @@ use Rattle.std.specs.Prelude.{◌||◌}
 use Rattle.std.specs.Str.{bytes_eq}
 use Rattle.std.proofs.lemmas.Slice.Eq.{bytes_eq-Decides}
 use Rattle.clap.specs.Words.{Row, Text, first_of}
-use Rattle.rbac_question.specs.Lines.{QuestionParts, CanIParts, MatrixParts, MeansCanI, MeansWhoCan, MeansMatrix, AcceptsCanI, AcceptsQuestion, RefusesCanI, RefusesQuestion, RefusesMatrix, HasBadToken, IsAfter, IsAfterMark}
+use Rattle.rbac_question.specs.Lines.{QuestionParts, CanIParts, MatrixParts, MeansCanI, MeansWhoCan, MeansMatrix, AcceptsCanI, AcceptsQuestion, RefusesCanI, RefusesQuestion, RefusesMatrix, HasBadToken, IsAfter}
 use Rattle.rbac_question.specs.declared.command.Action.{Action}
-use Rattle.rbac_question.specs.declared.command.Action.TheVariants.{CanI, WhoCan, Matrix, Every, Lint}
+use Rattle.rbac_question.specs.declared.command.Action.TheVariants.{CanI, WhoCan, Matrix, Lint}
 use Rattle.rbac_question.specs.declared.fault.QuestionFault.{QuestionFault}
 use Rattle.rbac_question.specs.declared.fault.QuestionFault.TheVariants.{EmptyWord, UrlSubresource, BadToken, NoMemory}
 use Rattle.rbac_command.specs.Meaning.{question_in, parts_in, has_flag, is_known, DoesAction, IsNumberAt, RefusesAction}
@@ -33,8 +33,7 @@ as_can_i : (name : Text) (rows : List Row) (r : Result Action QuestionFault) →
     → MatchResult r (DoesAction name rows) (RefusesAction name rows)
 as_can_i name rows (Ok (CanI principal quiet why question)) e h = (e, h.0, h.1)
 as_can_i name rows (Ok (WhoCan question)) e h = absurd h.1
-as_can_i name rows (Ok (Matrix after limit)) e h = absurd h.1
-as_can_i name rows (Ok (Every after limit)) e h = absurd h.1
+as_can_i name rows (Ok (Matrix every after limit)) e h = absurd h.1
 as_can_i name rows (Ok Lint) e h = absurd h.1
 as_can_i name rows (Err EmptyWord) e h = inl (e, h)
 as_can_i name rows (Err UrlSubresource) e h = inl (e, h)
@@ -52,8 +51,7 @@ as_who_can : (name : Text) (rows : List Row) (r : Result Action QuestionFault) �
     → MatchResult r (DoesAction name rows) (RefusesAction name rows)
 as_who_can name rows (Ok (CanI principal quiet why question)) e h = absurd h.1
 as_who_can name rows (Ok (WhoCan question)) e h = (e, h.0, h.1)
-as_who_can name rows (Ok (Matrix after limit)) e h = absurd h.1
-as_who_can name rows (Ok (Every after limit)) e h = absurd h.1
+as_who_can name rows (Ok (Matrix every after limit)) e h = absurd h.1
 as_who_can name rows (Ok Lint) e h = absurd h.1
 as_who_can name rows (Err EmptyWord) e h = inr (e, h)
 as_who_can name rows (Err UrlSubresource) e h = inr (e, h)
@@ -72,10 +70,8 @@ pub matrix_line : (name : Text) (rows : List Row) (l : MatrixParts) (r : Result 
     → MatchResult r (DoesAction name rows) (RefusesAction name rows)
 matrix_line name rows l (Ok (CanI principal quiet why question)) e v f n h = absurd h
 matrix_line name rows l (Ok (WhoCan question)) e v f n h = absurd h
-matrix_line name rows l (Ok (Matrix after limit)) e v f n h =
-    (e, sym v ∙ h.0, subst (λ (t : _). IsAfter t after) f h.1, subst (λ (m : _). IsNumberAt (codes "limit") rows m) (sym h.2) n)
-matrix_line name rows l (Ok (Every after limit)) e v f n h =
-    (e, sym v ∙ h.0, subst (λ (t : _). IsAfterMark t after) f h.1, subst (λ (m : _). IsNumberAt (codes "limit") rows m) (sym h.2) n)
+matrix_line name rows l (Ok (Matrix every after limit)) e v f n h =
+    (e, h.0 ∙ v, subst (λ (t : _). IsAfter t after) f h.1, subst (λ (m : _). IsNumberAt (codes "limit") rows m) (sym h.2) n)
 matrix_line name rows l (Ok Lint) e v f n h = absurd h
 matrix_line name rows l (Err EmptyWord) e v f n h = absurd h
 matrix_line name rows l (Err UrlSubresource) e v f n h = absurd h

@@ -7,10 +7,9 @@ use Rattle.clap.specs.Words.{Row, Text, all_of, fault_of, first_of, kind_of, one
 use Rattle.clap.specs.Kinds.{IsAmong}
 use Rattle.rbac_question.specs.Lines.{QuestionParts, CanIParts, MeansCanI, MeansWhoCan, AcceptsCanI}
 use Rattle.rbac_question.specs.Lines.{AcceptsQuestion, RefusesCanI, RefusesQuestion, HasBadToken}
-use Rattle.rbac_question.specs.Lines.{IsAfter, IsAfterMark}
+use Rattle.rbac_question.specs.Lines.{IsAfter}
 use Rattle.rbac_question.specs.declared.command.Action.{Action}
-use Rattle.rbac_question.specs.declared.command.Action.TheVariants.{CanI, WhoCan, Matrix, Every}
-use Rattle.rbac_question.specs.declared.command.Action.TheVariants.{Lint}
+use Rattle.rbac_question.specs.declared.command.Action.TheVariants.{CanI, WhoCan, Matrix, Lint}
 use Rattle.rbac_question.specs.declared.command.Command.{Command}
 use Rattle.rbac_question.specs.declared.fault.QuestionFault.{QuestionFault}
 use Rattle.rbac_question.specs.declared.fault.QuestionFault.TheVariants as question
@@ -86,12 +85,9 @@ DoesAction name rows (CanI principal quiet why question) =
 DoesAction name rows (WhoCan question) =
     (name ≡ codes "who-can") × AcceptsQuestion (question_in rows)
     × MeansWhoCan (question_in rows) (WhoCan question)
-DoesAction name rows (Matrix after limit) =
-    (name ≡ codes "matrix") × (has_flag (codes "every") rows ≡ false)
+DoesAction name rows (Matrix every after limit) =
+    (name ≡ codes "matrix") × (every ≡ has_flag (codes "every") rows)
     × IsAfter (first_of (codes "after") rows) after × IsNumberAt (codes "limit") rows limit
-DoesAction name rows (Every after limit) =
-    (name ≡ codes "matrix") × (has_flag (codes "every") rows ≡ true)
-    × IsAfterMark (first_of (codes "after") rows) after × IsNumberAt (codes "limit") rows limit
 DoesAction name rows Lint = name ≡ codes "lint"
 
 -- the command is what the matches of the subcommand of that name mean

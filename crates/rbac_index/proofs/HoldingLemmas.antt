@@ -12,8 +12,9 @@ use Rattle.rbac_model.specs.Holders.{HolderView, AreHolders}
 use Rattle.rbac_model.proofs.GrantNumbers.{grant_by}
 use Rattle.rbac_model.proofs.BindingPlaces.{places_rise, one_binding_place, rule_of_binding, grant_of_rule}
 use Rattle.rbac_index.specs.Indexed.{AreCandidates}
-use Rattle.rbac_index.specs.Holding.{BringsAt, BringsRuleAt, AreSeen, ArePassed}
-use Rattle.rbac_index.proofs.SeenLemmas.{seen_entered, seen_ended}
+use Rattle.rbac_index.specs.Holding.{BringsAt, BringsRuleAt, AreSeen, AreFirsts, ArePassed}
+use Rattle.rbac_index.proofs.FirstLemmas.{firsts_hold}
+use Rattle.rbac_index.proofs.SeenLemmas.{seen_entered}
 
 module _ (p : PolicyView) (ok : IsPolicy p) (namespace verb : Text) (t : What) (ns : List ℕ) (are : AreCandidates p verb t ns) where
   pub candidate_within : (k : ℕ) → k < length ns → get_or ns k 0 < length p.grants
@@ -82,5 +83,5 @@ module _ (p : PolicyView) (ok : IsPolicy p) (namespace verb : Text) (t : What) (
     ahead = λ j i low high by. passed.ahead j i (omega arith) high by;
   }
 
-  pub all_seen : (k next : ℕ) (xs : List HolderView) → length ns ≤ k → ArePassed p ns k next → AreSeen p.held namespace verb t next 0 xs → AreHolders p.held namespace verb t xs
-  all_seen k next xs le passed seen = seen_ended p.held namespace verb t next xs (λ m brings. let c = brings_candidate m brings in passed.behind c.0 m (omega (arith, c.1, le)) c.2) seen
+  pub all_seen : (k next : ℕ) (xs firsts : List HolderView) → length ns ≤ k → ArePassed p ns k next → AreSeen p.held namespace verb t next 0 xs → AreFirsts xs firsts → AreHolders p.held namespace verb t firsts
+  all_seen k next xs firsts le passed seen first = firsts_hold p.held namespace verb t next xs firsts (λ m brings. let c = brings_candidate m brings in passed.behind c.0 m (omega (arith, c.1, le)) c.2) seen first

@@ -1,6 +1,6 @@
 pub mod AlikeLemmas
 pub mod DecidingLemmas
-pub mod HolderKeys
+pub mod FirstLemmas
 pub mod HolderLaw
 pub mod HoldingLemmas
 pub mod IndexLemmas
@@ -12,6 +12,7 @@ pub mod LivingLemmas
 pub mod MergeLemmas
 pub mod NextRunLemmas
 pub mod OneHolders
+pub mod RankLemmas
 pub mod ReachLemmas
 pub mod ReadLemmas
 pub mod ReasonLemmas

@@ -12,10 +12,10 @@ use Rattle.rbac_model.specs.Policies.{Held, Live, AreRulesFor, SourcedRule}
 use Rattle.rbac_terms.specs.Matching.{RuleAllows}
 use Rattle.std.proofs.lemmas.Option.{same_Some}
 use Rattle.rbac_terms.specs.Granting.{IsSubjectKey}
-use Rattle.rbac_model.specs.Holders.{HolderView, IsHolderAt, IsHolder, AreHolders, IsBefore}
+use Rattle.rbac_model.specs.Holders.{HolderView, IsHolderAt, IsBefore}
 use Rattle.rbac_terms.specs.declared.granting.Binding.{Binding}
 use Rattle.rbac_terms.specs.declared.granting.Subject.{Subject}
-use Rattle.rbac_index.specs.Holding.{BringsAt, BringsRuleAt, AreSeen, IsSeenMore}
+use Rattle.rbac_index.specs.Holding.{BringsAt, BringsRuleAt, HoldsThere, IsEarlier, AreSeen}
 
 AllPairs-push : {X : Type 0} (R : X → X → Type 0) (xs : List X) (y : X) → AllPairs R xs → ((x : X) → Contains xs x → R x y) → AllPairs R (xs ++ y ∷ [])
 AllPairs-push R xs y up last i j d less within =
@@ -25,27 +25,6 @@ AllPairs-push R xs y up last i j d less within =
           let at : j ≡ length xs = omega (arith, length-append xs (y ∷ [])) in
           rw (get_or-append xs (y ∷ []) d i (omega arith), get_or_at xs y [] d j (sym at)) (last (get_or xs i d) (Contains-get_or xs i d (omega arith)))
     ]
-
-lex_cases : (i j k l : ℕ) → IsBefore i j k l ⊎ (IsBefore k l i j ⊎ ((i ≡ k) × (j ≡ l)))
-lex_cases i j k l = elim (cases_order i k) [
-  | inl e ↦ elim (cases_order j l) [
-    | inl f ↦ inr (inr (e, f))
-    | inr f ↦ elim f [
-      | inl m ↦ inl (inr (e, m))
-      | inr m ↦ inr (inl (inr (sym e, m)))
-    ]
-  ]
-  | inr d ↦ elim d [
-    | inl m ↦ inl (inl m)
-    | inr m ↦ inr (inl (inl m))
-  ]
-]
-
-lex_not_both : (i j k l : ℕ) → IsBefore i j k l → (k < i) ⊎ ((k ≡ i) × (l < j + 1)) → ⊥
-lex_not_both i j k l (inl a) (inl b) = omega arith
-lex_not_both i j k l (inl a) (inr b) = omega (arith, b.0)
-lex_not_both i j k l (inr a) (inl b) = omega (arith, a.0)
-lex_not_both i j k l (inr a) (inr b) = omega (arith, a.1, b.1)
 
 lex_next : (i j k l : ℕ) → IsBefore i j k l → IsBefore i j k (l + 1)
 lex_next i j k l (inl a) = inl a
@@ -62,8 +41,8 @@ lex_last i j k l (inr a) = elim (cases_order j l) [
   ]
 ]
 
-pushed : (xs : List HolderView) (y : HolderView) → AllPairs (λ a b. IsBefore a.binding_place a.subject_place b.binding_place b.subject_place) xs → ((x : HolderView) → Contains xs x → IsBefore x.binding_place x.subject_place y.binding_place y.subject_place) → AllPairs (λ a b. IsBefore a.binding_place a.subject_place b.binding_place b.subject_place) (xs ++ y ∷ [])
-pushed xs y up last = AllPairs-push (λ a b. IsBefore a.binding_place a.subject_place b.binding_place b.subject_place) xs y up last
+pub pushed : (xs : List HolderView) (y : HolderView) → AllPairs IsEarlier xs → ((x : HolderView) → Contains xs x → IsEarlier x y) → AllPairs IsEarlier (xs ++ y ∷ [])
+pushed xs y up last = AllPairs-push IsEarlier xs y up last
 
 abbrev pub holder_by : Text → Binding → ℕ → ℕ → HolderView
 holder_by key b i j = record { key = key; binding = b; binding_place = i; subject_place = j }
@@ -80,7 +59,6 @@ module _ (h : Held) (namespace verb : Text) (t : What) where
   seen_none = record {
     ordered = λ i j d l m. absurd (omega arith);
     exact = λ x. (λ w. absurd (omega (arith, w.1)), λ b. absurd (elim b.1 [ inl a ↦ omega arith | inr a ↦ omega (arith, a.1) ]));
-    complete = λ key k l a b. absurd (elim b [ inl c ↦ omega arith | inr c ↦ omega (arith, c.1) ]);
   }
 
   -- nothing holds between the two pairs
@@ -91,57 +69,18 @@ module _ (h : Held) (namespace verb : Text) (t : What) where
       λ w. let b = (seen.exact x).0 w in (b.0, on x.binding_place x.subject_place b.1),
       λ b. (seen.exact x).1 (b.0, back x.key x.binding_place x.subject_place b.0.1 b.1),
     );
-    complete = λ key m n a b. seen.complete key m n a (back key m n a b);
   }
 
-  -- the one more that holds has a key that was seen
-  pub seen_kept : (i j : ℕ) (xs : List HolderView) (key : Text) → ((other : Text) → IsHolderAt h namespace verb t other i j → other ≡ key) → Any (λ x. x.key ≡ key) xs → AreSeen h namespace verb t i j xs → AreSeen h namespace verb t i (j + 1) xs
-  seen_kept i j xs key only any seen =
-      let y = any.1 in
-      let inside : Contains xs y = (any.0, any.2, any.3) in
-      let earlier = (seen.exact y).0 inside in record {
-        ordered = seen.ordered;
-        exact = λ x. (
-          λ w. let b = (seen.exact x).0 w in (b.0, lex_next x.binding_place x.subject_place i j b.1),
-          λ b. elim (lex_last x.binding_place x.subject_place i j b.1) [
-            | inl l ↦ (seen.exact x).1 (b.0, l)
-            | inr e ↦
-                let at : IsHolderAt h namespace verb t x.key i j = subst (λ (m : ℕ). IsHolderAt h namespace verb t x.key m j) e.0 (subst (λ (n : ℕ). IsHolderAt h namespace verb t x.key x.binding_place n) e.1 b.0.1) in
-                let same : x.key ≡ y.key = only x.key at ∙ sym any.4 in
-                let least = b.0.2 y.binding_place y.subject_place (subst (λ (k : Text). IsHolderAt h namespace verb t k y.binding_place y.subject_place) (sym same) earlier.0.1) in
-                let here : (i < y.binding_place) ⊎ ((i ≡ y.binding_place) × (j < y.subject_place + 1)) = subst (λ (m : ℕ). (m < y.binding_place) ⊎ ((m ≡ y.binding_place) × (j < y.subject_place + 1))) e.0 (subst (λ (n : ℕ). (x.binding_place < y.binding_place) ⊎ ((x.binding_place ≡ y.binding_place) × (n < y.subject_place + 1))) e.1 least) in
-                absurd (lex_not_both y.binding_place y.subject_place i j earlier.1 here)
-          ],
-        );
-        complete = λ other m n a b. elim (lex_last m n i j b) [
-          | inl l ↦ seen.complete other m n a l
-          | inr e ↦
-              let at : IsHolderAt h namespace verb t other i j = subst (λ (u : ℕ). IsHolderAt h namespace verb t other u j) e.0 (subst (λ (v : ℕ). IsHolderAt h namespace verb t other m v) e.1 a) in
-              (y, inside, any.4 ∙ sym (only other at))
-        ];
-      }
-
-  -- the one more that holds has a new key
-  pub seen_added : (i j : ℕ) (xs : List HolderView) (key : Text) (b : Binding) → slice_get h.bindings i ≡ Some b → IsHolderAt h namespace verb t key i j → ((other : Text) → IsHolderAt h namespace verb t other i j → other ≡ key) → (Any (λ x. x.key ≡ key) xs → ⊥) → AreSeen h namespace verb t i j xs
-      → AreSeen h namespace verb t i (j + 1) (xs ++ record { key = key; binding = b; binding_place = i; subject_place = j } ∷ [])
-  seen_added i j xs key b there holds only new seen =
-      let y : HolderView = record { key = key; binding = b; binding_place = i; subject_place = j } in
-      let least : (m n : ℕ) → IsHolderAt h namespace verb t key m n → (i < m) ⊎ ((i ≡ m) × (j < n + 1)) = λ m n a. elim (lex_cases m n i j) [
-        | inl l ↦ let z = seen.complete key m n a l in absurd (new (z.1.0, z.0, z.1.1, z.1.2, z.2))
-        | inr c ↦ elim c [
-          | inl l ↦ elim l [
-            | inl u ↦ inl u
-            | inr u ↦ inr (u.0, omega (arith, u.1))
-          ]
-          | inr e ↦ inr (sym e.0, omega (arith, e.1))
-        ]
-      ] in
-      let holder : IsHolder h namespace verb t y = (there, holds, least) in record {
+  -- one more that holds
+  pub seen_added : (i j : ℕ) (xs : List HolderView) (key : Text) (b : Binding) → slice_get h.bindings i ≡ Some b → IsHolderAt h namespace verb t key i j → ((other : Text) → IsHolderAt h namespace verb t other i j → other ≡ key) → AreSeen h namespace verb t i j xs → AreSeen h namespace verb t i (j + 1) (xs ++ holder_by key b i j ∷ [])
+  seen_added i j xs key b there holds only seen =
+      let y : HolderView = holder_by key b i j in
+      let holder : HoldsThere h namespace verb t y = (there, holds) in record {
         ordered = pushed xs y seen.ordered (λ x w. ((seen.exact x).0 w).1);
         exact = λ x. (
           λ w. elim (Contains-push_cases xs y x w) [
             | inl a ↦ let c = (seen.exact x).0 a in (c.0, lex_next x.binding_place x.subject_place i j c.1)
-            | inr e ↦ subst (λ (z : HolderView). IsHolder h namespace verb t z × IsBefore z.binding_place z.subject_place i (j + 1)) e (holder, inr (refl, omega arith))
+            | inr e ↦ subst (λ (z : HolderView). HoldsThere h namespace verb t z × IsBefore z.binding_place z.subject_place i (j + 1)) e (holder, inr (refl, omega arith))
           ],
           λ c. elim (lex_last x.binding_place x.subject_place i j c.1) [
             | inl l ↦ Contains-append_left xs (y ∷ []) x ((seen.exact x).1 (c.0, l))
@@ -152,20 +91,7 @@ module _ (h : Held) (namespace verb : Text) (t : What) where
                 subst (Contains (xs ++ y ∷ [])) same (Contains-push xs y)
           ],
         );
-        complete = λ other m n a c. elim (lex_last m n i j c) [
-          | inl l ↦ let z = seen.complete other m n a l in (z.0, Contains-append_left xs (y ∷ []) z.0 z.1, z.2)
-          | inr e ↦
-              let at : IsHolderAt h namespace verb t other i j = subst (λ (u : ℕ). IsHolderAt h namespace verb t other u j) e.0 (subst (λ (v : ℕ). IsHolderAt h namespace verb t other m v) e.1 a) in
-              (y, Contains-push xs y, sym (only other at))
-        ];
       }
-
-  -- all that holds is seen
-  pub seen_all : (i j : ℕ) (xs : List HolderView) → ((key : Text) (m n : ℕ) → IsHolderAt h namespace verb t key m n → IsBefore m n i j) → AreSeen h namespace verb t i j xs → AreHolders h namespace verb t xs
-  seen_all i j xs before seen = record {
-    ordered = seen.ordered;
-    exact = λ x. (λ w. ((seen.exact x).0 w).0, λ b. (seen.exact x).1 (b, before x.key x.binding_place x.subject_place b.1));
-  }
 
 module _ (h : Held) (namespace verb : Text) (t : What) (i j : ℕ) (b : Binding) (s : Subject) (at : slice_get h.bindings i ≡ Some b) (there : slice_get b.subjects j ≡ Some s) where
   -- what holds at a pair of places is a key of the subject there
@@ -186,8 +112,8 @@ module _ (h : Held) (namespace verb : Text) (t : What) (i j : ℕ) (b : Binding)
       seen
 
   -- one more subject, with its key
-  pub seen_keyed : (key : Text) (xs new : List HolderView) → BringsAt h namespace verb t i → ((k : Text) → IsSubjectKey s b.namespace k ↔ (k ≡ key)) → IsSeenMore xs new (holder_by key b i j) → AreSeen h namespace verb t i j xs → AreSeen h namespace verb t i (j + 1) new
-  seen_keyed key xs new brings is more seen =
+  pub seen_keyed : (key : Text) (xs : List HolderView) → BringsAt h namespace verb t i → ((k : Text) → IsSubjectKey s b.namespace k ↔ (k ≡ key)) → AreSeen h namespace verb t i j xs → AreSeen h namespace verb t i (j + 1) (xs ++ holder_by key b i j ∷ [])
+  seen_keyed key xs brings is seen =
       let same : brings.0 ≡ b = same_Some brings.0 b (sym brings.1 ∙ at) in
       let holds : IsHolderAt h namespace verb t key i j = (
         b,
@@ -201,10 +127,7 @@ module _ (h : Held) (namespace verb : Text) (t : What) (i j : ℕ) (b : Binding)
         ),
       ) in
       let only : (other : Text) → IsHolderAt h namespace verb t other i j → other ≡ key = λ other a. (is other).0 (key_at other a) in
-      elim more [
-        | inl e ↦ subst (AreSeen h namespace verb t i (j + 1)) (sym e.0) (seen_kept h namespace verb t i j xs key only e.1 seen)
-        | inr e ↦ subst (AreSeen h namespace verb t i (j + 1)) (sym e.0) (seen_added h namespace verb t i j xs key b at holds only e.1 seen)
-      ]
+      seen_added h namespace verb t i j xs key b at holds only seen
 
 module _ (h : Held) (namespace verb : Text) (t : What) where
   -- from the end of a binding's subjects to the next place
@@ -253,10 +176,6 @@ module _ (h : Held) (namespace verb : Text) (t : What) where
         | inr b ↦ absurd (none m b less (brings h namespace verb t key m n a))
       ])
       seen
-
-  -- all bindings that bring such a rule are passed
-  pub seen_ended : (bound : ℕ) (xs : List HolderView) → ((m : ℕ) → BringsAt h namespace verb t m → m < bound) → AreSeen h namespace verb t bound 0 xs → AreHolders h namespace verb t xs
-  seen_ended bound xs below seen = seen_all h namespace verb t bound 0 xs (λ key m n a. inl (below m (brings h namespace verb t key m n a))) seen
 
   -- a live binding that brings such a rule
   pub brings_live : (i : ℕ) (b : Binding) → slice_get h.bindings i ≡ Some b → Live b.namespace namespace t → BringsRuleAt h verb t i → BringsAt h namespace verb t i

@@ -1,12 +1,12 @@
-use Rattle.std.specs.Prelude.{◌≡◌, ◌↔◌, Any, IsTrue, List, map}
-use Rattle.std.specs.BTreeSet.{BTreeSet, contains}
-use Rattle.rbac_terms.specs.Text.{Text, text_cmp}
+use Rattle.std.specs.Prelude.{◌≡◌, ◌⊎◌, ◌++◌, ◌∷◌, [], ℕ, List, Contains, map}
+use Rattle.indexmap.specs.IndexMap.{IndexMap, keys}
+use Rattle.rbac_terms.specs.Text.{Text}
 use Rattle.rbac_model.specs.Holders.{HolderView}
-use Rattle.rbac_index.specs.declared.holders.Seen.{Seen}
+use Rattle.rbac_index.specs.declared.sightings.Sighting.{Sighting}
 use Rattle.rbac_index.specs.declared.holders.Holder.{Holder}
 
 -- the holder that was seen
-abbrev pub holder_of : Seen → HolderView
+abbrev pub holder_of : Sighting → HolderView
 holder_of s = record {
   key = s.key;
   binding = s.binding.now;
@@ -14,13 +14,19 @@ holder_of s = record {
   subject_place = s.subject_place;
 }
 
--- the holders that were seen, in order
-abbrev pub holders_of : List Seen → List HolderView
-holders_of ss = map holder_of ss
+-- what was seen, in order
+abbrev pub sighted : List Sighting → List HolderView
+sighted ss = map holder_of ss
 
--- exactly the keys of these holders
-abbrev pub AreKeysOf : BTreeSet Text → List HolderView → Type 0
-AreKeysOf keys xs = (key : Text) → IsTrue (contains text_cmp keys key) ↔ Any (λ x. x.key ≡ key) xs
+-- the keys that were seen, in order
+abbrev pub keys_seen : List Sighting → List Text
+keys_seen ss = map (λ s. s.key) ss
+
+-- new is old if the rank is among old's, and otherwise old with the sighting added at the end
+abbrev pub KeepsFirst : {S : Type 0} → IndexMap ℕ Sighting S → IndexMap ℕ Sighting S → ℕ
+    → Sighting → Type 0
+KeepsFirst old new rank s = ((new ≡ old) × Contains (keys old) rank)
+    ⊎ ((new.entries ≡ old.entries ++ (rank, s) ∷ []) × ¬ Contains (keys old) rank)
 
 -- the holder that is shown
 abbrev pub holder_shown : Holder → HolderView

@@ -1,11 +1,11 @@
-use Rattle.std.specs.Prelude.{◌≡◌, ℕ, ◌<◌, ◌≤◌, ◌+◌, ◌⊎◌, ◌↔◌, List, [], ◌∷◌, ◌++◌, Any, AllPairs}
+use Rattle.std.specs.Prelude.{◌≡◌, ℕ, ◌<◌, ◌≤◌, ◌+◌, ◌⊎◌, ◌↔◌, List, Any, AllPairs}
 use Rattle.std.specs.Prelude.{Contains, length, slice_get, slice_index, Some}
 use Rattle.rbac_terms.specs.Text.{Text}
 use Rattle.rbac_terms.specs.Targets.{What}
 use Rattle.rbac_terms.specs.Principals.{Who, AsMember, who_key, IsInGroup}
 use Rattle.rbac_terms.specs.declared.granting.Binding.{Binding}
 use Rattle.rbac_model.specs.Policies.{Held, PolicyView, IsOfBinding, Live, Allows, Brings}
-use Rattle.rbac_model.specs.Holders.{IsBefore, HolderView, IsHolderAt, IsHolder}
+use Rattle.rbac_model.specs.Holders.{IsBefore, HolderView, IsHolderAt}
 
 -- the binding at that place brings a rule that allows the verb on the target
 abbrev pub BringsRuleAt : Held → Text → What → ℕ → Type 0
@@ -18,15 +18,28 @@ BringsAt h namespace verb t i =
     (b : Binding) × (slice_get h.bindings i ≡ Some b) × Live b.namespace namespace t
     × Brings h b verb t
 
--- the holders that are seen before a pair of places, of a binding and of a subject in it, in order
+-- x's key holds the permission by x's pair of places
+abbrev pub HoldsThere : Held → Text → Text → What → HolderView → Type 0
+HoldsThere h namespace verb t x = (slice_get h.bindings x.binding_place ≡ Some x.binding)
+    × IsHolderAt h namespace verb t x.key x.binding_place x.subject_place
+
+-- x's pair of places comes before y's
+abbrev pub IsEarlier : HolderView → HolderView → Type 0
+IsEarlier x y = IsBefore x.binding_place x.subject_place y.binding_place y.subject_place
+
+-- what holds the permission by a pair of places before this one, of a binding and of a subject in
+-- it, in order
 pub record AreSeen (h : Held) (namespace verb : Text) (t : What) (i j : ℕ)
     (xs : List HolderView) : Type 0 where
-  pub ordered : AllPairs
-      (λ x y. IsBefore x.binding_place x.subject_place y.binding_place y.subject_place) xs
+  pub ordered : AllPairs IsEarlier xs
   pub exact : (x : HolderView) → Contains xs x
-      ↔ (IsHolder h namespace verb t x × IsBefore x.binding_place x.subject_place i j)
-  pub complete : (key : Text) (k l : ℕ) → IsHolderAt h namespace verb t key k l → IsBefore k l i j
-      → (x : HolderView) × Contains xs x × (x.key ≡ key)
+      ↔ (HoldsThere h namespace verb t x × IsBefore x.binding_place x.subject_place i j)
+
+-- the first of xs with each key, in order
+pub record AreFirsts (xs firsts : List HolderView) : Type 0 where
+  pub ordered : AllPairs IsEarlier firsts
+  pub exact : (x : HolderView) → Contains firsts x
+      ↔ (Contains xs x × ((y : HolderView) → Contains xs y → y.key ≡ x.key → ¬ IsEarlier y x))
 
 -- the bindings of the grants with the first `count` numbers are before `place`, and those of the
 -- others are no earlier than right before it
@@ -34,11 +47,6 @@ pub record ArePassed (p : PolicyView) (ns : List ℕ) (count place : ℕ) : Type
   pub behind : (k i : ℕ) → k < count → IsOfBinding p (slice_index ns k) i → i < place
   pub ahead : (k i : ℕ) → count ≤ k → k < length ns → IsOfBinding p (slice_index ns k) i
       → place ≤ i + 1
-
--- new is old if the holder's key is among old's, and otherwise old with the holder added at the end
-abbrev pub IsSeenMore : List HolderView → List HolderView → HolderView → Type 0
-IsSeenMore old new y = ((new ≡ old) × Any (λ x. x.key ≡ y.key) old)
-    ⊎ ((new ≡ old ++ y ∷ []) × ¬ Any (λ x. x.key ≡ y.key) old)
 
 -- the key is that of who asks, or of one of its groups
 abbrev pub IsKeyFor : Who → Text → Type 0

@@ -7,6 +7,7 @@ pub mod Keyed
 pub mod Listing
 pub mod Living
 pub mod Matched
+pub mod Ranks
 pub mod Reaches
 pub mod Spans
 pub mod WhyHeld

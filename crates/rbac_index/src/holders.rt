@@ -1,25 +1,17 @@
 //! The holders of a verb on a target, each once.
 
-ghost use Rattle.std.specs.Prelude.{◌≡◌, ◌<◌, ◌+◌, [], OnOk, slice_get, Some, length};
-ghost use Rattle.rbac_terms.specs.Text.{Text};
-ghost use Rattle.rbac_terms.specs.Targets.{What};
-ghost use Rattle.rbac_model.specs.Policies.{Held};
-ghost use Rattle.rbac_index.specs.Holding.{IsSeenMore, AreSeen, BringsAt, BringsRuleAt};
+ghost use Rattle.std.specs.Prelude.{◌≡◌, ◌<◌, OnOk, IfOk, AllPairs, slice_get, Some, length};
+ghost use Rattle.indexmap.specs.IndexMap.{values};
+ghost use Rattle.rbac_index.specs.HolderViews.{sighted, keys_seen, KeepsFirst};
+ghost use Rattle.rbac_index.specs.Holding.{AreFirsts, IsEarlier};
+ghost use Rattle.rbac_index.specs.Ranks.{AreRanks};
 
-use rbac_model::is_live;
-use rbac_terms::{Binding, Target, Word, subject_key};
+use crate::ranks::ranks_of;
+use crate::sightings::Sighting;
+use indexmap::IndexMap;
+use rbac_terms::{Binding, Word};
 use std::alloc::{AllocError, Global};
-use std::collections::BTreeSet;
 use std::marker::Model;
-
-// A holder's key, and where it was first seen.
-#[derive(Drop)]
-struct Seen<'p> {
-    key: Word,
-    binding: &'p Binding,
-    binding_place: usize,
-    subject_place: usize,
-}
 
 /// A holder: a principal's key, and the first binding and subject through which it holds the
 /// permission.
@@ -39,42 +31,40 @@ pub struct Holder<'a> {
 /// permission.
 #[derive(Drop)]
 pub struct Holders<'p> {
-    seen: Vec<Seen<'p>>,
-    // Their keys, in an ordered set: the author of an export could force collisions in a hash set.
-    keys: BTreeSet<Word>,
+    // The first sighting of each key, by the key's rank among them. Ranks are always 0, 1, 2 and so
+    // on, so the author of an export, who chooses the keys, can't force collisions.
+    firsts: IndexMap<u32, Sighting<'p>>,
 }
 
 impl<'p> Model for Holders<'p> {
     ghost use Rattle.std.specs.Prelude.{List};
+    ghost use Rattle.indexmap.specs.IndexMap.{values};
     ghost use Rattle.rbac_model.specs.Holders.{HolderView};
+    ghost use Rattle.rbac_index.specs.HolderViews.{sighted};
 
     ghost Value = { List HolderView };
 
-    ghost use Rattle.rbac_index.specs.HolderViews.{holders_of, AreKeysOf};
-
-    ghost view = { λ hs. holders_of hs.seen.items };
-
-    ghost invariant = { λ hs. AreKeysOf hs.keys (holders_of hs.seen.items) };
+    ghost view = { λ hs. sighted (values hs.firsts) };
 }
 
 impl<'p> Holders<'p> {
-    ghost use Rattle.rbac_index.specs.HolderViews.{holder_of, holder_shown};
+    ghost use Rattle.rbac_index.specs.HolderViews.{holder_shown};
 
-    // No holders. Doesn't allocate.
-    pub(crate) fn new(alloc: Global) -> Self
-        ensures { result ≡ [] }
+    // The first sighting of each key, in order.
+    pub(crate) fn first_of(alloc: Global, seen: Vec<Sighting<'p>>) -> Result<Self, AllocError>
+        requires { AllPairs IsEarlier (sighted seen.items) }
+        ensures { IfOk result (λ hs. AreFirsts (sighted seen.entry.items) hs) }
     {
-        Holders {
-            seen: Vec::new(alloc),
-            keys: BTreeSet::new(alloc),
-        }
+        let ranks = ranks_of(alloc, seen.as_slice())?;
+        let firsts = first_by_rank(alloc, ranks.as_slice(), seen)?;
+        Ok(Holders { firsts })
     }
 
     /// How many holders there are.
     pub fn len(&self) -> usize
         ensures { result ≡ length self.now }
     {
-        self.seen.len()
+        self.firsts.len()
     }
 
     /// The holder at this place, from 0.
@@ -82,75 +72,44 @@ impl<'p> Holders<'p> {
         requires { place < length self.now }
         ensures { slice_get self.now place ≡ Some (holder_shown result) }
     {
-        let seen = &self.seen[place];
+        let first = &self.firsts[place];
         Holder {
-            principal: &seen.key,
-            binding: seen.binding,
-            binding_place: seen.binding_place,
-            subject_place: seen.subject_place,
+            principal: &first.key,
+            binding: first.binding,
+            binding_place: first.binding_place,
+            subject_place: first.subject_place,
         }
     }
+}
 
-    // Adds a holder after the others, unless its key is among theirs.
-    fn see(&mut self, alloc: Global, seen: Seen<'p>) -> Result<(), AllocError>
-        ensures { OnOk result (IsSeenMore self.old self.new (holder_of seen.entry)) }
-    {
-        // Reserves room first, so that a key is among the keys only if its holder is listed.
-        self.seen.reserve(1)?;
-        let key = Word::from_slice(alloc, seen.key.as_bytes())?;
-        if self.keys.insert(key)? {
-            self.seen.push(seen)?;
-        }
-        Ok(())
+// The first sighting of each rank, in order.
+fn first_by_rank<'p>(
+    alloc: Global,
+    ranks: &[u32],
+    seen: Vec<Sighting<'p>>,
+) -> Result<IndexMap<u32, Sighting<'p>>, AllocError>
+    requires ordered { AllPairs IsEarlier (sighted seen.items) }
+    requires ranks { AreRanks (keys_seen seen.items) ranks.now }
+    ensures { IfOk result
+        (λ firsts. AreFirsts (sighted seen.entry.items) (sighted (values firsts))) }
+{
+    let mut firsts = IndexMap::new(alloc);
+    for (rank, sighting) in ranks.iter().zip(seen) {
+        keep_first(&mut firsts, *rank, sighting)?;
     }
+    Ok(firsts)
+}
 
-    // Adds the new holders among the subjects of this binding, which is at `place`, if the binding
-    // is live.
-    pub(crate) fn see_binding(
-        &mut self,
-        alloc: Global,
-        binding: &'p Binding,
-        place: usize,
-        namespace: &Word,
-        target: &Target,
-    ) -> Result<(), AllocError>
-        ensures { (held : Held) (verb : Text) → slice_get held.bindings place ≡ Some binding.now
-            → BringsRuleAt held verb target.now place
-            → AreSeen held namespace.now verb target.now place 0 self.old
-            → OnOk result (AreSeen held namespace.now verb target.now (place + 1) 0 self.new) }
-    {
-        if is_live(binding, namespace, target) {
-            self.see_subjects(alloc, binding, place)?;
-        }
-        Ok(())
+// Keeps the sighting under its rank, unless one is there.
+fn keep_first<'p>(
+    firsts: &mut IndexMap<u32, Sighting<'p>>,
+    rank: u32,
+    sighting: Sighting<'p>,
+) -> Result<(), AllocError>
+    ensures { OnOk result (KeepsFirst firsts.old firsts.new rank sighting.entry) }
+{
+    if !firsts.contains_key(&rank) {
+        firsts.insert(rank, sighting)?;
     }
-
-    // Adds the new holders among the subjects of this binding, which is at `binding_place`.
-    fn see_subjects(
-        &mut self,
-        alloc: Global,
-        binding: &'p Binding,
-        binding_place: usize,
-    ) -> Result<(), AllocError>
-        ensures { (held : Held) (namespace verb : Text) (t : What)
-            → slice_get held.bindings binding_place ≡ Some binding.now
-            → BringsAt held namespace verb t binding_place
-            → AreSeen held namespace verb t binding_place 0 self.old
-            → OnOk result (AreSeen held namespace verb t (binding_place + 1) 0 self.new) }
-    {
-        for (subject_place, subject) in binding.subjects.as_slice().iter().enumerate() {
-            if let Some(key) = subject_key(alloc, subject, binding.namespace.as_ref())? {
-                self.see(
-                    alloc,
-                    Seen {
-                        key,
-                        binding,
-                        binding_place,
-                        subject_place,
-                    },
-                )?;
-            }
-        }
-        Ok(())
-    }
+    Ok(())
 }

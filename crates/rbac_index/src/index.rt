@@ -22,6 +22,7 @@ use crate::merge::{Numbers, merged};
 use crate::numbers::GrantNos;
 use crate::rule_rows::{Written, laid_out, rows_of};
 use crate::runs::runs_by_row;
+use crate::sightings::see_binding;
 use crate::subject_keys::{Keyed, keyed_by, next_for};
 use rbac_model::{Grant, Policy};
 use rbac_terms::{Binding, Principal, Target, Word, rule_allows};
@@ -205,17 +206,17 @@ impl<'p> Index<'p> {
         let policy: &'p Policy = self.policy;
         let bindings: &'p [Binding] = policy.bindings();
         let numbers = self.candidates(alloc, verb, target)?;
-        let mut holders = Holders::new(alloc);
-        // The place after the last binding that was seen.
+        let mut seen = Vec::new(alloc);
+        // The place after the last binding that was looked at.
         let mut next = 0;
         for no in numbers.as_slice() {
             let place = policy.place(*no).binding;
             if next <= place {
-                holders.see_binding(alloc, &bindings[place], place, namespace, target)?;
+                see_binding(alloc, &bindings[place], place, namespace, target, &mut seen)?;
                 next = place + 1;
             }
         }
-        Ok(holders)
+        Ok(Holders::first_of(alloc, seen)?)
     }
 }
 

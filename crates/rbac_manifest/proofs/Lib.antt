@@ -10,3 +10,4 @@ pub mod OneLoad
 pub mod Outcomes
 pub mod Texts
 pub mod Replacing
+pub mod Unread

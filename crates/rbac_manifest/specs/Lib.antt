@@ -11,6 +11,7 @@ pub mod Lists
 pub mod Load
 pub mod Metadata
 pub mod Names
+pub mod Part
 pub mod Reads
 pub mod Replaced
 pub mod Role

@@ -2,6 +2,10 @@
 //! their contracts are the laws.
 
 ghost use Rattle.std.specs.Prelude.{◌≡◌, List, ℕ};
+ghost use Rattle.serde_json.specs.Data.{Data};
+ghost use Rattle.rbac_manifest.specs.Document.{fault, stands};
+ghost use Rattle.rbac_manifest.specs.Part.{read_of};
+ghost use Rattle.rbac_manifest.specs.declared.kind.Implied.{Implied};
 ghost use Rattle.rbac_manifest.specs.declared.fault.LoadFault.{LoadFault};
 ghost use Rattle.rbac_manifest.specs.Load.{LoadedView, IsLoaded, HasFault};
 
@@ -32,4 +36,12 @@ pub fn loaded_inputs_are_one()
 pub fn load_faults_are_one()
     ensures { (inputs : List (List ℕ)) (f g : LoadFault) → HasFault inputs f → HasFault inputs g
         → f ≡ g }
+{}
+
+/// The members of a document that aren't read say nothing: without them the document has the same
+/// fault, and gives the same (own).
+#[tactic(auto, using(crate::proofs::Unread::same_fault, crate::proofs::Unread::same_stands))]
+pub fn unread_members_say_nothing()
+    ensures fault { (implied : Implied) (d : Data) → fault implied (read_of d) ≡ fault implied d }
+    ensures gives { (implied : Implied) (d : Data) → stands implied (read_of d) ≡ stands implied d }
 {}

@@ -19,6 +19,7 @@ mod listed;
 mod loaded;
 mod loading;
 mod metadata;
+mod part;
 mod replacement;
 mod rule;
 mod selector;
@@ -26,7 +27,10 @@ mod subject;
 mod universe_document;
 
 pub use fault::{At, Cause, LoadFault};
-pub use laws::{load_faults_are_one, loaded_inputs_are_one, loaded_inputs_have_no_fault};
+pub use laws::{
+    load_faults_are_one, loaded_inputs_are_one, loaded_inputs_have_no_fault,
+    unread_members_say_nothing,
+};
 pub use loaded::{Loaded, load};
 pub use loading::{Export, load_export};
 pub use rbac_catalogue::{Catalogue, Entries, Entry, Found};

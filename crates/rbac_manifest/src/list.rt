@@ -19,6 +19,7 @@ use crate::contents::Contents;
 use crate::document::document_of;
 use crate::fault::{Cause, Refusal};
 use crate::kind::{Implied, Kind, kind_of};
+use crate::part::Part;
 use json::Scratch;
 use json_list::{Items, OpenList, open_list};
 use serde_json::Value;
@@ -30,7 +31,7 @@ fn pass_rest(alloc: Global, items: &mut Items<'_>) -> Result<(), Refusal>
     ensures refusal { IfErr result
         (λ e. e.cause ≢ NoMemory → (e ≡ as_whole NotJson) × (items_ahead items.old ≡ None)) }
 {
-    'rest: while let Some(item) = items.next_item(alloc)? {
+    'rest: while let Some(item) = items.next_item(alloc, Part::Document)? {
         drop(item);
     }
     Ok(())
@@ -82,7 +83,7 @@ fn items_into(
         (λ e. e.cause ≢ NoMemory → ahead_refusal implied 0 (items_ahead items.old) ≡ Some e) }
 {
     for place in 0..usize::MAX {
-        let Some(item) = items.next_item(alloc)? else {
+        let Some(item) = items.next_item(alloc, Part::Document)? else {
             return Ok(());
         };
         item_into(alloc, &item, place, implied, items, contents)?;

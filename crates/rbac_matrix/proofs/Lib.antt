@@ -12,8 +12,8 @@ pub mod LinesLemmas
 pub mod LoopLemmas
 pub mod OneEvery
 pub mod OneMatrix
+pub mod NoneLeft
 pub mod Orders
-pub mod PageLemmas
 pub mod PairLemmas
 pub mod PassLemmas
 pub mod Product
@@ -26,4 +26,3 @@ pub mod StartLemmas
 pub mod ThoseLemmas
 pub mod TouchLemmas
 pub mod WalkLemmas
-pub mod Within

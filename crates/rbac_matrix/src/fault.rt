@@ -3,8 +3,6 @@
 ghost use Rattle.std.specs.Prelude.{◌≡◌};
 
 use rbac_terms::ModelFault;
-use rbac_token::TokenFault;
-use std::alloc::{AllocError, AllocFailed};
 use std::error::Error;
 use std::fmt;
 
@@ -21,36 +19,6 @@ impl From<ModelFault> for MatrixFault {
     ghost from_gives = { λ _ fault. fault ≡ NoMemory };
 
     fn from(_: ModelFault) -> Self {
-        MatrixFault::NoMemory
-    }
-}
-
-impl From<TokenFault> for MatrixFault {
-    ghost use Rattle.rbac_matrix.specs.declared.fault.MatrixFault.TheVariants.{NoMemory};
-
-    ghost from_gives = { λ _ fault. fault ≡ NoMemory };
-
-    fn from(_: TokenFault) -> Self {
-        MatrixFault::NoMemory
-    }
-}
-
-impl From<AllocError> for MatrixFault {
-    ghost use Rattle.rbac_matrix.specs.declared.fault.MatrixFault.TheVariants.{NoMemory};
-
-    ghost from_gives = { λ _ fault. fault ≡ NoMemory };
-
-    fn from(_: AllocError) -> Self {
-        MatrixFault::NoMemory
-    }
-}
-
-impl<T: Drop> From<AllocFailed<T>> for MatrixFault {
-    ghost use Rattle.rbac_matrix.specs.declared.fault.MatrixFault.TheVariants.{NoMemory};
-
-    ghost from_gives = { λ _ fault. fault ≡ NoMemory };
-
-    fn from(_: AllocFailed<T>) -> Self {
         MatrixFault::NoMemory
     }
 }

@@ -4,24 +4,20 @@
 
 mod bound_runs;
 mod enumeration;
-mod every_pages;
 mod every_rows;
 mod every_start;
 mod fault;
 mod laws;
 mod line;
 mod matrix;
-mod pages;
 mod row;
 mod seat;
 mod seats;
 mod start;
 mod steps;
-mod token;
 mod walk;
 
 pub use enumeration::Rows;
-pub use every_pages::print_every_page;
 pub use every_rows::EveryRows;
 pub use fault::MatrixFault;
 pub use laws::{
@@ -29,7 +25,6 @@ pub use laws::{
     rows_after_a_binding, the_matrix_is_one,
 };
 pub use matrix::Matrix;
-pub use pages::print_page;
 pub use rbac_token::{
     BindingName, Mark, TokenFault, key_of_token, mark_of_token, token_of, token_of_mark,
 };

@@ -1,15 +1,12 @@
 //! Rows of a matrix.
 
-ghost use Rattle.std.specs.Prelude.{◌≡◌, IfOk, IfErr, OnOk};
+ghost use Rattle.std.specs.Prelude.{◌≡◌, IfOk, IfErr};
 ghost use Rattle.rbac_terms.specs.Keys.{key_of, namespace_at};
-ghost use Rattle.rbac_text.specs.Row.{row_text};
-ghost use Rattle.rbac_matrix.specs.RowTexts.{key_shown, texts_shown};
+ghost use Rattle.rbac_matrix.specs.RowTexts.{texts_shown};
 
 use crate::fault::MatrixFault;
 use crate::line::Line;
-use rbac_terms::{Binding, Key, Principal, Target, Word};
-use rbac_text::put_row;
-use std::alloc::AllocError;
+use rbac_terms::{Binding, Key, Target, Word};
 
 /// A row of the matrix: a request that fits and is allowed, given by the six texts of its key, with
 /// the first binding that grants it, or, among the rows of every granting binding, one that does.
@@ -30,8 +27,6 @@ pub struct Row<'m> {
     pub name: &'m Word,
     /// The binding that grants the request: the first in order, or any of them.
     pub binding: &'m Binding,
-    who: &'m Principal,
-    target: &'m Target,
 }
 
 impl Row<'_> {
@@ -49,29 +44,11 @@ impl Row<'_> {
             self.name,
         )?)
     }
-
-    // Replaces what `line` held with the row's line.
-    pub(crate) fn put(&self, line: &mut Vec<u8>) -> Result<(), AllocError>
-        ensures { OnOk result
-            (line.new.items ≡ row_text (key_shown self.now) self.now.binding.now) }
-    {
-        line.clear();
-        put_row(
-            line,
-            self.who,
-            self.namespace,
-            self.verb,
-            self.target,
-            self.binding,
-        )
-    }
 }
 
 // The row of a line's request.
 pub(crate) fn row_of<'m>(line: Line<'m>, target: &'m Target, binding: &'m Binding) -> Row<'m>
     requires { namespace_at line.namespace.now target.now ≡ line.namespace.now }
-    ensures key { key_shown result
-        ≡ key_of line.entry.principal.now line.entry.namespace.now line.entry.verb.now target.now }
     ensures texts { texts_shown result
         ≡ key_of line.entry.principal.now line.entry.namespace.now line.entry.verb.now target.now }
     ensures binding { result.binding.now ≡ binding.now }
@@ -84,7 +61,5 @@ pub(crate) fn row_of<'m>(line: Line<'m>, target: &'m Target, binding: &'m Bindin
         resource: target.text(),
         name: target.name(),
         binding,
-        who: line.principal,
-        target,
     }
 }

@@ -2,14 +2,12 @@ use Rattle.std.specs.Prelude.{◌≡◌, ◌≢◌, ◌==◌, ◌⊎◌, ℕ, Bo
 use Rattle.std.specs.Prelude.{Option, Some, None, filter, codes, if◌then◌else◌}
 use Rattle.std.specs.List.{slice_split}
 use Rattle.rbac_terms.specs.Text.{Text}
-use Rattle.rbac_terms.specs.Keys.{KeyTexts}
 use Rattle.rbac_terms.specs.Principals.{AsUser}
 use Rattle.rbac_token.specs.Marks.{IsTokenOfMark}
 use Rattle.rbac_token.specs.declared.mark.Mark.{Mark}
 use Rattle.rbac_question.specs.Asked.{AsksFor, LacksType, HasUrlSubresource}
 use Rattle.rbac_question.specs.declared.command.Action.{Action}
-use Rattle.rbac_question.specs.declared.command.Action.TheVariants.{CanI, WhoCan, Matrix, Every}
-use Rattle.rbac_question.specs.declared.command.Action.TheVariants.{Lint}
+use Rattle.rbac_question.specs.declared.command.Action.TheVariants.{CanI, WhoCan, Matrix}
 use Rattle.rbac_question.specs.declared.command.Question.{Question}
 use Rattle.rbac_question.specs.declared.fault.QuestionFault.{QuestionFault}
 use Rattle.rbac_question.specs.declared.fault.QuestionFault.TheVariants.{EmptyWord, UrlSubresource}
@@ -68,40 +66,25 @@ abbrev pub MeansCanI : CanIParts → Action → Type 0
 MeansCanI l (CanI principal quiet why question) =
     (principal ≡ AsUser l.user (groups_in l.groups)) × (quiet ≡ l.quiet) × (why ≡ l.why)
     × IsQuestion l.question question
-MeansCanI l (WhoCan question) = ⊥
-MeansCanI l (Matrix after limit) = ⊥
-MeansCanI l (Every after limit) = ⊥
-MeansCanI l Lint = ⊥
+MeansCanI l action = ⊥
 
 -- what a `who-can` line means: it asks who is allowed what the question asks
 abbrev pub MeansWhoCan : QuestionParts → Action → Type 0
-MeansWhoCan l (CanI principal quiet why question) = ⊥
 MeansWhoCan l (WhoCan question) = IsQuestion l question
-MeansWhoCan l (Matrix after limit) = ⊥
-MeansWhoCan l (Every after limit) = ⊥
-MeansWhoCan l Lint = ⊥
-
--- the key is that of the mark whose token is given; there is none if no token is given (own)
-abbrev pub IsAfter : Option Text → Option KeyTexts → Type 0
-IsAfter None after = after ≡ None
-IsAfter (Some token) None = ⊥
-IsAfter (Some token) (Some k) = (m : Mark) × IsTokenOfMark token m × (m.key ≡ k)
+MeansWhoCan l action = ⊥
 
 -- the mark is the one whose token is given; there is none if no token is given (own)
-abbrev pub IsAfterMark : Option Text → Option Mark → Type 0
-IsAfterMark None after = after ≡ None
-IsAfterMark (Some token) None = ⊥
-IsAfterMark (Some token) (Some m) = IsTokenOfMark token m
+abbrev pub IsAfter : Option Text → Option Mark → Type 0
+IsAfter None after = after ≡ None
+IsAfter (Some token) None = ⊥
+IsAfter (Some token) (Some m) = IsTokenOfMark token m
 
--- what a `matrix` line means: it lists what comes after the key of the token's mark, at most as
--- many rows as the limit says; with `--every` it lists every binding that grants, after the mark
--- itself
+-- what a `matrix` line means: it lists what comes after the token's mark, at most as many rows as
+-- the limit says, and with `--every` every binding that grants
 abbrev pub MeansMatrix : MatrixParts → Action → Type 0
-MeansMatrix l (CanI principal quiet why question) = ⊥
-MeansMatrix l (WhoCan question) = ⊥
-MeansMatrix l Lint = ⊥
-MeansMatrix l (Matrix after limit) = (l.every ≡ false) × IsAfter l.after after × (limit ≡ l.limit)
-MeansMatrix l (Every after limit) = (l.every ≡ true) × IsAfterMark l.after after × (limit ≡ l.limit)
+MeansMatrix l (Matrix every after limit) =
+    (every ≡ l.every) × IsAfter l.after after × (limit ≡ l.limit)
+MeansMatrix l action = ⊥
 
 -- which refusal USER leads to
 abbrev pub RefusesUser : Text → QuestionFault → Type 0

@@ -1,7 +1,7 @@
 //! What a command line says.
 
 use crate::asked::Asked;
-use rbac_terms::{Key, Principal, Word};
+use rbac_terms::{Principal, Word};
 use rbac_token::Mark;
 
 /// Whether a verb may be used on what is asked for, in a namespace (own, after `kubectl auth
@@ -37,14 +37,10 @@ pub enum Action {
     },
     /// Lists everything that anyone may do.
     Matrix {
-        /// The key of `--after`: only what comes after it is listed.
-        after: Option<Key>,
-        /// The most rows to list, from `--limit`.
-        limit: Option<u32>,
-    },
-    /// Lists every binding that grants, for everything that anyone may do.
-    Every {
-        /// The mark of `--after`: only what comes after it is listed.
+        /// Whether each binding that grants has a row of its own, and not only the first.
+        every: bool,
+        /// The mark of `--after`: only what comes after it is listed. Without `every`, what comes
+        /// after its key.
         after: Option<Mark>,
         /// The most rows to list, from `--limit`.
         limit: Option<u32>,

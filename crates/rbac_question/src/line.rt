@@ -237,8 +237,7 @@ impl Action {
 
     /// What a `matrix` line means.
     ///
-    /// Without `--every`, only the key of a mark counts. U4 if what follows `--after` isn't the
-    /// token of any mark, with or without `--every`.
+    /// U4 if what follows `--after` isn't the token of any mark, with or without `--every`.
     pub fn matrix(alloc: Global, line: &MatrixLine<'_>) -> Result<Self, QuestionFault>
         ensures { MatchResult result (MeansMatrix line.now) (RefusesMatrix line.now) }
     {
@@ -246,13 +245,10 @@ impl Action {
             Some(token) => Some(mark_after(alloc, token)?),
             None => None,
         };
-        let limit = line.limit;
-        if line.every {
-            return Ok(Action::Every { after, limit });
-        }
         Ok(Action::Matrix {
-            after: after.map(|mark| mark.key),
-            limit,
+            every: line.every,
+            after,
+            limit: line.limit,
         })
     }
 }

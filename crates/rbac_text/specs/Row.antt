@@ -1,7 +1,8 @@
 -- How a binding, a row of the matrix and a holder are printed (own).
 use Rattle.std.specs.Prelude.{ℕ, [], ◌∷◌, ◌++◌, codes, Option, Some, None}
+use Rattle.std.specs.List.{flat_map}
 use Rattle.rbac_terms.specs.Text.{Text}
-use Rattle.rbac_terms.specs.Keys.{KeyTexts}
+use Rattle.rbac_terms.specs.Keys.{KeyTexts, texts}
 use Rattle.rbac_terms.specs.declared.granting.Binding.{Binding}
 use Rattle.rbac_text.specs.Field.{field_text}
 
@@ -25,12 +26,9 @@ binding_text b = field_text (binding_scope b.namespace ++ b.name)
 abbrev pub field_and_tab : Text → Text
 field_and_tab t = field_text t ++ tab ∷ []
 
--- the line of a row: the six fields of its key and its binding, joined by tabs
+-- the line of a row: the six texts of its key and its binding, joined by tabs
 abbrev pub row_text : KeyTexts → Binding → Text
-row_text k b =
-    field_and_tab k.principal ++ field_and_tab k.namespace ++ field_and_tab k.verb
-    ++ field_and_tab k.group ++ field_and_tab k.resource ++ field_and_tab k.name
-    ++ binding_text b ++ newline ∷ []
+row_text k b = flat_map field_and_tab (texts k) ++ binding_text b ++ newline ∷ []
 
 -- the line of a holder: its key, and the binding that grants it the permission
 abbrev pub holder_text : Text → Binding → Text

@@ -1,15 +1,14 @@
 //! Rows of a matrix.
 
-ghost use Rattle.std.specs.Prelude.{◌≡◌, ◌++◌, OnOk};
+ghost use Rattle.std.specs.Prelude.{◌≡◌, ◌++◌, OnOk, map};
 ghost use Rattle.std.specs.List.{flat_map};
 ghost use Rattle.std.specs.Option.{option_copied};
-ghost use Rattle.rbac_terms.specs.Keys.{namespace_at, key_of};
-ghost use Rattle.rbac_terms.specs.Targets.{group_of, text_of, name_of};
+ghost use Rattle.rbac_terms.specs.Keys.{KeyTexts, texts};
 ghost use Rattle.rbac_text.specs.Field.{byte_text};
 ghost use Rattle.rbac_text.specs.Row.{binding_scope, binding_text, field_and_tab, row_text};
 
 use crate::field::{put_field, put_text};
-use rbac_terms::{Binding, Principal, Target, Word};
+use rbac_terms::{Binding, Word};
 use std::alloc::AllocError;
 
 /// Adds the name of a binding to a line as one field (own): `ClusterRoleBinding/NAME` or
@@ -38,48 +37,28 @@ fn put_scope(line: &mut Vec<u8>, namespace: Option<&Word>) -> Result<(), AllocEr
     }
 }
 
-/// Adds the line of a row of the matrix (own): the six fields of the request's key and the binding
-/// that grants it, joined by tabs, with a newline at the end. If it runs out of memory, a prefix of
-/// the line may have been added.
-pub fn put_row(
-    line: &mut Vec<u8>,
-    principal: &Principal,
-    namespace: &Word,
-    verb: &Word,
-    target: &Target,
-    binding: &Binding,
-) -> Result<(), AllocError>
-    ensures { OnOk result (line.new.items ≡ line.old.items
-        ++ row_text (key_of principal.now namespace.now verb.now target.now) binding.now) }
+/// Adds the line of a row of the matrix (own): the six texts of the request's key, in the key's
+/// order, and the binding that grants it, joined by tabs, with a newline at the end. If it runs out
+/// of memory, a prefix of the line may have been added.
+pub fn put_row(line: &mut Vec<u8>, key: [&Word; 6], binding: &Binding) -> Result<(), AllocError>
+    ensures { (k : KeyTexts) → map (λ text. text.now) key.entry ≡ texts k
+        → OnOk result (line.new.items ≡ line.old.items ++ row_text k binding.now) }
 {
-    put_field_and_tab(line, principal.key().as_bytes())?;
-    put_field_and_tab(line, namespace_at(namespace, target))?;
-    put_field_and_tab(line, verb.as_bytes())?;
-    put_target(line, target)?;
+    put_texts(line, key.as_slice())?;
     put_binding(line, binding)?;
     line.push(b'\n')?;
     Ok(())
 }
 
-// The namespace of a request for this target.
-fn namespace_at<'a>(namespace: &'a Word, target: &Target) -> &'a [u8]
-    ensures { result.now ≡ namespace_at namespace.now target.now }
+// Adds texts as fields, each with a tab after it.
+fn put_texts(line: &mut Vec<u8>, texts: &[&Word]) -> Result<(), AllocError>
+    ensures { OnOk result (line.new.items
+        ≡ line.old.items ++ flat_map field_and_tab (map (λ text. text.now) texts.now)) }
 {
-    if target.is_url() {
-        &[]
-    } else {
-        namespace.as_bytes()
+    for text in texts {
+        put_field_and_tab(line, text.as_bytes())?;
     }
-}
-
-fn put_target(line: &mut Vec<u8>, target: &Target) -> Result<(), AllocError>
-    ensures { OnOk result (line.new.items ≡ line.old.items
-        ++ field_and_tab (group_of target.now) ++ field_and_tab (text_of target.now)
-        ++ field_and_tab (name_of target.now)) }
-{
-    put_field_and_tab(line, target.group().as_bytes())?;
-    put_field_and_tab(line, target.text().as_bytes())?;
-    put_field_and_tab(line, target.name().as_bytes())
+    Ok(())
 }
 
 pub(crate) fn put_field_and_tab(line: &mut Vec<u8>, field: &[u8]) -> Result<(), AllocError>

@@ -1,26 +1,32 @@
-use Rattle.std.proofs.Common.{◌+◌, ◌*◌, ◌≤◌, length}
-use Rattle.serde_json.specs.View.{members_view}
+use Rattle.std.proofs.Common.{◌≡◌, ◌+◌, ◌*◌, ◌≤◌, List, length, map}
+use Rattle.serde_json.specs.Data.{Data, Members}
+use Rattle.serde_json.specs.View.{view, members_view}
+use Rattle.json_list.specs.Lean.{lean, lean_members}
+use Rattle.json_list.proofs.Lean.{InOrder}
 use Rattle.json_list.proofs.Values.{ItemsCome, MembersCome}
 use Rattle.json_list.proofs.value.+value_from.Given as goal
 
+-- what was read so far, of which what is kept was found
 abbrev pub invariant-items_from-items : goal.invariant-items_from-items
-invariant-items_from-items l = ItemsCome l.depth l.fn.reader l.found.items l.reader × (length l.reader ≤ length l.fn.reader)
+invariant-items_from-items g l =
+    ((ds : List Data) × ItemsCome l.depth l.fn.reader ds l.reader × (map view l.found.items ≡ map (lean g.K.Kept.under l.kept) ds)) × (length l.reader ≤ length l.fn.reader)
 
 abbrev pub invariant-members_from-members : goal.invariant-members_from-members
-invariant-members_from-members l = MembersCome l.depth l.fn.reader (members_view l.found.entries) l.reader × (length l.reader ≤ length l.fn.reader)
+invariant-members_from-members g l =
+    ((ms : Members) × MembersCome l.depth l.fn.reader ms l.reader × InOrder ms × (members_view l.found.entries ≡ lean_members g.K.Kept.under l.kept ms)) × (length l.reader ≤ length l.fn.reader)
 
 -- an array or object reads its values no deeper than it may nest, and each nests less deep than what it is in
 abbrev pub decreases-value_from : goal.decreases-value_from
-decreases-value_from l = 2 * l.depth
+decreases-value_from g l = 2 * l.depth
 
 abbrev pub decreases-items_from : goal.decreases-items_from
-decreases-items_from l = 2 * l.depth + 1
+decreases-items_from g l = 2 * l.depth + 1
 
 abbrev pub decreases-members_from : goal.decreases-members_from
-decreases-members_from l = 2 * l.depth + 1
+decreases-members_from g l = 2 * l.depth + 1
 
 abbrev pub decreases-items_from-items : goal.decreases-items_from-items
-decreases-items_from-items l = length l.reader
+decreases-items_from-items g l = length l.reader
 
 abbrev pub decreases-members_from-members : goal.decreases-members_from-members
-decreases-members_from-members l = length l.reader
+decreases-members_from-members g l = length l.reader

@@ -97,7 +97,6 @@ returns-clause-steps c =
     record {
       row = row_on c.args.self.now.index.now c.args.self.now.universe.now f.line c.in_ok-place.place c.in_ok-place.no hit;
       shows = record {
-        key = c.row_of.ensures.key ∙ key;
         texts = c.row_of.ensures.texts ∙ key;
         binding = c.row_of.ensures.binding ∙ ap (λ (g : GrantView). g.binding) grant;
       };

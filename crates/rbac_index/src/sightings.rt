@@ -1,0 +1,71 @@
+//! Where the holders of a verb on a target are seen: the subjects that it is granted to.
+
+ghost use Rattle.std.specs.Prelude.{◌≡◌, ◌+◌, OnOk, slice_get, Some};
+ghost use Rattle.rbac_terms.specs.Text.{Text};
+ghost use Rattle.rbac_terms.specs.Targets.{What};
+ghost use Rattle.rbac_model.specs.Policies.{Held};
+ghost use Rattle.rbac_index.specs.HolderViews.{sighted};
+ghost use Rattle.rbac_index.specs.Holding.{AreSeen, BringsAt, BringsRuleAt};
+
+use rbac_model::is_live;
+use rbac_terms::{Binding, Target, Word, subject_key};
+use std::alloc::{AllocError, Global};
+
+// A holder's key, and a place where it was seen: a binding through which it holds the permission,
+// and a subject in it.
+#[derive(Drop)]
+pub(crate) struct Sighting<'p> {
+    pub(crate) key: Word,
+    pub(crate) binding: &'p Binding,
+    pub(crate) binding_place: usize,
+    pub(crate) subject_place: usize,
+}
+
+// Adds the sightings among the subjects of this binding, which is at `place`, if the binding is
+// live.
+pub(crate) fn see_binding<'p>(
+    alloc: Global,
+    binding: &'p Binding,
+    place: usize,
+    namespace: &Word,
+    target: &Target,
+    seen: &mut Vec<Sighting<'p>>,
+) -> Result<(), AllocError>
+    ensures { (held : Held) (verb : Text) → slice_get held.bindings place ≡ Some binding.now
+        → BringsRuleAt held verb target.now place
+        → AreSeen held namespace.now verb target.now place 0 (sighted seen.old.items)
+        → OnOk result
+        (AreSeen held namespace.now verb target.now (place + 1) 0 (sighted seen.new.items)) }
+{
+    if is_live(binding, namespace, target) {
+        see_subjects(alloc, binding, place, seen)?;
+    }
+    Ok(())
+}
+
+// Adds a sighting for each subject of this binding, which is at `binding_place`, that has a key.
+fn see_subjects<'p>(
+    alloc: Global,
+    binding: &'p Binding,
+    binding_place: usize,
+    seen: &mut Vec<Sighting<'p>>,
+) -> Result<(), AllocError>
+    ensures { (held : Held) (namespace verb : Text) (t : What)
+        → slice_get held.bindings binding_place ≡ Some binding.now
+        → BringsAt held namespace verb t binding_place
+        → AreSeen held namespace verb t binding_place 0 (sighted seen.old.items)
+        → OnOk result
+        (AreSeen held namespace verb t (binding_place + 1) 0 (sighted seen.new.items)) }
+{
+    for (subject_place, subject) in binding.subjects.as_slice().iter().enumerate() {
+        if let Some(key) = subject_key(alloc, subject, binding.namespace.as_ref())? {
+            seen.push(Sighting {
+                key,
+                binding,
+                binding_place,
+                subject_place,
+            })?;
+        }
+    }
+    Ok(())
+}

@@ -1,0 +1,77 @@
+//! What of a document is read.
+
+ghost use Rattle.std.specs.Prelude.{◌≡◌};
+ghost use Rattle.rbac_manifest.specs.Part.{is_among, object_names, list_names, metadata_names};
+ghost use Rattle.rbac_manifest.specs.Part.{read_under};
+
+use json_list::Kept;
+
+// A part of a document, by what is read of it.
+#[derive(Clone, Copy)]
+pub(crate) enum Part {
+    // A document: its metadata, and the members that are read as a whole.
+    Document,
+    // Its metadata: the name, the namespace and the labels.
+    Metadata,
+    // All of it.
+    Whole,
+}
+
+// Whether a member of a role or a binding says something.
+fn is_of_object(name: &str) -> bool
+    ensures { result ≡ is_among object_names name.now }
+{
+    name == "kind"
+        || name == "apiVersion"
+        || name == "roleRef"
+        || name == "subjects"
+        || name == "rules"
+        || name == "aggregationRule"
+}
+
+// Whether a member of an API resource list or a Universe document says something.
+fn is_of_list(name: &str) -> bool
+    ensures { result ≡ is_among list_names name.now }
+{
+    name == "groupVersion"
+        || name == "resources"
+        || name == "principals"
+        || name == "namespaces"
+        || name == "verbs"
+        || name == "names"
+        || name == "urls"
+}
+
+// Whether a member of metadata is read.
+fn is_of_metadata(name: &str) -> bool
+    ensures { result ≡ is_among metadata_names name.now }
+{
+    name == "name" || name == "namespace" || name == "labels"
+}
+
+impl Kept for Part {
+    ghost under = { read_under };
+
+    #[tactic(auto, unfolding(crate::specs::Part::read_under))]
+    fn under(self, name: &str) -> Option<Self> {
+        match self {
+            Part::Document => {
+                if name == "metadata" {
+                    Some(Part::Metadata)
+                } else if is_of_object(name) || is_of_list(name) {
+                    Some(Part::Whole)
+                } else {
+                    None
+                }
+            }
+            Part::Metadata => {
+                if is_of_metadata(name) {
+                    Some(Part::Whole)
+                } else {
+                    None
+                }
+            }
+            Part::Whole => Some(Part::Whole),
+        }
+    }
+}
