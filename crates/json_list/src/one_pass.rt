@@ -130,8 +130,8 @@ fn read_before(
 }
 
 /// The list that a text is, read up to its items (own). None says nothing of the text: then
-/// [`open_list`](crate::open_list) has to tell what it is. `scratch` is where texts with escapes are
-/// kept; it grows to the length of the text.
+/// [`open_list`](crate::open_list) has to tell what it is. `scratch` is where texts with escapes
+/// are kept; it grows to the length of the text.
 ///
 /// # Errors
 ///

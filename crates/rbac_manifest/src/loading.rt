@@ -164,7 +164,8 @@ fn file_into(alloc: Global, bytes: &[u8], contents: &mut Contents) -> Result<(),
     }
 }
 
-// Adds what a file gives to `contents`, in one pass, if it is an object with one list under `items`.
+// Adds what a file gives to `contents`, in one pass, if it is an object with one list under
+// `items`.
 #[tactic(auto, using(crate::proofs::Json::json_in_text), unfolding(crate::specs::Load::file_refusal, crate::specs::Load::contents_of_file))]
 fn list_in_at_once(alloc: Global, bytes: &[u8], contents: &mut Contents) -> Result<bool, Halt>
     ensures sound { IfOk result (λ is_list. IsTrue is_list → file_refusal bytes.now ≡ None) }
