@@ -1,12 +1,13 @@
 -- The lines of rules, printed one after another.
 use Rattle.std.proofs.Common.{◌≡◌, ◌∙◌, ℕ, List, [], ◌∷◌, ◌++◌, refl, ap, sym, subst, append-nil, append_assoc}
-use Rattle.std.specs.Prelude.{Option, Some, None}
+use Rattle.std.specs.Prelude.{Option}
 use Rattle.std.proofs.lemmas.Grind.{flat_map-append}
 use Rattle.rbac_streams.specs.Streams.{SinkView, PageView}
 use Rattle.rbac_streams.specs.Taken.{Prints, StopsIn}
 use Rattle.rbac_streams.proofs.TakenLemmas.{Prints-nil, Prints-trans, Stops-after, Stops-more}
 use Rattle.rbac_rules.specs.Effective.{RuleView}
 use Rattle.rbac_rules.specs.Left.{AreLeft, LeftView}
+use Rattle.rbac_rules.proofs.RuleLists.{one_list as one_rules}
 use Rattle.rbac_cli.specs.Out.{rule_line, rules_text}
 
 -- these of all the rules were printed, and the others are left
@@ -16,6 +17,10 @@ pub record AreGone {W : Type 0} (contents : W → Option (List ℕ)) (old : Sink
   pub whole : all ≡ gone ++ others
   pub still : AreLeft left others
   pub printed : Prints contents old page new after (rules_text gone)
+
+-- where none is left, no others are
+pub none_left : (left : LeftView) (others : List RuleView) → AreLeft left others → AreLeft left [] → others ≡ []
+none_left left others are none = one_rules left.who left.scope left.grants others [] are none
 
 module _ {W : Type 0} (contents : W → Option (List ℕ)) (old : SinkView W) (page : PageView) (all : List RuleView) where
   pub none_gone : (left : LeftView) → AreLeft left all → AreGone contents old page old page left all
