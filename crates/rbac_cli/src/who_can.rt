@@ -2,6 +2,7 @@
 
 ghost use Rattle.std.specs.Prelude.{◌≡◌, ◌++◌, false, List, IfOk, IfErr, OnOk, OnErr};
 ghost use Rattle.rbac_terms.specs.Text.{Text};
+ghost use Rattle.rbac_model.specs.Policies.{IsPolicy};
 ghost use Rattle.rbac_model.specs.Holders.{AreHolders, IsHolder};
 ghost use Rattle.rbac_index.specs.HolderViews.{holder_shown};
 ghost use Rattle.rbac_streams.specs.Taken.{Prints, StopsIn};
@@ -69,9 +70,12 @@ fn holders_of<'p>(
     verb: &Word,
     meant: &Meant,
 ) -> Result<Holders<'p>, IndexFault>
-    ensures { IfOk result
+    ensures holders { IfOk result
         (AreHolders policy.now.held meant.now.namespace verb.now meant.now.target) }
+    ensures policy { IsPolicy policy.now }
 {
+    // What a policy promises of its bindings is wanted of their holders.
+    let _ = policy.bindings();
     let index = Index::build(alloc, policy)?;
     index.who_can(alloc, &meant.namespace, verb, &meant.target)
 }
