@@ -27,7 +27,14 @@ use Rattle.rbac_index.proofs.ReasonLemmas.{why_of_holder}
 use Rattle.rbac_matrix.proofs.Decided.{Decided, grants}
 use Rattle.rbac_text.specs.Row.{holder_text}
 use Rattle.rbac_text.specs.Why.{holder_why_text}
-use Rattle.rbac_cli.specs.HolderLines.{IsHolderLine, AreHolderLines}
+use Rattle.rbac_catalogue.specs.Catalogue.{CatalogueView}
+use Rattle.rbac_manifest.specs.Load.{LoadedView}
+use Rattle.rbac_question.specs.declared.command.Action.TheVariants.{WhoCan}
+use Rattle.rbac_question.specs.declared.command.Question.{Question}
+use Rattle.rbac_cli.specs.HolderLines.{IsHolderLine, AreHolderLines, joined}
+use Rattle.rbac_cli.specs.Meant.{IsMeant}
+use Rattle.rbac_cli.specs.Out.{Answers}
+use Rattle.rbac_cli.specs.declared.outcome.Status.TheVariants.{Zero}
 
 -- ---- a holder has no two lines
 
@@ -165,7 +172,7 @@ module _ (p : PolicyView) (ok : IsPolicy p) (namespace verb : Text) (t : What) w
         (g, x.subject_place, why_of_holder p ok namespace verb t x holder first.0 g first.1 first.1.0.0.1, refl),
       )
 
-  pub lines_of : (why : Bool) (xs : List HolderView) → ((x : HolderView) → Contains xs x → IsHolder p.held namespace verb t x) → (lines : List Text) × AreHolderLines p why namespace verb t xs lines
+  lines_of : (why : Bool) (xs : List HolderView) → ((x : HolderView) → Contains xs x → IsHolder p.held namespace verb t x) → (lines : List Text) × AreHolderLines p why namespace verb t xs lines
   lines_of why [] all = ([], refl)
   lines_of why (x ∷ xs) all =
       let line = line_of why x (all x (0, omega arith, refl)) in
@@ -191,3 +198,16 @@ module _ (p : PolicyView) (why : Bool) (namespace verb : Text) (t : What) where
 -- who is listed is a holder
 pub holder_at : (p : PolicyView) (namespace verb : Text) (t : What) (xs : List HolderView) (i : ℕ) (x : HolderView) → AreHolders p.held namespace verb t xs → slice_get xs i ≡ Some x → IsHolder p.held namespace verb t x
 holder_at p namespace verb t xs i x are at = (are.exact x).0 (i, slice_get_within xs i x at, get_or_from_slice_get xs i x x at)
+
+-- the holders of what is asked have lines, which answer it
+pub answered : (l : LoadedView) (why : Bool) (q : Question) (target : What) (namespace : Text) (xs : List HolderView) (listed : CatalogueView) (held asked : PolicyView)
+    → listed ≡ l.catalogue → held ≡ l.policy → asked ≡ l.policy → IsMeant listed.entries q target namespace → IsPolicy held → AreHolders held.held namespace q.verb target xs
+    → (lines : List Text) × AreHolders asked.held namespace q.verb target xs × AreHolderLines asked why namespace q.verb target xs lines × Answers l (WhoCan why q) (joined lines) Zero
+answered l why q target namespace xs listed held asked catalogue policy again meant ok holders =
+    let are = subst (λ (p : PolicyView). AreHolders p.held namespace q.verb target xs) policy holders in
+    let lines = lines_of l.policy (subst IsPolicy policy ok) namespace q.verb target why xs (λ x. (are.exact x).0) in (
+      lines.0,
+      subst (λ (p : PolicyView). AreHolders p.held namespace q.verb target xs) (sym again) are,
+      subst (λ (p : PolicyView). AreHolderLines p why namespace q.verb target xs lines.0) (sym again) lines.1,
+      (target, namespace, subst (λ (v : CatalogueView). IsMeant v.entries q target namespace) catalogue meant, (xs, lines.0, are, lines.1, refl, refl)),
+    )
