@@ -1,3 +1,4 @@
+pub mod HolderLineLemmas
 pub mod Lines
 pub mod ListingLemmas
 pub mod Named

@@ -2,6 +2,7 @@
 
 ghost use Rattle.std.specs.Prelude.{◌≡◌, ◌++◌, false, List, IfOk, IfErr, OnOk, OnErr};
 ghost use Rattle.rbac_terms.specs.Text.{Text};
+ghost use Rattle.rbac_model.specs.Policies.{IsPolicy};
 ghost use Rattle.rbac_model.specs.Holders.{AreHolders, IsHolder};
 ghost use Rattle.rbac_index.specs.HolderViews.{holder_shown};
 ghost use Rattle.rbac_streams.specs.Taken.{Prints, StopsIn};
@@ -69,9 +70,12 @@ fn holders_of<'p>(
     verb: &Word,
     meant: &Meant,
 ) -> Result<Holders<'p>, IndexFault>
-    ensures { IfOk result
+    ensures holders { IfOk result
         (AreHolders policy.now.held meant.now.namespace verb.now meant.now.target) }
+    ensures policy { IsPolicy policy.now }
 {
+    // Wanted for its promise alone: what a policy is. So each holder has a line.
+    let _ = policy.bindings();
     let index = Index::build(alloc, policy)?;
     index.who_can(alloc, &meant.namespace, verb, &meant.target)
 }
@@ -86,14 +90,16 @@ fn print_lines<W: Write + Drop>(
 ) -> Result<(), PrintFault>
     requires { sink.old.has_failed ≡ false }
     ensures ok { (namespace : Text) (lines : List Text)
-        → AreHolders asked.entry.policy.now.held namespace asked.entry.verb.now asked.entry.target.now holders.now
-        → AreHolderLines asked.entry.policy.now asked.entry.why namespace asked.entry.verb.now asked.entry.target.now
-        holders.now lines
+        → AreHolders asked.entry.policy.now.held namespace asked.entry.verb.now
+        asked.entry.target.now holders.now
+        → AreHolderLines asked.entry.policy.now asked.entry.why namespace asked.entry.verb.now
+        asked.entry.target.now holders.now lines
         → OnOk result (Prints W.contents sink.old page.old sink.new page.new (joined lines)) }
     ensures err { (namespace : Text) (lines : List Text)
-        → AreHolders asked.entry.policy.now.held namespace asked.entry.verb.now asked.entry.target.now holders.now
-        → AreHolderLines asked.entry.policy.now asked.entry.why namespace asked.entry.verb.now asked.entry.target.now
-        holders.now lines
+        → AreHolders asked.entry.policy.now.held namespace asked.entry.verb.now
+        asked.entry.target.now holders.now
+        → AreHolderLines asked.entry.policy.now asked.entry.why namespace asked.entry.verb.now
+        asked.entry.target.now holders.now lines
         → OnErr result (StopsIn W.contents sink.old page.old sink.new page.new (joined lines)) }
     ensures failed { sink.new.has_failed ≡ is_sink_fault result }
 {
@@ -116,16 +122,16 @@ fn print_holder<W: Write + Drop>(
 ) -> Result<(), PrintFault>
     requires { sink.old.has_failed ≡ false }
     ensures ok { (namespace : Text) (text : Text)
-        → IsHolder asked.entry.policy.now.held namespace asked.entry.verb.now asked.entry.target.now
-        (holder_shown holder.entry)
-        → IsHolderLine asked.entry.policy.now asked.entry.why namespace asked.entry.verb.now asked.entry.target.now
-        (holder_shown holder.entry) text
+        → IsHolder asked.entry.policy.now.held namespace asked.entry.verb.now
+        asked.entry.target.now (holder_shown holder.entry)
+        → IsHolderLine asked.entry.policy.now asked.entry.why namespace asked.entry.verb.now
+        asked.entry.target.now (holder_shown holder.entry) text
         → OnOk result (Prints W.contents sink.old page.old sink.new page.new text) }
     ensures err { (namespace : Text) (text : Text)
-        → IsHolder asked.entry.policy.now.held namespace asked.entry.verb.now asked.entry.target.now
-        (holder_shown holder.entry)
-        → IsHolderLine asked.entry.policy.now asked.entry.why namespace asked.entry.verb.now asked.entry.target.now
-        (holder_shown holder.entry) text
+        → IsHolder asked.entry.policy.now.held namespace asked.entry.verb.now
+        asked.entry.target.now (holder_shown holder.entry)
+        → IsHolderLine asked.entry.policy.now asked.entry.why namespace asked.entry.verb.now
+        asked.entry.target.now (holder_shown holder.entry) text
         → OnErr result (StopsIn W.contents sink.old page.old sink.new page.new text) }
     ensures failed { sink.new.has_failed ≡ is_sink_fault result }
 {
@@ -139,10 +145,10 @@ fn print_holder<W: Write + Drop>(
 // Adds the line of one holder.
 fn put_line(line: &mut Vec<u8>, asked: Asked<'_>, holder: Holder<'_>) -> Result<(), AllocError>
     ensures { (namespace : Text) (text : Text)
-        → IsHolder asked.entry.policy.now.held namespace asked.entry.verb.now asked.entry.target.now
-        (holder_shown holder.entry)
-        → IsHolderLine asked.entry.policy.now asked.entry.why namespace asked.entry.verb.now asked.entry.target.now
-        (holder_shown holder.entry) text
+        → IsHolder asked.entry.policy.now.held namespace asked.entry.verb.now
+        asked.entry.target.now (holder_shown holder.entry)
+        → IsHolderLine asked.entry.policy.now asked.entry.why namespace asked.entry.verb.now
+        asked.entry.target.now (holder_shown holder.entry) text
         → OnOk result (line.new.items ≡ line.old.items ++ text) }
 {
     if !asked.why {

@@ -1,0 +1,213 @@
+-- The lines of holders: each holder has one line, and no other.
+use Rattle.std.proofs.Common.{◌≡◌, ◌∙◌, ℕ, ◌<◌, ◌≤◌, Bool, true, false, List, [], ◌∷◌, length, Contains, ap, sym, subst, refl, arith, suc, zero, ◌⊎◌, inl, inr}
+use Rattle.std.specs.Prelude.{Some, None, Any, slice_get}
+use Rattle.std.proofs.lemmas.Bool.{cases_eq, cases_order}
+use Rattle.std.proofs.lemmas.Option.{same_Some, slice_get_within, slice_get-get_or, get_or_from_slice_get}
+use Rattle.rbac_terms.specs.Text.{Text}
+use Rattle.rbac_terms.specs.Targets.{What}
+use Rattle.rbac_terms.specs.Principals.{AsUser}
+use Rattle.rbac_terms.specs.Matching.{RuleAllows}
+use Rattle.rbac_terms.specs.declared.matching.Rule.{Rule}
+use Rattle.rbac_terms.specs.declared.granting.ClusterRole.{ClusterRole}
+use Rattle.rbac_terms.specs.declared.granting.RoleRef.TheVariants as ref
+use Rattle.rbac_terms.specs.declared.granting.Binding.{Binding}
+use Rattle.rbac_terms.specs.declared.granting.Subject.TheVariants.{User}
+use Rattle.rbac_terms.specs.Granting.{IsSubjectKey}
+use Rattle.rbac_model.specs.Lists.{IsFirstAt}
+use Rattle.rbac_model.specs.Policies.{Held, IsHeld, PolicyView, IsPolicy, GrantView, Source, SourcedRule, InClusterRole, AreRulesFor, IsOfBinding}
+use Rattle.rbac_model.specs.Holders.{HolderView, IsHolder, AreHolders}
+use Rattle.rbac_model.specs.Sources.{source_of}
+use Rattle.rbac_model.proofs.BindingPlaces.{one_binding_place, of_some_binding, grant_of_rule}
+use Rattle.rbac_model.proofs.GrantNumbers.{grant_by}
+use Rattle.rbac_model.proofs.OneList.{one_rules_for}
+use Rattle.rbac_index.specs.Deciding.{AllowsOf, IsFirstAllowing}
+use Rattle.rbac_index.specs.WhyHeld.{AllowsKey, IsWhyHeld, IsHeldShown}
+use Rattle.rbac_index.specs.declared.deciding.Why.{Why}
+use Rattle.rbac_index.proofs.ReasonLemmas.{why_of_holder}
+use Rattle.rbac_matrix.proofs.Decided.{Decided, grants}
+use Rattle.rbac_text.specs.Row.{holder_text}
+use Rattle.rbac_text.specs.Why.{holder_why_text}
+use Rattle.rbac_catalogue.specs.Catalogue.{CatalogueView}
+use Rattle.rbac_manifest.specs.Load.{LoadedView}
+use Rattle.rbac_question.specs.declared.command.Action.TheVariants.{WhoCan}
+use Rattle.rbac_question.specs.declared.command.Question.{Question}
+use Rattle.rbac_cli.specs.HolderLines.{IsHolderLine, AreHolderLines, joined}
+use Rattle.rbac_cli.specs.Meant.{IsMeant}
+use Rattle.rbac_cli.specs.Out.{Answers}
+use Rattle.rbac_cli.specs.declared.outcome.Status.TheVariants.{Zero}
+
+-- ---- a holder has no two lines
+
+one_place : {X : Type 0} (P : X → Type 0) (xs : List X) (i j : ℕ) (x y : X) → IsFirstAt P xs i x → IsFirstAt P xs j y → i ≡ j
+one_place P xs i j x y a b = elim (cases_order i j) [
+  | inl e ↦ e
+  | inr d ↦ elim d [
+    | inl m ↦ absurd (b.none_before i x m a.here a.holds)
+    | inr m ↦ absurd (a.none_before j y m b.here b.holds)
+  ]
+]
+
+one_first : {X : Type 0} (P : X → Type 0) (xs : List X) (i j : ℕ) (x y : X) → IsFirstAt P xs i x → IsFirstAt P xs j y → x ≡ y
+one_first P xs i j x y a b = same_Some x y (sym a.here ∙ ap (slice_get xs) (one_place P xs i j x y a b) ∙ b.here)
+
+module _ (p : PolicyView) (key namespace verb : Text) (t : What) (g k : GrantView) (i j : ℕ) (a : IsWhyHeld p key namespace verb t g i) (b : IsWhyHeld p key namespace verb t k j) where
+  one_grant : g ≡ k
+  one_grant = one_first (AllowsKey key namespace verb t) p.grants a.grant.0 b.grant.0 g k a.grant.1 b.grant.1
+
+  one_subject : i ≡ j
+  one_subject =
+      let b_there = subst (λ x. IsWhyHeld p key namespace verb t x j) (sym one_grant) b in
+      one_place (λ s. IsSubjectKey s g.binding.namespace key) g.binding.subjects i j a.subject.0 b_there.subject.0 a.subject.1 b_there.subject.1
+
+  one_why_text : holder_why_text key g.binding g.rule.source g.rule.place i ≡ holder_why_text key k.binding k.rule.source k.rule.place j
+  one_why_text =
+      ap (λ (x : GrantView). holder_why_text key x.binding x.rule.source x.rule.place i) one_grant
+      ∙ ap (λ (n : ℕ). holder_why_text key k.binding k.rule.source k.rule.place n) one_subject
+
+-- what shows why a key holds it makes the line
+pub shown_text : (p : PolicyView) (namespace verb : Text) (t : What) (x : HolderView) (why : Why) (text : Text) → IsHeldShown p x.key namespace verb t why → IsHolderLine p true namespace verb t x text
+    → holder_why_text x.key why.binding.now (source_of why.source) why.rule_place why.subject_place ≡ text
+shown_text p namespace verb t x why text (g, held, shown) (k, j, holds, e) =
+    ap (λ (b : Binding). holder_why_text x.key b (source_of why.source) why.rule_place why.subject_place) shown.0
+    ∙ ap (λ (s : Source). holder_why_text x.key g.binding s why.rule_place why.subject_place) shown.1
+    ∙ ap (λ (n : ℕ). holder_why_text x.key g.binding g.rule.source n why.subject_place) shown.2
+    ∙ one_why_text p x.key namespace verb t g k why.subject_place j held holds ∙ sym e
+
+-- ---- whether a rule allows is decided: it's the only rule of the only binding of a cluster
+
+module _ (r : Rule) (verb : Text) (t : What) where
+  abbrev lone_role : ClusterRole
+  lone_role = record { name = []; labels = []; rules = r ∷ []; aggregation = None }
+
+  abbrev lone_binding : Binding
+  lone_binding = record { namespace = None; name = []; role = ref.ClusterRole []; subjects = User [] ∷ [] }
+
+  abbrev lone_held : Held
+  lone_held = record { roles = []; cluster_roles = lone_role ∷ []; bindings = [] }
+
+  abbrev lone_rule : SourcedRule
+  lone_rule = record { source = InClusterRole lone_role; rule = r; place = 0 }
+
+  is_held : IsHeld lone_held
+  is_held = record {
+    roles = λ i j d lt l. absurd (omega (arith, l));
+    cluster_roles = λ i j d lt l. absurd (omega (arith, lt, l));
+    bindings = λ i j d lt l. absurd (omega (arith, l));
+  }
+
+  lone_rules : AreRulesFor lone_held lone_binding (lone_rule ∷ [])
+  lone_rules = inl (InClusterRole lone_role, ((0, omega arith, refl), refl), inl (refl, refl))
+
+  of_one : (k : ℕ) (x : SourcedRule) → slice_get (lone_rule ∷ []) k ≡ Some x → RuleAllows x.rule verb t → RuleAllows r verb t
+  of_one zero x e allows = subst (λ (v : SourcedRule). RuleAllows v.rule verb t) (sym (same_Some lone_rule x e)) allows
+  of_one (suc k) x e allows = cc
+
+  rule_decided : Decided (RuleAllows r verb t)
+  rule_decided = elim (grants lone_held is_held (AsUser [] []) [] verb t lone_binding (lone_rule ∷ []) lone_rules) [
+    | inl granted ↦
+        let brings = granted.2 in
+        let one = one_rules_for lone_held lone_binding brings.0 (lone_rule ∷ []) is_held brings.1 lone_rules in
+        let any = subst (λ (rs : List SourcedRule). Any (λ x. RuleAllows x.rule verb t) rs) one brings.2 in
+        inl (of_one any.0 any.1 (slice_get-get_or (lone_rule ∷ []) any.0 any.1 any.2 ∙ ap (λ (v : SourcedRule). Some v) any.3) any.4)
+    | inr refused ↦ inr (λ allows. refused (tt, (0, User [], omega arith, refl, refl), (lone_rule ∷ [], lone_rules, (0, lone_rule, omega arith, refl, allows))))
+  ]
+
+-- ---- the first number that has a decided property
+
+module _ (P : ℕ → Type 0) (len : ℕ) (decide : (n : ℕ) → n < len → Decided (P n)) where
+  abbrev IsLeast : ℕ → Type 0
+  IsLeast n = P n × ((m : ℕ) → m < n → ¬ P m)
+
+  none_still : (n : ℕ) → ¬ P n → ((m : ℕ) → m < n → ¬ P m) → (m : ℕ) → m < suc n → ¬ P m
+  none_still n here before m lt p = elim (cases_eq m n) [
+    | inl e ↦ here (subst P e p)
+    | inr ne ↦ before m (omega arith) p
+  ]
+
+  least_below : (n : ℕ) → n ≤ len → ((m : ℕ) × IsLeast m) ⊎ ((m : ℕ) → m < n → ¬ P m)
+  least_below zero le = inr (λ m lt p. omega (arith, lt))
+  least_below (suc n) le = elim (least_below n (omega arith)) [
+    | inl found ↦ inl found
+    | inr none ↦ elim (decide n (omega arith)) [
+      | inl here ↦ inl (n, (here, none))
+      | inr absent ↦ inr (none_still n absent none)
+    ]
+  ]
+
+  least : (n : ℕ) → n < len → P n → (m : ℕ) × IsLeast m
+  least n lt p = elim (least_below len (omega arith)) [
+    | inl found ↦ found
+    | inr none ↦ absurd (none n lt p)
+  ]
+
+-- ---- each holder has a line
+
+module _ (p : PolicyView) (ok : IsPolicy p) (namespace verb : Text) (t : What) where
+  allows_decided : (at n : ℕ) → n < length p.grants → Decided (AllowsOf p verb t at n)
+  allows_decided at n lt =
+      let of = of_some_binding p ok n lt in
+      let g = of.1.0 in
+      elim (cases_eq of.0 at) [
+        | inl e ↦ elim (rule_decided g.rule.rule verb t) [
+          | inl allows ↦ inl (subst (IsOfBinding p n) e of.1, (g, of.1.1, allows))
+          | inr denies ↦ inr (λ w. denies (subst (λ (v : GrantView). RuleAllows v.rule.rule verb t) (same_Some w.1.0 g (sym w.1.1 ∙ of.1.1)) w.1.2))
+        ]
+        | inr ne ↦ inr (λ w. ne (one_binding_place p ok n of.0 at of.1 w.0))
+      ]
+
+  first_of : (x : HolderView) → IsHolder p.held namespace verb t x → (n : ℕ) × IsFirstAllowing p verb t x.binding_place n
+  first_of x holder =
+      let a = holder.1 in
+      let brings = a.4.1 in
+      let any = brings.2 in
+      let of = grant_of_rule p ok x.binding_place a.0 brings.0 any.1 a.2 brings.1 (any.0, any.2, any.3) in
+      least (AllowsOf p verb t x.binding_place) (length p.grants) (allows_decided x.binding_place) of.0 (slice_get_within p.grants of.0 (grant_by a.0 any.1) of.1) (of.2, (grant_by a.0 any.1, of.1, any.4))
+
+  line_of : (why : Bool) (x : HolderView) → IsHolder p.held namespace verb t x → (line : Text) × IsHolderLine p why namespace verb t x line
+  line_of false x holder = (holder_text x.key x.binding, refl)
+  line_of true x holder =
+      let first = first_of x holder in
+      let g = first.1.0.0.0 in (
+        holder_why_text x.key g.binding g.rule.source g.rule.place x.subject_place,
+        (g, x.subject_place, why_of_holder p ok namespace verb t x holder first.0 g first.1 first.1.0.0.1, refl),
+      )
+
+  lines_of : (why : Bool) (xs : List HolderView) → ((x : HolderView) → Contains xs x → IsHolder p.held namespace verb t x) → (lines : List Text) × AreHolderLines p why namespace verb t xs lines
+  lines_of why [] all = ([], refl)
+  lines_of why (x ∷ xs) all =
+      let line = line_of why x (all x (0, omega arith, refl)) in
+      let rest = lines_of why xs (λ y w. all y (suc w.0, omega (arith, w.1), w.2)) in
+      (line.0 ∷ rest.0, (line.0, rest.0, line.1, rest.1, refl))
+
+-- ---- the lines at their places
+
+module _ (p : PolicyView) (why : Bool) (namespace verb : Text) (t : What) where
+  pub as_many : (xs : List HolderView) (lines : List Text) → AreHolderLines p why namespace verb t xs lines → length lines ≡ length xs
+  as_many [] lines are = ap length are
+  as_many (x ∷ xs) lines (line, rest, is, are, e) = ap length e ∙ ap suc (as_many xs rest are)
+
+  pub line_at : (xs : List HolderView) (lines : List Text) (i : ℕ) (x : HolderView) → AreHolderLines p why namespace verb t xs lines → slice_get xs i ≡ Some x
+      → (line : Text) × (slice_get lines i ≡ Some line) × IsHolderLine p why namespace verb t x line
+  line_at [] lines i x are at = cc
+  line_at (y ∷ xs) lines zero x are at =
+      (are.0, ap (λ (l : List Text). slice_get l 0) are.4, subst (λ (v : HolderView). IsHolderLine p why namespace verb t v are.0) (same_Some y x at) are.2)
+  line_at (y ∷ xs) lines (suc i) x are at =
+      let rest = line_at xs are.1 i x are.3 at in
+      (rest.0, ap (λ (l : List Text). slice_get l (suc i)) are.4 ∙ rest.1, rest.2)
+
+-- who is listed is a holder
+pub holder_at : (p : PolicyView) (namespace verb : Text) (t : What) (xs : List HolderView) (i : ℕ) (x : HolderView) → AreHolders p.held namespace verb t xs → slice_get xs i ≡ Some x → IsHolder p.held namespace verb t x
+holder_at p namespace verb t xs i x are at = (are.exact x).0 (i, slice_get_within xs i x at, get_or_from_slice_get xs i x x at)
+
+-- the holders of what is asked have lines, which answer it
+pub answered : (l : LoadedView) (why : Bool) (q : Question) (target : What) (namespace : Text) (xs : List HolderView) (listed : CatalogueView) (held asked : PolicyView)
+    → listed ≡ l.catalogue → held ≡ l.policy → asked ≡ l.policy → IsMeant listed.entries q target namespace → IsPolicy held → AreHolders held.held namespace q.verb target xs
+    → (lines : List Text) × AreHolders asked.held namespace q.verb target xs × AreHolderLines asked why namespace q.verb target xs lines × Answers l (WhoCan why q) (joined lines) Zero
+answered l why q target namespace xs listed held asked catalogue policy again meant ok holders =
+    let are = subst (λ (p : PolicyView). AreHolders p.held namespace q.verb target xs) policy holders in
+    let lines = lines_of l.policy (subst IsPolicy policy ok) namespace q.verb target why xs (λ x. (are.exact x).0) in (
+      lines.0,
+      subst (λ (p : PolicyView). AreHolders p.held namespace q.verb target xs) (sym again) are,
+      subst (λ (p : PolicyView). AreHolderLines p why namespace q.verb target xs lines.0) (sym again) lines.1,
+      (target, namespace, subst (λ (v : CatalogueView). IsMeant v.entries q target namespace) catalogue meant, (xs, lines.0, are, lines.1, refl, refl)),
+    )
