@@ -1,10 +1,10 @@
-"""What `rules` prints against what `can-i` answers, over random exports: its lines read independently.
+"""What `rules` prints against what `can-i` answers, over random exports: its lines, read once more.
 
 Each export is drawn as tests/pages.py draws it, with odd words in some of its rules. For a user,
 `rules` is asked everywhere, in a namespace or in the whole cluster. Its lines are taken apart here,
 lists and escapes too, and each request is matched against them by docs/BEHAVIOUR.md alone: `can-i`
-has to say yes exactly if a line allows it, and the first line that does is what `can-i --why` has to
-print. What is listed somewhere has to be the lines of all bindings whose binding counts there.
+has to say yes exactly if a line allows it, and the first line that does is what `can-i --why` has
+to print. What is listed in a place has to be, of all lines, those whose binding counts there.
 `can-i` can't ask about a member of one group alone, but `who-can --why` tells: a group has to be a
 holder exactly if a line of its rules allows the request, with the first such line.
 `rules.py SEED COUNT` tries other exports. The last line is `N passed, M failed`.
@@ -155,9 +155,9 @@ def user_agrees(draw, items, given):
 
 
 def holders_agree(draw, items, given):
-    """How `who-can --why` and the rules of its holders differ, or nothing. A group's line is the first
-    of its rules that allows the request. A user's is one of those that do: an earlier one, or an
-    earlier subject of the same binding, may name a group of theirs."""
+    """How `who-can --why` and the rules of its holders differ, or nothing. A group's line is the
+    first of its rules that allows the request. A user's is one of those that do: an earlier one, or
+    an earlier subject of the same binding, may name a group of theirs."""
     options, namespace = place(draw)
     asked, verb, target = request(draw, items)
     status, out = told('who-can', '--why', *options, *asked, given=given)
