@@ -26,6 +26,20 @@ measure() {
         "$(least "$audit" lint "$file")" "$(python3 -c "print('%.2f' % ($answer / max(1, $json)))")"
 }
 
+# One line for reading an export: processor time and memory of `can-i`, of JSON alone, and of the typed Rust program where Debian's
+# crates are installed.
+measure_reading() {
+    local name=$1 file=$2
+    printf '%-44s can-i %5d ms %4d MB  JSON alone %5d ms %4d MB' "$name" \
+        "$(ask "$file")" "$(($(python3 least.py --memory "$audit" can-i --as nobody@example.com -A get pods "$file") / 1024))" \
+        "$(least "$alone" "$file")" "$(($(python3 least.py --memory "$alone" "$file") / 1024))"
+    if [ -x "$room/typed_reader" ]; then
+        printf '  typed %5d ms %4d MB' "$(least "$room/typed_reader" "$file" nobody@example.com default get pods)" \
+            "$(($(python3 least.py --memory "$room/typed_reader" "$file" nobody@example.com default get pods) / 1024))"
+    fi
+    echo
+}
+
 # One line for a matrix over an export and a universe: its requests, and its time for the first binding and for every one.
 measure_matrix() {
     local name=$1 file=$2 universe=$3 requests=$4
@@ -65,6 +79,12 @@ for size in "1000 4000 100" "5000 20000 300" "10000 40000 500"; do
     python3 generate_export.py $size 1 "$room/export.json" > /dev/null
     measure "$size roles, bindings, namespaces" "$room/export.json"
 done
+typed_reader/build.sh "$room/typed_reader" 2> /dev/null || echo 'the typed Rust program is left out: its crates are not installed'
+python3 generate_export.py 10000 40000 400 7 "$room/export.json" > /dev/null
+measure_reading "reading, 10000 roles, 40000 bindings" "$room/export.json"
+python3 generate_export.py 4000 16000 200 9 "$room/export.json" > /dev/null
+python3 annotate_export.py "$room/export.json" "$room/annotated.json"
+measure_reading "reading, 4000 and 16000, annotated" "$room/annotated.json"
 python3 generate_aggregated.py 5000 500 4 "$room/export.json"
 measure "5000 cluster roles, 500 aggregated" "$room/export.json"
 for size in "1000 1000" "100 10000" "10 100000"; do

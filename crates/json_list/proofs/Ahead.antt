@@ -5,8 +5,10 @@ use Rattle.json.specs.Json as json
 use Rattle.json.specs.Json.{Parse, parse_map, after_end_array, items_step}
 use Rattle.json.proofs.Grammar.{left, Takes, skip_value-shorter, value_is, items_end, items_fail, items_more}
 use Rattle.serde_json.specs.Data.{Data, no_items, item}
-use Rattle.serde_json.specs.Read.{of_json, of_items}
+use Rattle.serde_json.specs.Read.{converted, of_json, of_items}
 use Rattle.json_list.specs.List.{items_ahead, IsRead, IsUnread}
+use Rattle.json_list.specs.OnePass.{items_and_rest}
+use Rattle.json_list.proofs.Values.{item_first}
 
 -- ---- the bound on the turns plays no part
 
@@ -75,3 +77,14 @@ module _ (ts : List Token) (going : after_end_array ts ≡ None) where
 
   pub refused : IsUnread 125 ts → items_ahead ts ≡ None
   refused unread = refused_at (json.value 125 ts) refl unread
+
+-- ---- with the tokens after the list
+
+pub over_before : (ts r : List Token) → after_end_array ts ≡ Some r → items_and_rest ts ≡ Some (no_items, r)
+over_before ts r e = ap (converted of_items) (items_end (json.value 125) (length ts) ts r (omega arith) e)
+
+pub next_before : (ts r : List Token) (d : Data) → after_end_array ts ≡ None → IsRead 125 ts d r → length r < length ts → items_and_rest ts ≡ option_map (λ p. (item d p.0, p.1)) (items_and_rest r)
+next_before ts r d going is less =
+    let turn = items_more (json.value 125) (length ts) ts r is.0 (omega arith) going is.1 in
+    let same = any_bound (json.value 125) (skip_value-shorter 125) (length ts - 1) (length r) r (omega arith) (omega arith) in
+    ap (converted of_items) (turn ∙ ap (parse_map (json.item is.0)) same) ∙ item_first is.0 d (json.items (json.value 125) (length r) r) is.2

@@ -6,3 +6,4 @@ pub mod Ahead
 pub mod Walks
 pub mod Others
 pub mod Whole
+pub mod OnePass

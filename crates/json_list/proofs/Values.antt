@@ -50,14 +50,14 @@ is_unread depth old e j new is = unread_from (of_json j) new (sym (ap (converted
 
 -- ---- items
 
-abbrev with_item : Data → Option (Items × List Token) → Option (Items × List Token)
+abbrev pub with_item : Data → Option (Items × List Token) → Option (Items × List Token)
 with_item d o = option_map (λ q. (item d q.0, q.1)) o
 
 with_first : (d : Data) (ts : List Token) (o : Option Items) → followed_by ts (option_map (item d) o) ≡ with_item d (followed_by ts o)
 with_first d ts None = refl
 with_first d ts (Some ds) = refl
 
-item_first : (j : json.Json) (d : Data) (o : Option (json.Items × List Token)) → of_json j ≡ Some d → converted of_items (parse_map (json.item j) o) ≡ with_item d (converted of_items o)
+pub item_first : (j : json.Json) (d : Data) (o : Option (json.Items × List Token)) → of_json j ≡ Some d → converted of_items (parse_map (json.item j) o) ≡ with_item d (converted of_items o)
 item_first j d None is = refl
 item_first j d (Some p) is = ap (λ r. followed_by p.1 (option_and_then (λ e. option_map (item e) (of_items p.0)) r)) is ∙ with_first d p.1 (of_items p.0)
 

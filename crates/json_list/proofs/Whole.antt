@@ -5,10 +5,12 @@ use Rattle.json.specs.Lex.{tokens}
 use Rattle.json.specs.Json as json
 use Rattle.json.specs.Json.{parse_map}
 use Rattle.json.proofs.Grammar.{value-begin_object}
-use Rattle.serde_json.specs.Data.{array, object, Items, Members, put}
-use Rattle.serde_json.specs.Read.{of_json, read}
+use Rattle.serde_json.specs.Data.{array, object, Items, Members, no_members, put}
+use Rattle.serde_json.specs.Read.{of_json, of_members, read}
 use Rattle.json_list.specs.List.{IsList, items_name, with_items, items_ahead}
-use Rattle.json_list.specs.Places.{members_in, AreRefused, HasOneList, AreOthers, AreOthersOf}
+use Rattle.json_list.specs.Places.{members_in, AreRefused, HasOneList, AreOthers, AreOthersOf, AreBefore}
+use Rattle.json_list.specs.OnePass.{IsReadUpTo}
+use Rattle.json_list.proofs.OnePass.{came_from}
 use Rattle.json_list.proofs.Walks.{mapped, object_begins}
 
 abbrev whole : Option (json.Json × List Token) → Option json.Json
@@ -62,3 +64,9 @@ module _ (text : List ℕ) (ts : List Token) (begin : tokens text ≡ Token.begi
       let same : ts ≡ there.0 = let e = sym begin ∙ there.1 in cc in
       let value = there.2 are.0 [] are.1 (ap members_in (sym same) ∙ are.2) are.3 in
       read_is ∙ ap (λ o. option_and_then of_json (whole (parse_map json.object o))) are.2 ∙ ap (option_map object) (are.4 ∙ ap (option_map (λ d. put items_name d others)) value) ∙ with_list others (items_ahead at)
+
+  -- what is read up to a list
+  pub read_up_to : (before : Members) (at : List Token) → AreBefore ts before at → IsReadUpTo text before at
+  read_up_to before at are = λ ds rest others e r.
+      let it = came_from (λ ms. of_members ms no_members) (members_in ts) (put items_name (array ds) others) [] (are ds rest others e r) in
+      read_is ∙ ap (λ o. option_and_then of_json (whole (parse_map json.object o))) it.1 ∙ ap (option_map object) it.2

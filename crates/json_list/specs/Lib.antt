@@ -1,4 +1,5 @@
 pub mod Lean
 pub mod List
+pub mod OnePass
 pub mod Places
 pub mod Values

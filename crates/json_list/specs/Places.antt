@@ -3,9 +3,10 @@ use Rattle.std.specs.Prelude.{◌≡◌, ℕ, List, [], ◌∷◌, length, Optio
 use Rattle.json.specs.Token.{Token}
 use Rattle.json.specs.Lex.{tokens}
 use Rattle.json.specs.Json as json
-use Rattle.serde_json.specs.Data.{array, Members, no_members, put}
-use Rattle.serde_json.specs.Read.{of_json, of_members, read}
+use Rattle.serde_json.specs.Data.{array, Items, Members, no_members, put}
+use Rattle.serde_json.specs.Read.{converted, of_json, of_members, read}
 use Rattle.json_list.specs.List.{items_name, values_of, HaveOneList, with_items, items_ahead}
+use Rattle.json_list.specs.OnePass.{items_and_rest, AreTheRest}
 use Rattle.json_list.specs.declared.items.Place.{Place}
 use Rattle.json_list.specs.declared.items.Place.TheVariants.{Inside, Past, Stopped}
 
@@ -51,3 +52,11 @@ IsAtItemsOf text at = (ts : List Token) × (tokens text ≡ Token.begin_object �
 abbrev pub AreOthersOf : List ℕ → Members → Type 0
 AreOthersOf text others = (at : List Token) → IsAtItemsOf text at
     → read text ≡ option_map (with_items others) (items_ahead at)
+
+-- the members up to a list under `items` are these, and the tokens `at` follow the bracket that
+-- opens the list
+abbrev pub AreBefore : List Token → Members → List Token → Type 0
+AreBefore old found at = (ds : Items) (rest : List Token) (others : Members)
+    → items_and_rest at ≡ Some (ds, rest) → AreTheRest found rest others
+    → converted (λ ms. of_members ms no_members) (members_in old)
+    ≡ Some (put items_name (array ds) others, [])

@@ -17,7 +17,7 @@ use std::alloc::Global;
 use std::marker::Model;
 
 // `serde_json` reads 127 levels, of which the object and its list are two.
-const ITEM_DEPTH: usize = 125;
+pub(crate) const ITEM_DEPTH: usize = 125;
 
 // Where a reader is in its list.
 #[derive(Clone, Copy, Drop)]

@@ -19,10 +19,10 @@ use json::{Invalid, Reader, Scratch, Token};
 use serde_json::{Map, Value};
 use std::alloc::{AllocError, Global};
 
-const ITEMS: &str = "items";
+pub(crate) const ITEMS: &str = "items";
 
 // `serde_json` reads 127 levels, of which the object is one.
-const MEMBER_DEPTH: usize = 126;
+pub(crate) const MEMBER_DEPTH: usize = 126;
 
 /// An object with one member `items`, which is a list.
 #[derive(Drop)]
@@ -34,7 +34,10 @@ pub struct OpenList<'a> {
 }
 
 // A reader just after the brace that opens an object, if a text begins with one.
-fn object_in<'a>(text: &'a str, scratch: &'a mut Scratch) -> Result<Option<Reader<'a>>, AllocError>
+pub(crate) fn object_in<'a>(
+    text: &'a str,
+    scratch: &'a mut Scratch,
+) -> Result<Option<Reader<'a>>, AllocError>
     ensures { IfOk result (λ o. MatchOption o
         ((ts : List SpecToken) → tokens text.now ≡ begin_object ∷ ts → ⊥)
         (λ reader. tokens text.now ≡ begin_object ∷ reader)) }
@@ -47,7 +50,7 @@ fn object_in<'a>(text: &'a str, scratch: &'a mut Scratch) -> Result<Option<Reade
 }
 
 // Takes the bracket that opens an array, if it is next.
-fn take_begin_array(reader: &mut Reader<'_>) -> bool
+pub(crate) fn take_begin_array(reader: &mut Reader<'_>) -> bool
     ensures { MatchBool result (reader.old ≡ begin_array ∷ reader.new)
         ((ts : List SpecToken) → reader.old ≡ begin_array ∷ ts → ⊥) }
 {

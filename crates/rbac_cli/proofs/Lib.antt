@@ -1,4 +1,5 @@
 pub mod Lines
+pub mod ListingLemmas
 pub mod Named
 pub mod OneAnswer
 pub mod OneListing

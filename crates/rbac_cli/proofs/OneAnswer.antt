@@ -1,5 +1,5 @@
 -- What an action means is one text and one status.
-use Rattle.std.proofs.Common.{◌≡◌, ◌∙◌, ◌↔◌, ℕ, List, [], ◌∷◌, ◌++◌, map, inl, inr, Contains, Less, ap, sym, subst, refl, codes}
+use Rattle.std.proofs.Common.{◌≡◌, ◌∙◌, ◌↔◌, ℕ, Bool, true, false, List, [], ◌∷◌, ◌++◌, map, inl, inr, Contains, Less, ap, sym, subst, refl, codes}
 use Rattle.std.specs.Prelude.{Option, Some, None}
 use Rattle.std.proofs.lemmas.List.{append_cancel_left}
 use Rattle.rbac_terms.specs.Text.{Text}

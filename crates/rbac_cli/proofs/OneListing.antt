@@ -11,12 +11,12 @@ use Rattle.rbac_terms.specs.Text.{Text, text_cmp}
 use Rattle.rbac_terms.specs.Keys.{KeyTexts, key_cmp, texts}
 use Rattle.rbac_terms.specs.declared.granting.Binding.{Binding}
 use Rattle.rbac_model.specs.Policies.{binding_name}
-use Rattle.rbac_model.specs.Universes.{RowView, cell_key, rows_after}
+use Rattle.rbac_model.specs.Universes.{RowView, cell_key}
 use Rattle.rbac_text.specs.Row.{row_text, tab, newline}
 use Rattle.rbac_token.specs.Marks.{mark_text, name_texts}
 use Rattle.rbac_token.specs.declared.mark.BindingName.{BindingName}
 use Rattle.rbac_token.specs.declared.mark.Mark.{Mark}
-use Rattle.rbac_matrix.specs.Every.{comes_after, every_after, name_of}
+use Rattle.rbac_matrix.specs.Every.{comes_after, name_of}
 use Rattle.rbac_cli.specs.Listings.{cut_at, last_words, listing_text, page_text, rows_past, rows_text}
 
 abbrev pub Line : Type 0

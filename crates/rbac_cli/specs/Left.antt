@@ -1,9 +1,7 @@
 -- The rows that a listing has left.
 use Rattle.std.specs.Prelude.{◌≡◌, ℕ, Bool, true, false, List, [], ◌∷◌, Option, MatchOption}
 use Rattle.std.specs.Iterator.{Count, at_most}
-use Rattle.rbac_terms.specs.Keys.{KeyTexts}
 use Rattle.rbac_model.specs.Universes.{RowView}
-use Rattle.rbac_token.specs.declared.mark.Mark.{Mark}
 use Rattle.rbac_matrix.specs.Enumeration.{AreLeft, IsGoing, requests_left}
 use Rattle.rbac_matrix.specs.EveryLeft.{AreEveryLeft, IsGoingEvery, pairs_left}
 use Rattle.rbac_matrix.specs.RowTexts.{Shows}

@@ -9,15 +9,21 @@ use Rattle.rbac_model.specs.Universes.{UniverseView, RowView}
 use Rattle.rbac_model.specs.Holders.{HolderView, AreHolders}
 use Rattle.rbac_catalogue.specs.declared.entry.Entry.{Entry}
 use Rattle.rbac_universe.specs.Sets.{IsUniverseOf}
-use Rattle.rbac_text.specs.Row.{holder_text}
+use Rattle.rbac_text.specs.Rule.{grant_text}
 use Rattle.rbac_text.specs.Why.{why_text}
 use Rattle.rbac_text.specs.Finding.{finding_text}
 use Rattle.rbac_manifest.specs.Load.{LoadedView}
 use Rattle.rbac_lint.specs.declared.finding.Finding.{Finding}
 use Rattle.rbac_lint.specs.Findings.{AreFindings}
 use Rattle.rbac_question.specs.declared.command.Action.{Action}
-use Rattle.rbac_question.specs.declared.command.Action.TheVariants.{CanI, WhoCan, Matrix, Lint}
+use Rattle.rbac_question.specs.declared.command.Action.TheVariants.{CanI, WhoCan, Rules, Matrix}
+use Rattle.rbac_question.specs.declared.command.Action.TheVariants.{Lint}
+use Rattle.rbac_question.specs.declared.command.Scope.{Scope}
+use Rattle.rbac_question.specs.declared.command.Scope.TheVariants as question
 use Rattle.rbac_question.specs.declared.command.Question.{Question}
+use Rattle.rbac_rules.specs.Effective.{ScopeView, Everywhere, InNamespace, ClusterWide}
+use Rattle.rbac_rules.specs.Effective.{RuleView, AreEffective}
+use Rattle.rbac_cli.specs.HolderLines.{AreHolderLines, joined}
 use Rattle.rbac_cli.specs.Listings.{AreListed, listing_text}
 use Rattle.rbac_cli.specs.Meant.{IsMeant}
 use Rattle.rbac_cli.specs.declared.outcome.Status.{Status}
@@ -61,15 +67,19 @@ IsReason p entries who false true q text = IsWhyText p entries who q text
 IsReason p entries who false false q text = text ≡ []
 IsReason p entries who true why q text = text ≡ []
 
--- who may do what the question asks
-abbrev pub AreHoldersMeant : Held → List Entry → Question → List HolderView → Type 0
-AreHoldersMeant held entries q xs =
-    (target : What) × (namespace : Text) × IsMeant entries q target namespace
-    × AreHolders held namespace q.verb target xs
+-- the line of a rule that somebody has
+abbrev pub rule_line : RuleView → Text
+rule_line x = grant_text x.grant x.subject_place
 
--- a line for each holder, in order
-abbrev pub holders_text : List HolderView → List ℕ
-holders_text xs = flat_map (λ x. holder_text x.key x.binding) xs
+-- a line for each of these rules, in order
+abbrev pub rules_text : List RuleView → Text
+rules_text xs = flat_map rule_line xs
+
+-- where `rules` asks for rules
+abbrev pub scope_asked : Scope → ScopeView
+scope_asked question.Everywhere = Everywhere
+scope_asked (question.Namespace namespace) = InNamespace namespace
+scope_asked question.ClusterWide = ClusterWide
 
 -- a line for each finding, in order
 abbrev pub findings_text : List Finding → List ℕ
@@ -81,9 +91,9 @@ findings_status [] = Zero
 findings_status (f ∷ found) = One
 
 -- the text and the status that an action means over what was loaded: `can-i` answers `yes` and 0,
--- or `no` and 1 (kubectl auth can-i); `who-can` answers a line for each holder, and 0; `matrix` a
--- page of the rows that are listed over a universe of the lists, and 0 (own); `lint` a line for each
--- finding, and 1 if there is one (own)
+-- or `no` and 1 (kubectl auth can-i); `who-can` answers a line for each holder, and 0; `rules` a line
+-- for each rule that somebody has, and 0 (own); `matrix` a page of the rows that are listed over a
+-- universe of the lists, and 0 (own); `lint` a line for each finding, and 1 if there is one (own)
 abbrev pub Answers : LoadedView → Action → List ℕ → Status → Type 0
 Answers l (CanI who quiet why q) text status =
     (IsAllowed l.policy.held l.catalogue.entries who q
@@ -92,9 +102,15 @@ Answers l (CanI who quiet why q) text status =
     × (status ≡ Zero))
     ⊎ (IsDenied l.policy.held l.catalogue.entries who q × (text ≡ line_unless quiet (codes "no"))
     × (status ≡ One))
-Answers l (WhoCan q) text status =
-    (xs : List HolderView) × AreHoldersMeant l.policy.held l.catalogue.entries q xs
-    × (text ≡ holders_text xs) × (status ≡ Zero)
+Answers l (WhoCan why q) text status =
+    (target : What) × (namespace : Text) × IsMeant l.catalogue.entries q target namespace
+    × ((xs : List HolderView) × (lines : List Text)
+    × AreHolders l.policy.held namespace q.verb target xs
+    × AreHolderLines l.policy why namespace q.verb target xs lines
+    × (text ≡ joined lines) × (status ≡ Zero))
+Answers l (Rules who scope) text status =
+    (xs : List RuleView) × AreEffective l.policy who (scope_asked scope) xs
+    × (text ≡ rules_text xs) × (status ≡ Zero)
 Answers l (Matrix every after limit) text status =
     (u : UniverseView) × (rows : List RowView) × IsUniverseOf l.lists u
     × AreListed every l.policy.held u rows

@@ -61,6 +61,14 @@ StopsInRows contents old page new after every m limit held u =
     (rows : List RowView) × AreListed every held u rows
     × StopsIn contents old page new after (listing_text every m limit rows)
 
+-- how printing such a page stops: out of memory before any of it, or within it
+abbrev pub StopsRows : {W : Type 0} → (W → Option (List ℕ)) → SinkView W → PageView → SinkView W
+    → PageView → Bool → Option Mark → Option ℕ → Held → UniverseView → PrintFault → Type 0
+StopsRows contents old page new after every m limit held u print.SinkFailed =
+    StopsInRows contents old page new after every m limit held u
+StopsRows contents old page new after every m limit held u print.NoMemory =
+    IsUntouched old page new after ⊎ StopsInRows contents old page new after every m limit held u
+
 -- the fault of a run that was stopped, with what the page has written
 abbrev pub fault_at : PageView → Stop → RunFault
 fault_at page (NoUniverse fault) = Universe fault

@@ -23,7 +23,7 @@ impl<'r, 'm> Listing<'r, 'm> {
     /// The rows of a matrix that come after a mark.
     pub(crate) fn after(matrix: &'r mut Matrix<'m, '_>, every: bool, mark: Option<&Mark>) -> Self
         requires { AreLent matrix.old }
-        ensures open { IsOpen result }
+        ensures going { IsOpen result }
         ensures every { is_every result ≡ every }
         ensures left { (rows : List RowView)
             × AreListed every matrix.old.index.now.held matrix.old.universe.now rows
@@ -44,7 +44,7 @@ impl<'r, 'm> Listing<'r, 'm> {
     /// The next row.
     pub(crate) fn next(&mut self) -> Option<Row<'m>>
         requires { IsOpen self.old }
-        ensures open { IsOpen self.new }
+        ensures going { IsOpen self.new }
         ensures every { is_every self.new ≡ is_every self.old }
         ensures gives { GivesNext self.old result self.new }
         ensures goes { MakesProgress IsOpen left_at_most self.old result self.new }

@@ -1,13 +1,12 @@
 //! The matrix, as an answer.
 
-ghost use Rattle.std.specs.Prelude.{◌≡◌, ◌⊎◌, length, false, IfOk, IfErr, OnOk, OnErr, IsErrOf};
-ghost use Rattle.std.specs.Prelude.{MatchResult};
+ghost use Rattle.std.specs.Prelude.{◌≡◌, length, false, IfOk, IfErr, OnOk, MatchResult};
 ghost use Rattle.std.specs.Option.{option_copied};
 ghost use Rattle.rbac_universe.specs.Sets.{IsUniverseOf, HasUniverseFault};
 ghost use Rattle.rbac_index.specs.Reaches.{AreReaches};
 ghost use Rattle.rbac_question.specs.declared.command.Action.TheVariants.{Matrix as ListsMatrix};
-ghost use Rattle.rbac_cli.specs.Printing.{PrintsAnswer, StopsPrinting, PrintsRows, StopsInRows};
-ghost use Rattle.rbac_cli.specs.Printing.{IsUntouched, is_sink_fault, is_sink_stop};
+ghost use Rattle.rbac_cli.specs.Printing.{PrintsAnswer, StopsPrinting, PrintsRows, StopsRows};
+ghost use Rattle.rbac_cli.specs.Printing.{is_sink_fault, is_sink_stop};
 
 use crate::listing::Listing;
 use crate::outcome::Status;
@@ -64,9 +63,8 @@ fn print_rows<W: Write + Drop>(
     ensures ok { OnOk result
         (PrintsRows W.contents sink.old page.old sink.new page.new
         every (option_copied after.entry) limit basis.now.index.held basis.now.universe) }
-    ensures err { OnErr result
-        ((IsErrOf result PrintFault.NoMemory × IsUntouched sink.old page.old sink.new page.new)
-        ⊎ StopsInRows W.contents sink.old page.old sink.new page.new
+    ensures err { IfErr result
+        (StopsRows W.contents sink.old page.old sink.new page.new
         every (option_copied after.entry) limit basis.now.index.held basis.now.universe) }
     ensures failed { sink.new.has_failed ≡ is_sink_fault result }
 {

@@ -41,7 +41,7 @@ pub(crate) fn print_page<W: Write + Drop>(
     sink: &mut Sink<W>,
     page: &mut Page,
 ) -> Result<(), PrintFault>
-    requires open { IsOpen listing.old }
+    requires going { IsOpen listing.old }
     requires works { sink.old.has_failed ≡ false }
     ensures ok { (all : List RowView) → AreLeftIn listing.old all
         → OnOk result (Prints W.contents sink.old page.old sink.new page.new
@@ -86,10 +86,10 @@ fn print_row<W: Write + Drop>(
     requires { sink.old.has_failed ≡ false }
     ensures ok { OnOk result
         (Prints W.contents sink.old page.old sink.new page.new
-        (row_text (texts_shown row) row.binding.now)) }
+        (row_text (texts_shown row.entry) row.entry.binding.now)) }
     ensures err { OnErr result
         (StopsIn W.contents sink.old page.old sink.new page.new
-        (row_text (texts_shown row) row.binding.now)) }
+        (row_text (texts_shown row.entry) row.entry.binding.now)) }
     ensures failed { sink.new.has_failed ≡ is_sink_fault result }
 {
     if put_line(row, line).is_err() {
@@ -100,7 +100,7 @@ fn print_row<W: Write + Drop>(
 
 // Replaces what `line` held with the row's line.
 fn put_line(row: Row<'_>, line: &mut Vec<u8>) -> Result<(), AllocError>
-    ensures { OnOk result (line.new.items ≡ row_text (texts_shown row) row.binding.now) }
+    ensures { OnOk result (line.new.items ≡ row_text (texts_shown row.entry) row.entry.binding.now) }
 {
     line.clear();
     let key = [
@@ -142,7 +142,7 @@ fn print_last<W: Write + Drop>(
 
 // Replaces what `line` held with `next`, the token of the row and the end of the line.
 fn put_next(alloc: Global, every: bool, row: Row<'_>, line: &mut Vec<u8>) -> Result<(), Stop>
-    ensures { OnOk result (line.new.items ≡ next_token every row ++ newline ∷ []) }
+    ensures { OnOk result (line.new.items ≡ next_token every row.entry ++ newline ∷ []) }
 {
     let mark = mark_of(alloc, every, row)?;
     let token = token_of_mark(alloc, &mark)?;
@@ -156,7 +156,7 @@ fn put_next(alloc: Global, every: bool, row: Row<'_>, line: &mut Vec<u8>) -> Res
 // The mark after which a listing goes on behind a row: its key, and its binding's name if every
 // binding is listed.
 fn mark_of(alloc: Global, every: bool, row: Row<'_>) -> Result<Mark, Stop>
-    ensures { IfOk result (λ mark. mark ≡ mark_shown every row) }
+    ensures { IfOk result (λ mark. mark ≡ mark_shown every row.entry) }
 {
     let key = row.key()?;
     let binding = if every {

@@ -4,8 +4,8 @@ ghost use Rattle.std.specs.Prelude.{◌≡◌, false, List, IfOk, IfErr, OnOk, O
 ghost use Rattle.rbac_streams.specs.Taken.{Prints, StopsIn};
 ghost use Rattle.rbac_question.specs.declared.command.Action.TheVariants.{Rules as ListsRules};
 ghost use Rattle.rbac_rules.specs.Effective.{RuleView};
-ghost use Rattle.rbac_rules.specs.Left.{AreLeft, rule_shown, scope_of as scope_asked};
-ghost use Rattle.rbac_cli.specs.Out.{rule_line, rules_text, scope_meant};
+ghost use Rattle.rbac_rules.specs.Left.{AreLeft, rule_shown, scope_of};
+ghost use Rattle.rbac_cli.specs.Out.{rule_line, rules_text, scope_asked};
 ghost use Rattle.rbac_cli.specs.Printing.{PrintsAnswer, StopsPrinting};
 ghost use Rattle.rbac_cli.specs.Printing.{is_sink_fault, is_sink_stop};
 
@@ -14,7 +14,7 @@ use crate::stop::Stop;
 use rbac_manifest::Export;
 use rbac_question::Scope;
 use rbac_rules::{
-    EffectiveRule, EffectiveRules, Scope as AskedScope, effective_rules,
+    EffectiveRule, EffectiveRules, Scope as AskedScope, effective_rules, effective_rules_are_there,
 };
 use rbac_streams::{Page, PrintFault, Sink};
 use rbac_terms::Principal;
@@ -40,7 +40,7 @@ pub(crate) fn print_rules<W: Write + Drop>(
         (ListsRules principal.now scope.now)) }
     ensures failed { sink.new.has_failed ≡ is_sink_stop result }
 {
-
+    effective_rules_are_there();
     let rules = effective_rules(export.policy(), principal, asked_scope(scope));
     print_lines(alloc, rules, sink, page)?;
     Ok(Status::Zero)
@@ -48,7 +48,7 @@ pub(crate) fn print_rules<W: Write + Drop>(
 
 // Where rules are asked for, as [`effective_rules`] takes it.
 fn asked_scope(scope: &Scope) -> AskedScope<'_>
-    ensures { scope_asked result ≡ scope_meant scope.now }
+    ensures { scope_of result ≡ scope_asked scope.now }
 {
     match scope {
         Scope::Everywhere => AskedScope::Everywhere,

@@ -1,9 +1,8 @@
 //! Who may do something, as an answer.
 
-ghost use Rattle.std.specs.Prelude.{◌≡◌, false, List, IfOk, IfErr, OnOk, OnErr};
-ghost use Rattle.std.specs.List.{flat_map};
+ghost use Rattle.std.specs.Prelude.{◌≡◌, ◌++◌, false, List, IfOk, IfErr, OnOk, OnErr};
 ghost use Rattle.rbac_terms.specs.Text.{Text};
-ghost use Rattle.rbac_model.specs.Holders.{AreHolders};
+ghost use Rattle.rbac_model.specs.Holders.{AreHolders, IsHolder};
 ghost use Rattle.rbac_index.specs.HolderViews.{holder_shown};
 ghost use Rattle.rbac_streams.specs.Taken.{Prints, StopsIn};
 ghost use Rattle.rbac_question.specs.declared.command.Action.TheVariants.{WhoCan};
@@ -87,13 +86,13 @@ fn print_lines<W: Write + Drop>(
 ) -> Result<(), PrintFault>
     requires { sink.old.has_failed ≡ false }
     ensures ok { (namespace : Text) (lines : List Text)
-        → AreHolders asked.policy.now.held namespace asked.verb.now asked.target.now holders.now
-        → AreHolderLines asked.policy.now asked.why namespace asked.verb.now asked.target.now
+        → AreHolders asked.entry.policy.now.held namespace asked.entry.verb.now asked.entry.target.now holders.now
+        → AreHolderLines asked.entry.policy.now asked.entry.why namespace asked.entry.verb.now asked.entry.target.now
         holders.now lines
         → OnOk result (Prints W.contents sink.old page.old sink.new page.new (joined lines)) }
     ensures err { (namespace : Text) (lines : List Text)
-        → AreHolders asked.policy.now.held namespace asked.verb.now asked.target.now holders.now
-        → AreHolderLines asked.policy.now asked.why namespace asked.verb.now asked.target.now
+        → AreHolders asked.entry.policy.now.held namespace asked.entry.verb.now asked.entry.target.now holders.now
+        → AreHolderLines asked.entry.policy.now asked.entry.why namespace asked.entry.verb.now asked.entry.target.now
         holders.now lines
         → OnErr result (StopsIn W.contents sink.old page.old sink.new page.new (joined lines)) }
     ensures failed { sink.new.has_failed ≡ is_sink_fault result }
@@ -117,11 +116,15 @@ fn print_holder<W: Write + Drop>(
 ) -> Result<(), PrintFault>
     requires { sink.old.has_failed ≡ false }
     ensures ok { (namespace : Text) (text : Text)
-        → IsHolderLine asked.policy.now asked.why namespace asked.verb.now asked.target.now
+        → IsHolder asked.entry.policy.now.held namespace asked.entry.verb.now asked.entry.target.now
+        (holder_shown holder.entry)
+        → IsHolderLine asked.entry.policy.now asked.entry.why namespace asked.entry.verb.now asked.entry.target.now
         (holder_shown holder.entry) text
         → OnOk result (Prints W.contents sink.old page.old sink.new page.new text) }
     ensures err { (namespace : Text) (text : Text)
-        → IsHolderLine asked.policy.now asked.why namespace asked.verb.now asked.target.now
+        → IsHolder asked.entry.policy.now.held namespace asked.entry.verb.now asked.entry.target.now
+        (holder_shown holder.entry)
+        → IsHolderLine asked.entry.policy.now asked.entry.why namespace asked.entry.verb.now asked.entry.target.now
         (holder_shown holder.entry) text
         → OnErr result (StopsIn W.contents sink.old page.old sink.new page.new text) }
     ensures failed { sink.new.has_failed ≡ is_sink_fault result }
@@ -134,7 +137,14 @@ fn print_holder<W: Write + Drop>(
 }
 
 // Adds the line of one holder.
-fn put_line(line: &mut Vec<u8>, asked: Asked<'_>, holder: Holder<'_>) -> Result<(), AllocError> {
+fn put_line(line: &mut Vec<u8>, asked: Asked<'_>, holder: Holder<'_>) -> Result<(), AllocError>
+    ensures { (namespace : Text) (text : Text)
+        → IsHolder asked.entry.policy.now.held namespace asked.entry.verb.now asked.entry.target.now
+        (holder_shown holder.entry)
+        → IsHolderLine asked.entry.policy.now asked.entry.why namespace asked.entry.verb.now asked.entry.target.now
+        (holder_shown holder.entry) text
+        → OnOk result (line.new.items ≡ line.old.items ++ text) }
+{
     if !asked.why {
         return put_holder(line, holder.principal, holder.binding);
     }

@@ -55,24 +55,32 @@ fn has_lines(
     got.as_slice() == all.as_slice()
 }
 
+const EVERYWHERE: &[&[u8]] = &[BY_ALL, BY_D, BY_O];
+
+const IN_DEV: &[&[u8]] = &[BY_ALL, BY_D];
+
+const CLUSTER_WIDE: &[&[u8]] = &[BY_ALL];
+
+// The same of the rules that she has in this namespace.
+fn has_lines_in(
+    rt: &impl Abort,
+    alloc: Global,
+    policy: &Policy,
+    namespace: &Word,
+    wanted: &[&[u8]],
+) -> bool {
+    has_lines(rt, alloc, policy, Scope::Namespace(namespace), wanted)
+}
+
 #[test]
 fn rules_are_listed_where_they_are_asked_for(rt: HostRuntime) {
     let alloc = rt.alloc();
     let policy = policy(&rt, alloc, TWO_RULES, FOUR_BINDINGS);
     let (dev, none) = (word(&rt, alloc, "dev"), Word::new(alloc));
-    let all: &[&[u8]] = &[BY_ALL];
-    assert!(rt;
-        has_lines(
-            &rt,
-            alloc,
-            &policy,
-            Scope::Everywhere,
-            &[BY_ALL, BY_D, BY_O]
-        )
-    );
-    assert!(rt; has_lines(&rt, alloc, &policy, Scope::Namespace(&dev), &[BY_ALL, BY_D]));
-    assert!(rt; has_lines(&rt, alloc, &policy, Scope::Namespace(&none), all));
-    assert!(rt; has_lines(&rt, alloc, &policy, Scope::ClusterWide, all));
+    assert!(rt; has_lines(&rt, alloc, &policy, Scope::Everywhere, EVERYWHERE));
+    assert!(rt; has_lines_in(&rt, alloc, &policy, &dev, IN_DEV));
+    assert!(rt; has_lines_in(&rt, alloc, &policy, &none, CLUSTER_WIDE));
+    assert!(rt; has_lines(&rt, alloc, &policy, Scope::ClusterWide, CLUSTER_WIDE));
 }
 
 const HOLDERS: &[u8] = b"\

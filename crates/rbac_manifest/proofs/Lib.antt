@@ -11,3 +11,4 @@ pub mod Outcomes
 pub mod Texts
 pub mod Replacing
 pub mod Unread
+pub mod AtOnce

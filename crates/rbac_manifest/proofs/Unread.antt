@@ -1,5 +1,5 @@
 -- A document less the members that aren't read says the same.
-use Rattle.std.proofs.Common.{◌≡◌, ℕ, ◌+◌, true, false, List, [], ◌∷◌, Bool, not, Option, Some, None, option_map, option_and_then, codes, refl, sym, ap, ap₂, ◌∙◌}
+use Rattle.std.proofs.Common.{◌≡◌, ℕ, ◌+◌, true, false, List, [], ◌∷◌, Bool, Option, Some, None, option_map, option_and_then, codes, refl, ap, ap₂, ◌∙◌}
 use Rattle.serde_json.specs.Data.{Data, null, boolean, number, string, array, object, Items, item}
 use Rattle.serde_json.specs.Find.{get}
 use Rattle.json_list.specs.Lean.{lean}

@@ -126,7 +126,7 @@ fn kinds_read() -> [Row; 15]
 }
 
 // What a list implies about the kind and version of its documents.
-#[derive(Clone, Copy, Drop)]
+#[derive(Clone, Copy, Drop, PartialEq, Eq)]
 pub(crate) enum Implied {
     Nothing,
     Role,
@@ -258,7 +258,7 @@ fn version_text<'v>(document: &'v Value, implied: Implied, kind: &str) -> Option
 
 // What a document of this version and kind is.
 #[tactic(auto, unfolding(crate::specs::Kinds::kind_named))]
-fn kind_named(version: &str, kind: &str) -> Kind
+pub(crate) fn kind_named(version: &str, kind: &str) -> Kind
     ensures { result ≡ kind_named version.now kind.now }
 {
     meaning_in(&kinds_read(), version, kind)

@@ -4,6 +4,7 @@
 #![tactic(auto)]
 
 mod api_list;
+mod at_once;
 mod binding;
 mod content;
 mod contents;

@@ -16,6 +16,7 @@ ghost use Rattle.rbac_model.specs.Lists.{IsAscendingBy};
 ghost use Rattle.rbac_model.specs.Kept.{AreKept};
 ghost use Rattle.rbac_model.specs.Policies.{Held, IsPolicy, HasTooMany, most_grants};
 
+use crate::at_once::{Halt, list_at_once};
 use crate::contents::Contents;
 use crate::fault::{Cause, LoadFault, Refusal};
 use crate::items::input_into;
@@ -163,9 +164,66 @@ fn file_into(alloc: Global, bytes: &[u8], contents: &mut Contents) -> Result<(),
     }
 }
 
-// What all inputs give, in order. Fails with the fault of the first document that has one.
+// Adds what a file gives to `contents`, in one pass, if it is an object with one list under
+// `items`.
+#[tactic(auto, using(crate::proofs::Json::json_in_text), unfolding(crate::specs::Load::file_refusal, crate::specs::Load::contents_of_file))]
+fn list_in_at_once(alloc: Global, bytes: &[u8], contents: &mut Contents) -> Result<bool, Halt>
+    ensures sound { IfOk result (λ is_list. IsTrue is_list → file_refusal bytes.now ≡ None) }
+    ensures contents { IfOk result (λ is_list. contents.new ≡ (if is_list
+        then with_contents contents.old (contents_of_file bytes.now) else contents.old)) }
+{
+    match from_utf8(bytes) {
+        Ok(text) => list_at_once(alloc, text, contents),
+        Err(_) => Ok(false),
+    }
+}
+
+// Adds what a file gives to `contents`, in one pass where it is a list.
+fn file_at_once(alloc: Global, bytes: &[u8], contents: &mut Contents) -> Result<(), Halt>
+    ensures sound { OnOk result (file_refusal bytes.now ≡ None) }
+    ensures contents { OnOk result
+        (contents.new ≡ with_contents contents.old (contents_of_file bytes.now)) }
+{
+    if list_in_at_once(alloc, bytes, contents)? {
+        return Ok(());
+    }
+    match file_into(alloc, bytes, contents) {
+        Ok(()) => Ok(()),
+        Err(refusal) => Err(Halt::from(refusal.cause)),
+    }
+}
+
+// What all inputs give, in order, each list read in one pass.
 #[tactic(auto, using(crate::proofs::ContentsLemmas::contents_next))]
+fn contents_at_once(alloc: Global, inputs: &[Input]) -> Result<Contents, Halt>
+    ensures sound { OnOk result (document_fault inputs.now ≡ None) }
+    ensures contents { IfOk result (λ g. g ≡ sorted_contents (all_contents inputs.now)) }
+{
+    let mut contents = Contents::new(alloc);
+    for (file, input) in inputs.iter().enumerate() {
+        file_at_once(alloc, input.as_bytes(), &mut contents)?;
+    }
+    Ok(contents)
+}
+
+// What all inputs give, in order. Fails with the fault of the first document that has one.
 fn contents_of(alloc: Global, inputs: &[Input]) -> Result<Contents, LoadFault>
+    ensures sound { OnOk result (document_fault inputs.now ≡ None) }
+    ensures contents { IfOk result (λ g. g ≡ sorted_contents (all_contents inputs.now)) }
+    ensures fault { IfErr result (λ e. e.cause ≢ NoMemory → document_fault inputs.now ≡ Some e) }
+    ensures memory { IfErr result (λ e. e.cause ≡ NoMemory → e.at ≡ None) }
+{
+    match contents_at_once(alloc, inputs) {
+        Ok(contents) => Ok(contents),
+        Err(Halt::NoMemory) => Err(LoadFault::no_memory()),
+        Err(Halt::GiveUp) => contents_or_fault(alloc, inputs),
+    }
+}
+
+// What all inputs give, in order. Fails with the fault of the first document that has one, of which
+// it names the place: a list is read in several passes.
+#[tactic(auto, using(crate::proofs::ContentsLemmas::contents_next))]
+fn contents_or_fault(alloc: Global, inputs: &[Input]) -> Result<Contents, LoadFault>
     ensures sound { OnOk result (document_fault inputs.now ≡ None) }
     ensures contents { IfOk result (λ g. g ≡ sorted_contents (all_contents inputs.now)) }
     ensures fault { IfErr result (λ e. e.cause ≢ NoMemory → document_fault inputs.now ≡ Some e) }

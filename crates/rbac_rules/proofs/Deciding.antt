@@ -1,5 +1,5 @@
 -- the rules that somebody has decide what they may do
-use Rattle.std.proofs.Common.{◌≡◌, ◌∙◌, ℕ, ◌<◌, List, [], ◌∷◌, ◌⊎◌, inl, inr, sym, ap, subst, refl, arith, zero, suc, slice_get, Any}
+use Rattle.std.proofs.Common.{◌≡◌, ◌∙◌, ℕ, List, [], ◌∷◌, ◌⊎◌, inl, inr, sym, ap, subst, refl, arith, zero, suc, slice_get, Any}
 use Rattle.std.specs.Prelude.{Option, Some, None}
 use Rattle.std.proofs.lemmas.Option.{same_Some, slice_get_within, get_or_from_slice_get, slice_get-get_or}
 use Rattle.rbac_terms.specs.Text.{Text}
@@ -10,6 +10,7 @@ use Rattle.rbac_model.specs.Lists.{IsFirstAt}
 use Rattle.rbac_model.specs.Policies.{PolicyView, IsPolicy, GrantView, GrantAllows, Allows, Live}
 use Rattle.rbac_model.proofs.GrantNumbers.{some_grant, binding_of}
 use Rattle.rbac_rules.specs.Effective.{ScopeView, Everywhere, InNamespace, ClusterWide, RuleView, IsInForce, Has, IsByFirstSubject, AreRulesBy, AreEffective, AllowsThere, Decide, Explain}
+use Rattle.rbac_rules.proofs.RuleLists.{later_first}
 
 split : (P : RuleView → Type 0) (x : RuleView) (xs : List RuleView) → Any P (x ∷ xs) → P x ⊎ Any P xs
 split P x xs (zero, y, l, at, h) = inl (subst P (sym at) h)
@@ -40,17 +41,6 @@ module _ (who : Who) (scope : ScopeView) (P : GrantView → Type 0) where
         let r = of_grant gs a.1.1 a.1.4 later in
         (suc r.0, r.1, r.2, r.3, r.4)
   ]
-
-later_first : {X : Type 0} (P : X → Type 0) (y : X) (ys : List X) (i : ℕ) (x : X) → ¬ P y → IsFirstAt P ys i x → IsFirstAt P (y ∷ ys) (suc i) x
-later_first {X} P y ys i x not first = record {
-  here = first.here;
-  holds = first.holds;
-  none_before = earlier;
-}
-  where
-    earlier : (k : ℕ) (z : X) → k < suc i → slice_get (y ∷ ys) k ≡ Some z → ¬ P z
-    earlier zero z lt read h = not (subst P (sym (same_Some y z read)) h)
-    earlier (suc k) z lt read h = first.none_before k z (omega (arith, lt)) read h
 
 in_namespace : (namespace : Text) (own : Option Text) (t : What) → Live own namespace t → IsInForce (InNamespace namespace) own
 in_namespace namespace None t live = tt

@@ -1,3 +1,4 @@
+pub mod Decided
 pub mod Deciding
 pub mod RuleLists
 pub mod Running

@@ -4,7 +4,7 @@ use Rattle.std.specs.Prelude.{Some, ◌↔◌}
 use Rattle.std.proofs.Math.Seq.{drop-cons}
 use Rattle.std.proofs.lemmas.Bool.{cases_order}
 use Rattle.std.proofs.lemmas.List.{drop_all}
-use Rattle.std.proofs.lemmas.Option.{slice_get_within, get_or_from_slice_get}
+use Rattle.std.proofs.lemmas.Option.{same_Some, slice_get_within, get_or_from_slice_get}
 use Rattle.rbac_terms.specs.Principals.{Who}
 use Rattle.rbac_terms.specs.Granting.{Names}
 use Rattle.rbac_terms.specs.declared.granting.Subject.{Subject}
@@ -12,6 +12,18 @@ use Rattle.rbac_terms.proofs.Reading.{read_some}
 use Rattle.rbac_model.specs.Lists.{IsFirstAt}
 use Rattle.rbac_model.specs.Policies.{GrantView}
 use Rattle.rbac_rules.specs.Effective.{ScopeView, RuleView, Has, IsByFirstSubject, AreRulesBy}
+
+-- what is first in a list is so after one more that hasn't the property
+pub later_first : {X : Type 0} (P : X → Type 0) (y : X) (ys : List X) (i : ℕ) (x : X) → ¬ P y → IsFirstAt P ys i x → IsFirstAt P (y ∷ ys) (suc i) x
+later_first {X} P y ys i x not first = record {
+  here = first.here;
+  holds = first.holds;
+  none_before = earlier;
+}
+  where
+    earlier : (k : ℕ) (z : X) → k < suc i → slice_get (y ∷ ys) k ≡ Some z → ¬ P z
+    earlier zero z lt read h = not (subst P (sym (same_Some y z read)) h)
+    earlier (suc k) z lt read h = first.none_before k z (omega (arith, lt)) read h
 
 one_place : {X : Type 0} (P : X → Type 0) (xs : List X) (i j : ℕ) (x y : X) → IsFirstAt P xs i x → IsFirstAt P xs j y → i ≡ j
 one_place P xs i j x y f g = elim (cases_order i j) [

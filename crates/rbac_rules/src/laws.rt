@@ -14,6 +14,13 @@ pub fn effective_rules_are_one()
         → AreEffective p who scope xs → AreEffective p who scope others → xs ≡ others }
 {}
 
+/// There are rules of everybody, wherever they are asked for: a list, which may be empty (own). So
+/// what was printed of them, when printing stopped, is a part of one.
+pub fn effective_rules_are_there()
+    ensures { (p : PolicyView) (who : Who) (scope : ScopeView)
+        → (xs : List RuleView) × AreEffective p who scope xs }
+{}
+
 /// Somebody may use a verb on a target in a namespace exactly if one of the rules that they have
 /// there, or of those that they have anywhere, allows it and is live there for the target. In no
 /// namespace, as for a URL, their ClusterRoleBindings' rules decide (Using RBAC Authorization).

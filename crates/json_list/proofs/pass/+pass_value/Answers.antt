@@ -1,9 +1,9 @@
-use Rattle.std.proofs.Common.{◌≡◌, ◌<◌, ◌∷◌, ◌++◌, [], List, length, Some, None, sym, ap, ◌∙◌, arith}
+use Rattle.std.proofs.Common.{◌≡◌, ◌<◌, ◌∷◌, ◌++◌, [], length, Some, None, ap, ◌∙◌, arith}
 use Rattle.json.specs.Token.{Token}
 use Rattle.json.specs.Reads.{token_of}
 use Rattle.json.specs.Json.{after_end_array, read_key}
-use Rattle.json.proofs.Grammar.{after_end_array-shorter, read_key-shorter}
-use Rattle.serde_json.specs.Data.{Data, null, boolean, string, no_members, put}
+use Rattle.json.proofs.Grammar.{read_key-shorter}
+use Rattle.serde_json.specs.Data.{null, boolean, string, no_members, put}
 use Rattle.serde_json.specs.View.{view, items_of}
 use Rattle.json_list.specs.Values.{value_read}
 use Rattle.json_list.proofs.Values.{items_over, item_found, item_refused, members_begin, members_over, key_refused, member_found, member_refused, array_read, object_read, arrays, objects, no_array_read, no_object_read, null_read, boolean_read, string_read, number_is, number_refused, end_array_refused, end_object_refused, key_first_refused, bad_refused, nothing_refused, array_passed, object_passed}

@@ -13,7 +13,7 @@ returns-in-Err-clause-err g c =
     let found = c.args.findings.now in
     let f = c.finding-item.result in
     line_stopped line_of g.W.Write.contents found c.loop-finding.finding-index f (slice_get_read found (length found) c.loop-finding.finding-index f refl c.loop-finding-test.true c.finding-item.is)
-    c.args.sink.now c.loop-finding.sink c.print_line.new.sink c.args.page.now c.loop-finding.page c.print_line.new.page c.loop-finding.invariant.1 c.in-Err.ensures.err
+    c.args.sink.now c.loop-finding.sink c.print_finding.new.sink c.args.page.now c.loop-finding.page c.print_finding.new.page c.loop-finding.invariant.1 c.in-Err.ensures.err
 
 pub loop-finding-preserved : goal.loop-finding-preserved
 loop-finding-preserved g c =
@@ -21,7 +21,7 @@ loop-finding-preserved g c =
     let f = c.finding-item.result in (
       c.in_default.ensures.failed,
       line_printed line_of g.W.Write.contents found c.loop-finding.finding-index f (slice_get_read found (length found) c.loop-finding.finding-index f refl c.loop-finding-test.true c.finding-item.is)
-          c.args.sink.now c.loop-finding.sink c.print_line.new.sink c.args.page.now c.loop-finding.page c.print_line.new.page c.loop-finding.invariant.1 c.in_default.ensures.ok,
+          c.args.sink.now c.loop-finding.sink c.print_finding.new.sink c.args.page.now c.loop-finding.page c.print_finding.new.page c.loop-finding.invariant.1 c.in_default.ensures.ok,
     )
 
 pub returns-clause-ok : goal.returns-clause-ok

@@ -6,7 +6,7 @@ use Rattle.rbac_cli.proofs.pages.print_page.Given as goal
 
 abbrev pub invariant-loop-row : goal.invariant-loop-row
 invariant-loop-row g l = record {
-  open : IsOpen l.listing;
+  going : IsOpen l.listing;
   works : l.sink.has_failed ≡ false;
   goes : (all : List RowView) → AreLeftIn l.fn.listing all → GoesTo g.W.Write.contents l.fn.sink l.fn.page l.sink l.page l.listing l.fn.limit l.left l.last all;
 }

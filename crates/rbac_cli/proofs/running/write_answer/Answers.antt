@@ -5,8 +5,8 @@ use Rattle.rbac_cli.proofs.running.write_answer.Goals as goal
 
 pub returns-in-Err-clause-ends : goal.returns-in-Err-clause-ends
 returns-in-Err-clause-ends g c =
-    stopped g.W.Write.contents c.args.sink.now c.print_answer.new.sink c.args.page.now c.print_answer.new.page
-    c.args.export.now c.args.action.now c.requires.printed c.requires.took c.requires.empty c.in-Err.fault c.in-Err.ensures.err
+    rw c.fault.ensures (stopped g.W.Write.contents c.args.sink.now c.print_answer.new.sink c.args.page.now c.print_answer.new.page
+    c.args.export.now c.args.action.now c.requires.printed c.requires.took c.requires.empty c.in-Err.stop c.in-Err.ensures.err)
 
 pub returns-in-Ok-flush-clause-ends : goal.returns-in-Ok-flush-clause-ends
 returns-in-Ok-flush-clause-ends g c =
@@ -20,6 +20,6 @@ returns-in-Ok-flush-clause-ends g c =
 pub returns-in-Err-flush-clause-ends : goal.returns-in-Err-flush-clause-ends
 returns-in-Err-flush-clause-ends g c =
     let ok = c.in-Ok.ensures.ok in
-    rw c.fault_of.ensures (stopped_at g.W.Write.contents c.args.sink.now c.flush.new.sink c.flush.new.self
+    rw (c.fault-in-Err-flush.ensures, c.from.ensures) (stopped_at g.W.Write.contents c.args.sink.now c.flush.new.sink c.flush.new.self
     c.args.export.now c.args.action.now ok.0 c.in-Ok.status c.in-Err-flush.fault ok.1
     (c.in-Err-flush.ensures.err c.args.sink.now _ (ok.2 c.args.sink.now [] c.requires.printed)))

@@ -11,13 +11,13 @@ line_of x = holder_text x.key x.binding
 pub returns-in-Err-clause-err : goal.returns-in-Err-clause-err
 returns-in-Err-clause-err g c =
     line_stopped line_of g.W.Write.contents c.args.holders.now c.loop-place.place (holder_shown c.get.result) c.get.ensures
-    c.args.sink.now c.loop-place.sink c.print_line.new.sink c.args.page.now c.loop-place.page c.print_line.new.page c.loop-place.invariant.1 c.in-Err.ensures.err
+    c.args.sink.now c.loop-place.sink c.print_holder.new.sink c.args.page.now c.loop-place.page c.print_holder.new.page c.loop-place.invariant.1 c.in-Err.ensures.err
 
 pub loop-place-preserved : goal.loop-place-preserved
 loop-place-preserved g c = (
   c.in_default.ensures.failed,
   line_printed line_of g.W.Write.contents c.args.holders.now c.loop-place.place (holder_shown c.get.result) c.get.ensures
-      c.args.sink.now c.loop-place.sink c.print_line.new.sink c.args.page.now c.loop-place.page c.print_line.new.page c.loop-place.invariant.1 c.in_default.ensures.ok,
+      c.args.sink.now c.loop-place.sink c.print_holder.new.sink c.args.page.now c.loop-place.page c.print_holder.new.page c.loop-place.invariant.1 c.in_default.ensures.ok,
 )
 
 pub returns-clause-ok : goal.returns-clause-ok

@@ -1,7 +1,7 @@
 use Rattle.std.proofs.Common.{◌≡◌, drop}
 use Rattle.rbac_manifest.specs.Contents.{sorted_contents, with_contents}
 use Rattle.rbac_manifest.specs.Load.{fault_from, all_contents}
-use Rattle.rbac_manifest.proofs.loading.contents_of.Given as goal
+use Rattle.rbac_manifest.proofs.loading.contents_or_fault.Given as goal
 
 abbrev pub invariant-loop-file : goal.invariant-loop-file
 invariant-loop-file l =

@@ -1,0 +1,36 @@
+use Rattle.std.proofs.Common.{◌≡◌, [], Some, None, string_bytes, bytes_eq, false, sym, ap, ◌∙◌, subst, arith, rules}
+use Rattle.json.specs.Json.{read_key}
+use Rattle.serde_json.specs.Data.{put}
+use Rattle.serde_json.specs.View.{view, members_view}
+use Rattle.serde_json.proofs.Views.{members_view-insert_entry}
+use Rattle.json_list.specs.List.{items_name}
+use Rattle.json_list.proofs.OnePass.{Adds, begun, added, are_the_rest}
+use Rattle.json_list.proofs.one_pass.read_rest.Goals as goal
+
+pub members-init : goal.members-init
+members-init c = begun (members_view c.args.before.entries) c.args.reader.now
+
+pub members-preserved : goal.members-preserved
+members-preserved c =
+    let l = c.members in
+    let start = members_view c.args.before.entries in
+    let old = members_view l.others.entries in
+    let k = c.in-Some.name.now in
+    let s = c.next_key.new.self in
+    let r = c.read_value.new.reader in
+    let v = c.in_ok-member.member in
+    let key : read_key l.reader ≡ Some (Some k, s) = grind arith in
+    let other : bytes_eq k items_name ≡ false = sym c.if-eq.ensures in
+    let copied : string_bytes c.in_ok-key.key ≡ k = search rules in
+    let inserted : members_view c.insert.new.self.entries ≡ put k (view v) old =
+    ap members_view c.in_ok-insert.ensures.entries ∙ members_view-insert_entry l.others.entries c.in_ok-key.key v ∙ ap (λ name. put name (view v) old) copied in
+    subst (Adds start c.args.reader.now r) (sym inserted)
+    (added start c.args.reader.now l.reader old l.invariant k s key other (view v) r c.in_ok-member.ensures.read c.in_ok-member.ensures.shorter)
+
+pub returns : goal.returns
+returns c =
+    let l = c.members in
+    let r = c.next_key.new.self in
+    let over : read_key l.reader ≡ Some (None, r) = grind arith in
+    let last : r ≡ [] = search rules in
+    are_the_rest (members_view c.args.before.entries) c.args.reader.now l.reader (members_view l.others.entries) l.invariant r over last

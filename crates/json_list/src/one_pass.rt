@@ -1,0 +1,157 @@
+//! A list read in one pass: the members before its items, the items, the members after them.
+
+ghost use Rattle.std.specs.Prelude.{◌≡◌, ◌<◌, length, option_map, Some, IfOk, IfSome, MatchOption};
+ghost use Rattle.serde_json.specs.Data.{Data, no_items, item};
+ghost use Rattle.serde_json.specs.View.{view, members_view};
+ghost use Rattle.json_list.specs.Lean.{lean};
+ghost use Rattle.json_list.specs.OnePass.{items_and_rest, AreTheRest, IsReadUpTo};
+ghost use Rattle.json_list.specs.Places.{AreBefore};
+
+use crate::fault::ReadFault;
+use crate::items::ITEM_DEPTH;
+use crate::kept::Kept;
+use crate::list::{ITEMS, MEMBER_DEPTH, object_in, take_begin_array};
+use crate::value::{read_kept, read_value};
+use json::{Reader, Scratch};
+use serde_json::{Map, Value};
+use std::alloc::Global;
+use std::marker::Model;
+
+/// An object with a list under `items`, read up to that list.
+#[derive(Drop)]
+pub struct ListFront<'a> {
+    /// The members before the list.
+    pub before: Map<String, Value>,
+    /// The items, and the members after them.
+    pub unread: Unread<'a>,
+}
+
+/// What is left of a text. A clause sees its tokens.
+#[derive(Drop)]
+pub struct Unread<'a> {
+    reader: Reader<'a>,
+}
+
+impl<'a> Model for Unread<'a> {
+    ghost use Rattle.std.specs.Prelude.{List};
+    ghost use Rattle.json.specs.Token.{Token as SpecToken, tokens_code};
+
+    ghost Value = { List SpecToken };
+
+    ghost coded = { tokens_code };
+
+    ghost view = { λ a. a.reader };
+}
+
+impl<'a> Unread<'a> {
+    /// What is kept of the next item; None after the last one, and then `rest` has the members
+    /// after the list.
+    ///
+    /// # Errors
+    ///
+    /// If the item can't be read. `open_list` tells what is wrong.
+    pub fn next_item<K: Kept>(&mut self, alloc: Global, kept: K) -> Result<Option<Value>, ReadFault>
+        ensures next { IfOk result (λ next. MatchOption next
+            (items_and_rest self.old ≡ Some (no_items, self.new))
+            (λ v. (d : Data) × (view v ≡ lean K.under kept d) × (items_and_rest self.old
+            ≡ option_map (λ p. (item d p.0, p.1)) (items_and_rest self.new)))) }
+        ensures shorter { IfOk result
+            (λ next. IfSome next (λ _. length self.new < length self.old)) }
+    {
+        if self.reader.take_end_array() {
+            return Ok(None);
+        }
+        Ok(Some(read_kept(alloc, &mut self.reader, ITEM_DEPTH, kept)?))
+    }
+
+    /// The members beside the list: those before it, and those after it. None if another of them is
+    /// `items`, or if the text goes on after the object.
+    ///
+    /// # Errors
+    ///
+    /// If a member can't be read. `open_list` tells what is wrong.
+    pub fn rest(
+        &mut self,
+        alloc: Global,
+        before: Map<String, Value>,
+    ) -> Result<Option<Map<String, Value>>, ReadFault>
+        ensures { IfOk result (λ o. IfSome o (λ others.
+            AreTheRest (members_view before.entries) self.old (members_view others.entries))) }
+    {
+        read_rest(alloc, &mut self.reader, before)
+    }
+}
+
+// The members of an object beside its list, of which those before it were read.
+fn read_rest(
+    alloc: Global,
+    reader: &mut Reader<'_>,
+    before: Map<String, Value>,
+) -> Result<Option<Map<String, Value>>, ReadFault>
+    ensures { IfOk result (λ o. IfSome o (λ others.
+        AreTheRest (members_view before.entries) reader.old (members_view others.entries))) }
+{
+    let mut others = before;
+    'members: while let Some(name) = reader.next_key()? {
+        if name == ITEMS {
+            return Ok(None);
+        }
+        let key = String::from_str(alloc, name)?;
+        let member = read_value(alloc, reader, MEMBER_DEPTH)?;
+        drop(others.insert(key, member)?);
+    }
+    if reader.next().is_some() {
+        return Ok(None);
+    }
+    Ok(Some(others))
+}
+
+// The members of an object before a list under `items`; None if the first `items` isn't a list.
+fn read_before(
+    alloc: Global,
+    reader: &mut Reader<'_>,
+) -> Result<Option<Map<String, Value>>, ReadFault>
+    ensures { IfOk result (λ o. IfSome o (λ before.
+        AreBefore reader.old (members_view before.entries) reader.new)) }
+{
+    let mut before = Map::new(alloc);
+    'members: while let Some(name) = reader.next_key()? {
+        if name == ITEMS {
+            if take_begin_array(reader) {
+                return Ok(Some(before));
+            }
+            return Ok(None);
+        }
+        let key = String::from_str(alloc, name)?;
+        let member = read_value(alloc, reader, MEMBER_DEPTH)?;
+        drop(before.insert(key, member)?);
+    }
+    Ok(None)
+}
+
+/// The list that a text is, read up to its items (own). None says nothing of the text: then
+/// [`open_list`](crate::open_list) has to tell what it is. `scratch` is where texts with escapes
+/// are kept; it grows to the length of the text.
+///
+/// # Errors
+///
+/// If a member before the list can't be read. `open_list` tells what is wrong.
+pub fn open_front<'a>(
+    alloc: Global,
+    text: &'a str,
+    scratch: &'a mut Scratch,
+) -> Result<Option<ListFront<'a>>, ReadFault>
+    ensures { IfOk result (λ o. IfSome o (λ front.
+        IsReadUpTo text.now (members_view front.before.entries) front.unread)) }
+{
+    let Some(mut reader) = object_in(text, scratch)? else {
+        return Ok(None);
+    };
+    let Some(before) = read_before(alloc, &mut reader)? else {
+        return Ok(None);
+    };
+    Ok(Some(ListFront {
+        before,
+        unread: Unread { reader },
+    }))
+}
