@@ -6,6 +6,7 @@ Texts and statuses on the real streams, files that can't be read, full disks, in
 """
 
 import base64
+import itertools
 import json
 import os
 import resource
@@ -306,6 +307,10 @@ def limits():
     many = [cluster_role('r', [PODS] * 1000)]
     many += [binding('ClusterRoleBinding', 'b%04d' % i, 'ClusterRole', 'r') for i in range(1001)]
     expect('1,000 rules by 1,000 bindings', ALICE_GETS_PODS, 0, b'yes\n', given=export(*many[:-1]))
+    lines = ('ClusterRoleBinding/b%04d\tClusterRole/r\tClusterRole/r\t%d\t1\t[get]\t[-]\t[pods]\t[]\t[]\n' % place
+             for place in itertools.product(range(1000), range(1, 1001)))
+    got = run(['rules', 'u:alice'], export(*many[:-1]))
+    checked('a million rules', got.returncode == 0 and got.stdout == ''.join(lines).encode(), repr(got.stdout[:300]))
     expect('1,000 rules by 1,001 bindings', ALICE_GETS_PODS, 2, err=b'rbacaudit: M11 too many grants\n',
            given=export(*many))
 
