@@ -8,7 +8,7 @@ use Rattle.serde_json.specs.Data.{Data, no_items, item}
 use Rattle.serde_json.specs.Read.{converted, of_json, of_items}
 use Rattle.json_list.specs.List.{items_ahead, IsRead, IsUnread}
 use Rattle.json_list.specs.OnePass.{items_and_rest}
-use Rattle.json_list.proofs.Values.{item_first}
+use Rattle.json_list.proofs.Values.{item_first, no_first}
 
 -- ---- the bound on the turns plays no part
 
@@ -88,3 +88,12 @@ next_before ts r d going is less =
     let turn = items_more (json.value 125) (length ts) ts r is.0 (omega arith) going is.1 in
     let same = any_bound (json.value 125) (skip_value-shorter 125) (length ts - 1) (length r) r (omega arith) (omega arith) in
     ap (converted of_items) (turn ∙ ap (parse_map (json.item is.0)) same) ∙ item_first is.0 d (json.items (json.value 125) (length r) r) is.2
+
+refused_before_at : (ts : List Token) (o : Option (json.Json × List Token)) → json.value 125 ts ≡ o → after_end_array ts ≡ None → IsUnread 125 ts → items_and_rest ts ≡ None
+refused_before_at ts None is going unread = ap (converted of_items) (items_fail (json.value 125) (length ts) ts going is)
+refused_before_at ts (Some (j, r)) is going unread =
+    let less = skip_value-shorter 125 ts r (ap left is) in
+    ap (converted of_items) (items_more (json.value 125) (length ts) ts r j (omega arith) going is) ∙ no_first j _ (unread j r is)
+
+pub refused_before : (ts : List Token) → after_end_array ts ≡ None → IsUnread 125 ts → items_and_rest ts ≡ None
+refused_before ts going unread = refused_before_at ts (json.value 125 ts) refl going unread

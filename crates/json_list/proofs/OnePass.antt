@@ -7,11 +7,11 @@ use Rattle.json.specs.Json.{Parse, parse_map, read_key, members_step}
 use Rattle.json.proofs.Grammar.{left, Takes, skip_value-shorter, read_key-shorter, value-begin_array}
 use Rattle.serde_json.specs.Data.{Data, array, Members, no_members, put}
 use Rattle.serde_json.specs.Read.{converted, of_json, of_items, of_members}
-use Rattle.json_list.specs.List.{items_name, values_of, IsRead}
+use Rattle.json_list.specs.List.{items_name, values_of, IsRead, IsUnread}
 use Rattle.json_list.specs.OnePass.{AreTheRest}
 use Rattle.json_list.specs.Places.{AreBefore}
 use Rattle.json_list.proofs.Puts.{put_in_either_order}
-use Rattle.json_list.proofs.Walks.{Passed, none_passed, over, one_more}
+use Rattle.json_list.proofs.Walks.{Passed, none_passed, no_key, over, one_more, next}
 
 -- ---- what was read, and what it was read from
 
@@ -64,6 +64,10 @@ module _ (p : Parse json.Json) (takes : Takes p) where
   any_turns (suc n) zero ts le also = at_nothing (suc n) zero ts also
   any_turns (suc n) (suc m) ts le also = one_turn n m ts (read_key ts) refl (λ r less. any_turns n m r (omega arith) (omega arith))
 
+abbrev left_or : {A : Type 0} → Option (A × List Token) → List Token
+left_or None = []
+left_or (Some p) = p.1
+
 -- ---- members other than `items`
 
 -- since `first` members other than `items` were passed, with which those at the start are these
@@ -91,6 +95,39 @@ module _ (start : Members) (first ts : List Token) (found : Members) (so_far : A
     so_far.2 json.no_members,
     so_far.3 json.no_members,
   )
+
+  -- ---- where they aren't the rest
+
+  -- if an object is read with no `items`, none of its members is `items`
+  no_rest_at : (others : Members) → AreTheRest start first others → (k : List ℕ) (s : List Token) → read_key ts ≡ Some (Some k, s) → (j : json.Json) × (r : List Token) × (ms : json.Members)
+      × (json.value 126 s ≡ Some (j, r)) × (values_of items_name (json.member k j ms) ≡ []) × (of_members (json.member k j ms) found ≡ Some others)
+  no_rest_at others are k s key =
+      let it = next first ts so_far.0 so_far.1 k s key are.0 [] are.1 in (
+        it.0,
+        it.1,
+        it.2,
+        it.3,
+        sym (so_far.2 (json.member k it.0 it.2)) ∙ ap (values_of items_name) (sym it.4) ∙ are.2,
+        sym (so_far.3 (json.member k it.0 it.2)) ∙ ap (λ ms. of_members ms start) (sym it.4) ∙ are.3,
+      )
+
+  pub items_again : (k : List ℕ) (s : List Token) → read_key ts ≡ Some (Some k, s) → bytes_eq k items_name ≡ true → (others : Members) → AreTheRest start first others → ⊥
+  items_again k s key is_items others are =
+      let it = no_rest_at others are k s key in
+      let never : it.0 ∷ values_of items_name it.2 ≡ [] = sym (ap (λ b. cond b (it.0 ∷ values_of items_name it.2) (values_of items_name it.2)) is_items) ∙ it.4 in
+      absurd (cc)
+
+  pub bad_member : (k : List ℕ) (s : List Token) → read_key ts ≡ Some (Some k, s) → IsUnread 126 s → (others : Members) → AreTheRest start first others → ⊥
+  bad_member k s key unread others are =
+      let it = no_rest_at others are k s key in
+      let never : None ≡ Some others = sym (ap (option_and_then (λ d. of_members it.2 (put k d found))) (unread it.0 it.1 it.3)) ∙ it.5 in
+      absurd (cc)
+
+  pub bad_key : read_key ts ≡ None → (others : Members) → AreTheRest start first others → ⊥
+  bad_key e others are = let never = sym (no_key first ts so_far.0 so_far.1 e) ∙ are.1 in absurd (cc)
+
+  pub text_goes_on : (r : List Token) → read_key ts ≡ Some (None, r) → (r ≡ [] → ⊥) → (others : Members) → AreTheRest start first others → ⊥
+  text_goes_on r key more others are = more (ap left_or (sym (over first ts so_far.0 so_far.1 r key) ∙ are.1))
 
 -- ---- `items`, before other members or after them
 

@@ -61,7 +61,7 @@ pub item_first : (j : json.Json) (d : Data) (o : Option (json.Items × List Toke
 item_first j d None is = refl
 item_first j d (Some p) is = ap (λ r. followed_by p.1 (option_and_then (λ e. option_map (item e) (of_items p.0)) r)) is ∙ with_first d p.1 (of_items p.0)
 
-no_first : (j : json.Json) (o : Option (json.Items × List Token)) → of_json j ≡ None → converted of_items (parse_map (json.item j) o) ≡ None
+pub no_first : (j : json.Json) (o : Option (json.Items × List Token)) → of_json j ≡ None → converted of_items (parse_map (json.item j) o) ≡ None
 no_first j None is = refl
 no_first j (Some p) is = ap (λ r. followed_by p.1 (option_and_then (λ e. option_map (item e) (of_items p.0)) r)) is
 

@@ -1,11 +1,15 @@
 //! A list read in one pass: the members before its items, the items, the members after them.
 
-ghost use Rattle.std.specs.Prelude.{◌≡◌, ◌<◌, length, option_map, Some, IfOk, IfSome, MatchOption};
-ghost use Rattle.serde_json.specs.Data.{Data, no_items, item};
+ghost use Rattle.std.specs.Prelude.{◌≡◌, ◌<◌, length, option_map, Some, None, Err, IfOk};
+ghost use Rattle.std.specs.Prelude.{IfSome, MatchOption};
+ghost use Rattle.serde_json.specs.Data.{Data, Members, no_items, item};
 ghost use Rattle.serde_json.specs.View.{view, members_view};
 ghost use Rattle.json_list.specs.Lean.{lean};
 ghost use Rattle.json_list.specs.OnePass.{items_and_rest, AreTheRest, IsReadUpTo};
-ghost use Rattle.json_list.specs.Places.{AreBefore};
+ghost use Rattle.serde_json.specs.Read.{read};
+ghost use Rattle.json_list.specs.List.{IsList};
+ghost use Rattle.json_list.specs.Places.{AreBefore, AreRefused, HasOneList};
+ghost use Rattle.json_list.specs.declared.fault.ReadFault.TheVariants.{Refused};
 
 use crate::fault::ReadFault;
 use crate::items::ITEM_DEPTH;
@@ -45,11 +49,11 @@ impl<'a> Model for Unread<'a> {
 
 impl<'a> Unread<'a> {
     /// What is kept of the next item; None after the last one, and then `rest` has the members
-    /// after the list.
+    /// after the list (own).
     ///
     /// # Errors
     ///
-    /// If the item can't be read. `open_list` tells what is wrong.
+    /// Refused only if the rest of the list can't be read.
     pub fn next_item<K: Kept>(&mut self, alloc: Global, kept: K) -> Result<Option<Value>, ReadFault>
         ensures next { IfOk result (λ next. MatchOption next
             (items_and_rest self.old ≡ Some (no_items, self.new))
@@ -57,6 +61,7 @@ impl<'a> Unread<'a> {
             ≡ option_map (λ p. (item d p.0, p.1)) (items_and_rest self.new)))) }
         ensures shorter { IfOk result
             (λ next. IfSome next (λ _. length self.new < length self.old)) }
+        ensures refused { result ≡ Err Refused → items_and_rest self.old ≡ None }
     {
         if self.reader.take_end_array() {
             return Ok(None);
@@ -64,19 +69,23 @@ impl<'a> Unread<'a> {
         Ok(Some(read_kept(alloc, &mut self.reader, ITEM_DEPTH, kept)?))
     }
 
-    /// The members beside the list: those before it, and those after it. None if another of them is
-    /// `items`, or if the text goes on after the object.
+    /// The members beside the list: those before it, and those after it (own). None only if another
+    /// of them is `items`, or if the text goes on after the object.
     ///
     /// # Errors
     ///
-    /// If a member can't be read. `open_list` tells what is wrong.
+    /// Refused only if a member can't be read.
     pub fn rest(
         &mut self,
         alloc: Global,
         before: Map<String, Value>,
     ) -> Result<Option<Map<String, Value>>, ReadFault>
-        ensures { IfOk result (λ o. IfSome o (λ others.
+        ensures rest { IfOk result (λ o. MatchOption o
+            ((others : Members) → AreTheRest (members_view before.entries) self.old others → ⊥)
+            (λ others.
             AreTheRest (members_view before.entries) self.old (members_view others.entries))) }
+        ensures refused { result ≡ Err Refused → (others : Members)
+            → AreTheRest (members_view before.entries) self.old others → ⊥ }
     {
         read_rest(alloc, &mut self.reader, before)
     }
@@ -88,8 +97,12 @@ fn read_rest(
     reader: &mut Reader<'_>,
     before: Map<String, Value>,
 ) -> Result<Option<Map<String, Value>>, ReadFault>
-    ensures { IfOk result (λ o. IfSome o (λ others.
+    ensures rest { IfOk result (λ o. MatchOption o
+        ((others : Members) → AreTheRest (members_view before.entries) reader.old others → ⊥)
+        (λ others.
         AreTheRest (members_view before.entries) reader.old (members_view others.entries))) }
+    ensures refused { result ≡ Err Refused → (others : Members)
+        → AreTheRest (members_view before.entries) reader.old others → ⊥ }
 {
     let mut others = before;
     'members: while let Some(name) = reader.next_key()? {
@@ -111,8 +124,9 @@ fn read_before(
     alloc: Global,
     reader: &mut Reader<'_>,
 ) -> Result<Option<Map<String, Value>>, ReadFault>
-    ensures { IfOk result (λ o. IfSome o (λ before.
-        AreBefore reader.old (members_view before.entries) reader.new)) }
+    ensures before { IfOk result (λ o. MatchOption o (¬ HasOneList reader.old)
+        (λ before. AreBefore reader.old (members_view before.entries) reader.new)) }
+    ensures refused { result ≡ Err Refused → AreRefused reader.old }
 {
     let mut before = Map::new(alloc);
     'members: while let Some(name) = reader.next_key()? {
@@ -129,20 +143,21 @@ fn read_before(
     Ok(None)
 }
 
-/// The list that a text is, read up to its items (own). None says nothing of the text: then
-/// [`open_list`](crate::open_list) has to tell what it is. `scratch` is where texts with escapes
-/// are kept; it grows to the length of the text.
+/// The list that a text is, read up to its items (own). None only if the text isn't an object with
+/// one list under `items`. `scratch` is where texts with escapes are kept; it grows to the length
+/// of the text.
 ///
 /// # Errors
 ///
-/// If a member before the list can't be read. `open_list` tells what is wrong.
+/// Refused only if `serde_json` doesn't read the text either.
 pub fn open_front<'a>(
     alloc: Global,
     text: &'a str,
     scratch: &'a mut Scratch,
 ) -> Result<Option<ListFront<'a>>, ReadFault>
-    ensures { IfOk result (λ o. IfSome o (λ front.
+    ensures front { IfOk result (λ o. MatchOption o (¬ IsList text.now) (λ front.
         IsReadUpTo text.now (members_view front.before.entries) front.unread)) }
+    ensures refused { result ≡ Err Refused → read text.now ≡ None }
 {
     let Some(mut reader) = object_in(text, scratch)? else {
         return Ok(None);

@@ -2,11 +2,13 @@ pub mod Lines
 pub mod ListingLemmas
 pub mod Named
 pub mod OneAnswer
+pub mod OneHolderLines
 pub mod OneListing
 pub mod OneMeant
 pub mod OneReason
 pub mod OneRun
 pub mod PageLemmas
+pub mod RuleLines
 pub mod Stops
 pub mod TakenBytes
 pub mod Verdicts

@@ -27,13 +27,16 @@ use Rattle.rbac_index.proofs.OneHolders.{one_holders}
 use Rattle.rbac_manifest.specs.Load.{LoadedView}
 use Rattle.rbac_lint.proofs.OneLines.{one_findings}
 use Rattle.rbac_question.specs.declared.command.Action.{Action}
-use Rattle.rbac_question.specs.declared.command.Action.TheVariants.{CanI, WhoCan, Matrix, Lint}
+use Rattle.rbac_question.specs.declared.command.Action.TheVariants.{CanI, WhoCan, Rules, Matrix, Lint}
 use Rattle.rbac_question.specs.declared.command.Question.{Question}
-use Rattle.rbac_cli.specs.Out.{Answers, IsAllowed, IsDenied, AreHoldersMeant, holders_text, findings_text, findings_status, line_unless}
+use Rattle.rbac_cli.specs.HolderLines.{AreHolderLines, joined}
+use Rattle.rbac_cli.specs.Out.{Answers, IsAllowed, IsDenied, rules_text, scope_asked, findings_text, findings_status, line_unless}
 use Rattle.rbac_cli.specs.Listings.{AreListed}
 use Rattle.rbac_cli.specs.declared.outcome.Status.{Status}
 use Rattle.rbac_matrix.specs.Every.{IsEvery, IsEveryRow, every_name}
 use Rattle.rbac_matrix.proofs.OneMatrix.{key_name, by_keys}
+use Rattle.rbac_rules.proofs.RuleLists.{one_list as one_rules}
+use Rattle.rbac_cli.proofs.OneHolderLines.{one_holder_lines}
 use Rattle.rbac_cli.proofs.OneListing.{Line, line_of, one_listing}
 use Rattle.rbac_cli.proofs.OneMeant.{one_meant}
 use Rattle.rbac_cli.proofs.OneReason.{one_reason}
@@ -210,12 +213,16 @@ one_listed_lines true held lists u v rows others m n x y = one_every_lines held 
 
 -- ---- the holders are one list
 
-one_holders_meant : (held : Held) (entries : List Entry) (q : Question) (xs ys : List HolderView) → AreHoldersMeant held entries q xs
-    → AreHoldersMeant held entries q ys → xs ≡ ys
-one_holders_meant held entries q xs ys (t, n, meant, a) (u, m, means, b) =
-    let same = one_meant entries q t u n m meant means in
-    let here = subst (λ x. AreHolders held m q.verb x xs) same.0 (subst (λ x. AreHolders held x q.verb t xs) same.1 a) in
-    one_holders held m q.verb u xs ys here b
+one_holders_text : (l : LoadedView) (why : Bool) (q : Question) (text other : List ℕ) (status ending : Status) → Answers l (WhoCan why q) text status → Answers l (WhoCan why q) other ending
+    → (text ≡ other) × (status ≡ ending)
+one_holders_text l why q text other status ending (t, n, meant, (xs, lines, a, these, e, s)) (u, m, means, (ys, those, b, them, f, z)) =
+    let p = l.policy in
+    let same = one_meant l.catalogue.entries q t u n m meant means in
+    let here = subst (λ x. AreHolders p.held m q.verb x xs) same.0 (subst (λ x. AreHolders p.held x q.verb t xs) same.1 a) in
+    let one = one_holders p.held m q.verb u xs ys here b in
+    let lined = subst (λ hs. AreHolderLines p why m q.verb u hs lines) one
+    (subst (λ x. AreHolderLines p why m q.verb x xs lines) same.0 (subst (λ x. AreHolderLines p why x q.verb t xs lines) same.1 these)) in
+    (e ∙ ap joined (one_holder_lines p m q.verb u why ys lines those lined them) ∙ sym f, s ∙ sym z)
 
 -- the one target and namespace that are meant aren't both allowed and denied
 not_both : (held : Held) (entries : List Entry) (who : Who) (q : Question) → IsAllowed held entries who q → IsDenied held entries who q → ⊥
@@ -232,8 +239,9 @@ one_answer l (CanI who quiet why q) text other status ending (inl (a, (r, is, e)
 one_answer l (CanI who quiet why q) text other status ending (inl a) (inr b) = absurd (not_both l.policy.held l.catalogue.entries who q a.0 b.0)
 one_answer l (CanI who quiet why q) text other status ending (inr a) (inl b) = absurd (not_both l.policy.held l.catalogue.entries who q b.0 a.0)
 one_answer l (CanI who quiet why q) text other status ending (inr a) (inr b) = (a.1 ∙ sym b.1, a.2 ∙ sym b.2)
-one_answer l (WhoCan q) text other status ending (xs, are, e, s) (ys, others, f, t) =
-    (e ∙ ap holders_text (one_holders_meant l.policy.held l.catalogue.entries q xs ys are others) ∙ sym f, s ∙ sym t)
+one_answer l (WhoCan why q) text other status ending a b = one_holders_text l why q text other status ending a b
+one_answer l (Rules who scope) text other status ending (xs, are, e, s) (ys, those, f, t) =
+    (e ∙ ap rules_text (one_rules who (scope_asked scope) l.policy.grants xs ys are those) ∙ sym f, s ∙ sym t)
 one_answer l (Matrix every after limit) text other status ending (u, rows, m, x, e, s) (v, others, n, y, f, t) = (
   e ∙ one_listing every after limit rows others (one_listed_lines every l.policy.held l.lists u v rows others m.sets n.sets x y) ∙ sym f,
   s ∙ sym t,

@@ -15,7 +15,7 @@ use Rattle.rbac_text.specs.Why.{why_text}
 use Rattle.rbac_cli.specs.Out.{IsWhyText, IsReason}
 use Rattle.rbac_cli.proofs.OneMeant.{one_meant}
 
-one_place : {X : Type 0} (P : X → Type 0) (xs : List X) (i j : ℕ) (x y : X) → IsFirstAt P xs i x → IsFirstAt P xs j y → i ≡ j
+pub one_place : {X : Type 0} (P : X → Type 0) (xs : List X) (i j : ℕ) (x y : X) → IsFirstAt P xs i x → IsFirstAt P xs j y → i ≡ j
 one_place P xs i j x y a b = elim (cases_order i j) [
   | inl e ↦ e
   | inr d ↦ elim d [
@@ -24,7 +24,7 @@ one_place P xs i j x y a b = elim (cases_order i j) [
   ]
 ]
 
-one_first : {X : Type 0} (P : X → Type 0) (xs : List X) (i j : ℕ) (x y : X) → IsFirstAt P xs i x → IsFirstAt P xs j y → x ≡ y
+pub one_first : {X : Type 0} (P : X → Type 0) (xs : List X) (i j : ℕ) (x y : X) → IsFirstAt P xs i x → IsFirstAt P xs j y → x ≡ y
 one_first P xs i j x y a b = same_Some x y (sym a.here ∙ ap (slice_get xs) (one_place P xs i j x y a b) ∙ b.here)
 
 module _ (p : PolicyView) (who : Who) (namespace verb : Text) (t : What) (g k : GrantView) (i j : ℕ) (a : IsWhy p who namespace verb t g i) (b : IsWhy p who namespace verb t k j) where

@@ -8,7 +8,7 @@ use Rattle.rbac_model.specs.Universes.{UniverseView}
 use Rattle.rbac_manifest.specs.declared.fault.LoadFault.{LoadFault}
 use Rattle.rbac_manifest.specs.Load.{LoadedView, IsLoaded, HasFault}
 use Rattle.rbac_question.specs.declared.command.Action.{Action}
-use Rattle.rbac_question.specs.declared.command.Action.TheVariants.{CanI, WhoCan, Matrix, Lint}
+use Rattle.rbac_question.specs.declared.command.Action.TheVariants.{CanI, WhoCan, Rules, Matrix, Lint}
 use Rattle.rbac_question.specs.declared.command.Command.{Command}
 use Rattle.rbac_cli.specs.Out.{Answers}
 use Rattle.rbac_cli.specs.Ends.{Ends, LacksUniverse, IsUnstopped}
@@ -50,7 +50,8 @@ same_universe_fault lists f universe.NoMemory a n b m = absurd (m refl)
 
 lacks_for_one : (l : LoadedView) (action : Action) (f g : UniverseFault) → LacksUniverse l action f → LacksUniverse l action g → f ≡ g
 lacks_for_one l (CanI who quiet why q) f g a b = absurd a
-lacks_for_one l (WhoCan q) f g a b = absurd a
+lacks_for_one l (WhoCan why q) f g a b = absurd a
+lacks_for_one l (Rules who scope) f g a b = absurd a
 lacks_for_one l Lint f g a b = absurd a
 lacks_for_one l (Matrix every after limit) f g a b = same_universe_fault l.lists f g a.0 a.1 b.0 b.1
 
@@ -58,7 +59,8 @@ module _ (loads_one : LoadsOne) (no_fault : HasNoFault) (one_fault : HasOneFault
   -- what has an answer lacks no universe
   not_lacking : (l : LoadedView) (action : Action) (text : List ℕ) (status : Status) (f : UniverseFault) → Answers l action text status → LacksUniverse l action f → ⊥
   not_lacking l (CanI who quiet why q) text status f a b = b
-  not_lacking l (WhoCan q) text status f a b = b
+  not_lacking l (WhoCan why q) text status f a b = b
+  not_lacking l (Rules who scope) text status f a b = b
   not_lacking l Lint text status f a b = b
   not_lacking l (Matrix every after limit) text status f (u, rows, is, listed, e, zero) b = no_universe_fault l.lists u f is b.1 b.0
 

@@ -90,7 +90,7 @@ MeansWhoCan l (WhoCan why question) = (why ≡ l.why) × IsQuestion l.question q
 MeansWhoCan l action = ⊥
 
 -- WHO names the principal: `u:` and a user's name, who is given the groups of `--groups`, or `g:`
--- and a group's name, where `--groups` isn't given or is empty (own)
+-- and a group's name, where `--groups` isn't given or is empty; neither name is empty (own)
 abbrev pub NamesPrincipal : RulesParts → Who → Type 0
 NamesPrincipal l (AsUser name given) = (l.who ≡ codes "u:" ++ name) × (name ≢ [])
     × (given ≡ groups_in l.groups)

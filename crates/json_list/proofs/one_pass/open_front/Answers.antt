@@ -2,14 +2,30 @@ use Rattle.std.proofs.Common.{◌≡◌, ◌∷◌, arith}
 use Rattle.json.specs.Lex.{tokens}
 use Rattle.json.specs.Token.{Token}
 use Rattle.serde_json.specs.View.{members_view}
-use Rattle.json_list.specs.Places.{AreBefore}
-use Rattle.json_list.proofs.Whole.{read_up_to}
+use Rattle.json_list.specs.Places.{AreBefore, HasOneList}
+use Rattle.json_list.proofs.Whole.{read_up_to, no_object, no_list, refused}
 use Rattle.json_list.proofs.one_pass.open_front.Goals as goal
 
-pub returns : goal.returns
-returns c =
+pub returns-clause-front : goal.returns-clause-front
+returns-clause-front c =
     let ts = c.in-Some.reader in
     let before = members_view c.in-Some-2.before.entries in
     let begin : tokens c.args.text.now ≡ Token.begin_object ∷ ts = grind arith in
-    let are : AreBefore ts before c.read_before.new.reader = rw c.in-Some-2.is at c.in_ok-before.ensures in
+    let are : AreBefore ts before c.read_before.new.reader = rw c.in-Some-2.is at c.in_ok-before.ensures.before in
     read_up_to c.args.text.now ts begin before c.read_before.new.reader are
+
+pub returns-in_default-clause-front : goal.returns-in_default-clause-front
+returns-in_default-clause-front c = no_object c.args.text.now (grind arith)
+
+pub returns-in_err-before-clause-refused : goal.returns-in_err-before-clause-refused
+returns-in_err-before-clause-refused c refusal =
+    let ts = c.in-Some.reader in
+    let begin : tokens c.args.text.now ≡ Token.begin_object ∷ ts = grind arith in
+    refused c.args.text.now ts begin (c.in_err-before.ensures.refused (grind arith))
+
+pub returns-in_default-2-clause-front : goal.returns-in_default-2-clause-front
+returns-in_default-2-clause-front c =
+    let ts = c.in-Some.reader in
+    let begin : tokens c.args.text.now ≡ Token.begin_object ∷ ts = grind arith in
+    let other : ¬ HasOneList ts = rw c.in_default-2.is at c.in_ok-before.ensures.before in
+    no_list c.args.text.now ts begin other

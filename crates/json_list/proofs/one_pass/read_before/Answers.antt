@@ -1,9 +1,11 @@
-use Rattle.std.proofs.Common.{◌≡◌, Some, string_bytes, bytes_eq, true, false, sym, ap, ◌∙◌, subst, arith, rules}
+use Rattle.std.proofs.Common.{◌≡◌, Some, None, string_bytes, bytes_eq, true, false, sym, ap, ◌∙◌, subst, arith, rules}
 use Rattle.json.specs.Json.{read_key}
 use Rattle.serde_json.specs.Data.{no_members, put}
 use Rattle.serde_json.specs.View.{view, members_view}
 use Rattle.serde_json.proofs.Views.{members_view-insert_entry}
 use Rattle.json_list.specs.List.{items_name}
+use Rattle.json_list.proofs.Others.{key_refused, other_refused}
+use Rattle.json_list.proofs.Walks.{found, none_left}
 use Rattle.json_list.proofs.OnePass.{Adds, begun, added, are_before}
 use Rattle.json_list.proofs.one_pass.read_before.Goals as goal
 
@@ -28,11 +30,40 @@ members-preserved c =
     subst (Adds no_members c.args.reader.now r) (sym inserted)
     (added no_members c.args.reader.now l.reader old l.invariant k s key other (view v) r c.in_ok-member.ensures.read c.in_ok-member.ensures.shorter)
 
-pub returns-then-take_begin_array : goal.returns-then-take_begin_array
-returns-then-take_begin_array c =
+pub returns-then-take_begin_array-clause-before : goal.returns-then-take_begin_array-clause-before
+returns-then-take_begin_array-clause-before c =
     let l = c.members in
     let k = c.in-Some.name.now in
     let s = c.next_key.new.self in
     let key : read_key l.reader ≡ Some (Some k, s) = grind arith in
     let same : bytes_eq k items_name ≡ true = sym c.if-eq.ensures in
     are_before c.args.reader.now l.reader (members_view l.before.entries) l.invariant k s c.take_begin_array.new.reader key same c.if-take_begin_array.ensures
+
+pub returns-in_err-name-clause-refused : goal.returns-in_err-name-clause-refused
+returns-in_err-name-clause-refused c _ =
+    let l = c.members in
+    key_refused false c.args.reader.now l.reader (members_view l.before.entries) l.invariant c.in_err-name.ensures.value
+
+pub returns-in_err-member-clause-refused : goal.returns-in_err-member-clause-refused
+returns-in_err-member-clause-refused c refusal =
+    let l = c.members in
+    let k = c.in-Some.name.now in
+    let s = c.next_key.new.self in
+    let key : read_key l.reader ≡ Some (Some k, s) = grind arith in
+    other_refused c.args.reader.now l.reader (members_view l.before.entries) k s key false l.invariant (c.in_err-member.ensures.refused (grind arith))
+
+pub returns-then-eq-clause-before : goal.returns-then-eq-clause-before
+returns-then-eq-clause-before c =
+    let l = c.members in
+    let k = c.in-Some.name.now in
+    let s = c.next_key.new.self in
+    let key : read_key l.reader ≡ Some (Some k, s) = grind arith in
+    let same : bytes_eq k items_name ≡ true = sym c.if-eq.ensures in
+    found c.args.reader.now l.reader (l.invariant.0, l.invariant.1, l.invariant.2) k s key same false c.take_begin_array.new.reader (rw c.if-take_begin_array.false at c.take_begin_array.ensures)
+
+pub returns-clause-before : goal.returns-clause-before
+returns-clause-before c =
+    let l = c.members in
+    let r = c.next_key.new.self in
+    let over : read_key l.reader ≡ Some (None, r) = grind arith in
+    none_left c.args.reader.now l.reader (l.invariant.0, l.invariant.1, l.invariant.2) r over

@@ -1,10 +1,10 @@
-use Rattle.std.proofs.Common.{◌≡◌, [], Some, None, string_bytes, bytes_eq, false, sym, ap, ◌∙◌, subst, arith, rules}
+use Rattle.std.proofs.Common.{◌≡◌, [], Some, None, string_bytes, bytes_eq, true, false, sym, ap, ◌∙◌, subst, arith, rules}
 use Rattle.json.specs.Json.{read_key}
 use Rattle.serde_json.specs.Data.{put}
 use Rattle.serde_json.specs.View.{view, members_view}
 use Rattle.serde_json.proofs.Views.{members_view-insert_entry}
 use Rattle.json_list.specs.List.{items_name}
-use Rattle.json_list.proofs.OnePass.{Adds, begun, added, are_the_rest}
+use Rattle.json_list.proofs.OnePass.{Adds, begun, added, are_the_rest, items_again, bad_member, bad_key, text_goes_on}
 use Rattle.json_list.proofs.one_pass.read_rest.Goals as goal
 
 pub members-init : goal.members-init
@@ -27,10 +27,39 @@ members-preserved c =
     subst (Adds start c.args.reader.now r) (sym inserted)
     (added start c.args.reader.now l.reader old l.invariant k s key other (view v) r c.in_ok-member.ensures.read c.in_ok-member.ensures.shorter)
 
-pub returns : goal.returns
-returns c =
+pub returns-clause-rest : goal.returns-clause-rest
+returns-clause-rest c =
     let l = c.members in
     let r = c.next_key.new.self in
     let over : read_key l.reader ≡ Some (None, r) = grind arith in
     let last : r ≡ [] = search rules in
     are_the_rest (members_view c.args.before.entries) c.args.reader.now l.reader (members_view l.others.entries) l.invariant r over last
+
+pub returns-in_err-name-clause-refused : goal.returns-in_err-name-clause-refused
+returns-in_err-name-clause-refused c _ =
+    let l = c.members in
+    bad_key (members_view c.args.before.entries) c.args.reader.now l.reader (members_view l.others.entries) l.invariant c.in_err-name.ensures.value
+
+pub returns-then-eq-clause-rest : goal.returns-then-eq-clause-rest
+returns-then-eq-clause-rest c =
+    let l = c.members in
+    let k = c.in-Some.name.now in
+    let s = c.next_key.new.self in
+    let key : read_key l.reader ≡ Some (Some k, s) = grind arith in
+    let same : bytes_eq k items_name ≡ true = sym c.if-eq.ensures in
+    items_again (members_view c.args.before.entries) c.args.reader.now l.reader (members_view l.others.entries) l.invariant k s key same
+
+pub returns-in_err-member-clause-refused : goal.returns-in_err-member-clause-refused
+returns-in_err-member-clause-refused c refusal =
+    let l = c.members in
+    let k = c.in-Some.name.now in
+    let s = c.next_key.new.self in
+    let key : read_key l.reader ≡ Some (Some k, s) = grind arith in
+    bad_member (members_view c.args.before.entries) c.args.reader.now l.reader (members_view l.others.entries) l.invariant k s key (c.in_err-member.ensures.refused (grind arith))
+
+pub returns-then-is_some-clause-rest : goal.returns-then-is_some-clause-rest
+returns-then-is_some-clause-rest c =
+    let l = c.members in
+    let r = c.next_key.new.self in
+    let over : read_key l.reader ≡ Some (None, r) = grind arith in
+    text_goes_on (members_view c.args.before.entries) c.args.reader.now l.reader (members_view l.others.entries) l.invariant r over (grind arith)
