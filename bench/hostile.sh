@@ -42,6 +42,7 @@ hostile labels 100000
 measure "100000 matchLabels against as many labels" can-i --as kim -A get pods
 hostile groups 1000000
 measure "1000000 groups as subjects, a user of 2000 groups" can-i --as kim --groups "$(seq -s, 2000)" -A get pods
+measure "the same, the rules of the user" rules --groups "$(seq -s, 2000)" u:kim
 hostile names 5000 1000000
 measure "5000 resources by one name of a megabyte" matrix
 hostile bindings 60000

@@ -29,7 +29,8 @@ _rbacaudit() {
     # Two spellings of one option are joined by a comma.
     case $command in
         can-i) options='--as --groups -n,--namespace -A,--all-namespaces --subresource -q,--quiet --why -h,--help' ;;
-        who-can) options='-n,--namespace -A,--all-namespaces --subresource -h,--help' ;;
+        who-can) options='-n,--namespace -A,--all-namespaces --subresource --why -h,--help' ;;
+        rules) options='--groups -n,--namespace -A,--all-namespaces -h,--help' ;;
         matrix) options='--every --after --limit -h,--help' ;;
         lint) options='-h,--help' ;;
         '') options='-h,--help -V,--version' ;;
@@ -46,10 +47,12 @@ _rbacaudit() {
                 mapfile -t -O "${#COMPREPLY[@]}" COMPREPLY < <(compgen -W "${group/,/ }" -- "$cur")
         done
     elif [[ ! $command ]]; then
-        mapfile -t COMPREPLY < <(compgen -W 'can-i who-can matrix lint' -- "$cur")
+        mapfile -t COMPREPLY < <(compgen -W 'can-i who-can rules matrix lint' -- "$cur")
     elif [[ $command == @(can-i|who-can) && $place -eq 0 ]]; then
         mapfile -t COMPREPLY < <(compgen -W 'get list watch create update patch delete deletecollection
             use bind escalate impersonate' -- "$cur")
+    elif [[ $command == rules && $place -eq 0 ]]; then
+        return # so is WHO
     elif [[ $command != @(can-i|who-can) || $place -gt 1 ]]; then
         compopt -o default # a FILE, which readline knows best
     fi

@@ -1,7 +1,7 @@
 #!/usr/bin/env bash
 # The whole gate: each edit still fits, every proof, must-fail edit and test by `rt ci`, then what only a process can show, the
-# kubectl plugin, completions and man page, the page in a browser, what make dist packs, random matrices, bad documents, refused
-# memory, reads and writes, and each public call by itself. The last line counts all of it, as `N passed, M failed`; if a test
+# kubectl plugin, completions and man page, the page in a browser, what make dist packs, random matrices and rules, bad documents,
+# refused memory, reads and writes, and each public call by itself. The last line counts all of it, as `N passed, M failed`; if a test
 # skipped something that this machine lacks, the last line but one says what.
 set -u
 cd "$(dirname "$0")/.."
@@ -41,6 +41,7 @@ counted python3 tests/shells.py
 counted python3 tests/page.py
 counted python3 tests/dist.py
 counted python3 tests/pages.py
+counted python3 tests/rules.py
 counted python3 tests/refusals.py
 counted python3 tests/fuzz.py 1 2000
 counted python3 tests/calls.py --once

@@ -48,7 +48,7 @@ def tools(it):
     it.expect('versions', ['--version'], 0, VERSIONS)
     for line, said in ((['--help'], 'kubectl rbacaudit who-can'), (['-h'], '--partial'), (['export', '--help'], 'incomplete.txt'),
                        (['universe', '-h'], 'Universe document'), (['can-i', '--help'], '--why'),
-                       (['who-can', '-Ah'], 'with kubectl rbacaudit who-can'), (['matrix', '-h'], '--after'), (['lint', '--help'], 'dangling-role')):
+                       (['who-can', '-Ah'], 'with kubectl rbacaudit who-can'), (['rules', '-h'], 'u:USER or g:GROUP'), (['matrix', '-h'], '--after'), (['lint', '--help'], 'dangling-role')):
         status, out, err = got = it.run(*line)
         it.checked('help: %s' % ' '.join(line), (status, err) == (0, '') and said.lower() in out.lower(), got)
     for line, options in ((['--help'],
@@ -111,7 +111,7 @@ OF_EXPORT = {('--force',): '', ('-n', '--namespace'): 'NS', ('--context',): 'NAM
              ('--request-timeout',): 'TIME', ('--as',): 'USER', ('--as-group',): 'GROUP'}
 NOTHING, FILES, FOLDERS = ':4', ':0', ':16'
 COMPLETED = [
-    ([''], ['can-i', 'who-can', 'matrix', 'lint', 'universe', 'page', 'export'], NOTHING),
+    ([''], ['can-i', 'who-can', 'rules', 'matrix', 'lint', 'universe', 'page', 'export'], NOTHING),
     (['m'], ['matrix'], NOTHING),
     (['-'], ['-h', '--help', '-V', '--version'], NOTHING), (['no', ''], [], NOTHING),
     (['no', '-'], [], NOTHING),
@@ -120,6 +120,9 @@ COMPLETED = [
     (['can-i', '--as', 'x', '-qA', 'get', ''], [], NOTHING),
     (['who-can', '-An', 'shop', 'get', 'pods', ''], [], FILES),
     (['who-can', '-n=shop', '--', '-x', '-y', '-'], [], FILES),
+    (['rules', ''], [], NOTHING), (['rules', '--groups', ''], [], NOTHING),
+    (['rules', '-An', 'x', '--groups=y', ''], [], NOTHING), (['rules', 'u:kim', ''], [], FILES),
+    (['rules', '--groups', 'x', 'u:kim', 'y', ''], [], FILES),
     (['matrix', '--limit', ''], [], NOTHING),
     (['matrix', '--limit=3', 'a'], [], FILES), (['lint', '--export', ''], [], FOLDERS),
     (['lint', '--kubeconfig', 'x'], [], FILES),

@@ -5,7 +5,7 @@ import os
 import subprocess
 
 from common import PROGRAM, TOP, V1, V1BETA1
-from plugin_room import (CAUTION, CI, DANA, DEVELOPERS, FINDINGS, IMPLIED, KIM, NO_ACCOUNT,
+from plugin_room import (CAUTION, CI, CI_KEY, DANA, DEVELOPERS, FINDINGS, IMPLIED, KIM, NO_ACCOUNT,
                          NO_SPACE, ODD, READ, REFUSAL, UNLISTED, document, in_each_shell, of_kinds,
                          served)
 
@@ -101,6 +101,58 @@ def accounts(it):
               IMPLIED % 'shop')
 
 
+CI_RULES = ''.join('RoleBinding/shop/ci-deploys\tRole/shop/deployer\tRole/shop/deployer\t%s\n' % rule
+                   for rule in (
+    '1\t1\t[get,list,watch,update,patch]\t[apps]\t[deployments]\t[]\t[]',
+    '2\t1\t[get,update]\t[apps]\t[deployments/scale]\t[]\t[]',
+    '3\t1\t[get,update]\t[-]\t[configmaps]\t[storefront]\t[]'))
+VIEW_RULES = ''.join('RoleBinding/shop/developers-view\tClusterRole/shop-view\tClusterRole/%s\n' % rule
+                     for rule in (
+    'shop-view-logs\t1\t1\t[get]\t[-]\t[pods/log]\t[]\t[]',
+    'shop-view-workloads\t1\t1\t[get,list,watch]\t[-]\t[pods,services]\t[]\t[]',
+    'shop-view-workloads\t2\t1\t[get,list,watch]\t[apps]\t[deployments]\t[]\t[]'))
+OWNER_RULE = ('RoleBinding/shop-staging/developers-own\tRole/shop-staging/owner\tRole/shop-staging/owner'
+              '\t1\t1\t[*]\t[*]\t[*]\t[]\t[]\n')
+
+
+@in_each_shell
+def rules(it):
+    """What somebody has, by a fresh export and by one in a folder, and what is said beside it."""
+    it.at_context('shop')
+    it.run('export', 'prod')
+    developers = 'g:shop-developers'
+    for place in ([], ['--export', 'prod']):
+        for line, out, err in (
+                ([CI_KEY], CI_RULES, ''), ([CI_KEY, '-n', 'shop'], CI_RULES, ''),
+                ([CI_KEY, '-nmonitoring'], '', ''), (['-A', CI_KEY, '-n', 'shpo'], '', ''),
+                ([CI_KEY, '--namespace=shpo'], '', NO_SPACE % 'shpo'),
+                ([CI_KEY + 'i', '-n', 'shop'], '', NO_ACCOUNT % ('cii', 'shop')),
+                ([developers], VIEW_RULES + OWNER_RULE, ''),
+                ([developers, '-n', 'shop'], VIEW_RULES, ''), ([developers, '-A'], '', ''),
+                (['u:kim@example.com'], '', ''),
+                (['--groups', 'shop-developers', 'u:kim@example.com'], VIEW_RULES + OWNER_RULE, ''),
+                (['--groups', 'shop-developers', '-n', 'shop', '--', 'u:kim@example.com'],
+                 VIEW_RULES, '')):
+            it.expect('rules %s %s' % (line, place), ['rules', *place, *line], 0, out, err)
+        it.expect('holders, and why %s' % place,
+                  ['who-can', *place, '-n', 'shop', '--why', 'update', 'deploy'], 0,
+                  DANA.rstrip('\n') + '\tClusterRole/cluster-admin\tClusterRole/cluster-admin\t1\t1\n'
+                  'u:system:serviceaccount:shop:ci\tRoleBinding/shop/ci-deploys\tRole/shop/deployer'
+                  '\tRole/shop/deployer\t1\t1\n')
+    for line, calls in (([developers], 2), ([developers, '-n', 'shop'], 3), ([CI_KEY], 3),
+                        ([CI_KEY, '-n', 'shop'], 4), ([CI_KEY, '-A', '-n', 'shop'], 3)):
+        it.lines('calls')
+        it.run('rules', *line)
+        got = it.lines('calls')
+        it.checked('rules %s reads no more than it needs' % line, len(got) == calls, got)
+    it.write('[]', 'bad.json')
+    it.expect('a bad FILE of rules', ['rules', developers, 'bad.json', '--export', 'prod'], 2, '',
+              'rbacaudit: file 1: M2 not an object\nkubectl-rbacaudit: file 1 is bad.json\n')
+    os.remove(os.path.join(it.work, 'prod', 'api-v1.json'))
+    it.expect('rules read no API lists', ['rules', developers, '-n', 'shop', '--export', 'prod'], 0,
+              VIEW_RULES)
+
+
 ALONE = 'kubectl-rbacaudit: the export has the namespace shop alone'
 
 
@@ -118,6 +170,11 @@ def alone(it):
     it.expect('about another, --partial', [*who, '-n', 'monitoring', '--partial', 'list', 'pods'],
               0, DANA,
               ALONE + '\n' + CAUTION + NO_SPACE % 'monitoring')
+    group = ['rules', '--export', 'own', 'g:shop-developers']
+    it.expect('rules in its namespace', [*group, '-n', 'shop'], 0, VIEW_RULES)
+    it.expect('rules in the whole cluster', [*group, '-A', '-n', 'monitoring'], 0)
+    it.expect('rules anywhere', group, 0, VIEW_RULES, ALONE + ', and this answer knows no other\n')
+    it.expect('rules in another', [*group, '-n', 'monitoring'], 2, '', ALONE + '\n' + REFUSAL)
     for line in (['lint'], ['matrix', '--limit', '1']):
         status, out, err = got = it.run(*line, '--export', 'own')
         it.checked('%s of it' % line[0], status < 2 and out
@@ -208,6 +265,13 @@ def stale_aggregates(it):
                   STALE % 'has other holders')
         it.expect('the same holders %s' % place, ['who-can', *place, '-A', 'list', 'pods'], 0,
                   'u:lee\tClusterRoleBinding/plain\n')
+        it.expect('more rules %s' % place, ['rules', *place, 'u:kim'], 0, '', STALE % 'has other rules')
+        it.expect('fewer rules %s' % place, ['rules', *place, 'u:max', '-A'], 0,
+                  'ClusterRoleBinding/late\tClusterRole/late\tClusterRole/new\t1\t1\t[watch]\t[-]'
+                  '\t[pods]\t[]\t[]\n', STALE % 'has other rules')
+        it.expect('the same rules %s' % place, ['rules', *place, 'u:lee', '-n', 'shop'], 0,
+                  'ClusterRoleBinding/plain\tClusterRole/plain\tClusterRole/plain\t1\t1\t[list]\t[-]'
+                  '\t[pods]\t[]\t[]\n')
         status, out, err = got = it.run('matrix', *place)
         it.checked('a matrix %s' % place, status == 0 and out.endswith('\nend\n') and err == (
             'kubectl-rbacaudit: stale aggregates (L6 of lint): ClusterRole/a, ClusterRole/b, '
@@ -222,6 +286,8 @@ def words(it):
     """Words that rbacaudit refuses end before a call to a cluster; what looks like an option may be a value."""
     for line, said in ((['can-i', 'get', 'pods'], '--as'), (['can-i', *KIM, 'list'], '<TARGET>'), (['who-can', 'get'], '<TARGET>'),
                        (['can-i', *KIM, '--wy', 'list', 'pods'], '--wy'), (['matrix', '--limit', '0'], '--limit'),
+                       (['rules'], '<WHO>'), (['rules', 'kim'], 'U5 bad principal'), (['rules', 'u:'], 'U5 bad principal'),
+                       (['rules', 'g:dev', '--groups', 'x'], 'U5 bad principal'), (['rules', '-q', 'u:kim'], '-q'),
                        (['matrix', '--after', 'x'], 'U4 bad token'), (['can-i', '--as', '', 'get', 'pods'], 'U2 empty word'),
                        (['can-i', '--as', '--partial', 'get', 'pods'], '--as'), (['lint', '--limit', '1'], '--limit'),
                        (['lint', '--export'], '--export needs a value'), (['lint', '--export='], '--export needs a value'),
@@ -514,5 +580,5 @@ def universes(it):
     it.checked('a universe of nothing is a document too', status == 0 and document(out) == {**wanted, 'resources': []}, got)
 
 
-CHECKS = [questions, namespaces, accounts, alone, idle_groups, stale_aggregates, words, files,
+CHECKS = [questions, rules, namespaces, accounts, alone, idle_groups, stale_aggregates, words, files,
           universe_faults, parts, gaps, types, subresources, universes]

@@ -76,6 +76,7 @@ READ = sorted(FIXED + ['api-v1.json', 'api-apps-v1.json', 'api-metrics.k8s.io-v1
 WHOLE = sorted([*READ, 'about.txt'])
 KIM = ['--as', 'kim@example.com', '--groups', 'shop-developers', '-n', 'shop']
 CI = ['--as', 'system:serviceaccount:shop:ci', '-n', 'shop']
+CI_KEY = 'u:system:serviceaccount:shop:ci'
 FINDINGS = ''.join('%s\n' % line for line in (
     'L2\tunused-role\tClusterRole/odd\t-\t-', 'L4\tescalation\tClusterRole/cluster-admin\t1\tbind',
     'L4\tescalation\tClusterRole/cluster-admin\t1\tescalate', 'L4\tescalation\tRole/shop-staging/owner\t1\tbind',

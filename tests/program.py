@@ -6,6 +6,7 @@ Texts and statuses on the real streams, files that can't be read, full disks, in
 """
 
 import base64
+import itertools
 import json
 import os
 import resource
@@ -23,6 +24,10 @@ LEAST = b'{"apiVersion":"v1","kind":"List"}'
 # The user, the verb or the target is empty.
 EMPTY_WORDS = (['can-i', '--as', '', 'get', 'pods'], ['can-i', '--as', 'alice', '', 'pods'], ['can-i', '--as', 'alice', 'get', ''],
                ['who-can', '', 'pods'], ['who-can', 'get', ''])
+# WHO is no key, or groups are given to a group.
+NOBODY = (['rules', ''], ['rules', 'u:'], ['rules', 'g:'], ['rules', 'kim'], ['rules', 'u'], ['rules', ':kim'], ['rules', 'x:kim'],
+          ['rules', 'U:kim'], ['rules', ' u:kim'], ['rules', '-A', 's:kim'], ['rules', '--groups', 'ops', 'g:dev'],
+          ['rules', 'g:dev', '--groups=,'], ['rules', '--groups', 'ops', 'u:'], ['rules', '--groups=', 'g:'])
 
 
 def run(words, given=b'', **how):
@@ -74,6 +79,9 @@ def streams():
            err=b'rbacaudit: U2 empty word\n')
     for words in EMPTY_WORDS:
         expect('an empty word has status 2: %r' % (words,), words, 2, err=b'rbacaudit: U2 empty word\n')
+    for words in NOBODY:
+        expect('no principal: %r' % (words,), words, 2, err=b'rbacaudit: U5 bad principal\n')
+    expect('rules of nobody have status 0', ['rules', 'u:kim'], 0, given=GRANTED)
     expect('a subresource of a URL has status 2',
            ['can-i', '--as', 'alice', '--subresource', 'log', 'get', '/healthz'], 2,
            err=b'rbacaudit: U3 subresource with a URL\n')
@@ -99,6 +107,10 @@ def streams():
         expect('a dash is a file as any other', ALICE_GETS_PODS + ['-'], 2, err=b'rbacaudit: file 1: I1 read fault\n',
                given=GRANTED)
         expect('a bad token before a missing file', ['matrix', '--after', 'MQ', missing], 2, err=b'rbacaudit: U4 bad token\n')
+        expect('no principal before a missing file', ['rules', 'kim', missing], 2, err=b'rbacaudit: U5 bad principal\n')
+        expect('rules of two files', ['rules', 'u:alice', roles, bindings], 0,
+               b'RoleBinding/default/b\tRole/default/r\tRole/default/r\t1\t1\t[get]\t[-]\t[pods]\t[]\t[]\n')
+        expect('WHO first, and then files', ['rules', roles, 'u:alice'], 2, err=b'rbacaudit: U5 bad principal\n')
         expect('the file of a bad document', ALICE_GETS_PODS + [roles, put('bad.json', b'[]')], 2,
                err=b'rbacaudit: file 2: M2 not an object\n')
         full = put('full.json', LEAST + b' ' * (MOST_BYTES - len(LEAST)))
@@ -110,12 +122,13 @@ def streams():
 
 def help_and_usage():
     """Help on standard output with status 0; a refused line on standard error with status 2."""
-    for words in (['--help'], ['can-i', '--help'], ['who-can', '--help'], ['matrix', '--help'], ['lint', '--help'], ['-h'], ['lint', '-h']):
+    for words in (['--help'], ['can-i', '--help'], ['who-can', '--help'], ['rules', '--help'], ['matrix', '--help'], ['lint', '--help'], ['-h'],
+                  ['lint', '-h']):
         ended = run(words)
         checked('%s is on standard output' % ' '.join(words),
              ended.returncode == 0 and b'Usage' in ended.stdout and not ended.stderr, repr(ended))
     commands = run(['--help']).stdout
-    for command in (b'can-i', b'who-can', b'matrix', b'lint'):
+    for command in (b'can-i', b'who-can', b'rules', b'matrix', b'lint'):
         checked('help names %s' % command.decode(), command in commands, repr(commands))
     options = run(['can-i', '--help']).stdout
     for option in (b'--as', b'--groups', b'-n, --namespace', b'-A, --all-namespaces', b'--subresource', b'-q, --quiet',
@@ -123,11 +136,14 @@ def help_and_usage():
         checked('help names %s' % option.decode(), option in options, repr(options))
     for line in (b'Namespace to check (default: default)', b'five fields, joined by tabs', b'rbacaudit can-i --as alice -n dev get pods'):
         checked('help of can-i says "%s"' % line.decode(), line in options, repr(options))
-    for command in ('who-can', 'matrix', 'lint'):
+    for command in ('who-can', 'rules', 'matrix', 'lint'):
         text = run([command, '--help']).stdout
         checked('help of %s names FILE and has an example' % command, b'FILE' in text and b'rbacaudit %s ' % command.encode() in text, repr(text))
     for option in (b'--every', b'--after <TOKEN>', b'--limit <N>'):
         checked('help names %s' % option.decode(), option in run(['matrix', '--help']).stdout)
+    for said in (b'--groups <A,B>', b'-n, --namespace <NS>', b'-A, --all-namespaces', b'ten fields, joined by tabs', b'[] is the empty list'):
+        checked('help of rules says "%s"' % said.decode(), said in run(['rules', '--help']).stdout)
+    checked('help of who-can names --why', b'--why' in run(['who-can', '--help']).stdout)
     no_tokens = ['', 'MQ==', 'M', 'OQ', 'MQ', 'Mg', 'Mw', 'MQlnOmEJLQktCS0JeAkt=']
     key = '\tg:a\t-\t-\t-\tx\t-'
     no_tokens += map(token_of, ['2' + key, '1' + key + '\tClusterRoleBinding\t-\tb', '3' + key + '\tClusterRoleBinding\t-\tb',
@@ -148,7 +164,10 @@ def help_and_usage():
                   ['who-can', '--limit', '1', 'get', 'pods'],
                   ['who-can', '--every', 'get', 'pods'], ['lint', '--every'], ['matrix', '--every', '--every'], ['matrix', '--every=x'],
                   ['matrix', '--limit', '1', '--limit', '1'], ['matrix', '--after', 'MQ', '--after', 'MQ'], ['matrix', '-n', 'dev'],
-                  ['lint', '--limit', '1'], ['lint', '-n', 'dev'], ['help']):
+                  ['lint', '--limit', '1'], ['lint', '-n', 'dev'], ['help'], ['rules'], ['rules', '-A'], ['rules', '--why', 'u:a'], ['rules', '-q', 'u:a'],
+                  ['rules', '--as', 'a', 'u:a'], ['rules', '-A', '-A', 'u:a'], ['rules', '--groups', 'a', '--groups', 'b', 'u:a'],
+                  ['rules', '--subresource', 'log', 'u:a'], ['rules', '-n', 'a', '--namespace', 'b', 'u:a'], ['rules', '-n', '-x', 'u:a'],
+                  ['who-can', '--why', '--why', 'get', 'pods'], ['who-can', '--why=x', 'get', 'pods'], ['matrix', '--why'], ['lint', '--groups', 'a']):
         ended = run(words)
         checked('refused: %s' % (' '.join(words) or 'no words'),
              ended.returncode == 2 and not ended.stdout and b'Usage' in ended.stderr, repr(ended))
@@ -235,6 +254,18 @@ def matrix_streams():
         checked('%s on a full disk' % ' '.join(form), got == (2, b'rbacaudit: write failed after 0 bytes\n'), repr(ended))
 
 
+def rules_streams():
+    """Rules of a list of bindings, of a bad document, and on a full disk; so with why each holder is one."""
+    for words in (['rules', 'u:alice'], ['who-can', '--why', 'get', 'pods']):
+        name = ' '.join(words)
+        expect('%s of a bad document' % name, words, 2, err=b'rbacaudit: file 1: M2 not an object\n', given=b'[]')
+        expect('%s of nothing' % name, words, 0, given=listed(V1, 'RoleBindingList', bare(BOUND)))
+        with open('/dev/full', 'wb') as full:
+            ended = run(words, GRANTED, stdout=full)
+        got = (ended.returncode, ended.stderr)
+        checked('%s on a full disk' % name, got == (2, b'rbacaudit: write failed after 0 bytes\n'), repr(ended))
+
+
 def lint_streams():
     """Lint of an input that is a list of its own kind, of a bad document, on a full disk, and its help."""
     for version in (V1, V1BETA1):
@@ -276,6 +307,10 @@ def limits():
     many = [cluster_role('r', [PODS] * 1000)]
     many += [binding('ClusterRoleBinding', 'b%04d' % i, 'ClusterRole', 'r') for i in range(1001)]
     expect('1,000 rules by 1,000 bindings', ALICE_GETS_PODS, 0, b'yes\n', given=export(*many[:-1]))
+    lines = ('ClusterRoleBinding/b%04d\tClusterRole/r\tClusterRole/r\t%d\t1\t[get]\t[-]\t[pods]\t[]\t[]\n' % place
+             for place in itertools.product(range(1000), range(1, 1001)))
+    got = run(['rules', 'u:alice'], export(*many[:-1]))
+    checked('a million rules', got.returncode == 0 and got.stdout == ''.join(lines).encode(), repr(got.stdout[:300]))
     expect('1,000 rules by 1,001 bindings', ALICE_GETS_PODS, 2, err=b'rbacaudit: M11 too many grants\n',
            given=export(*many))
 
@@ -298,6 +333,6 @@ def ring():
 
 
 if __name__ == '__main__':
-    sys.exit(tested(streams, help_and_usage, full_disk, little_memory, rows, matrix_streams, lint_streams, limits,
-                    universe_limits, ring, transcripts, links_and_heads, spaced_bindings, loop_of_pages,
+    sys.exit(tested(streams, help_and_usage, full_disk, little_memory, rows, matrix_streams, rules_streams, lint_streams,
+                    limits, universe_limits, ring, transcripts, links_and_heads, spaced_bindings, loop_of_pages,
                     example_cluster))

@@ -90,6 +90,11 @@ L6\tstale-aggregate\tClusterRole/admin\t-\t-
 L7\treplaced-object\tClusterRole/admin\t-\t1
 """
 ALICE = ['can-i', '--as', 'alice', '-n', 'dev']
+CI_KEY = 'u:system:serviceaccount:dev:ci'
+# What the two bindings of the worked export bring: to the group dev, and to the subject at a place.
+GROUP_RULES = ''.join('ClusterRoleBinding/a\tClusterRole/admin\tClusterRole/%s\t%s\n' % (LONG, rest) for rest in (
+    '1\t1\t[get]\t[-]\t[pods]\t[]\t[]', '2\t1\t[get]\t[]\t[]\t[]\t[/healthz*]'))
+DEV_RULE = 'RoleBinding/dev/b\tRole/dev/r\tRole/dev/r\t1\t%d\t[delete]\t[-]\t[pods]\t[a]\t[]\n'
 ALICE_GETS_PODS = [*ALICE, 'get', 'po']
 
 
@@ -150,6 +155,27 @@ def can_i():
 def few_holders():
     return Case('who-can', ['who-can', '-n', 'dev', 'delete', 'pods/a'], export(*WORKED), 0,
                 'u:system:serviceaccount:dev:ci\tRoleBinding/dev/b\nu:bob-who-has-a-rather-long-name\tRoleBinding/dev/b\n')
+
+
+def few_reasons():
+    why = '\tRoleBinding/dev/b\tRole/dev/r\tRole/dev/r\t1\t%d\n'
+    return Case('who-can --why', ['who-can', '-n', 'dev', '--why', 'delete', 'pods/a'], export(*WORKED), 0,
+                'u:system:serviceaccount:dev:ci' + why % 1 + 'u:bob-who-has-a-rather-long-name' + why % 2)
+
+
+def few_rules():
+    return Case('rules', ['rules', CI_KEY], export(*WORKED), 0, DEV_RULE % 1)
+
+
+def long_rules():
+    """Rules with ever longer names, one with commas, so that memory is taken after a piece was written."""
+    names = [letter * size for letter, size in (('a', 40_000), ('b', 40_000), (',', 50_000), ('d', 600_000))]
+    given = export(
+        item('ClusterRole', {'name': 'r'}, rules=[{**PODS, 'resourceNames': [name, 'x']} for name in names]),
+        item('ClusterRoleBinding', {'name': 'b'}, roleRef=role_ref('ClusterRole', 'r'), subjects=users('kim')))
+    lines = ['ClusterRoleBinding/b\tClusterRole/r\tClusterRole/r\t%d\t1\t[get]\t[-]\t[pods]\t[%s,x]\t[]\n'
+             % (number, name.replace(',', '\\x2c')) for number, name in enumerate(names, 1)]
+    return Case('rules with long names', ['rules', 'u:kim'], given, 0, ''.join(lines))
 
 
 def findings():
@@ -267,6 +293,12 @@ def answers():
                'yes\nClusterRoleBinding/a\tClusterRole/admin\tClusterRole/%s\t1\t1\n' % LONG)
     yield Case('can-i -q', [*ALICE, '-q', 'get', 'po'], export(*WORKED), 0)
     yield few_holders()
+    yield few_reasons()
+    yield few_rules()
+    yield Case('rules --groups', ['rules', 'u:bob-who-has-a-rather-long-name', '-n', 'dev', '--groups', 'ops,dev'], export(*WORKED), 0,
+               GROUP_RULES + DEV_RULE % 2)
+    yield Case('rules -A', ['rules', '-A', 'g:dev'], export(*WORKED), 0, GROUP_RULES)
+    yield Case('rules of nobody', ['rules', 'u:carol'], export(*WORKED), 0)
     yield findings()
     yield Case('lint, no findings', ['lint'], export(*WORKED), 0)
 
@@ -297,6 +329,7 @@ def faults(room):
     yield Case('U2', ['can-i', '--as', 'alice', 'get', '.apps'], b'', 2, err='U2 empty word')
     yield Case('U3', ['can-i', '--as', 'alice', '--subresource', 'log', 'get', '/healthz'], b'', 2, err='U3 subresource with a URL')
     yield Case('U4', ['matrix', '--after', 'MQ'], b'', 2, err='U4 bad token')
+    yield Case('U5', ['rules', '--groups', 'ops', 'g:dev'], b'', 2, err='U5 bad principal')
     yield Case('a word that is not UTF-8', ['can-i', '--as', b'al\xffce', 'get', 'pods'], b'', 2, err='argument 3: not UTF-8')
     yield Case('I1', [*alice, missing], b'', 2, err='file 1: I1 read fault')
     yield Case('I2', [*alice, '/dev/zero'], b'', 2, err='file 1: I2 too long', step=7)
@@ -320,7 +353,7 @@ def parser_texts():
 def refused_memory(shim, room):
     """Every growth of memory in turn, and every growth from each on; two sweeps at a time."""
     cases = [(case, False) for case in (*answers(), *matrices(), *parser_texts(), *faults(room))]
-    cases += [(long_matrix(), True), (long_bindings(), True), (long_holders(), True)]
+    cases += [(long_matrix(), True), (long_bindings(), True), (long_holders(), True), (long_rules(), True)]
     asked = [(case, must_cut, mode) for case, must_cut in cases for mode in (False, True)]
     with concurrent.futures.ThreadPoolExecutor(2) as pool:
         mets = pool.map(lambda it: sweep(shim, it[0], 'memory', is_short_of_memory, errno.ENOMEM, it[2]), asked)
@@ -332,10 +365,11 @@ def refused_memory(shim, room):
 def failed_reads(shim):
     """Each read in turn, of an input that comes in pieces of 100 bytes and of one that comes byte by byte."""
     small = Case('can-i', ALICE_GETS_PODS, export(), 1, 'no\n')
-    for (case, piece), error in itertools.product(((can_i(), 100), (small, 1)), (errno.EIO, errno.EINTR)):
+    cases = (can_i(), 100), (few_rules(), 100), (few_reasons(), 100), (small, 1)
+    for (case, piece), error in itertools.product(cases, (errno.EIO, errno.EINTR)):
         for mode in (False, True):
             met = sweep(shim, case, 'read', is_read_fault, error, mode, piece)
-            tell_sweep('%s in reads of up to %d bytes, %s' % (errno.errorcode[error], piece, which(mode)), met, once=mode)
+            tell_sweep('%s in reads of up to %d bytes, %s, %s' % (errno.errorcode[error], piece, which(mode), case.name), met, once=mode)
 
 
 def endless_input(shim):
@@ -352,8 +386,8 @@ def endless_input(shim):
 
 def failed_writes(shim):
     """Each write in turn: of a long text as it is written in pieces, and of short ones that are taken at once or byte by byte."""
-    shorts = few_holders(), findings(), odd_names()
-    pieces = [(long_matrix(), 0), (long_matrix(), 10_000), *itertools.product(shorts, (0, 1))]
+    shorts = few_holders(), few_reasons(), few_rules(), findings(), odd_names()
+    pieces = [(long_matrix(), 0), (long_matrix(), 10_000), (long_rules(), 0), *itertools.product(shorts, (0, 1))]
     for (case, piece), error in itertools.product(pieces, (errno.ENOSPC, errno.EINTR, 0)):
         # (a short text that is taken at once is never cut)
         must_cut = piece or len(case.whole[1]) > 100_000
@@ -430,7 +464,7 @@ def pipes():
 def disks_with_room():
     """A disk with room for so many bytes: it gets them, and the line says how many."""
     listing = long_matrix()
-    rooms = [(case, size) for case in (can_i(), few_holders()) for size in range(len(case.whole[1]) + 1)]
+    rooms = [(case, size) for case in (can_i(), few_holders(), few_reasons(), few_rules()) for size in range(len(case.whole[1]) + 1)]
     rooms += [(listing, size) for size in (FULL - 1, FULL, FULL + 1, 2 * FULL, len(listing.whole[1]) - 1)]
     wrong = [(case.name, size) for case, size in rooms if not fills(case, size)]
     checked('disks with room for %d sizes' % len(rooms), not wrong, repr(wrong[:10]))

@@ -337,6 +337,7 @@ def of_words():
     """Lines that end in another word, each with all that is to be offered."""
     yield 'rbacaudit ', [*commands()]
     yield 'rbacaudit m', ['matrix']
+    yield 'rbacaudit r', ['rules']
     yield 'rbacaudit nothing ', []
     for command in ('can-i', 'who-can'):
         yield 'rbacaudit %s ' % command, VERBS
@@ -349,6 +350,9 @@ def of_words():
     yield 'rbacaudit can-i --as=system:serviceaccount:shop:ci -q get ', []
     yield 'rbacaudit can-i -Aqn shop --', ['--as', '--groups', '--subresource', '--why', '--help']
     yield 'rbacaudit who-can -- -', []
+    yield 'rbacaudit rules ', []
+    yield 'rbacaudit rules -n shop --groups a,b ', []
+    yield 'rbacaudit rules u:system:serviceaccount:shop:ci -An shop --', ['--groups', '--help']
 
 
 # Lines that end in a FILE, where the folder has these. Only JSON files need be offered, and the folders that may have some.
@@ -357,6 +361,8 @@ OF_FILES = {
     'rbacaudit can-i get pods ': {'a.json', 'b.json', 'sub'},
     'rbacaudit who-can --subresource log get pods a.json ': {'a.json', 'b.json', 'sub'},
     'rbacaudit who-can get pods a': {'a.json'},
+    'rbacaudit rules g:dev ': {'a.json', 'b.json', 'sub'},
+    'rbacaudit rules --groups dev u:system:serviceaccount:shop:ci a': {'a.json'},
     'rbacaudit matrix ': {'a.json', 'b.json', 'sub'},
     'rbacaudit matrix --limit 3 a.json b': {'b.json'},
     'rbacaudit lint ': {'a.json', 'b.json', 'sub'},

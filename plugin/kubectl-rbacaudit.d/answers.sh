@@ -5,7 +5,7 @@
 parts_of() {
     wanted=
     case $1 in
-        lint) needed='cluster.json namespaced.json' ;;
+        rules | lint) needed='cluster.json namespaced.json' ;;
         matrix) needed='cluster.json namespaced.json namespaces.json accounts.json api' ;;
         *) needed='cluster.json namespaced.json api' ;;
     esac
@@ -71,8 +71,8 @@ lack() {
 
 # An export of one namespace can't answer about another, and is a part for all others.
 look_for_other() {
-    case $command in
-        can-i | who-can)
+    case $command,$everywhere,$asked_in in
+        can-i,* | who-can,* | rules,yes,* | rules,no,?*)
             [ -z "$asked_in" ] || [ "$asked_in" = "$only" ] ||
                 "$1" "the export has the namespace $only alone"
             ;;
@@ -143,7 +143,7 @@ ask() {
     return "$answered"
 }
 
-# The command itself is the first place; VERB and TARGET are two more.
+# The command itself is the first place; VERB and TARGET are two more, and WHO is one.
 name_file() {
     set_most "$2"
     number=$1
@@ -166,6 +166,7 @@ name_file() {
 set_most() {
     case $1 in
         can-i | who-can) most=3 ;;
+        rules) most=2 ;;
         *) most=1 ;;
     esac
 }
@@ -235,7 +236,7 @@ question_command() {
     parts_of "$command"
     open_export
     case $command in
-        can-i | who-can) remark_on_question ;;
+        can-i | who-can | rules) remark_on_question ;;
     esac
     if [ -n "$implied" ]; then
         shift
@@ -245,12 +246,18 @@ question_command() {
     exit "$answered"
 }
 
-# Leaves in `type` and `object` what a question is about: nothing if that is a URL.
+# Leaves in `type` and `object` what a question is about: nothing if that is a URL. For rules, leaves
+# in `asker` the user whose key WHO is.
 find_target() {
     type=
     object=
     case $command in
         can-i | who-can) find_place 3 "$@" ;;
+        rules)
+            find_place 2 "$@"
+            asker=${found#u:}
+            return
+            ;;
         *) return ;;
     esac
     case $found in
@@ -274,10 +281,14 @@ look_at_about() {
 
 # Leaves in `asked_in` the namespace that a question is about, as far as the words say it: nothing
 # for a URL or the whole cluster. Without -n it is the context's, as for kubectl, and `implied` is
-# it.
+# it; but rules are then those of all bindings.
 choose_namespace() {
     asked_in=
     implied=
+    if [ "$command" = rules ]; then
+        [ "$everywhere" = yes ] || asked_in=$namespace
+        return
+    fi
     [ -n "$type" ] && [ "$everywhere" = no ] || return 0
     asked_in=${namespace:-default}
     [ "$has_namespace" = no ] || return 0
@@ -290,12 +301,13 @@ choose_namespace() {
 answer() {
     reads=$needed
     find_stale
-    if [ -n "$stale" ] && [ "$command" = who-can ]; then
-        with_files ask "$@" >"$scratch/answer"
-        cat "$scratch/answer"
-    else
-        with_files ask "$@"
-    fi
+    case ${stale:+$command} in
+        who-can | rules)
+            with_files ask "$@" >"$scratch/answer"
+            cat "$scratch/answer"
+            ;;
+        *) with_files ask "$@" ;;
+    esac
     [ -z "$stale" ] || [ "$answered" -gt 1 ] || with_files remark_on_stale "$@"
 }
 

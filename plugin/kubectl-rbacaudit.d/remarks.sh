@@ -181,21 +181,30 @@ and this matrix has what they gather"
         can-i10) differs='answers yes' ;;
         can-i01) differs='answers no' ;;
         who-can00)
-            if has_holders_of "$scratch/answer" "$scratch/written" &&
-                has_holders_of "$scratch/written" "$scratch/answer"; then
-                return
-            fi
+            ! has_same_lines || return 0
             differs='has other holders'
+            ;;
+        rules00)
+            ! has_same_lines || return 0
+            differs='has other rules'
             ;;
         *) return 0 ;;
     esac
     report "the cluster $differs now, because of stale aggregates (L6 of lint): $stale"
 }
 
-# Whether each holder of the second list is in the first.
-has_holders_of() {
+# Whether both answers have the same holders, or the same rules by the same bindings: wherever a rule
+# is written.
+has_same_lines() {
+    has_lines_of "$scratch/answer" "$scratch/written" &&
+        has_lines_of "$scratch/written" "$scratch/answer"
+}
+
+# Whether each line of the second list is in the first.
+has_lines_of() {
     LC_ALL=C awk -F '\t' '
-        !begun { there[$1]; next }
-        !($1 in there) { lacks = 1 }
+        { line = NF == 10 ? $1 FS $6 FS $7 FS $8 FS $9 FS $10 : $1 }
+        !begun { there[line]; next }
+        !(line in there) { lacks = 1 }
         END { exit lacks }' "$1" begun=1 "$2"
 }
