@@ -1,7 +1,7 @@
 -- The lines of holders: each holder has one line, and no other.
 use Rattle.std.proofs.Common.{◌≡◌, ◌∙◌, ℕ, ◌<◌, ◌≤◌, Bool, true, false, List, [], ◌∷◌, length, Contains, ap, sym, subst, refl, arith, suc, zero, ◌⊎◌, inl, inr}
 use Rattle.std.specs.Prelude.{Some, None, Any, slice_get}
-use Rattle.std.proofs.lemmas.Bool.{cases_eq, cases_order}
+use Rattle.std.proofs.lemmas.Bool.{cases_eq}
 use Rattle.std.proofs.lemmas.Option.{same_Some, slice_get_within, slice_get-get_or, get_or_from_slice_get}
 use Rattle.rbac_terms.specs.Text.{Text}
 use Rattle.rbac_terms.specs.Targets.{What}
@@ -12,8 +12,6 @@ use Rattle.rbac_terms.specs.declared.granting.ClusterRole.{ClusterRole}
 use Rattle.rbac_terms.specs.declared.granting.RoleRef.TheVariants as ref
 use Rattle.rbac_terms.specs.declared.granting.Binding.{Binding}
 use Rattle.rbac_terms.specs.declared.granting.Subject.TheVariants.{User}
-use Rattle.rbac_terms.specs.Granting.{IsSubjectKey}
-use Rattle.rbac_model.specs.Lists.{IsFirstAt}
 use Rattle.rbac_model.specs.Policies.{Held, IsHeld, PolicyView, IsPolicy, GrantView, Source, SourcedRule, InClusterRole, AreRulesFor, IsOfBinding}
 use Rattle.rbac_model.specs.Holders.{HolderView, IsHolder, AreHolders}
 use Rattle.rbac_model.specs.Sources.{source_of}
@@ -21,7 +19,7 @@ use Rattle.rbac_model.proofs.BindingPlaces.{one_binding_place, of_some_binding, 
 use Rattle.rbac_model.proofs.GrantNumbers.{grant_by}
 use Rattle.rbac_model.proofs.OneList.{one_rules_for}
 use Rattle.rbac_index.specs.Deciding.{AllowsOf, IsFirstAllowing}
-use Rattle.rbac_index.specs.WhyHeld.{AllowsKey, IsWhyHeld, IsHeldShown}
+use Rattle.rbac_index.specs.WhyHeld.{IsHeldShown}
 use Rattle.rbac_index.specs.declared.deciding.Why.{Why}
 use Rattle.rbac_index.proofs.ReasonLemmas.{why_of_holder}
 use Rattle.rbac_matrix.proofs.Decided.{Decided, grants}
@@ -35,34 +33,7 @@ use Rattle.rbac_cli.specs.HolderLines.{IsHolderLine, AreHolderLines, joined}
 use Rattle.rbac_cli.specs.Meant.{IsMeant}
 use Rattle.rbac_cli.specs.Out.{Answers}
 use Rattle.rbac_cli.specs.declared.outcome.Status.TheVariants.{Zero}
-
--- ---- a holder has no two lines
-
-one_place : {X : Type 0} (P : X → Type 0) (xs : List X) (i j : ℕ) (x y : X) → IsFirstAt P xs i x → IsFirstAt P xs j y → i ≡ j
-one_place P xs i j x y a b = elim (cases_order i j) [
-  | inl e ↦ e
-  | inr d ↦ elim d [
-    | inl m ↦ absurd (b.none_before i x m a.here a.holds)
-    | inr m ↦ absurd (a.none_before j y m b.here b.holds)
-  ]
-]
-
-one_first : {X : Type 0} (P : X → Type 0) (xs : List X) (i j : ℕ) (x y : X) → IsFirstAt P xs i x → IsFirstAt P xs j y → x ≡ y
-one_first P xs i j x y a b = same_Some x y (sym a.here ∙ ap (slice_get xs) (one_place P xs i j x y a b) ∙ b.here)
-
-module _ (p : PolicyView) (key namespace verb : Text) (t : What) (g k : GrantView) (i j : ℕ) (a : IsWhyHeld p key namespace verb t g i) (b : IsWhyHeld p key namespace verb t k j) where
-  one_grant : g ≡ k
-  one_grant = one_first (AllowsKey key namespace verb t) p.grants a.grant.0 b.grant.0 g k a.grant.1 b.grant.1
-
-  one_subject : i ≡ j
-  one_subject =
-      let b_there = subst (λ x. IsWhyHeld p key namespace verb t x j) (sym one_grant) b in
-      one_place (λ s. IsSubjectKey s g.binding.namespace key) g.binding.subjects i j a.subject.0 b_there.subject.0 a.subject.1 b_there.subject.1
-
-  one_why_text : holder_why_text key g.binding g.rule.source g.rule.place i ≡ holder_why_text key k.binding k.rule.source k.rule.place j
-  one_why_text =
-      ap (λ (x : GrantView). holder_why_text key x.binding x.rule.source x.rule.place i) one_grant
-      ∙ ap (λ (n : ℕ). holder_why_text key k.binding k.rule.source k.rule.place n) one_subject
+use Rattle.rbac_cli.proofs.OneHolderLines.{one_why_text}
 
 -- what shows why a key holds it makes the line
 pub shown_text : (p : PolicyView) (namespace verb : Text) (t : What) (x : HolderView) (why : Why) (text : Text) → IsHeldShown p x.key namespace verb t why → IsHolderLine p true namespace verb t x text
@@ -71,7 +42,7 @@ shown_text p namespace verb t x why text (g, held, shown) (k, j, holds, e) =
     ap (λ (b : Binding). holder_why_text x.key b (source_of why.source) why.rule_place why.subject_place) shown.0
     ∙ ap (λ (s : Source). holder_why_text x.key g.binding s why.rule_place why.subject_place) shown.1
     ∙ ap (λ (n : ℕ). holder_why_text x.key g.binding g.rule.source n why.subject_place) shown.2
-    ∙ one_why_text p x.key namespace verb t g k why.subject_place j held holds ∙ sym e
+    ∙ one_why_text p namespace verb t x.key g k why.subject_place j held holds ∙ sym e
 
 -- ---- whether a rule allows is decided: it's the only rule of the only binding of a cluster
 

@@ -15,7 +15,7 @@ use Rattle.rbac_model.specs.Lists.{by_name, IsAscendingBy}
 use Rattle.rbac_model.specs.Policies.{Held, Grants, Allows, IsFirst, binding_name}
 use Rattle.rbac_model.specs.Unions.{AreUnited, who_name}
 use Rattle.rbac_model.specs.Universes.{UniverseView, RowView, Cell, IsRow, IsMatrix, cell_key}
-use Rattle.rbac_model.specs.Holders.{HolderView, AreHolders}
+use Rattle.rbac_model.specs.Holders.{AreHolders}
 use Rattle.rbac_model.proofs.OneList.{one_list, one_of_name}
 use Rattle.rbac_catalogue.specs.declared.entry.Entry.{Entry}
 use Rattle.rbac_universe.specs.declared.lists.UniverseLists.{UniverseLists}

@@ -1,7 +1,6 @@
-use Rattle.std.proofs.Common.{◌≡◌, List, refl, subst}
+use Rattle.std.proofs.Common.{refl}
 use Rattle.std.proofs.lemmas.Result.{err_from_is_err_and}
 use Rattle.rbac_question.specs.declared.command.Action.TheVariants.{Rules}
-use Rattle.rbac_rules.specs.Effective.{RuleView}
 use Rattle.rbac_cli.specs.Out.{rules_text, scope_asked}
 use Rattle.rbac_cli.specs.declared.outcome.Status.TheVariants.{Zero}
 use Rattle.rbac_cli.proofs.Stops.{stops_within}
