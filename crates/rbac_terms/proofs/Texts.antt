@@ -1,9 +1,9 @@
 -- how texts are cut: at their first slash, and before their trailing stars
-use Rattle.std.proofs.Common.{◌≡◌, ◌≢◌, ℕ, ◌+◌, ◌<◌, [], ◌∷◌, ◌++◌, length, take, drop, get_or, Contains, replicate, sym, ap, ◌∙◌, refl, arith, append_assoc, suc, zero, add-one, ◌↔◌, inl, inr, Bool, IsTrue, Decides, subst, ◌≤◌, MatchOption, Bor}
+use Rattle.std.proofs.Common.{◌≡◌, ◌≢◌, ℕ, ◌+◌, ◌<◌, [], ◌∷◌, ◌++◌, length, take, drop, get_or, Contains, replicate, sym, ap, ◌∙◌, refl, arith, append_assoc, suc, zero, add-one, ◌↔◌, inl, inr, Bool, IsTrue, Decides, subst, MatchOption, Bor}
 use Rattle.std.specs.Prelude.{Option, Some, None}
-use Rattle.std.proofs.lemmas.List.{same_from_push, replicate_more, append-nil, drop_more, take-append-drop, get_or_at, get_or_default, get_or-take, length-take, length-append, length-replicate}
+use Rattle.std.proofs.lemmas.List.{same_from_push, replicate_more, append-nil, drop_more, take-append-drop, get_or_at, get_or_default, get_or-take, length-take, length-append}
 use Rattle.rbac_terms.specs.Text.{Text, star, slash, IsCutAtFirst, BeginsWith}
-use Rattle.rbac_terms.specs.Matching.{EndsInStar, FollowsFirstSlash, UrlWordMatches}
+use Rattle.rbac_terms.specs.Matching.{EndsInStar, IsBeforeStars, FollowsFirstSlash, UrlWordMatches}
 
 -- a text is what stands before a place, the byte there and the rest
 pub cut_at : (x : Text) (i d : ℕ) → i < length x → x ≡ take i x ++ get_or x i d ∷ drop (i + 1) x
@@ -78,24 +78,38 @@ FollowsFirstSlash-iff x m found rest r a d = (
   λ b. d.1 (IsCutAtFirst-one x m b.0 found rest slash a b.1),
 )
 
+-- a word with stars at its end ends in a star
+pub ends : (w q : Text) (k : ℕ) → w ≡ q ++ replicate (k + 1) star → EndsInStar w
+ends w q k e = (q ++ replicate k star, e ∙ ap (λ n. q ++ replicate n star) (add-one k) ∙ one_more_star q k)
+
+-- what comes before the stars is one text
+pub IsBeforeStars-one : (w p q : Text) → IsBeforeStars w p → IsBeforeStars w q → p ≡ q
+IsBeforeStars-one w p q a b = same_prefix p q (a.0 + 1) (b.0 + 1) a.2 b.2 (sym a.1 ∙ b.1)
+
+-- one star more before those that were taken off
+pub IsBeforeStars-more : (w p shorter : Text) (k : ℕ) → w ≡ p ++ replicate (k + 1) star → p ≡ shorter ++ star ∷ [] → w ≡ shorter ++ replicate (k + 1 + 1) star
+IsBeforeStars-more w p shorter k e f = star_off w p shorter star (k + 1) e f refl ∙ ap (λ n. shorter ++ replicate n star) (sym (add-one (k + 1)))
+
 -- what a URL word says where it is not the path: it ends in stars, and the path begins with the rest
-pub UrlWordMatches-iff : (w x p : Text) (k : ℕ) (r : Bool) → w ≢ x → w ≡ p ++ replicate k star → (EndsInStar p → ⊥) → length p < length w → (IsTrue r ↔ BeginsWith x p) → IsTrue r ↔ UrlWordMatches w x
-UrlWordMatches-iff w x p zero r ne e none l i = absurd (omega (arith, ap length (e ∙ append-nil p)))
-UrlWordMatches-iff w x p (suc k) r ne e none l i = (
-  λ h. inr (p, k, e ∙ ap (λ n. p ++ replicate n star) (sym (add-one k)), none, i.0 h),
+pub UrlWordMatches-iff : (w x p : Text) (r : Bool) → w ≢ x → IsBeforeStars w p → (IsTrue r ↔ BeginsWith x p) → IsTrue r ↔ UrlWordMatches w x
+UrlWordMatches-iff w x p r ne is i = (
+  λ h. inr (p, is.0, is.1, is.2, i.0 h),
   λ m. elim m [
     | inl a ↦ absurd (ne a)
-    | inr b ↦ let same : b.0 ≡ p = same_prefix b.0 p (b.1 + 1) (suc k) b.3 none (sym b.2 ∙ e) in i.1 (b.4.0, b.4.1 ∙ ap (λ q. q ++ b.4.0) same)
+    | inr b ↦ let same : b.0 ≡ p = IsBeforeStars-one w b.0 p (b.1, b.2, b.3) is in i.1 (b.4.0, b.4.1 ∙ ap (λ q. q ++ b.4.0) same)
   ],
 )
 
-pub UrlWordMatches-none : (w x p : Text) (k : ℕ) → w ≢ x → w ≡ p ++ replicate k star → (EndsInStar p → ⊥) → length w ≤ length p → UrlWordMatches w x → ⊥
-UrlWordMatches-none w x p k ne e none l m =
+pub UrlWordMatches-none : (w x : Text) → w ≢ x → (EndsInStar w → ⊥) → UrlWordMatches w x → ⊥
+UrlWordMatches-none w x ne none m =
     elim m [
       | inl a ↦ ne a
-      | inr b ↦ let same : b.0 ≡ p = same_prefix b.0 p (b.1 + 1) k b.3 none (sym b.2 ∙ e) in
-          omega (arith, ap length b.2, length-append b.0 (replicate (b.1 + 1) star), length-replicate (b.1 + 1) star, ap length same)
+      | inr b ↦ none (ends w b.0 b.1 b.2)
     ]
+
+pub without_star_is : (text back : Text) (r : Option (Bor Text)) → back ≡ star ∷ [] → MatchOption r ((prefix : Text) → text ≢ prefix ++ back) (λ x. text ≡ x.now ++ back) → MatchOption r (EndsInStar text → ⊥) (λ x. text ≡ x.now ++ star ∷ [])
+without_star_is text back None e h = λ b. h b.0 (b.1 ∙ ap (λ t. b.0 ++ t) (sym e))
+without_star_is text back (Some x) e h = h ∙ ap (λ t. x.now ++ t) e
 
 pub after_prefix_is : (text prefix : Text) (r : Option (Bor Text)) → MatchOption r ((rest : Text) → text ≢ prefix ++ rest) (λ x. text ≡ prefix ++ x.now) → MatchOption r (BeginsWith text prefix → ⊥) (λ x. text ≡ prefix ++ x.now)
 after_prefix_is text prefix None h = λ b. h b.0 b.1

@@ -1,7 +1,7 @@
-use Rattle.std.specs.Prelude.{◌≡◌, [], Option, Some, None}
+use Rattle.std.specs.Prelude.{◌≡◌, [], ◌∷◌, Option, Some, None}
 use Rattle.rbac_terms.specs.Text.{Text}
 use Rattle.rbac_terms.specs.Principals.{Who, AsUser, AsMember, who_key, IsUserNamed, IsInGroup}
-use Rattle.rbac_terms.specs.Principals.{account_user}
+use Rattle.rbac_terms.specs.Principals.{account_user, account_principal}
 use Rattle.rbac_terms.specs.declared.granting.Subject.{Subject}
 use Rattle.rbac_terms.specs.declared.granting.Subject.TheVariants.{User, Group, Account}
 
@@ -26,3 +26,17 @@ IsSubjectKey (Account (Some namespace) name) _ key =
 IsSubjectKey (Account None name) (Some namespace) key =
     key ≡ who_key (AsUser (account_user namespace name) [])
 IsSubjectKey (Account None name) None key = ⊥
+
+-- a user or a member of a group; an empty name, which no document gives, names nobody (own)
+abbrev pub named : (Text → Who) → Text → Option Who
+named who [] = None
+named who (b ∷ bs) = Some (who (b ∷ bs))
+
+-- the principal that a subject of a binding in that namespace, or in none, stands for: an account's
+-- is its user, and an account without any namespace has none (own)
+abbrev pub subject_principal : Option Text → Subject → Option Who
+subject_principal _ (User name) = named (λ n. AsUser n []) name
+subject_principal _ (Group name) = named AsMember name
+subject_principal _ (Account (Some namespace) name) = Some (account_principal namespace name)
+subject_principal (Some namespace) (Account None name) = Some (account_principal namespace name)
+subject_principal None (Account None name) = None

@@ -29,6 +29,10 @@ NameMatches names x = (names ≡ []) ⊎ Contains names x
 abbrev pub EndsInStar : Text → Type 0
 EndsInStar t = (r : Text) × (t ≡ r ++ star ∷ [])
 
+-- the word ends in stars, and p is what comes before all of them
+abbrev pub IsBeforeStars : Text → Text → Type 0
+IsBeforeStars w p = (k : ℕ) × (w ≡ p ++ replicate (k + 1) star) × (¬ EndsInStar p)
+
 -- a rule's word matches a URL path: it is the path, or it ends in stars and the path begins with
 -- what comes before all of them (rbac/v1 evaluation helpers; more than one star: own)
 abbrev pub UrlWordMatches : Text → Text → Type 0

@@ -17,6 +17,11 @@ who_key (AsMember group) = codes "g:" ++ group
 abbrev pub account_user : Text → Text → Text
 account_user namespace name = codes "system:serviceaccount:" ++ namespace ++ codes ":" ++ name
 
+-- who asks as a service account: its user, without further groups (Using RBAC Authorization,
+-- Referring to subjects)
+abbrev pub account_principal : Text → Text → Who
+account_principal namespace name = AsUser (account_user namespace name) []
+
 -- a part of a service account's user name, the namespace or the account's name: not empty and
 -- without a colon (own)
 abbrev pub IsPart : Text → Type 0

@@ -1,4 +1,5 @@
-use Rattle.std.specs.Prelude.{◌≡◌, ◌≢◌, [], Bool, true, false, codes}
+use Rattle.std.specs.Prelude.{◌≡◌, ◌≢◌, [], Bool, true, false, codes, nat_eq}
+use Rattle.std.specs.List.{starts_with}
 use Rattle.rbac_terms.specs.Text.{Text, BeginsWith}
 
 -- what a request is for: a resource by API group, resource text and object name, or a URL by its
@@ -7,11 +8,22 @@ pub data What : Type 0 where
   Resource : (group text name : Text) → What
   Url : (path : Text) → What
 
--- a resource text isn't empty and doesn't begin with a slash; a URL begins with one (own, after the
--- paths of API requests)
+-- a path begins with a slash (own, after the paths of API requests)
+abbrev pub IsPath : Text → Type 0
+IsPath text = BeginsWith text (codes "/")
+
+-- whether a text is a path
+abbrev pub is_path : Text → Bool
+is_path text = starts_with nat_eq text (codes "/")
+
+-- a resource text isn't empty, and isn't a path (own)
+abbrev pub IsResourceText : Text → Type 0
+IsResourceText text = (text ≢ []) × (¬ IsPath text)
+
+-- a target is a resource by its resource text, or a URL by its path (own)
 abbrev pub IsProper : What → Type 0
-IsProper (Resource group text name) = (text ≢ []) × (¬ BeginsWith text (codes "/"))
-IsProper (Url path) = BeginsWith path (codes "/")
+IsProper (Resource group text name) = IsResourceText text
+IsProper (Url path) = IsPath path
 
 -- the API group of a target; empty for the core group and for a URL
 abbrev pub group_of : What → Text

@@ -1,15 +1,18 @@
 //! Roles, and the bindings that grant them.
 
 ghost use Rattle.std.specs.Prelude.{◌≡◌, IsTrue, ◌↔◌, IfOk, IsOkAnd, None};
-ghost use Rattle.std.specs.Prelude.{MatchOption, option_copied};
+ghost use Rattle.std.specs.Prelude.{MatchOption, option_copied, []};
+ghost use Rattle.std.specs.Option.{option_or};
 ghost use Rattle.rbac_terms.specs.Text.{Text};
-ghost use Rattle.rbac_terms.specs.Granting.{Names, IsSubjectKey};
+ghost use Rattle.rbac_terms.specs.Granting.{Names, IsSubjectKey, named, subject_principal};
+ghost use Rattle.rbac_terms.specs.Principals.{AsUser, AsMember};
 
+use crate::fault::ModelFault;
 use crate::items::Items;
 use crate::matching::Rules;
 use crate::request::{Principal, account_user, member_key, user_key};
 use crate::selecting::{Labels, Selectors};
-use crate::text::Word;
+use crate::text::{Word, Words};
 use std::alloc::{AllocError, Global};
 
 /// A role of one namespace (Using RBAC Authorization, "Role and ClusterRole").
@@ -92,7 +95,7 @@ pub fn names(subject: &Subject, binding_namespace: Option<&Word>, principal: &Pr
     match subject {
         Subject::User(name) => principal.is_user_named(name),
         Subject::Group(name) => principal.in_group(name),
-        Subject::Account { namespace, name } => match namespace.as_ref().or(binding_namespace) {
+        Subject::Account { namespace, name } => match namespace_of(namespace, binding_namespace) {
             Some(namespace) => principal.is_account(namespace, name),
             None => false,
         },
@@ -118,7 +121,7 @@ pub fn subject_key(
     match subject {
         Subject::User(name) => Ok(Some(user_key(alloc, name)?)),
         Subject::Group(name) => Ok(Some(member_key(alloc, name)?)),
-        Subject::Account { namespace, name } => match namespace.as_ref().or(binding_namespace) {
+        Subject::Account { namespace, name } => match namespace_of(namespace, binding_namespace) {
             Some(namespace) => {
                 let user = account_user(alloc, namespace, name)?;
                 Ok(Some(user_key(alloc, &user)?))
@@ -126,4 +129,57 @@ pub fn subject_key(
             None => Ok(None),
         },
     }
+}
+
+/// The principal that a subject stands for, in a binding in that namespace, or in a
+/// ClusterRoleBinding if there is none (own): an account's is its user. An account without a
+/// namespace is in the binding's; in a ClusterRoleBinding it stands for nobody, as does an empty
+/// name. Fails only if it runs out of memory.
+pub fn subject_principal(
+    alloc: Global,
+    subject: &Subject,
+    binding_namespace: Option<&Word>,
+) -> Result<Option<Principal>, AllocError>
+    ensures { IfOk result
+        (λ p. p ≡ subject_principal (option_copied binding_namespace.entry) subject.now) }
+{
+    match subject {
+        Subject::User(name) => user_of(alloc, name),
+        Subject::Group(name) => member_of(alloc, name),
+        Subject::Account { namespace, name } => {
+            let Some(namespace) = namespace_of(namespace, binding_namespace) else {
+                return Ok(None);
+            };
+            Ok(Some(Principal::account(alloc, namespace, name)?))
+        }
+    }
+}
+
+// The user of this name, unless the name is empty.
+fn user_of(alloc: Global, name: &Word) -> Result<Option<Principal>, AllocError>
+    ensures { IfOk result (λ p. p ≡ named (λ n. AsUser n []) name.now) }
+{
+    match Principal::user(alloc, name, &Words::new(alloc)) {
+        Ok(user) => Ok(Some(user)),
+        Err(ModelFault::EmptyName) => Ok(None),
+        Err(_) => Err(AllocError),
+    }
+}
+
+// A member of the group of this name, unless the name is empty.
+fn member_of(alloc: Global, name: &Word) -> Result<Option<Principal>, AllocError>
+    ensures { IfOk result (λ p. p ≡ named AsMember name.now) }
+{
+    match Principal::group(alloc, name) {
+        Ok(member) => Ok(Some(member)),
+        Err(ModelFault::EmptyName) => Ok(None),
+        Err(_) => Err(AllocError),
+    }
+}
+
+// The namespace of an account: its own, or else that of the binding that names it.
+fn namespace_of<'a>(own: &'a Option<Word>, binding_namespace: Option<&'a Word>) -> Option<&'a Word>
+    ensures { option_copied result ≡ option_or own.now (option_copied binding_namespace.entry) }
+{
+    own.as_ref().or(binding_namespace)
 }

@@ -8,6 +8,7 @@ mod given_groups;
 mod granting;
 mod items;
 mod keys;
+mod kinds;
 mod matching;
 mod request;
 mod selecting;
@@ -15,14 +16,17 @@ mod sorted;
 mod text;
 
 pub use fault::ModelFault;
-pub use granting::{Binding, ClusterRole, Role, RoleRef, Subject, Subjects, names, subject_key};
+pub use granting::{
+    Binding, ClusterRole, Role, RoleRef, Subject, Subjects, names, subject_key, subject_principal,
+};
 pub use items::Items;
 pub use keys::Key;
+pub use kinds::{CLUSTER_ROLE, CLUSTER_ROLE_BINDING, ROLE, ROLE_BINDING, SERVICE_ACCOUNT};
 pub use matching::{
-    Rule, Rules, group_matches, name_matches, resource_matches, rule_allows, target_matches,
-    url_matches, verb_matches,
+    Rule, Rules, before_stars, group_matches, name_matches, resource_matches, rule_allows,
+    target_matches, url_matches, verb_matches,
 };
-pub use request::{Principal, Target, account_user};
+pub use request::{Principal, Target, account_user, is_path, is_resource_text};
 pub use selecting::{Labels, Requirement, Requirements, SelectOp, Selector, Selectors, selects};
 pub use sorted::{is_among, sorted_copy};
 pub use text::{Word, Words, cut_at_first};

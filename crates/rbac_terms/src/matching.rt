@@ -1,10 +1,10 @@
 //! Rules, and which requests their words match.
 
-ghost use Rattle.std.specs.Prelude.{◌≡◌, ℕ, ◌++◌, IsTrue, ◌↔◌, Any, replicate};
+ghost use Rattle.std.specs.Prelude.{◌≡◌, ◌++◌, ◌∷◌, [], IsTrue, ◌↔◌, Any, MatchOption};
 ghost use Rattle.rbac_terms.specs.Text.{star};
 ghost use Rattle.rbac_terms.specs.Matching.{WordMatches, ResourceWordMatches, FollowsFirstSlash};
 ghost use Rattle.rbac_terms.specs.Matching.{NameMatches, UrlWordMatches, EndsInStar, TargetOk};
-ghost use Rattle.rbac_terms.specs.Matching.{RuleAllows};
+ghost use Rattle.rbac_terms.specs.Matching.{RuleAllows, IsBeforeStars};
 ghost use Rattle.rbac_terms.specs.Targets.{Resource};
 
 use crate::items::Items;
@@ -150,20 +150,30 @@ fn url_word_matches(word: &[u8], path: &[u8]) -> bool
     if word == path {
         return true;
     }
-    let prefix = without_trailing_stars(word);
-    prefix.len() < word.len() && path.starts_with(prefix)
+    let Some(prefix) = before_stars(word) else {
+        return false;
+    };
+    path.starts_with(prefix)
 }
 
-fn without_trailing_stars(word: &[u8]) -> &[u8]
-    ensures stars { (k : ℕ) × (word.now ≡ result.now ++ replicate k star) }
-    ensures none_left { ¬ EndsInStar result.now }
+/// What comes before the stars at the end of a word; `None` if it doesn't end in a star. A URL
+/// word that ends in stars matches the paths that begin with it (rbac/v1 evaluation helpers,
+/// NonResourceURLMatches; more than one star: own). Doesn't allocate.
+pub fn before_stars(word: &[u8]) -> Option<&[u8]>
+    ensures { MatchOption result (¬ EndsInStar word.now)
+        (λ before. IsBeforeStars word.now before.now) }
 {
-    let mut rest = word;
-    while let Some((last, before)) = rest.split_last() {
-        if *last != b'*' {
-            break;
-        }
-        rest = before;
+    let mut before = without_star(word)?;
+    while let Some(shorter) = without_star(before) {
+        before = shorter;
     }
-    rest
+    Some(before)
+}
+
+// The text without the star at its end.
+fn without_star(text: &[u8]) -> Option<&[u8]>
+    ensures { MatchOption result (¬ EndsInStar text.now)
+        (λ before. text.now ≡ before.now ++ star ∷ []) }
+{
+    text.strip_suffix(b"*".as_slice())
 }

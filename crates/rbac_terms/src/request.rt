@@ -4,9 +4,10 @@ ghost use Rattle.std.specs.Prelude.{◌≡◌, ◌≢◌, ◌++◌, ◌⊎◌, [
 ghost use Rattle.std.specs.Prelude.{MatchOption, IfOk, IfErr, OnOk, OnErr, Contains};
 ghost use Rattle.rbac_terms.specs.Text.{Text};
 ghost use Rattle.rbac_terms.specs.Targets.{Resource, Url, IsProper, IsUrl, IsResource, group_of};
-ghost use Rattle.rbac_terms.specs.Targets.{text_of, name_of};
+ghost use Rattle.rbac_terms.specs.Targets.{text_of, name_of, IsPath, IsResourceText, is_path};
 ghost use Rattle.rbac_terms.specs.Principals.{AsUser, AsMember, who_key, name_of as who_name};
 ghost use Rattle.rbac_terms.specs.Principals.{given_of, IsUserNamed, IsInGroup, account_user};
+ghost use Rattle.rbac_terms.specs.Principals.{account_principal};
 ghost use Rattle.rbac_terms.specs.Principals.{IsAccountOf, IsAccountGroup, IsGroupOfAccounts};
 ghost use Rattle.rbac_terms.specs.Principals.{IsImpliedGroup, IsPart, IsSignInGroup, IsAccountIn};
 ghost use Rattle.rbac_terms.specs.Principals.{SignsInAs};
@@ -77,7 +78,7 @@ impl Target {
             (λ t. (t ≡ Resource group text name) × IsProper t)
             (λ e. (e ≡ ModelFault.BadTarget) × ¬ IsProper (Resource group text name)) }
     {
-        if text.is_empty() || text.as_bytes().starts_with(b"/".as_slice()) {
+        if !is_resource_text(text.as_bytes()) {
             return Err(ModelFault::BadTarget);
         }
         Ok(Target {
@@ -95,7 +96,7 @@ impl Target {
             (λ t. (t ≡ Url path) × IsProper t)
             (λ e. (e ≡ ModelFault.BadTarget) × ¬ IsProper (Url path)) }
     {
-        if !path.as_bytes().starts_with(b"/".as_slice()) {
+        if !is_path(path.as_bytes()) {
             return Err(ModelFault::BadTarget);
         }
         Ok(Target {
@@ -136,6 +137,23 @@ impl Target {
     {
         &self.name
     }
+}
+
+/// Whether a text is the path of a URL: it begins with a slash (own, after the paths of API
+/// requests). Doesn't allocate.
+pub fn is_path(text: &[u8]) -> bool
+    ensures path { IsTrue result ↔ IsPath text.now }
+    ensures value { result ≡ is_path text.now }
+{
+    text.starts_with(b"/".as_slice())
+}
+
+/// Whether a text can be the resource text of a target: it isn't empty, and isn't a path (own).
+/// Doesn't allocate.
+pub fn is_resource_text(text: &[u8]) -> bool
+    ensures { IsTrue result ↔ IsResourceText text.now }
+{
+    !text.is_empty() && !is_path(text)
 }
 
 /// Who asks: a user by name, with the groups given, or a member of one group, without a name of its
@@ -190,6 +208,18 @@ impl Principal {
             key: named_key(alloc, MEMBER, name)?,
             given: GivenGroups::new(alloc),
         })
+    }
+
+    /// The user that this service account asks as, with no groups given (Using RBAC Authorization,
+    /// "Referring to subjects"). Fails only if it runs out of memory.
+    pub fn account(alloc: Global, namespace: &Word, name: &Word) -> Result<Self, AllocError>
+        ensures { IfOk result (λ p. p ≡ account_principal namespace.now name.now) }
+    {
+        let user = account_user(alloc, namespace, name)?;
+        match Principal::user(alloc, &user, &Words::new(alloc)) {
+            Ok(user) => Ok(user),
+            Err(_) => Err(AllocError),
+        }
     }
 
     /// Gives a user, in addition, the groups that another principal of the same key is given; a

@@ -1,27 +1,24 @@
-use Rattle.std.proofs.Common.{drop, length, arith}
+use Rattle.std.proofs.Common.{drop, length}
 use Rattle.std.proofs.lemmas.Slice.Eq.{slice_eq-Decides, starts_is}
 use Rattle.std.proofs.lemmas.Bool.Decides.{Decides-eqb}
-use Rattle.std.proofs.lemmas.Bool.{both_ways, ltb-true}
+use Rattle.std.proofs.lemmas.Bool.{both_ways}
 use Rattle.rbac_terms.proofs.Texts.{UrlWordMatches-iff, UrlWordMatches-none}
 use Rattle.rbac_terms.proofs.matching.url_word_matches.Goals as goal
 
-pub returns-then-prefix-word : goal.returns-then-prefix-word
-returns-then-prefix-word c =
-    let word = c.args.word.now in
-    let path = c.args.path.now in
-    let prefix = c.without_trailing_stars-prefix.result.now in
-    let stars = c.without_trailing_stars-prefix.ensures.stars in
-    let begins = starts_is Decides-eqb path prefix _ c.starts_with.ensures.value in
-    UrlWordMatches-iff word path prefix stars.0 _
-    (λ e. both_ways _ c.if-eq.false ((slice_eq-Decides Decides-eqb _ _ _ c.eq.ensures).1 e))
-    stars.1 c.without_trailing_stars-prefix.ensures.none_left (omega arith)
-    (λ h. (drop (length prefix) path, begins.0 h), λ b. begins.1 b.0 b.1)
+pub returns-in_default : goal.returns-in_default
+returns-in_default c = (
+  λ h. cc,
+  λ m. absurd (UrlWordMatches-none c.args.word.now c.args.path.now
+      (λ e. both_ways _ c.if-eq.false ((slice_eq-Decides Decides-eqb _ _ _ c.eq.ensures).1 e))
+      c.in_default.ensures m),
+)
 
-pub returns-else-prefix-word : goal.returns-else-prefix-word
-returns-else-prefix-word c =
-    let stars = c.without_trailing_stars-prefix.ensures.stars in (
-      λ h. absurd (omega (arith, ltb-true _ _ h)),
-      λ m. absurd (UrlWordMatches-none _ _ c.without_trailing_stars-prefix.result.now stars.0
-          (λ e. both_ways _ c.if-eq.false ((slice_eq-Decides Decides-eqb _ _ _ c.eq.ensures).1 e))
-          stars.1 c.without_trailing_stars-prefix.ensures.none_left (omega arith) m),
-    )
+pub returns : goal.returns
+returns c =
+    let path = c.args.path.now in
+    let prefix = c.in-Some.prefix.now in
+    let begins = starts_is Decides-eqb path prefix _ c.starts_with.ensures.value in
+    UrlWordMatches-iff c.args.word.now path prefix _
+    (λ e. both_ways _ c.if-eq.false ((slice_eq-Decides Decides-eqb _ _ _ c.eq.ensures).1 e))
+    c.in-Some.ensures
+    (λ h. (drop (length prefix) path, begins.0 h), λ b. begins.1 b.0 b.1)
