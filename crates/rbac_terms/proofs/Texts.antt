@@ -1,7 +1,7 @@
 -- how texts are cut: at their first slash, and before their trailing stars
-use Rattle.std.proofs.Common.{◌≡◌, ◌≢◌, ℕ, ◌+◌, ◌<◌, [], ◌∷◌, ◌++◌, length, take, drop, get_or, Contains, replicate, sym, ap, ◌∙◌, refl, arith, append_assoc, suc, zero, add-one, ◌↔◌, inl, inr, Bool, IsTrue, Decides, subst, MatchOption, Bor}
+use Rattle.std.proofs.Common.{◌≡◌, ◌≢◌, ℕ, ◌+◌, ◌<◌, [], ◌∷◌, ◌++◌, length, take, drop, get_or, Contains, replicate, sym, ap, ◌∙◌, refl, arith, append_assoc, suc, zero, add-one, ◌↔◌, inl, inr, Bool, IsTrue, Decides, subst, ◌≤◌, MatchOption, Bor}
 use Rattle.std.specs.Prelude.{Option, Some, None}
-use Rattle.std.proofs.lemmas.List.{same_from_push, replicate_more, append-nil, drop_more, take-append-drop, get_or_at, get_or_default, get_or-take, length-take, length-append}
+use Rattle.std.proofs.lemmas.List.{same_from_push, replicate_more, append-nil, drop_more, take-append-drop, get_or_at, get_or_default, get_or-take, length-take, length-append, length-replicate}
 use Rattle.rbac_terms.specs.Text.{Text, star, slash, IsCutAtFirst, BeginsWith}
 use Rattle.rbac_terms.specs.Matching.{EndsInStar, IsBeforeStars, FollowsFirstSlash, UrlWordMatches}
 
@@ -100,11 +100,12 @@ UrlWordMatches-iff w x p r ne is i = (
   ],
 )
 
-pub UrlWordMatches-none : (w x : Text) → w ≢ x → (EndsInStar w → ⊥) → UrlWordMatches w x → ⊥
-UrlWordMatches-none w x ne none m =
+pub UrlWordMatches-none : (w x p : Text) (k : ℕ) → w ≢ x → w ≡ p ++ replicate k star → (EndsInStar p → ⊥) → length w ≤ length p → UrlWordMatches w x → ⊥
+UrlWordMatches-none w x p k ne e none l m =
     elim m [
       | inl a ↦ ne a
-      | inr b ↦ none (ends w b.0 b.1 b.2)
+      | inr b ↦ let same : b.0 ≡ p = same_prefix b.0 p (b.1 + 1) k b.3 none (sym b.2 ∙ e) in
+          omega (arith, ap length b.2, length-append b.0 (replicate (b.1 + 1) star), length-replicate (b.1 + 1) star, ap length same)
     ]
 
 pub without_star_is : (text back : Text) (r : Option (Bor Text)) → back ≡ star ∷ [] → MatchOption r ((prefix : Text) → text ≢ prefix ++ back) (λ x. text ≡ x.now ++ back) → MatchOption r (EndsInStar text → ⊥) (λ x. text ≡ x.now ++ star ∷ [])

@@ -1,4 +1,5 @@
-use Rattle.std.proofs.Common.{drop, length}
+use Rattle.std.proofs.Common.{drop, length, sym, arith}
+use Rattle.std.proofs.lemmas.List.{append-nil}
 use Rattle.std.proofs.lemmas.Slice.Eq.{slice_eq-Decides, starts_is}
 use Rattle.std.proofs.lemmas.Bool.Decides.{Decides-eqb}
 use Rattle.std.proofs.lemmas.Bool.{both_ways}
@@ -8,9 +9,10 @@ use Rattle.rbac_terms.proofs.matching.url_word_matches.Goals as goal
 pub returns-in_default : goal.returns-in_default
 returns-in_default c = (
   λ h. cc,
-  λ m. absurd (UrlWordMatches-none c.args.word.now c.args.path.now
+  λ m. let word = c.args.word.now in
+      absurd (UrlWordMatches-none word c.args.path.now word 0
       (λ e. both_ways _ c.if-eq.false ((slice_eq-Decides Decides-eqb _ _ _ c.eq.ensures).1 e))
-      c.in_default.ensures m),
+      (sym (append-nil word)) c.in_default.ensures (omega arith) m),
 )
 
 pub returns : goal.returns
