@@ -1,4 +1,4 @@
-//! The kind words of objects that decide who may do what (Using RBAC Authorization, "API objects").
+//! The kind words of objects (Using RBAC Authorization, "API objects").
 
 /// The kind of a [`Role`](crate::Role).
 pub const ROLE: &str = "Role";
@@ -11,6 +11,9 @@ pub const ROLE_BINDING: &str = "RoleBinding";
 
 /// The kind of a [`Binding`](crate::Binding) in the whole cluster.
 pub const CLUSTER_ROLE_BINDING: &str = "ClusterRoleBinding";
+
+/// The kind of a namespace.
+pub const NAMESPACE: &str = "Namespace";
 
 /// The kind of a service account.
 pub const SERVICE_ACCOUNT: &str = "ServiceAccount";

@@ -21,7 +21,9 @@ pub use granting::{
 };
 pub use items::Items;
 pub use keys::Key;
-pub use kinds::{CLUSTER_ROLE, CLUSTER_ROLE_BINDING, ROLE, ROLE_BINDING, SERVICE_ACCOUNT};
+pub use kinds::{
+    CLUSTER_ROLE, CLUSTER_ROLE_BINDING, NAMESPACE, ROLE, ROLE_BINDING, SERVICE_ACCOUNT,
+};
 pub use matching::{
     Rule, Rules, before_stars, group_matches, name_matches, resource_matches, rule_allows,
     target_matches, url_matches, verb_matches,
