@@ -1,9 +1,9 @@
 -- what the targets of stems are, and how their flags go with them
 use Rattle.std.proofs.Common.{◌≡◌, List, [], ◌∷◌, false, map, refl, ap}
 use Rattle.rbac_terms.specs.Text.{Text}
-use Rattle.rbac_terms.specs.Targets.{What, Resource}
+use Rattle.rbac_terms.specs.Targets.{What, Resource, is_path}
 use Rattle.rbac_universe.specs.declared.lists.ListedResource.{ListedResource}
-use Rattle.rbac_universe.specs.Stems.{is_path, flags_of}
+use Rattle.rbac_universe.specs.Stems.{flags_of}
 
 flags_along : (s : ListedResource) (f : Text → What) (names : List Text) → map (λ t. s.namespaced) (map f names) ≡ map (λ n. s.namespaced) names
 flags_along s f [] = refl

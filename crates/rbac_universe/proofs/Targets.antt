@@ -1,5 +1,5 @@
 -- the targets that stems and names make are those of the lists, in order
-use Rattle.std.proofs.Common.{◌≡◌, ◌≢◌, ℕ, List, [], ◌∷◌, map, get_or, All, Any, Contains, IsTrue, ◌↔◌, ◌⊎◌, inl, inr, sym, ap, ◌∙◌, refl, arith, subst, Bool, true, false, cond, Less, Equal, Greater, Ordering}
+use Rattle.std.proofs.Common.{◌≡◌, ◌≢◌, List, [], ◌∷◌, map, get_or, All, Any, Contains, IsTrue, ◌↔◌, ◌⊎◌, inl, inr, sym, ap, ◌∙◌, refl, arith, drop, subst, Bool, true, false, cond, Less, Equal, Greater, Ordering}
 use Rattle.std.specs.Prelude.{AllPairs, codes}
 use Rattle.std.specs.List.{flat_map}
 use Rattle.std.specs.Ordering.{ordering_then}
@@ -7,8 +7,10 @@ use Rattle.std.specs.Cmp.Lexicographic.{slice_cmp}
 use Rattle.std.proofs.lemmas.Cmp.{nat_list_cmp_total, tied_itself}
 use Rattle.std.proofs.lemmas.List.Elements.{Contains-get_or, Contains-append_left, Contains-append_right, Contains-append_cases, All-contains}
 use Rattle.std.proofs.lemmas.Map.Keys.{Less-from_sorted}
-use Rattle.rbac_terms.specs.Text.{Text, text_cmp, BeginsWith}
-use Rattle.rbac_terms.specs.Targets.{What, Resource, Url, IsProper, group_of, text_of}
+use Rattle.std.proofs.lemmas.Slice.Eq.{starts_is}
+use Rattle.std.proofs.lemmas.Bool.Decides.{Decides-eqb}
+use Rattle.rbac_terms.specs.Text.{Text, text_cmp}
+use Rattle.rbac_terms.specs.Targets.{What, Resource, Url, IsProper, IsPath, is_path, group_of, text_of}
 use Rattle.rbac_terms.proofs.Cases.{by_bool}
 use Rattle.rbac_model.specs.Lists.{by_name, IsAscendingBy, IsOnceEach}
 use Rattle.rbac_model.specs.Universes.{Listed, target_texts}
@@ -16,22 +18,18 @@ use Rattle.rbac_model.proofs.OneList.{one_of_name}
 use Rattle.rbac_universe.specs.declared.lists.UniverseLists.{UniverseLists}
 use Rattle.rbac_universe.specs.declared.lists.ListedResource.{ListedResource}
 use Rattle.rbac_universe.specs.Sets.{AreProper, IsTarget, IsNamespaced}
-use Rattle.rbac_universe.specs.Stems.{is_path, stem_name, url_stem, stems_of, targets_of, listed_of, IsStem}
+use Rattle.rbac_universe.specs.Stems.{stem_name, url_stem, stems_of, targets_of, listed_of, IsStem}
 use Rattle.rbac_universe.specs.Uniting.{AreUnitedBy, HasUnder}
 use Rattle.rbac_universe.proofs.Flattened.{in_cons, contains_map, map_contains, contains_flat, flat_contains, pairs_map, pairs_flat}
 use Rattle.rbac_universe.proofs.OneMore.{as_any}
 
-is_slash : (b : ℕ) (rest : Text) → is_path (b ∷ rest) ≡ true → b ≡ 47
-is_slash b rest e = grind (arith, e)
+pub path_begins : (t : Text) → is_path t ≡ true → IsPath t
+path_begins t e = (drop 1 t, (starts_is Decides-eqb t (codes "/") _ refl).0 e)
 
-pub path_begins : (t : Text) → is_path t ≡ true → BeginsWith t (codes "/")
-path_begins [] e = cc
-path_begins (b ∷ rest) e = (rest, ap (λ c. c ∷ rest) (is_slash b rest e))
+pub begins_path : (t : Text) → IsPath t → is_path t ≡ true
+begins_path t w = (starts_is Decides-eqb t (codes "/") _ refl).1 w.0 w.1
 
-pub begins_path : (t : Text) → BeginsWith t (codes "/") → is_path t ≡ true
-begins_path t w = rw w.1 refl
-
-not_path : (t : Text) → (BeginsWith t (codes "/") → ⊥) → is_path t ≡ false
+not_path : (t : Text) → (IsPath t → ⊥) → is_path t ≡ false
 not_path t none = by_bool (is_path t) (λ e. absurd (none (path_begins t e))) (λ e. e)
 
 same_bool : {P : Type 0} (a b : Bool) → IsTrue a ↔ P → IsTrue b ↔ P → a ≡ b

@@ -1,15 +1,10 @@
 -- Stems, from which targets are made: a resource, which is combined with each name, or a URL.
-use Rattle.std.specs.Prelude.{◌≡◌, ◌≢◌, List, [], IsTrue, ◌∷◌, ◌++◌, Bool, false, cond, map, ◌==◌}
-use Rattle.rbac_terms.specs.Text.{Text, slash}
-use Rattle.rbac_terms.specs.Targets.{What, Resource, Url}
+use Rattle.std.specs.Prelude.{◌≡◌, ◌≢◌, List, [], IsTrue, ◌∷◌, ◌++◌, Bool, false, cond, map}
+use Rattle.rbac_terms.specs.Text.{Text}
+use Rattle.rbac_terms.specs.Targets.{What, Resource, Url, is_path}
 use Rattle.rbac_model.specs.Universes.{Listed}
 use Rattle.rbac_universe.specs.declared.lists.UniverseLists.{UniverseLists}
 use Rattle.rbac_universe.specs.declared.lists.ListedResource.{ListedResource}
-
--- a URL begins with a slash, which a resource doesn't
-abbrev pub is_path : Text → Bool
-is_path [] = false
-is_path (b ∷ rest) = b == slash
 
 abbrev pub stem_name : ListedResource → List Text
 stem_name s = s.group ∷ s.text ∷ []

@@ -2,16 +2,15 @@
 
 ghost use Rattle.std.specs.Prelude.{◌≡◌, ◌≤◌, ◌↔◌, [], IsTrue, IfOk, All, length};
 ghost use Rattle.rbac_terms.specs.Text.{text_cmp};
-ghost use Rattle.rbac_terms.specs.Targets.{Resource, IsProper};
+ghost use Rattle.rbac_terms.specs.Targets.{Resource, IsProper, is_path};
 ghost use Rattle.rbac_model.specs.Lists.{IsOnceEach};
 ghost use Rattle.rbac_universe.specs.Sets.{AreProper, IsWithinLimits};
-ghost use Rattle.rbac_universe.specs.Stems.{is_path};
 ghost use Rattle.rbac_model.specs.Universes.{most_targets, most_words};
 
 use crate::lists::{ListedResource, UniverseLists};
-use crate::stems::{count_targets, is_path, stems_of};
+use crate::stems::{count_targets, stems_of};
 use crate::unions::united;
-use rbac_terms::{Principal, Word, Words};
+use rbac_terms::{Principal, Word, Words, is_path, is_resource_text};
 use std::alloc::{AllocError, Global};
 
 /// The sets of a universe, with the stems and names from which its targets are made.
@@ -112,11 +111,11 @@ fn are_resources(resources: &[ListedResource]) -> bool
 fn is_resource(resource: &ListedResource) -> bool
     ensures { IsTrue result ↔ IsProper (Resource resource.now.group resource.now.text []) }
 {
-    !resource.text.is_empty() && !is_path(&resource.text)
+    is_resource_text(resource.text.as_bytes())
 }
 
 fn are_urls(urls: &[Word]) -> bool
     ensures { IsTrue result ↔ All (λ path. IsTrue (is_path path)) urls.now }
 {
-    urls.iter().all(|path| is_path(path))
+    urls.iter().all(|path| is_path(path.as_bytes()))
 }

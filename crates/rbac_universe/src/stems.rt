@@ -3,13 +3,13 @@
 
 ghost use Rattle.std.specs.Prelude.{◌≡◌, ◌++◌, length, All, IfOk, OnOk, IsTrue};
 ghost use Rattle.std.specs.List.{flat_map};
-ghost use Rattle.rbac_terms.specs.Targets.{Resource, Url, IsProper};
-ghost use Rattle.rbac_universe.specs.Stems.{is_path, url_stem, stems_of, stem_name, targets_of};
+ghost use Rattle.rbac_terms.specs.Targets.{Resource, Url, IsProper, is_path};
+ghost use Rattle.rbac_universe.specs.Stems.{url_stem, stems_of, stem_name, targets_of};
 ghost use Rattle.rbac_universe.specs.Stems.{flags_of, IsStem};
 
 use crate::lists::{ListedResource, UniverseLists};
 use crate::unions::Unites;
-use rbac_terms::{Target, Word};
+use rbac_terms::{Target, Word, is_path};
 use std::alloc::{AllocError, Global};
 use std::cmp::Ordering;
 
@@ -33,13 +33,12 @@ impl Unites for ListedResource {
     }
 }
 
-// Whether a text is a URL's path.
-pub(crate) fn is_path(text: &Word) -> bool
-    ensures { result ≡ is_path text.now }
-{
-    match text.as_bytes().first() {
-        Some(byte) => *byte == b'/',
-        None => false,
+impl ListedResource {
+    // Whether the stem is a URL.
+    fn is_url(&self) -> bool
+        ensures { result ≡ is_path self.now.text }
+    {
+        is_path(self.text.as_bytes())
     }
 }
 
@@ -89,7 +88,7 @@ pub(crate) fn count_targets(stems: &[ListedResource], names: &[Word]) -> u128
 fn count_at(stem: &ListedResource, names: &[Word]) -> usize
     ensures { result ≡ length (targets_of names.now stem.now) }
 {
-    if is_path(&stem.text) { 1 } else { names.len() }
+    if stem.is_url() { 1 } else { names.len() }
 }
 
 // The targets of these stems with these names, in order.
@@ -117,7 +116,7 @@ fn push_targets(
     requires { IsStem stem.now }
     ensures { OnOk result (targets.new.items ≡ targets.old.items ++ targets_of names.now stem.now) }
 {
-    if is_path(&stem.text) {
+    if stem.is_url() {
         targets.push(url_at(alloc, stem)?)?;
         return Ok(());
     }
@@ -169,7 +168,7 @@ fn push_flags(
 ) -> Result<(), AllocError>
     ensures { OnOk result (flags.new.items ≡ flags.old.items ++ flags_of names.now stem.now) }
 {
-    if is_path(&stem.text) {
+    if stem.is_url() {
         flags.push(stem.namespaced)?;
         return Ok(());
     }

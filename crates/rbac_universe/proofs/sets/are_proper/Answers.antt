@@ -1,7 +1,6 @@
 use Rattle.std.proofs.Common.{IsTrue}
 use Rattle.std.proofs.lemmas.List.Elements.{All-weaker}
-use Rattle.rbac_terms.specs.Targets.{Url, IsProper}
-use Rattle.rbac_universe.specs.Stems.{is_path}
+use Rattle.rbac_terms.specs.Targets.{Url, IsProper, is_path}
 use Rattle.rbac_universe.proofs.Targets.{begins_path, path_begins}
 use Rattle.rbac_universe.proofs.sets.are_proper.Goals as goal
 
