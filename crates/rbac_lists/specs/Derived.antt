@@ -1,39 +1,19 @@
 -- The lists that are derived from what is kept, one comprehension each (own).
 use Rattle.std.specs.Prelude.{nat_eq, Bool, true, not, ◌&&◌, ◌==◌, List, [], ◌∷◌, ◌++◌, map, filter}
-use Rattle.std.specs.Prelude.{length, codes, Option, Some, None, is_none, if◌then◌else◌}
-use Rattle.std.specs.List.{flat_map, filter_map, list_any, starts_with, ends_with}
+use Rattle.std.specs.Prelude.{length, codes, is_none, if◌then◌else◌}
+use Rattle.std.specs.List.{flat_map, filter_map, list_any, ends_with}
 use Rattle.std.specs.Str.{bytes_eq}
 use Rattle.rbac_terms.specs.Text.{Text, star}
-use Rattle.rbac_terms.specs.Principals.{Who, AsUser, AsMember, account_user}
+use Rattle.rbac_terms.specs.Principals.{Who, account_principal}
+use Rattle.rbac_terms.specs.Targets.{is_path}
+use Rattle.rbac_terms.specs.Granting.{subject_principal}
 use Rattle.rbac_terms.specs.declared.matching.Rule.{Rule}
-use Rattle.rbac_terms.specs.declared.granting.Subject.{Subject}
-use Rattle.rbac_terms.specs.declared.granting.Subject.TheVariants.{User, Group}
-use Rattle.rbac_terms.specs.declared.granting.Subject.TheVariants.{Account as AccountSubject}
 use Rattle.rbac_model.specs.Policies.{Held}
 use Rattle.rbac_catalogue.specs.Catalogue.{CatalogueView}
 use Rattle.rbac_universe.specs.declared.lists.ListedResource.{ListedResource}
 use Rattle.rbac_lists.specs.declared.given_lists.Account.{Account}
 
 -- ---- principals
-
--- a user or a member of a group; an empty name, which no document gives, names nobody
-abbrev pub named : (Text → Who) → Text → Option Who
-named who [] = None
-named who (b ∷ bs) = Some (who (b ∷ bs))
-
--- the user of a service account, without further groups
-abbrev pub account_principal : Text → Text → Who
-account_principal namespace name = AsUser (account_user namespace name) []
-
--- the principal of a subject of a binding in that namespace, or in none: an account's is its user,
--- and an account without any namespace has none
-abbrev pub subject_principal : Option Text → Subject → Option Who
-subject_principal _ (User name) = named (λ n. AsUser n []) name
-subject_principal _ (Group name) = named AsMember name
-subject_principal _ (AccountSubject (Some namespace) name) = Some (account_principal namespace name)
-subject_principal (Some namespace) (AccountSubject None name) =
-    Some (account_principal namespace name)
-subject_principal None (AccountSubject None name) = None
 
 -- the principals of all subjects, and the users of all service accounts
 abbrev pub principals_of : Held → List Account → List Who
@@ -74,25 +54,20 @@ verbs_of h c =
 abbrev pub has_star : Text → Bool
 has_star t = list_any (λ b. b == star) t
 
--- a text whose first byte is a slash
-abbrev pub begins_with_slash : Text → Bool
-begins_with_slash t = starts_with nat_eq t (codes "/")
-
--- a word that is a resource text: it isn't empty, doesn't begin with a slash, and has no `*` in it
-abbrev pub is_resource_text : Text → Bool
-is_resource_text text = not (length text == 0) && not (begins_with_slash text)
-    && not (has_star text)
+-- a word that names one resource: it isn't empty, isn't a path, and has no `*` in it
+abbrev pub is_plain_resource : Text → Bool
+is_plain_resource text = not (length text == 0) && not (is_path text) && not (has_star text)
 
 -- a resource as it is listed
 abbrev pub listed : Text → Text → Bool → ListedResource
 listed group text namespaced = record { group = group; text = text; namespaced = namespaced }
 
--- a group with each of these words that is a resource text; all of them namespaced
+-- a group with each of these words that names one resource; all of them namespaced
 abbrev pub group_resources : List Text → Text → List ListedResource
-group_resources words group = map (λ text. listed group text true) (filter is_resource_text words)
+group_resources words group = map (λ text. listed group text true) (filter is_plain_resource words)
 
--- each group of a rule, unless it contains a `*`, with those of the rule's resource words that are
--- resource texts
+-- each group of a rule, unless it contains a `*`, with those of the rule's resource words that name
+-- one resource
 abbrev pub rule_resources : Rule → List ListedResource
 rule_resources r =
     flat_map (group_resources r.resources) (filter (λ group. not (has_star group)) r.groups)
@@ -114,10 +89,10 @@ names_of h = [] ∷ flat_map (λ r. r.resource_names) (source_rules h)
 abbrev pub ends_in_star : Text → Bool
 ends_in_star t = ends_with nat_eq t (codes "*")
 
--- a URL word that is a path: it begins with a slash and doesn't end in `*`
+-- a URL word that names one URL: it is a path and doesn't end in `*`
 abbrev pub is_path_word : Text → Bool
-is_path_word word = begins_with_slash word && not (ends_in_star word)
+is_path_word word = is_path word && not (ends_in_star word)
 
--- the URL words of rules that are paths
+-- the URL words of rules that name one URL
 abbrev pub urls_of : Held → List Text
 urls_of h = filter is_path_word (flat_map (λ r. r.urls) (source_rules h))

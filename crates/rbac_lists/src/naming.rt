@@ -4,9 +4,8 @@ ghost use Rattle.std.specs.Prelude.{◌≡◌, ◌++◌, List, OnOk, IfOk, filte
 ghost use Rattle.std.specs.List.{flat_map};
 ghost use Rattle.rbac_terms.specs.declared.matching.Rule.{Rule};
 ghost use Rattle.rbac_lists.specs.Derived.{source_rules, rule_resources, group_resources};
-ghost use Rattle.rbac_lists.specs.Derived.{is_resource_text};
 
-use crate::texts::{copy_of, has_star, is_resource_text, put_words};
+use crate::texts::{copy_of, has_star, is_plain_resource, put_words};
 use rbac_model::Objects;
 use rbac_terms::{ClusterRole, Role, Rule, Word};
 use rbac_universe::ListedResource;
@@ -137,7 +136,7 @@ impl Naming for Resources {
     }
 }
 
-// Adds a resource of this group for each of these words that is a resource text.
+// Adds a resource of this group for each of these words that names one resource.
 fn put_of_group(
     alloc: Global,
     group: &Word,
@@ -147,7 +146,7 @@ fn put_of_group(
     ensures { OnOk result (list.new.items ≡ list.old.items ++ group_resources words.now group.now) }
 {
     for word in words {
-        if is_resource_text(word) {
+        if is_plain_resource(word) {
             list.push(listed(alloc, group, word, true)?)?;
         }
     }

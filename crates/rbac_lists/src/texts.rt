@@ -1,10 +1,10 @@
 //! Copies of texts, and what a text can be.
 
 ghost use Rattle.std.specs.Prelude.{◌≡◌, ◌++◌, OnOk, IfOk};
-ghost use Rattle.rbac_lists.specs.Derived.{is_verb, has_star, begins_with_slash, ends_in_star};
-ghost use Rattle.rbac_lists.specs.Derived.{is_resource_text, is_path_word};
+ghost use Rattle.rbac_lists.specs.Derived.{is_verb, has_star, ends_in_star, is_plain_resource};
+ghost use Rattle.rbac_lists.specs.Derived.{is_path_word};
 
-use rbac_terms::Word;
+use rbac_terms::{Word, is_path};
 use std::alloc::{AllocError, Global};
 
 // A copy of the text. This contract is about its bytes alone; that of a derived clone is about its
@@ -42,28 +42,22 @@ pub(crate) fn has_star(word: &Word) -> bool
     word.as_bytes().iter().any(|byte| *byte == b'*')
 }
 
-fn begins_with_slash(word: &Word) -> bool
-    ensures { result ≡ begins_with_slash word.now }
-{
-    word.as_bytes().starts_with(b"/".as_slice())
-}
-
 fn ends_in_star(word: &Word) -> bool
     ensures { result ≡ ends_in_star word.now }
 {
     word.as_bytes().ends_with(b"*".as_slice())
 }
 
-// Whether a word of a rule is the text of one resource.
-pub(crate) fn is_resource_text(word: &Word) -> bool
-    ensures { result ≡ is_resource_text word.now }
+// Whether a resource word of a rule names one resource.
+pub(crate) fn is_plain_resource(word: &Word) -> bool
+    ensures { result ≡ is_plain_resource word.now }
 {
-    !word.is_empty() && !begins_with_slash(word) && !has_star(word)
+    !word.is_empty() && !is_path(word.as_bytes()) && !has_star(word)
 }
 
-// Whether a URL word of a rule is the path of one URL.
+// Whether a URL word of a rule names one URL.
 pub(crate) fn is_path_word(word: &Word) -> bool
     ensures { result ≡ is_path_word word.now }
 {
-    begins_with_slash(word) && !ends_in_star(word)
+    is_path(word.as_bytes()) && !ends_in_star(word)
 }

@@ -1,5 +1,5 @@
 use Rattle.std.proofs.Common.{◌≡◌, ◌++◌, take, map}
-use Rattle.rbac_lists.specs.Derived.{account_principal}
+use Rattle.rbac_terms.specs.Principals.{account_principal}
 use Rattle.rbac_lists.proofs.principals.put_accounts.Given as goal
 
 abbrev pub invariant-loop-account : goal.invariant-loop-account

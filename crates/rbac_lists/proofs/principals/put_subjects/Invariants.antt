@@ -1,6 +1,6 @@
 use Rattle.std.proofs.Common.{◌≡◌, ◌++◌, take}
 use Rattle.std.specs.List.{filter_map}
-use Rattle.rbac_lists.specs.Derived.{subject_principal}
+use Rattle.rbac_terms.specs.Granting.{subject_principal}
 use Rattle.rbac_lists.proofs.principals.put_subjects.Given as goal
 
 abbrev pub invariant-loop-subject : goal.invariant-loop-subject
