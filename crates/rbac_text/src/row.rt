@@ -1,14 +1,15 @@
 //! Rows of a matrix.
 
-ghost use Rattle.std.specs.Prelude.{◌≡◌, ◌++◌, OnOk, map};
+ghost use Rattle.std.specs.Prelude.{◌≡◌, ◌++◌, ◌∷◌, [], OnOk, map};
 ghost use Rattle.std.specs.List.{flat_map};
 ghost use Rattle.std.specs.Option.{option_copied};
+ghost use Rattle.rbac_terms.specs.Text.{slash};
 ghost use Rattle.rbac_terms.specs.Keys.{KeyTexts, texts};
 ghost use Rattle.rbac_text.specs.Field.{byte_text};
 ghost use Rattle.rbac_text.specs.Row.{binding_scope, binding_text, field_and_tab, row_text};
 
 use crate::field::{put_field, put_text};
-use rbac_terms::{Binding, Word};
+use rbac_terms::{Binding, CLUSTER_ROLE_BINDING, ROLE_BINDING, Word};
 use std::alloc::AllocError;
 
 /// Adds the name of a binding to a line as one field (own): `ClusterRoleBinding/NAME` or
@@ -27,14 +28,23 @@ fn put_scope(line: &mut Vec<u8>, namespace: Option<&Word>) -> Result<(), AllocEr
         ≡ line.old.items ++ flat_map byte_text (binding_scope (option_copied namespace.entry))) }
 {
     match namespace {
-        None => line.extend_from_slice(b"ClusterRoleBinding/"),
+        None => put_kind(line, CLUSTER_ROLE_BINDING),
         Some(namespace) => {
-            line.extend_from_slice(b"RoleBinding/")?;
+            put_kind(line, ROLE_BINDING)?;
             put_text(line, namespace.as_bytes())?;
             line.push(b'/')?;
             Ok(())
         }
     }
+}
+
+// Adds a kind, with the slash after it.
+pub(crate) fn put_kind(line: &mut Vec<u8>, kind: &str) -> Result<(), AllocError>
+    ensures { OnOk result (line.new.items ≡ line.old.items ++ kind.now ++ slash ∷ []) }
+{
+    line.extend_from_slice(kind.as_bytes())?;
+    line.push(b'/')?;
+    Ok(())
 }
 
 /// Adds the line of a row of the matrix (own): the six texts of the request's key, in the key's

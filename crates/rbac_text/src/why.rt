@@ -7,10 +7,10 @@ ghost use Rattle.rbac_text.specs.Why.{role_text, cluster_role_text, named_text, 
 ghost use Rattle.rbac_text.specs.Why.{place_text, roles_text, places_text, reason_text, why_text};
 
 use crate::field::put_text;
-use crate::row::put_binding;
+use crate::row::{put_binding, put_kind};
 use itoa::Buffer;
 use rbac_model::SourceRole;
-use rbac_terms::{Binding, RoleRef, Word};
+use rbac_terms::{Binding, CLUSTER_ROLE, ROLE, RoleRef, Word};
 use std::alloc::AllocError;
 
 /// Adds the name of a role of a namespace as one field (own): `Role/NAMESPACE/NAME`. If it runs out
@@ -18,8 +18,15 @@ use std::alloc::AllocError;
 pub fn put_role(line: &mut Vec<u8>, namespace: &Word, name: &Word) -> Result<(), AllocError>
     ensures { OnOk result (line.new.items ≡ line.old.items ++ role_text namespace.now name.now) }
 {
-    line.extend_from_slice(b"Role/")?;
-    put_text(line, namespace.as_bytes())?;
+    put_role_in(line, namespace.as_bytes(), name)
+}
+
+// Adds the name of a role of a namespace; a Role named without a namespace has the empty one.
+fn put_role_in(line: &mut Vec<u8>, namespace: &[u8], name: &Word) -> Result<(), AllocError>
+    ensures { OnOk result (line.new.items ≡ line.old.items ++ role_text namespace.now name.now) }
+{
+    put_kind(line, ROLE)?;
+    put_text(line, namespace)?;
     line.push(b'/')?;
     put_text(line, name.as_bytes())
 }
@@ -29,7 +36,7 @@ pub fn put_role(line: &mut Vec<u8>, namespace: &Word, name: &Word) -> Result<(),
 fn put_cluster_role(line: &mut Vec<u8>, name: &Word) -> Result<(), AllocError>
     ensures { OnOk result (line.new.items ≡ line.old.items ++ cluster_role_text name.now) }
 {
-    line.extend_from_slice(b"ClusterRole/")?;
+    put_kind(line, CLUSTER_ROLE)?;
     put_text(line, name.as_bytes())
 }
 
@@ -113,10 +120,7 @@ fn put_named_role(line: &mut Vec<u8>, binding: &Binding) -> Result<(), AllocErro
     match (&binding.namespace, &binding.role) {
         (Some(namespace), RoleRef::Role(name)) => put_role(line, namespace, name),
         // A ClusterRoleBinding can name a Role, but grants nothing then.
-        (None, RoleRef::Role(name)) => {
-            line.extend_from_slice(b"Role//")?;
-            put_text(line, name.as_bytes())
-        }
+        (None, RoleRef::Role(name)) => put_role_in(line, &[], name),
         (_, RoleRef::ClusterRole(name)) => put_cluster_role(line, name),
     }
 }
