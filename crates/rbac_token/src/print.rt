@@ -8,17 +8,12 @@ ghost use Rattle.rbac_token.specs.Marks.{name_texts, printed_mark, version_of};
 ghost use Rattle.rbac_token.specs.Token.{after_tab};
 
 use crate::mark::BindingName;
-use rbac_terms::Key;
+use rbac_terms::{CLUSTER_ROLE_BINDING, Key, ROLE_BINDING};
 use rbac_text::put_field;
 use std::alloc::{AllocError, Global};
 
 // How many texts a key has.
 pub(crate) const TEXTS: usize = 6;
-
-// The kind words of bindings.
-const CLUSTER_ROLE_BINDING: &[u8] = b"ClusterRoleBinding";
-
-pub(crate) const ROLE_BINDING: &[u8] = b"RoleBinding";
 
 // The version, the printed fields of a key, and those of a binding's name if there is one.
 pub(crate) fn print_mark(
@@ -74,8 +69,8 @@ fn scope_of(name: &BindingName) -> (&[u8], &[u8])
     ensures { result.0.now ∷ result.1.now ∷ name.now.name ∷ [] ≡ name_texts (Some name.now) }
 {
     match &name.namespace {
-        None => (CLUSTER_ROLE_BINDING, &[]),
-        Some(namespace) => (ROLE_BINDING, namespace.as_bytes()),
+        None => (CLUSTER_ROLE_BINDING.as_bytes(), &[]),
+        Some(namespace) => (ROLE_BINDING.as_bytes(), namespace.as_bytes()),
     }
 }
 

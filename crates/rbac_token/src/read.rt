@@ -18,8 +18,8 @@ ghost use Rattle.rbac_token.specs.declared.mark.Mark.{Mark};
 use crate::fault::TokenFault;
 use crate::field::read_field;
 use crate::mark::{BindingName, Mark};
-use crate::print::{ROLE_BINDING, TEXTS};
-use rbac_terms::{Key, ModelFault, Principal, Target, Word, Words};
+use crate::print::TEXTS;
+use rbac_terms::{Key, ModelFault, Principal, ROLE_BINDING, Target, Word, Words, is_path};
 use std::alloc::{AllocError, Global};
 
 // The mark that is printed as these bytes. Bytes that no mark is printed as may give any mark, or
@@ -70,7 +70,7 @@ fn name_of(kind: &Word, namespace: &Word, name: &Word) -> Result<BindingName, Al
     ensures { (b : BindingName) → kind.now ∷ namespace.now ∷ name.now ∷ [] ≡ name_texts (Some b)
         → IfOk result (λ read. read ≡ b) }
 {
-    let namespace = if kind.as_bytes() == ROLE_BINDING {
+    let namespace = if kind.as_bytes() == ROLE_BINDING.as_bytes() {
         Some(namespace.clone()?)
     } else {
         None
@@ -173,7 +173,7 @@ fn target_of(alloc: Global, group: &Word, text: &Word, name: &Word) -> Result<Ta
     ensures proper { IfOk result IsProper }
 {
     let text = text.clone()?;
-    if text.as_bytes().starts_with(b"/".as_slice()) {
+    if is_path(text.as_bytes()) {
         return Target::url(alloc, text);
     }
     Target::resource(group.clone()?, text, name.clone()?)
