@@ -1,5 +1,6 @@
 use Rattle.std.specs.Prelude.{◌≡◌, ◌≢◌, [], ◌⊎◌, Contains, codes}
 use Rattle.rbac_terms.specs.Text.{Text, slash, IsCutAtFirst, BeginsWith}
+use Rattle.rbac_terms.specs.Targets.{IsPath}
 use Rattle.rbac_question.specs.declared.asked.AskedFor.{AskedFor}
 use Rattle.rbac_question.specs.declared.asked.AskedFor.TheVariants.{Url as ForUrl}
 use Rattle.rbac_question.specs.declared.asked.AskedFor.TheVariants.{Resource as ForResource}
@@ -12,9 +13,9 @@ use Rattle.rbac_question.specs.declared.fault.QuestionFault.TheVariants.{NoMemor
 abbrev pub IsTypeWord : Text → Type 0
 IsTypeWord word = (word ≢ []) × (¬ BeginsWith word (codes ".")) × (¬ Contains word slash)
 
--- what can be asked for: a URL path begins with a slash
+-- what can be asked for: a URL by its path, or a type word
 abbrev pub IsAskable : AskedFor → Type 0
-IsAskable (ForUrl path) = BeginsWith path (codes "/")
+IsAskable (ForUrl path) = IsPath path
 IsAskable (ForResource word subresource name) = IsTypeWord word
 
 -- TARGET is TYPE/NAME, split at its first slash, or TYPE alone, whose NAME is the empty text
@@ -22,11 +23,10 @@ abbrev pub IsTypeAndName : Text → Text → Text → Type 0
 IsTypeAndName target word name = IsCutAtFirst target slash word name
     ⊎ ((¬ Contains target slash) × (word ≡ target) × (name ≡ []))
 
--- what TARGET and the subresource ask for: a URL if TARGET begins with a slash, otherwise a type
+-- what TARGET and the subresource ask for: a URL if TARGET is a path, otherwise a type
 abbrev pub AsksFor : Text → Text → AskedFor → Type 0
-AsksFor target subresource (ForUrl path) = BeginsWith target (codes "/") × (path ≡ target)
-    × (subresource ≡ [])
-AsksFor target subresource (ForResource word sub name) = (¬ BeginsWith target (codes "/"))
+AsksFor target subresource (ForUrl path) = IsPath target × (path ≡ target) × (subresource ≡ [])
+AsksFor target subresource (ForResource word sub name) = (¬ IsPath target)
     × IsTypeAndName target word name × (sub ≡ subresource)
 
 -- TARGET is empty, or its type word has nothing before its dot
@@ -35,7 +35,7 @@ LacksType target = (target ≡ []) ⊎ BeginsWith target (codes ".")
 
 -- a URL has no subresources
 abbrev pub HasUrlSubresource : Text → Text → Type 0
-HasUrlSubresource target subresource = BeginsWith target (codes "/") × (subresource ≢ [])
+HasUrlSubresource target subresource = IsPath target × (subresource ≢ [])
 
 -- which refusal TARGET and the subresource lead to; out of memory may come at any time
 abbrev pub RefusesTarget : Text → Text → QuestionFault → Type 0

@@ -1,13 +1,13 @@
 //! What TARGET and `--subresource` ask for.
 
-ghost use Rattle.std.specs.Prelude.{◌≡◌, IsTrue, ◌↔◌, IfOk, OnOk, IfErr, codes};
-ghost use Rattle.rbac_terms.specs.Text.{BeginsWith};
+ghost use Rattle.std.specs.Prelude.{◌≡◌, IsTrue, ◌↔◌, IfOk, OnOk, IfErr};
+ghost use Rattle.rbac_terms.specs.Targets.{IsPath};
 ghost use Rattle.rbac_question.specs.Asked.{IsAskable, AsksFor, RefusesTarget, IsTypeAndName};
 ghost use Rattle.rbac_question.specs.Asked.{LacksType, HasUrlSubresource};
 ghost use Rattle.rbac_question.specs.declared.asked.AskedFor.TheVariants.{Url as ForUrl};
 
 use crate::fault::QuestionFault;
-use rbac_terms::Word;
+use rbac_terms::{Word, is_path};
 use std::alloc::{AllocError, Global};
 use std::marker::Model;
 
@@ -58,7 +58,7 @@ impl Asked {
         ensures { IfOk result
             (λ asked. AsksFor target.now subresource.now asked × IsAskable asked) }
     {
-        if is_path(target) {
+        if is_path(target.as_bytes()) {
             return located(alloc, target);
         }
         typed(alloc, target, subresource)
@@ -86,7 +86,7 @@ pub(crate) fn check_target(target: &str, subresource: &str) -> Result<(), Questi
     if lacks_type(target) {
         return Err(QuestionFault::EmptyWord);
     }
-    if is_path(target) && !subresource.is_empty() {
+    if is_path(target.as_bytes()) && !subresource.is_empty() {
         return Err(QuestionFault::UrlSubresource);
     }
     Ok(())
@@ -98,15 +98,9 @@ fn lacks_type(target: &str) -> bool
     target.is_empty() || target.as_bytes().starts_with(b".".as_slice())
 }
 
-fn is_path(target: &str) -> bool
-    ensures { IsTrue result ↔ BeginsWith target.now (codes "/") }
-{
-    target.as_bytes().starts_with(b"/".as_slice())
-}
-
 // A URL by its path.
 fn located(alloc: Global, path: &str) -> Result<Asked, AllocError>
-    requires { BeginsWith path.now (codes "/") }
+    requires { IsPath path.now }
     ensures { IfOk result (λ asked. (asked ≡ ForUrl path.now) × IsAskable asked) }
 {
     let path = Word::from_slice(alloc, path.as_bytes())?;
@@ -118,7 +112,7 @@ fn located(alloc: Global, path: &str) -> Result<Asked, AllocError>
 // A type and a name, with a subresource.
 fn typed(alloc: Global, target: &str, subresource: &str) -> Result<Asked, AllocError>
     requires typed { ¬ LacksType target.now }
-    requires no_path { ¬ BeginsWith target.now (codes "/") }
+    requires no_path { ¬ IsPath target.now }
     ensures { IfOk result (λ asked. AsksFor target.now subresource.now asked × IsAskable asked) }
 {
     let (word, name) = type_and_name(target);
