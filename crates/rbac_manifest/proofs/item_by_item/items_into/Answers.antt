@@ -9,7 +9,7 @@ use Rattle.rbac_manifest.specs.ItemsAhead.{ahead_refusal}
 use Rattle.rbac_manifest.specs.declared.fault.Cause.TheVariants.{NoMemory}
 use Rattle.rbac_manifest.proofs.ItemsAhead.{one_more, all_contents}
 use Rattle.rbac_manifest.proofs.Unread.{same_fault, same_stands, same_ahead}
-use Rattle.rbac_manifest.proofs.list.items_into.Goals as goal
+use Rattle.rbac_manifest.proofs.item_by_item.items_into.Goals as goal
 
 pub returns-in_default-clause-contents : goal.returns-in_default-clause-contents
 returns-in_default-clause-contents c =

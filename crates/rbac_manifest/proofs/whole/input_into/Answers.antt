@@ -4,7 +4,7 @@ use Rattle.rbac_manifest.specs.declared.fault.Cause.TheVariants.{NoMemory}
 use Rattle.rbac_manifest.specs.Contents.{with_contents}
 use Rattle.rbac_manifest.specs.Load.{as_whole}
 use Rattle.rbac_manifest.proofs.ItemsAhead.{refused_alone, contents_alone, IsNoList, where_ok, where_both_ok}
-use Rattle.rbac_manifest.proofs.items.input_into.Goals as goal
+use Rattle.rbac_manifest.proofs.whole.input_into.Goals as goal
 
 pub returns-in-None-clause-sound : goal.returns-in-None-clause-sound
 returns-in-None-clause-sound c =

@@ -11,7 +11,7 @@ use Rattle.rbac_manifest.specs.Document.{fault, stands}
 use Rattle.rbac_manifest.specs.Load.{as_whole}
 use Rattle.rbac_manifest.specs.ItemsAhead.{IsListOf}
 use Rattle.rbac_manifest.proofs.ItemsAhead.{refused_by_items, contents_in_items, refused_beside, contents_beside, IsNoList, where_ok, where_both_ok}
-use Rattle.rbac_manifest.proofs.list.open_into.Goals as goal
+use Rattle.rbac_manifest.proofs.item_by_item.open_into.Goals as goal
 
 -- ---- a list
 

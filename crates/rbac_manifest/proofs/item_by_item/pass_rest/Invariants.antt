@@ -1,7 +1,7 @@
 use Rattle.std.proofs.Common.{◌≡◌, length, None}
 use Rattle.std.specs.Option.{IsSome}
 use Rattle.json_list.specs.List.{items_ahead}
-use Rattle.rbac_manifest.proofs.list.pass_rest.Given as goal
+use Rattle.rbac_manifest.proofs.item_by_item.pass_rest.Given as goal
 
 abbrev pub invariant-rest : goal.invariant-rest
 invariant-rest l =
