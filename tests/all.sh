@@ -42,7 +42,7 @@ counted python3 tests/page.py
 counted python3 tests/dist.py
 counted python3 tests/pages.py
 counted python3 tests/rules.py
-counted python3 tests/refusals.py
+counted python3 tests/memory.py
 counted python3 tests/fuzz.py 1 2000
 counted python3 tests/calls.py --once
 [ -z "$skipped" ] || echo "skipped: ${skipped#; }"

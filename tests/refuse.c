@@ -1,4 +1,4 @@
-/* Refuses calls of the program that it is preloaded into; refusals.py and calls.py build it and say what for.
+/* Refuses calls of the program that it is preloaded into; memory.py and calls.py build it and say what for.
 
    REFUSE is `memory`, `read` or `write`: which calls are numbered, from 1 on. Those from REFUSE_FIRST to REFUSE_LAST fail with
    the error number REFUSE_ERROR; with 0 a read or write answers that it moved nothing. For each of them a byte is added to the

@@ -12,9 +12,14 @@ use Rattle.rbac_model.specs.Holders.{HolderView, AreHolders}
 use Rattle.rbac_model.proofs.GrantNumbers.{grant_by}
 use Rattle.rbac_model.proofs.BindingPlaces.{places_rise, one_binding_place, rule_of_binding, grant_of_rule}
 use Rattle.rbac_index.specs.Indexed.{AreCandidates}
-use Rattle.rbac_index.specs.Holding.{BringsAt, BringsRuleAt, AreSeen, AreFirsts, ArePassed}
+use Rattle.rbac_index.specs.Holding.{BringsAt, BringsRuleAt, AreSeen, AreFirsts}
 use Rattle.rbac_index.proofs.FirstLemmas.{firsts_hold}
 use Rattle.rbac_index.proofs.SeenLemmas.{seen_entered}
+
+-- the bindings of the grants with the first `count` numbers are before `place`, and those of the others are no earlier than right before it
+pub record ArePassed (p : PolicyView) (ns : List ℕ) (count place : ℕ) : Type 0 where
+  pub behind : (k i : ℕ) → k < count → IsOfBinding p (get_or ns k 0) i → i < place
+  pub ahead : (k i : ℕ) → count ≤ k → k < length ns → IsOfBinding p (get_or ns k 0) i → place ≤ i + 1
 
 module _ (p : PolicyView) (ok : IsPolicy p) (namespace verb : Text) (t : What) (ns : List ℕ) (are : AreCandidates p verb t ns) where
   pub candidate_within : (k : ℕ) → k < length ns → get_or ns k 0 < length p.grants

@@ -11,12 +11,16 @@ use Rattle.rbac_terms.specs.Targets.{What, Resource, Url, IsUrl, IsResource, gro
 use Rattle.rbac_terms.specs.Matching.{RuleAllows, ResourceWordMatches}
 use Rattle.rbac_terms.specs.declared.matching.Rule.{Rule}
 use Rattle.rbac_model.specs.Policies.{PolicyView, GrantView}
-use Rattle.rbac_index.specs.declared.listing.Listing.{Listing}
+use Rattle.rbac_index.specs.declared.rule_lists.RuleLists.{RuleLists}
 use Rattle.rbac_index.specs.declared.rule_rows.Written.{Written}
-use Rattle.rbac_index.specs.Listing.{listed}
+use Rattle.rbac_index.specs.RuleLists.{listed}
 use Rattle.rbac_index.specs.Written.{written_rules, bare_rules}
-use Rattle.rbac_index.specs.Indexed.{AreCandidates, IsIndexOf, HaveNumbers, numbers_by, AllowsRule, IsAllowedBy}
+use Rattle.rbac_index.specs.Indexed.{AreCandidates, IsIndexOf, HaveNumbers, numbers_by, IsAllowedBy}
 use Rattle.rbac_index.proofs.WrittenLemmas.{written_at, rule_read}
+
+-- the rule with that number allows the verb on the target
+abbrev AllowsRule : List Rule → Text → What → ℕ → Type 0
+AllowsRule rules verb t at = (r : Rule) × (slice_get rules at ≡ Some r) × RuleAllows r verb t
 
 all_from : {X : Type 0} {P : X → Type 0} (xs : List X) → ((x : X) → Contains xs x → P x) → All P xs
 all_from {X} {P} xs h = All-weaker (Contains xs) P h xs (All-contains_itself xs)
@@ -43,19 +47,19 @@ shifted_up xs k up i lt =
     let next : get_or (map (λ x. x + k) xs) (i + 1) 0 ≡ get_or xs (i + 1) 0 + k = get_or_default (map (λ x. x + k) xs) (i + 1) 0 (0 + k) lt ∙ get_or-map (λ x. x + k) xs (i + 1) 0 in
     omega (arith, here, next, up i (omega (arith, lt, len)))
 
--- the numbers that the runs give a rule are those of grants by it
-module _ (p : PolicyView) (ws : List Written) (l : Listing) (runs : List (List ℕ)) (index : IsIndexOf p ws l runs) where
-  pub have_numbers : All (HaveNumbers runs) ws
-  have_numbers = all_from {P = HaveNumbers runs} ws (λ w c.
+-- the numbers that the starts give a rule are those of grants by it
+module _ (p : PolicyView) (ws : List Written) (l : RuleLists) (starts : List (List ℕ)) (index : IsIndexOf p ws l starts) where
+  pub have_numbers : All (HaveNumbers starts) ws
+  have_numbers = all_from {P = HaveNumbers starts} ws (λ w c.
       let at = (index.written w.row w.place w.rule.now).0 (c.0, w, c.1, c.2, (refl, refl, refl)) in (
         omega (arith, index.granted.len, slice_get_within (written_rules p.held) w.row at.0 at.1),
-        all_from {P = λ start. start + w.place < 2 ^ 32} (get_or runs w.row []) (λ start begins.
+        all_from {P = λ start. start + w.place < 2 ^ 32} (get_or starts w.row []) (λ start begins.
             let run = index.granted.sound w.row start at.0 at.1 begins in
             omega (arith, run.0, index.few, slice_get_within at.0 w.place w.rule.now at.2)),
       ))
 
   module _ (verb : Text) where
-    candidates_by : (t : What) (places ns : List ℕ) → ((at : ℕ) → AllowsRule (bare_rules ws) verb t at → Contains places at) → IsStrictlyIncreasing ns → ((n : ℕ) → Contains ns n ↔ IsAllowedBy ws runs places verb t n) → AreCandidates p verb t ns
+    candidates_by : (t : What) (places ns : List ℕ) → ((at : ℕ) → AllowsRule (bare_rules ws) verb t at → Contains places at) → IsStrictlyIncreasing ns → ((n : ℕ) → Contains ns n ↔ IsAllowedBy ws starts places verb t n) → AreCandidates p verb t ns
     candidates_by t places ns all up exact = record {
       ascending = up;
       exact = λ n. (
@@ -63,7 +67,7 @@ module _ (p : PolicyView) (ws : List Written) (l : Listing) (runs : List (List �
             let by = (exact n).0 c in
             let w = by.2.0 in
             let at = written_at (written_rules p.held) ws by.0 w index.written by.2.1 in
-            let start = shifted_from (get_or runs w.row []) w.place n by.2.3 in
+            let start = shifted_from (get_or starts w.row []) w.place n by.2.3 in
             let of = (index.granted.sound w.row start.0 at.0 at.1 start.1).1 w.place w.rule.now at.2 in
             let P : Rule → Type 0 = λ r. RuleAllows r verb t in
             (of.0, ap (slice_get p.grants) start.2 ∙ of.1, subst P (sym of.2) by.2.2),
@@ -79,9 +83,9 @@ module _ (p : PolicyView) (ws : List Written) (l : Listing) (runs : List (List �
             let P : Rule → Type 0 = λ r. RuleAllows r verb t in
             let allows = subst P rule a.2 in
             let read : slice_get ws told.0 ≡ Some w = slice_get-get_or ws told.0 w told.2 ∙ ap (λ (v : Written). Some v) told.3 in
-            let Q : ℕ → Type 0 = λ row. Contains (get_or runs row []) start in
+            let Q : ℕ → Type 0 = λ row. Contains (get_or starts row []) start in
             let number : n ≡ start + w.place = found.6 ∙ ap (λ k. start + k) (sym told.4.1) in
-            (exact n).1 (told.0, all told.0 (w.rule.now, rule_read ws told.0 w read, allows), (w, read, allows, subst (Contains (numbers_by runs w)) (sym number) (shifted_has (get_or runs w.row []) w.place start (subst Q (sym told.4.0) found.5)))),
+            (exact n).1 (told.0, all told.0 (w.rule.now, rule_read ws told.0 w read, allows), (w, read, allows, subst (Contains (numbers_by starts w)) (sym number) (shifted_has (get_or starts w.row []) w.place start (subst Q (sym told.4.0) found.5)))),
       );
     }
 
@@ -100,7 +104,7 @@ module _ (p : PolicyView) (ws : List Written) (l : Listing) (runs : List (List �
         let some : allows.0.urls ≢ [] = λ e. omega (arith, allows.2.1.2, ap length e) in
         (index.listed.urls at).1 (within (Url path) at allows, (allows.0, allows.1, some))
 
-    pub candidates_urls : (t : What) (ns : List ℕ) → IsUrl t → IsStrictlyIncreasing ns → ((n : ℕ) → Contains ns n ↔ IsAllowedBy ws runs l.with_urls verb t n) → AreCandidates p verb t ns
+    pub candidates_urls : (t : What) (ns : List ℕ) → IsUrl t → IsStrictlyIncreasing ns → ((n : ℕ) → Contains ns n ↔ IsAllowedBy ws starts l.with_urls verb t n) → AreCandidates p verb t ns
     candidates_urls t ns is up exact =
         let P : What → Type 0 = λ x. (at : ℕ) → AllowsRule (bare_rules ws) verb x at → Contains l.with_urls at in
         candidates_by t l.with_urls ns (subst P (sym is) (url_listed (text_of t))) up exact
@@ -110,15 +114,15 @@ module _ (p : PolicyView) (ws : List Written) (l : Listing) (runs : List (List �
         let word = allows.2.1.1 in
         (are at).1 (word.1, word.4, (index.listed.words word.1 at).1 (within (Resource group text name) at allows, (allows.0, allows.1, (word.0, word.2, word.3))))
 
-    pub candidates_listed : (t : What) (found ns : List ℕ) → IsResource t → ((n : ℕ) → Contains found n ↔ ((w : Text) × ResourceWordMatches w (text_of t) × Contains (listed l.by_word w) n)) → IsStrictlyIncreasing ns → ((n : ℕ) → Contains ns n ↔ IsAllowedBy ws runs found verb t n) → AreCandidates p verb t ns
+    pub candidates_listed : (t : What) (found ns : List ℕ) → IsResource t → ((n : ℕ) → Contains found n ↔ ((w : Text) × ResourceWordMatches w (text_of t) × Contains (listed l.by_word w) n)) → IsStrictlyIncreasing ns → ((n : ℕ) → Contains ns n ↔ IsAllowedBy ws starts found verb t n) → AreCandidates p verb t ns
     candidates_listed t found ns is are up exact =
         let P : What → Type 0 = λ x. (at : ℕ) → AllowsRule (bare_rules ws) verb x at → Contains found at in
         candidates_by t found ns (subst P (sym is) (resource_listed (group_of t) (text_of t) (name_of t) found are)) up exact
 
 -- one place more of a rule, which allows or doesn't
-module _ (ws : List Written) (runs : List (List ℕ)) (places : List ℕ) (verb : Text) (t : What) (i : ℕ) (lt : i < length places) (lists : List (List ℕ)) (n : ℕ) (w : Written) (at : slice_get ws (get_or places i 0) ≡ Some w)
-    (are : Any (λ x. Contains x n) lists ↔ IsAllowedBy ws runs (take i places) verb t n) where
-  pub skipped : ¬ RuleAllows w.rule.now verb t → Any (λ x. Contains x n) lists ↔ IsAllowedBy ws runs (take (i + 1) places) verb t n
+module _ (ws : List Written) (starts : List (List ℕ)) (places : List ℕ) (verb : Text) (t : What) (i : ℕ) (lt : i < length places) (lists : List (List ℕ)) (n : ℕ) (w : Written) (at : slice_get ws (get_or places i 0) ≡ Some w)
+    (are : Any (λ x. Contains x n) lists ↔ IsAllowedBy ws starts (take i places) verb t n) where
+  pub skipped : ¬ RuleAllows w.rule.now verb t → Any (λ x. Contains x n) lists ↔ IsAllowedBy ws starts (take (i + 1) places) verb t n
   skipped denied =
       let more : take (i + 1) places ≡ take i places ++ get_or places i 0 ∷ [] = take_more places i 0 lt in (
         λ a. let b = are.0 a in (b.0, rw more (Contains-append_left (take i places) (get_or places i 0 ∷ []) b.0 b.1), b.2),
@@ -131,7 +135,7 @@ module _ (ws : List Written) (runs : List (List ℕ)) (places : List ℕ) (verb 
         ],
       )
 
-  pub added : RuleAllows w.rule.now verb t → (x : List ℕ) → x ≡ numbers_by runs w → Any (λ x. Contains x n) (lists ++ x ∷ []) ↔ IsAllowedBy ws runs (take (i + 1) places) verb t n
+  pub added : RuleAllows w.rule.now verb t → (x : List ℕ) → x ≡ numbers_by starts w → Any (λ x. Contains x n) (lists ++ x ∷ []) ↔ IsAllowedBy ws starts (take (i + 1) places) verb t n
   added allows x is =
       let more : take (i + 1) places ≡ take i places ++ get_or places i 0 ∷ [] = take_more places i 0 lt in (
         λ a. elim (Contains-push_cases lists x a.1 (a.0, a.2, a.3)) [
@@ -143,6 +147,6 @@ module _ (ws : List Written) (runs : List (List ℕ)) (places : List ℕ) (verb 
           | inr e ↦
               let same : b.2.0 ≡ w = same_Some b.2.0 w (sym b.2.1 ∙ ap (slice_get ws) (sym e) ∙ at) in
               let v = Contains-push lists x in
-              (v.0, x, v.1, v.2, subst (λ (l : List ℕ). Contains l n) (ap (numbers_by runs) same ∙ sym is) b.2.3)
+              (v.0, x, v.1, v.2, subst (λ (l : List ℕ). Contains l n) (ap (numbers_by starts) same ∙ sym is) b.2.3)
         ],
       )

@@ -7,7 +7,7 @@ pub mod IndexLemmas
 pub mod KeyedLemmas
 pub mod KeyingLemmas
 pub mod KeysOf
-pub mod ListingLemmas
+pub mod RuleListLemmas
 pub mod LivingLemmas
 pub mod MergeLemmas
 pub mod NextRunLemmas

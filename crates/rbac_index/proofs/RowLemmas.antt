@@ -8,7 +8,7 @@ use Rattle.std.proofs.lemmas.Option.{same_Some, slice_get_within}
 use Rattle.rbac_terms.specs.declared.matching.Rule.{Rule}
 use Rattle.rbac_terms.proofs.Reading.{read_some}
 use Rattle.rbac_model.specs.Policies.{PolicyView}
-use Rattle.rbac_index.specs.Indexed.{IsRun, AreRuns}
+use Rattle.rbac_index.specs.Indexed.{IsRun, AreStarts}
 use Rattle.rbac_index.proofs.ReadLemmas.{read_now}
 
 nothing_in : (count at n : ℕ) → Contains (get_or (replicate count []) at []) n → ⊥
@@ -16,16 +16,16 @@ nothing_in zero at n w = omega (arith, w.1)
 nothing_in (suc count) zero n w = omega (arith, w.1)
 nothing_in (suc count) (suc at) n w = nothing_in count at n w
 
-pub runs_none : (p : PolicyView) (rows : List (List Rule)) → AreRuns p rows 0 (replicate (length rows) [])
-runs_none p rows = record {
+pub starts_none : (p : PolicyView) (rows : List (List Rule)) → AreStarts p rows 0 (replicate (length rows) [])
+starts_none p rows = record {
   len = length-replicate (length rows) [];
   sound = λ row start rs at w. absurd (nothing_in (length rows) row start w);
   complete = λ n lt. absurd (omega arith);
 }
 
 -- a run more, put behind the others of its row
-pub runs_more : (p : PolicyView) (rows : List (List Rule)) (n row : ℕ) (rs : List Rule) (old new : List (List ℕ)) → slice_get rows row ≡ Some rs → IsRun p rs n → new ≡ set old row (get_or old row [] ++ n ∷ []) → AreRuns p rows n old → AreRuns p rows (n + length rs) new
-runs_more p rows n row rs old new at run is are =
+pub starts_more : (p : PolicyView) (rows : List (List Rule)) (n row : ℕ) (rs : List Rule) (old new : List (List ℕ)) → slice_get rows row ≡ Some rs → IsRun p rs n → new ≡ set old row (get_or old row [] ++ n ∷ []) → AreStarts p rows n old → AreStarts p rows (n + length rs) new
+starts_more p rows n row rs old new at run is are =
     let lt : row < length old = omega (arith, slice_get_within rows row rs at, are.len) in
     let here : get_or new row [] ≡ get_or old row [] ++ n ∷ [] = ap (λ (l : List (List ℕ)). get_or l row []) is ∙ get_or-set_same old row (get_or old row [] ++ n ∷ []) [] lt in
     let other : (k : ℕ) → (k ≡ row → ⊥) → get_or new k [] ≡ get_or old k [] = λ k ne. ap (λ (l : List (List ℕ)). get_or l k []) is ∙ get_or-set_other old row k (get_or old row [] ++ n ∷ []) [] ne in
@@ -55,8 +55,8 @@ runs_more p rows n row rs old new at run is are =
     }
 
 -- the runs of a row that were found begin before the next
-pub runs_below : (p : PolicyView) (rows : List (List Rule)) (n row : ℕ) (rs : List Rule) (runs : List (List ℕ)) → slice_get rows row ≡ Some rs → 0 < length rs → AreRuns p rows n runs → All (λ m. m < n) (get_or runs row [])
-runs_below p rows n row rs runs at some are = All-weaker (Contains (get_or runs row [])) (λ m. m < n) (λ m w. omega (arith, some, (are.sound row m rs at w).0)) (get_or runs row []) (All-contains_itself (get_or runs row []))
+pub starts_below : (p : PolicyView) (rows : List (List Rule)) (n row : ℕ) (rs : List Rule) (starts : List (List ℕ)) → slice_get rows row ≡ Some rs → 0 < length rs → AreStarts p rows n starts → All (λ m. m < n) (get_or starts row [])
+starts_below p rows n row rs starts at some are = All-weaker (Contains (get_or starts row [])) (λ m. m < n) (λ m w. omega (arith, some, (are.sound row m rs at w).0)) (get_or starts row []) (All-contains_itself (get_or starts row []))
 
 -- the rules to which a row leads
 module _ (rows : List (Bor (List Rule))) (all : List (List Rule)) (are : map (λ r. r.now) rows ≡ all) (row : ℕ) (rs : List Rule) (there : slice_get all row ≡ Some rs) where

@@ -1,5 +1,5 @@
 -- targets of one group and resource text stand together
-use Rattle.std.proofs.Common.{◌≡◌, ◌⊎◌, ℕ, ◌+◌, ◌-◌, ◌<◌, ◌≤◌, List, [], ◌∷◌, length, get_or, slice_get, map, ap, sym, ◌∙◌, refl, subst, arith, inl, inr, true, false, ◌↔◌, Any, Contains, take, drop, ◌++◌, Bor}
+use Rattle.std.proofs.Common.{◌≡◌, ℕ, ◌-◌, ◌<◌, ◌≤◌, List, [], ◌∷◌, length, get_or, slice_get, map, ap, sym, ◌∙◌, refl, subst, arith, inl, inr, true, false, ◌↔◌, Any, Contains, drop, ◌++◌, Bor}
 use Rattle.std.specs.Prelude.{Option, Some, None, IfSome, option_copied}
 use Rattle.std.specs.Slice.{IsItemAt}
 use Rattle.std.specs.Ordering.{ordering_index, ordering_then, ordering_reverse, is_le}
@@ -9,7 +9,7 @@ use Rattle.std.specs.declared.cmp.Ordering.{Ordering}
 use Rattle.std.specs.declared.cmp.Ordering.TheVariants.{Less, Equal, Greater}
 use Rattle.std.proofs.lemmas.Bool.{cases_eq, cases_lt}
 use Rattle.std.proofs.lemmas.Cmp.{nat_list_cmp_total, tied_itself}
-use Rattle.std.proofs.lemmas.List.{get_or-map, length-map, take_more, drop_all}
+use Rattle.std.proofs.lemmas.List.{get_or-map, length-map, drop_all}
 use Rattle.std.proofs.lemmas.List.Sorted.{searchable_from_sorted}
 use Rattle.std.proofs.lemmas.Map.Lookups.{exact_bytes}
 use Rattle.std.proofs.lemmas.Option.{slice_get_within, get_or_from_slice_get, same_Some, slice_get-get_or, slice_get_past, slice_get_read}
@@ -21,7 +21,7 @@ use Rattle.rbac_terms.proofs.Orderings.{le_back, less_alone}
 use Rattle.rbac_terms.proofs.Reading.{read_some}
 use Rattle.rbac_model.specs.Lists.{IsAscendingBy}
 use Rattle.rbac_model.specs.Universes.{Listed, target_texts}
-use Rattle.rbac_index.specs.Matched.{what_texts, IsBetween, IsLaterOfStem, AreOfStem, AreStems, IsByName, IsStem, IsWhole, StemOk}
+use Rattle.rbac_index.specs.Matched.{what_texts, IsBetween, IsLaterOfStem, AreOfStem, AreStemEnds, IsByName, IsStem, IsWhole, StemOk}
 use Rattle.rbac_index.specs.Reaches.{MatchesAt}
 
 -- the targets of a universe are in order
@@ -173,12 +173,12 @@ module _ (r : Rule) (ts : List What) (start end : ℕ) (t : What) (there : slice
   ]
 
 -- stems put one behind the other
-pub stems_push : (ts : List What) (from at end : ℕ) (ends : List ℕ) → AreStems ts from at ends → IsStem ts at end → AreStems ts from end (ends ++ end ∷ [])
+pub stems_push : (ts : List What) (from at end : ℕ) (ends : List ℕ) → AreStemEnds ts from at ends → IsStem ts at end → AreStemEnds ts from end (ends ++ end ∷ [])
 stems_push ts from at end [] are is = (subst (λ (n : ℕ). IsStem ts n end) (sym are) is, refl)
 stems_push ts from at end (e ∷ ends) are is = (are.0, stems_push ts e at end ends are.1 is)
 
-pub stems_end : (ts : List What) (from to i : ℕ) (ends : List ℕ) → length ends ≤ i → AreStems ts from to (drop i ends) → from ≡ to
-stems_end ts from to i ends le are = subst (AreStems ts from to) (drop_all i ends le) are
+pub stems_end : (ts : List What) (from to i : ℕ) (ends : List ℕ) → length ends ≤ i → AreStemEnds ts from to (drop i ends) → from ≡ to
+stems_end ts from to i ends le are = subst (AreStemEnds ts from to) (drop_all i ends le) are
 
 -- names in order are passed up to a point: none stands between what was passed and what is there
 module _ (names : List Text) (sorted : IsSorted text_cmp names) (name : Text) where

@@ -1,10 +1,9 @@
-use Rattle.std.specs.Prelude.{◌≡◌, ℕ, ◌<◌, ◌≤◌, ◌+◌, ◌⊎◌, ◌↔◌, List, Any, AllPairs}
-use Rattle.std.specs.Prelude.{Contains, length, slice_get, slice_index, Some}
+use Rattle.std.specs.Prelude.{◌≡◌, ℕ, ◌⊎◌, ◌↔◌, List, Any, AllPairs, Contains, slice_get, Some}
 use Rattle.rbac_terms.specs.Text.{Text}
 use Rattle.rbac_terms.specs.Targets.{What}
 use Rattle.rbac_terms.specs.Principals.{Who, AsMember, who_key, IsInGroup}
 use Rattle.rbac_terms.specs.declared.granting.Binding.{Binding}
-use Rattle.rbac_model.specs.Policies.{Held, PolicyView, IsOfBinding, Live, Allows, Brings}
+use Rattle.rbac_model.specs.Policies.{Held, Live, Allows, Brings}
 use Rattle.rbac_model.specs.Holders.{IsBefore, HolderView, IsHolderAt}
 
 -- the binding at that place brings a rule that allows the verb on the target
@@ -40,13 +39,6 @@ pub record AreFirsts (xs firsts : List HolderView) : Type 0 where
   pub ordered : AllPairs IsEarlier firsts
   pub exact : (x : HolderView) → Contains firsts x
       ↔ (Contains xs x × ((y : HolderView) → Contains xs y → y.key ≡ x.key → ¬ IsEarlier y x))
-
--- the bindings of the grants with the first `count` numbers are before `place`, and those of the
--- others are no earlier than right before it
-pub record ArePassed (p : PolicyView) (ns : List ℕ) (count place : ℕ) : Type 0 where
-  pub behind : (k i : ℕ) → k < count → IsOfBinding p (slice_index ns k) i → i < place
-  pub ahead : (k i : ℕ) → count ≤ k → k < length ns → IsOfBinding p (slice_index ns k) i
-      → place ≤ i + 1
 
 -- the key is that of who asks, or of one of its groups
 abbrev pub IsKeyFor : Who → Text → Type 0

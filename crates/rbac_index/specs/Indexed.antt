@@ -6,9 +6,9 @@ use Rattle.rbac_terms.specs.Targets.{What}
 use Rattle.rbac_terms.specs.Matching.{RuleAllows}
 use Rattle.rbac_terms.specs.declared.matching.Rule.{Rule}
 use Rattle.rbac_model.specs.Policies.{PolicyView, GrantView}
-use Rattle.rbac_index.specs.declared.listing.Listing.{Listing}
+use Rattle.rbac_index.specs.declared.rule_lists.RuleLists.{RuleLists}
 use Rattle.rbac_index.specs.declared.rule_rows.Written.{Written}
-use Rattle.rbac_index.specs.Listing.{AreListed}
+use Rattle.rbac_index.specs.RuleLists.{AreListed}
 use Rattle.rbac_index.specs.Written.{written_rules, IsRuleAt, AreWritten, bare_rules}
 
 -- the rule of the grant with that number allows the verb on the target
@@ -29,41 +29,37 @@ IsByRule p r n = (g : GrantView) × (slice_get p.grants n ≡ Some g) × (g.rule
 abbrev pub IsRun : PolicyView → List Rule → ℕ → Type 0
 IsRun p rs start = (k : ℕ) (r : Rule) → slice_get rs k ≡ Some r → IsByRule p r (start + k)
 
--- the runs of grants by the rules of each row, given by where they begin: they end before grant
--- number `count`, and each grant before it is in one of them
-pub record AreRuns (p : PolicyView) (rows : List (List Rule)) (count : ℕ)
-    (runs : List (List ℕ)) : Type 0 where
-  pub len : length runs ≡ length rows
+-- where the runs of grants by the rules of each row begin: they end before grant number `count`, and
+-- each grant before it is in one of them
+pub record AreStarts (p : PolicyView) (rows : List (List Rule)) (count : ℕ)
+    (starts : List (List ℕ)) : Type 0 where
+  pub len : length starts ≡ length rows
   pub sound : (row start : ℕ) (rs : List Rule) → slice_get rows row ≡ Some rs
-      → Contains (slice_index_or runs row []) start → (start + length rs ≤ count) × IsRun p rs start
+      → Contains (slice_index_or starts row []) start → (start + length rs ≤ count) × IsRun p rs start
   pub complete : (n : ℕ) → n < count
       → (row start place : ℕ) × (r : Rule) × IsRuleAt rows row place r
-      × Contains (slice_index_or runs row []) start × (n ≡ start + place)
+      × Contains (slice_index_or starts row []) start × (n ≡ start + place)
 
 -- the rules are there and listed by their words, and the grants are listed by runs
-pub record IsIndexOf (p : PolicyView) (ws : List Written) (l : Listing)
-    (runs : List (List ℕ)) : Type 0 where
+pub record IsIndexOf (p : PolicyView) (ws : List Written) (l : RuleLists)
+    (starts : List (List ℕ)) : Type 0 where
   pub written : AreWritten (written_rules p.held) ws
   pub listed : AreListed (bare_rules ws) (length ws) l
-  pub granted : AreRuns p (written_rules p.held) (length p.grants) runs
+  pub granted : AreStarts p (written_rules p.held) (length p.grants) starts
   pub few : length p.grants < 2 ^ 32
 
 -- the numbers of the grants by a rule
 abbrev pub numbers_by : List (List ℕ) → Written → List ℕ
-numbers_by runs w = map (λ start. start + w.place) (slice_index_or runs w.row [])
+numbers_by starts w = map (λ start. start + w.place) (slice_index_or starts w.row [])
 
--- the rule's row has runs, and the numbers of its grants fit in a u32
+-- the rule's row is there, and the numbers of its grants fit in a u32
 abbrev pub HaveNumbers : List (List ℕ) → Written → Type 0
-HaveNumbers runs w = (w.row < length runs)
-    × All (λ start. start + w.place < 2 ^ 32) (slice_index_or runs w.row [])
-
--- the rule with that number allows the verb on the target
-abbrev pub AllowsRule : List Rule → Text → What → ℕ → Type 0
-AllowsRule rules verb t at = (r : Rule) × (slice_get rules at ≡ Some r) × RuleAllows r verb t
+HaveNumbers starts w = (w.row < length starts)
+    × All (λ start. start + w.place < 2 ^ 32) (slice_index_or starts w.row [])
 
 -- the number is that of a grant by a rule, at one of these places, that allows the verb on the
 -- target
 abbrev pub IsAllowedBy : List Written → List (List ℕ) → List ℕ → Text → What → ℕ → Type 0
-IsAllowedBy ws runs places verb t n = (at : ℕ) × Contains places at
+IsAllowedBy ws starts places verb t n = (at : ℕ) × Contains places at
     × ((w : Written) × (slice_get ws at ≡ Some w) × RuleAllows w.rule.now verb t
-    × Contains (numbers_by runs w) n)
+    × Contains (numbers_by starts w) n)

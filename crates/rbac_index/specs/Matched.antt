@@ -45,9 +45,9 @@ pub record IsStem (ts : List What) (start end : ℕ) : Type 0 where
 
 -- the targets from the first place up to the second form stems, one after the other, each given by
 -- where it ends
-abbrev pub AreStems : List What → ℕ → ℕ → List ℕ → Type 0
-AreStems ts from to [] = from ≡ to
-AreStems ts from to (end ∷ ends) = IsStem ts from end × AreStems ts end to ends
+abbrev pub AreStemEnds : List What → ℕ → ℕ → List ℕ → Type 0
+AreStemEnds ts from to [] = from ≡ to
+AreStemEnds ts from to (end ∷ ends) = IsStem ts from end × AreStemEnds ts end to ends
 
 -- the rule matches all targets from `start` up to `end`, or none of them
 abbrev pub IsWhole : Rule → List What → ℕ → ℕ → Type 0
@@ -59,5 +59,6 @@ IsByName r ts start end = (n : ℕ) (t : What) → start ≤ n → n < end → s
     → TargetOk r t ↔ Contains r.resource_names (name_of t)
 
 -- all targets of a universe form these stems
-abbrev pub AreStemsOf : UniverseView → List ℕ → Type 0
-AreStemsOf u ends = AreStems (map (λ t. t.0) u.targets) 0 (length (map (λ t. t.0) u.targets)) ends
+abbrev pub AreStemEndsOf : UniverseView → List ℕ → Type 0
+AreStemEndsOf u ends =
+    AreStemEnds (map (λ t. t.0) u.targets) 0 (length (map (λ t. t.0) u.targets)) ends

@@ -8,7 +8,7 @@ use rbac_model::{GrantPlace, Policy, RolePlace};
 
 // An earlier grant by the same rule as the grant with this number, found in the runs of each row of
 // rules: the first one, so that what is worked out for it serves them all.
-pub(crate) fn earlier_alike(policy: &Policy, runs: &[GrantNos], no: u32) -> Option<u32>
+pub(crate) fn earlier_alike(policy: &Policy, starts: &[GrantNos], no: u32) -> Option<u32>
     requires { no < length policy.now.grants }
     ensures { IfSome result (λ first. (first < no) × AreAlike policy.now first no) }
 {
@@ -17,7 +17,7 @@ pub(crate) fn earlier_alike(policy: &Policy, runs: &[GrantNos], no: u32) -> Opti
         RolePlace::RoleAt(at) => at,
         RolePlace::ClusterRoleAt(at) => policy.objects().roles().len().checked_add(at)?,
     };
-    let start = runs.get(row)?.as_slice().first()?;
+    let start = starts.get(row)?.as_slice().first()?;
     let first = (*start as usize).checked_add(place.rule)?;
     if first < no as usize && is_same_rule(policy.place(first as u32), place) {
         Some(first as u32)

@@ -16,13 +16,13 @@ use crate::alike::earlier_alike;
 use crate::deciding::{Why, why_allowed};
 use crate::fault::IndexFault;
 use crate::holders::Holders;
-use crate::listing::{Listing, listing_of, matching};
 use crate::live_bindings::{Live, live_for_some, of_namespace};
 use crate::merge::{Numbers, merged};
 use crate::numbers::GrantNos;
+use crate::rule_lists::{RuleLists, matching, rule_lists_of};
 use crate::rule_rows::{Written, laid_out, rows_of};
-use crate::runs::runs_by_row;
 use crate::sightings::see_binding;
+use crate::starts::starts_by_row;
 use crate::subject_keys::{Keyed, keyed_by, next_for};
 use rbac_model::{Grant, Policy};
 use rbac_terms::{Binding, Principal, Target, Word, rule_allows};
@@ -36,9 +36,9 @@ use std::marker::Model;
 pub struct Index<'p> {
     policy: &'p Policy,
     rules: Vec<Written<'p>>,
-    listing: Listing,
+    lists: RuleLists,
     // Where the runs of grants by each row of rules begin.
-    runs: Vec<GrantNos>,
+    starts: Vec<GrantNos>,
     named: Vec<Keyed>,
 }
 
@@ -51,7 +51,7 @@ impl<'p> Model for Index<'p> {
 
     ghost view = { λ i. i.policy.now };
 
-    ghost invariant = { λ i. IsIndexOf i.policy.now i.rules.items i.listing i.runs.items
+    ghost invariant = { λ i. IsIndexOf i.policy.now i.rules.items i.lists i.starts.items
         × AreKeyed i.policy.now i.named.items };
 }
 
@@ -62,14 +62,14 @@ impl<'p> Index<'p> {
     {
         let rows = rows_of(alloc, policy.objects())?;
         let rules = laid_out(alloc, rows.as_slice())?;
-        let listing = listing_of(alloc, rules.as_slice())?;
-        let runs = runs_by_row(alloc, policy, rows.as_slice())?;
+        let lists = rule_lists_of(alloc, rules.as_slice())?;
+        let starts = starts_by_row(alloc, policy, rows.as_slice())?;
         let named = keyed_by(alloc, policy)?;
         Ok(Index {
             policy,
             rules,
-            listing,
-            runs,
+            lists,
+            starts,
             named,
         })
     }
@@ -103,7 +103,7 @@ impl<'p> Index<'p> {
         requires { no < length self.now.grants }
         ensures { IfSome result (λ first. (first < no) × AreAlike self.now first no) }
     {
-        earlier_alike(self.policy, self.runs.as_slice(), no)
+        earlier_alike(self.policy, self.starts.as_slice(), no)
     }
 
     /// The numbers, ascending, of the grants whose rule allows the verb on the target, regardless
@@ -117,13 +117,13 @@ impl<'p> Index<'p> {
         ensures { IfOk result (λ ns. AreCandidates self.now verb.now target.now ns) }
     {
         let rules = self.rules.as_slice();
-        let runs = self.runs.as_slice();
+        let starts = self.starts.as_slice();
         if target.is_url() {
-            let places = self.listing.with_urls.as_slice();
-            Ok(allowed_by(alloc, rules, runs, places, verb, target)?)
+            let places = self.lists.with_urls.as_slice();
+            Ok(allowed_by(alloc, rules, starts, places, verb, target)?)
         } else {
-            let places = matching(alloc, &self.listing.by_word, target.text())?;
-            Ok(allowed_by(alloc, rules, runs, places.as_slice(), verb, target)?)
+            let places = matching(alloc, &self.lists.by_word, target.text())?;
+            Ok(allowed_by(alloc, rules, starts, places.as_slice(), verb, target)?)
         }
     }
 
@@ -224,19 +224,19 @@ impl<'p> Index<'p> {
 fn allowed_by(
     alloc: Global,
     rules: &[Written<'_>],
-    runs: &[GrantNos],
+    starts: &[GrantNos],
     places: &[usize],
     verb: &Word,
     target: &Target,
 ) -> Result<GrantNos, AllocError>
     requires rules { All (λ at. at < length rules.now) places.now }
-    requires numbers { All (HaveNumbers runs.now) rules.now }
+    requires numbers { All (HaveNumbers starts.now) rules.now }
     ensures ascending { IfOk result (λ ns. IsStrictlyIncreasing ns) }
     ensures exact { IfOk result
         (λ ns. (n : ℕ) → Contains ns n
-        ↔ IsAllowedBy rules.now runs.now places.now verb.now target.now n) }
+        ↔ IsAllowedBy rules.now starts.now places.now verb.now target.now n) }
 {
-    let lists = allowing(alloc, rules, runs, places, verb, target)?;
+    let lists = allowing(alloc, rules, starts, places, verb, target)?;
     Ok(merged(alloc, lists)?)
 }
 
@@ -245,24 +245,24 @@ fn allowed_by(
 fn allowing<'a>(
     alloc: Global,
     rules: &[Written<'_>],
-    runs: &'a [GrantNos],
+    starts: &'a [GrantNos],
     places: &[usize],
     verb: &Word,
     target: &Target,
 ) -> Result<Vec<Numbers<'a>>, AllocError>
     requires rules { All (λ at. at < length rules.now) places.now }
-    requires numbers { All (HaveNumbers runs.now) rules.now }
+    requires numbers { All (HaveNumbers starts.now) rules.now }
     ensures ascending { IfOk result (λ v. All IsStrictlyIncreasing v.items) }
     ensures exact { IfOk result
         (λ v. (n : ℕ) → Any (λ l. Contains l n) v.items
-        ↔ IsAllowedBy rules.now runs.now places.now verb.now target.now n) }
+        ↔ IsAllowedBy rules.now starts.now places.now verb.now target.now n) }
 {
     let mut lists = Vec::new(alloc);
     for at in places {
         let written = rules[*at];
         if rule_allows(written.rule, verb, target) {
             lists.push(Numbers {
-                starts: runs[written.row].as_slice(),
+                starts: starts[written.row].as_slice(),
                 place: written.place,
             })?;
         }

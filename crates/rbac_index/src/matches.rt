@@ -5,7 +5,7 @@ ghost use Rattle.std.specs.Prelude.{◌≡◌, ◌<◌, ◌≤◌, ℕ, Some, Co
 ghost use Rattle.std.specs.Prelude.{slice_get};
 ghost use Rattle.rbac_model.specs.Lists.{IsAscendingBy};
 ghost use Rattle.rbac_terms.specs.Targets.{What, name_of};
-ghost use Rattle.rbac_index.specs.Matched.{what_texts, AreStems, IsByName, IsStem, IsWhole};
+ghost use Rattle.rbac_index.specs.Matched.{what_texts, AreStemEnds, IsByName, IsStem, IsWhole};
 ghost use Rattle.rbac_index.specs.Reaches.{IsReach, IsReachBelow};
 ghost use Rattle.rbac_model.specs.Universes.{most_targets};
 
@@ -20,18 +20,18 @@ pub(crate) fn matched(
     alloc: Global,
     rule: &Rule,
     targets: &[Target],
-    stems: &[u32],
+    ends: &[u32],
 ) -> Result<Spans, AllocError>
     requires few { length targets.now ≤ most_targets }
     requires ordered { IsAscendingBy what_texts targets.now }
-    requires stems { AreStems targets.now 0 (length targets.now) stems.now }
+    requires ends { AreStemEnds targets.now 0 (length targets.now) ends.now }
     ensures { IfOk result (λ s. IsReach rule.now targets.now s) }
 {
     let rule = OrderedRule::new(rule)?;
     let mut spans = Spans::new(alloc);
     let mut start = 0;
-    for stem in stems {
-        let end = *stem as usize;
+    for stem_end in ends {
+        let end = *stem_end as usize;
         push_stem(&mut spans, &rule, targets, start, end)?;
         start = end;
     }

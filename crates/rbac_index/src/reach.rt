@@ -2,7 +2,7 @@
 
 ghost use Rattle.std.specs.Prelude.{◌≡◌, ◌<◌, ◌≤◌, IfOk, length, slice_index};
 ghost use Rattle.std.specs.List.Sorted.{IsStrictlyIncreasing};
-ghost use Rattle.rbac_index.specs.Matched.{AreStemsOf};
+ghost use Rattle.rbac_index.specs.Matched.{AreStemEndsOf};
 ghost use Rattle.rbac_index.specs.Reaches.{raised, IsReachAt, AreReachesBelow, AreReaches};
 ghost use Rattle.rbac_model.specs.Universes.{most_targets};
 
@@ -11,7 +11,7 @@ use crate::index::Index;
 use crate::matches::matched;
 use crate::meter::Meter;
 use crate::spans::Spans;
-use crate::stems::stems_of;
+use crate::stems::stem_ends;
 use rbac_universe::Universe;
 use std::alloc::{AllocError, Global};
 use std::marker::Model;
@@ -44,24 +44,24 @@ impl Reach {
         requires { no < length index.now.grants }
         ensures { IfOk result (λ r. IsReachAt index.now universe.now no r) }
     {
-        let stems = stems_in(alloc, universe)?;
-        Self::by_stems(alloc, index, no, universe, stems.as_slice())
+        let ends = stem_ends_of(alloc, universe)?;
+        Self::by_stem_ends(alloc, index, no, universe, ends.as_slice())
     }
 
     // The reach of a grant's rule, given where the stems of the universe's targets end.
-    fn by_stems(
+    fn by_stem_ends(
         alloc: Global,
         index: &Index<'_>,
         no: u32,
         universe: &Universe,
-        stems: &[u32],
+        ends: &[u32],
     ) -> Result<Self, IndexFault>
         requires number { no < length index.now.grants }
-        requires stems { AreStemsOf universe.now stems.now }
+        requires ends { AreStemEndsOf universe.now ends.now }
         ensures { IfOk result (λ r. IsReachAt index.now universe.now no r) }
     {
         let rule = index.grant(no).rule;
-        let places = matched(alloc, rule, universe.targets(), stems)?;
+        let places = matched(alloc, rule, universe.targets(), ends)?;
         Ok(Reach {
             places: Rc::new(alloc, places)?,
         })
@@ -105,14 +105,14 @@ pub fn reaches_of(
 ) -> Result<Vec<Reach>, IndexFault>
     ensures { IfOk result (λ v. AreReaches index.now universe.now v.items) }
 {
-    let stems = stems_in(alloc, universe)?;
+    let ends = stem_ends_of(alloc, universe)?;
     let mut reaches = Vec::new(alloc);
     for no in 0..index.len() {
         let reach = next_reach(
             alloc,
             index,
             universe,
-            stems.as_slice(),
+            ends.as_slice(),
             reaches.as_slice(),
             no,
         )?;
@@ -126,24 +126,24 @@ fn next_reach(
     alloc: Global,
     index: &Index<'_>,
     universe: &Universe,
-    stems: &[u32],
+    ends: &[u32],
     reaches: &[Reach],
     no: u32,
 ) -> Result<Reach, IndexFault>
     requires number { no < length index.now.grants }
-    requires stems { AreStemsOf universe.now stems.now }
+    requires ends { AreStemEndsOf universe.now ends.now }
     requires before { AreReachesBelow index.now universe.now no reaches.now }
     ensures { IfOk result (λ r. IsReachAt index.now universe.now no r) }
 {
     match index.earlier_alike(no) {
         Some(first) => Ok(reaches[first as usize].share()?),
-        None => Reach::by_stems(alloc, index, no, universe, stems),
+        None => Reach::by_stem_ends(alloc, index, no, universe, ends),
     }
 }
 
 // Where the stems of a universe's targets end.
-fn stems_in(alloc: Global, universe: &Universe) -> Result<Vec<u32>, AllocError>
-    ensures { IfOk result (λ v. AreStemsOf universe.now v.items) }
+fn stem_ends_of(alloc: Global, universe: &Universe) -> Result<Vec<u32>, AllocError>
+    ensures { IfOk result (λ v. AreStemEndsOf universe.now v.items) }
 {
-    stems_of(alloc, universe.targets())
+    stem_ends(alloc, universe.targets())
 }

@@ -3,7 +3,7 @@
 
 ghost use Rattle.std.specs.Prelude.{◌≡◌, ◌+◌, ◌<◌, ◌≤◌, ◌↔◌, IfOk, IsTrue, length, option_copied};
 ghost use Rattle.rbac_model.specs.Lists.{IsAscendingBy};
-ghost use Rattle.rbac_index.specs.Matched.{what_texts, AreOfStem, AreStems, IsBetween};
+ghost use Rattle.rbac_index.specs.Matched.{what_texts, AreOfStem, AreStemEnds, IsBetween};
 ghost use Rattle.rbac_index.specs.Matched.{IsLaterOfStem, IsStem};
 ghost use Rattle.rbac_model.specs.Universes.{most_targets};
 
@@ -11,10 +11,10 @@ use rbac_terms::{Target, Word};
 use std::alloc::{AllocError, Global};
 
 // Where the stems of the targets end, in order: the last at the number of targets.
-pub(crate) fn stems_of(alloc: Global, targets: &[Target]) -> Result<Vec<u32>, AllocError>
+pub(crate) fn stem_ends(alloc: Global, targets: &[Target]) -> Result<Vec<u32>, AllocError>
     requires few { length targets.now ≤ most_targets }
     requires ordered { IsAscendingBy what_texts targets.now }
-    ensures { IfOk result (λ v. AreStems targets.now 0 (length targets.now) v.items) }
+    ensures { IfOk result (λ v. AreStemEnds targets.now 0 (length targets.now) v.items) }
 {
     let mut ends = Vec::new(alloc);
     let mut at = 0;

@@ -19,7 +19,7 @@ use crate::contents::Contents;
 use crate::document::document_of;
 use crate::fault::Cause;
 use crate::kind::{Implied, Kind, kind_named};
-use crate::list::list_kind;
+use crate::item_by_item::list_kind;
 use crate::part::Part;
 use json::Scratch;
 use json_list::{ListFront, ReadFault, Unread, open_front};

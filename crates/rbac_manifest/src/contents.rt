@@ -51,13 +51,6 @@ impl Contents {
         }
     }
 
-    // Reserves room for this many more objects.
-    pub(crate) fn reserve(&mut self, count: usize) -> Result<(), AllocError>
-        ensures { OnOk result (self.new ≡ self.old) }
-    {
-        self.objects.reserve(count)
-    }
-
     // Adds what a document gave, if it gave anything.
     #[tactic(auto, unfolding(crate::specs::Contents::with_contents))]
     pub(crate) fn take(&mut self, content: Option<Content>) -> Result<(), AllocError>

@@ -11,11 +11,10 @@ mod contents;
 mod document;
 mod fault;
 mod fields;
-mod items;
+mod item_by_item;
 mod kind;
 mod label;
 mod laws;
-mod list;
 mod listed;
 mod loaded;
 mod loading;
@@ -26,6 +25,7 @@ mod rule;
 mod selector;
 mod subject;
 mod universe_document;
+mod whole;
 
 pub use fault::{At, Cause, LoadFault};
 pub use laws::{
@@ -34,7 +34,7 @@ pub use laws::{
 };
 pub use loaded::{Loaded, load};
 pub use loading::{Export, load_export};
-pub use rbac_catalogue::{Catalogue, Entries, Entry, Found};
+pub use rbac_catalogue::{Catalogue, Found};
 pub use rbac_streams::Input;
 pub use rbac_universe::{
     ListedResource, ListedResources, Principals, Universe, UniverseFault, UniverseLists,

@@ -19,9 +19,9 @@ ghost use Rattle.rbac_model.specs.Policies.{Held, IsPolicy, HasTooMany, most_gra
 use crate::at_once::{Halt, list_at_once};
 use crate::contents::Contents;
 use crate::fault::{Cause, LoadFault, Refusal};
-use crate::items::input_into;
-use crate::list::list_into;
+use crate::item_by_item::list_into;
 use crate::replacement::{Replaced, replaced_of};
+use crate::whole::input_into;
 use rbac_catalogue::Catalogue;
 use rbac_lists::{Account, GivenLists, lists_of};
 use rbac_model::{Object, Objects, Policy, ResolveFault};
@@ -159,7 +159,7 @@ fn file_into(alloc: Global, bytes: &[u8], contents: &mut Contents) -> Result<(),
         return Ok(());
     }
     match parse(alloc, bytes) {
-        Ok(mut value) => input_into(alloc, &mut value, contents),
+        Ok(value) => input_into(alloc, &value, contents),
         Err(cause) => Err(Refusal::whole(cause)),
     }
 }

@@ -10,8 +10,9 @@ use Rattle.rbac_terms.specs.declared.granting.RoleRef.TheVariants.{Role as ToRol
 use Rattle.rbac_terms.proofs.Cases.{by_ordering}
 use Rattle.rbac_model.specs.Lists.{by_name}
 use Rattle.rbac_model.specs.Policies.{Held, InRole, SourcedRule, GrantView, AreRulesFor, AreGrantsOf, written_from, role_name, cluster_role_name}
-use Rattle.rbac_model.specs.Places.{AreSourcesAt, IsRefAt, granted_by, rules_in, roles_at}
+use Rattle.rbac_model.specs.Places.{AreSourcesAt, IsRefAt, granted_by, roles_at}
 use Rattle.rbac_model.specs.declared.places.RolePlace.TheVariants.{RoleAt, ClusterRoleAt}
+use Rattle.rbac_model.proofs.Listed.{rules_in}
 use Rattle.rbac_model.proofs.Brought.{role_rules, source_rules}
 use Rattle.rbac_model.proofs.Lookups.{role_named, cluster_role_named, same_role, same_cluster_role, role_ref, cluster_role_ref, no_role_ref, no_cluster_role_ref}
 use Rattle.rbac_model.proofs.NamePlaces.{same_name, equal_from_name}

@@ -3,13 +3,13 @@ use Rattle.std.proofs.Common.{◌≡◌, ℕ, ◌<◌, List, [], ◌∷◌, ◌+
 use Rattle.std.specs.Prelude.{Option, Some, None, slice_get, IsSome}
 use Rattle.std.proofs.lemmas.Option.{same_Some, slice_get_within}
 use Rattle.rbac_model.specs.Policies.{Held, Source, InRole, InClusterRole, SourcedRule, IsRefTo, IsPlain, AreRulesOf, AreRulesFor, AreGathered, written_from, grant_at}
-use Rattle.rbac_model.specs.Places.{IsRefAt, AreSourcesAt, IsAdded, rules_in, roles_at, role_places, places_in}
+use Rattle.rbac_model.specs.Places.{IsRefAt, AreSourcesAt, IsAdded, roles_at, role_places, places_in}
 use Rattle.rbac_terms.specs.declared.granting.Binding.{Binding}
 use Rattle.rbac_terms.specs.declared.granting.Role.{Role}
 use Rattle.rbac_terms.specs.declared.granting.ClusterRole.{ClusterRole}
 use Rattle.rbac_model.specs.declared.places.GrantPlace.{GrantPlace}
 use Rattle.rbac_model.specs.declared.places.RolePlace.TheVariants.{RoleAt, ClusterRoleAt}
-use Rattle.rbac_model.proofs.Listed.{added, role_placed, sources_placed, placed_len}
+use Rattle.rbac_model.proofs.Listed.{rules_in, added, role_placed, sources_placed, placed_len}
 
 pub if_err : {T E : Type 0} (P Q : E → Type 0) (o : Result T E) → ((e : E) → P e → Q e) → IfErr o P → IfErr o Q
 if_err P Q (Ok x) f p = tt

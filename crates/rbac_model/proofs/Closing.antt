@@ -2,13 +2,13 @@
 use Rattle.std.proofs.Common.{◌≡◌, ◌≢◌, ℕ, ◌<◌, ◌⊎◌, ◌↔◌, List, [], ◌∷◌, ◌++◌, length, set, inl, inr, sym, ◌∙◌, refl, arith, subst, get_or-set_same, get_or-set_other}
 use Rattle.std.proofs.Math.ListN.{get_or-eq_default, length-set}
 use Rattle.std.proofs.lemmas.Bool.{cases_eq, cases_lt}
-use Rattle.rbac_model.proofs.Marked.{none_marked}
-use Rattle.rbac_model.specs.Graphs.{Graph, IsGraph, HasEdge, IsMarked, IsWay, LeadsTo, LeadsAlike, AreFull, AreEnds}
+use Rattle.rbac_model.proofs.PlaceSets.{has_none}
+use Rattle.rbac_model.specs.Graphs.{Graph, IsGraph, HasEdge, HasPlace, IsWay, LeadsTo, LeadsAlike, AreFull, AreEnds}
 
 pub edge_within : (g : Graph) (a b : ℕ) → HasEdge g a b → a < length g
 edge_within g a b edge = elim (cases_lt a (length g)) [
   | inl l ↦ l
-  | inr le ↦ absurd (none_marked b (subst (λ (row : List ℕ). IsMarked row b) (get_or-eq_default g [] le) edge))
+  | inr le ↦ absurd (has_none b (subst (λ (row : List ℕ). HasPlace row b) (get_or-eq_default g [] le) edge))
 ]
 
 module _ (g : Graph) where
@@ -41,7 +41,7 @@ module _ (g : Graph) where
       first_of_way a (m ∷ ms) b w = (m, w.0)
 
 -- one row becomes all that its vertex leads to
-module _ (g : Graph) (at : ℕ) (row : List ℕ) (l : at < length g) (exact : (k : ℕ) → IsMarked row k ↔ LeadsTo g at k) where
+module _ (g : Graph) (at : ℕ) (row : List ℕ) (l : at < length g) (exact : (k : ℕ) → HasPlace row k ↔ LeadsTo g at k) where
   here : (b : ℕ) → HasEdge (set g at row) at b ↔ LeadsTo g at b
   here b = rw (get_or-set_same g at row [] l) (exact b)
 
@@ -69,13 +69,13 @@ module _ (g : Graph) (at : ℕ) (row : List ℕ) (l : at < length g) (exact : (k
     );
   }
 
-  pub one_full : (closed more : List ℕ) → AreFull g closed → ((k : ℕ) → IsMarked more k ↔ (IsMarked closed k ⊎ (k ≡ at))) → AreFull (set g at row) more
-  one_full closed more full is a k b marked first second = elim (cases_eq a at) [
+  pub one_full : (closed more : List ℕ) → AreFull g closed → ((k : ℕ) → HasPlace more k ↔ (HasPlace closed k ⊎ (k ≡ at))) → AreFull (set g at row) more
+  one_full closed more full is a k b has first second = elim (cases_eq a at) [
     | inl e ↦
         let way : LeadsTo g a b = through g a k b (edge_leads a k first) (edge_leads k b second) in
         subst (λ (v : ℕ). HasEdge (set g at row) v b) (sym e) ((here b).1 (subst (λ (v : ℕ). LeadsTo g v b) e way))
     | inr ne ↦
-        let was : IsMarked closed a = elim ((is a).0 marked) [ inl m ↦ m | inr e ↦ absurd (ne e) ] in
+        let was : HasPlace closed a = elim ((is a).0 has) [ inl m ↦ m | inr e ↦ absurd (ne e) ] in
         let way = edge_leads k b second in
         let edge = (elsewhere a k ne).0 first in
         (elsewhere a b ne).1 (along g (HasEdge g a) (λ m c to on. full a m c was to on) k way.0 b (λ c on. full a k c was edge on) way.1)
@@ -97,16 +97,16 @@ still_graph g h is alike a b edge =
     omega (arith, alike.len, within)
 
 pub still_ends : (g h : Graph) (ends : List ℕ) → AreEnds g ends → LeadsAlike g h → AreEnds h ends
-still_ends g h ends are alike a b marked edge =
+still_ends g h ends are alike a b has edge =
     let first = first_edge g a b ((alike.same a b).0 (by_edge h a b edge)) in
-    are a first.0 marked first.1
+    are a first.0 has first.1
 
-pub all_closed : (g h : Graph) (closed : List ℕ) → LeadsAlike g h → AreFull h closed → ((k : ℕ) → k < length h → IsMarked closed k) → (a b : ℕ) → HasEdge h a b ↔ LeadsTo g a b
+pub all_closed : (g h : Graph) (closed : List ℕ) → LeadsAlike g h → AreFull h closed → ((k : ℕ) → k < length h → HasPlace closed k) → (a b : ℕ) → HasEdge h a b ↔ LeadsTo g a b
 all_closed g h closed alike full all a b = (
   λ edge. (alike.same a b).0 (by_edge h a b edge),
   λ to.
       let way = (alike.same a b).1 to in
       let first = first_edge h a b way in
-      let marked = all a (edge_within h a first.0 first.1) in
-      along h (HasEdge h a) (λ m c edge on. full a m c marked edge on) a way.0 b (λ k edge. edge) way.1,
+      let has = all a (edge_within h a first.0 first.1) in
+      along h (HasEdge h a) (λ m c edge on. full a m c has edge on) a way.0 b (λ k edge. edge) way.1,
 )

@@ -1,4 +1,4 @@
--- the roles at places with marks are those that an aggregated role gathers from
+-- the roles at the places of a set are those that an aggregated role gathers from
 use Rattle.std.proofs.Common.{◌≡◌, ℕ, ◌<◌, ◌⊎◌, ◌/◌, ◌%◌, List, [], ◌∷◌, length, get_or, Contains, All, AllPairs, ◌↔◌, inl, inr, sym, ap, ◌∙◌, refl, arith, subst, Result, Ok, Err, IfOk}
 use Rattle.std.specs.Prelude.{Option, Some, None, IsSome, slice_get, Vec, option_and_then}
 use Rattle.std.specs.Int.{bit_at}
@@ -10,11 +10,11 @@ use Rattle.std.proofs.lemmas.List.Elements.{Contains-get_or}
 use Rattle.std.proofs.lemmas.Option.{same_Some, slice_get_within, get_or_from_slice_get, slice_get-get_or, slice_get_cases}
 use Rattle.rbac_model.specs.Policies.{Held, IsHeld, Reaches, IsPlain, cluster_role_name}
 use Rattle.rbac_model.specs.Lists.{IsAscendingBy, IsUpTo}
-use Rattle.rbac_model.specs.Graphs.{Graph, IsMarked}
-use Rattle.rbac_model.specs.Places.{IsReachedAt, AreReaches, AreSourcesOf, AreSourcesAt, IsPlainAt}
+use Rattle.rbac_model.specs.Graphs.{Graph, HasPlace}
+use Rattle.rbac_model.specs.Places.{IsReachedAt, AreReachedByEach, AreSourcesOf, AreSourcesAt, IsPlainAt}
 use Rattle.rbac_terms.specs.declared.granting.ClusterRole.{ClusterRole}
 use Rattle.rbac_model.proofs.Kept.{length-filter_map, slice_get-filter_map}
-use Rattle.rbac_model.proofs.Stairs.{read_contains, reached_held, marked_reached}
+use Rattle.rbac_model.proofs.Stairs.{read_contains, reached_held, reached_places}
 use Rattle.rbac_model.proofs.UpTo.{all_kept, some_list}
 use Rattle.rbac_terms.specs.declared.selecting.Selector.{Selector}
 
@@ -59,15 +59,15 @@ own_source h at r e plain =
 pub at_place : (h : Held) (at : ℕ) (r : ClusterRole) (ps : List ℕ) → slice_get h.cluster_roles at ≡ Some r → AreSourcesOf h r ps → AreSourcesAt h at ps
 at_place h at r ps read of = λ s e. subst (λ (t : ClusterRole). AreSourcesOf h t ps) (same_Some r s (sym read ∙ e)) of
 
--- a mark on a plain role
+-- a place of a plain role
 abbrev pub IsGatheredAt : Held → List ℕ → ℕ → Type 0
-IsGatheredAt h marks k = IsMarked marks k × IsPlainAt h.cluster_roles k
+IsGatheredAt h places k = HasPlace places k × IsPlainAt h.cluster_roles k
 
-module _ (h : Held) (held : IsHeld h) (r : ClusterRole) (aggregated : IsPlain r → ⊥) (marks : List ℕ) (reached : (k : ℕ) → IsMarked marks k ↔ IsReachedAt h r k) where
-  pub gathered_from : (ks : List ℕ) → IsUpTo (IsGatheredAt h marks) ks (length h.cluster_roles) → AreSourcesOf h r ks
+module _ (h : Held) (held : IsHeld h) (r : ClusterRole) (aggregated : IsPlain r → ⊥) (places : List ℕ) (reached : (k : ℕ) → HasPlace places k ↔ IsReachedAt h r k) where
+  pub gathered_from : (ks : List ℕ) → IsUpTo (IsGatheredAt h places) ks (length h.cluster_roles) → AreSourcesOf h r ks
   gathered_from ks up =
       let rising = up.ascending in
-      let exact : (k : ℕ) → Contains ks k ↔ IsGatheredAt h marks k = all_kept (IsGatheredAt h marks) ks (length h.cluster_roles) (λ k p. slice_get_within h.cluster_roles k p.1.0 p.1.1) up in
+      let exact : (k : ℕ) → Contains ks k ↔ IsGatheredAt h places k = all_kept (IsGatheredAt h places) ks (length h.cluster_roles) (λ k p. slice_get_within h.cluster_roles k p.1.0 p.1.1) up in
       let within : All (λ k. k < length h.cluster_roles) ks = λ i d l. let p = ((exact (get_or ks i d)).0 (Contains-get_or ks i d l)).1 in slice_get_within h.cluster_roles (get_or ks i d) p.0 p.1 in (
         within,
         inr (
@@ -77,11 +77,11 @@ module _ (h : Held) (held : IsHeld h) (r : ClusterRole) (aggregated : IsPlain r 
             exact = λ s. (
               λ w.
                   let a = in_roles h.cluster_roles held.cluster_roles ks rising within s w in
-                  let marked = (exact a.0).0 a.1 in
-                  let same = same_Some marked.1.0 s (sym marked.1.1 ∙ a.2) in
-                  let to = (reached a.0).0 marked.0 in
+                  let has = (exact a.0).0 a.1 in
+                  let same = same_Some has.1.0 s (sym has.1.1 ∙ a.2) in
+                  let to = (reached a.0).0 has.0 in
                   let same_to = same_Some to.0 s (sym to.1 ∙ a.2) in
-                  (subst IsPlain same marked.1.2, subst (Reaches h r) same_to to.2),
+                  (subst IsPlain same has.1.2, subst (Reaches h r) same_to to.2),
               λ p.
                   let at = read_contains h.cluster_roles s (reached_held h r s p.1) in
                   roles_in h.cluster_roles held.cluster_roles ks rising within at.0 s ((exact at.0).1 ((reached at.0).1 (s, at.1, p.1), (s, at.1, p.0))) at.1,
@@ -104,19 +104,19 @@ plain_at_or_not roles k = elim ((slice_get_cases roles k).1) [
   | inr w ↦ inr (λ p. let l = slice_get_within roles k p.0 p.1 in absurd (omega (arith, l, w.0)))
 ]
 
-gathered_or_not : (h : Held) (marks : List ℕ) (k : ℕ) → IsGatheredAt h marks k ⊎ (IsGatheredAt h marks k → ⊥)
-gathered_or_not h marks k = elim (cases_eq (bit_at (get_or marks (k / 64) 0) (k % 64)) 1) [
-  | inl marked ↦ elim (plain_at_or_not h.cluster_roles k) [
-    | inl plain ↦ inl (marked, plain)
+gathered_or_not : (h : Held) (places : List ℕ) (k : ℕ) → IsGatheredAt h places k ⊎ (IsGatheredAt h places k → ⊥)
+gathered_or_not h places k = elim (cases_eq (bit_at (get_or places (k / 64) 0) (k % 64)) 1) [
+  | inl has ↦ elim (plain_at_or_not h.cluster_roles k) [
+    | inl plain ↦ inl (has, plain)
     | inr isnt ↦ inr (λ p. isnt p.1)
   ]
   | inr isnt ↦ inr (λ p. isnt p.0)
 ]
 
-module _ (h : Held) (held : IsHeld h) (rows : Graph) (are : AreReaches h rows) (at : ℕ) where
-  pub gathered_at : {E : Type 0} (r : ClusterRole) (marks : List ℕ) (o : Result (Vec ℕ Global) E) → slice_get h.cluster_roles at ≡ Some r → (IsPlain r → ⊥) → marks ≡ get_or rows at marks → IfOk o (λ row. IsUpTo (IsGatheredAt h marks) row.items (length h.cluster_roles)) → IfOk o (λ row. AreSourcesAt h at row.items)
-  gathered_at r marks (Ok row) e aggregated read up = at_place h at r row.items e (gathered_from h held r aggregated marks (marked_reached h rows at r marks are e read) row.items up)
-  gathered_at r marks (Err fault) e aggregated read up = tt
+module _ (h : Held) (held : IsHeld h) (rows : Graph) (are : AreReachedByEach h rows) (at : ℕ) where
+  pub gathered_at : {E : Type 0} (r : ClusterRole) (places : List ℕ) (o : Result (Vec ℕ Global) E) → slice_get h.cluster_roles at ≡ Some r → (IsPlain r → ⊥) → places ≡ get_or rows at places → IfOk o (λ row. IsUpTo (IsGatheredAt h places) row.items (length h.cluster_roles)) → IfOk o (λ row. AreSourcesAt h at row.items)
+  gathered_at r places (Ok row) e aggregated read up = at_place h at r row.items e (gathered_from h held r aggregated places (reached_places h rows at r places are e read) row.items up)
+  gathered_at r places (Err fault) e aggregated read up = tt
 
   -- each place has its sources
   pub some_sources : (ps : List ℕ) × AreSourcesAt h at ps
@@ -125,8 +125,8 @@ module _ (h : Held) (held : IsHeld h) (rows : Graph) (are : AreReaches h rows) (
     | inl w ↦ elim (plain_or_not w.0 w.0.aggregation refl) [
       | inl plain ↦ (at ∷ [], at_place h at w.0 (at ∷ []) w.2 (own_source h at w.0 w.2 plain))
       | inr aggregated ↦
-          let marks = get_or rows at [] in
-          let some = some_list (IsGatheredAt h marks) (gathered_or_not h marks) (length h.cluster_roles) in
-          (some.0, at_place h at w.0 some.0 w.2 (gathered_from h held w.0 aggregated marks (are.exact at w.0 w.2) some.0 some.1))
+          let places = get_or rows at [] in
+          let some = some_list (IsGatheredAt h places) (gathered_or_not h places) (length h.cluster_roles) in
+          (some.0, at_place h at w.0 some.0 w.2 (gathered_from h held w.0 aggregated places (are.exact at w.0 w.2) some.0 some.1))
     ]
   ]

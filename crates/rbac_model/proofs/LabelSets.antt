@@ -10,9 +10,9 @@ use Rattle.std.proofs.lemmas.Option.{same_Some, slice_get_within, slice_get_case
 use Rattle.rbac_terms.specs.Text.{Text}
 use Rattle.rbac_terms.specs.Selecting.{LabelTexts, HasLabel, HasOneOf}
 use Rattle.rbac_terms.specs.declared.granting.ClusterRole.{ClusterRole}
-use Rattle.rbac_model.specs.Graphs.{IsMarked}
+use Rattle.rbac_model.specs.Graphs.{HasPlace}
 use Rattle.rbac_model.specs.Labelled.{IsWithAt, AreWith, HasSome}
-use Rattle.rbac_model.proofs.Marked.{none_marked}
+use Rattle.rbac_model.proofs.PlaceSets.{has_none}
 
 -- one element more
 pub any_push : {X : Type 0} (P : X → Type 0) (xs : List X) (y : X) → Any P (xs ++ y ∷ []) ↔ (Any P xs ⊎ P y)
@@ -47,7 +47,7 @@ same_role : (P : LabelTexts → Type 0) (roles : List ClusterRole) (k : ℕ) (r 
 same_role P roles k r read w = subst (λ (s : ClusterRole). P s.labels) (same_Some w.0 r (sym w.1 ∙ read)) w.2
 
 module _ (roles : List ClusterRole) where
-  pub with_both : (P Q R : LabelTexts → Type 0) (a b c : List ℕ) → ((k : ℕ) → IsMarked c k ↔ (IsMarked a k × IsMarked b k)) → AreWith P roles a → AreWith Q roles b → ((ls : LabelTexts) → R ls ↔ (P ls × Q ls)) → AreWith R roles c
+  pub with_both : (P Q R : LabelTexts → Type 0) (a b c : List ℕ) → ((k : ℕ) → HasPlace c k ↔ (HasPlace a k × HasPlace b k)) → AreWith P roles a → AreWith Q roles b → ((ls : LabelTexts) → R ls ↔ (P ls × Q ls)) → AreWith R roles c
   with_both P Q R a b c both first second are k = (
     λ m.
         let w = (both k).0 m in
@@ -58,7 +58,7 @@ module _ (roles : List ClusterRole) where
         (both k).1 ((first k).1 (w.0, w.1, pq.0), (second k).1 (w.0, w.1, pq.1)),
   )
 
-  pub with_either : (P Q R : LabelTexts → Type 0) (a c : List ℕ) → ((k : ℕ) → IsMarked c k ↔ (IsMarked a k ⊎ IsWithAt Q roles k)) → AreWith P roles a → ((ls : LabelTexts) → R ls ↔ (P ls ⊎ Q ls)) → AreWith R roles c
+  pub with_either : (P Q R : LabelTexts → Type 0) (a c : List ℕ) → ((k : ℕ) → HasPlace c k ↔ (HasPlace a k ⊎ IsWithAt Q roles k)) → AreWith P roles a → ((ls : LabelTexts) → R ls ↔ (P ls ⊎ Q ls)) → AreWith R roles c
   with_either P Q R a c either first are k = (
     λ m. elim ((either k).0 m) [
       | inl v ↦ let p = (first k).0 v in (p.0, p.1, (are p.0.labels).1 (inl p.2))
@@ -70,13 +70,13 @@ module _ (roles : List ClusterRole) where
     ]),
   )
 
-  pub with_added : (Q : LabelTexts → Type 0) (a b c : List ℕ) → ((k : ℕ) → IsMarked c k ↔ (IsMarked a k ⊎ IsMarked b k)) → AreWith Q roles b → (k : ℕ) → IsMarked c k ↔ (IsMarked a k ⊎ IsWithAt Q roles k)
+  pub with_added : (Q : LabelTexts → Type 0) (a b c : List ℕ) → ((k : ℕ) → HasPlace c k ↔ (HasPlace a k ⊎ HasPlace b k)) → AreWith Q roles b → (k : ℕ) → HasPlace c k ↔ (HasPlace a k ⊎ IsWithAt Q roles k)
   with_added Q a b c either second k = (
     λ m. elim ((either k).0 m) [ inl v ↦ inl v | inr v ↦ inr ((second k).0 v) ],
     λ w. (either k).1 (elim w [ inl v ↦ inl v | inr q ↦ inr ((second k).1 q) ]),
   )
 
-  pub with_others : (P : LabelTexts → Type 0) (a b : List ℕ) → ((k : ℕ) → IsMarked b k ↔ ((k < length roles) × (IsMarked a k → ⊥))) → AreWith P roles a → AreWith (λ ls. P ls → ⊥) roles b
+  pub with_others : (P : LabelTexts → Type 0) (a b : List ℕ) → ((k : ℕ) → HasPlace b k ↔ ((k < length roles) × (HasPlace a k → ⊥))) → AreWith P roles a → AreWith (λ ls. P ls → ⊥) roles b
   with_others P a b others are k = (
     λ m.
         let w = (others k).0 m in
@@ -87,7 +87,7 @@ module _ (roles : List ClusterRole) where
     λ w. (others k).1 (slice_get_within roles k w.0 w.1, λ m. w.2 (same_role P roles k w.0 w.1 ((are k).0 m))),
   )
 
-  pub with_everyone : (P : LabelTexts → Type 0) (a : List ℕ) → ((k : ℕ) → IsMarked a k ↔ (k < length roles)) → ((ls : LabelTexts) → P ls) → AreWith P roles a
+  pub with_everyone : (P : LabelTexts → Type 0) (a : List ℕ) → ((k : ℕ) → HasPlace a k ↔ (k < length roles)) → ((ls : LabelTexts) → P ls) → AreWith P roles a
   with_everyone P a all holds k = (
     λ m. elim ((slice_get_cases roles k).1) [
       | inl v ↦ (v.0, v.2, holds v.0.labels)
@@ -97,7 +97,7 @@ module _ (roles : List ClusterRole) where
   )
 
   pub with_nobody : (P : LabelTexts → Type 0) → ((ls : LabelTexts) → P ls → ⊥) → AreWith P roles []
-  with_nobody P none k = (λ m. absurd (none_marked k m), λ w. absurd (none w.0.labels w.2))
+  with_nobody P none k = (λ m. absurd (has_none k m), λ w. absurd (none w.0.labels w.2))
 
   pub with_same : (P Q : LabelTexts → Type 0) (a : List ℕ) → ((ls : LabelTexts) → P ls ↔ Q ls) → AreWith P roles a → AreWith Q roles a
   with_same P Q a same are k = (
@@ -105,9 +105,9 @@ module _ (roles : List ClusterRole) where
     λ w. (are k).1 (w.0, w.1, (same w.0.labels).1 w.2),
   )
 
-  pub with_first : (Q : LabelTexts → Type 0) (c : List ℕ) → ((k : ℕ) → IsMarked c k ↔ (IsMarked [] k ⊎ IsWithAt Q roles k)) → AreWith Q roles c
+  pub with_first : (Q : LabelTexts → Type 0) (c : List ℕ) → ((k : ℕ) → HasPlace c k ↔ (HasPlace [] k ⊎ IsWithAt Q roles k)) → AreWith Q roles c
   with_first Q c either k = (
-    λ m. elim ((either k).0 m) [ inl v ↦ absurd (none_marked k v) | inr q ↦ q ],
+    λ m. elim ((either k).0 m) [ inl v ↦ absurd (has_none k v) | inr q ↦ q ],
     λ w. (either k).1 (inr w),
   )
 

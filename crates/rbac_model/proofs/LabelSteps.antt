@@ -6,12 +6,12 @@ use Rattle.std.proofs.lemmas.Option.{same_Some, slice_get_within, get_or_from_sl
 use Rattle.rbac_terms.specs.Selecting.{Selects}
 use Rattle.rbac_terms.specs.declared.granting.ClusterRole.{ClusterRole}
 use Rattle.rbac_terms.specs.declared.selecting.Selector.{Selector}
-use Rattle.rbac_model.specs.Graphs.{IsMarked}
+use Rattle.rbac_model.specs.Graphs.{HasPlace}
 use Rattle.rbac_model.specs.Lists.{IsAscendingBy}
 use Rattle.rbac_model.specs.Policies.{Held, IsHeld, Gathers, cluster_role_name}
 use Rattle.rbac_model.specs.Places.{IsRowOf}
 use Rattle.rbac_model.specs.Labelled.{AreWith}
-use Rattle.rbac_model.proofs.Marked.{none_marked}
+use Rattle.rbac_model.proofs.PlaceSets.{has_none}
 use Rattle.rbac_model.proofs.NamePlaces.{equal_from_name}
 use Rattle.rbac_model.proofs.Stairs.{step_read, step_same, no_step_plain}
 
@@ -31,7 +31,7 @@ one_place roles up i j r s there here same =
       ]
     ]
 
-pub row_of : (h : Held) → IsHeld h → (r : ClusterRole) (at : ℕ) (selectors : List Selector) (gathered own row : List ℕ) → slice_get h.cluster_roles at ≡ Some r → r.aggregation ≡ Some selectors → AreWith (λ labels. Any (λ selector. Selects selector labels) selectors) h.cluster_roles gathered → ((k : ℕ) → IsMarked own k ↔ (IsMarked [] k ⊎ (k ≡ at))) → ((k : ℕ) → IsMarked row k ↔ (IsMarked gathered k × (IsMarked own k → ⊥))) → IsRowOf h r row
+pub row_of : (h : Held) → IsHeld h → (r : ClusterRole) (at : ℕ) (selectors : List Selector) (gathered own row : List ℕ) → slice_get h.cluster_roles at ≡ Some r → r.aggregation ≡ Some selectors → AreWith (λ labels. Any (λ selector. Selects selector labels) selectors) h.cluster_roles gathered → ((k : ℕ) → HasPlace own k ↔ (HasPlace [] k ⊎ (k ≡ at))) → ((k : ℕ) → HasPlace row k ↔ (HasPlace gathered k × (HasPlace own k → ⊥))) → IsRowOf h r row
 row_of h held r at selectors gathered own row there is are one left k = (
   λ m.
       let w = (left k).0 m in
@@ -45,7 +45,7 @@ row_of h held r at selectors gathered own row there is are one left k = (
       (left k).1 (
         (are k).1 (s, step.1, gathers),
         λ m. elim ((one k).0 m) [
-          | inl v ↦ none_marked k v
+          | inl v ↦ has_none k v
           | inr e ↦
               let same : s ≡ r = same_Some s r (sym step.1 ∙ ap (slice_get h.cluster_roles) e ∙ there) in
               parts.0 (ap (λ (x : ClusterRole). x.name) (sym same))
@@ -54,4 +54,4 @@ row_of h held r at selectors gathered own row there is are one left k = (
 )
 
 pub no_row : (h : Held) (r : ClusterRole) → r.aggregation ≡ None → IsRowOf h r []
-no_row h r plain k = (λ m. absurd (none_marked k m), λ p. absurd (no_step_plain h r k plain p))
+no_row h r plain k = (λ m. absurd (has_none k m), λ p. absurd (no_step_plain h r k plain p))

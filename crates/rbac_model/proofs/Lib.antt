@@ -9,14 +9,14 @@ pub mod Granted
 pub mod Kept
 pub mod LastNamed
 pub mod LabelAdding
-pub mod LabelMarks
+pub mod LabelBits
 pub mod LabelPlaces
 pub mod LabelSets
 pub mod LabelSteps
 pub mod Listed
 pub mod Lookups
-pub mod Marked
-pub mod MarkedNames
+pub mod PlaceSets
+pub mod NamesIn
 pub mod Masked
 pub mod NamePlaces
 pub mod OneKept

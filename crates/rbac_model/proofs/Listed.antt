@@ -1,12 +1,13 @@
 -- grants by places, and what is added to them
 use Rattle.std.proofs.Common.{◌≡◌, ℕ, ◌<◌, ◌≤◌, ◌+◌, List, [], ◌∷◌, ◌++◌, length, get_or, take, All, inl, inr, sym, ap, ◌∙◌, refl, arith, zero, suc, add-one, append_assoc, append-nil, option_map, length-append, IsSome, take_all, length-take-le, take-append-drop, drop}
+use Rattle.std.specs.List.{flat_map}
 use Rattle.std.proofs.lemmas.Grind.{flat_map-append}
 use Rattle.std.specs.Prelude.{Option, Some, None, slice_get, option_and_then}
 use Rattle.std.proofs.lemmas.List.{take_more, map-append, length-map}
 use Rattle.std.proofs.lemmas.List.Elements.{filter_map-append, All-append, All-push, All-nil, All-head, All-tail}
 use Rattle.std.proofs.lemmas.Option.{same_Some, slice_get_within, get_or_from_slice_get, slice_get_cases}
 use Rattle.rbac_model.specs.Policies.{Held, Source, InRole, InClusterRole, SourcedRule, GrantView, written_from, grant_at, grants_at, rule_at, sourced_at, AreGrantsOf, AreRulesFor}
-use Rattle.rbac_model.specs.Places.{source_at, rules_of, places_of, places_in, role_places, granted_by, IsAdded, rules_in, roles_at, rule_count}
+use Rattle.rbac_model.specs.Places.{source_at, rules_of, places_of, places_in, role_places, granted_by, IsAdded, roles_at, rule_count}
 use Rattle.rbac_terms.specs.declared.granting.Binding.{Binding}
 use Rattle.rbac_terms.specs.declared.granting.Role.{Role}
 use Rattle.rbac_terms.specs.declared.granting.ClusterRole.{ClusterRole}
@@ -15,6 +16,10 @@ use Rattle.rbac_model.specs.declared.places.GrantPlace.{GrantPlace}
 use Rattle.rbac_model.specs.declared.places.RolePlace.{RolePlace}
 use Rattle.rbac_model.specs.declared.places.RolePlace.TheVariants.{RoleAt, ClusterRoleAt}
 use Rattle.rbac_model.proofs.Kept.{length-filter_map}
+
+-- the rules that are written in these cluster roles, in order
+abbrev pub rules_in : List ClusterRole → List SourcedRule
+rules_in ss = flat_map (λ s. written_from (InClusterRole s) 0 s.rules) ss
 
 -- one rule more
 written_push : (source : Source) (i n : ℕ) (rules : List Rule) (rule : Rule) → n ≡ i + length rules → written_from source i (rules ++ rule ∷ []) ≡ written_from source i rules ++ record { source = source; rule = rule; place = n } ∷ []

@@ -5,10 +5,10 @@ use Rattle.std.proofs.Math.ListN.{get_or-eq_default}
 use Rattle.std.specs.Prelude.{Option, Some, slice_get}
 use Rattle.std.specs.List.{AllZip}
 use Rattle.std.proofs.lemmas.Option.{same_Some, slice_get_within, slice_get-get_or, slice_get_cases}
-use Rattle.rbac_model.proofs.Marked.{none_marked}
+use Rattle.rbac_model.proofs.PlaceSets.{has_none}
 use Rattle.rbac_model.specs.Policies.{Held, IsPath, Reaches, Gathers, IsPlain}
-use Rattle.rbac_model.specs.Graphs.{Graph, IsGraph, IsMarked, HasEdge, IsWay, LeadsTo}
-use Rattle.rbac_model.specs.Places.{IsStepTo, IsRowOf, AreSteps, IsReachedAt, AreReaches}
+use Rattle.rbac_model.specs.Graphs.{Graph, IsGraph, HasPlace, HasEdge, IsWay, LeadsTo}
+use Rattle.rbac_model.specs.Places.{IsStepTo, IsRowOf, AreSteps, IsReachedAt, AreReachedByEach}
 use Rattle.rbac_terms.specs.declared.granting.ClusterRole.{ClusterRole}
 use Rattle.rbac_terms.specs.declared.selecting.Selector.{Selector}
 use Rattle.rbac_terms.proofs.Reading.{contains_read}
@@ -79,7 +79,7 @@ module _ (h : Held) (g : Graph) (are : AreSteps h g) where
   rows_within a b edge =
       elim ((slice_get_cases h.cluster_roles a).1) [
         | inl v ↦ let step = edge_step a v.0 b v.2 edge in omega (arith, rows_len, slice_get_within h.cluster_roles b step.0 step.1)
-        | inr v ↦ absurd (none_marked b (subst (λ (row : List ℕ). IsMarked row b) (get_or-eq_default g [] (omega (arith, rows_len, v.0))) edge))
+        | inr v ↦ absurd (has_none b (subst (λ (row : List ℕ). HasPlace row b) (get_or-eq_default g [] (omega (arith, rows_len, v.0))) edge))
       ]
 
   -- ways and paths are alike
@@ -97,8 +97,8 @@ module _ (h : Held) (g : Graph) (are : AreSteps h g) where
       let rest = path_way at.0 m ms s k at.1 there path.1 in
       (at.0 ∷ rest.0, (step_edge a r at.0 e (m, at.1, path.0), rest.1))
 
-  -- where each vertex has edges to all that it led to, the roles that are reached are marked
-  pub are_reaches : (rows : Graph) → length rows ≡ length g → ((a b : ℕ) → HasEdge rows a b ↔ LeadsTo g a b) → AreReaches h rows
+  -- where each vertex has edges to all that it led to, the roles that are reached are in the set
+  pub are_reaches : (rows : Graph) → length rows ≡ length g → ((a b : ℕ) → HasEdge rows a b ↔ LeadsTo g a b) → AreReachedByEach h rows
   are_reaches rows len exact = record {
     len = len ∙ rows_len;
     exact = λ at r e k. (
@@ -107,11 +107,11 @@ module _ (h : Held) (g : Graph) (are : AreSteps h g) where
     );
   }
 
-pub marked_reached : (h : Held) (rows : Graph) (at : ℕ) (r : ClusterRole) (marks : List ℕ) → AreReaches h rows → slice_get h.cluster_roles at ≡ Some r → marks ≡ get_or rows at marks → (k : ℕ) → IsMarked marks k ↔ IsReachedAt h r k
-marked_reached h rows at r marks are e read =
+pub reached_places : (h : Held) (rows : Graph) (at : ℕ) (r : ClusterRole) (places : List ℕ) → AreReachedByEach h rows → slice_get h.cluster_roles at ≡ Some r → places ≡ get_or rows at places → (k : ℕ) → HasPlace places k ↔ IsReachedAt h r k
+reached_places h rows at r places are e read =
     let l : at < length rows = omega (arith, are.len, slice_get_within h.cluster_roles at r e) in
-    let same : get_or rows at [] ≡ marks = sym (read ∙ get_or_default rows at marks [] l) in
-    subst (λ (row : List ℕ). (k : ℕ) → IsMarked row k ↔ IsReachedAt h r k) same (are.exact at r e)
+    let same : get_or rows at [] ≡ places = sym (read ∙ get_or_default rows at places [] l) in
+    subst (λ (row : List ℕ). (k : ℕ) → HasPlace row k ↔ IsReachedAt h r k) same (are.exact at r e)
 
 -- one pair more, as a loop over a list makes it
 pub zip_next : {A B : Type 0} (R : A → B → Type 0) (all xs : List A) (ys : List B) (i : ℕ) (x : A) (y : B) → xs ≡ all → i < length xs → x ≡ get_or xs i x → AllZip R (take i all) ys → R x y → AllZip R (take (i + 1) all) (ys ++ y ∷ [])

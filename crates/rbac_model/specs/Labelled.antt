@@ -5,7 +5,7 @@ use Rattle.std.specs.List.Sorted.{IsSorted}
 use Rattle.rbac_terms.specs.Text.{Text}
 use Rattle.rbac_terms.specs.Selecting.{LabelTexts, HasLabel, HasKey}
 use Rattle.rbac_terms.specs.declared.granting.ClusterRole.{ClusterRole}
-use Rattle.rbac_model.specs.Graphs.{IsMarked}
+use Rattle.rbac_model.specs.Graphs.{HasPlace}
 use Rattle.rbac_model.specs.Lists.{by_name}
 
 -- there is a role at the place, and its labels have the property
@@ -14,7 +14,7 @@ IsWithAt P roles k = (r : ClusterRole) × (slice_get roles k ≡ Some r) × P r.
 
 -- the set of the places of all roles whose labels have the property
 abbrev pub AreWith : (LabelTexts → Type 0) → List ClusterRole → List ℕ → Type 0
-AreWith P roles marks = (k : ℕ) → IsMarked marks k ↔ IsWithAt P roles k
+AreWith P roles places = (k : ℕ) → HasPlace places k ↔ IsWithAt P roles k
 
 -- a label by its texts: its key and its value, or its key alone
 abbrev pub label_texts : Text → Option Text → List Text

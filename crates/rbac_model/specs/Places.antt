@@ -2,11 +2,11 @@ use Rattle.std.specs.Prelude.{◌≡◌, ◌↔◌, Contains, ℕ, ◌<◌, ◌�
 use Rattle.std.specs.Prelude.{None, All, IsSome, map, slice_get, length, zero, suc}
 use Rattle.std.specs.List.{filter_map, flat_map, AllZip}
 use Rattle.std.specs.Option.{option_map}
-use Rattle.rbac_model.specs.Graphs.{Graph, HasEdge, IsMarked}
+use Rattle.rbac_model.specs.Graphs.{Graph, HasEdge, HasPlace}
 use Rattle.rbac_model.specs.Lists.{IsAscendingBy}
 use Rattle.rbac_terms.specs.Text.{Text}
 use Rattle.rbac_model.specs.Policies.{Held, Source, InRole, InClusterRole, SourcedRule, GrantView}
-use Rattle.rbac_model.specs.Policies.{IsRefTo, IsPlain, Step, Reaches, AreGathered, written_from}
+use Rattle.rbac_model.specs.Policies.{IsRefTo, IsPlain, Step, Reaches, AreGathered}
 use Rattle.rbac_model.specs.Policies.{grant_at, grants_at}
 use Rattle.rbac_terms.specs.declared.granting.Binding.{Binding}
 use Rattle.rbac_terms.specs.declared.granting.ClusterRole.{ClusterRole}
@@ -50,9 +50,6 @@ pub record IsAdded (h : Held) (b : Binding) (old new : List GrantPlace)
 abbrev pub roles_at : Held → List ℕ → List ClusterRole
 roles_at h ps = filter_map (slice_get h.cluster_roles) ps
 
-abbrev pub rules_in : List ClusterRole → List SourcedRule
-rules_in ss = flat_map (λ s. written_from (InClusterRole s) 0 s.rules) ss
-
 -- these are the places of the roles whose rules the cluster role has: of itself, or of those that
 -- it gathers from
 abbrev pub AreSourcesOf : Held → ClusterRole → List ℕ → Type 0
@@ -75,7 +72,7 @@ IsStepTo h r k = (s : ClusterRole) × (slice_get h.cluster_roles k ≡ Some s) �
 
 -- the set of the cluster roles that one step leads to from r
 abbrev pub IsRowOf : Held → ClusterRole → List ℕ → Type 0
-IsRowOf h r row = (k : ℕ) → IsMarked row k ↔ IsStepTo h r k
+IsRowOf h r row = (k : ℕ) → HasPlace row k ↔ IsStepTo h r k
 
 -- for each cluster role, the set of the cluster roles that one step leads to
 abbrev pub AreSteps : Held → Graph → Type 0
@@ -86,7 +83,7 @@ abbrev pub IsReachedAt : Held → ClusterRole → ℕ → Type 0
 IsReachedAt h r k = (s : ClusterRole) × (slice_get h.cluster_roles k ≡ Some s) × Reaches h r s
 
 -- for each cluster role, the set of the cluster roles that it reaches
-pub record AreReaches (h : Held) (rows : Graph) : Type 0 where
+pub record AreReachedByEach (h : Held) (rows : Graph) : Type 0 where
   pub len : length rows ≡ length h.cluster_roles
   pub exact : (at : ℕ) (r : ClusterRole) → slice_get h.cluster_roles at ≡ Some r
       → (k : ℕ) → HasEdge rows at k ↔ IsReachedAt h r k
@@ -105,12 +102,12 @@ places_in h binding ps =
     flat_map (λ at. places_of binding (ClusterRoleAt at)
     (rule_count (option_map (λ r. r.rules) (slice_get h.cluster_roles at)))) ps
 
--- a text is the name of a role at a place with a mark
-abbrev pub IsMarkedName : Held → List ℕ → Text → Type 0
-IsMarkedName h marks w = (k : ℕ) × (s : ClusterRole) × IsMarked marks k
+-- a text is the name of a role at a place of the set
+abbrev pub IsNameIn : Held → List ℕ → Text → Type 0
+IsNameIn h places w = (k : ℕ) × (s : ClusterRole) × HasPlace places k
     × (slice_get h.cluster_roles k ≡ Some s) × (s.name ≡ w)
 
--- the names of the roles at the places with a mark, ascending
-pub record AreMarkedNames (h : Held) (marks : List ℕ) (ws : List Text) : Type 0 where
+-- the names of the roles at the places of the set, ascending
+pub record AreNamesIn (h : Held) (places : List ℕ) (ws : List Text) : Type 0 where
   pub ordered : IsAscendingBy (λ w. w ∷ []) ws
-  pub exact : (w : Text) → Contains ws w ↔ IsMarkedName h marks w
+  pub exact : (w : Text) → Contains ws w ↔ IsNameIn h places w

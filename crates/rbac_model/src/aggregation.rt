@@ -3,23 +3,23 @@
 ghost use Rattle.std.specs.Prelude.{◌≡◌, ◌≢◌, ◌+◌, ◌*◌, ◌/◌, ◌<◌, ◌≤◌, ◌↔◌, IsTrue, IfOk, OnOk};
 ghost use Rattle.std.specs.Prelude.{IsOkAnd, Contains, Any, Some, [], length, min, slice_get};
 ghost use Rattle.rbac_model.specs.Policies.{IsHeld, IsPlain, AreReachedNames};
-ghost use Rattle.rbac_model.specs.Graphs.{IsMarked};
+ghost use Rattle.rbac_model.specs.Graphs.{HasPlace};
 ghost use Rattle.rbac_model.specs.Lists.{IsUpTo};
 ghost use Rattle.rbac_terms.specs.declared.granting.ClusterRole.{ClusterRole};
-ghost use Rattle.rbac_model.specs.Places.{IsRowOf, AreSteps, IsReachedAt, AreReaches, AreSourcesAt};
-ghost use Rattle.rbac_model.specs.Places.{IsPlainAt, AreMarkedNames};
+ghost use Rattle.rbac_model.specs.Places.{IsRowOf, AreSteps, IsReachedAt, AreReachedByEach};
+ghost use Rattle.rbac_model.specs.Places.{AreSourcesAt, IsPlainAt, AreNamesIn};
 
 use crate::labels::Labelled;
-use crate::marks::Marks;
 use crate::objects::Objects;
+use crate::place_set::PlaceSet;
 use crate::reachability::close;
 use crate::references::cluster_role_place;
 use rbac_terms::{ClusterRole, Word, Words};
 use std::alloc::{AllocError, Global};
 
 // For each cluster role, the places of the cluster roles that it reaches.
-pub(crate) fn reaches_of(alloc: Global, objects: &Objects) -> Result<Vec<Marks>, AllocError>
-    ensures { IfOk result (λ rows. AreReaches objects.now rows.items) }
+pub(crate) fn reached_by_each(alloc: Global, objects: &Objects) -> Result<Vec<PlaceSet>, AllocError>
+    ensures { IfOk result (λ rows. AreReachedByEach objects.now rows.items) }
 {
     let mut rows = steps_of(alloc, objects)?;
     close(alloc, &mut rows)?;
@@ -27,7 +27,7 @@ pub(crate) fn reaches_of(alloc: Global, objects: &Objects) -> Result<Vec<Marks>,
 }
 
 // For each cluster role, the places of the cluster roles that one step leads to.
-fn steps_of(alloc: Global, objects: &Objects) -> Result<Vec<Marks>, AllocError>
+fn steps_of(alloc: Global, objects: &Objects) -> Result<Vec<PlaceSet>, AllocError>
     ensures { IfOk result (λ rows. AreSteps objects.now rows.items) }
 {
     let roles = objects.cluster_roles();
@@ -46,18 +46,18 @@ fn steps_from(
     labelled: &Labelled,
     role: &ClusterRole,
     at: usize,
-) -> Result<Marks, AllocError>
+) -> Result<PlaceSet, AllocError>
     requires held { IsHeld objects.now }
     requires labelled { labelled.now ≡ objects.now.cluster_roles }
     requires at { slice_get objects.now.cluster_roles at ≡ Some role.now }
     ensures { IfOk result (IsRowOf objects.now role.now) }
 {
     let Some(selectors) = &role.aggregation else {
-        return Ok(Marks::new(alloc));
+        return Ok(PlaceSet::new(alloc));
     };
     let mut row = labelled.gathered(alloc, selectors)?;
-    let mut own = Marks::new(alloc);
-    own.set(at)?;
+    let mut own = PlaceSet::new(alloc);
+    own.insert(at)?;
     row.remove(&own);
     Ok(row)
 }
@@ -68,10 +68,10 @@ fn steps_from(
 pub(crate) fn sources_at(
     alloc: Global,
     objects: &Objects,
-    reaches: &[Marks],
+    reached: &[PlaceSet],
     at: usize,
 ) -> Result<Vec<usize>, AllocError>
-    requires reaches { AreReaches objects.now reaches.now }
+    requires reached { AreReachedByEach objects.now reached.now }
     requires at { at < length objects.now.cluster_roles }
     ensures { IfOk result (λ row. AreSourcesAt objects.now at row.items) }
 {
@@ -81,44 +81,44 @@ pub(crate) fn sources_at(
         own.push(at)?;
         return Ok(own);
     }
-    plain_marked(alloc, roles, &reaches[at])
+    plain_in(alloc, roles, &reached[at])
 }
 
-// The places of the plain roles with a mark, ascending.
-fn plain_marked(
+// Those of these places that have a plain role, ascending.
+fn plain_in(
     alloc: Global,
     roles: &[ClusterRole],
-    marks: &Marks,
+    places: &PlaceSet,
 ) -> Result<Vec<usize>, AllocError>
     ensures { IfOk result
         (λ row. IsUpTo
-        (λ k. IsMarked marks.now k × IsPlainAt roles.now k) row.items (length roles.now)) }
+        (λ k. HasPlace places.now k × IsPlainAt roles.now k) row.items (length roles.now)) }
 {
     let mut row = Vec::new(alloc);
     for at in 0..roles.len() / 64 + 1 {
-        if marks.has_word(at) {
-            put_plain(roles, marks, at, &mut row)?;
+        if places.has_word(at) {
+            put_plain(roles, places, at, &mut row)?;
         }
     }
     Ok(row)
 }
 
-// Adds the places of the plain roles that have their mark in one word.
+// Adds the places of the plain roles that have their bit in one word.
 fn put_plain(
     roles: &[ClusterRole],
-    marks: &Marks,
+    places: &PlaceSet,
     at: usize,
     row: &mut Vec<usize>,
 ) -> Result<(), AllocError>
     requires word { at ≤ length roles.now / 64 }
     requires before { IsUpTo
-        (λ k. IsMarked marks.now k × IsPlainAt roles.now k) row.old.items (at * 64) }
+        (λ k. HasPlace places.now k × IsPlainAt roles.now k) row.old.items (at * 64) }
     ensures { OnOk result
-        (IsUpTo (λ k. IsMarked marks.now k × IsPlainAt roles.now k) row.new.items
+        (IsUpTo (λ k. HasPlace places.now k × IsPlainAt roles.now k) row.new.items
         (min (at * 64 + 64) (length roles.now))) }
 {
     for place in at * 64..(at * 64).saturating_add(64).min(roles.len()) {
-        if marks.has(place) && roles[place].aggregation.is_none() {
+        if places.has(place) && roles[place].aggregation.is_none() {
             row.push(place)?;
         }
     }
@@ -130,10 +130,10 @@ fn put_plain(
 pub(crate) fn names_from(
     alloc: Global,
     objects: &Objects,
-    reaches: &[Marks],
+    reached: &[PlaceSet],
     name: &Word,
 ) -> Result<Words, AllocError>
-    requires { AreReaches objects.now reaches.now }
+    requires { AreReachedByEach objects.now reached.now }
     ensures reached { IfOk result
         (λ ws. (r : ClusterRole) → Contains objects.now.cluster_roles r → r.name ≡ name.now
         → AreReachedNames objects.now r ws) }
@@ -149,16 +149,16 @@ pub(crate) fn names_from(
     if roles[at].aggregation.is_none() {
         return Ok(Words::new(alloc));
     }
-    marked_names(alloc, objects, &reaches[at])
+    names_in(alloc, objects, &reached[at])
 }
 
-// The names of the cluster roles with a mark, ascending.
-fn marked_names(alloc: Global, objects: &Objects, marks: &Marks) -> Result<Words, AllocError>
-    ensures { IfOk result (λ ws. AreMarkedNames objects.now marks.now ws) }
+// The names of the cluster roles at these places, ascending.
+fn names_in(alloc: Global, objects: &Objects, places: &PlaceSet) -> Result<Words, AllocError>
+    ensures { IfOk result (λ ws. AreNamesIn objects.now places.now ws) }
 {
     let mut names = Words::new(alloc);
     for (at, role) in objects.cluster_roles().iter().enumerate() {
-        if marks.has(at) {
+        if places.has(at) {
             names.push(role.name.clone()?)?;
         }
     }

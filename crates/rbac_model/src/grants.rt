@@ -4,12 +4,13 @@ ghost use Rattle.std.specs.Prelude.{◌≡◌, ◌+◌, ◌<◌, ◌≤◌, ◌+
 ghost use Rattle.std.specs.Prelude.{OnOk, length, slice_get, vec_len};
 ghost use Rattle.rbac_model.specs.Policies.{AreGrantsOf, AreRulesFor, HasTooMany, SourcedRule};
 ghost use Rattle.rbac_model.specs.Policies.{grant_at, grants_at, most_grants};
-ghost use Rattle.rbac_model.specs.Places.{AreReaches, IsAdded, places_of, places_in, role_places};
+ghost use Rattle.rbac_model.specs.Places.{AreReachedByEach, IsAdded, places_of, places_in};
+ghost use Rattle.rbac_model.specs.Places.{role_places};
 
 use crate::aggregation::sources_at;
 use crate::fault::ResolveFault;
-use crate::marks::Marks;
 use crate::objects::Objects;
+use crate::place_set::PlaceSet;
 use crate::places::{GrantPlace, RolePlace};
 use crate::references::ref_place;
 use rbac_terms::Binding;
@@ -22,9 +23,9 @@ const MOST_GRANTS: usize = 1_000_000;
 pub(crate) fn grants_of(
     alloc: Global,
     objects: &Objects,
-    reaches: &[Marks],
+    reached: &[PlaceSet],
 ) -> Result<Vec<GrantPlace>, ResolveFault>
-    requires { AreReaches objects.now reaches.now }
+    requires { AreReachedByEach objects.now reached.now }
     ensures are { IfOk result
         (λ gs. AreGrantsOf objects.now objects.now.bindings (grants_at objects.now gs.items)) }
     ensures held { IfOk result (λ gs. All (λ g. IsSome (grant_at objects.now g)) gs.items) }
@@ -34,7 +35,7 @@ pub(crate) fn grants_of(
     let bindings = objects.bindings();
     let mut grants = Vec::new(alloc);
     for (at, binding) in bindings.iter().enumerate() {
-        put_binding(alloc, objects, reaches, at, binding, &mut grants)?;
+        put_binding(alloc, objects, reached, at, binding, &mut grants)?;
     }
     Ok(grants)
 }
@@ -43,12 +44,12 @@ pub(crate) fn grants_of(
 fn put_binding(
     alloc: Global,
     objects: &Objects,
-    reaches: &[Marks],
+    reached: &[PlaceSet],
     at: usize,
     binding: &Binding,
     grants: &mut Vec<GrantPlace>,
 ) -> Result<(), ResolveFault>
-    requires reaches { AreReaches objects.now reaches.now }
+    requires reached { AreReachedByEach objects.now reached.now }
     requires at { slice_get objects.now.bindings at ≡ Some binding.now }
     requires few { vec_len grants.old ≤ most_grants }
     requires held { All (λ g. IsSome (grant_at objects.now g)) grants.old.items }
@@ -64,7 +65,7 @@ fn put_binding(
     match ref_place(objects, binding) {
         Some(RolePlace::RoleAt(role)) => put_role(objects, at, role, grants),
         Some(RolePlace::ClusterRoleAt(role)) => {
-            let sources = sources_at(alloc, objects, reaches, role)?;
+            let sources = sources_at(alloc, objects, reached, role)?;
             put_sources(objects, at, sources.as_slice(), grants)
         }
         None => Ok(()),

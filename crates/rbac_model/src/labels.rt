@@ -8,12 +8,12 @@ ghost use Rattle.std.specs.Cmp.Lexicographic.{slice_cmp};
 ghost use Rattle.std.specs.List.Sorted.{IsSorted};
 ghost use Rattle.rbac_terms.specs.Text.{text_cmp};
 ghost use Rattle.rbac_terms.specs.Selecting.{Selects, Meets, HasLabel, HasOneOf};
-ghost use Rattle.rbac_model.specs.Graphs.{IsMarked};
+ghost use Rattle.rbac_model.specs.Graphs.{HasPlace};
 ghost use Rattle.rbac_model.specs.Lists.{by_name};
 ghost use Rattle.rbac_model.specs.Labelled.{LabelEntry, AreWith, IsWithAt, HasSome, Adds};
 ghost use Rattle.rbac_model.specs.Labelled.{label_texts};
 
-use crate::marks::Marks;
+use crate::place_set::PlaceSet;
 use rbac_terms::{
     ClusterRole, Labels, Requirement, Requirements, SelectOp, Selector, Selectors, Word, Words,
 };
@@ -65,21 +65,21 @@ impl<'a> Entry<'a> {
 #[derive(Drop)]
 pub(crate) struct Labelled<'a> {
     roles: &'a [ClusterRole],
-    all: Marks,
+    all: PlaceSet,
     entries: Vec<Entry<'a>>,
 }
 
 impl<'a> Model for Labelled<'a> {
     ghost use Rattle.std.specs.Prelude.{List, ℕ, ◌<◌, ◌↔◌, length};
     ghost use Rattle.rbac_terms.specs.declared.granting.ClusterRole.{ClusterRole};
-    ghost use Rattle.rbac_model.specs.Graphs.{IsMarked};
+    ghost use Rattle.rbac_model.specs.Graphs.{HasPlace};
     ghost use Rattle.rbac_model.specs.Labelled.{AreLabels};
 
     ghost Value = { List ClusterRole };
 
     ghost view = { λ l. l.roles.now };
 
-    ghost invariant = { λ l. ((k : ℕ) → IsMarked l.all k ↔ (k < length l.roles.now))
+    ghost invariant = { λ l. ((k : ℕ) → HasPlace l.all k ↔ (k < length l.roles.now))
         × AreLabels l.roles.now l.entries.items };
 }
 
@@ -94,62 +94,70 @@ impl<'a> Labelled<'a> {
         entries.sort_by(|a, b| a.cmp_label(b.key, b.value))?;
         Ok(Labelled {
             roles,
-            all: Marks::up_to(alloc, roles.len())?,
+            all: PlaceSet::up_to(alloc, roles.len())?,
             entries,
         })
     }
 
     // The cluster roles that one or more of the selectors select.
-    pub(crate) fn gathered(&self, alloc: Global, selectors: &Selectors) -> Result<Marks, AllocError>
+    pub(crate) fn gathered(
+        &self,
+        alloc: Global,
+        selectors: &Selectors,
+    ) -> Result<PlaceSet, AllocError>
         ensures { IfOk result
             (AreWith (λ labels. Any (λ selector. Selects selector labels) selectors.now) self.now) }
     {
-        let mut marks = Marks::new(alloc);
+        let mut places = PlaceSet::new(alloc);
         for selector in selectors.as_slice() {
-            if self.all.first_outside(&marks, self.roles.len()).is_none() {
-                return Ok(marks);
+            if self.all.first_outside(&places, self.roles.len()).is_none() {
+                return Ok(places);
             }
-            marks.add(&self.selected(alloc, selector)?)?;
+            places.add(&self.selected(alloc, selector)?)?;
         }
-        Ok(marks)
+        Ok(places)
     }
 
     // The cluster roles that the selector selects.
-    fn selected(&self, alloc: Global, selector: &Selector) -> Result<Marks, AllocError>
+    fn selected(&self, alloc: Global, selector: &Selector) -> Result<PlaceSet, AllocError>
         ensures { IfOk result (AreWith (Selects selector.now) self.now) }
     {
-        let mut marks = self.having_all(alloc, &selector.labels)?;
-        marks.keep(&self.meeting_all(alloc, &selector.requirements)?);
-        Ok(marks)
+        let mut places = self.having_all(alloc, &selector.labels)?;
+        places.keep(&self.meeting_all(alloc, &selector.requirements)?);
+        Ok(places)
     }
 
     // The cluster roles that have each of these labels.
-    fn having_all(&self, alloc: Global, labels: &Labels) -> Result<Marks, AllocError>
+    fn having_all(&self, alloc: Global, labels: &Labels) -> Result<PlaceSet, AllocError>
         ensures { IfOk result
             (AreWith (λ own. All (λ label. HasLabel own label.0 label.1) labels.now) self.now) }
     {
-        let mut marks = self.everyone()?;
+        let mut places = self.everyone()?;
         for label in labels.as_slice() {
-            marks.keep(&self.having(alloc, &label.0, Some(&label.1))?);
+            places.keep(&self.having(alloc, &label.0, Some(&label.1))?);
         }
-        Ok(marks)
+        Ok(places)
     }
 
     // The cluster roles that meet each of these requirements.
-    fn meeting_all(&self, alloc: Global, requirements: &Requirements) -> Result<Marks, AllocError>
+    fn meeting_all(
+        &self,
+        alloc: Global,
+        requirements: &Requirements,
+    ) -> Result<PlaceSet, AllocError>
         ensures { IfOk result
             (AreWith (λ own. All
             (λ requirement. Meets requirement own) requirements.now) self.now) }
     {
-        let mut marks = self.everyone()?;
+        let mut places = self.everyone()?;
         for requirement in requirements.as_slice() {
-            marks.keep(&self.meeting(alloc, requirement)?);
+            places.keep(&self.meeting(alloc, requirement)?);
         }
-        Ok(marks)
+        Ok(places)
     }
 
     // The cluster roles that meet the requirement.
-    fn meeting(&self, alloc: Global, requirement: &Requirement) -> Result<Marks, AllocError>
+    fn meeting(&self, alloc: Global, requirement: &Requirement) -> Result<PlaceSet, AllocError>
         ensures { IfOk result (AreWith (Meets requirement.now) self.now) }
     {
         let key = &requirement.key;
@@ -162,42 +170,52 @@ impl<'a> Labelled<'a> {
     }
 
     // All cluster roles.
-    fn everyone(&self) -> Result<Marks, AllocError>
-        ensures { IfOk result (λ marks. (k : ℕ) → IsMarked marks k ↔ (k < length self.now)) }
+    fn everyone(&self) -> Result<PlaceSet, AllocError>
+        ensures { IfOk result (λ places. (k : ℕ) → HasPlace places k ↔ (k < length self.now)) }
     {
         self.all.clone()
     }
 
     // All cluster roles that aren't in this set.
-    fn others(&self, marks: &Marks) -> Result<Marks, AllocError>
+    fn others(&self, places: &PlaceSet) -> Result<PlaceSet, AllocError>
         ensures { IfOk result
-            (λ others. (k : ℕ) → IsMarked others k
-            ↔ ((k < length self.now) × (¬ IsMarked marks.now k))) }
+            (λ others. (k : ℕ) → HasPlace others k
+            ↔ ((k < length self.now) × (¬ HasPlace places.now k))) }
     {
         let mut others = self.everyone()?;
-        others.remove(marks);
+        others.remove(places);
         Ok(others)
     }
 
     // The cluster roles that have a label of this key, with one of these values.
-    fn having_one_of(&self, alloc: Global, key: &Word, values: &Words) -> Result<Marks, AllocError>
+    fn having_one_of(
+        &self,
+        alloc: Global,
+        key: &Word,
+        values: &Words,
+    ) -> Result<PlaceSet, AllocError>
         ensures { IfOk result (AreWith (λ own. HasOneOf own key.now values.now) self.now) }
     {
-        let mut marks = Marks::new(alloc);
+        let mut places = PlaceSet::new(alloc);
         for value in values.as_slice() {
-            self.put_having(key, Some(value), &mut marks)?;
+            self.put_having(key, Some(value), &mut places)?;
         }
-        Ok(marks)
+        Ok(places)
     }
 
     // The cluster roles that have this label, or, if there is no value, a label of this key.
-    fn having(&self, alloc: Global, key: &Word, value: Option<&Word>) -> Result<Marks, AllocError>
+    fn having(
+        &self,
+        alloc: Global,
+        key: &Word,
+        value: Option<&Word>,
+    ) -> Result<PlaceSet, AllocError>
         ensures { IfOk result
             (AreWith (λ own. HasSome own key.now (option_map (λ v. v.now) value.entry)) self.now) }
     {
-        let mut marks = Marks::new(alloc);
-        self.put_having(key, value, &mut marks)?;
-        Ok(marks)
+        let mut places = PlaceSet::new(alloc);
+        self.put_having(key, value, &mut places)?;
+        Ok(places)
     }
 
     // Adds the cluster roles that have this label.
@@ -205,18 +223,18 @@ impl<'a> Labelled<'a> {
         &self,
         key: &Word,
         value: Option<&Word>,
-        marks: &mut Marks,
+        places: &mut PlaceSet,
     ) -> Result<(), AllocError>
         ensures { OnOk result
-            ((k : ℕ) → IsMarked marks.new k
-            ↔ (IsMarked marks.old k
+            ((k : ℕ) → HasPlace places.new k
+            ↔ (HasPlace places.old k
             ⊎ IsWithAt
             (λ own. HasSome own key.now (option_map (λ v. v.now) value.entry)) self.now k)) }
     {
         let (from, to) = label_range(self.entries.as_slice(), key, value);
         for at in from..to {
             let entry = &self.entries[at];
-            marks.put(entry.place, entry.bits)?;
+            places.put(entry.place, entry.bits)?;
         }
         Ok(())
     }

@@ -9,8 +9,8 @@ mod grants;
 mod labels;
 mod laws;
 mod live;
-mod marks;
 mod objects;
+mod place_set;
 mod places;
 mod policy;
 mod reachability;
@@ -25,9 +25,9 @@ pub use objects::{Object, Objects};
 pub use places::{GrantPlace, RolePlace};
 pub use policy::Policy;
 pub use rbac_terms::{
-    Binding, ClusterRole, Items, Key, Labels, ModelFault, Principal, Requirement, Requirements,
-    Role, RoleRef, Rule, Rules, SelectOp, Selector, Selectors, Subject, Subjects, Target, Word,
-    Words, account_user, group_matches, name_matches, names, resource_matches, rule_allows,
-    selects, subject_key, target_matches, url_matches, verb_matches,
+    Binding, ClusterRole, Key, Labels, ModelFault, Principal, Requirement, Requirements, Role,
+    RoleRef, Rule, Rules, SelectOp, Selector, Selectors, Subject, Subjects, Target, Word, Words,
+    group_matches, name_matches, names, resource_matches, rule_allows, selects, url_matches,
+    verb_matches,
 };
 pub use references::{Grant, SourceRole, ref_place};

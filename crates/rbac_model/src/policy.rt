@@ -8,11 +8,11 @@ ghost use Rattle.rbac_model.specs.Places.{IsReachedAt};
 ghost use Rattle.rbac_model.specs.Sources.{grant_of};
 ghost use Rattle.rbac_terms.specs.declared.granting.ClusterRole.{ClusterRole};
 
-use crate::aggregation::{names_from, reaches_of};
+use crate::aggregation::{names_from, reached_by_each};
 use crate::fault::ResolveFault;
 use crate::grants::grants_of;
-use crate::marks::Marks;
 use crate::objects::Objects;
+use crate::place_set::PlaceSet;
 use crate::places::GrantPlace;
 use crate::references::{Grant, grant_from};
 use rbac_terms::{Binding, Word, Words};
@@ -24,13 +24,13 @@ use std::marker::Model;
 #[derive(Drop)]
 pub struct Policy {
     objects: Objects,
-    reaches: Vec<Marks>,
+    reached: Vec<PlaceSet>,
     grants: Vec<GrantPlace>,
 }
 
 impl Model for Policy {
     ghost use Rattle.std.specs.Prelude.{IsSome, All, ◌≤◌, vec_len};
-    ghost use Rattle.rbac_model.specs.Places.{AreReaches};
+    ghost use Rattle.rbac_model.specs.Places.{AreReachedByEach};
     ghost use Rattle.rbac_model.specs.Policies.{PolicyView, IsPolicy, grants_at, grant_at};
     ghost use Rattle.rbac_model.specs.Policies.{most_grants};
 
@@ -41,7 +41,7 @@ impl Model for Policy {
     ghost invariant = { λ p. IsPolicy
         (record { held = p.objects; grants = grants_at p.objects p.grants.items })
         × All (λ g. IsSome (grant_at p.objects g)) p.grants.items × (vec_len p.grants ≤ most_grants)
-        × AreReaches p.objects p.reaches.items };
+        × AreReachedByEach p.objects p.reached.items };
 }
 
 impl Policy {
@@ -56,11 +56,11 @@ impl Policy {
         ensures few { IfOk result (λ p. length p.grants ≤ most_grants) }
         ensures many { IfErr result (λ e. e ≡ ResolveFault.TooMany → HasTooMany objects) }
     {
-        let reaches = reaches_of(alloc, &objects)?;
-        let grants = grants_of(alloc, &objects, &reaches)?;
+        let reached = reached_by_each(alloc, &objects)?;
+        let grants = grants_of(alloc, &objects, &reached)?;
         Ok(Policy {
             objects,
-            reaches,
+            reached,
             grants,
         })
     }
@@ -79,7 +79,7 @@ impl Policy {
             → r.name ≡ name.now → IsPlain r → IsOkAnd result (λ ws. ws ≡ []) }
         ensures only_memory { IfErr result (λ e. e ≡ ResolveFault.NoMemory) }
     {
-        Ok(names_from(alloc, &self.objects, &self.reaches, name)?)
+        Ok(names_from(alloc, &self.objects, &self.reached, name)?)
     }
 
     /// Whether the cluster role at the first place reaches the one at the second by one or more
@@ -90,7 +90,7 @@ impl Policy {
         ensures reaches { (r : ClusterRole) → slice_get self.now.held.cluster_roles from ≡ Some r
             → (IsTrue result ↔ IsReachedAt self.now.held r to) }
     {
-        self.reaches[from].has(to)
+        self.reached[from].has(to)
     }
 
     /// The objects that the policy was made of.

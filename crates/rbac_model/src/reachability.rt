@@ -2,15 +2,15 @@
 
 ghost use Rattle.std.specs.Prelude.{◌≡◌, ◌<◌, ◌⊎◌, ◌↔◌, ℕ, IfOk, OnOk, MatchOption, length};
 ghost use Rattle.std.specs.Prelude.{vec_len};
-ghost use Rattle.rbac_model.specs.Graphs.{IsGraph, HasEdge, LeadsTo, IsMarked, LeadsAlike, AreFull};
+ghost use Rattle.rbac_model.specs.Graphs.{IsGraph, HasEdge, LeadsTo, HasPlace, LeadsAlike, AreFull};
 ghost use Rattle.rbac_model.specs.Graphs.{AreEnds};
 
-use crate::marks::Marks;
+use crate::place_set::PlaceSet;
 use crate::visit_order::order_of;
 use std::alloc::{AllocError, Global};
 
 // Replaces the edges of each vertex with edges to all vertices that it leads to.
-pub(crate) fn close(alloc: Global, graph: &mut Vec<Marks>) -> Result<(), AllocError>
+pub(crate) fn close(alloc: Global, graph: &mut Vec<PlaceSet>) -> Result<(), AllocError>
     requires { IsGraph graph.old.items }
     ensures len { vec_len graph.new ≡ vec_len graph.old }
     ensures exact { OnOk result
@@ -18,7 +18,7 @@ pub(crate) fn close(alloc: Global, graph: &mut Vec<Marks>) -> Result<(), AllocEr
 {
     let ends = ends_of(alloc, graph.as_slice())?;
     let order = order_of(alloc, graph.as_slice())?;
-    let mut closed = Marks::new(alloc);
+    let mut closed = PlaceSet::new(alloc);
     close_each(graph, &mut closed, &ends, order.as_slice())?;
     for at in 0..graph.len() {
         close_at(graph, &mut closed, &ends, at)?;
@@ -27,13 +27,13 @@ pub(crate) fn close(alloc: Global, graph: &mut Vec<Marks>) -> Result<(), AllocEr
 }
 
 // The vertices that have no edges.
-fn ends_of(alloc: Global, graph: &[Marks]) -> Result<Marks, AllocError>
+fn ends_of(alloc: Global, graph: &[PlaceSet]) -> Result<PlaceSet, AllocError>
     ensures { IfOk result (AreEnds graph.now) }
 {
-    let mut ends = Marks::new(alloc);
+    let mut ends = PlaceSet::new(alloc);
     for (at, row) in graph.iter().enumerate() {
         if row.is_empty() {
-            ends.set(at)?;
+            ends.insert(at)?;
         }
     }
     Ok(ends)
@@ -41,9 +41,9 @@ fn ends_of(alloc: Global, graph: &[Marks]) -> Result<Marks, AllocError>
 
 // Closes these vertices, one after the other.
 fn close_each(
-    graph: &mut Vec<Marks>,
-    closed: &mut Marks,
-    ends: &Marks,
+    graph: &mut Vec<PlaceSet>,
+    closed: &mut PlaceSet,
+    ends: &PlaceSet,
     order: &[usize],
 ) -> Result<(), AllocError>
     requires graph { IsGraph graph.old.items }
@@ -61,9 +61,9 @@ fn close_each(
 
 // Gives a vertex an edge to each vertex that it leads to, if the vertex exists and isn't closed.
 fn close_at(
-    graph: &mut Vec<Marks>,
-    closed: &mut Marks,
-    ends: &Marks,
+    graph: &mut Vec<PlaceSet>,
+    closed: &mut PlaceSet,
+    ends: &PlaceSet,
     at: usize,
 ) -> Result<(), AllocError>
     requires graph { IsGraph graph.old.items }
@@ -72,26 +72,31 @@ fn close_at(
     ensures len { vec_len graph.new ≡ vec_len graph.old }
     ensures alike { OnOk result (LeadsAlike graph.old.items graph.new.items) }
     ensures full { OnOk result (AreFull graph.new.items closed.new) }
-    ensures kept { OnOk result ((k : ℕ) → IsMarked closed.old k → IsMarked closed.new k) }
-    ensures closed { OnOk result (at < vec_len graph.old → IsMarked closed.new at) }
+    ensures kept { OnOk result ((k : ℕ) → HasPlace closed.old k → HasPlace closed.new k) }
+    ensures closed { OnOk result (at < vec_len graph.old → HasPlace closed.new at) }
 {
     if at >= graph.len() || closed.has(at) {
         return Ok(());
     }
     let row = reach(graph.as_slice(), closed, ends, at)?;
     graph[at] = row;
-    closed.set(at)?;
+    closed.insert(at)?;
     Ok(())
 }
 
 // All vertices that a vertex leads to. The search takes the edges of each vertex that it visits;
 // what a closed vertex has edges to needs no visit.
-fn reach(graph: &[Marks], closed: &Marks, ends: &Marks, from: usize) -> Result<Marks, AllocError>
+fn reach(
+    graph: &[PlaceSet],
+    closed: &PlaceSet,
+    ends: &PlaceSet,
+    from: usize,
+) -> Result<PlaceSet, AllocError>
     requires graph { IsGraph graph.now }
     requires ends { AreEnds graph.now ends.now }
     requires full { AreFull graph.now closed.now }
     requires from { from < length graph.now }
-    ensures { IfOk result (λ row. (k : ℕ) → IsMarked row k ↔ LeadsTo graph.now from k) }
+    ensures { IfOk result (λ row. (k : ℕ) → HasPlace row k ↔ LeadsTo graph.now from k) }
 {
     let mut seen = graph[from].clone()?;
     let mut done = ends.clone()?;
@@ -104,10 +109,16 @@ fn reach(graph: &[Marks], closed: &Marks, ends: &Marks, from: usize) -> Result<M
 }
 
 // The next vertex to visit: a closed one that isn't far, otherwise the first.
-fn next(seen: &Marks, done: &Marks, closed: &Marks, near: usize, count: usize) -> Option<usize>
+fn next(
+    seen: &PlaceSet,
+    done: &PlaceSet,
+    closed: &PlaceSet,
+    near: usize,
+    count: usize,
+) -> Option<usize>
     ensures { MatchOption result
-        ((k : ℕ) → k < count → IsMarked seen.now k → IsMarked done.now k)
-        (λ at. IsMarked seen.now at × (¬ IsMarked done.now at)) }
+        ((k : ℕ) → k < count → HasPlace seen.now k → HasPlace done.now k)
+        (λ at. HasPlace seen.now at × (¬ HasPlace done.now at)) }
 {
     match seen.shared_outside(closed, done, near) {
         Some(at) => Some(at),
@@ -118,22 +129,22 @@ fn next(seen: &Marks, done: &Marks, closed: &Marks, near: usize, count: usize) -
 // Takes the edges of a vertex. Then that vertex is done, and if it is closed, so is everything that
 // it has edges to.
 fn take(
-    graph: &[Marks],
-    closed: &Marks,
+    graph: &[PlaceSet],
+    closed: &PlaceSet,
     at: usize,
-    seen: &mut Marks,
-    done: &mut Marks,
+    seen: &mut PlaceSet,
+    done: &mut PlaceSet,
 ) -> Result<(), AllocError>
     requires { at < length graph.now }
     ensures seen { OnOk result
-        ((k : ℕ) → IsMarked seen.new k ↔ (IsMarked seen.old k ⊎ HasEdge graph.now at k)) }
+        ((k : ℕ) → HasPlace seen.new k ↔ (HasPlace seen.old k ⊎ HasEdge graph.now at k)) }
     ensures done { OnOk result
-        ((k : ℕ) → IsMarked done.new k
-        ↔ ((IsMarked done.old k ⊎ (k ≡ at)) ⊎ (IsMarked closed.now at × HasEdge graph.now at k))) }
+        ((k : ℕ) → HasPlace done.new k
+        ↔ ((HasPlace done.old k ⊎ (k ≡ at)) ⊎ (HasPlace closed.now at × HasEdge graph.now at k))) }
 {
     let row = &graph[at];
     seen.add(row)?;
-    done.set(at)?;
+    done.insert(at)?;
     if closed.has(at) {
         done.add(row)?;
     }

@@ -9,4 +9,4 @@ mod source;
 pub use input::Input;
 pub use page::{Page, PrintFault};
 pub use sink::{Failed, Sink};
-pub use source::{InputFault, MOST_BYTES, Source, read_file, read_input, read_slice};
+pub use source::{InputFault, Source, read_file, read_input, read_slice};

@@ -16,8 +16,8 @@ use std::marker::Model;
 use std::rt::Files;
 use std::{fmt, fs};
 
-/// The most bytes that an input may have: 64 MiB (own).
-pub const MOST_BYTES: usize = 67_108_864;
+// The most bytes that an input may have: 64 MiB (own).
+const MOST_BYTES: usize = 67_108_864;
 
 // The most bytes that one read takes.
 const ONE_READ: usize = 65_536;
@@ -45,7 +45,7 @@ impl<R> Model for Source<R> {
 pub enum InputFault {
     /// I1: a read failed, or the file couldn't be opened.
     ReadFault,
-    /// I2: there were more than [`MOST_BYTES`] bytes.
+    /// I2: there were more than 67,108,864 bytes.
     TooLong,
     /// I3: out of memory.
     NoMemory,
@@ -118,10 +118,10 @@ impl<R: Read + Drop> Source<R> {
     }
 }
 
-/// Reads everything there is, at most [`MOST_BYTES`] bytes, in at most 67,108,865 reads.
+/// Reads everything there is, at most 67,108,864 bytes (64 MiB), in at most 67,108,865 reads.
 ///
 /// I1 if a read failed, I2 if there were more bytes, I3 if it ran out of memory. After I1 and I3 at
-/// most [`MOST_BYTES`] bytes were taken from the reader, and after I2 at most one read more.
+/// most 67,108,864 bytes were taken from the reader, and after I2 at most one read more.
 pub fn read_input<R: Read + Drop>(
     alloc: Global,
     source: &mut Source<R>,

@@ -14,7 +14,7 @@ use Rattle.rbac_index.proofs.index.allowing.Goals.{then-rule_allows+in_ok-push, 
 pub loop-at-preserved : goal.loop-at-preserved
 loop-at-preserved c =
     let rules = c.args.rules.now in
-    let runs = c.args.runs.now in
+    let starts = c.args.starts.now in
     let places = c.args.places.now in
     let i = c.loop-at.at-index in
     let at = get_or places i 0 in
@@ -23,17 +23,17 @@ loop-at-preserved c =
     let read : slice_get rules at ≡ Some rule = slice_get_read rules (length rules) at rule refl in_range c.index-rules-at.is in
     elim c.if-rule_allows.branch [
       | then-rule_allows+in_ok-push w ↦
-          let have : HaveNumbers runs rule = subst (HaveNumbers runs) (sym c.index-rules-at.is) (All-get_or (HaveNumbers runs) rules at rule in_range c.requires.numbers) in
-          let is : w.as_slice.result.now ≡ get_or runs rule.row [] = w.as_slice.ensures.numbers ∙ w.index-runs-written.is ∙ get_or_default runs rule.row w.index-runs-written.result [] have.0 in
+          let have : HaveNumbers starts rule = subst (HaveNumbers starts) (sym c.index-rules-at.is) (All-get_or (HaveNumbers starts) rules at rule in_range c.requires.numbers) in
+          let is : w.as_slice.result.now ≡ get_or starts rule.row [] = w.as_slice.ensures.numbers ∙ w.index-starts-written.is ∙ get_or_default starts rule.row w.index-starts-written.result [] have.0 in
           let more : List ℕ = map (λ start. start + rule.place) w.as_slice.result.now in
           let up : IsStrictlyIncreasing more = shifted_up w.as_slice.result.now rule.place (rw w.as_slice.ensures.numbers w.as_slice.ensures.ascending) in
-          let same : more ≡ numbers_by runs rule = ap (map (λ start. start + rule.place)) is in
+          let same : more ≡ numbers_by starts rule = ap (map (λ start. start + rule.place)) is in
           rw (w.lists-is, w.in_ok-push.ensures.items) (
             All-push IsStrictlyIncreasing c.loop-at.lists.items more c.loop-at.invariant.0 up,
-            λ n. added rules runs places c.args.verb.now c.args.target.now i c.loop-at-test.true c.loop-at.lists.items n rule read (c.loop-at.invariant.1 n) (c.rule_allows.ensures.0 w.if-rule_allows.true) more same,
+            λ n. added rules starts places c.args.verb.now c.args.target.now i c.loop-at-test.true c.loop-at.lists.items n rule read (c.loop-at.invariant.1 n) (c.rule_allows.ensures.0 w.if-rule_allows.true) more same,
           )
       | else-rule_allows w ↦
-          rw w.lists-is (c.loop-at.invariant.0, λ n. skipped rules runs places c.args.verb.now c.args.target.now i c.loop-at-test.true c.loop-at.lists.items n rule read (c.loop-at.invariant.1 n) (λ allows. both_ways _ w.if-rule_allows.false (c.rule_allows.ensures.1 allows)))
+          rw w.lists-is (c.loop-at.invariant.0, λ n. skipped rules starts places c.args.verb.now c.args.target.now i c.loop-at-test.true c.loop-at.lists.items n rule read (c.loop-at.invariant.1 n) (λ allows. both_ways _ w.if-rule_allows.false (c.rule_allows.ensures.1 allows)))
     ]
 
 pub returns-clause-exact : goal.returns-clause-exact

@@ -5,4 +5,4 @@ use Rattle.rbac_index.proofs.index.allowing.Given as goal
 
 abbrev pub invariant-loop-at : goal.invariant-loop-at
 invariant-loop-at l = All IsStrictlyIncreasing l.lists.items
-    × ((n : ℕ) → Any (λ x. Contains x n) l.lists.items ↔ IsAllowedBy l.rules l.runs (take l.at-index l.places) l.verb l.target n)
+    × ((n : ℕ) → Any (λ x. Contains x n) l.lists.items ↔ IsAllowedBy l.rules l.starts (take l.at-index l.places) l.verb l.target n)

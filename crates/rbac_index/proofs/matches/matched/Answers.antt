@@ -6,5 +6,5 @@ use Rattle.rbac_index.proofs.matches.matched.Goals as goal
 pub returns : goal.returns
 returns c =
     let ts = c.args.targets.now in
-    let done = stems_end ts c.loop-stem.start (length ts) c.loop-stem.stem-index c.args.stems.now c.loop-stem-test.false c.loop-stem.invariant.1 in
-    reach_all c.args.rule.now ts c.loop-stem.start c.loop-stem.spans (omega (arith, done)) c.loop-stem.invariant.0
+    let done = stems_end ts c.loop-stem_end.start (length ts) c.loop-stem_end.stem_end-index c.args.ends.now c.loop-stem_end-test.false c.loop-stem_end.invariant.1 in
+    reach_all c.args.rule.now ts c.loop-stem_end.start c.loop-stem_end.spans (omega (arith, done)) c.loop-stem_end.invariant.0

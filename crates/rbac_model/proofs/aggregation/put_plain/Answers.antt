@@ -1,6 +1,6 @@
 use Rattle.std.proofs.Common.{ℕ, ◌≡◌, ◌+◌, ◌*◌, ◌<◌, length, min, sym, ap, ◌∙◌, arith, refl}
 use Rattle.std.proofs.lemmas.Option.{slice_get_read, same_Some}
-use Rattle.rbac_model.specs.Graphs.{IsMarked}
+use Rattle.rbac_model.specs.Graphs.{HasPlace}
 use Rattle.rbac_model.specs.Places.{IsPlainAt}
 use Rattle.rbac_terms.specs.declared.granting.ClusterRole.{ClusterRole}
 use Rattle.rbac_model.proofs.UpTo.{one_more, not_more, none_is, isnt_none}
@@ -12,7 +12,7 @@ loop-place-init c = c.requires.before
 
 pub loop-place-preserved : goal.loop-place-preserved
 loop-place-preserved c =
-    let P : ℕ → Type 0 = λ k. IsMarked c.args.marks.now k × IsPlainAt c.args.roles.now k in
+    let P : ℕ → Type 0 = λ k. HasPlace c.args.places.now k × IsPlainAt c.args.roles.now k in
     let in_range : c.loop-place.place < length c.args.roles.now = omega arith in
     elim c.if-has.branch [
       | then-has+then-is_none+in_ok-push w ↦

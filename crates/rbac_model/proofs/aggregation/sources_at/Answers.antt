@@ -8,9 +8,9 @@ pub returns : goal.returns
 returns c =
     let in_range : c.args.at < length c.cluster_roles-roles.result.now = rw c.cluster_roles-roles.ensures.cluster_roles c.requires.at in
     let read = rw c.cluster_roles-roles.ensures.cluster_roles at (slice_get_read _ _ _ _ refl in_range c.index-roles-at.is) in
-    gathered_at c.args.objects.now c.cluster_roles-roles.ensures.held c.args.reaches.now c.requires.reaches c.args.at c.index-roles-at.result c.index-reaches-at.result c.plain_marked.result
-    read (isnt_none c.index-roles-at.result.aggregation _ (rw (← c.index-roles-at.is) at c.is_none.ensures) c.if-is_none.false) c.index-reaches-at.is
-    (rw c.cluster_roles-roles.ensures.cluster_roles at c.plain_marked.ensures)
+    gathered_at c.args.objects.now c.cluster_roles-roles.ensures.held c.args.reached.now c.requires.reached c.args.at c.index-roles-at.result c.index-reached-at.result c.plain_in.result
+    read (isnt_none c.index-roles-at.result.aggregation _ (rw (← c.index-roles-at.is) at c.is_none.ensures) c.if-is_none.false) c.index-reached-at.is
+    (rw c.cluster_roles-roles.ensures.cluster_roles at c.plain_in.ensures)
 
 pub returns-then-is_none : goal.returns-then-is_none
 returns-then-is_none c =

@@ -30,7 +30,7 @@ returns-in_err-put_binding-clause-many c =
     let p = err_from_is_err_and c.from_residual.result c.from_residual.ensures.1 in
     rw (p.1, p.2) (λ e.
     let m = c.in_err-put_binding.ensures.many e in
-    let all = all_granted h (some_sources h c.bindings-bindings.ensures.held c.args.reaches.now c.requires) h.bindings in (
+    let all = all_granted h (some_sources h c.bindings-bindings.ensures.held c.args.reached.now c.requires) h.bindings in (
       all.0,
       all.1,
       omega (

@@ -1,11 +1,11 @@
 use Rattle.std.proofs.Common.{arith, inl, inr}
 use Rattle.std.proofs.lemmas.Bool.{cases_eq}
-use Rattle.rbac_model.proofs.Marked.{none_marked}
+use Rattle.rbac_model.proofs.PlaceSets.{has_none}
 use Rattle.rbac_model.proofs.Closing.{still_alike, still_graph, still_ends, all_closed}
 use Rattle.rbac_model.proofs.reachability.close.Goals as goal
 
 pub close_each-requires-clause-full : goal.close_each-requires-clause-full
-close_each-requires-clause-full c = rw c.new-closed.ensures (λ a k b marked first second. absurd (none_marked a marked))
+close_each-requires-clause-full c = rw c.new-closed.ensures (λ a k b has first second. absurd (has_none a has))
 
 pub close_at-requires-clause-graph : goal.close_at-requires-clause-graph
 close_at-requires-clause-graph c = still_graph c.args.graph.now.items c.loop-at.graph.items c.requires c.loop-at.invariant.alike

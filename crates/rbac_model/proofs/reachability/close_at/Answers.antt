@@ -11,4 +11,4 @@ pub returns-clause-full : goal.returns-clause-full
 returns-clause-full c =
     let l : c.args.at < length c.args.graph.now.items = omega (arith, c.len.ensures) in
     one_full c.args.graph.now.items c.args.at c.in_ok-row.row l (rw c.as_slice.ensures.value at c.in_ok-row.ensures)
-    c.args.closed.now c.set.new.self c.requires.full c.in_ok-set.ensures
+    c.args.closed.now c.insert.new.self c.requires.full c.in_ok-insert.ensures

@@ -1,5 +1,6 @@
 use Rattle.rbac_index.specs.HolderViews.{sighted}
-use Rattle.rbac_index.specs.Holding.{AreSeen, ArePassed}
+use Rattle.rbac_index.specs.Holding.{AreSeen}
+use Rattle.rbac_index.proofs.HoldingLemmas.{ArePassed}
 use Rattle.rbac_index.proofs.index.Index.who_can.Given as goal
 
 -- what stands before the place is passed, and what holds there is seen

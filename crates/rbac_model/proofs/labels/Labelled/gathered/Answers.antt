@@ -6,7 +6,7 @@ use Rattle.rbac_model.proofs.LabelSets.{with_nobody, with_either, with_added, an
 use Rattle.rbac_model.proofs.labels.Labelled.gathered.Goals as goal
 
 pub loop-selector-init : goal.loop-selector-init
-loop-selector-init c = rw c.new-marks.ensures (with_nobody c.args.self.now (λ ls. Any (λ s. Selects s ls) []) (λ ls. none_any (λ s. Selects s ls)))
+loop-selector-init c = rw c.new-places.ensures (with_nobody c.args.self.now (λ ls. Any (λ s. Selects s ls) []) (λ ls. none_any (λ s. Selects s ls)))
 
 pub loop-selector-preserved : goal.loop-selector-preserved
 loop-selector-preserved c =
@@ -17,7 +17,7 @@ loop-selector-preserved c =
     let roles = c.args.self.now in
     let more : take (i + 1) vs ≡ take i vs ++ x ∷ [] = rw c.as_slice-selector-items.ensures at (take_read items i x c.loop-selector-test.true c.selector-item.is) in
     rw more (with_either roles (λ ls. Any (λ s. Selects s ls) (take i vs)) (Selects x) (λ ls. Any (λ s. Selects s ls) (take i vs ++ x ∷ []))
-    c.loop-selector.marks c.add.new.self (with_added roles (Selects x) c.loop-selector.marks c.in_ok-selected.field-0 c.add.new.self c.in_ok-add.ensures c.in_ok-selected.ensures)
+    c.loop-selector.places c.add.new.self (with_added roles (Selects x) c.loop-selector.places c.in_ok-selected.field-0 c.add.new.self c.in_ok-add.ensures c.in_ok-selected.ensures)
     c.loop-selector.invariant (λ ls. any_push (λ s. Selects s ls) (take i vs) x))
 
 pub returns : goal.returns

@@ -5,4 +5,4 @@ use Rattle.rbac_model.proofs.labels.Labelled.having.Goals as goal
 
 pub returns : goal.returns
 returns c =
-    with_first c.args.self.now (λ own. HasSome own c.args.key.now (option_map (λ v. v.now) c.args.value)) c.put_having.new.marks (rw c.new-marks.ensures at c.in_ok-put_having.ensures)
+    with_first c.args.self.now (λ own. HasSome own c.args.key.now (option_map (λ v. v.now) c.args.value)) c.put_having.new.places (rw c.new-places.ensures at c.in_ok-put_having.ensures)

@@ -7,7 +7,7 @@ use Rattle.rbac_model.proofs.LabelSets.{with_everyone, with_both, all_push}
 use Rattle.rbac_model.proofs.labels.Labelled.having_all.Goals as goal
 
 pub loop-label-init : goal.loop-label-init
-loop-label-init c = with_everyone c.args.self.now (λ ls. All (λ y. HasLabel ls y.0 y.1) []) c.in_ok-marks.marks c.in_ok-marks.ensures (λ ls. All-nil (λ y. HasLabel ls y.0 y.1))
+loop-label-init c = with_everyone c.args.self.now (λ ls. All (λ y. HasLabel ls y.0 y.1) []) c.in_ok-places.places c.in_ok-places.ensures (λ ls. All-nil (λ y. HasLabel ls y.0 y.1))
 
 pub loop-label-preserved : goal.loop-label-preserved
 loop-label-preserved c =
@@ -17,7 +17,7 @@ loop-label-preserved c =
     let x = c.label-item.result in
     let more : take (i + 1) vs ≡ take i vs ++ x ∷ [] = rw c.as_slice-label-items.ensures at (take_read items i x c.loop-label-test.true c.label-item.is) in
     rw more (with_both c.args.self.now (λ own. All (λ y. HasLabel own y.0 y.1) (take i vs)) (λ own. HasLabel own x.0 x.1) (λ own. All (λ y. HasLabel own y.0 y.1) (take i vs ++ x ∷ []))
-    c.loop-label.marks c.in_ok-having.field-0 c.keep.new.self c.keep.ensures c.loop-label.invariant c.in_ok-having.ensures (λ own. all_push (λ y. HasLabel own y.0 y.1) (take i vs) x))
+    c.loop-label.places c.in_ok-having.field-0 c.keep.new.self c.keep.ensures c.loop-label.invariant c.in_ok-having.ensures (λ own. all_push (λ y. HasLabel own y.0 y.1) (take i vs) x))
 
 pub returns : goal.returns
 returns c =

@@ -4,4 +4,4 @@ use Rattle.rbac_model.specs.Labelled.{AreWith}
 use Rattle.rbac_model.proofs.labels.Labelled.having_all.Given as goal
 
 abbrev pub invariant-loop-label : goal.invariant-loop-label
-invariant-loop-label l = AreWith (λ own. All (λ label. HasLabel own label.0 label.1) (take l.label-index l.labels)) l.self l.marks
+invariant-loop-label l = AreWith (λ own. All (λ label. HasLabel own label.0 label.1) (take l.label-index l.labels)) l.self l.places

@@ -8,7 +8,7 @@ use Rattle.rbac_model.proofs.LabelSets.{with_nobody, with_either, one_of_push, n
 use Rattle.rbac_model.proofs.labels.Labelled.having_one_of.Goals as goal
 
 pub loop-value-init : goal.loop-value-init
-loop-value-init c = rw c.new-marks.ensures (with_nobody c.args.self.now (λ own. HasOneOf own c.args.key.now []) (λ ls. none_one_of ls c.args.key.now))
+loop-value-init c = rw c.new-places.ensures (with_nobody c.args.self.now (λ own. HasOneOf own c.args.key.now []) (λ ls. none_one_of ls c.args.key.now))
 
 pub loop-value-preserved : goal.loop-value-preserved
 loop-value-preserved c =
@@ -19,7 +19,7 @@ loop-value-preserved c =
     let x = c.value-item.result in
     let more : take (i + 1) vs ≡ take i vs ++ x ∷ [] = rw c.as_slice-value-items.ensures at (take_read items i x c.loop-value-test.true c.value-item.is) in
     rw more (with_either c.args.self.now (λ own. HasOneOf own key (take i vs)) (λ own. HasSome own key (Some x)) (λ own. HasOneOf own key (take i vs ++ x ∷ []))
-    c.loop-value.marks c.put_having.new.marks c.in_ok-put_having.ensures c.loop-value.invariant (λ ls. one_of_push ls key (take i vs) x))
+    c.loop-value.places c.put_having.new.places c.in_ok-put_having.ensures c.loop-value.invariant (λ ls. one_of_push ls key (take i vs) x))
 
 pub returns : goal.returns
 returns c =

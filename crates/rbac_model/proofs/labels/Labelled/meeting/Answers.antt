@@ -2,7 +2,7 @@ use Rattle.std.proofs.Common.{ℕ, List, ◌<◌, ◌↔◌, length, sym, subst}
 use Rattle.std.proofs.lemmas.Result.{IfOk-weaker}
 use Rattle.rbac_terms.specs.Selecting.{MeetsOp, Meets, HasOneOf, HasKey}
 use Rattle.rbac_terms.specs.declared.selecting.SelectOp.{SelectOp}
-use Rattle.rbac_model.specs.Graphs.{IsMarked}
+use Rattle.rbac_model.specs.Graphs.{HasPlace}
 use Rattle.rbac_model.specs.Labelled.{AreWith}
 use Rattle.rbac_model.proofs.LabelSets.{with_same, with_others}
 use Rattle.rbac_model.proofs.labels.Labelled.meeting.Goals as goal
@@ -12,7 +12,7 @@ returns-in_ok-having_one_of-in-NoneOf c =
     let r = c.args.requirement.now in
     let roles = c.args.self.now in
     let found : List ℕ = c.in_ok-having_one_of-in-NoneOf.field-0 in
-    IfOk-weaker c.others-in-NoneOf.result (λ m. (k : ℕ) → IsMarked m k ↔ ((k < length roles) × (IsMarked found k → ⊥))) (AreWith (Meets r) roles)
+    IfOk-weaker c.others-in-NoneOf.result (λ m. (k : ℕ) → HasPlace m k ↔ ((k < length roles) × (HasPlace found k → ⊥))) (AreWith (Meets r) roles)
     (λ m others. with_same roles (λ ls. HasOneOf ls r.key r.values → ⊥) (Meets r) m
     (λ ls. subst (λ (op : SelectOp). (HasOneOf ls r.key r.values → ⊥) ↔ MeetsOp op r.key r.values ls) (sym c.in-NoneOf.is) (λ h. h, λ h. h))
     (with_others roles (λ ls. HasOneOf ls r.key r.values) found m others c.in_ok-having_one_of-in-NoneOf.ensures))
@@ -23,7 +23,7 @@ returns-in_ok-having-in-Absent c =
     let r = c.args.requirement.now in
     let roles = c.args.self.now in
     let found : List ℕ = c.in_ok-having-in-Absent.field-0 in
-    IfOk-weaker c.others-in-Absent-2.result (λ m. (k : ℕ) → IsMarked m k ↔ ((k < length roles) × (IsMarked found k → ⊥))) (AreWith (Meets r) roles)
+    IfOk-weaker c.others-in-Absent-2.result (λ m. (k : ℕ) → HasPlace m k ↔ ((k < length roles) × (HasPlace found k → ⊥))) (AreWith (Meets r) roles)
     (λ m others. with_same roles (λ ls. HasKey ls r.key → ⊥) (Meets r) m
     (λ ls. subst (λ (op : SelectOp). (HasKey ls r.key → ⊥) ↔ MeetsOp op r.key r.values ls) (sym c.in-Absent.is) (λ h. h, λ h. h))
     (with_others roles (λ ls. HasKey ls r.key) found m others c.in_ok-having-in-Absent.ensures))

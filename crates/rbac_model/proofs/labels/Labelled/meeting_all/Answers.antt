@@ -7,7 +7,7 @@ use Rattle.rbac_model.proofs.LabelSets.{with_everyone, with_both, all_push}
 use Rattle.rbac_model.proofs.labels.Labelled.meeting_all.Goals as goal
 
 pub loop-requirement-init : goal.loop-requirement-init
-loop-requirement-init c = with_everyone c.args.self.now (λ ls. All (λ y. Meets y ls) []) c.in_ok-marks.marks c.in_ok-marks.ensures (λ ls. All-nil (λ y. Meets y ls))
+loop-requirement-init c = with_everyone c.args.self.now (λ ls. All (λ y. Meets y ls) []) c.in_ok-places.places c.in_ok-places.ensures (λ ls. All-nil (λ y. Meets y ls))
 
 pub loop-requirement-preserved : goal.loop-requirement-preserved
 loop-requirement-preserved c =
@@ -17,7 +17,7 @@ loop-requirement-preserved c =
     let x = c.requirement-item.result in
     let more : take (i + 1) vs ≡ take i vs ++ x ∷ [] = rw c.as_slice-requirement-items.ensures at (take_read items i x c.loop-requirement-test.true c.requirement-item.is) in
     rw more (with_both c.args.self.now (λ own. All (λ y. Meets y own) (take i vs)) (λ own. Meets x own) (λ own. All (λ y. Meets y own) (take i vs ++ x ∷ []))
-    c.loop-requirement.marks c.in_ok-meeting.field-0 c.keep.new.self c.keep.ensures c.loop-requirement.invariant c.in_ok-meeting.ensures (λ own. all_push (λ y. Meets y own) (take i vs) x))
+    c.loop-requirement.places c.in_ok-meeting.field-0 c.keep.new.self c.keep.ensures c.loop-requirement.invariant c.in_ok-meeting.ensures (λ own. all_push (λ y. Meets y own) (take i vs) x))
 
 pub returns : goal.returns
 returns c =

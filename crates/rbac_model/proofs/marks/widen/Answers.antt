@@ -1,9 +1,0 @@
-use Rattle.std.proofs.Common.{◌∙◌, rules}
-use Rattle.rbac_model.proofs.Marked.{widened}
-use Rattle.rbac_model.proofs.marks.widen.Goals as goal
-
-pub loop-at-preserved : goal.loop-at-preserved
-loop-at-preserved c = record {
-  room = search rules;
-  same = λ k. rw c.in_ok-push.ensures.items (widened c.loop-at.words.items k ∙ c.loop-at.invariant.same k);
-}
