@@ -40,6 +40,7 @@ fetch() {
 start() {
     "$@" </dev/null >"$scratch/got.$begun" 2>"$scratch/said.$begun" 3<&- 4<&- &
     children="$children$! "
+    noted=$!
 }
 
 # Waits for the oldest call that goes on.
