@@ -135,7 +135,11 @@ COMPLETED = [
     (['universe', ''], [], NOTHING), (['can-i', '-qAn', 'x', '--as=y', '--g'], ['--groups'],
                                       NOTHING),
     (['can-i', '-qA', '--a'], ['--as'], NOTHING),
-    (['can-i', '--namespace', 'x', '-n'], [], NOTHING)]
+    (['can-i', '--namespace', 'x', '-n'], [], NOTHING),
+    (['lint', '--context=n'], ['near'], NOTHING),
+    (['lint', '--request-timeout=', ''], [], FILES), (['lint', '--request-timeout='], [], NOTHING),
+    (['lint', '--export=p'], [], FOLDERS), (['page', '--diff='], [], FILES),
+    (['lint', '--partial='], [], NOTHING), (['lint', '--', '--context='], [], FILES)]
 
 
 def options_of(command):
