@@ -50,7 +50,9 @@ case $line in
     *) printf '%s\n' "$line" >> "$ROOM/strange"; exit 97 ;;
 esac
 case ,$TROUBLE, in
-    *",warn $file,"*) echo "Warning: $file is old" >&2 ;;
+    *",warn $file,"*)
+        echo "Warning: $file is old" >&2
+        echo 'E1125 17:16:37.306207   12861 memcache.go:287] "Unhandled Error" err="later"' >&2 ;;
     *",forbid $file,"*)
         printf 'Error from server (Forbidden): %s is\033 forbidden\nsorry\n' "$file" >&2
         exit 1 ;;
