@@ -1,6 +1,7 @@
 """The kubectl plugin, under dash and under bash, with a stand-in for kubectl and the built program.
 
-plugin_room.py has the stand-in, plugin_exports.py the exports, and plugin_questions.py the questions.
+plugin_room.py has the stand-in, plugin_exports.py the exports, plugin_questions.py the questions, and
+plugin_server.py both once more with kubectl itself.
 Here are the tools that the plugin needs, its texts, completions and man page, and make. What is
 skipped, since this machine lacks a tool, stands in the last line but one. The last line is
 `N passed, M failed`.
@@ -16,6 +17,7 @@ import tempfile
 
 import plugin_exports
 import plugin_questions
+import plugin_server
 from common import PROGRAM, TOP, checked, skipped, tested
 from plugin_room import KIM, PLUGIN, SHELLS, in_each_shell
 from shells import VERBS, commands, contents, options, options_in, renders
@@ -135,7 +137,11 @@ COMPLETED = [
     (['universe', ''], [], NOTHING), (['can-i', '-qAn', 'x', '--as=y', '--g'], ['--groups'],
                                       NOTHING),
     (['can-i', '-qA', '--a'], ['--as'], NOTHING),
-    (['can-i', '--namespace', 'x', '-n'], [], NOTHING)]
+    (['can-i', '--namespace', 'x', '-n'], [], NOTHING),
+    (['lint', '--context=n'], ['near'], NOTHING),
+    (['lint', '--request-timeout=', ''], [], FILES), (['lint', '--request-timeout='], [], NOTHING),
+    (['lint', '--export=p'], [], FOLDERS), (['page', '--diff='], [], FILES),
+    (['lint', '--partial='], [], NOTHING), (['lint', '--', '--context='], [], FILES)]
 
 
 def options_of(command):
@@ -241,5 +247,5 @@ def told(words_, folder, tools_=os.path.dirname(PROGRAM)):
 
 
 if __name__ == '__main__':
-    sys.exit(tested(*plugin_exports.CHECKS, *plugin_questions.CHECKS, tools, script, make_run,
-                    completions, in_kubectl, man_page))
+    sys.exit(tested(*plugin_exports.CHECKS, *plugin_questions.CHECKS, *plugin_server.CHECKS, tools,
+                    script, make_run, completions, in_kubectl, man_page))

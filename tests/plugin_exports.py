@@ -145,9 +145,9 @@ def on_terminal(it, *words_, trouble=()):
 
 @in_each_shell
 def progress(it):
-    """On a terminal a line counts the files, and is gone before anything else is said."""
+    """On a terminal a line says how far it is, and is gone before anything else is said."""
     erased = '\r%60s\r' % ''
-    counts = ['\rkubectl-rbacaudit: %d of 9 files' % number for number in range(1, 10)]
+    counts = ['\rkubectl-rbacaudit: reading the cluster, %d of 9' % number for number in range(1, 10)]
     said = on_terminal(it, 'export', 'prod')
     it.checked('an export', said == ''.join(counts) + erased, said)
     said = on_terminal(it, 'export', 'part', trouble=['down api-apps-v1'])
@@ -168,7 +168,8 @@ LISTED = re.compile(r'\|get\|([a-z.,0-9]+)\|')
 
 @in_each_shell
 def exporter(it):
-    """The ClusterRole of export --help is docs/EXPORT.md's, and has just what the calls ask for."""
+    """The ClusterRole of export --help is docs/EXPORT.md's, and has just what the calls ask for; README.md
+    has it in a sentence."""
     role = textwrap.dedent(re.search(r'^  apiVersion: .*?\n\n', it.run('export', '--help')[1],
                                      re.S | re.M)[0]).strip()
     with open(os.path.join(TOP, 'docs', 'EXPORT.md'), encoding='utf-8') as file:
@@ -186,6 +187,10 @@ def exporter(it):
     it.checked('it lists what the calls list', given == names
                and verbs == [('list',), ('list',), ('get',)], (given, names))
     urls = re.search(r'nonResourceURLs: \[(.*)\]', role)[1].split(', ')
+    with open(os.path.join(TOP, 'README.md'), encoding='utf-8') as file:
+        said = re.search(r'An export needs `list` on (.*?);', file.read(), re.S)[1]
+    it.checked('README says what is listed', re.findall('`(.*?)`', said) ==
+               [name for listed in lists for name in listed], said)
     it.checked('it gets what they get', all(any(fnmatch.fnmatchcase(path, url) for url in urls)
                                             for path in paths), (urls, paths))
 
@@ -219,6 +224,7 @@ def export_faults(it):
     both = ['forbid accounts', 'down api-v1']
     it.run('export', 'two', trouble=both)
     it.checked('two faults are noted', it.read('two', 'incomplete.txt').count('\n') == 2, it.read('two', 'incomplete.txt'))
+    # (its log, of the other groups, isn't shown)
     it.expect("kubectl's warnings", ['export', 'warned'], 0, 'The export in warned is whole: 8 files.\n',
               'Warning: cluster is old\nWarning: api-v1 is old\n', trouble=['warn cluster', 'warn api-v1'])
 

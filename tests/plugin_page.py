@@ -107,6 +107,10 @@ def plugin_refusals(it):
     it.checked('help', '--every' in it.run('page', '--help')[1], 'no help')
     it.expect('rows as changes', ['page', '--export', 'prod', '--diff', 'my verbs.json'], 2, '',
               'rbacaudit-page: my verbs.json line 1: no line of changes\n')
+    it.write('{"apiVersion": "rbacaudit/v1", "kind": "Universe", "verb": ["get"]}', 'mistyped')
+    status, out, err = got = it.run('page', '--export', 'prod', 'again.json', 'mistyped')
+    it.checked('a mistyped universe', status == 0 and out and err == 'kubectl-rbacaudit: mistyped: '
+               'a Universe document has no field verb, so it is ignored\n', got)
     it.expect('a bad FILE', ['page', '--export', 'prod', 'bad.json'], 2, '',
               'rbacaudit: file 2: M2 not an object\nkubectl-rbacaudit: file 2 is bad.json\n')
     os.remove(os.path.join(it.bin, 'rbacaudit-page'))

@@ -6,8 +6,9 @@ import subprocess
 
 from common import PROGRAM, TOP, V1, V1BETA1
 from plugin_room import (CAUTION, CI, CI_KEY, DANA, DEVELOPERS, FINDINGS, IMPLIED, KIM, NO_ACCOUNT,
-                         NO_SPACE, ODD, READ, REFUSAL, UNLISTED, document, in_each_shell, of_kinds,
-                         served)
+                         NO_SPACE, ODD, RBAC, READ, REFUSAL, UNLISTED, document, in_each_shell,
+                         of_kinds, served)
+from shells import commands, options
 
 
 @in_each_shell
@@ -70,6 +71,11 @@ def namespaces(it):
               NO_SPACE % 'shpo')
     it.expect('a namespace that only looks like one', ['who-can', '-n', 'sho.', 'list', 'pods'], 0,
               DANA, NO_SPACE % 'sho.')
+    it.serve({'namespaces': of_kinds([{'kind': 'Namespace', 'apiVersion': 'v1',
+                                       'metadata': {'name': '10'}}], 'Namespace')})
+    for name, said in (('10', ''), ('1e1', NO_SPACE % '1e1'), ('010', NO_SPACE % '010')):
+        it.expect('a name is no number: ' + name, ['who-can', '-n', name, 'list', 'pods'], 0, DANA,
+                  said)
     it.expect('it doesn\'t matter to nodes', ['who-can', '--export', 'prod', '-n', 'shpo', 'list',
                                               'nodes'], 0, DANA)
     it.expect('namespaces may be unknown', ['who-can', '-n', 'shpo', 'list', 'pods'], 0, DANA,
@@ -302,13 +308,14 @@ def words(it):
         status, out, err = got = it.run(*line)
         it.checked('refused: %s' % ' '.join(line), (status, out) == (2, '') and said in err, got)
     it.checked('no line was refused after a call', not it.lines('calls'), 'a call')
-    for line, said in ((['can-i', '--as', '-kim', 'get', 'pods'],
-                        'if -kim is the value of --as, write --as=-kim'),
-                       (['who-can', '-An', '-x', 'get', 'pods'],
-                        'if -x is the value of -n, write -n=-x')):
-        status, out, err = got = it.run(*line)
-        it.checked('a value with a dash: %s' % ' '.join(line), status == 2
-                   and err.endswith('kubectl-rbacaudit: %s\n' % said), got)
+    dashed = [([command, name], name, '-x') for command in commands()
+              for names, (value, _) in options(command).items() if value for name in names]
+    for line, name, value in [*dashed, (['who-can', '-A', '-n'], '-n', '--partial'),
+                              (['can-i', '--as=kim', '-qAn'], '-n', '-x')]:
+        status, out, err = got = it.run(*line, value, 'get', 'pods')
+        it.checked('a value with a dash: %s' % ' '.join(line), (status, out) == (2, '')
+                   and err.endswith('kubectl-rbacaudit: if %s is the value of %s, write %s=%s\n'
+                                    % (value, name, name, value)), got)
     it.run('export', 'prod')
     it.expect('a value with a dash', ['can-i', '--as=-kim', '-n=-x', '--export', 'prod', 'get',
                                       'pods'], 1, 'no\n', NO_SPACE % '-x')
@@ -482,6 +489,14 @@ def gaps(it):
               'kubectl-rbacaudit: the export has no API resource lists, so the type deployments.apps is taken as written\n')
     it.expect('no API lists know no subresource', [*UPDATE, '--subresource', 'exce', '--export', 'prod', '--partial'], 1, 'no\n', missing +
               CAUTION + 'kubectl-rbacaudit: the export has no API resource lists, so the type deployments.apps is taken as written\n')
+    it.run('export', 'part', trouble=['forbid cluster'])
+    missing = 'kubectl-rbacaudit: there is no cluster.json in part: kubectl get clusterroles.%s,' \
+              'clusterrolebindings.%s -o json ended with status 1: Error from server (Forbidden): ' \
+              'cluster is? forbidden sorry\n' % (RBAC, RBAC)
+    it.expect('a part that may not be read', [*UPDATE, '--export', 'part'], 2, '',
+              missing + REFUSAL)
+    it.expect('a part that may not be read, --partial', [*UPDATE, '--partial', '--export', 'part'],
+              0, 'yes\n', missing + CAUTION)
     os.remove(os.path.join(it.work, 'prod', 'namespaced.json'))
     status, out, err = got = it.run(*UPDATE, '--partial', '--export', 'prod')
     it.checked('an export without roles never answers', (status, out) == (2, '') and 'nothing can be answered' in err, got)

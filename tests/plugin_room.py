@@ -50,7 +50,9 @@ case $line in
     *) printf '%s\n' "$line" >> "$ROOM/strange"; exit 97 ;;
 esac
 case ,$TROUBLE, in
-    *",warn $file,"*) echo "Warning: $file is old" >&2 ;;
+    *",warn $file,"*)
+        echo "Warning: $file is old" >&2
+        echo 'E1125 17:16:37.306207   12861 memcache.go:287] "Unhandled Error" err="later"' >&2 ;;
     *",forbid $file,"*)
         printf 'Error from server (Forbidden): %s is\033 forbidden\nsorry\n' "$file" >&2
         exit 1 ;;
@@ -70,6 +72,7 @@ case ,$TROUBLE, in
 esac
 exec cat "$ROOM/served/$file"
 '''
+RBAC = 'rbac.authorization.k8s.io'
 FIXED = ['cluster.json', 'namespaced.json', 'namespaces.json', 'accounts.json']
 READ = sorted(FIXED + ['api-v1.json', 'api-apps-v1.json', 'api-metrics.k8s.io-v1beta1.json',
                        'api-rbac.authorization.k8s.io-v1.json'])
@@ -119,7 +122,7 @@ ODD_ROLE = {'apiVersion': V1, 'kind': 'ClusterRole', 'metadata': {'name': 'odd'}
 METRICS = {'kind': 'APIResourceList', 'apiVersion': 'v1', 'groupVersion': 'metrics.k8s.io/v1beta1', 'resources': [
     {'name': 'nodes', 'singularName': '', 'namespaced': False, 'verbs': ['get', 'list']},
     {'name': 'pods', 'singularName': '', 'namespaced': True, 'verbs': ['get', 'list']}]}
-RBAC = {'kind': 'APIResourceList', 'apiVersion': 'v1', 'groupVersion': V1, 'resources': [
+ROLES = {'kind': 'APIResourceList', 'apiVersion': 'v1', 'groupVersion': V1, 'resources': [
     {'name': 'roles', 'singularName': 'role', 'namespaced': True, 'verbs': ['get', 'list']}]}
 
 
@@ -151,7 +154,7 @@ def served():
             'accounts-shop': of_namespace(items, 'ServiceAccount'),
             'namespaces-shop': next(item for item in items if item['kind'] == 'Namespace'
                                     and item['metadata']['name'] == 'shop'),
-            'api-v1': core, 'api-apps-v1': apps, 'api-metrics.k8s.io-v1beta1': METRICS, 'api-rbac.authorization.k8s.io-v1': RBAC}
+            'api-v1': core, 'api-apps-v1': apps, 'api-metrics.k8s.io-v1beta1': METRICS, 'api-rbac.authorization.k8s.io-v1': ROLES}
 
 
 # ---- a room: a stand-in for kubectl, the program, a folder for temporary files, and a folder to work in

@@ -42,7 +42,10 @@ look_for_gaps() {
     for part in $needed; do
         case $part in
             api) has_lists || "$1" "there is no api-*.json in $export_dir" ;;
-            *) [ -f "$export_dir/$part" ] || "$1" "there is no $part in $export_dir" ;;
+            *)
+                [ -f "$export_dir/$part" ] ||
+                    "$1" "there is no $part in $export_dir$(reason_for "$part")"
+                ;;
         esac
     done
     [ -z "$only" ] || look_for_other "$1"
@@ -58,6 +61,11 @@ look_for_gaps() {
                 ;;
         esac
     done 4<"$export_dir/incomplete.txt" || refuse "can't read $export_dir/incomplete.txt"
+}
+
+# Prints a colon and why the export has no such part, as far as its incomplete.txt says that.
+reason_for() {
+    [ ! -f "$export_dir/incomplete.txt" ] || sed -n "s/^$1: /: /p" "$export_dir/incomplete.txt"
 }
 
 gap() {

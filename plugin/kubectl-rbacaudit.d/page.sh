@@ -38,11 +38,19 @@ page_command() {
         page_usage
         exit 0
     fi
+    make_page "$@"
+}
+
+# Makes the page, with the FILEs in the words.
+make_page() {
     [ ! -t 1 ] || refuse 'the page goes into a file: kubectl rbacaudit page > access.html'
     need_rbacaudit
     need rbacaudit-page 'make install in its repository puts it beside this plugin'
     check_options
     [ -z "$diff" ] || [ -r "$diff" ] || refuse "can't read $diff"
+    for word do
+        look_for_universe "$word"
+    done
     command=matrix
     type=
     look_at_about
@@ -82,7 +90,8 @@ The rows are those of matrix, over the universe that kubectl rbacaudit universe 
 object names. A FILE may be a Universe document of your own; each of its fields replaces one of
 that universe. The findings of lint are shown beside.
 
---export, --partial, --context and --kubeconfig mean what kubectl rbacaudit --help says.
+--export, --partial, --context, --kubeconfig and --request-timeout mean what
+kubectl rbacaudit --help says.
 Exit status: 0 the page is written; 2 an error.
 EOT
 }

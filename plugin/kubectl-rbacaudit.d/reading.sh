@@ -40,6 +40,7 @@ fetch() {
 start() {
     "$@" </dev/null >"$scratch/got.$begun" 2>"$scratch/said.$begun" 3<&- 4<&- &
     children="$children$! "
+    noted=$!
 }
 
 # Waits for the oldest call that goes on.
@@ -71,11 +72,20 @@ settle() {
     show_progress
 }
 
-# Shows what kubectl said, now that its call has ended.
+# Shows what kubectl said, now that its call has ended. A call that got what it asked for also logs
+# each API group that doesn't answer; that group's own call reports it.
 show_said() {
     [ -s "$said" ] || return 0
     erase_progress
-    printable <"$said" >&2
+    if [ "$failed" -eq 0 ]; then
+        drop_log <"$said" >&2
+    else
+        printable <"$said" >&2
+    fi
+}
+
+drop_log() {
+    sed '/^[EFIW][0-9]\{4\} /d' | printable
 }
 
 # The note has the server's own reason too, without kubectl's warnings and log.
@@ -84,7 +94,7 @@ note_missing() {
     [ "$failed" -ne 0 ] || why='printed nothing'
     erase_progress
     report "$name can't be had: $asked $why"
-    reason=$(sed '/^Warning: /d; /^[EFIW][0-9]\{4\} /d' "$said" | printable | tr '\n' ' ')
+    reason=$(sed '/^Warning: /d' "$said" | drop_log | tr '\n' ' ')
     reason=${reason% }
     reason=${reason:+: $reason}
     printf '%s\n' "$name: $asked $why$reason" >>"$stage/incomplete.txt" ||
@@ -94,7 +104,7 @@ note_missing() {
 # On a terminal, a line says how far the reading is, and goes away.
 show_progress() {
     [ -t 2 ] || return 0
-    printf '\rkubectl-rbacaudit: %s of %s files' "$settled" "$total" >&2
+    printf '\rkubectl-rbacaudit: reading the cluster, %s of %s' "$settled" "$total" >&2
     drawn=yes
 }
 

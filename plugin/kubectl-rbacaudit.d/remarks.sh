@@ -148,7 +148,7 @@ EOF
     rbacaudit matrix "$export_dir/$1" "$scratch/everybody.json" >"$scratch/there" 2>/dev/null ||
         return 0
     LC_ALL=C WANTED=$3 awk -F '\t' -v at="$2" '
-        $at == ENVIRON["WANTED"] { found = 1; exit }
+        $at "" == ENVIRON["WANTED"] { found = 1; exit }
         END { exit !found }' "$scratch/there"
 }
 
