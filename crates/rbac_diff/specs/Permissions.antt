@@ -1,6 +1,6 @@
 -- What the rules of a policy permit, in pieces that can't be cut further.
 use Rattle.std.specs.Prelude.{◌≡◌, ℕ, List, [], ◌∷◌, Option, Some, None, Any, Contains, Bool}
-use Rattle.std.specs.Prelude.{◌==◌, all, if◌then◌else◌}
+use Rattle.std.specs.Prelude.{◌==◌, ◌&&◌, true, if◌then◌else◌}
 use Rattle.rbac_terms.specs.Text.{Text, star}
 use Rattle.rbac_terms.specs.Principals.{Who, AsUser, AsMember, account_user}
 use Rattle.rbac_terms.specs.declared.granting.Subject.{Subject}
@@ -43,7 +43,8 @@ principal_of None (Account None name) = None
 
 -- nothing but stars
 abbrev pub are_stars : Text → Bool
-are_stars w = all (λ c. c == star) w
+are_stars [] = true
+are_stars (c ∷ w) = (c == star) && are_stars w
 
 -- a word with one star at its end, where it has several (own)
 abbrev pub one_star : Text → Text

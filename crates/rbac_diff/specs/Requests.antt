@@ -58,8 +58,8 @@ pub record StandsFor (p : PermissionView) (r : RequestView) : Type 0 where
 -- a request is gained: after allows it, and before doesn't
 pub record IsGainedRequest (before after : PolicyView) (r : RequestView) : Type 0 where
   pub request : IsRequest r
-  pub after : AllowsRequest after r
-  pub before : ¬ AllowsRequest before r
+  pub allowed : AllowsRequest after r
+  pub refused : ¬ AllowsRequest before r
 
 -- a permission is gained: after has it, and some request that it stands for is gained
 abbrev pub IsGained : PolicyView → PolicyView → PermissionView → Type 0

@@ -1,5 +1,10 @@
 //! What a change of policies lets people do, and what it takes from them.
 
+ghost use Rattle.std.specs.Prelude.{◌≡◌, IfOk, map};
+ghost use Rattle.rbac_model.specs.Policies.{IsPolicy};
+ghost use Rattle.rbac_diff.specs.Changes.{AreChanges};
+ghost use Rattle.rbac_diff.specs.Listed.{change_of, entry_change};
+
 use crate::fault::DiffFault;
 use crate::finding::add_gained;
 use rbac_model::Policy;
@@ -45,7 +50,12 @@ pub fn changes<'p>(
     alloc: Global,
     before: &'p Policy,
     after: &'p Policy,
-) -> Result<Vec<Change<'p>>, DiffFault> {
+) -> Result<Vec<Change<'p>>, DiffFault>
+    ensures changes { IfOk result
+        (λ xs. AreChanges before.now after.now (map change_of xs.items)) }
+    ensures before { IsPolicy before.now }
+    ensures after { IsPolicy after.now }
+{
     let mut findings = BTreeMap::new(alloc);
     add_gained(alloc, ChangeKind::Gained, before, after, &mut findings)?;
     add_gained(alloc, ChangeKind::Lost, after, before, &mut findings)?;
@@ -53,7 +63,10 @@ pub fn changes<'p>(
 }
 
 // The changes that were found, in order.
-fn listed<'p>(alloc: Global, findings: Findings<'p>) -> Result<Vec<Change<'p>>, DiffFault> {
+fn listed<'p>(alloc: Global, findings: Findings<'p>) -> Result<Vec<Change<'p>>, DiffFault>
+    ensures { IfOk result
+        (λ xs. map change_of xs.items ≡ map entry_change findings.entries) }
+{
     let mut changes = Vec::new(alloc);
     for (permission, found) in findings {
         changes.push(Change {

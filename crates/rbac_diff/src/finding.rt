@@ -1,7 +1,13 @@
 //! The permissions that one policy has and another one doesn't allow.
 
+ghost use Rattle.std.specs.Prelude.{◌≡◌, ◌<◌, ◌×◌, OnOk, Some, Contains, Any, length, slice_get};
+ghost use Rattle.rbac_model.specs.Policies.{IsPolicy};
+ghost use Rattle.rbac_diff.specs.Finding.{Finds, FindsGained, IsByRule, IsGainedAt, IsOnResource};
+ghost use Rattle.rbac_diff.specs.Finding.{IsOnTarget, IsOnUrl, SearchFinds};
+ghost use Rattle.rbac_diff.specs.Shown.{permitted_of};
+
 use crate::change::{ChangeKind, Findings, Found};
-use crate::covering::{gives_path, is_covered, is_resource_text};
+use crate::covering::{is_asked_for, is_covered};
 use crate::fault::DiffFault;
 use crate::permission::{Permission, Permitted, permission_text};
 use crate::stand_ins::{Asked, principal_of};
@@ -19,7 +25,13 @@ pub(crate) fn add_gained<'p>(
     before: &Policy,
     after: &'p Policy,
     findings: &mut Findings<'p>,
-) -> Result<(), DiffFault> {
+) -> Result<(), DiffFault>
+    ensures gained { OnOk result
+        (FindsGained kind before.now after.now (length after.now.held.bindings) findings.old
+        findings.new) }
+    ensures before { IsPolicy before.now }
+    ensures after { IsPolicy after.now }
+{
     let asked = Asked::of(alloc, Index::build(alloc, before)?)?;
     let after: &'p Policy = after;
     let bindings: &'p [Binding] = after.bindings();
@@ -27,22 +39,27 @@ pub(crate) fn add_gained<'p>(
     for (place, binding) in bindings.iter().enumerate() {
         at = place_from(before.bindings(), at, binding);
         if !is_unchanged(after, place, before, at) {
-            add_of_binding(alloc, kind, &asked, after, place, binding, findings)?;
+            let found = Found { kind, binding };
+            add_of_binding(alloc, &asked, after, place, found, findings)?;
         }
     }
     Ok(())
 }
 
-// Adds the permissions of one binding.
+// Adds the permissions of the binding at this place that the policy asked doesn't allow.
 fn add_of_binding<'p>(
     alloc: Global,
-    kind: ChangeKind,
     asked: &Asked<'_>,
     after: &'p Policy,
     place: usize,
-    binding: &'p Binding,
+    found: Found<'p>,
     findings: &mut Findings<'p>,
-) -> Result<(), DiffFault> {
+) -> Result<(), DiffFault>
+    requires { slice_get after.now.held.bindings place ≡ Some found.binding.now }
+    ensures gained { OnOk result
+        (Finds (IsGainedAt asked.now after.now place) found.entry findings.old findings.new) }
+{
+    let binding: &'p Binding = found.binding;
     let namespace = binding.namespace.as_ref();
     if namespace.is_some_and(|namespace| namespace.is_empty()) {
         return Ok(());
@@ -52,12 +69,12 @@ fn add_of_binding<'p>(
         if let Some(principal) = principal_of(alloc, namespace, subject)? {
             let others = asked.rules_of(alloc, &principal, namespace)?;
             let search = Search {
-                found: Found { kind, binding },
+                found,
                 principal: &principal,
                 others: others.as_slice(),
             };
             for no in from..end {
-                search.add_of_rule(alloc, after.grant(no).rule, findings)?;
+                add_of_rule(alloc, &search, after.grant(no).rule, findings)?;
             }
         }
     }
@@ -66,113 +83,150 @@ fn add_of_binding<'p>(
 
 // A search for the permissions that a principal has by a binding, and that these rules of the other
 // policy don't allow.
-#[derive(Clone, Copy)]
 struct Search<'a, 'p> {
     found: Found<'p>,
     principal: &'a Principal,
     others: &'a [&'a Rule],
 }
 
-impl<'a, 'p> Search<'a, 'p> {
-    // Adds the permissions by one rule.
-    fn add_of_rule(
-        self,
-        alloc: Global,
-        rule: &Rule,
-        findings: &mut Findings<'p>,
-    ) -> Result<(), AllocError> {
-        for verb in rule.verbs.as_slice() {
-            for group in rule.groups.as_slice() {
-                self.add_of_group(alloc, rule, verb, group, findings)?;
-            }
-            if self.found.binding.namespace.is_none() {
-                self.add_urls(alloc, rule, verb, findings)?;
-            }
-        }
-        Ok(())
+// Adds the permissions by one rule.
+fn add_of_rule<'p>(
+    alloc: Global,
+    search: &Search<'_, 'p>,
+    rule: &Rule,
+    findings: &mut Findings<'p>,
+) -> Result<(), AllocError>
+    ensures { OnOk result
+        (SearchFinds search.now (IsByRule search.now rule.now) findings.old findings.new) }
+{
+    for verb in rule.verbs.as_slice() {
+        add_of_verb(alloc, search, rule, verb, findings)?;
     }
+    Ok(())
+}
 
-    // Adds the permissions for resources of one API group word.
-    fn add_of_group(
-        self,
-        alloc: Global,
-        rule: &Rule,
-        verb: &Word,
-        group: &Word,
-        findings: &mut Findings<'p>,
-    ) -> Result<(), AllocError> {
-        for resource in rule.resources.as_slice() {
-            if is_resource_text(resource) {
-                self.add_of_resource(alloc, rule, verb, group, resource, findings)?;
-            }
-        }
-        Ok(())
+// Adds the permissions of one verb word: for resources, and through a ClusterRoleBinding for URLs.
+fn add_of_verb<'p>(
+    alloc: Global,
+    search: &Search<'_, 'p>,
+    rule: &Rule,
+    verb: &Word,
+    findings: &mut Findings<'p>,
+) -> Result<(), AllocError>
+    ensures { OnOk result
+        (SearchFinds search.now (IsOnTarget search.now rule.now verb.now) findings.old
+        findings.new) }
+{
+    for group in rule.groups.as_slice() {
+        add_of_group(alloc, search, rule, verb, group, findings)?;
     }
+    if search.found.binding.namespace.is_none() {
+        add_urls(alloc, search, rule, verb, findings)?;
+    }
+    Ok(())
+}
 
-    // Adds the permissions for one resource word: for each name of the rule, or for any.
-    fn add_of_resource(
-        self,
-        alloc: Global,
-        rule: &Rule,
-        verb: &Word,
-        group: &Word,
-        resource: &Word,
-        findings: &mut Findings<'p>,
-    ) -> Result<(), AllocError> {
-        let named = |name| Permitted::Resource {
-            namespace: self.found.binding.namespace.as_ref(),
+// Adds the permissions of one verb word for resources of one API group word.
+fn add_of_group<'p>(
+    alloc: Global,
+    search: &Search<'_, 'p>,
+    rule: &Rule,
+    verb: &Word,
+    group: &Word,
+    findings: &mut Findings<'p>,
+) -> Result<(), AllocError>
+    ensures { OnOk result
+        (SearchFinds search.now
+        (λ p. Any (λ resource. IsOnResource search.now rule.now verb.now group.now resource p)
+        rule.now.resources) findings.old findings.new) }
+{
+    for resource in rule.resources.as_slice() {
+        add_of_resource(alloc, search, rule, verb, group, resource, findings)?;
+    }
+    Ok(())
+}
+
+// Adds the permissions of one verb word for one resource word: for each name of the rule, or for
+// any.
+fn add_of_resource<'p>(
+    alloc: Global,
+    search: &Search<'_, 'p>,
+    rule: &Rule,
+    verb: &Word,
+    group: &Word,
+    resource: &Word,
+    findings: &mut Findings<'p>,
+) -> Result<(), AllocError>
+    ensures { OnOk result
+        (SearchFinds search.now
+        (IsOnResource search.now rule.now verb.now group.now resource.now) findings.old
+        findings.new) }
+{
+    let namespace = search.found.binding.namespace.as_ref();
+    if rule.resource_names.is_empty() {
+        let target = Permitted::Resource {
+            namespace,
             group,
             resource,
-            name,
+            name: None,
         };
-        if rule.resource_names.is_empty() {
-            return self.add(alloc, verb, named(None), findings);
-        }
-        for name in rule.resource_names.as_slice() {
-            self.add(alloc, verb, named(Some(name)), findings)?;
-        }
-        Ok(())
+        return add(alloc, search, verb, target, findings);
     }
+    for name in rule.resource_names.as_slice() {
+        let target = Permitted::Resource {
+            namespace,
+            group,
+            resource,
+            name: Some(name),
+        };
+        add(alloc, search, verb, target, findings)?;
+    }
+    Ok(())
+}
 
-    // Adds the permissions for URLs.
-    fn add_urls(
-        self,
-        alloc: Global,
-        rule: &Rule,
-        verb: &Word,
-        findings: &mut Findings<'p>,
-    ) -> Result<(), AllocError> {
-        for url in rule.urls.as_slice() {
-            if gives_path(url) {
-                self.add(alloc, verb, Permitted::Url(url), findings)?;
-            }
-        }
-        Ok(())
+// Adds the permissions of one verb word for URLs.
+fn add_urls<'p>(
+    alloc: Global,
+    search: &Search<'_, 'p>,
+    rule: &Rule,
+    verb: &Word,
+    findings: &mut Findings<'p>,
+) -> Result<(), AllocError>
+    ensures { OnOk result
+        (SearchFinds search.now (λ p. Any (λ w. IsOnUrl verb.now w p) rule.now.urls) findings.old
+        findings.new) }
+{
+    for url in rule.urls.as_slice() {
+        add(alloc, search, verb, Permitted::Url(url), findings)?;
     }
+    Ok(())
+}
 
-    // Adds one permission, unless the other rules allow all that it stands for, or it was found
-    // already.
-    fn add(
-        self,
-        alloc: Global,
-        verb: &Word,
-        target: Permitted<'_>,
-        findings: &mut Findings<'p>,
-    ) -> Result<(), AllocError> {
-        if is_covered(self.others, verb, target) {
-            return Ok(());
-        }
-        let text = permission_text(
-            alloc,
-            Permission {
-                principal: self.principal,
-                verb,
-                target,
-            },
-        )?;
-        if !findings.contains_key(&text) {
-            findings.insert(text, self.found)?;
-        }
-        Ok(())
+// Adds one permission, unless no request is for it, the other rules allow all that it stands for,
+// or it was found already.
+fn add<'p>(
+    alloc: Global,
+    search: &Search<'_, 'p>,
+    verb: &Word,
+    target: Permitted<'_>,
+    findings: &mut Findings<'p>,
+) -> Result<(), AllocError>
+    ensures { OnOk result
+        (SearchFinds search.now
+        (λ p. (p.verb ≡ verb.now) × (p.target ≡ permitted_of target.entry)) findings.old
+        findings.new) }
+{
+    if !is_asked_for(target) || is_covered(search.others, verb, target) {
+        return Ok(());
     }
+    let permission = Permission {
+        principal: search.principal,
+        verb,
+        target,
+    };
+    let text = permission_text(alloc, permission)?;
+    if !findings.contains_key(&text) {
+        findings.insert(text, search.found)?;
+    }
+    Ok(())
 }

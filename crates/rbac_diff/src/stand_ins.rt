@@ -1,9 +1,17 @@
 //! Who stands in for everybody that a permission is for.
 
+ghost use Rattle.std.specs.Prelude.{◌≡◌, [], IfOk, OnOk};
+ghost use Rattle.std.specs.Prelude.{length, Ok, Err, MatchOption};
+ghost use Rattle.std.specs.Option.{option_copied};
+ghost use Rattle.rbac_terms.specs.Principals.{given_of};
+ghost use Rattle.rbac_diff.specs.Permissions.{principal_of};
+ghost use Rattle.rbac_diff.specs.StandIns.{AreRulesOf, AddsRules};
+
 use crate::fault::DiffFault;
 use rbac_index::Index;
 use rbac_terms::{ModelFault, Principal, Rule, Subject, Word, Words, account_user};
 use std::alloc::Global;
+use std::marker::Model;
 
 // The principal that a subject of a binding in that namespace, or in none, stands for; nobody if
 // its name is empty, or if it is an account without any namespace.
@@ -11,7 +19,10 @@ pub(crate) fn principal_of(
     alloc: Global,
     namespace: Option<&Word>,
     subject: &Subject,
-) -> Result<Option<Principal>, DiffFault> {
+) -> Result<Option<Principal>, DiffFault>
+    ensures { IfOk result
+        (λ p. p ≡ principal_of (option_copied namespace.entry) subject.now) }
+{
     match subject {
         Subject::User(name) => named(Principal::user(alloc, name, &Words::new(alloc))),
         Subject::Group(name) => named(Principal::group(alloc, name)),
@@ -29,7 +40,9 @@ pub(crate) fn principal_of(
 }
 
 // The principal, or nobody if the name was empty.
-fn named(made: Result<Principal, ModelFault>) -> Result<Option<Principal>, DiffFault> {
+fn named(made: Result<Principal, ModelFault>) -> Result<Option<Principal>, DiffFault>
+    ensures { IfOk result (λ p. MatchOption p (made ≡ Err ModelFault.EmptyName) (λ who. made ≡ Ok who)) }
+{
     match made {
         Ok(principal) => Ok(Some(principal)),
         Err(ModelFault::EmptyName) => Ok(None),
@@ -47,8 +60,23 @@ pub(crate) struct Asked<'p> {
     nowhere: Word,
 }
 
+impl<'p> Model for Asked<'p> {
+    ghost use Rattle.std.specs.Prelude.{◌≡◌, [], codes};
+    ghost use Rattle.rbac_terms.specs.Principals.{AsUser, AsMember};
+    ghost use Rattle.rbac_model.specs.Policies.{PolicyView};
+
+    ghost Value = { PolicyView };
+
+    ghost view = { λ a. a.index };
+
+    ghost invariant = { λ a. (a.signed_in ≡ AsMember (codes "system:authenticated"))
+        × (a.anonymous ≡ AsUser (codes "system:anonymous") []) × (a.nowhere ≡ []) };
+}
+
 impl<'p> Asked<'p> {
-    pub(crate) fn of(alloc: Global, index: Index<'p>) -> Result<Self, DiffFault> {
+    pub(crate) fn of(alloc: Global, index: Index<'p>) -> Result<Self, DiffFault>
+        ensures { IfOk result (λ a. a ≡ index) }
+    {
         let signed_in = Word::from_slice(alloc, b"system:authenticated")?;
         let anonymous = Word::from_slice(alloc, b"system:anonymous")?;
         Ok(Asked {
@@ -66,7 +94,11 @@ impl<'p> Asked<'p> {
         alloc: Global,
         principal: &Principal,
         namespace: Option<&Word>,
-    ) -> Result<Vec<&'p Rule>, DiffFault> {
+    ) -> Result<Vec<&'p Rule>, DiffFault>
+        ensures { given_of principal.now ≡ [] → IfOk result
+            (λ rules. AreRulesOf self.now principal.now (option_copied namespace.entry)
+            rules.items) }
+    {
         let namespace = namespace.unwrap_or(&self.nowhere);
         let mut rules = Vec::new(alloc);
         match principal.key().as_bytes() {
@@ -90,7 +122,10 @@ fn add_rules<'p>(
     principal: &Principal,
     namespace: &Word,
     rules: &mut Vec<&'p Rule>,
-) -> Result<(), DiffFault> {
+) -> Result<(), DiffFault>
+    ensures { OnOk result
+        (AddsRules index.now principal.now namespace.now 0 (length index.now.grants) rules.old.items rules.new.items) }
+{
     let mut from = 0;
     while let Some((start, end)) = index.next_run(principal, namespace, from) {
         for no in start..end {

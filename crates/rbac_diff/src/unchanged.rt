@@ -1,5 +1,8 @@
 //! Bindings that both policies have, and that grant the same in both.
 
+ghost use Rattle.std.specs.Prelude.{◌≡◌, ◌<◌, ◌≤◌, IsTrue, length};
+ghost use Rattle.rbac_diff.specs.Unchanged.{HasSameGrants, HaveSameRules};
+
 use rbac_model::Policy;
 use rbac_terms::{Binding, Rule, Subject};
 use std::cmp::Ordering;
@@ -26,7 +29,10 @@ fn cmp_names(a: &Binding, b: &Binding) -> Ordering {
 
 // Whether the other policy has a binding at that place, in the same namespace or in none too, with
 // the same subjects and the same rules as this one's.
-pub(crate) fn is_unchanged(own: &Policy, place: usize, other: &Policy, at: usize) -> bool {
+pub(crate) fn is_unchanged(own: &Policy, place: usize, other: &Policy, at: usize) -> bool
+    requires { place < length own.now.held.bindings }
+    ensures { IsTrue result → HasSameGrants own.now place other.now }
+{
     let binding = &own.bindings()[place];
     match other.bindings().get(at) {
         Some(held) => {
@@ -38,12 +44,16 @@ pub(crate) fn is_unchanged(own: &Policy, place: usize, other: &Policy, at: usize
     }
 }
 
-fn same_subjects(a: &Binding, b: &Binding) -> bool {
+fn same_subjects(a: &Binding, b: &Binding) -> bool
+    ensures { IsTrue result → a.now.subjects ≡ b.now.subjects }
+{
     let (a, b) = (a.subjects.as_slice(), b.subjects.as_slice());
     a.len() == b.len() && a.iter().zip(b).all(|(a, b)| same_subject(a, b))
 }
 
-fn same_subject(a: &Subject, b: &Subject) -> bool {
+fn same_subject(a: &Subject, b: &Subject) -> bool
+    ensures { IsTrue result → a.now ≡ b.now }
+{
     match (a, b) {
         (Subject::User(a), Subject::User(b)) => a == b,
         (Subject::Group(a), Subject::Group(b)) => a == b,
@@ -59,7 +69,11 @@ fn same_subject(a: &Subject, b: &Subject) -> bool {
 }
 
 // Whether the bindings at these places have the same rules, in the same order.
-fn same_rules(own: &Policy, place: usize, other: &Policy, at: usize) -> bool {
+fn same_rules(own: &Policy, place: usize, other: &Policy, at: usize) -> bool
+    requires own { place < length own.now.held.bindings }
+    requires other { at < length other.now.held.bindings }
+    ensures { IsTrue result → HaveSameRules own.now place other.now at }
+{
     let (from, end) = own.grants_of(place);
     let (other_from, other_end) = other.grants_of(at);
     if end - from != other_end - other_from {
@@ -73,7 +87,9 @@ fn same_rules(own: &Policy, place: usize, other: &Policy, at: usize) -> bool {
     true
 }
 
-fn same_rule(a: &Rule, b: &Rule) -> bool {
+fn same_rule(a: &Rule, b: &Rule) -> bool
+    ensures { IsTrue result → a.now ≡ b.now }
+{
     a.verbs.as_slice() == b.verbs.as_slice()
         && a.groups.as_slice() == b.groups.as_slice()
         && a.resources.as_slice() == b.resources.as_slice()
