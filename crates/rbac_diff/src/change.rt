@@ -65,7 +65,7 @@ pub fn changes<'p>(
 // The changes that were found, in order.
 fn listed<'p>(alloc: Global, findings: Findings<'p>) -> Result<Vec<Change<'p>>, DiffFault>
     ensures { IfOk result
-        (λ xs. map change_of xs.items ≡ map entry_change findings.entries) }
+        (λ xs. map change_of xs.items ≡ map entry_change findings.entry.entries) }
 {
     let mut changes = Vec::new(alloc);
     for (permission, found) in findings {

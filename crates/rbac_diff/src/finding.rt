@@ -1,6 +1,6 @@
 //! The permissions that one policy has and another one doesn't allow.
 
-ghost use Rattle.std.specs.Prelude.{◌≡◌, ◌<◌, ◌×◌, OnOk, Some, Contains, Any, length, slice_get};
+ghost use Rattle.std.specs.Prelude.{◌≡◌, ◌<◌, OnOk, Some, Contains, Any, length, slice_get};
 ghost use Rattle.rbac_model.specs.Policies.{IsPolicy};
 ghost use Rattle.rbac_diff.specs.Finding.{Finds, FindsGained, IsByRule, IsGainedAt, IsOnResource};
 ghost use Rattle.rbac_diff.specs.Finding.{IsOnTarget, IsOnUrl, SearchFinds};
@@ -70,6 +70,7 @@ fn add_of_binding<'p>(
             let others = asked.rules_of(alloc, &principal, namespace)?;
             let search = Search {
                 found,
+                namespace,
                 principal: &principal,
                 others: others.as_slice(),
             };
@@ -83,8 +84,11 @@ fn add_of_binding<'p>(
 
 // A search for the permissions that a principal has by a binding, and that these rules of the other
 // policy don't allow.
+#[derive(Clone, Copy)]
 struct Search<'a, 'p> {
     found: Found<'p>,
+    // The binding's namespace.
+    namespace: Option<&'a Word>,
     principal: &'a Principal,
     others: &'a [&'a Rule],
 }
@@ -120,7 +124,7 @@ fn add_of_verb<'p>(
     for group in rule.groups.as_slice() {
         add_of_group(alloc, search, rule, verb, group, findings)?;
     }
-    if search.found.binding.namespace.is_none() {
+    if search.namespace.is_none() {
         add_urls(alloc, search, rule, verb, findings)?;
     }
     Ok(())
@@ -148,13 +152,13 @@ fn add_of_group<'p>(
 
 // Adds the permissions of one verb word for one resource word: for each name of the rule, or for
 // any.
-fn add_of_resource<'p>(
+fn add_of_resource<'a, 'p>(
     alloc: Global,
-    search: &Search<'_, 'p>,
-    rule: &Rule,
+    search: &'a Search<'a, 'p>,
+    rule: &'a Rule,
     verb: &Word,
-    group: &Word,
-    resource: &Word,
+    group: &'a Word,
+    resource: &'a Word,
     findings: &mut Findings<'p>,
 ) -> Result<(), AllocError>
     ensures { OnOk result
@@ -162,7 +166,7 @@ fn add_of_resource<'p>(
         (IsOnResource search.now rule.now verb.now group.now resource.now) findings.old
         findings.new) }
 {
-    let namespace = search.found.binding.namespace.as_ref();
+    let namespace: Option<&'a Word> = search.namespace;
     if rule.resource_names.is_empty() {
         let target = Permitted::Resource {
             namespace,
