@@ -94,10 +94,10 @@ struct Search<'a, 'p> {
 }
 
 // Adds the permissions by one rule.
-fn add_of_rule<'p>(
+fn add_of_rule<'a, 'p>(
     alloc: Global,
-    search: &Search<'_, 'p>,
-    rule: &Rule,
+    search: &'a Search<'a, 'p>,
+    rule: &'a Rule,
     findings: &mut Findings<'p>,
 ) -> Result<(), AllocError>
     ensures { OnOk result
@@ -110,10 +110,10 @@ fn add_of_rule<'p>(
 }
 
 // Adds the permissions of one verb word: for resources, and through a ClusterRoleBinding for URLs.
-fn add_of_verb<'p>(
+fn add_of_verb<'a, 'p>(
     alloc: Global,
-    search: &Search<'_, 'p>,
-    rule: &Rule,
+    search: &'a Search<'a, 'p>,
+    rule: &'a Rule,
     verb: &Word,
     findings: &mut Findings<'p>,
 ) -> Result<(), AllocError>
@@ -131,12 +131,12 @@ fn add_of_verb<'p>(
 }
 
 // Adds the permissions of one verb word for resources of one API group word.
-fn add_of_group<'p>(
+fn add_of_group<'a, 'p>(
     alloc: Global,
-    search: &Search<'_, 'p>,
-    rule: &Rule,
+    search: &'a Search<'a, 'p>,
+    rule: &'a Rule,
     verb: &Word,
-    group: &Word,
+    group: &'a Word,
     findings: &mut Findings<'p>,
 ) -> Result<(), AllocError>
     ensures { OnOk result
@@ -189,10 +189,10 @@ fn add_of_resource<'a, 'p>(
 }
 
 // Adds the permissions of one verb word for URLs.
-fn add_urls<'p>(
+fn add_urls<'a, 'p>(
     alloc: Global,
-    search: &Search<'_, 'p>,
-    rule: &Rule,
+    search: &'a Search<'a, 'p>,
+    rule: &'a Rule,
     verb: &Word,
     findings: &mut Findings<'p>,
 ) -> Result<(), AllocError>
