@@ -56,6 +56,13 @@ IsOnTarget s r verb p = (p.verb ≡ verb) × Permits (option_copied s.namespace)
 abbrev pub IsByRule : Search → Rule → PermissionView → Type 0
 IsByRule s r p = Contains r.verbs p.verb × Permits (option_copied s.namespace) r p.target
 
+-- a grant of the binding at that place, which is in that namespace or in none, has the verb and
+-- permits the target
+abbrev pub IsByGrants : PolicyView → ℕ → Option Text → PermissionView → Type 0
+IsByGrants policy place own p = (no : ℕ) × (g : GrantView) × (slice_get policy.grants no ≡ Some g)
+    × IsOfBinding policy no place × Contains g.rule.rule.verbs p.verb
+    × Permits own g.rule.rule p.target
+
 -- a permission by a grant of the binding at that place, which before doesn't allow
 pub record IsGainedAt (before after : PolicyView) (at : ℕ) (p : PermissionView) : Type 0 where
   pub grant : (no : ℕ) × (g : GrantView) × (slice_get after.grants no ≡ Some g)

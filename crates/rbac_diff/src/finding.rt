@@ -1,9 +1,10 @@
 //! The permissions that one policy has and another one doesn't allow.
 
 ghost use Rattle.std.specs.Prelude.{◌≡◌, ◌<◌, OnOk, Some, Contains, Any, length, slice_get};
+ghost use Rattle.std.specs.Option.{option_copied};
 ghost use Rattle.rbac_model.specs.Policies.{IsPolicy};
-ghost use Rattle.rbac_diff.specs.Finding.{Finds, FindsGained, IsByRule, IsGainedAt, IsOnResource};
-ghost use Rattle.rbac_diff.specs.Finding.{IsOnTarget, IsOnUrl, SearchFinds};
+ghost use Rattle.rbac_diff.specs.Finding.{Finds, FindsGained, IsByGrants, IsByRule, IsGainedAt};
+ghost use Rattle.rbac_diff.specs.Finding.{IsOnResource, IsOnTarget, IsOnUrl, SearchFinds};
 ghost use Rattle.rbac_diff.specs.Shown.{permitted_of};
 
 use crate::change::{ChangeKind, Findings, Found};
@@ -64,7 +65,6 @@ fn add_of_binding<'p>(
     if namespace.is_some_and(|namespace| namespace.is_empty()) {
         return Ok(());
     }
-    let (from, end) = after.grants_of(place);
     for subject in binding.subjects.as_slice() {
         if let Some(principal) = principal_of(alloc, namespace, subject)? {
             let others = asked.rules_of(alloc, &principal, namespace)?;
@@ -74,9 +74,7 @@ fn add_of_binding<'p>(
                 principal: &principal,
                 others: others.as_slice(),
             };
-            for no in from..end {
-                add_of_rule(alloc, &search, after.grant(no).rule, findings)?;
-            }
+            add_of_grants(alloc, &search, after, place, findings)?;
         }
     }
     Ok(())
@@ -91,6 +89,25 @@ struct Search<'a, 'p> {
     namespace: Option<&'a Word>,
     principal: &'a Principal,
     others: &'a [&'a Rule],
+}
+
+// Adds the permissions by the grants of the binding at this place.
+fn add_of_grants<'a, 'p>(
+    alloc: Global,
+    search: &'a Search<'a, 'p>,
+    after: &'a Policy,
+    place: usize,
+    findings: &mut Findings<'p>,
+) -> Result<(), AllocError>
+    ensures { OnOk result
+        (SearchFinds search.now (IsByGrants after.now place (option_copied search.now.namespace))
+        findings.old findings.new) }
+{
+    let (from, end) = after.grants_of(place);
+    for no in from..end {
+        add_of_rule(alloc, search, after.grant(no).rule, findings)?;
+    }
+    Ok(())
 }
 
 // Adds the permissions by one rule.
