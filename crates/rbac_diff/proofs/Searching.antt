@@ -131,3 +131,6 @@ search_more s P Q R a b c either f g =
       λ h. elim ((either p).0 h.1) [ inl k ↦ inl (h.0, k, h.2) | inr k ↦ inr (h.0, k, h.2) ],
       λ h. elim h [ inl k ↦ (k.0, (either p).1 (inl k.1), k.2) | inr k ↦ (k.0, (either p).1 (inr k.1), k.2) ],
     )) f g
+
+pub search_none : (s : Search) (P : PermissionView → Type 0) (m : Findings) → ((p : PermissionView) → P p → ⊥) → SearchFinds s P m m
+search_none s P m none = finds_none (λ p. (p.principal ≡ s.principal.now) × P p × IsMissing s.others.now p) s.found m (λ p h. none p h.1)
