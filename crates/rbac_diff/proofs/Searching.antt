@@ -21,7 +21,7 @@ use Rattle.rbac_diff.specs.declared.change.Found.{Found}
 
 -- what is there stays there
 module _ {X : Type 0} where
-  still_some : (o now : Option X) → ((y : X) → o ≡ Some y → now ≡ Some y) → IsSome o → IsSome now
+  pub still_some : (o now : Option X) → ((y : X) → o ≡ Some y → now ≡ Some y) → IsSome o → IsSome now
   still_some None now kept is = absurd (let both : false ≡ true = is in cc)
   still_some (Some y) now kept is = subst (λ (x : Option X). IsSome x) (sym (kept y refl)) is
 
@@ -29,7 +29,11 @@ module _ {X : Type 0} where
   none_from None r e h = refl
   none_from (Some y) r e h = absurd (let both : false ≡ true = sym h ∙ e in cc)
 
-  none_before : (o now : Option X) → ((y : X) → o ≡ Some y → now ≡ Some y) → now ≡ None → o ≡ None
+  pub none_some : (o : Option X) → o ≡ None → IsSome o → ⊥
+  none_some None e is = let both : false ≡ true = is in cc
+  none_some (Some y) e is = let both : Some y ≡ None = e in cc
+
+  pub none_before : (o now : Option X) → ((y : X) → o ≡ Some y → now ≡ Some y) → now ≡ None → o ≡ None
   none_before None now kept is = refl
   none_before (Some y) now kept is = absurd (let both : Some y ≡ None = sym (kept y refl) ∙ is in cc)
 

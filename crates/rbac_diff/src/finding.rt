@@ -33,12 +33,13 @@ pub(crate) fn add_gained<'p>(
     ensures before { IsPolicy before.now }
     ensures after { IsPolicy after.now }
 {
-    let asked = Asked::of(alloc, Index::build(alloc, before)?)?;
     let after: &'p Policy = after;
     let bindings: &'p [Binding] = after.bindings();
+    let others = before.bindings();
+    let asked = Asked::of(alloc, Index::build(alloc, before)?)?;
     let mut at = 0;
     for (place, binding) in bindings.iter().enumerate() {
-        at = place_from(before.bindings(), at, binding);
+        at = place_from(others, at, binding);
         if !is_unchanged(after, place, before, at) {
             let found = Found { kind, binding };
             add_of_binding(alloc, &asked, after, place, found, findings)?;
