@@ -1,15 +1,17 @@
--- whether a grant has a permission is decided, so there is a first one that has it
-use Rattle.std.proofs.Common.{◌≡◌, List, [], ◌∷◌, Contains, inl, inr, ap, ap₂, refl}
+-- whether a grant has a permission is decided, so there is a first binding that has it
+use Rattle.std.proofs.Common.{◌≡◌, ◌∙◌, ℕ, List, [], ◌∷◌, Contains, Any, inl, inr, ap, ap₂, refl, slice_get}
 use Rattle.std.specs.Prelude.{Option, Some, None}
-use Rattle.std.proofs.lemmas.Option.{same_Some}
+use Rattle.std.proofs.lemmas.Option.{same_Some, slice_get_within, get_or_from_slice_get, slice_get-get_or}
 use Rattle.rbac_terms.specs.Text.{Text}
 use Rattle.rbac_terms.specs.Principals.{Who, AsUser, AsMember, name_of, given_of}
 use Rattle.rbac_terms.specs.declared.granting.Binding.{Binding}
 use Rattle.rbac_terms.specs.declared.matching.Rule.{Rule}
-use Rattle.rbac_model.specs.Policies.{PolicyView, GrantView}
+use Rattle.rbac_model.specs.Policies.{PolicyView, IsPolicy, GrantView, binding_name}
 use Rattle.rbac_model.proofs.Decided.{Decided, both, all_three, any, first_of, same_text, is_nil, is_among}
+use Rattle.rbac_model.proofs.GrantNumbers.{binding_of}
+use Rattle.rbac_model.proofs.OneList.{one_of_name}
 use Rattle.rbac_model.proofs.OwnWords.{any_from}
-use Rattle.rbac_diff.specs.Permissions.{Permitted, OnResource, OnUrl, PermissionView, HasPermission, IsNameOf, Permits, IsFirstWith, one_star, principal_of}
+use Rattle.rbac_diff.specs.Permissions.{Permitted, OnResource, OnUrl, PermissionView, HasPermission, IsNameOf, Permits, HasBy, IsFirstWith, one_star, principal_of}
 
 same_texts : (xs ys : List Text) → Decided (xs ≡ ys)
 same_texts [] [] = inl refl
@@ -62,8 +64,43 @@ has p g =
       | inr n ↦ inr (λ h. n (h.principal, h.verb, h.target))
     ]
 
-pub first_with : (policy : PolicyView) (p : PermissionView) (g : GrantView) → Contains policy.grants g → HasPermission p g → (b : Binding) × IsFirstWith policy p b
-first_with policy p g c h = elim (first_of (HasPermission p) (has p) policy.grants) [
-  | inl f ↦ (f.1.binding, (f.0, f.1, f.2, refl))
-  | inr none ↦ absurd (none (any_from (HasPermission p) policy.grants g c h))
-]
+-- bindings are told apart by their names
+module _ (policy : PolicyView) (is : IsPolicy policy) (p : PermissionView) where
+  abbrev HasByName : Binding → Type 0
+  HasByName b = Any (λ g. (binding_name g.binding ≡ binding_name b) × HasPermission p g) policy.grants
+
+  has_by_name : (b : Binding) → Decided (HasByName b)
+  has_by_name b =
+      any (λ g. (binding_name g.binding ≡ binding_name b) × HasPermission p g) (λ g. both (same_texts (binding_name g.binding) (binding_name b)) (has p g)) policy.grants
+
+  among : (k : ℕ) (b : Binding) → slice_get policy.held.bindings k ≡ Some b → Contains policy.held.bindings b
+  among k b at = (k, slice_get_within policy.held.bindings k b at, get_or_from_slice_get policy.held.bindings k b b at)
+
+  held_binding : (g : GrantView) → Contains policy.grants g → Contains policy.held.bindings g.binding
+  held_binding g c =
+      let of = binding_of policy.held policy.held.bindings policy.grants c.0 g is.1 (slice_get-get_or policy.grants c.0 g c.1 ∙ ap (λ (v : GrantView). Some v) c.2) in
+      among of.0 g.binding of.1
+
+  by_name : (b : Binding) → Contains policy.held.bindings b → HasByName b → HasBy policy p b
+  by_name b c h =
+      let same = one_of_name binding_name policy.held.bindings h.1.binding b is.0.bindings (held_binding h.1 (h.0, h.2, h.3)) c h.4.0 in
+      (h.0, h.1, h.2, h.3, (same, h.4.1))
+
+  named : (b : Binding) → HasBy policy p b → HasByName b
+  named b h = (h.0, h.1, h.2, h.3, (ap binding_name h.4.0, h.4.1))
+
+  pub first_with : (g : GrantView) → Contains policy.grants g → HasPermission p g → (b : Binding) × IsFirstWith policy p b
+  first_with g c h = elim (first_of HasByName has_by_name policy.held.bindings) [
+    | inl f ↦ (
+      f.1,
+      (
+        f.0,
+        record {
+          here = f.2.here;
+          holds = by_name f.1 (among f.0 f.1 f.2.here) f.2.holds;
+          none_before = λ k y lt at own. f.2.none_before k y lt at (named y own);
+        },
+      ),
+    )
+    | inr none ↦ absurd (none (any_from HasByName policy.held.bindings g.binding (held_binding g c) (c.0, g, c.1, c.2, (refl, h))))
+  ]

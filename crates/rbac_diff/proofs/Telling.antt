@@ -17,7 +17,7 @@ pub tells_each : (before after : PolicyView) (xs : List ChangeView) (r : Request
 tells_each before after xs r is_before is_after are gained =
     let of = permission_of_request after is_after r gained.request gained.allowed in
     let p : PermissionView = of.0 in
-    let first = first_with after p of.1 of.2 of.3 in
+    let first = first_with after is_after p of.1 of.2 of.3 in
     let x : ChangeView = record { kind = Gained; permission = permission_text p; binding = first.0 } in
     let among : Contains xs x = (are.exact x).1 (p, refl, ((r, of.4, gained), first.1)) in
     (among.0, x, among.1, among.2, (refl, (p, refl, of.4, λ other request stands. permission_allows after is_after p of.1 of.2 of.3 other request stands)))

@@ -2,6 +2,7 @@
 use Rattle.std.specs.Prelude.{◌≡◌, ℕ, ◌<◌, ◌⊎◌, List, Option, Some, None, Any, IsSome, Contains}
 use Rattle.std.specs.Prelude.{slice_get}
 use Rattle.std.specs.BTreeMap.{BTreeMap, get}
+use Rattle.std.specs.Option.{option_copied}
 use Rattle.std.proofs.Common.{Bor}
 use Rattle.rbac_terms.specs.Text.{Text, text_cmp}
 use Rattle.rbac_terms.specs.declared.matching.Rule.{Rule}
@@ -41,7 +42,7 @@ SearchFinds s P = Finds
 abbrev pub IsOnResource : Search → Rule → Text → Text → Text → PermissionView → Type 0
 IsOnResource s r verb group resource p = (p.verb ≡ verb)
     × ((name : Option Text) × IsNameOf r.resource_names name
-    × (p.target ≡ OnResource s.found.binding.now.namespace group resource name))
+    × (p.target ≡ OnResource (option_copied s.namespace) group resource name))
 
 -- a verb on one of the rule's URLs
 abbrev pub IsOnUrl : Text → Text → PermissionView → Type 0
@@ -49,11 +50,18 @@ IsOnUrl verb w p = (p.verb ≡ verb) × (p.target ≡ OnUrl (one_star w))
 
 -- a verb on what a rule permits
 abbrev pub IsOnTarget : Search → Rule → Text → PermissionView → Type 0
-IsOnTarget s r verb p = (p.verb ≡ verb) × Permits s.found.binding.now.namespace r p.target
+IsOnTarget s r verb p = (p.verb ≡ verb) × Permits (option_copied s.namespace) r p.target
 
 -- the permissions of the rule
 abbrev pub IsByRule : Search → Rule → PermissionView → Type 0
-IsByRule s r p = Contains r.verbs p.verb × Permits s.found.binding.now.namespace r p.target
+IsByRule s r p = Contains r.verbs p.verb × Permits (option_copied s.namespace) r p.target
+
+-- a grant of the binding at that place, which is in that namespace or in none, has the verb and
+-- permits the target
+abbrev pub IsByGrants : PolicyView → ℕ → Option Text → PermissionView → Type 0
+IsByGrants policy place own p = (no : ℕ) × (g : GrantView) × (slice_get policy.grants no ≡ Some g)
+    × IsOfBinding policy no place × Contains g.rule.rule.verbs p.verb
+    × Permits own g.rule.rule p.target
 
 -- a permission by a grant of the binding at that place, which before doesn't allow
 pub record IsGainedAt (before after : PolicyView) (at : ℕ) (p : PermissionView) : Type 0 where

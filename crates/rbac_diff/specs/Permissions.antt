@@ -72,7 +72,10 @@ pub record HasPermission (p : PermissionView) (g : GrantView) : Type 0 where
   pub verb : Contains g.rule.rule.verbs p.verb
   pub target : Permits g.binding.namespace g.rule.rule p.target
 
--- b is the binding of the first grant that has the permission
+-- a binding has a permission by one of its grants
+abbrev pub HasBy : PolicyView → PermissionView → Binding → Type 0
+HasBy policy p b = Any (λ g. (g.binding ≡ b) × HasPermission p g) policy.grants
+
+-- b is the first binding that has the permission
 abbrev pub IsFirstWith : PolicyView → PermissionView → Binding → Type 0
-IsFirstWith policy p b = (no : ℕ) × (g : GrantView) × IsFirstAt (HasPermission p) policy.grants no g
-    × (b ≡ g.binding)
+IsFirstWith policy p b = (at : ℕ) × IsFirstAt (HasBy policy p) policy.held.bindings at b

@@ -1,6 +1,8 @@
 //! What a change of policies lets people do, and what it takes from them.
 
 ghost use Rattle.std.specs.Prelude.{◌≡◌, IfOk, map};
+ghost use Rattle.std.specs.BTreeMap.{IsOrdered};
+ghost use Rattle.rbac_terms.specs.Text.{text_cmp};
 ghost use Rattle.rbac_model.specs.Policies.{IsPolicy};
 ghost use Rattle.rbac_diff.specs.Changes.{AreChanges};
 ghost use Rattle.rbac_diff.specs.Listed.{change_of, entry_change};
@@ -64,8 +66,9 @@ pub fn changes<'p>(
 
 // The changes that were found, in order.
 fn listed<'p>(alloc: Global, findings: Findings<'p>) -> Result<Vec<Change<'p>>, DiffFault>
-    ensures { IfOk result
-        (λ xs. map change_of xs.items ≡ map entry_change findings.entries) }
+    ensures entries { IfOk result
+        (λ xs. map change_of xs.items ≡ map entry_change findings.entry.entries) }
+    ensures ordered { IsOrdered text_cmp findings.entry }
 {
     let mut changes = Vec::new(alloc);
     for (permission, found) in findings {

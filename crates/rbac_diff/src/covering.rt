@@ -40,7 +40,7 @@ fn is_empty_namespace(namespace: Option<&Word>) -> bool
 
 // Whether one of the rules allows the verb word on what is permitted.
 pub(crate) fn is_covered(rules: &[&Rule], verb: &Word, target: Permitted<'_>) -> bool
-    requires { IsAskedFor (permitted_of target.entry) }
+    requires { IsAskedFor (permitted_of target) }
     ensures { IsTrue result
         ↔ Any (λ r. CoversWords verb.now (permitted_of target.entry) r.now) rules.now }
 {
@@ -48,14 +48,14 @@ pub(crate) fn is_covered(rules: &[&Rule], verb: &Word, target: Permitted<'_>) ->
 }
 
 fn covers(rule: &Rule, verb: &Word, target: Permitted<'_>) -> bool
-    requires { IsAskedFor (permitted_of target.entry) }
+    requires { IsAskedFor (permitted_of target) }
     ensures { IsTrue result ↔ CoversWords verb.now (permitted_of target.entry) rule.now }
 {
     verb_matches(rule, verb) && covers_target(rule, target)
 }
 
 fn covers_target(rule: &Rule, target: Permitted<'_>) -> bool
-    requires { IsAskedFor (permitted_of target.entry) }
+    requires { IsAskedFor (permitted_of target) }
     ensures { IsTrue result ↔ CoversTarget rule.now (permitted_of target.entry) }
 {
     match target {

@@ -1,9 +1,10 @@
 //! The permissions that one policy has and another one doesn't allow.
 
-ghost use Rattle.std.specs.Prelude.{◌≡◌, ◌<◌, ◌×◌, OnOk, Some, Contains, Any, length, slice_get};
+ghost use Rattle.std.specs.Prelude.{◌≡◌, ◌<◌, OnOk, Some, Contains, Any, length, slice_get};
+ghost use Rattle.std.specs.Option.{option_copied};
 ghost use Rattle.rbac_model.specs.Policies.{IsPolicy};
-ghost use Rattle.rbac_diff.specs.Finding.{Finds, FindsGained, IsByRule, IsGainedAt, IsOnResource};
-ghost use Rattle.rbac_diff.specs.Finding.{IsOnTarget, IsOnUrl, SearchFinds};
+ghost use Rattle.rbac_diff.specs.Finding.{Finds, FindsGained, IsByGrants, IsByRule, IsGainedAt};
+ghost use Rattle.rbac_diff.specs.Finding.{IsOnResource, IsOnTarget, IsOnUrl, SearchFinds};
 ghost use Rattle.rbac_diff.specs.Shown.{permitted_of};
 
 use crate::change::{ChangeKind, Findings, Found};
@@ -64,18 +65,16 @@ fn add_of_binding<'p>(
     if namespace.is_some_and(|namespace| namespace.is_empty()) {
         return Ok(());
     }
-    let (from, end) = after.grants_of(place);
     for subject in binding.subjects.as_slice() {
         if let Some(principal) = principal_of(alloc, namespace, subject)? {
             let others = asked.rules_of(alloc, &principal, namespace)?;
             let search = Search {
                 found,
+                namespace,
                 principal: &principal,
                 others: others.as_slice(),
             };
-            for no in from..end {
-                add_of_rule(alloc, &search, after.grant(no).rule, findings)?;
-            }
+            add_of_grants(alloc, &search, after, place, findings)?;
         }
     }
     Ok(())
@@ -83,17 +82,39 @@ fn add_of_binding<'p>(
 
 // A search for the permissions that a principal has by a binding, and that these rules of the other
 // policy don't allow.
+#[derive(Clone, Copy)]
 struct Search<'a, 'p> {
     found: Found<'p>,
+    // The binding's namespace.
+    namespace: Option<&'a Word>,
     principal: &'a Principal,
     others: &'a [&'a Rule],
 }
 
-// Adds the permissions by one rule.
-fn add_of_rule<'p>(
+// Adds the permissions by the grants of the binding at this place.
+fn add_of_grants<'a, 'p>(
     alloc: Global,
-    search: &Search<'_, 'p>,
-    rule: &Rule,
+    search: &'a Search<'a, 'p>,
+    after: &'a Policy,
+    place: usize,
+    findings: &mut Findings<'p>,
+) -> Result<(), AllocError>
+    ensures { OnOk result
+        (SearchFinds search.now (IsByGrants after.now place (option_copied search.now.namespace))
+        findings.old findings.new) }
+{
+    let (from, end) = after.grants_of(place);
+    for no in from..end {
+        add_of_rule(alloc, search, after.grant(no).rule, findings)?;
+    }
+    Ok(())
+}
+
+// Adds the permissions by one rule.
+fn add_of_rule<'a, 'p>(
+    alloc: Global,
+    search: &'a Search<'a, 'p>,
+    rule: &'a Rule,
     findings: &mut Findings<'p>,
 ) -> Result<(), AllocError>
     ensures { OnOk result
@@ -106,10 +127,10 @@ fn add_of_rule<'p>(
 }
 
 // Adds the permissions of one verb word: for resources, and through a ClusterRoleBinding for URLs.
-fn add_of_verb<'p>(
+fn add_of_verb<'a, 'p>(
     alloc: Global,
-    search: &Search<'_, 'p>,
-    rule: &Rule,
+    search: &'a Search<'a, 'p>,
+    rule: &'a Rule,
     verb: &Word,
     findings: &mut Findings<'p>,
 ) -> Result<(), AllocError>
@@ -120,19 +141,19 @@ fn add_of_verb<'p>(
     for group in rule.groups.as_slice() {
         add_of_group(alloc, search, rule, verb, group, findings)?;
     }
-    if search.found.binding.namespace.is_none() {
+    if search.namespace.is_none() {
         add_urls(alloc, search, rule, verb, findings)?;
     }
     Ok(())
 }
 
 // Adds the permissions of one verb word for resources of one API group word.
-fn add_of_group<'p>(
+fn add_of_group<'a, 'p>(
     alloc: Global,
-    search: &Search<'_, 'p>,
-    rule: &Rule,
+    search: &'a Search<'a, 'p>,
+    rule: &'a Rule,
     verb: &Word,
-    group: &Word,
+    group: &'a Word,
     findings: &mut Findings<'p>,
 ) -> Result<(), AllocError>
     ensures { OnOk result
@@ -148,13 +169,13 @@ fn add_of_group<'p>(
 
 // Adds the permissions of one verb word for one resource word: for each name of the rule, or for
 // any.
-fn add_of_resource<'p>(
+fn add_of_resource<'a, 'p>(
     alloc: Global,
-    search: &Search<'_, 'p>,
-    rule: &Rule,
+    search: &'a Search<'a, 'p>,
+    rule: &'a Rule,
     verb: &Word,
-    group: &Word,
-    resource: &Word,
+    group: &'a Word,
+    resource: &'a Word,
     findings: &mut Findings<'p>,
 ) -> Result<(), AllocError>
     ensures { OnOk result
@@ -162,7 +183,7 @@ fn add_of_resource<'p>(
         (IsOnResource search.now rule.now verb.now group.now resource.now) findings.old
         findings.new) }
 {
-    let namespace = search.found.binding.namespace.as_ref();
+    let namespace: Option<&'a Word> = search.namespace;
     if rule.resource_names.is_empty() {
         let target = Permitted::Resource {
             namespace,
@@ -185,10 +206,10 @@ fn add_of_resource<'p>(
 }
 
 // Adds the permissions of one verb word for URLs.
-fn add_urls<'p>(
+fn add_urls<'a, 'p>(
     alloc: Global,
-    search: &Search<'_, 'p>,
-    rule: &Rule,
+    search: &'a Search<'a, 'p>,
+    rule: &'a Rule,
     verb: &Word,
     findings: &mut Findings<'p>,
 ) -> Result<(), AllocError>

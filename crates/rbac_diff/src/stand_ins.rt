@@ -75,7 +75,7 @@ impl<'p> Model for Asked<'p> {
 
 impl<'p> Asked<'p> {
     pub(crate) fn of(alloc: Global, index: Index<'p>) -> Result<Self, DiffFault>
-        ensures { IfOk result (λ a. a ≡ index) }
+        ensures { IfOk result (λ a. a ≡ index.entry) }
     {
         let signed_in = Word::from_slice(alloc, b"system:authenticated")?;
         let anonymous = Word::from_slice(alloc, b"system:anonymous")?;
