@@ -1,1 +1,2 @@
+pub mod Stars
 pub mod Texts
