@@ -10,6 +10,8 @@ pub mod Listing
 pub mod OneChanges
 pub mod OneStar
 pub mod Searching
+pub mod Stars
 pub mod Strangers
 pub mod Telling
+pub mod Texts
 pub mod Whom
