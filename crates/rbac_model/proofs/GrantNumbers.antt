@@ -10,7 +10,7 @@ use Rattle.rbac_terms.specs.Principals.{Who}
 use Rattle.rbac_terms.specs.Matching.{RuleAllows}
 use Rattle.rbac_terms.specs.declared.granting.Binding.{Binding}
 use Rattle.rbac_terms.proofs.Reading.{read_left, read_right}
-use Rattle.rbac_model.specs.Policies.{Held, IsHeld, SourcedRule, GrantView, AreRulesFor, AreGrantsOf, Allows, IsFirst, Grants, GrantAllows}
+use Rattle.rbac_model.specs.Policies.{Held, IsHeld, PolicyView, IsPolicy, SourcedRule, GrantView, AreRulesFor, AreGrantsOf, Allows, IsFirst, Grants, GrantAllows}
 use Rattle.rbac_model.specs.Lists.{IsFirstAt}
 use Rattle.rbac_model.specs.Places.{granted_by}
 use Rattle.rbac_model.proofs.OneList.{one_rules_for}
@@ -22,10 +22,11 @@ parts_of : (b : Binding) (o : Option SourcedRule) (g : GrantView) → option_map
 parts_of b None g e = cc
 parts_of b (Some r) g e = let same = same_Some (grant_by b r) g e in (ap (λ (v : GrantView). v.binding) same, ap (λ (v : GrantView). Some v.rule) same)
 
-any_at : {X : Type 0} (P : X → Type 0) (xs : List X) (k : ℕ) (x : X) → slice_get xs k ≡ Some x → P x → Any P xs
+pub any_at : {X : Type 0} (P : X → Type 0) (xs : List X) (k : ℕ) (x : X) → slice_get xs k ≡ Some x → P x → Any P xs
 any_at P xs k x e p = (k, x, slice_get_within xs k x e, get_or_from_slice_get xs k x x e, p)
 
-none_earlier : {X : Type 0} {P : X → Type 0} (c : X) (bs : List X) (i : ℕ) → ¬ P c → ((k : ℕ) (y : X) → k < i → slice_get bs k ≡ Some y → ¬ P y) → (k : ℕ) (y : X) → k < suc i → slice_get (c ∷ bs) k ≡ Some y → ¬ P y
+-- what is first among some is first behind one that hasn't the property
+pub none_earlier : {X : Type 0} {P : X → Type 0} (c : X) (bs : List X) (i : ℕ) → ¬ P c → ((k : ℕ) (y : X) → k < i → slice_get bs k ≡ Some y → ¬ P y) → (k : ℕ) (y : X) → k < suc i → slice_get (c ∷ bs) k ≡ Some y → ¬ P y
 none_earlier {X} {P} c bs i none before zero y lt read p = none (subst P (sym (same_Some c y read)) p)
 none_earlier c bs i none before (suc k) y lt read p = before k y (omega (arith, lt)) read p
 
@@ -135,3 +136,12 @@ module _ (h : Held) (gs : List GrantView) (who : Who) (namespace verb : Text) (t
 
   pub first_grant : (n : ℕ) (g : GrantView) → IsFirstAt (GrantAllows who namespace verb t) gs n g → IsFirst h who namespace verb t g.binding
   first_grant n g f = first_in h held who namespace verb t h.bindings gs n g all f
+
+-- what a grant allows is allowed
+pub grant_allows : (p : PolicyView) → IsPolicy p → (who : Who) (namespace verb : Text) (t : What) → Any (GrantAllows who namespace verb t) p.grants → Allows p.held who namespace verb t
+grant_allows p is who namespace verb t a =
+    let g = a.1 in
+    let of = binding_of p.held p.held.bindings p.grants a.0 g is.1 (slice_get-get_or p.grants a.0 g a.2 ∙ ap (λ (v : GrantView). Some v) a.3) in
+    let rules = of.2.0 in
+    any_at (λ b. Grants p.held b who namespace verb t) p.held.bindings of.0 g.binding of.1
+    (a.4.0, a.4.1, (rules, of.2.1, any_at (λ (r : SourcedRule). RuleAllows r.rule verb t) rules of.2.2.0 g.rule of.2.2.1 a.4.2))

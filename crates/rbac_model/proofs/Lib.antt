@@ -3,6 +3,7 @@ pub mod BindingPlaces
 pub mod Brought
 pub mod ByKind
 pub mod Closing
+pub mod Decided
 pub mod Gathered
 pub mod GrantNumbers
 pub mod Granted
@@ -25,3 +26,4 @@ pub mod OwnWords
 pub mod Searched
 pub mod Stairs
 pub mod UpTo
+pub mod UrlSamples

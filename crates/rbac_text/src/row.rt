@@ -71,7 +71,9 @@ fn put_texts(line: &mut Vec<u8>, texts: &[&Word]) -> Result<(), AllocError>
     Ok(())
 }
 
-pub(crate) fn put_field_and_tab(line: &mut Vec<u8>, field: &[u8]) -> Result<(), AllocError>
+/// Adds a field, as `put_field` does, and the tab after it (own). If it runs out of memory, a
+/// prefix of them may have been added.
+pub fn put_field_and_tab(line: &mut Vec<u8>, field: &[u8]) -> Result<(), AllocError>
     ensures { OnOk result (line.new.items ≡ line.old.items ++ field_and_tab field.now) }
 {
     put_field(line, field)?;

@@ -1,17 +1,18 @@
 -- Texts read from their fields, one by one.
-use Rattle.std.proofs.Common.{◌≡◌, ◌≢◌, ℕ, ◌+◌, ◌/◌, ◌%◌, ◌<◌, [], ◌∷◌, ◌++◌, sym, ap, ◌∙◌, refl, subst, arith, inl, inr, Bool, true, false, nat_lt, Bor, List, length, map, take, get_or, All, codes}
-use Rattle.std.specs.Prelude.{◌==◌, Option, Some, None, slice_get, if◌then◌else◌}
+use Rattle.std.proofs.Common.{◌≡◌, ◌≢◌, ℕ, ◌+◌, ◌<◌, [], ◌∷◌, ◌++◌, sym, ap, ◌∙◌, refl, subst, arith, false, Bor, List, length, map, take, get_or, All, codes}
+use Rattle.std.specs.Prelude.{◌==◌, Option, Some, None, slice_get}
 use Rattle.std.specs.List.{flat_map, slice_split}
-use Rattle.std.proofs.lemmas.Bool.{cases_eq, ne_eqb}
+use Rattle.std.proofs.lemmas.Bool.{ne_eqb}
 use Rattle.std.proofs.lemmas.Grind.{flat_map-append}
 use Rattle.std.proofs.lemmas.Option.{slice_get_within, get_or_from_slice_get}
 use Rattle.std.proofs.lemmas.List.{append-nil, append_assoc, get_or-map, length-map, take_more}
-use Rattle.std.proofs.lemmas.List.Elements.{All-nil, All-cons, All-append}
+use Rattle.std.proofs.lemmas.List.Elements.{All-weaker}
 use Rattle.std.proofs.lemmas.List.Splits.{slice_split_none, slice_split_at}
 use Rattle.rbac_terms.specs.Text.{Text}
 use Rattle.rbac_terms.specs.Keys.{KeyTexts, texts}
-use Rattle.rbac_text.specs.Field.{byte_text, code_text, field_text, hex_digit, is_control}
+use Rattle.rbac_text.specs.Field.{field_text, is_control}
 use Rattle.rbac_text.specs.Row.{tab}
+use Rattle.rbac_text.proofs.Unlike.{field_text-plain}
 use Rattle.rbac_token.specs.Marks.{name_texts, printed_mark, version_of}
 use Rattle.rbac_token.specs.Token.{after_tab}
 use Rattle.rbac_token.specs.declared.mark.BindingName.{BindingName}
@@ -39,48 +40,14 @@ fields_more base printed put ts i t before puts e =
 
 -- ---- what stands between the tabs
 
-hex_is_no_tab : (c : Bool) (d : ℕ) → (if c then 48 + d else 87 + d) ≢ tab
-hex_is_no_tab true d e = absurd (omega (arith, e))
-hex_is_no_tab false d e = absurd (omega (arith, e))
-
 abbrev NoTab : ℕ → Type 0
 NoTab b = (b == tab) ≡ false
-
-code_has_no_tab : (b : ℕ) → All NoTab (code_text b)
-code_has_no_tab b =
-    let high = hex_digit (b / 16) in
-    let low = hex_digit (b % 16) in
-    let high_is_none = ne_eqb high tab (hex_is_no_tab (nat_lt (b / 16) 10) (b / 16)) in
-    let low_is_none = ne_eqb low tab (hex_is_no_tab (nat_lt (b % 16) 10) (b % 16)) in
-    All-cons NoTab 92 (120 ∷ high ∷ low ∷ []) refl
-    (All-cons NoTab 120 (high ∷ low ∷ []) refl
-    (All-cons NoTab high (low ∷ []) high_is_none (All-cons NoTab low [] low_is_none (All-nil NoTab))))
-
-control_has_no_tab : (b : ℕ) (c : Bool) → (c ≡ false → b ≢ tab) → All NoTab (if c then code_text b else b ∷ [])
-control_has_no_tab b true other = code_has_no_tab b
-control_has_no_tab b false other = All-cons NoTab b [] (ne_eqb b tab (other refl)) (All-nil NoTab)
 
 stands_no_tab : (b : ℕ) → is_control b ≡ false → b ≢ tab
 stands_no_tab b plain e = let bad : is_control tab ≡ false = subst (λ x. is_control x ≡ false) e plain in cc
 
-byte_has_no_tab : (b : ℕ) → All NoTab (byte_text b)
-byte_has_no_tab b = elim (cases_eq b 92) [
-  | inl e ↦ rw e (All-cons NoTab 92 (92 ∷ []) refl (All-cons NoTab 92 [] refl (All-nil NoTab)))
-  | inr ne ↦ rw (ne_eqb b 92 ne) (control_has_no_tab b (is_control b) (stands_no_tab b))
-]
-
-bytes_have_no_tab : (t : Text) → All NoTab (flat_map byte_text t)
-bytes_have_no_tab [] = All-nil NoTab
-bytes_have_no_tab (b ∷ bs) = All-append NoTab (byte_text b) (flat_map byte_text bs) (byte_has_no_tab b) (bytes_have_no_tab bs)
-
-one_has_no_tab : (b : ℕ) (dash : Bool) → All NoTab (if dash then code_text b else byte_text b)
-one_has_no_tab b true = code_has_no_tab b
-one_has_no_tab b false = byte_has_no_tab b
-
 field_has_no_tab : (t : Text) → All NoTab (field_text t)
-field_has_no_tab [] = All-cons NoTab 45 [] refl (All-nil NoTab)
-field_has_no_tab (b ∷ []) = one_has_no_tab b (b == 45)
-field_has_no_tab (b ∷ c ∷ bs) = bytes_have_no_tab (b ∷ c ∷ bs)
+field_has_no_tab t = All-weaker (λ b. is_control b ≡ false) NoTab (λ b plain. ne_eqb b tab (stands_no_tab b plain)) (field_text t) (field_text-plain t)
 
 -- fields joined by tabs are found between the tabs
 fields_between : (t : Text) (ts : List Text)

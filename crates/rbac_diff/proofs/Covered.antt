@@ -1,0 +1,105 @@
+-- what covers a permission allows each request that it stands for
+use Rattle.std.proofs.Common.{◌≡◌, List, Contains, Any, inl, inr, sym, refl, subst, subst₂}
+use Rattle.std.specs.Prelude.{Option, Some, None}
+use Rattle.rbac_terms.specs.Text.{Text}
+use Rattle.rbac_terms.specs.Targets.{What, Resource, Url, IsProper}
+use Rattle.rbac_terms.specs.Matching.{WordMatches, ResourceWordMatches, UrlWordMatches, NameMatches, TargetOk}
+use Rattle.rbac_terms.specs.declared.matching.Rule.{Rule}
+use Rattle.rbac_terms.specs.declared.granting.Subject.{Subject}
+use Rattle.rbac_model.specs.OwnWords.{IsUrlSample}
+use Rattle.rbac_model.specs.Policies.{PolicyView, IsPolicy, GrantView, GrantAllows, Live}
+use Rattle.rbac_model.proofs.GrantNumbers.{grant_allows}
+use Rattle.rbac_model.proofs.OwnWords.{WordMatches-own, ResourceWordMatches-own, UrlWordMatches-own, WordMatches-through, ResourceWordMatches-through, ResourceText-word, any_from, any_weaker}
+use Rattle.rbac_model.proofs.UrlSamples.{Through, sample-through}
+use Rattle.rbac_diff.specs.Permissions.{Permitted, OnResource, OnUrl, PermissionView, HasPermission, IsNameOf, Permits, one_star, principal_of}
+use Rattle.rbac_diff.specs.Requests.{RequestView, IsRequest, AllowsRequest, StandsFor, IsPermitted, IsNamed, IsGained}
+use Rattle.rbac_diff.specs.Covering.{Covers, CoversTarget, CoversName, CoversWords, IsAsWide, IsAskedFor}
+use Rattle.rbac_diff.proofs.OneStar.{one_star-sample}
+use Rattle.rbac_diff.proofs.Whom.{names_all, named_by_own}
+
+-- ---- where, and by each word
+
+as_live : (own : Option Text) (t : Permitted) (namespace : Text) (what : What) → IsAsWide own t → IsPermitted t namespace what → Live own namespace what
+as_live own (OnResource asked group resource name) namespace (Resource g text n) (inl e) is = subst (λ (o : Option Text). Live o namespace (Resource g text n)) (sym e) tt
+as_live own (OnResource asked group resource name) namespace (Resource g text n) (inr e) is = subst (λ (o : Option Text). Live o namespace (Resource g text n)) (sym e) is.0
+as_live own (OnUrl url) namespace (Url path) e is = subst (λ (o : Option Text). Live o namespace (Url path)) (sym e) tt
+as_live own (OnResource asked group resource name) namespace (Url path) wide is = absurd is
+as_live own (OnUrl url) namespace (Resource g text n) wide is = absurd is
+
+name_through : (names : List Text) (name : Option Text) (n : Text) → CoversName names name → IsNamed name n → NameMatches names n
+name_through names None n e is = inl e
+name_through names (Some own) n h e = subst (NameMatches names) e h
+
+target_through : (r : Rule) (t : Permitted) (namespace : Text) (what : What) → IsProper what → CoversTarget r t → IsPermitted t namespace what → TargetOk r what
+target_through r (OnResource own group resource name) namespace (Resource g text n) proper h is = (
+  any_weaker (λ w. WordMatches w group) (λ w. WordMatches w g) r.groups (λ w m. WordMatches-through w group g m is.1) h.0,
+  any_weaker (λ w. ResourceWordMatches w resource) (λ w. ResourceWordMatches w text) r.resources (λ w m. ResourceWordMatches-through w resource text m is.2) h.1,
+  name_through r.resource_names name n h.2 is.3,
+)
+target_through r (OnUrl url) namespace (Url path) proper h is =
+    let t : Through url path = sample-through url path proper is in
+    any_weaker (λ w. UrlWordMatches w t.sample) (λ w. UrlWordMatches w path) r.urls t.through (h t.sample t.is)
+target_through r (OnResource own group resource name) namespace (Url path) proper h is = absurd is
+target_through r (OnUrl url) namespace (Resource g text n) proper h is = absurd is
+
+pub covered_allows : (before : PolicyView) → IsPolicy before → (p : PermissionView) (g : GrantView) → Contains before.grants g → Covers p g → (r : RequestView) → IsRequest r → StandsFor p r → AllowsRequest before r
+covered_allows before is p g c covers r request stands =
+    let allows : GrantAllows r.who r.namespace r.verb r.target g = (
+      as_live g.binding.namespace p.target r.namespace r.target covers.wide stands.target,
+      names_all g.binding p.principal r.who request.0 stands.principal covers.names,
+      (
+        any_weaker (λ w. WordMatches w p.verb) (λ w. WordMatches w r.verb) g.rule.rule.verbs (λ w m. WordMatches-through w p.verb r.verb m stands.verb) covers.words.0,
+        target_through g.rule.rule p.target r.namespace r.target request.1 covers.words.1 stands.target,
+      ),
+    ) in
+    grant_allows before is r.who r.namespace r.verb r.target (any_from (GrantAllows r.who r.namespace r.verb r.target) before.grants g c allows)
+
+-- ---- what is permitted is asked for
+
+asked_for : (t : Permitted) (namespace : Text) (what : What) → IsProper what → IsPermitted t namespace what → IsAskedFor t
+asked_for (OnResource own group resource name) namespace (Resource g text n) proper is = (
+  (λ e. let live = subst (λ (o : Option Text). Live o namespace (Resource g text n)) e is.0 in live.0 (sym live.1)),
+  ResourceText-word resource text proper is.2,
+)
+asked_for (OnUrl url) namespace (Url path) proper is = let t : Through url path = sample-through url path proper is in (t.sample, t.is, t.path)
+asked_for (OnResource own group resource name) namespace (Url path) proper is = absurd is
+asked_for (OnUrl url) namespace (Resource g text n) proper is = absurd is
+
+pub stands_is_asked : (p : PermissionView) (r : RequestView) → IsRequest r → StandsFor p r → IsAskedFor p.target
+stands_is_asked p r request stands = asked_for p.target r.namespace r.target request.1 stands.target
+
+pub gained_is_asked : (before after : PolicyView) → (p : PermissionView) (g : GrantView) → HasPermission p g → IsGained before after p → IsAskedFor p.target
+gained_is_asked before after p g has gained = stands_is_asked p gained.0 gained.2.request gained.1
+
+-- ---- a grant covers its own permissions
+
+name_of_rule : (names : List Text) (name : Option Text) → IsNameOf names name → CoversName names name
+name_of_rule names None e = e
+name_of_rule names (Some own) c = inr c
+
+target_of_rule : (own : Option Text) (r : Rule) (t : Permitted) → Permits own r t → CoversTarget r t
+target_of_rule own r (OnResource namespace group resource name) h = (
+  any_from (λ w. WordMatches w group) r.groups group h.1 (WordMatches-own group),
+  any_from (λ w. ResourceWordMatches w resource) r.resources resource h.2 (ResourceWordMatches-own resource),
+  name_of_rule r.resource_names name h.3,
+)
+target_of_rule own r (OnUrl url) h = λ x sample.
+    any_weaker (λ w. one_star w ≡ url) (λ w. UrlWordMatches w x) r.urls (λ w e. UrlWordMatches-own w x (one_star-sample w x (subst (λ (u : Text). IsUrlSample u x) (sym e) sample))) h.1
+
+wide_of_rule : (own : Option Text) (r : Rule) (t : Permitted) → Permits own r t → IsAsWide own t
+wide_of_rule own r (OnResource namespace group resource name) h = inr (sym h.0)
+wide_of_rule own r (OnUrl url) h = h.0
+
+pub same_covers : (p : PermissionView) (g h : GrantView) → HasPermission p g → IsAskedFor p.target → h.binding.namespace ≡ g.binding.namespace → h.binding.subjects ≡ g.binding.subjects → h.rule.rule ≡ g.rule.rule → Covers p h
+same_covers p g h has is here subjects rule =
+    let named : Any (λ s. principal_of h.binding.namespace s ≡ Some p.principal) h.binding.subjects =
+    subst₂ (λ (own : Option Text) (ss : List Subject). Any (λ s. principal_of own s ≡ Some p.principal) ss) (sym here) (sym subjects) has.principal in
+    record {
+      wide = subst (λ (own : Option Text). IsAsWide own p.target) (sym here) (wide_of_rule g.binding.namespace g.rule.rule p.target has.target);
+      names = named_by_own h.binding.namespace h.binding.subjects p.principal named;
+      words = subst (CoversWords p.verb p.target) (sym rule) (any_from (λ w. WordMatches w p.verb) g.rule.rule.verbs p.verb has.verb (WordMatches-own p.verb), target_of_rule g.binding.namespace g.rule.rule p.target has.target);
+    }
+
+pub permission_allows : (after : PolicyView) → IsPolicy after → (p : PermissionView) (g : GrantView) → Contains after.grants g → HasPermission p g → (r : RequestView) → IsRequest r → StandsFor p r → AllowsRequest after r
+permission_allows after is p g c has r request stands =
+    covered_allows after is p g c (same_covers p g g has (stands_is_asked p r request stands) refl refl refl) r request stands

@@ -1,0 +1,67 @@
+-- what is gained, binding by binding
+use Rattle.std.proofs.Common.{◌≡◌, ◌⊎◌, ◌↔◌, ◌<◌, ◌+◌, ℕ, inl, inr, refl, sym, ◌∙◌, ap, subst, arith, Some, None, IsSome, Option, slice_get}
+use Rattle.std.specs.BTreeMap.{get}
+use Rattle.std.proofs.lemmas.Bool.{cases_lt}
+use Rattle.rbac_terms.specs.Text.{Text, text_cmp}
+use Rattle.rbac_terms.specs.declared.granting.Binding.{Binding}
+use Rattle.rbac_model.specs.Policies.{PolicyView, GrantView, IsOfBinding}
+use Rattle.rbac_diff.specs.Permissions.{PermissionView}
+use Rattle.rbac_diff.specs.Texts.{permission_text}
+use Rattle.rbac_diff.specs.Unchanged.{HasSameGrants}
+use Rattle.rbac_diff.specs.Finding.{IsGainedAt, Findings, Finds, FindsGained}
+use Rattle.rbac_diff.specs.declared.change.Found.{Found}
+use Rattle.rbac_diff.specs.declared.change.ChangeKind.{ChangeKind}
+use Rattle.rbac_diff.proofs.Searching.{still_some, none_before, none_some}
+use Rattle.rbac_diff.proofs.Covered.{same_covers}
+
+-- a binding that grants the same in the other policy gains nothing
+pub unchanged_gains_nothing : (before after : PolicyView) (place : ℕ) → HasSameGrants after place before → (p : PermissionView) → IsGainedAt before after place p → ⊥
+unchanged_gains_nothing before after place same p h =
+    let g = h.grant in
+    let there = same g.0 g.1 g.2 g.3 in
+    h.missing (there.1.0, there.0, there.1.1, there.1.2, same_covers p g.1 there.0 g.4 h.asked there.2 there.3 there.4)
+
+module _ (kind : ChangeKind) (before after : PolicyView) where
+  pub gathered_none : (m : Findings) → FindsGained kind before after 0 m m
+  gathered_none m = record { kept = λ t y e. e; has = λ at p l h. absurd (omega (arith, l)); only = λ t y e. inl e }
+
+  pub gathered_same : (k : ℕ) (a b : Findings) → ((p : PermissionView) → IsGainedAt before after k p → ⊥) → FindsGained kind before after k a b → FindsGained kind before after (k + 1) a b
+  gathered_same k a b none f = record {
+    kept = f.kept;
+    has = λ at p l h. elim (cases_lt at k) [
+      | inl low ↦ f.has at p low h
+      | inr high ↦ (let same : at ≡ k = omega (arith, l, high) in absurd (none p (subst (λ (i : ℕ). IsGainedAt before after i p) same h)))
+    ];
+    only = λ t y e. elim (f.only t y e) [
+      | inl first ↦ inl first
+      | inr new ↦ inr (new.0, new.1, (new.2.0, new.2.1, omega (arith, new.2.2), new.2.3, new.2.4, new.2.5, new.2.6))
+    ];
+  }
+
+  pub gathered_more : (k : ℕ) (x : Found) (a b c : Findings) → x.kind ≡ kind → slice_get after.held.bindings k ≡ Some x.binding.now → FindsGained kind before after k a b → Finds (IsGainedAt before after k) x b c
+      → FindsGained kind before after (k + 1) a c
+  gathered_more k x a b c is there f g = record {
+    kept = λ t y e. g.kept t y (f.kept t y e);
+    has = λ at p l h. elim (cases_lt at k) [
+      | inl low ↦ still_some (get text_cmp b (permission_text p)) (get text_cmp c (permission_text p)) (g.kept (permission_text p)) (f.has at p low h)
+      | inr high ↦ (let same : at ≡ k = omega (arith, l, high) in g.has p (subst (λ (i : ℕ). IsGainedAt before after i p) same h))
+    ];
+    only = λ t y e. elim (g.only t y e) [
+      | inl mid ↦ elim (f.only t y mid) [
+        | inl first ↦ inl first
+        | inr new ↦ inr (new.0, new.1, (new.2.0, new.2.1, omega (arith, new.2.2), new.2.3, new.2.4, new.2.5, new.2.6))
+      ]
+      | inr new ↦ inr (
+        none_before (get text_cmp a t) (get text_cmp b t) (f.kept t) new.0,
+        ap (λ (z : Found). z.kind) new.1 ∙ is,
+        (k, new.2.0, omega arith, new.2.1, there ∙ ap (λ (z : Found). Some z.binding.now) (sym new.1), new.2.2,
+        λ j q l h same. none_some (get text_cmp b t) new.0 (subst (λ (w : Text). IsSome (get text_cmp b w)) (sym same) (f.has j q l h))),
+      )
+    ];
+  }
+
+  -- the same, by another name of the policy that is asked
+  pub gathered_by : (k : ℕ) (asked : PolicyView) (x : Found) (a b c : Findings) → asked ≡ before → x.kind ≡ kind → slice_get after.held.bindings k ≡ Some x.binding.now → FindsGained kind before after k a b → Finds (IsGainedAt asked after k) x b c
+      → FindsGained kind before after (k + 1) a c
+  gathered_by k asked x a b c same is there f g =
+      gathered_more k x a b c is there f (subst (λ (policy : PolicyView). Finds (IsGainedAt policy after k) x b c) same g)

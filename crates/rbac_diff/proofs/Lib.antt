@@ -1,0 +1,17 @@
+pub mod AllChanges
+pub mod Bindings
+pub mod Covered
+pub mod FirstWith
+pub mod Gained
+pub mod Gathering
+pub mod Grants
+pub mod Levels
+pub mod Listing
+pub mod OneChanges
+pub mod OneStar
+pub mod Searching
+pub mod Stars
+pub mod Strangers
+pub mod Telling
+pub mod Texts
+pub mod Whom

@@ -1,0 +1,76 @@
+-- When a policy allows all that a permission stands for. What has to be asked to decide that is
+-- finite: the permission's own words, taken as texts.
+use Rattle.std.specs.Prelude.{◌≡◌, ◌≢◌, ◌⊎◌, List, [], ◌∷◌, Option, Some, None, All, Any, Contains, codes}
+use Rattle.std.specs.Str.{bytes_eq}
+use Rattle.std.specs.Prelude.{if◌then◌else◌}
+use Rattle.rbac_terms.specs.Text.{Text, star, BeginsWith}
+use Rattle.rbac_terms.specs.Principals.{Who, AsUser, AsMember}
+use Rattle.rbac_terms.specs.Matching.{VerbOk, WordMatches, ResourceWordMatches, NameMatches}
+use Rattle.rbac_terms.specs.Matching.{UrlWordMatches}
+use Rattle.rbac_terms.specs.declared.matching.Rule.{Rule}
+use Rattle.rbac_model.specs.OwnWords.{IsUrlSample}
+use Rattle.rbac_model.specs.Policies.{PolicyView, GrantView, BindingNames}
+use Rattle.rbac_diff.specs.Permissions.{Permitted, OnResource, OnUrl, PermissionView}
+
+-- whoever a permission is for, one of these is, and bindings that name this one name them: a user
+-- without given groups; for a group, a member of it, or of all that have signed in, unless it is
+-- the anonymous user's alone
+abbrev pub stand_ins : Who → List Who
+stand_ins (AsUser name given) = AsUser name [] ∷ []
+stand_ins (AsMember group) =
+    if bytes_eq group (codes "system:unauthenticated")
+    then AsUser (codes "system:anonymous") [] ∷ []
+    else AsMember group ∷ AsMember (codes "system:authenticated") ∷ []
+
+-- a binding in that namespace, or in none, is live wherever this is permitted
+abbrev pub IsAsWide : Option Text → Permitted → Type 0
+IsAsWide own (OnResource namespace group resource name) = (own ≡ None) ⊎ (own ≡ namespace)
+IsAsWide own (OnUrl url) = own ≡ None
+
+-- a rule's names allow the object name of a permission
+abbrev pub CoversName : List Text → Option Text → Type 0
+CoversName names None = names ≡ []
+CoversName names (Some name) = NameMatches names name
+
+-- a rule allows what is permitted, its words taken as texts
+abbrev pub CoversTarget : Rule → Permitted → Type 0
+CoversTarget r (OnResource namespace group resource name) =
+    Any (λ w. WordMatches w group) r.groups × Any (λ w. ResourceWordMatches w resource) r.resources
+    × CoversName r.resource_names name
+CoversTarget r (OnUrl url) = (x : Text) → IsUrlSample url x → Any (λ w. UrlWordMatches w x) r.urls
+
+-- a rule allows a verb word on what is permitted
+abbrev pub CoversWords : Text → Permitted → Rule → Type 0
+CoversWords verb target r = VerbOk r verb × CoversTarget r target
+
+-- a grant allows all that a permission stands for
+pub record Covers (p : PermissionView) (g : GrantView) : Type 0 where
+  pub wide : IsAsWide g.binding.namespace p.target
+  pub names : Any (BindingNames g.binding) (stand_ins p.principal)
+  pub words : CoversWords p.verb p.target g.rule.rule
+
+-- some grant of the policy does
+abbrev pub IsCovered : PolicyView → PermissionView → Type 0
+IsCovered policy p = Any (Covers p) policy.grants
+
+-- a resource text isn't empty and doesn't begin with a slash; a path does
+abbrev pub IsResourceText : Text → Type 0
+IsResourceText text = (text ≢ []) × (¬ BeginsWith text (codes "/"))
+
+abbrev pub GivesPath : Text → Type 0
+GivesPath url = (x : Text) × IsUrlSample url x × BeginsWith x (codes "/")
+
+-- some request is for what is permitted: a RoleBinding in the empty namespace is live nowhere, and
+-- words that match no proper target permit nothing
+abbrev pub IsAskedFor : Permitted → Type 0
+IsAskedFor (OnResource namespace group resource name) = (namespace ≢ Some [])
+    × IsResourceText resource
+IsAskedFor (OnUrl url) = GivesPath url
+
+-- nothing but stars, and at least one
+abbrev pub IsStars : Text → Type 0
+IsStars text = (text ≢ []) × All (λ c. c ≡ star) text
+
+-- the word matches `/*`, and so every path
+abbrev pub MatchesEachPath : Text → Type 0
+MatchesEachPath w = UrlWordMatches w (codes "/*")

@@ -1,0 +1,10 @@
+pub mod Changes
+pub mod Covering
+pub mod Finding
+pub mod Listed
+pub mod Permissions
+pub mod Requests
+pub mod Shown
+pub mod StandIns
+pub mod Texts
+pub mod Unchanged

@@ -1,0 +1,81 @@
+-- What the rules of a policy permit, in pieces that can't be cut further.
+use Rattle.std.specs.Prelude.{◌≡◌, ℕ, List, [], ◌∷◌, Option, Some, None, Any, Contains, Bool}
+use Rattle.std.specs.Prelude.{◌==◌, ◌&&◌, true, if◌then◌else◌}
+use Rattle.rbac_terms.specs.Text.{Text, star}
+use Rattle.rbac_terms.specs.Principals.{Who, AsUser, AsMember, account_user}
+use Rattle.rbac_terms.specs.declared.granting.Subject.{Subject}
+use Rattle.rbac_terms.specs.declared.granting.Subject.TheVariants.{User, Group, Account}
+use Rattle.rbac_terms.specs.declared.matching.Rule.{Rule}
+use Rattle.rbac_model.specs.Lists.{IsFirstAt}
+use Rattle.rbac_model.specs.Policies.{PolicyView, GrantView}
+use Rattle.rbac_terms.specs.declared.granting.Binding.{Binding}
+
+-- what is permitted (own): a resource word of an API group word, in one namespace or in every one
+-- and in none, with one object name or any; or a URL word
+pub data Permitted : Type 0 where
+  OnResource : (namespace : Option Text) (group resource : Text) (name : Option Text) → Permitted
+  OnUrl : (url : Text) → Permitted
+
+-- a permission (own): a user with whatever groups, or everybody in a group, may use a verb word on
+-- what is permitted
+pub record PermissionView : Type 0 where
+  pub principal : Who
+  pub verb : Text
+  pub target : Permitted
+
+-- the principal that a subject of a binding in that namespace, or in none, stands for (Using RBAC
+-- Authorization, Referring to subjects): a user without given groups, or a member of a group; the
+-- empty name, and an account without any namespace, stand for nobody (own)
+abbrev pub named_user : Text → Option Who
+named_user [] = None
+named_user (c ∷ name) = Some (AsUser (c ∷ name) [])
+
+abbrev pub named_group : Text → Option Who
+named_group [] = None
+named_group (c ∷ name) = Some (AsMember (c ∷ name))
+
+abbrev pub principal_of : Option Text → Subject → Option Who
+principal_of _ (User name) = named_user name
+principal_of _ (Group name) = named_group name
+principal_of _ (Account (Some namespace) name) = Some (AsUser (account_user namespace name) [])
+principal_of (Some namespace) (Account None name) = Some (AsUser (account_user namespace name) [])
+principal_of None (Account None name) = None
+
+-- nothing but stars
+abbrev pub are_stars : Text → Bool
+are_stars [] = true
+are_stars (c ∷ w) = (c == star) && are_stars w
+
+-- a word with one star at its end, where it has several (own)
+abbrev pub one_star : Text → Text
+one_star [] = []
+one_star (c ∷ w) = if are_stars (c ∷ w) then star ∷ [] else c ∷ one_star w
+
+-- the object name of a permission by a rule's names: one of them, or any if there are none
+abbrev pub IsNameOf : List Text → Option Text → Type 0
+IsNameOf names None = names ≡ []
+IsNameOf names (Some name) = Contains names name
+
+-- a rule permits this through a binding in that namespace, or in none; URLs only through a
+-- ClusterRoleBinding (Using RBAC Authorization)
+abbrev pub Permits : Option Text → Rule → Permitted → Type 0
+Permits own r (OnResource namespace group resource name) =
+    (namespace ≡ own) × Contains r.groups group × Contains r.resources resource
+    × IsNameOf r.resource_names name
+Permits own r (OnUrl url) = (own ≡ None) × Any (λ w. one_star w ≡ url) r.urls
+
+-- a grant has a permission: a subject of its binding stands for the principal, and its rule has the
+-- verb and permits the target
+pub record HasPermission (p : PermissionView) (g : GrantView) : Type 0 where
+  pub principal : Any
+      (λ s. principal_of g.binding.namespace s ≡ Some p.principal) g.binding.subjects
+  pub verb : Contains g.rule.rule.verbs p.verb
+  pub target : Permits g.binding.namespace g.rule.rule p.target
+
+-- a binding has a permission by one of its grants
+abbrev pub HasBy : PolicyView → PermissionView → Binding → Type 0
+HasBy policy p b = Any (λ g. (g.binding ≡ b) × HasPermission p g) policy.grants
+
+-- b is the first binding that has the permission
+abbrev pub IsFirstWith : PolicyView → PermissionView → Binding → Type 0
+IsFirstWith policy p b = (at : ℕ) × IsFirstAt (HasBy policy p) policy.held.bindings at b

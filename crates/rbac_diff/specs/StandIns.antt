@@ -1,0 +1,36 @@
+-- Which rules everybody has whom a principal stands for.
+use Rattle.std.specs.Prelude.{◌≡◌, ◌↔◌, ◌⊎◌, ℕ, ◌≤◌, ◌<◌, List, Option, Some, None, Any, Contains}
+use Rattle.std.specs.Prelude.{slice_get}
+use Rattle.std.proofs.Common.{Bor}
+use Rattle.rbac_terms.specs.Text.{Text}
+use Rattle.rbac_terms.specs.Principals.{Who}
+use Rattle.rbac_terms.specs.declared.matching.Rule.{Rule}
+use Rattle.rbac_model.specs.Policies.{PolicyView, GrantView, BindingNames}
+use Rattle.rbac_index.specs.Bound.{IsBoundTo}
+use Rattle.rbac_diff.specs.Covering.{stand_ins}
+
+-- some reference is to the rule
+abbrev pub HasRule : List (Bor Rule) → Rule → Type 0
+HasRule rules r = Any (λ held. held.now ≡ r) rules
+
+-- the rule is that of a grant, one of those numbered from `from` up to `end`, that is bound to who
+-- asks in that namespace
+abbrev pub IsBoundRule : PolicyView → Who → Text → ℕ → ℕ → Rule → Type 0
+IsBoundRule policy who namespace from end r = (no : ℕ) × (g : GrantView) × (from ≤ no) × (no < end)
+    × (slice_get policy.grants no ≡ Some g) × IsBoundTo policy who namespace no × (g.rule.rule ≡ r)
+
+-- new has old's rules and these
+abbrev pub AddsRules : PolicyView → Who → Text → ℕ → ℕ → List (Bor Rule) → List (Bor Rule) → Type 0
+AddsRules policy who namespace from end old new = (r : Rule) → HasRule new r
+    ↔ (HasRule old r ⊎ IsBoundRule policy who namespace from end r)
+
+-- a binding in the first namespace, or in none, is live wherever one in the second is
+abbrev pub IsWider : Option Text → Option Text → Type 0
+IsWider own asked = (own ≡ None) ⊎ (own ≡ asked)
+
+-- the rules of the grants that name everybody whom the principal stands for, wherever a binding in
+-- that namespace, or in none, is live
+abbrev pub AreRulesOf : PolicyView → Who → Option Text → List (Bor Rule) → Type 0
+AreRulesOf policy who namespace rules = (r : Rule) → HasRule rules r
+    ↔ Any (λ g. IsWider g.binding.namespace namespace
+    × Any (BindingNames g.binding) (stand_ins who) × (g.rule.rule ≡ r)) policy.grants

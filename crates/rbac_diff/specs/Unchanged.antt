@@ -1,0 +1,19 @@
+-- Bindings that grant the same in both policies.
+use Rattle.std.specs.Prelude.{◌≡◌, ℕ, Some, slice_get, Contains}
+use Rattle.rbac_model.specs.Policies.{PolicyView, GrantView, IsOfBinding}
+
+-- each grant of the binding at that place has the rule of a grant of the other policy's binding at
+-- the second place
+abbrev pub HaveSameRules : PolicyView → ℕ → PolicyView → ℕ → Type 0
+HaveSameRules own place other at = (no : ℕ) (g : GrantView) → slice_get own.grants no ≡ Some g
+    → IsOfBinding own no place
+    → (m : ℕ) × (h : GrantView) × (slice_get other.grants m ≡ Some h) × IsOfBinding other m at
+    × (h.rule.rule ≡ g.rule.rule)
+
+-- the other policy has a grant by the same rule, in the same namespace, to the same subjects, for
+-- each grant of the binding at that place
+abbrev pub HasSameGrants : PolicyView → ℕ → PolicyView → Type 0
+HasSameGrants own place other = (no : ℕ) (g : GrantView) → slice_get own.grants no ≡ Some g
+    → IsOfBinding own no place
+    → (h : GrantView) × Contains other.grants h × (h.binding.namespace ≡ g.binding.namespace)
+    × (h.binding.subjects ≡ g.binding.subjects) × (h.rule.rule ≡ g.rule.rule)

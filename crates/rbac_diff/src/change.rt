@@ -1,0 +1,82 @@
+//! What a change of policies lets people do, and what it takes from them.
+
+ghost use Rattle.std.specs.Prelude.{◌≡◌, IfOk, map};
+ghost use Rattle.std.specs.BTreeMap.{IsOrdered};
+ghost use Rattle.rbac_terms.specs.Text.{text_cmp};
+ghost use Rattle.rbac_model.specs.Policies.{IsPolicy};
+ghost use Rattle.rbac_diff.specs.Changes.{AreChanges};
+ghost use Rattle.rbac_diff.specs.Listed.{change_of, entry_change};
+
+use crate::fault::DiffFault;
+use crate::finding::add_gained;
+use rbac_model::Policy;
+use rbac_terms::{Binding, Word};
+use std::alloc::Global;
+use std::collections::BTreeMap;
+
+/// Whether a permission is gained or lost.
+#[derive(Clone, Copy, PartialEq, Eq, Debug, Drop)]
+pub enum ChangeKind {
+    /// The second policy has it, and the first one doesn't allow all that it stands for.
+    Gained,
+    /// The first policy has it, and the second one doesn't allow all that it stands for.
+    Lost,
+}
+
+/// A permission that one policy has and the other one doesn't allow.
+#[derive(Drop)]
+pub struct Change<'p> {
+    /// Whether it is gained or lost.
+    pub kind: ChangeKind,
+    /// The permission as it is printed, each field with a tab after it: who, the namespace, the
+    /// verb, the API group, the resource or URL, and the object name.
+    pub permission: Word,
+    /// The first binding that has it, of the policy that has it.
+    pub binding: &'p Binding,
+}
+
+// What the map of changes has under a permission's text.
+#[derive(Clone, Copy)]
+pub(crate) struct Found<'p> {
+    pub(crate) kind: ChangeKind,
+    pub(crate) binding: &'p Binding,
+}
+
+// The changes that were found, under their permissions' texts.
+pub(crate) type Findings<'p> = BTreeMap<Word, Found<'p>>;
+
+/// What changes for users when one policy takes the place of another: each permission that the
+/// second one has and the first one doesn't allow, and the other way round, in order of how they
+/// are printed (own). Fails only if it runs out of memory.
+pub fn changes<'p>(
+    alloc: Global,
+    before: &'p Policy,
+    after: &'p Policy,
+) -> Result<Vec<Change<'p>>, DiffFault>
+    ensures changes { IfOk result
+        (λ xs. AreChanges before.now after.now (map change_of xs.items)) }
+    ensures before { IsPolicy before.now }
+    ensures after { IsPolicy after.now }
+{
+    let mut findings = BTreeMap::new(alloc);
+    add_gained(alloc, ChangeKind::Gained, before, after, &mut findings)?;
+    add_gained(alloc, ChangeKind::Lost, after, before, &mut findings)?;
+    listed(alloc, findings)
+}
+
+// The changes that were found, in order.
+fn listed<'p>(alloc: Global, findings: Findings<'p>) -> Result<Vec<Change<'p>>, DiffFault>
+    ensures entries { IfOk result
+        (λ xs. map change_of xs.items ≡ map entry_change findings.entry.entries) }
+    ensures ordered { IsOrdered text_cmp findings.entry }
+{
+    let mut changes = Vec::new(alloc);
+    for (permission, found) in findings {
+        changes.push(Change {
+            kind: found.kind,
+            permission,
+            binding: found.binding,
+        })?;
+    }
+    Ok(changes)
+}

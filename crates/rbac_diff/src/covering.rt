@@ -1,0 +1,133 @@
+//! Whether rules allow all that a permission stands for, its words taken as texts.
+
+ghost use Rattle.std.specs.Prelude.{◌≡◌, ◌↔◌, IsTrue, Any, Some, []};
+ghost use Rattle.std.specs.Option.{option_copied};
+ghost use Rattle.rbac_diff.specs.Covering.{CoversName, CoversTarget, CoversWords, GivesPath};
+ghost use Rattle.rbac_diff.specs.Covering.{IsStars, MatchesEachPath};
+ghost use Rattle.rbac_diff.specs.Covering.{IsAskedFor, IsResourceText};
+ghost use Rattle.rbac_diff.specs.Permissions.{OnUrl, one_star};
+ghost use Rattle.rbac_diff.specs.Shown.{permitted_of};
+
+use crate::permission::Permitted;
+use rbac_terms::{
+    Rule, Word, group_matches, name_matches, resource_matches, url_matches, verb_matches,
+};
+
+// Whether some request is for what is permitted: a RoleBinding in the empty namespace is live
+// nowhere, and some words match no proper target.
+pub(crate) fn is_asked_for(target: Permitted<'_>) -> bool
+    ensures { IsTrue result ↔ IsAskedFor (permitted_of target.entry) }
+{
+    match target {
+        Permitted::Resource {
+            namespace,
+            group: _,
+            resource,
+            name: _,
+        } => !is_empty_namespace(namespace) && is_resource_text(resource),
+        Permitted::Url(word) => gives_path(word),
+    }
+}
+
+fn is_empty_namespace(namespace: Option<&Word>) -> bool
+    ensures { IsTrue result ↔ (option_copied namespace.entry ≡ Some []) }
+{
+    match namespace {
+        Some(namespace) => namespace.is_empty(),
+        None => false,
+    }
+}
+
+// Whether one of the rules allows the verb word on what is permitted.
+pub(crate) fn is_covered(rules: &[&Rule], verb: &Word, target: Permitted<'_>) -> bool
+    requires { IsAskedFor (permitted_of target) }
+    ensures { IsTrue result
+        ↔ Any (λ r. CoversWords verb.now (permitted_of target.entry) r.now) rules.now }
+{
+    rules.iter().any(|rule| covers(rule, verb, target))
+}
+
+fn covers(rule: &Rule, verb: &Word, target: Permitted<'_>) -> bool
+    requires { IsAskedFor (permitted_of target) }
+    ensures { IsTrue result ↔ CoversWords verb.now (permitted_of target.entry) rule.now }
+{
+    verb_matches(rule, verb) && covers_target(rule, target)
+}
+
+fn covers_target(rule: &Rule, target: Permitted<'_>) -> bool
+    requires { IsAskedFor (permitted_of target) }
+    ensures { IsTrue result ↔ CoversTarget rule.now (permitted_of target.entry) }
+{
+    match target {
+        Permitted::Resource {
+            namespace: _,
+            group,
+            resource,
+            name,
+        } => {
+            group_matches(rule, group)
+                && resource_matches(rule, resource)
+                && covers_name(rule, name)
+        }
+        Permitted::Url(word) => covers_url(rule, word),
+    }
+}
+
+fn covers_name(rule: &Rule, name: Option<&Word>) -> bool
+    ensures { IsTrue result ↔ CoversName rule.now.resource_names (option_copied name.entry) }
+{
+    match name {
+        Some(name) => name_matches(rule, name),
+        None => rule.resource_names.is_empty(),
+    }
+}
+
+// Whether the rule allows this URL word, taken as a text.
+fn covers_url(rule: &Rule, word: &Word) -> bool
+    requires { GivesPath (one_star word.now) }
+    ensures { IsTrue result ↔ CoversTarget rule.now (OnUrl (one_star word.now)) }
+{
+    if is_stars(word.as_bytes()) {
+        return covers_each_path(rule);
+    }
+    url_matches(rule, word)
+}
+
+// Whether some URL word of the rule matches every path.
+fn covers_each_path(rule: &Rule) -> bool
+    ensures { IsTrue result ↔ Any MatchesEachPath rule.now.urls }
+{
+    rule.urls
+        .as_slice()
+        .iter()
+        .any(|word| matches_each_path(word.as_bytes()))
+}
+
+// Whether the word consists of stars only, or of a slash and then stars only.
+fn matches_each_path(word: &[u8]) -> bool
+    ensures { IsTrue result ↔ MatchesEachPath word.now }
+{
+    match word {
+        [b'/', rest @ ..] => is_stars(rest),
+        _ => is_stars(word),
+    }
+}
+
+// Whether the URL word matches some path.
+fn gives_path(word: &Word) -> bool
+    ensures { IsTrue result ↔ GivesPath (one_star word.now) }
+{
+    word.as_bytes().starts_with(b"/".as_slice()) || is_stars(word.as_bytes())
+}
+
+fn is_resource_text(text: &Word) -> bool
+    ensures { IsTrue result ↔ IsResourceText text.now }
+{
+    !text.is_empty() && !text.as_bytes().starts_with(b"/".as_slice())
+}
+
+fn is_stars(text: &[u8]) -> bool
+    ensures { IsTrue result ↔ IsStars text.now }
+{
+    !text.is_empty() && text.iter().all(|byte| *byte == b'*')
+}

@@ -1,0 +1,254 @@
+//! The permissions that one policy has and another one doesn't allow.
+
+ghost use Rattle.std.specs.Prelude.{◌≡◌, ◌<◌, OnOk, Some, Contains, Any, length, slice_get};
+ghost use Rattle.std.specs.Option.{option_copied};
+ghost use Rattle.rbac_model.specs.Policies.{IsPolicy};
+ghost use Rattle.rbac_diff.specs.Finding.{Finds, FindsGained, IsByGrants, IsByRule, IsGainedAt};
+ghost use Rattle.rbac_diff.specs.Finding.{IsOnResource, IsOnTarget, IsOnUrl, SearchFinds};
+ghost use Rattle.rbac_diff.specs.Shown.{permitted_of};
+
+use crate::change::{ChangeKind, Findings, Found};
+use crate::covering::{is_asked_for, is_covered};
+use crate::fault::DiffFault;
+use crate::permission::{Permission, Permitted, permission_text};
+use crate::stand_ins::{Asked, principal_of};
+use crate::unchanged::{is_unchanged, place_from};
+use rbac_index::Index;
+use rbac_model::Policy;
+use rbac_terms::{Binding, Principal, Rule, Word};
+use std::alloc::{AllocError, Global};
+
+// Adds each permission that `after` has and `before` doesn't allow, with the first binding that has
+// it, unless it was found already.
+pub(crate) fn add_gained<'p>(
+    alloc: Global,
+    kind: ChangeKind,
+    before: &Policy,
+    after: &'p Policy,
+    findings: &mut Findings<'p>,
+) -> Result<(), DiffFault>
+    ensures gained { OnOk result
+        (FindsGained kind before.now after.now (length after.now.held.bindings) findings.old
+        findings.new) }
+    ensures before { IsPolicy before.now }
+    ensures after { IsPolicy after.now }
+{
+    let after: &'p Policy = after;
+    let bindings: &'p [Binding] = after.bindings();
+    let others = before.bindings();
+    let asked = Asked::of(alloc, Index::build(alloc, before)?)?;
+    let mut at = 0;
+    for (place, binding) in bindings.iter().enumerate() {
+        at = place_from(others, at, binding);
+        if !is_unchanged(after, place, before, at) {
+            let found = Found { kind, binding };
+            add_of_binding(alloc, &asked, after, place, found, findings)?;
+        }
+    }
+    Ok(())
+}
+
+// Adds the permissions of the binding at this place that the policy asked doesn't allow.
+fn add_of_binding<'p>(
+    alloc: Global,
+    asked: &Asked<'_>,
+    after: &'p Policy,
+    place: usize,
+    found: Found<'p>,
+    findings: &mut Findings<'p>,
+) -> Result<(), DiffFault>
+    requires { slice_get after.now.held.bindings place ≡ Some found.binding.now }
+    ensures gained { OnOk result
+        (Finds (IsGainedAt asked.now after.now place) found.entry findings.old findings.new) }
+{
+    let binding: &'p Binding = found.binding;
+    let namespace = binding.namespace.as_ref();
+    if namespace.is_some_and(|namespace| namespace.is_empty()) {
+        return Ok(());
+    }
+    for subject in binding.subjects.as_slice() {
+        if let Some(principal) = principal_of(alloc, namespace, subject)? {
+            let others = asked.rules_of(alloc, &principal, namespace)?;
+            let search = Search {
+                found,
+                namespace,
+                principal: &principal,
+                others: others.as_slice(),
+            };
+            add_of_grants(alloc, &search, after, place, findings)?;
+        }
+    }
+    Ok(())
+}
+
+// A search for the permissions that a principal has by a binding, and that these rules of the other
+// policy don't allow.
+#[derive(Clone, Copy)]
+struct Search<'a, 'p> {
+    found: Found<'p>,
+    // The binding's namespace.
+    namespace: Option<&'a Word>,
+    principal: &'a Principal,
+    others: &'a [&'a Rule],
+}
+
+// Adds the permissions by the grants of the binding at this place.
+fn add_of_grants<'a, 'p>(
+    alloc: Global,
+    search: &'a Search<'a, 'p>,
+    after: &'a Policy,
+    place: usize,
+    findings: &mut Findings<'p>,
+) -> Result<(), AllocError>
+    ensures { OnOk result
+        (SearchFinds search.now (IsByGrants after.now place (option_copied search.now.namespace))
+        findings.old findings.new) }
+{
+    let (from, end) = after.grants_of(place);
+    for no in from..end {
+        add_of_rule(alloc, search, after.grant(no).rule, findings)?;
+    }
+    Ok(())
+}
+
+// Adds the permissions by one rule.
+fn add_of_rule<'a, 'p>(
+    alloc: Global,
+    search: &'a Search<'a, 'p>,
+    rule: &'a Rule,
+    findings: &mut Findings<'p>,
+) -> Result<(), AllocError>
+    ensures { OnOk result
+        (SearchFinds search.now (IsByRule search.now rule.now) findings.old findings.new) }
+{
+    for verb in rule.verbs.as_slice() {
+        add_of_verb(alloc, search, rule, verb, findings)?;
+    }
+    Ok(())
+}
+
+// Adds the permissions of one verb word: for resources, and through a ClusterRoleBinding for URLs.
+fn add_of_verb<'a, 'p>(
+    alloc: Global,
+    search: &'a Search<'a, 'p>,
+    rule: &'a Rule,
+    verb: &Word,
+    findings: &mut Findings<'p>,
+) -> Result<(), AllocError>
+    ensures { OnOk result
+        (SearchFinds search.now (IsOnTarget search.now rule.now verb.now) findings.old
+        findings.new) }
+{
+    for group in rule.groups.as_slice() {
+        add_of_group(alloc, search, rule, verb, group, findings)?;
+    }
+    if search.namespace.is_none() {
+        add_urls(alloc, search, rule, verb, findings)?;
+    }
+    Ok(())
+}
+
+// Adds the permissions of one verb word for resources of one API group word.
+fn add_of_group<'a, 'p>(
+    alloc: Global,
+    search: &'a Search<'a, 'p>,
+    rule: &'a Rule,
+    verb: &Word,
+    group: &'a Word,
+    findings: &mut Findings<'p>,
+) -> Result<(), AllocError>
+    ensures { OnOk result
+        (SearchFinds search.now
+        (λ p. Any (λ resource. IsOnResource search.now rule.now verb.now group.now resource p)
+        rule.now.resources) findings.old findings.new) }
+{
+    for resource in rule.resources.as_slice() {
+        add_of_resource(alloc, search, rule, verb, group, resource, findings)?;
+    }
+    Ok(())
+}
+
+// Adds the permissions of one verb word for one resource word: for each name of the rule, or for
+// any.
+fn add_of_resource<'a, 'p>(
+    alloc: Global,
+    search: &'a Search<'a, 'p>,
+    rule: &'a Rule,
+    verb: &Word,
+    group: &'a Word,
+    resource: &'a Word,
+    findings: &mut Findings<'p>,
+) -> Result<(), AllocError>
+    ensures { OnOk result
+        (SearchFinds search.now
+        (IsOnResource search.now rule.now verb.now group.now resource.now) findings.old
+        findings.new) }
+{
+    let namespace: Option<&'a Word> = search.namespace;
+    if rule.resource_names.is_empty() {
+        let target = Permitted::Resource {
+            namespace,
+            group,
+            resource,
+            name: None,
+        };
+        return add(alloc, search, verb, target, findings);
+    }
+    for name in rule.resource_names.as_slice() {
+        let target = Permitted::Resource {
+            namespace,
+            group,
+            resource,
+            name: Some(name),
+        };
+        add(alloc, search, verb, target, findings)?;
+    }
+    Ok(())
+}
+
+// Adds the permissions of one verb word for URLs.
+fn add_urls<'a, 'p>(
+    alloc: Global,
+    search: &'a Search<'a, 'p>,
+    rule: &'a Rule,
+    verb: &Word,
+    findings: &mut Findings<'p>,
+) -> Result<(), AllocError>
+    ensures { OnOk result
+        (SearchFinds search.now (λ p. Any (λ w. IsOnUrl verb.now w p) rule.now.urls) findings.old
+        findings.new) }
+{
+    for url in rule.urls.as_slice() {
+        add(alloc, search, verb, Permitted::Url(url), findings)?;
+    }
+    Ok(())
+}
+
+// Adds one permission, unless no request is for it, the other rules allow all that it stands for,
+// or it was found already.
+fn add<'p>(
+    alloc: Global,
+    search: &Search<'_, 'p>,
+    verb: &Word,
+    target: Permitted<'_>,
+    findings: &mut Findings<'p>,
+) -> Result<(), AllocError>
+    ensures { OnOk result
+        (SearchFinds search.now
+        (λ p. (p.verb ≡ verb.now) × (p.target ≡ permitted_of target.entry)) findings.old
+        findings.new) }
+{
+    if !is_asked_for(target) || is_covered(search.others, verb, target) {
+        return Ok(());
+    }
+    let permission = Permission {
+        principal: search.principal,
+        verb,
+        target,
+    };
+    let text = permission_text(alloc, permission)?;
+    if !findings.contains_key(&text) {
+        findings.insert(text, search.found)?;
+    }
+    Ok(())
+}

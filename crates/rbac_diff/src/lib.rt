@@ -1,0 +1,16 @@
+//! What a change of policies lets people do, and what it takes from them: exact over all requests
+//! that there can be.
+#![tactic(auto)]
+
+mod change;
+mod covering;
+mod fault;
+mod finding;
+mod laws;
+mod permission;
+mod stand_ins;
+mod unchanged;
+
+pub use change::{Change, ChangeKind, changes};
+pub use fault::DiffFault;
+pub use laws::{changes_are_one, changes_tell_all};

@@ -1,0 +1,113 @@
+//! Permissions: what rules permit, in pieces that can't be cut further.
+
+ghost use Rattle.std.specs.Prelude.{◌≡◌, ◌++◌, IfOk, OnOk};
+ghost use Rattle.std.specs.Option.{option_copied};
+ghost use Rattle.rbac_diff.specs.Permissions.{one_star};
+ghost use Rattle.rbac_diff.specs.Shown.{permission_of, permitted_of};
+ghost use Rattle.rbac_diff.specs.Texts.{choice_and_tab, namespace_text, permission_text};
+ghost use Rattle.rbac_diff.specs.Texts.{target_text};
+
+use rbac_terms::{Principal, Word};
+use rbac_text::put_field_and_tab;
+use std::alloc::{AllocError, Global};
+
+// What a word ends in that has several stars at its end.
+const TWO_STARS: &[u8] = b"**";
+
+// Who may use a verb word on what.
+#[derive(Clone, Copy)]
+pub(crate) struct Permission<'a> {
+    pub(crate) principal: &'a Principal,
+    pub(crate) verb: &'a Word,
+    pub(crate) target: Permitted<'a>,
+}
+
+// What is permitted. No name stands for any name, and no namespace for all namespaces and none.
+#[derive(Clone, Copy)]
+pub(crate) enum Permitted<'a> {
+    Resource {
+        namespace: Option<&'a Word>,
+        group: &'a Word,
+        resource: &'a Word,
+        name: Option<&'a Word>,
+    },
+    // A URL word; stars at its end count as one.
+    Url(&'a Word),
+}
+
+// The permission as it is printed: its six fields, each with a tab after it.
+pub(crate) fn permission_text(alloc: Global, permission: Permission<'_>) -> Result<Word, AllocError>
+    ensures { IfOk result (λ text. text ≡ permission_text (permission_of permission.entry)) }
+{
+    let mut text = Vec::new(alloc);
+    put_permission(&mut text, permission)?;
+    Word::from_slice(alloc, text.as_slice())
+}
+
+fn put_permission(text: &mut Vec<u8>, permission: Permission<'_>) -> Result<(), AllocError>
+    ensures { OnOk result (text.new.items
+        ≡ text.old.items ++ permission_text (permission_of permission.entry)) }
+{
+    put_field_and_tab(text, permission.principal.key().as_bytes())?;
+    put_namespace(text, permission.target)?;
+    put_field_and_tab(text, permission.verb.as_bytes())?;
+    put_target(text, permission.target)
+}
+
+// Adds the namespace of what is permitted; a URL has none.
+fn put_namespace(text: &mut Vec<u8>, target: Permitted<'_>) -> Result<(), AllocError>
+    ensures { OnOk result (text.new.items
+        ≡ text.old.items ++ namespace_text (permitted_of target.entry)) }
+{
+    match target {
+        Permitted::Resource { namespace, .. } => put_choice(text, namespace),
+        Permitted::Url(_) => put_field_and_tab(text, b""),
+    }
+}
+
+// Adds the API group, the resource or URL, and the object name of what is permitted.
+fn put_target(text: &mut Vec<u8>, target: Permitted<'_>) -> Result<(), AllocError>
+    ensures { OnOk result (text.new.items
+        ≡ text.old.items ++ target_text (permitted_of target.entry)) }
+{
+    match target {
+        Permitted::Resource {
+            group,
+            resource,
+            name,
+            ..
+        } => {
+            put_field_and_tab(text, group.as_bytes())?;
+            put_field_and_tab(text, resource.as_bytes())?;
+            put_choice(text, name)
+        }
+        Permitted::Url(word) => {
+            put_field_and_tab(text, b"")?;
+            put_field_and_tab(text, with_one_star(word.as_bytes()))?;
+            put_field_and_tab(text, b"")
+        }
+    }
+}
+
+// Adds a namespace or a name, or `*` where any is meant; what is called `*` is printed by its code.
+fn put_choice(text: &mut Vec<u8>, name: Option<&Word>) -> Result<(), AllocError>
+    ensures { OnOk result (text.new.items
+        ≡ text.old.items ++ choice_and_tab (option_copied name.entry)) }
+{
+    match name {
+        None => text.extend_from_slice(b"*\t"),
+        Some(name) if name.as_bytes() == b"*".as_slice() => text.extend_from_slice(b"\\x2a\t"),
+        Some(name) => put_field_and_tab(text, name.as_bytes()),
+    }
+}
+
+// The word, without all stars at its end but the first.
+fn with_one_star(word: &[u8]) -> &[u8]
+    ensures { result.now ≡ one_star word.now }
+{
+    let mut rest = word;
+    while rest.ends_with(TWO_STARS) {
+        rest = &rest[..rest.len() - 1];
+    }
+    rest
+}

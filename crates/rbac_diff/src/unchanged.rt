@@ -1,0 +1,98 @@
+//! Bindings that both policies have, and that grant the same in both.
+
+ghost use Rattle.std.specs.Prelude.{◌≡◌, ◌<◌, ◌≤◌, IsTrue, length};
+ghost use Rattle.rbac_diff.specs.Unchanged.{HasSameGrants, HaveSameRules};
+
+use rbac_model::Policy;
+use rbac_terms::{Binding, Rule, Subject};
+use std::cmp::Ordering;
+
+// The first place, from this one on, of a binding whose name isn't less than this one's: its own
+// place, if bindings are looked for in order.
+pub(crate) fn place_from(bindings: &[Binding], from: usize, binding: &Binding) -> usize {
+    let mut at = from;
+    while at < bindings.len() && cmp_names(&bindings[at], binding).is_lt() {
+        at += 1;
+    }
+    at
+}
+
+// The order of bindings: ClusterRoleBindings by name, then RoleBindings by namespace and name.
+fn cmp_names(a: &Binding, b: &Binding) -> Ordering {
+    match (&a.namespace, &b.namespace) {
+        (None, None) => a.name.cmp(&b.name),
+        (None, Some(_)) => Ordering::Less,
+        (Some(_), None) => Ordering::Greater,
+        (Some(mine), Some(theirs)) => mine.cmp(theirs).then(a.name.cmp(&b.name)),
+    }
+}
+
+// Whether the other policy has a binding at that place, in the same namespace or in none too, with
+// the same subjects and the same rules as this one's.
+pub(crate) fn is_unchanged(own: &Policy, place: usize, other: &Policy, at: usize) -> bool
+    requires { place < length own.now.held.bindings }
+    ensures { IsTrue result → HasSameGrants own.now place other.now }
+{
+    let binding = &own.bindings()[place];
+    match other.bindings().get(at) {
+        Some(held) => {
+            binding.namespace == held.namespace
+                && same_subjects(binding, held)
+                && same_rules(own, place, other, at)
+        }
+        None => false,
+    }
+}
+
+fn same_subjects(a: &Binding, b: &Binding) -> bool
+    ensures { IsTrue result → a.now.subjects ≡ b.now.subjects }
+{
+    let (a, b) = (a.subjects.as_slice(), b.subjects.as_slice());
+    a.len() == b.len() && a.iter().zip(b).all(|(a, b)| same_subject(a, b))
+}
+
+fn same_subject(a: &Subject, b: &Subject) -> bool
+    ensures { IsTrue result → a.now ≡ b.now }
+{
+    match (a, b) {
+        (Subject::User(a), Subject::User(b)) => a == b,
+        (Subject::Group(a), Subject::Group(b)) => a == b,
+        (
+            Subject::Account { namespace, name },
+            Subject::Account {
+                namespace: other,
+                name: named,
+            },
+        ) => namespace == other && name == named,
+        _ => false,
+    }
+}
+
+// Whether the bindings at these places have the same rules, in the same order.
+fn same_rules(own: &Policy, place: usize, other: &Policy, at: usize) -> bool
+    requires own { place < length own.now.held.bindings }
+    requires other { at < length other.now.held.bindings }
+    ensures { IsTrue result → HaveSameRules own.now place other.now at }
+{
+    let (from, end) = own.grants_of(place);
+    let (other_from, other_end) = other.grants_of(at);
+    if end - from != other_end - other_from {
+        return false;
+    }
+    for no in from..end {
+        if !same_rule(own.grant(no).rule, other.grant(other_from + (no - from)).rule) {
+            return false;
+        }
+    }
+    true
+}
+
+fn same_rule(a: &Rule, b: &Rule) -> bool
+    ensures { IsTrue result → a.now ≡ b.now }
+{
+    a.verbs.as_slice() == b.verbs.as_slice()
+        && a.groups.as_slice() == b.groups.as_slice()
+        && a.resources.as_slice() == b.resources.as_slice()
+        && a.resource_names.as_slice() == b.resource_names.as_slice()
+        && a.urls.as_slice() == b.urls.as_slice()
+}
