@@ -1,14 +1,14 @@
 -- the rules that somebody has decide what they may do
 use Rattle.std.proofs.Common.{◌≡◌, ◌∙◌, ℕ, List, [], ◌∷◌, ◌⊎◌, inl, inr, sym, ap, subst, refl, arith, zero, suc, slice_get, Any}
 use Rattle.std.specs.Prelude.{Option, Some, None}
-use Rattle.std.proofs.lemmas.Option.{same_Some, slice_get_within, get_or_from_slice_get, slice_get-get_or}
+use Rattle.std.proofs.lemmas.Option.{same_Some, slice_get-get_or}
 use Rattle.rbac_terms.specs.Text.{Text}
 use Rattle.rbac_terms.specs.Targets.{What, Resource, Url}
 use Rattle.rbac_terms.specs.Principals.{Who}
 use Rattle.rbac_terms.specs.Matching.{RuleAllows}
 use Rattle.rbac_model.specs.Lists.{IsFirstAt}
-use Rattle.rbac_model.specs.Policies.{PolicyView, IsPolicy, GrantView, GrantAllows, Allows, Live}
-use Rattle.rbac_model.proofs.GrantNumbers.{some_grant, binding_of}
+use Rattle.rbac_model.specs.Policies.{PolicyView, IsPolicy, GrantView, GrantAllows, Live}
+use Rattle.rbac_model.proofs.GrantNumbers.{some_grant, grant_allows, any_at}
 use Rattle.rbac_rules.specs.Effective.{ScopeView, Everywhere, InNamespace, ClusterWide, RuleView, IsInForce, Has, IsByFirstSubject, AreRulesBy, AreEffective, AllowsThere, Decide, Explain}
 use Rattle.rbac_rules.proofs.RuleLists.{later_first}
 
@@ -53,16 +53,6 @@ in_none (Some own) (Resource group text name) live = absurd (live.0 refl)
 in_none (Some own) (Url path) live = absurd live
 
 module _ (p : PolicyView) (ok : IsPolicy p) (who : Who) where
-  -- what a grant allows is allowed
-  grant_allows : (namespace verb : Text) (t : What) (n : ℕ) (g : GrantView) → slice_get p.grants n ≡ Some g → GrantAllows who namespace verb t g → Allows p.held who namespace verb t
-  grant_allows namespace verb t n g at a =
-      let of = binding_of p.held p.held.bindings p.grants n g ok.1 at in
-      let bs = p.held.bindings in
-      let rules = of.2.0 in
-      let k = of.2.2.0 in
-      let read = of.2.2.1 in
-      (of.0, g.binding, slice_get_within bs of.0 g.binding of.1, get_or_from_slice_get bs of.0 g.binding g.binding of.1, (a.0, a.1, (rules, of.2.1, (k, g.rule, slice_get_within rules k g.rule read, get_or_from_slice_get rules k g.rule g.rule read, a.2))))
-
   decided : (scope : ScopeView) (namespace : Text) → ((own : Option Text) (t : What) → Live own namespace t → IsInForce scope own)
       → (xs : List RuleView) → AreEffective p who scope xs → Decide p who namespace xs
   decided scope namespace reaches xs are verb t =
@@ -73,7 +63,7 @@ module _ (p : PolicyView) (ok : IsPolicy p) (who : Who) where
             had_in who scope P p.grants xs are some.0 some.1 read (reaches some.1.binding.namespace t some.4.0, some.4.1) (some.4.0, some.4.2),
         λ any.
             let r = of_grant who scope P p.grants xs are any in
-            grant_allows namespace verb t r.0 r.1 r.2 (r.4.0, r.3.1, r.4.1),
+            grant_allows p ok who namespace verb t (any_at (GrantAllows who namespace verb t) p.grants r.0 r.1 r.2 (r.4.0, r.3.1, r.4.1)),
       )
 
   pub decided_there : (namespace : Text) (xs : List RuleView) → AreEffective p who (InNamespace namespace) xs → Decide p who namespace xs
