@@ -1,33 +1,27 @@
 -- The lines of a page, one after another.
-use Rattle.std.proofs.Common.{◌≡◌, ◌≢◌, ◌∙◌, ◌-◌, ◌++◌, zero, suc, Bool, true, false, eqb, List, [], ◌∷◌, length, take, refl, ap, ap₂, sym, arith, append_assoc, append-nil, ℕ}
-use Rattle.std.specs.Prelude.{Option, Some, None, codes, nat_lt}
+use Rattle.std.proofs.Common.{◌≡◌, ◌≢◌, ◌∙◌, ◌-◌, ◌++◌, zero, suc, Bool, true, false, eqb, List, [], ◌∷◌, length, take, refl, ap, ap₂, sym, arith, append_assoc, ℕ}
+use Rattle.std.specs.Prelude.{Option, Some, None, nat_lt}
 use Rattle.std.specs.List.{last_or}
 use Rattle.std.specs.Option.{option_eq, option_map}
 use Rattle.std.proofs.lemmas.Bool.{false≢true}
 use Rattle.std.proofs.lemmas.Bool.Decides.{nat_tests}
-use Rattle.std.proofs.lemmas.Option.{same_Some}
 use Rattle.rbac_terms.specs.Text.{Text}
 use Rattle.rbac_terms.specs.Keys.{KeyTexts}
 use Rattle.rbac_terms.specs.declared.granting.Binding.{Binding}
 use Rattle.rbac_model.specs.Universes.{RowView, cell_key}
-use Rattle.rbac_text.specs.Row.{newline, row_text, tab}
-use Rattle.rbac_token.specs.Marks.{mark_text}
+use Rattle.rbac_text.specs.Row.{newline, row_text}
 use Rattle.rbac_token.specs.declared.mark.Mark.{Mark}
 use Rattle.rbac_matrix.specs.Every.{name_of}
 use Rattle.rbac_matrix.specs.RowTexts.{Shows, texts_shown}
 use Rattle.rbac_matrix.specs.declared.row.Row.{Row}
-use Rattle.rbac_cli.specs.Left.{AreLeftIn, GivesFirst, IsOver, is_every}
+use Rattle.rbac_cli.specs.Left.{AreLeftIn, GivesFirst, is_every}
 use Rattle.rbac_cli.specs.Listings.{cut_at, last_words, mark_after, rows_text}
 use Rattle.rbac_cli.specs.PageLeft.{IsRestOfPage, text_after}
-use Rattle.rbac_cli.specs.ShownTokens.{last_line, mark_shown}
+use Rattle.rbac_cli.specs.ShownTokens.{mark_shown}
 use Rattle.rbac_cli.specs.declared.listing.Listing.{Listing}
 use Rattle.rbac_cli.specs.declared.pages.PageLines.{PageLines}
 
 -- what the comparison with no rows left says
-pub is_full : (left : Option ℕ) → option_eq eqb left (Some 0) ≡ true → left ≡ Some 0
-is_full None e = absurd (false≢true e)
-is_full (Some n) e = let same : n ≡ 0 = grind (arith, nat_tests) in ap Some same
-
 pub not_full : (left : Option ℕ) → option_eq eqb left (Some 0) ≡ false → left ≢ Some 0
 not_full left e full = false≢true (sym e ∙ ap (λ (l : Option ℕ). option_eq eqb l (Some 0)) full)
 
@@ -39,14 +33,6 @@ Cut = List RowView × Bool
 abbrev one_less : Option ℕ → Option ℕ
 one_less limit = option_map (λ n. n - 1) limit
 
-cut_none : (limit : Option ℕ) → cut_at limit [] ≡ ([], false)
-cut_none None = refl
-cut_none (Some zero) = refl
-cut_none (Some (suc n)) = let no_more : nat_lt (suc n) 0 ≡ false = grind (arith, nat_tests) in ap (λ (more : Bool). let cut : Cut = ([], more) in cut) no_more
-
-cut_full : (row : RowView) (others : List RowView) → cut_at (Some 0) (row ∷ others) ≡ ([], true)
-cut_full row others = let more : nat_lt 0 (suc (length others)) ≡ true = grind (arith, nat_tests) in ap (λ (more : Bool). let cut : Cut = ([], more) in cut) more
-
 cut_row : (limit : Option ℕ) (row : RowView) (others : List RowView) → limit ≢ Some 0 → cut_at limit (row ∷ others) ≡ (row ∷ (cut_at (one_less limit) others).0, (cut_at (one_less limit) others).1)
 cut_row None row others some = refl
 cut_row (Some zero) row others some = absurd (some refl)
@@ -55,47 +41,19 @@ cut_row (Some (suc n)) row others some =
     let same : nat_lt (suc n) (suc (length others)) ≡ nat_lt n (length others) = grind (arith, nat_tests) in
     rw e (ap (λ (more : Bool). let cut : Cut = (row ∷ take n others, more) in cut) same)
 
--- ---- the last line
+-- ---- a row's line
 
 same_mark : (every : Bool) (r : Row) (row : RowView) → Shows r row → mark_shown every r ≡ mark_after every row
 same_mark false r row shows = ap (λ (k : KeyTexts). let m : Mark = record { key = k; binding = None } in m) shows.texts
 same_mark true r row shows = ap₂ (λ (k : KeyTexts) (b : Binding). let m : Mark = record { key = k; binding = Some (name_of b) } in m) shows.texts shows.binding
 
-module _ (every : Bool) where
-  last_end : (row : Option RowView) → last_words every row false ≡ codes "end"
-  last_end None = refl
-  last_end (Some row) = refl
-
-  last_next : (row : Option RowView) (last : Option Row) → option_map (mark_shown every) last ≡ option_map (mark_after every) row → last_words every row true ++ newline ∷ [] ≡ last_line every last
-  last_next None None e = refl
-  last_next None (Some r) e = cc
-  last_next (Some row) None e = cc
-  last_next (Some row) (Some r) e = ap (λ (m : Mark). (codes "next" ++ tab ∷ mark_text m) ++ newline ∷ []) (sym (same_Some (mark_shown every r) (mark_after every row) e))
-
--- a line that is the last: none is left
-pub closes : (text line : Text) → text ≡ line → (rest : Text) × (text ≡ line ++ rest) × (rest ≡ [])
-closes text line e = ([], e ∙ sym (append-nil line), refl)
-
 module _ (page : PageLines) (text : Text) (h : IsRestOfPage page text) where
   abbrev every : Bool
   every = is_every page.listing
 
-  -- no row is left
-  pub ends : IsOver page.listing → text ≡ last_line every None
-  ends over =
-      h.4 ∙ ap (λ (rows : List RowView). text_after every h.0 (cut_at page.limit rows)) (over h.1 h.3) ∙ ap (text_after every h.0) (cut_none page.limit)
-      ∙ ap (λ (words : Text). words ++ newline ∷ []) (last_end every h.0)
-
   module _ (t : Listing) (r : Row) (gives : GivesFirst page.listing r t) where
     others : (others : List RowView) × (h.1 ≡ gives.0 ∷ others) × AreLeftIn t others
     others = gives.2 h.1 h.3
-
-    -- a row is left, but the limit is reached
-    pub goes_on_later : page.limit ≡ Some 0 → text ≡ last_line every page.last
-    goes_on_later full =
-        h.4 ∙ ap (λ (rows : List RowView). text_after every h.0 (cut_at page.limit rows)) others.1
-        ∙ ap (λ (limit : Option ℕ). text_after every h.0 (cut_at limit (gives.0 ∷ others.0))) full
-        ∙ ap (text_after every h.0) (cut_full gives.0 others.0) ∙ last_next every h.0 page.last h.2
 
     -- a row is left, and the limit leaves it
     pub goes_on : page.limit ≢ Some 0 → is_every t ≡ every

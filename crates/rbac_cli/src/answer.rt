@@ -37,7 +37,7 @@ pub(crate) fn print_answer<W: Write + Drop>(
             output.print(verdict.text.as_slice())?;
             Ok(verdict.status)
         }
-        Action::WhoCan { why, question } => { print_holders(alloc, export, *why, question, output) }
+        Action::WhoCan { why, question } => print_holders(alloc, export, *why, question, output),
         Action::Rules { principal, scope } => {
             print_rules(alloc, export, principal, scope, output)
         }
