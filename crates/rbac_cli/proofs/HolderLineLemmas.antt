@@ -1,5 +1,5 @@
 -- The lines of holders: each holder has one line, and no other.
-use Rattle.std.proofs.Common.{◌≡◌, ◌∙◌, ℕ, ◌<◌, ◌≤◌, Bool, true, false, List, [], ◌∷◌, length, Contains, ap, sym, subst, refl, arith, suc, zero, ◌⊎◌, inl, inr}
+use Rattle.std.proofs.Common.{◌≡◌, ◌∙◌, ℕ, ◌<◌, ◌≤◌, Bool, true, false, List, [], ◌∷◌, length, get_or, drop, drop-cons, add-one, ◌+◌, Contains, ap, sym, subst, refl, arith, suc, zero, ◌⊎◌, inl, inr}
 use Rattle.std.specs.Prelude.{Some, None, Any, slice_get}
 use Rattle.std.proofs.lemmas.Bool.{cases_eq}
 use Rattle.std.proofs.lemmas.Option.{same_Some, slice_get_within, slice_get-get_or, get_or_from_slice_get}
@@ -150,21 +150,16 @@ module _ (p : PolicyView) (ok : IsPolicy p) (namespace verb : Text) (t : What) w
       let rest = lines_of why xs (λ y w. all y (suc w.0, omega (arith, w.1), w.2)) in
       (line.0 ∷ rest.0, (line.0, rest.0, line.1, rest.1, refl))
 
--- ---- the lines at their places
+-- ---- the line at a place
 
-module _ (p : PolicyView) (why : Bool) (namespace verb : Text) (t : What) where
-  pub as_many : (xs : List HolderView) (lines : List Text) → AreHolderLines p why namespace verb t xs lines → length lines ≡ length xs
-  as_many [] lines are = ap length are
-  as_many (x ∷ xs) lines (line, rest, is, are, e) = ap length e ∙ ap suc (as_many xs rest are)
-
-  pub line_at : (xs : List HolderView) (lines : List Text) (i : ℕ) (x : HolderView) → AreHolderLines p why namespace verb t xs lines → slice_get xs i ≡ Some x
-      → (line : Text) × (slice_get lines i ≡ Some line) × IsHolderLine p why namespace verb t x line
-  line_at [] lines i x are at = cc
-  line_at (y ∷ xs) lines zero x are at =
-      (are.0, ap (λ (l : List Text). slice_get l 0) are.4, subst (λ (v : HolderView). IsHolderLine p why namespace verb t v are.0) (same_Some y x at) are.2)
-  line_at (y ∷ xs) lines (suc i) x are at =
-      let rest = line_at xs are.1 i x are.3 at in
-      (rest.0, ap (λ (l : List Text). slice_get l (suc i)) are.4 ∙ rest.1, rest.2)
+pub line_at : (p : PolicyView) (why : Bool) (namespace verb : Text) (t : What) (xs : List HolderView) (i : ℕ) (x : HolderView) (lines : List Text) → slice_get xs i ≡ Some x
+    → AreHolderLines p why namespace verb t (drop i xs) lines
+    → (line : Text) × (rest : List Text) × IsHolderLine p why namespace verb t x line × AreHolderLines p why namespace verb t (drop (i + 1) xs) rest × (lines ≡ line ∷ rest)
+line_at p why namespace verb t xs i x lines at are =
+    let lt : i < length xs = slice_get_within xs i x at in
+    let e : get_or xs i x ≡ x = get_or_from_slice_get xs i x x at in
+    let here : drop i xs ≡ x ∷ drop (i + 1) xs = rw (add-one, drop-cons xs i x lt, e) refl in
+    subst (λ (ys : List HolderView). AreHolderLines p why namespace verb t ys lines) here are
 
 -- who is listed is a holder
 pub holder_at : (p : PolicyView) (namespace verb : Text) (t : What) (xs : List HolderView) (i : ℕ) (x : HolderView) → AreHolders p.held namespace verb t xs → slice_get xs i ≡ Some x → IsHolder p.held namespace verb t x

@@ -1,5 +1,4 @@
 pub mod HolderLineLemmas
-pub mod Lines
 pub mod ListingLemmas
 pub mod Named
 pub mod OneAnswer
@@ -9,7 +8,7 @@ pub mod OneMeant
 pub mod OneReason
 pub mod OneRun
 pub mod PageLemmas
-pub mod RuleLines
+pub mod Printed
 pub mod Stops
 pub mod TakenBytes
 pub mod Verdicts

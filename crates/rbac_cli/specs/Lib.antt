@@ -4,6 +4,7 @@ pub mod Left
 pub mod Listings
 pub mod Meant
 pub mod Out
+pub mod PageLeft
 pub mod Printing
 pub mod RunTexts
 pub mod ShownTokens

@@ -1,9 +1,8 @@
 -- How printing an answer ends, on the way to writing it.
-use Rattle.std.specs.Prelude.{◌≡◌, ℕ, ◌⊎◌, Bool, true, false, List, [], Option, Result, Ok, Err}
-use Rattle.rbac_model.specs.Policies.{Held}
-use Rattle.rbac_model.specs.Universes.{UniverseView, RowView}
-use Rattle.rbac_token.specs.declared.mark.Mark.{Mark}
-use Rattle.rbac_streams.specs.Streams.{SinkView, PageView}
+use Rattle.std.specs.Prelude.{◌≡◌, ◌<◌, ℕ, ◌⊎◌, Bool, true, false, List, [], ◌++◌, Option, Result}
+use Rattle.std.specs.Prelude.{Ok, Err, MatchResult}
+use Rattle.rbac_terms.specs.Text.{Text}
+use Rattle.rbac_streams.specs.Streams.{PageView}
 use Rattle.rbac_streams.specs.Taken.{Prints, StopsIn}
 use Rattle.rbac_streams.specs.declared.page.PrintFault.{PrintFault}
 use Rattle.rbac_streams.specs.declared.page.PrintFault.TheVariants as print
@@ -11,63 +10,85 @@ use Rattle.rbac_universe.specs.declared.fault.UniverseFault.{UniverseFault}
 use Rattle.rbac_universe.specs.declared.fault.UniverseFault.TheVariants as universe
 use Rattle.rbac_manifest.specs.Load.{LoadedView}
 use Rattle.rbac_question.specs.declared.command.Action.{Action}
-use Rattle.rbac_cli.specs.Listings.{AreListed, listing_text}
 use Rattle.rbac_cli.specs.Out.{Answers}
 use Rattle.rbac_cli.specs.Ends.{WritesPrefix, WritesNothing, LacksUniverse}
 use Rattle.rbac_cli.specs.declared.outcome.Status.{Status}
 use Rattle.rbac_cli.specs.declared.outcome.RunFault.{RunFault}
 use Rattle.rbac_cli.specs.declared.outcome.RunFault.TheVariants.{Load, Universe, Memory, Write}
+use Rattle.rbac_cli.specs.declared.output.Output.{Output}
 use Rattle.rbac_cli.specs.declared.stop.Stop.{Stop}
 use Rattle.rbac_cli.specs.declared.stop.Stop.TheVariants.{NoUniverse, NoMemory, SinkFailed}
 
--- more text was printed: a text that the action means over what was loaded
-abbrev pub PrintsAnswer : {W : Type 0} → (W → Option (List ℕ)) → SinkView W → PageView → SinkView W
-    → PageView → LoadedView → Action → Status → Type 0
-PrintsAnswer contents old page new after l action status =
-    (text : List ℕ) × Answers l action text status × Prints contents old page new after text
+-- a line was put, the first of those that were left, and the others are left; or none was left
+abbrev pub GivesLine : {L : Type 0} → (L → Text → Type 0) → (L → Type 0) → (L → ℕ) → L → Text → L
+    → Bool → Type 0
+GivesLine are_left is_open most_left old line new true =
+    is_open new × (most_left new < most_left old)
+    × ((text : Text) → are_left old text → (rest : Text) × (text ≡ line ++ rest) × are_left new rest)
+GivesLine are_left is_open most_left old line new false =
+    (text : Text) → are_left old text → text ≡ []
+
+-- it borrows the same sink and the same page as before
+abbrev pub BorrowsTheSame : {W : Type 0} → Output W → Output W → Type 0
+BorrowsTheSame old new = (new.sink.ghost_name ≡ old.sink.ghost_name)
+    × (new.page.ghost_name ≡ old.page.ghost_name)
+
+-- more text was printed
+abbrev pub PrintsText : {W : Type 0} → (W → Option (List ℕ)) → Output W → Output W → Text → Type 0
+PrintsText contents old new text =
+    Prints contents old.sink.now old.page.now new.sink.now new.page.now text
+
+-- printing more text stopped
+abbrev pub StopsInText : {W : Type 0} → (W → Option (List ℕ)) → Output W → Output W → Text → Type 0
+StopsInText contents old new text =
+    StopsIn contents old.sink.now old.page.now new.sink.now new.page.now text
+
+-- a text was printed that the action means over what was loaded
+abbrev pub PrintsAnswer : {W : Type 0} → (W → Option (List ℕ)) → Output W → Output W → LoadedView
+    → Action → Status → Type 0
+PrintsAnswer contents old new l action status =
+    (text : Text) × Answers l action text status × PrintsText contents old new text
 
 -- printing stopped within a text that the action means
-abbrev pub StopsInAnswer : {W : Type 0} → (W → Option (List ℕ)) → SinkView W → PageView → SinkView W
-    → PageView → LoadedView → Action → Type 0
-StopsInAnswer contents old page new after l action =
-    (text : List ℕ) × (status : Status) × Answers l action text status
-    × StopsIn contents old page new after text
+abbrev pub StopsInAnswer : {W : Type 0} → (W → Option (List ℕ)) → Output W → Output W → LoadedView
+    → Action → Type 0
+StopsInAnswer contents old new l action =
+    (text : Text) × (status : Status) × Answers l action text status
+    × StopsInText contents old new text
 
 -- nothing was printed
-abbrev pub IsUntouched : {W : Type 0} → SinkView W → PageView → SinkView W → PageView → Type 0
-IsUntouched old page new after = (new ≡ old) × (after ≡ page)
+abbrev pub IsUntouched : {W : Type 0} → Output W → Output W → Type 0
+IsUntouched old new = (new.sink.now ≡ old.sink.now) × (new.page.now ≡ old.page.now)
 
 -- how printing an answer stops: before any of it, with no universe or out of memory; or within it
-abbrev pub StopsPrinting : {W : Type 0} → (W → Option (List ℕ)) → SinkView W → PageView → SinkView W
-    → PageView → LoadedView → Action → Stop → Type 0
-StopsPrinting contents old page new after l action (NoUniverse fault) =
-    LacksUniverse l action fault × IsUntouched old page new after
-StopsPrinting contents old page new after l action NoMemory =
-    IsUntouched old page new after ⊎ StopsInAnswer contents old page new after l action
-StopsPrinting contents old page new after l action SinkFailed =
-    StopsInAnswer contents old page new after l action
+abbrev pub StopsPrinting : {W : Type 0} → (W → Option (List ℕ)) → Output W → Output W → LoadedView
+    → Action → Stop → Type 0
+StopsPrinting contents old new l action (NoUniverse fault) =
+    LacksUniverse l action fault × IsUntouched old new
+StopsPrinting contents old new l action NoMemory =
+    IsUntouched old new ⊎ StopsInAnswer contents old new l action
+StopsPrinting contents old new l action SinkFailed = StopsInAnswer contents old new l action
 
--- a page of the rows that are listed was printed
-abbrev pub PrintsRows : {W : Type 0} → (W → Option (List ℕ)) → SinkView W → PageView → SinkView W
-    → PageView → Bool → Option Mark → Option ℕ → Held → UniverseView → Type 0
-PrintsRows contents old page new after every m limit held u =
-    (rows : List RowView) × AreListed every held u rows
-    × Prints contents old page new after (listing_text every m limit rows)
+-- the sink failed
+abbrev pub is_sink_fault : {T : Type 0} → Result T PrintFault → Bool
+is_sink_fault (Ok x) = false
+is_sink_fault (Err print.SinkFailed) = true
+is_sink_fault (Err print.NoMemory) = false
 
--- printing stopped within such a page
-abbrev pub StopsInRows : {W : Type 0} → (W → Option (List ℕ)) → SinkView W → PageView → SinkView W
-    → PageView → Bool → Option Mark → Option ℕ → Held → UniverseView → Type 0
-StopsInRows contents old page new after every m limit held u =
-    (rows : List RowView) × AreListed every held u rows
-    × StopsIn contents old page new after (listing_text every m limit rows)
+-- it was the sink that stopped the answer
+abbrev pub is_sink_stop : {T : Type 0} → Result T Stop → Bool
+is_sink_stop (Ok x) = false
+is_sink_stop (Err (NoUniverse fault)) = false
+is_sink_stop (Err NoMemory) = false
+is_sink_stop (Err SinkFailed) = true
 
--- how printing such a page stops: out of memory before any of it, or within it
-abbrev pub StopsRows : {W : Type 0} → (W → Option (List ℕ)) → SinkView W → PageView → SinkView W
-    → PageView → Bool → Option Mark → Option ℕ → Held → UniverseView → PrintFault → Type 0
-StopsRows contents old page new after every m limit held u print.SinkFailed =
-    StopsInRows contents old page new after every m limit held u
-StopsRows contents old page new after every m limit held u print.NoMemory =
-    IsUntouched old page new after ⊎ StopsInRows contents old page new after every m limit held u
+-- how printing an answer ends; the sink failed exactly if it was the sink that stopped the answer
+pub record EndsPrinting {W : Type 0} (contents : W → Option (List ℕ)) (old new : Output W)
+    (l : LoadedView) (action : Action) (ended : Result Status Stop) : Type 0 where
+  pub ends : MatchResult ended (PrintsAnswer contents old new l action)
+      (StopsPrinting contents old new l action)
+  pub failed : new.sink.now.has_failed ≡ is_sink_stop ended
+  pub same : BorrowsTheSame old new
 
 -- the fault of a run that was stopped, with what the page has written
 abbrev pub fault_at : PageView → Stop → RunFault
@@ -92,16 +113,3 @@ StopsWith took l action (Load fault) = ⊥
 StopsWith took l action (Universe fault) = LacksUniverse l action fault × took []
 StopsWith took l action (Memory n) = WritesNothing took n ⊎ WritesPrefix took l action n
 StopsWith took l action (Write n) = WritesPrefix took l action n
-
--- the sink failed
-abbrev pub is_sink_fault : {T : Type 0} → Result T PrintFault → Bool
-is_sink_fault (Ok x) = false
-is_sink_fault (Err print.SinkFailed) = true
-is_sink_fault (Err print.NoMemory) = false
-
--- it was the sink that stopped the answer
-abbrev pub is_sink_stop : {T : Type 0} → Result T Stop → Bool
-is_sink_stop (Ok x) = false
-is_sink_stop (Err (NoUniverse fault)) = false
-is_sink_stop (Err NoMemory) = false
-is_sink_stop (Err SinkFailed) = true

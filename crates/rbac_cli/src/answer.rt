@@ -1,18 +1,18 @@
 //! The answer of each action.
 
-ghost use Rattle.std.specs.Prelude.{◌≡◌, false, IfOk, IfErr};
-ghost use Rattle.rbac_cli.specs.Printing.{PrintsAnswer, StopsPrinting, is_sink_stop};
+ghost use Rattle.std.specs.Prelude.{◌≡◌, false};
+ghost use Rattle.rbac_cli.specs.Printing.{EndsPrinting};
 
 use crate::can_i::verdict_of;
 use crate::lint::print_findings;
 use crate::matrix::print_matrix;
 use crate::outcome::Status;
+use crate::output::Output;
 use crate::rules::print_rules;
 use crate::stop::Stop;
 use crate::who_can::print_holders;
 use rbac_manifest::Export;
 use rbac_question::Action;
-use rbac_streams::{Page, Sink};
 use std::alloc::Global;
 use std::io::Write;
 
@@ -21,15 +21,10 @@ pub(crate) fn print_answer<W: Write + Drop>(
     alloc: Global,
     export: &Export,
     action: &Action,
-    sink: &mut Sink<W>,
-    page: &mut Page,
+    output: &mut Output<'_, W>,
 ) -> Result<Status, Stop>
-    requires { sink.old.has_failed ≡ false }
-    ensures ok { IfOk result
-        (PrintsAnswer W.contents sink.old page.old sink.new page.new export.now action.now) }
-    ensures err { IfErr result
-        (StopsPrinting W.contents sink.old page.old sink.new page.new export.now action.now) }
-    ensures failed { sink.new.has_failed ≡ is_sink_stop result }
+    requires { output.old.sink.now.has_failed ≡ false }
+    ensures { EndsPrinting W.contents output.old output.new export.now action.now result }
 {
     match action {
         Action::CanI {
@@ -39,20 +34,18 @@ pub(crate) fn print_answer<W: Write + Drop>(
             question,
         } => {
             let verdict = verdict_of(alloc, export, principal, *quiet, *why, question)?;
-            page.print(sink, verdict.text.as_slice())?;
+            output.print(verdict.text.as_slice())?;
             Ok(verdict.status)
         }
-        Action::WhoCan { why, question } => {
-            print_holders(alloc, export, *why, question, sink, page)
-        }
+        Action::WhoCan { why, question } => print_holders(alloc, export, *why, question, output),
         Action::Rules { principal, scope } => {
-            print_rules(alloc, export, principal, scope, sink, page)
+            print_rules(alloc, export, principal, scope, output)
         }
         Action::Matrix {
             every,
             after,
             limit,
-        } => print_matrix(alloc, export, *every, after.as_ref(), *limit, sink, page),
-        Action::Lint => print_findings(alloc, export, sink, page),
+        } => print_matrix(alloc, export, *every, after.as_ref(), *limit, output),
+        Action::Lint => print_findings(alloc, export, output),
     }
 }

@@ -6,11 +6,13 @@
 mod answer;
 mod can_i;
 mod laws;
+mod lines;
 mod lint;
 mod listing;
 mod matrix;
 mod meaning;
 mod outcome;
+mod output;
 mod pages;
 mod rules;
 mod running;

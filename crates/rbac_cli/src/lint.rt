@@ -1,39 +1,33 @@
 //! What lint finds, as an answer.
 
-ghost use Rattle.std.specs.Prelude.{◌≡◌, false, IfOk, IfErr, OnOk, OnErr};
-ghost use Rattle.rbac_text.specs.Finding.{finding_text};
-ghost use Rattle.rbac_streams.specs.Taken.{Prints, StopsIn};
+ghost use Rattle.std.specs.Prelude.{◌≡◌, false};
 ghost use Rattle.rbac_question.specs.declared.command.Action.TheVariants.{Lint};
 ghost use Rattle.rbac_cli.specs.Out.{findings_text, findings_status};
-ghost use Rattle.rbac_cli.specs.Printing.{PrintsAnswer, StopsPrinting};
-ghost use Rattle.rbac_cli.specs.Printing.{is_sink_fault, is_sink_stop};
+ghost use Rattle.rbac_cli.specs.Printing.{EndsPrinting};
 
+use crate::lines::{Lines, print_lines};
 use crate::outcome::Status;
+use crate::output::Output;
 use crate::stop::Stop;
 use rbac_lint::{Finding, lint_export};
 use rbac_manifest::Export;
-use rbac_streams::{Page, PrintFault, Sink};
 use rbac_text::put_finding;
-use std::alloc::Global;
+use std::alloc::{AllocError, Global};
 use std::io::Write;
+use std::slice::Iter;
 
 /// Prints what lint finds in what was loaded, a line for each finding.
 pub(crate) fn print_findings<W: Write + Drop>(
     alloc: Global,
     export: &Export,
-    sink: &mut Sink<W>,
-    page: &mut Page,
+    output: &mut Output<'_, W>,
 ) -> Result<Status, Stop>
-    requires { sink.old.has_failed ≡ false }
-    ensures ok { IfOk result
-        (PrintsAnswer W.contents sink.old page.old sink.new page.new export.now Lint) }
-    ensures err { IfErr result
-        (StopsPrinting W.contents sink.old page.old sink.new page.new export.now Lint) }
-    ensures failed { sink.new.has_failed ≡ is_sink_stop result }
+    requires { output.old.sink.now.has_failed ≡ false }
+    ensures { EndsPrinting W.contents output.old output.new export.now Lint result }
 {
     let findings = lint_export(alloc, export)?;
-    print_lines(alloc, findings.as_slice(), sink, page)?;
-    Ok(status_of(findings.as_slice()))
+    let findings = findings.as_slice();
+    print_lines(alloc, &mut findings.iter(), status_of(findings), output)
 }
 
 // The status: 1 if anything is found.
@@ -46,54 +40,25 @@ fn status_of(findings: &[Finding]) -> Status
     }
 }
 
-// Prints the lines of findings.
-fn print_lines<W: Write + Drop>(
-    alloc: Global,
-    findings: &[Finding],
-    sink: &mut Sink<W>,
-    page: &mut Page,
-) -> Result<(), PrintFault>
-    requires { sink.old.has_failed ≡ false }
-    ensures ok { OnOk result
-        (Prints W.contents sink.old page.old sink.new page.new (findings_text findings.now)) }
-    ensures err { OnErr result
-        (StopsIn W.contents sink.old page.old sink.new page.new (findings_text findings.now)) }
-    ensures failed { sink.new.has_failed ≡ is_sink_fault result }
-{
-    let mut line = Vec::new(alloc);
-    for finding in findings {
-        if let Err(fault) = print_finding(finding, &mut line, sink, page) {
-            return Err(fault);
-        }
-    }
-    Ok(())
-}
+impl Lines for Iter<'_, Finding> {
+    ghost use Rattle.std.specs.Prelude.{length};
+    ghost use Rattle.std.specs.Slice.Iter.{iter_rest};
 
-// Prints the line of one finding, built in `line`.
-fn print_finding<W: Write + Drop>(
-    finding: &Finding,
-    line: &mut Vec<u8>,
-    sink: &mut Sink<W>,
-    page: &mut Page,
-) -> Result<(), PrintFault>
-    requires { sink.old.has_failed ≡ false }
-    ensures ok { OnOk result
-        (Prints W.contents sink.old page.old sink.new page.new
-        (finding_text finding.now.code finding.now.object finding.now.place finding.now.other)) }
-    ensures err { OnErr result
-        (StopsIn W.contents sink.old page.old sink.new page.new
-        (finding_text finding.now.code finding.now.object finding.now.place finding.now.other)) }
-    ensures failed { sink.new.has_failed ≡ is_sink_fault result }
-{
-    line.clear();
-    let Finding {
-        code,
-        object,
-        place,
-        other,
-    } = finding;
-    if put_finding(line, *code, object, *place, other).is_err() {
-        return Err(PrintFault::NoMemory);
+    ghost are_left = { λ findings text. text ≡ findings_text (iter_rest findings) };
+
+    ghost most_left = { λ findings. length (iter_rest findings) };
+
+    fn put_next(&mut self, line: &mut Vec<u8>) -> Result<bool, AllocError> {
+        let Some(finding) = self.next() else {
+            return Ok(false);
+        };
+        let Finding {
+            code,
+            object,
+            place,
+            other,
+        } = finding;
+        put_finding(line, *code, object, *place, other)?;
+        Ok(true)
     }
-    page.print(sink, line.as_slice())
 }

@@ -1,22 +1,23 @@
 //! The matrix, as an answer.
 
-ghost use Rattle.std.specs.Prelude.{◌≡◌, length, false, IfOk, IfErr, OnOk, MatchResult};
+ghost use Rattle.std.specs.Prelude.{◌≡◌, length, false, IfOk, MatchResult};
 ghost use Rattle.std.specs.Option.{option_copied};
 ghost use Rattle.rbac_universe.specs.Sets.{IsUniverseOf, HasUniverseFault};
 ghost use Rattle.rbac_index.specs.Reaches.{AreReaches};
+ghost use Rattle.rbac_manifest.specs.Load.{LoadedView};
 ghost use Rattle.rbac_question.specs.declared.command.Action.TheVariants.{Matrix as ListsMatrix};
-ghost use Rattle.rbac_cli.specs.Printing.{PrintsAnswer, StopsPrinting, PrintsRows, StopsRows};
-ghost use Rattle.rbac_cli.specs.Printing.{is_sink_fault, is_sink_stop};
+ghost use Rattle.rbac_cli.specs.Printing.{EndsPrinting};
 
+use crate::lines::print_lines;
 use crate::listing::Listing;
 use crate::outcome::Status;
-use crate::pages::print_page;
+use crate::output::Output;
+use crate::pages::PageLines;
 use crate::stop::Stop;
 use rbac_index::{Index, IndexFault, Reach, reaches_of};
 use rbac_manifest::Export;
 use rbac_matrix::{Matrix, Seat};
 use rbac_model::Policy;
-use rbac_streams::{Page, PrintFault, Sink};
 use rbac_token::Mark;
 use rbac_universe::{Universe, UniverseFault};
 use std::alloc::{AllocError, Global};
@@ -31,45 +32,34 @@ pub(crate) fn print_matrix<W: Write + Drop>(
     every: bool,
     after: Option<&Mark>,
     limit: Option<u32>,
-    sink: &mut Sink<W>,
-    page: &mut Page,
+    output: &mut Output<'_, W>,
 ) -> Result<Status, Stop>
-    requires { sink.old.has_failed ≡ false }
-    ensures ok { IfOk result
-        (PrintsAnswer W.contents sink.old page.old sink.new page.new export.now
-        (ListsMatrix every (option_copied after.entry) limit)) }
-    ensures err { IfErr result
-        (StopsPrinting W.contents sink.old page.old sink.new page.new export.now
-        (ListsMatrix every (option_copied after.entry) limit)) }
-    ensures failed { sink.new.has_failed ≡ is_sink_stop result }
+    requires { output.old.sink.now.has_failed ≡ false }
+    ensures { EndsPrinting W.contents output.old output.new export.now
+        (ListsMatrix every (option_copied after.entry) limit) result }
 {
     let basis = basis_of(alloc, export)?;
-    print_rows(alloc, &basis, every, after, limit, sink, page)?;
-    Ok(Status::Zero)
+    print_rows(alloc, &basis, every, after, limit, output)
 }
 
-// Prints the rows of a page and its last line.
+// Prints a page of the rows of a matrix over this basis.
 fn print_rows<W: Write + Drop>(
     alloc: Global,
     basis: &Basis<'_>,
     every: bool,
     after: Option<&Mark>,
     limit: Option<u32>,
-    sink: &mut Sink<W>,
-    page: &mut Page,
-) -> Result<(), PrintFault>
-    requires works { sink.old.has_failed ≡ false }
+    output: &mut Output<'_, W>,
+) -> Result<Status, Stop>
+    requires works { output.old.sink.now.has_failed ≡ false }
     requires reaches { AreReaches basis.now.index basis.now.universe basis.now.reaches.items }
-    ensures ok { OnOk result
-        (PrintsRows W.contents sink.old page.old sink.new page.new
-        every (option_copied after.entry) limit basis.now.index.held basis.now.universe) }
-    ensures err { IfErr result
-        (StopsRows W.contents sink.old page.old sink.new page.new
-        every (option_copied after.entry) limit basis.now.index.held basis.now.universe) }
-    ensures failed { sink.new.has_failed ≡ is_sink_fault result }
+    ensures { (l : LoadedView) → IsUniverseOf l.lists basis.now.universe
+        → basis.now.index ≡ l.policy
+        → EndsPrinting W.contents output.old output.new l
+        (ListsMatrix every (option_copied after.entry) limit) result }
 {
     let Ok(mut seats) = seats_for(alloc, &basis.index) else {
-        return Err(PrintFault::NoMemory);
+        return Err(Stop::NoMemory);
     };
     let mut matrix = Matrix::build(
         &basis.index,
@@ -77,8 +67,15 @@ fn print_rows<W: Write + Drop>(
         basis.reaches.as_slice(),
         seats.as_mut_slice(),
     );
-    let mut listing = Listing::after(&mut matrix, every, after);
-    print_page(alloc, &mut listing, limit, sink, page)
+    let listing = Listing::after(&mut matrix, every, after);
+    let mut lines = PageLines {
+        alloc,
+        listing,
+        limit,
+        last: None,
+        has_ended: false,
+    };
+    print_lines(alloc, &mut lines, Status::Zero, output)
 }
 
 // What a matrix is built on: a universe, an index, and the reach of each grant.

@@ -4,10 +4,11 @@ ghost use Rattle.std.specs.Prelude.{◌≡◌, ◌≢◌, ◌++◌, [], false, M
 ghost use Rattle.rbac_streams.specs.Taken.{Took, Printed};
 ghost use Rattle.rbac_manifest.specs.Load.{IsLoaded};
 ghost use Rattle.rbac_cli.specs.Ends.{Ends, FailsToLoad, Writes, is_write_fault};
-ghost use Rattle.rbac_cli.specs.Printing.{StopsWith};
+ghost use Rattle.rbac_cli.specs.Printing.{BorrowsTheSame, StopsWith};
 
 use crate::answer::print_answer;
 use crate::outcome::{RunFault, Status};
+use crate::output::Output;
 use crate::stop::Stop;
 use rbac_manifest::{Cause, Export, LoadFault, load_export};
 use rbac_question::{Action, Command};
@@ -38,7 +39,11 @@ pub fn run<W: Write + Drop>(
 {
     let mut page = Page::start(alloc, sink);
     let export = export_from(alloc, inputs)?;
-    write_answer(alloc, &export, &command.action, sink, &mut page)
+    let mut output = Output {
+        sink,
+        page: &mut page,
+    };
+    write_answer(alloc, &export, &command.action, &mut output)
 }
 
 /// Like [`run`], but with a writer that shows its bytes: a vector. This contract follows from the
@@ -85,24 +90,25 @@ fn write_answer<W: Write + Drop>(
     alloc: Global,
     export: &Export,
     action: &Action,
-    sink: &mut Sink<W>,
-    page: &mut Page,
+    output: &mut Output<'_, W>,
 ) -> Result<Status, RunFault>
-    requires works { sink.old.has_failed ≡ false }
-    requires printed { Printed W.contents sink.old sink.old page.old [] }
-    requires took { Took W.contents sink.old sink.old [] }
-    requires empty { page.old.written ≡ 0 }
+    requires works { output.old.sink.now.has_failed ≡ false }
+    requires printed { Printed W.contents output.old.sink.now output.old.sink.now
+        output.old.page.now [] }
+    requires took { Took W.contents output.old.sink.now output.old.sink.now [] }
+    requires empty { output.old.page.now.written ≡ 0 }
     ensures ends { MatchResult result
-        (Writes (Took W.contents sink.old sink.new) export.now action.now)
-        (StopsWith (Took W.contents sink.old sink.new) export.now action.now) }
-    ensures failed { sink.new.has_failed ≡ is_write_fault result }
+        (Writes (Took W.contents output.old.sink.now output.new.sink.now) export.now action.now)
+        (StopsWith (Took W.contents output.old.sink.now output.new.sink.now) export.now action.now) }
+    ensures failed { output.new.sink.now.has_failed ≡ is_write_fault result }
+    ensures same { BorrowsTheSame output.old output.new }
 {
-    let status = match print_answer(alloc, export, action, sink, page) {
+    let status = match print_answer(alloc, export, action, output) {
         Ok(status) => status,
-        Err(stop) => return Err(stop.fault(page)),
+        Err(stop) => return Err(stop.fault(output.page)),
     };
-    match page.flush(sink) {
+    match output.page.flush(output.sink) {
         Ok(()) => Ok(status),
-        Err(fault) => Err(Stop::from(fault).fault(page)),
+        Err(fault) => Err(Stop::from(fault).fault(output.page)),
     }
 }

@@ -1,24 +1,23 @@
 //! Who may do something, as an answer.
 
-ghost use Rattle.std.specs.Prelude.{◌≡◌, ◌++◌, false, List, IfOk, IfErr, OnOk, OnErr};
+ghost use Rattle.std.specs.Prelude.{◌≡◌, ◌++◌, ◌-◌, false, List, IfOk, OnOk, drop, length};
 ghost use Rattle.rbac_terms.specs.Text.{Text};
 ghost use Rattle.rbac_model.specs.Policies.{IsPolicy};
 ghost use Rattle.rbac_model.specs.Holders.{AreHolders, IsHolder};
 ghost use Rattle.rbac_index.specs.HolderViews.{holder_shown};
-ghost use Rattle.rbac_streams.specs.Taken.{Prints, StopsIn};
 ghost use Rattle.rbac_question.specs.declared.command.Action.TheVariants.{WhoCan};
 ghost use Rattle.rbac_cli.specs.HolderLines.{AreHolderLines, IsHolderLine, joined};
-ghost use Rattle.rbac_cli.specs.Printing.{PrintsAnswer, StopsPrinting};
-ghost use Rattle.rbac_cli.specs.Printing.{is_sink_fault, is_sink_stop};
+ghost use Rattle.rbac_cli.specs.Printing.{EndsPrinting};
 
+use crate::lines::{Lines, print_lines};
 use crate::meaning::{Meant, meant_by};
 use crate::outcome::Status;
+use crate::output::Output;
 use crate::stop::Stop;
 use rbac_index::{Holder, Holders, Index, IndexFault, why_held};
 use rbac_manifest::Export;
 use rbac_model::Policy;
 use rbac_question::Question;
-use rbac_streams::{Page, PrintFault, Sink};
 use rbac_terms::{Target, Word};
 use rbac_text::{put_holder, put_holder_why};
 use std::alloc::{AllocError, Global};
@@ -31,17 +30,11 @@ pub(crate) fn print_holders<W: Write + Drop>(
     export: &Export,
     why: bool,
     question: &Question,
-    sink: &mut Sink<W>,
-    page: &mut Page,
+    output: &mut Output<'_, W>,
 ) -> Result<Status, Stop>
-    requires { sink.old.has_failed ≡ false }
-    ensures ok { IfOk result
-        (PrintsAnswer W.contents sink.old page.old sink.new page.new export.now
-        (WhoCan why question.now)) }
-    ensures err { IfErr result
-        (StopsPrinting W.contents sink.old page.old sink.new page.new export.now
-        (WhoCan why question.now)) }
-    ensures failed { sink.new.has_failed ≡ is_sink_stop result }
+    requires { output.old.sink.now.has_failed ≡ false }
+    ensures { EndsPrinting W.contents output.old output.new export.now
+        (WhoCan why question.now) result }
 {
     let meant = meant_by(alloc, export.catalogue(), question)?;
     let holders = holders_of(alloc, export.policy(), &question.verb, &meant)?;
@@ -51,17 +44,12 @@ pub(crate) fn print_holders<W: Write + Drop>(
         target: &meant.target,
         why,
     };
-    print_lines(alloc, asked, &holders, sink, page)?;
-    Ok(Status::Zero)
-}
-
-// What holders are asked about, and whether to tell why they hold it.
-#[derive(Clone, Copy)]
-struct Asked<'a> {
-    policy: &'a Policy,
-    verb: &'a Word,
-    target: &'a Target,
-    why: bool,
+    let mut lines = HolderLines {
+        asked,
+        holders: &holders,
+        place: 0,
+    };
+    print_lines(alloc, &mut lines, Status::Zero, output)
 }
 
 fn holders_of<'p>(
@@ -80,66 +68,42 @@ fn holders_of<'p>(
     index.who_can(alloc, &meant.namespace, verb, &meant.target)
 }
 
-// Prints the lines of holders.
-fn print_lines<W: Write + Drop>(
-    alloc: Global,
-    asked: Asked<'_>,
-    holders: &Holders<'_>,
-    sink: &mut Sink<W>,
-    page: &mut Page,
-) -> Result<(), PrintFault>
-    requires { sink.old.has_failed ≡ false }
-    ensures ok { (namespace : Text) (lines : List Text)
-        → AreHolders asked.entry.policy.now.held namespace asked.entry.verb.now
-        asked.entry.target.now holders.now
-        → AreHolderLines asked.entry.policy.now asked.entry.why namespace asked.entry.verb.now
-        asked.entry.target.now holders.now lines
-        → OnOk result (Prints W.contents sink.old page.old sink.new page.new (joined lines)) }
-    ensures err { (namespace : Text) (lines : List Text)
-        → AreHolders asked.entry.policy.now.held namespace asked.entry.verb.now
-        asked.entry.target.now holders.now
-        → AreHolderLines asked.entry.policy.now asked.entry.why namespace asked.entry.verb.now
-        asked.entry.target.now holders.now lines
-        → OnErr result (StopsIn W.contents sink.old page.old sink.new page.new (joined lines)) }
-    ensures failed { sink.new.has_failed ≡ is_sink_fault result }
-{
-    let mut line = Vec::new(alloc);
-    for place in 0..holders.len() {
-        if let Err(fault) = print_holder(asked, holders.get(place), &mut line, sink, page) {
-            return Err(fault);
-        }
-    }
-    Ok(())
+// What holders are asked about, and whether to tell why they hold it.
+#[derive(Clone, Copy)]
+struct Asked<'a> {
+    policy: &'a Policy,
+    verb: &'a Word,
+    target: &'a Target,
+    why: bool,
 }
 
-// Prints the line of one holder, built in `line`.
-fn print_holder<W: Write + Drop>(
-    asked: Asked<'_>,
-    holder: Holder<'_>,
-    line: &mut Vec<u8>,
-    sink: &mut Sink<W>,
-    page: &mut Page,
-) -> Result<(), PrintFault>
-    requires { sink.old.has_failed ≡ false }
-    ensures ok { (namespace : Text) (text : Text)
-        → IsHolder asked.entry.policy.now.held namespace asked.entry.verb.now
-        asked.entry.target.now (holder_shown holder.entry)
-        → IsHolderLine asked.entry.policy.now asked.entry.why namespace asked.entry.verb.now
-        asked.entry.target.now (holder_shown holder.entry) text
-        → OnOk result (Prints W.contents sink.old page.old sink.new page.new text) }
-    ensures err { (namespace : Text) (text : Text)
-        → IsHolder asked.entry.policy.now.held namespace asked.entry.verb.now
-        asked.entry.target.now (holder_shown holder.entry)
-        → IsHolderLine asked.entry.policy.now asked.entry.why namespace asked.entry.verb.now
-        asked.entry.target.now (holder_shown holder.entry) text
-        → OnErr result (StopsIn W.contents sink.old page.old sink.new page.new text) }
-    ensures failed { sink.new.has_failed ≡ is_sink_fault result }
-{
-    line.clear();
-    if put_line(line, asked, holder).is_err() {
-        return Err(PrintFault::NoMemory);
+// The lines of holders from a place on.
+#[derive(Drop)]
+struct HolderLines<'a, 'h, 'p> {
+    asked: Asked<'a>,
+    holders: &'h Holders<'p>,
+    place: usize,
+}
+
+impl Lines for HolderLines<'_, '_, '_> {
+    ghost are_left = { λ it text. (namespace : Text) × (lines : List Text)
+        × AreHolders it.asked.policy.now.held namespace it.asked.verb.now it.asked.target.now
+        it.holders.now
+        × AreHolderLines it.asked.policy.now it.asked.why namespace it.asked.verb.now
+        it.asked.target.now (drop it.place it.holders.now) lines
+        × (text ≡ joined lines) };
+
+    ghost most_left = { λ it. length it.holders.now - it.place };
+
+    fn put_next(&mut self, line: &mut Vec<u8>) -> Result<bool, AllocError> {
+        let place = self.place;
+        if place >= self.holders.len() {
+            return Ok(false);
+        }
+        self.place = place + 1;
+        put_line(line, self.asked, self.holders.get(place))?;
+        Ok(true)
     }
-    page.print(sink, line.as_slice())
 }
 
 // Adds the line of one holder.

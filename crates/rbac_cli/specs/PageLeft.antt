@@ -1,0 +1,45 @@
+-- The lines that a page has left.
+use Rattle.std.specs.Prelude.{◌≡◌, ℕ, ◌+◌, Bool, true, false, List, [], ◌∷◌, ◌++◌, Option}
+use Rattle.std.specs.List.{last_or}
+use Rattle.std.specs.Option.{option_map}
+use Rattle.rbac_terms.specs.Text.{Text}
+use Rattle.rbac_model.specs.Universes.{RowView}
+use Rattle.rbac_text.specs.Row.{newline}
+use Rattle.rbac_cli.specs.Left.{AreLeftIn, is_every, most_left}
+use Rattle.rbac_cli.specs.Listings.{cut_at, last_words, mark_after, rows_text}
+use Rattle.rbac_cli.specs.ShownTokens.{mark_shown}
+use Rattle.rbac_cli.specs.declared.pages.PageLines.{PageLines}
+
+-- the lines of a page that come after a row, if one is given: its other rows, and the last line
+abbrev pub text_after : Bool → Option RowView → List RowView × Bool → Text
+text_after every row p =
+    rows_text p.0 ++ last_words every (last_or row p.0) p.1 ++ newline ∷ []
+
+-- the row that was printed last has the mark of this one
+abbrev pub IsPrintedLast : PageLines → Option RowView → Type 0
+IsPrintedLast page row =
+    option_map (mark_shown (is_every page.listing)) page.last
+    ≡ option_map (mark_after (is_every page.listing)) row
+
+-- before the last line: of the listing's rows those that the limit leaves, and the last line
+abbrev pub IsRestOfPage : PageLines → Text → Type 0
+IsRestOfPage page text =
+    (row : Option RowView) × (rows : List RowView) × IsPrintedLast page row
+    × AreLeftIn page.listing rows
+    × (text ≡ text_after (is_every page.listing) row (cut_at page.limit rows))
+
+-- these lines are left: none after the last
+abbrev pub is_left : Bool → PageLines → Text → Type 0
+is_left true page text = text ≡ []
+is_left false page text = IsRestOfPage page text
+
+abbrev pub IsPageLeft : PageLines → Text → Type 0
+IsPageLeft page text = is_left page.has_ended page text
+
+-- at most so many lines are left
+abbrev pub lines_before : Bool → ℕ → ℕ
+lines_before true rows = 0
+lines_before false rows = rows + 1
+
+abbrev pub most_lines : PageLines → ℕ
+most_lines page = lines_before page.has_ended (most_left page.listing)
