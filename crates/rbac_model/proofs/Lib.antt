@@ -25,3 +25,4 @@ pub mod OwnWords
 pub mod Searched
 pub mod Stairs
 pub mod UpTo
+pub mod UrlWords
