@@ -9,6 +9,7 @@ pub mod Levels
 pub mod Listing
 pub mod OneChanges
 pub mod OneStar
+pub mod SameGrants
 pub mod Searching
 pub mod Stars
 pub mod Strangers

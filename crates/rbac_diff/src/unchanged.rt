@@ -1,10 +1,10 @@
 //! Bindings that both policies have, and that grant the same in both.
 
-ghost use Rattle.std.specs.Prelude.{◌≡◌, ◌<◌, ◌≤◌, IsTrue, length};
+ghost use Rattle.std.specs.Prelude.{◌≡◌, ◌<◌, ◌↔◌, IsTrue, length};
 ghost use Rattle.rbac_diff.specs.Unchanged.{HasSameGrants, HaveSameRules};
 
 use rbac_model::Policy;
-use rbac_terms::{Binding, Rule, Subject};
+use rbac_terms::{Binding, Rule, Subject, Words};
 use std::cmp::Ordering;
 
 // The first place, from this one on, of a binding whose name isn't less than this one's: its own
@@ -33,26 +33,30 @@ pub(crate) fn is_unchanged(own: &Policy, place: usize, other: &Policy, at: usize
     requires { place < length own.now.held.bindings }
     ensures { IsTrue result → HasSameGrants own.now place other.now }
 {
-    let binding = &own.bindings()[place];
     match other.bindings().get(at) {
         Some(held) => {
-            binding.namespace == held.namespace
-                && same_subjects(binding, held)
-                && same_rules(own, place, other, at)
+            bind_the_same(&own.bindings()[place], held) && same_rules(own, place, other, at)
         }
         None => false,
     }
 }
 
-fn same_subjects(a: &Binding, b: &Binding) -> bool
-    ensures { IsTrue result → a.now.subjects ≡ b.now.subjects }
+// Whether the bindings are in the same namespace, or in none, with the same subjects.
+fn bind_the_same(a: &Binding, b: &Binding) -> bool
+    ensures namespace { IsTrue result → a.now.namespace ≡ b.now.namespace }
+    ensures subjects { IsTrue result → a.now.subjects ≡ b.now.subjects }
 {
-    let (a, b) = (a.subjects.as_slice(), b.subjects.as_slice());
+    a.namespace == b.namespace && same_subjects(a.subjects.as_slice(), b.subjects.as_slice())
+}
+
+fn same_subjects(a: &[Subject], b: &[Subject]) -> bool
+    ensures { IsTrue result ↔ (a.now ≡ b.now) }
+{
     a.len() == b.len() && a.iter().zip(b).all(|(a, b)| same_subject(a, b))
 }
 
 fn same_subject(a: &Subject, b: &Subject) -> bool
-    ensures { IsTrue result → a.now ≡ b.now }
+    ensures { IsTrue result ↔ (a.now ≡ b.now) }
 {
     match (a, b) {
         (Subject::User(a), Subject::User(b)) => a == b,
@@ -70,8 +74,6 @@ fn same_subject(a: &Subject, b: &Subject) -> bool
 
 // Whether the bindings at these places have the same rules, in the same order.
 fn same_rules(own: &Policy, place: usize, other: &Policy, at: usize) -> bool
-    requires own { place < length own.now.held.bindings }
-    requires other { at < length other.now.held.bindings }
     ensures { IsTrue result → HaveSameRules own.now place other.now at }
 {
     let (from, end) = own.grants_of(place);
@@ -87,12 +89,26 @@ fn same_rules(own: &Policy, place: usize, other: &Policy, at: usize) -> bool
     true
 }
 
+#[tactic(auto, using(crate::proofs::SameGrants::same_lists))]
 fn same_rule(a: &Rule, b: &Rule) -> bool
     ensures { IsTrue result → a.now ≡ b.now }
 {
-    a.verbs.as_slice() == b.verbs.as_slice()
-        && a.groups.as_slice() == b.groups.as_slice()
-        && a.resources.as_slice() == b.resources.as_slice()
-        && a.resource_names.as_slice() == b.resource_names.as_slice()
-        && a.urls.as_slice() == b.urls.as_slice()
+    same_words(&a.verbs, &b.verbs) && same_words(&a.urls, &b.urls) && same_resources(a, b)
+}
+
+// Whether the rules are for the same resources, in the same words.
+fn same_resources(a: &Rule, b: &Rule) -> bool
+    ensures groups { IsTrue result → a.now.groups ≡ b.now.groups }
+    ensures resources { IsTrue result → a.now.resources ≡ b.now.resources }
+    ensures names { IsTrue result → a.now.resource_names ≡ b.now.resource_names }
+{
+    same_words(&a.groups, &b.groups)
+        && same_words(&a.resources, &b.resources)
+        && same_words(&a.resource_names, &b.resource_names)
+}
+
+fn same_words(a: &Words, b: &Words) -> bool
+    ensures { IsTrue result ↔ (a.now ≡ b.now) }
+{
+    a.as_slice() == b.as_slice()
 }

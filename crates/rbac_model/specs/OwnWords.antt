@@ -1,7 +1,8 @@
 -- The words of a rule, taken as texts that are asked for.
-use Rattle.std.specs.Prelude.{◌≡◌, ℕ, ◌+◌, ◌⊎◌, [], ◌∷◌, ◌++◌, replicate, codes}
-use Rattle.rbac_terms.specs.Text.{Text, star}
-use Rattle.rbac_terms.specs.Matching.{EndsInStar}
+use Rattle.std.specs.Prelude.{◌≡◌, ◌≢◌, ℕ, ◌+◌, ◌⊎◌, [], ◌∷◌, ◌++◌, replicate, codes, All, Any}
+use Rattle.rbac_terms.specs.Text.{Text, star, BeginsWith}
+use Rattle.rbac_terms.specs.Matching.{EndsInStar, UrlWordMatches}
+use Rattle.rbac_terms.specs.declared.matching.Rule.{Rule}
 
 -- what comes before the star of a URL sample: the word without its stars, or `/` if nothing is left
 abbrev pub sample_prefix : Text → Text
@@ -14,3 +15,23 @@ abbrev pub IsUrlSample : Text → Text → Type 0
 IsUrlSample w x = ((¬ EndsInStar w) × (x ≡ w))
     ⊎ ((q : Text) × (k : ℕ) × (w ≡ q ++ replicate (k + 1) star) × (¬ EndsInStar q)
     × (x ≡ sample_prefix q ++ star ∷ []))
+
+-- a path begins with a slash (own, after the paths of API requests)
+abbrev pub IsPath : Text → Type 0
+IsPath path = BeginsWith path (codes "/")
+
+-- a URL word has a sample that is a path: without one it matches no path
+unfoldable pub GivesPath : Text → Type 0
+GivesPath w = (x : Text) × IsUrlSample w x × IsPath x
+
+-- a rule allows this URL word, taken as a text
+unfoldable pub AllowsUrlWord : Rule → Text → Type 0
+AllowsUrlWord r w = (x : Text) → IsUrlSample w x → Any (λ u. UrlWordMatches u x) r.urls
+
+-- nothing but stars, and at least one
+abbrev pub IsStars : Text → Type 0
+IsStars t = (t ≢ []) × All (λ b. b ≡ star) t
+
+-- the word matches `/*`, and so every path
+unfoldable pub MatchesEachPath : Text → Type 0
+MatchesEachPath w = UrlWordMatches w (codes "/*")

@@ -10,6 +10,7 @@ mod labels;
 mod laws;
 mod live;
 mod objects;
+mod own_words;
 mod place_set;
 mod places;
 mod policy;
@@ -22,6 +23,7 @@ pub use fault::ResolveFault;
 pub use laws::{grants_are_one_list, kept_objects_are_one, words_match_themselves};
 pub use live::is_live;
 pub use objects::{Object, Objects};
+pub use own_words::{allows_url_word, gives_path};
 pub use places::{GrantPlace, RolePlace};
 pub use policy::Policy;
 pub use rbac_terms::{

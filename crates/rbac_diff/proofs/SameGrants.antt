@@ -1,0 +1,52 @@
+-- bindings that have the same rules in both policies
+use Rattle.std.proofs.Common.{◌≡◌, ℕ, List, ◌+◌, ◌-◌, ◌<◌, ◌≤◌, ◌↔◌, slice_get, sym, ap, ◌∙◌, refl, subst, inl, inr, arith}
+use Rattle.std.specs.Prelude.{Some}
+use Rattle.std.proofs.lemmas.Bool.{cases_lt}
+use Rattle.std.proofs.lemmas.Option.{same_Some}
+use Rattle.rbac_terms.specs.Text.{Text}
+use Rattle.rbac_terms.specs.declared.matching.Rule.{Rule}
+use Rattle.rbac_model.specs.Policies.{PolicyView, GrantView, IsOfBinding}
+use Rattle.rbac_diff.specs.Unchanged.{HaveSameRules}
+
+-- rules of the same five lists are the same
+pub same_lists : (a b : Rule) → a.verbs ≡ b.verbs → a.urls ≡ b.urls → a.groups ≡ b.groups → a.resources ≡ b.resources → a.resource_names ≡ b.resource_names → a ≡ b
+same_lists a b verbs urls groups resources names =
+    let with_verbs : List Text → Rule = λ l. record { verbs = l; groups = a.groups; resources = a.resources; resource_names = a.resource_names; urls = a.urls } in
+    let with_groups : List Text → Rule = λ l. record { verbs = b.verbs; groups = l; resources = a.resources; resource_names = a.resource_names; urls = a.urls } in
+    let with_resources : List Text → Rule = λ l. record { verbs = b.verbs; groups = b.groups; resources = l; resource_names = a.resource_names; urls = a.urls } in
+    let with_names : List Text → Rule = λ l. record { verbs = b.verbs; groups = b.groups; resources = b.resources; resource_names = l; urls = a.urls } in
+    let with_urls : List Text → Rule = λ l. record { verbs = b.verbs; groups = b.groups; resources = b.resources; resource_names = b.resource_names; urls = l } in
+    ap with_verbs verbs ∙ ap with_groups groups ∙ ap with_resources resources ∙ ap with_names names ∙ ap with_urls urls
+
+-- the second policy's grant with that number has the rule of the first one's
+pub record IsSameAt (own : PolicyView) (n : ℕ) (other : PolicyView) (m : ℕ) : Type 0 where
+  pub mine : GrantView
+  pub theirs : GrantView
+  pub read : slice_get own.grants n ≡ Some mine
+  pub at : slice_get other.grants m ≡ Some theirs
+  pub rule : mine.rule.rule ≡ theirs.rule.rule
+  pub place : ℕ
+  pub of : IsOfBinding other m place
+
+-- so have those from `other_from` on, one for each from `from` up to `next`
+abbrev pub AreSameUpTo : PolicyView → ℕ → PolicyView → ℕ → ℕ → Type 0
+AreSameUpTo own from other other_from next = (n : ℕ) → from ≤ n → n < next → IsSameAt own n other (other_from + (n - from))
+
+pub same_none : (own other : PolicyView) (from other_from : ℕ) → AreSameUpTo own from other other_from from
+same_none own other from other_from n le lt = absurd (omega (arith, le, lt))
+
+pub same_more : (own other : PolicyView) (from other_from next : ℕ) → AreSameUpTo own from other other_from next → IsSameAt own next other (other_from + (next - from)) → AreSameUpTo own from other other_from (next + 1)
+same_more own other from other_from next upto here n le lt =
+    elim (cases_lt n next) [
+      | inl l ↦ upto n le l
+      | inr ge ↦ (let e : next ≡ n = omega (arith, lt, ge) in subst (λ k. IsSameAt own k other (other_from + (k - from))) e here)
+    ]
+
+pub have_same : (own other : PolicyView) (place at from end other_from other_end last : ℕ) → ((n i : ℕ) → IsOfBinding own n i → ((from ≤ n) × (n < end)) ↔ (i ≡ place)) → ((n i : ℕ) → IsOfBinding other n i → ((other_from ≤ n) × (n < other_end)) ↔ (i ≡ at)) → end - from ≡ other_end - other_from → end ≤ last → AreSameUpTo own from other other_from last → HaveSameRules own place other at
+have_same own other place at from end other_from other_end last mine theirs long upto all number g e of =
+    let within = (mine number place of).1 refl in
+    let same = all number within.0 (omega (arith, within.1, upto)) in
+    let m = other_from + (number - from) in
+    let i : same.place ≡ at = (theirs m same.place same.of).0 (omega arith, omega (arith, long, within.0, within.1)) in
+    let own_grant : same.mine ≡ g = same_Some same.mine g (sym same.read ∙ e) in
+    (m, same.theirs, same.at, subst (λ k. IsOfBinding other m k) i same.of, sym same.rule ∙ ap (λ (v : GrantView). v.rule.rule) own_grant)
