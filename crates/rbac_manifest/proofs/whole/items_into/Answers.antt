@@ -1,4 +1,4 @@
-use Rattle.std.proofs.Common.{arith, [], map, drop, sym, ap, ◌∙◌, ◌≡◌}
+use Rattle.std.proofs.Common.{arith, [], map, sym, ap, ◌∙◌}
 use Rattle.std.proofs.lemmas.Grind.{common_steps}
 use Rattle.serde_json.specs.View.{view}
 use Rattle.rbac_manifest.specs.Load.{first_refusal, contents_of_items}
