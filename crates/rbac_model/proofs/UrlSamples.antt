@@ -5,13 +5,10 @@ use Rattle.std.proofs.lemmas.Bool.{cases_eq}
 use Rattle.std.proofs.lemmas.List.{same_from_push, append-nil, take-append-le, take-append-drop, length-append}
 use Rattle.std.proofs.Math.Seq.{take-append_seam}
 use Rattle.rbac_terms.specs.Text.{Text, star, slash, BeginsWith}
+use Rattle.rbac_terms.specs.Targets.{IsPath}
 use Rattle.rbac_terms.specs.Matching.{UrlWordMatches, EndsInStar}
 use Rattle.rbac_terms.proofs.Texts.{one_more_star, same_prefix, shorter}
 use Rattle.rbac_model.specs.OwnWords.{IsUrlSample, sample_prefix}
-
--- a path begins with a slash
-abbrev pub IsPath : Text → Type 0
-IsPath path = BeginsWith path (codes "/")
 
 pub BeginsWith-through : (x f q : Text) → BeginsWith x f → BeginsWith f q → BeginsWith x q
 BeginsWith-through x f q a b = (b.0 ++ a.0, a.1 ∙ ap (λ t. t ++ a.0) b.1 ∙ append_assoc q b.0 a.0)

@@ -1,6 +1,7 @@
 -- The words of a rule, taken as texts that are asked for.
 use Rattle.std.specs.Prelude.{◌≡◌, ◌≢◌, ℕ, ◌+◌, ◌⊎◌, [], ◌∷◌, ◌++◌, replicate, codes, All, Any}
-use Rattle.rbac_terms.specs.Text.{Text, star, BeginsWith}
+use Rattle.rbac_terms.specs.Text.{Text, star}
+use Rattle.rbac_terms.specs.Targets.{IsPath}
 use Rattle.rbac_terms.specs.Matching.{EndsInStar, UrlWordMatches}
 use Rattle.rbac_terms.specs.declared.matching.Rule.{Rule}
 
@@ -15,10 +16,6 @@ abbrev pub IsUrlSample : Text → Text → Type 0
 IsUrlSample w x = ((¬ EndsInStar w) × (x ≡ w))
     ⊎ ((q : Text) × (k : ℕ) × (w ≡ q ++ replicate (k + 1) star) × (¬ EndsInStar q)
     × (x ≡ sample_prefix q ++ star ∷ []))
-
--- a path begins with a slash (own, after the paths of API requests)
-abbrev pub IsPath : Text → Type 0
-IsPath path = BeginsWith path (codes "/")
 
 -- a URL word has a sample that is a path: without one it matches no path
 unfoldable pub GivesPath : Text → Type 0

@@ -1,10 +1,11 @@
 //! The URL words of a rule, taken as texts that are asked for.
 
 ghost use Rattle.std.specs.Prelude.{◌≡◌, ◌↔◌, ◌++◌, IsTrue, Any, MatchOption, codes};
-ghost use Rattle.rbac_model.specs.OwnWords.{AllowsUrlWord, GivesPath, IsPath, IsStars};
+ghost use Rattle.rbac_model.specs.OwnWords.{AllowsUrlWord, GivesPath, IsStars};
 ghost use Rattle.rbac_model.specs.OwnWords.{MatchesEachPath};
+ghost use Rattle.rbac_terms.specs.Targets.{IsPath};
 
-use rbac_terms::{Rule, Word, url_matches};
+use rbac_terms::{Rule, Word, is_path, url_matches};
 
 /// Whether a URL word matches some path: it begins with a slash, or consists of stars (own).
 /// Doesn't allocate.
@@ -52,12 +53,6 @@ fn after_slash(text: &[u8]) -> Option<&[u8]>
     ensures { MatchOption result (¬ IsPath text.now) (λ rest. text.now ≡ codes "/" ++ rest.now) }
 {
     text.strip_prefix(b"/".as_slice())
-}
-
-fn is_path(text: &[u8]) -> bool
-    ensures { IsTrue result ↔ IsPath text.now }
-{
-    text.starts_with(b"/".as_slice())
 }
 
 fn is_stars(text: &[u8]) -> bool

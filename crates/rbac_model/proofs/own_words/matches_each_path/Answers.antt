@@ -1,5 +1,6 @@
 use Rattle.std.proofs.Common.{◌∙◌, sym, subst}
-use Rattle.rbac_model.specs.OwnWords.{IsPath, IsStars}
+use Rattle.rbac_terms.specs.Targets.{IsPath}
+use Rattle.rbac_model.specs.OwnWords.{IsStars}
 use Rattle.rbac_model.proofs.UrlWords.{MatchesEachPath-slash, MatchesEachPath-else}
 use Rattle.rbac_model.proofs.own_words.matches_each_path.Goals as goal
 
