@@ -1,1 +1,3 @@
+pub mod BoundRules
 pub mod SameGrants
+pub mod StarredWords
