@@ -1,5 +1,5 @@
 -- the rules of the grants that are bound to who asks
-use Rattle.std.proofs.Common.{◌≡◌, ℕ, ◌+◌, ◌-◌, ◌<◌, ◌≤◌, ◌⊎◌, ◌↔◌, List, [], ◌∷◌, ◌++◌, length, slice_get, sym, ap, ◌∙◌, refl, subst, inl, inr, arith, zero, suc, Any, Bor}
+use Rattle.std.proofs.Common.{◌≡◌, ℕ, ◌+◌, ◌-◌, ◌≤◌, ◌⊎◌, ◌↔◌, List, [], ◌∷◌, ◌++◌, length, slice_get, sym, ap, ◌∙◌, refl, subst, inl, inr, arith, zero, suc, Any, Bor}
 use Rattle.std.specs.Prelude.{Some, None, Option}
 use Rattle.std.specs.Option.{option_copied, unwrap_or}
 use Rattle.std.proofs.lemmas.Bool.{cases_lt}
@@ -13,7 +13,7 @@ use Rattle.rbac_model.specs.Policies.{PolicyView, GrantView, BindingNames}
 use Rattle.rbac_model.specs.Universes.{LiveForSome}
 use Rattle.rbac_index.specs.Bound.{IsBoundTo, IsNextRun}
 use Rattle.rbac_diff.specs.Covering.{stand_ins}
-use Rattle.rbac_diff.specs.StandIns.{HasRule, IsBoundRule, IsRuleIn, AddsRules, AddsRulesIn, AreRulesOf, IsWider, one_or_two}
+use Rattle.rbac_diff.specs.StandIns.{HasRule, IsBoundRule, AddsRules, AddsRulesIn, AreRulesOf, IsWider, one_or_two}
 
 any_last : {X : Type 0} (P : X → Type 0) (xs : List X) (x : X) → P x → Any P (xs ++ x ∷ [])
 any_last P xs x h = (length xs, x, omega (arith, length_push xs x), get_or_push xs x x (length xs) refl, h)

@@ -1,7 +1,7 @@
 -- When a policy allows all that a permission stands for. What has to be asked to decide that is
 -- finite: the permission's own words, taken as texts.
 use Rattle.std.specs.Prelude.{◌≡◌, ◌≢◌, ◌⊎◌, List, [], ◌∷◌, Option, Some, None, Any}
-use Rattle.std.specs.Prelude.{Contains, codes}
+use Rattle.std.specs.Prelude.{codes}
 use Rattle.std.specs.Str.{bytes_eq}
 use Rattle.std.specs.Prelude.{if◌then◌else◌}
 use Rattle.rbac_terms.specs.Text.{Text, BeginsWith}
