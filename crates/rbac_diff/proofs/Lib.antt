@@ -1,5 +1,6 @@
 pub mod AllChanges
 pub mod Bindings
+pub mod BoundRules
 pub mod Covered
 pub mod FirstWith
 pub mod Gained
@@ -11,6 +12,7 @@ pub mod OneChanges
 pub mod OneStar
 pub mod SameGrants
 pub mod Searching
+pub mod StarredWords
 pub mod Stars
 pub mod Strangers
 pub mod Telling

@@ -1,9 +1,10 @@
 -- When a policy allows all that a permission stands for. What has to be asked to decide that is
 -- finite: the permission's own words, taken as texts.
-use Rattle.std.specs.Prelude.{◌≡◌, ◌≢◌, ◌⊎◌, List, [], ◌∷◌, Option, Some, None, All, Any, Contains, codes}
+use Rattle.std.specs.Prelude.{◌≡◌, ◌≢◌, ◌⊎◌, List, [], ◌∷◌, Option, Some, None, Any}
+use Rattle.std.specs.Prelude.{codes}
 use Rattle.std.specs.Str.{bytes_eq}
 use Rattle.std.specs.Prelude.{if◌then◌else◌}
-use Rattle.rbac_terms.specs.Text.{Text, star, BeginsWith}
+use Rattle.rbac_terms.specs.Text.{Text, BeginsWith}
 use Rattle.rbac_terms.specs.Principals.{Who, AsUser, AsMember}
 use Rattle.rbac_terms.specs.Matching.{VerbOk, WordMatches, ResourceWordMatches, NameMatches}
 use Rattle.rbac_terms.specs.Matching.{UrlWordMatches}
@@ -66,11 +67,3 @@ abbrev pub IsAskedFor : Permitted → Type 0
 IsAskedFor (OnResource namespace group resource name) = (namespace ≢ Some [])
     × IsResourceText resource
 IsAskedFor (OnUrl url) = GivesPath url
-
--- nothing but stars, and at least one
-abbrev pub IsStars : Text → Type 0
-IsStars text = (text ≢ []) × All (λ c. c ≡ star) text
-
--- the word matches `/*`, and so every path
-abbrev pub MatchesEachPath : Text → Type 0
-MatchesEachPath w = UrlWordMatches w (codes "/*")

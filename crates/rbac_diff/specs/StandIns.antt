@@ -1,5 +1,6 @@
 -- Which rules everybody has whom a principal stands for.
-use Rattle.std.specs.Prelude.{◌≡◌, ◌↔◌, ◌⊎◌, ℕ, ◌≤◌, ◌<◌, List, Option, Some, None, Any, Contains}
+use Rattle.std.specs.Prelude.{◌≡◌, ◌↔◌, ◌⊎◌, ℕ, ◌≤◌, ◌<◌, List, [], ◌∷◌, Option, Some, None}
+use Rattle.std.specs.Prelude.{Any}
 use Rattle.std.specs.Prelude.{slice_get}
 use Rattle.std.proofs.Common.{Bor}
 use Rattle.rbac_terms.specs.Text.{Text}
@@ -23,6 +24,21 @@ IsBoundRule policy who namespace from end r = (no : ℕ) × (g : GrantView) × (
 abbrev pub AddsRules : PolicyView → Who → Text → ℕ → ℕ → List (Bor Rule) → List (Bor Rule) → Type 0
 AddsRules policy who namespace from end old new = (r : Rule) → HasRule new r
     ↔ (HasRule old r ⊎ IsBoundRule policy who namespace from end r)
+
+-- the rule is that of a grant numbered from `start` up to `end`
+abbrev pub IsRuleIn : PolicyView → ℕ → ℕ → Rule → Type 0
+IsRuleIn policy start end r = (no : ℕ) × (g : GrantView) × (start ≤ no) × (no < end)
+    × (slice_get policy.grants no ≡ Some g) × (g.rule.rule ≡ r)
+
+-- new has old's rules and these
+abbrev pub AddsRulesIn : PolicyView → ℕ → ℕ → List (Bor Rule) → List (Bor Rule) → Type 0
+AddsRulesIn policy start end old new = (r : Rule) → HasRule new r
+    ↔ (HasRule old r ⊎ IsRuleIn policy start end r)
+
+-- one thing, and a second one if there is one
+abbrev pub one_or_two : {X : Type 0} → X → Option X → List X
+one_or_two first None = first ∷ []
+one_or_two first (Some second) = first ∷ second ∷ []
 
 -- a binding in the first namespace, or in none, is live wherever one in the second is
 abbrev pub IsWider : Option Text → Option Text → Type 0

@@ -2,16 +2,15 @@
 
 ghost use Rattle.std.specs.Prelude.{◌≡◌, ◌↔◌, IsTrue, Any, Some, []};
 ghost use Rattle.std.specs.Option.{option_copied};
+ghost use Rattle.rbac_terms.specs.Matching.{ResourceWordMatches};
 ghost use Rattle.rbac_diff.specs.Covering.{CoversName, CoversTarget, CoversWords, GivesPath};
-ghost use Rattle.rbac_diff.specs.Covering.{IsStars, MatchesEachPath};
 ghost use Rattle.rbac_diff.specs.Covering.{IsAskedFor, IsResourceText};
 ghost use Rattle.rbac_diff.specs.Permissions.{OnUrl, one_star};
 ghost use Rattle.rbac_diff.specs.Shown.{permitted_of};
 
 use crate::permission::Permitted;
-use rbac_terms::{
-    Rule, Word, group_matches, name_matches, resource_matches, url_matches, verb_matches,
-};
+use rbac_model::{allows_url_word, gives_path};
+use rbac_terms::{Rule, Word, group_matches, name_matches, resource_matches, verb_matches};
 
 // Whether some request is for what is permitted: a RoleBinding in the empty namespace is live
 // nowhere, and some words match no proper target.
@@ -25,7 +24,7 @@ pub(crate) fn is_asked_for(target: Permitted<'_>) -> bool
             resource,
             name: _,
         } => !is_empty_namespace(namespace) && is_resource_text(resource),
-        Permitted::Url(word) => gives_path(word),
+        Permitted::Url(word) => is_asked_url(word),
     }
 }
 
@@ -40,7 +39,6 @@ fn is_empty_namespace(namespace: Option<&Word>) -> bool
 
 // Whether one of the rules allows the verb word on what is permitted.
 pub(crate) fn is_covered(rules: &[&Rule], verb: &Word, target: Permitted<'_>) -> bool
-    requires { IsAskedFor (permitted_of target) }
     ensures { IsTrue result
         ↔ Any (λ r. CoversWords verb.now (permitted_of target.entry) r.now) rules.now }
 {
@@ -48,14 +46,12 @@ pub(crate) fn is_covered(rules: &[&Rule], verb: &Word, target: Permitted<'_>) ->
 }
 
 fn covers(rule: &Rule, verb: &Word, target: Permitted<'_>) -> bool
-    requires { IsAskedFor (permitted_of target) }
     ensures { IsTrue result ↔ CoversWords verb.now (permitted_of target.entry) rule.now }
 {
     verb_matches(rule, verb) && covers_target(rule, target)
 }
 
 fn covers_target(rule: &Rule, target: Permitted<'_>) -> bool
-    requires { IsAskedFor (permitted_of target) }
     ensures { IsTrue result ↔ CoversTarget rule.now (permitted_of target.entry) }
 {
     match target {
@@ -64,13 +60,18 @@ fn covers_target(rule: &Rule, target: Permitted<'_>) -> bool
             group,
             resource,
             name,
-        } => {
-            group_matches(rule, group)
-                && resource_matches(rule, resource)
-                && covers_name(rule, name)
-        }
+        } => group_matches(rule, group) && covers_object(rule, resource, name),
         Permitted::Url(word) => covers_url(rule, word),
     }
+}
+
+// Whether the rule allows this resource word, taken as a text, for objects of that name, or of any.
+fn covers_object(rule: &Rule, resource: &Word, name: Option<&Word>) -> bool
+    ensures { IsTrue result
+        ↔ (Any (λ w. ResourceWordMatches w resource.now) rule.now.resources
+        × CoversName rule.now.resource_names (option_copied name.entry)) }
+{
+    resource_matches(rule, resource) && covers_name(rule, name)
 }
 
 fn covers_name(rule: &Rule, name: Option<&Word>) -> bool
@@ -84,50 +85,20 @@ fn covers_name(rule: &Rule, name: Option<&Word>) -> bool
 
 // Whether the rule allows this URL word, taken as a text.
 fn covers_url(rule: &Rule, word: &Word) -> bool
-    requires { GivesPath (one_star word.now) }
     ensures { IsTrue result ↔ CoversTarget rule.now (OnUrl (one_star word.now)) }
 {
-    if is_stars(word.as_bytes()) {
-        return covers_each_path(rule);
-    }
-    url_matches(rule, word)
+    allows_url_word(rule, word)
 }
 
-// Whether some URL word of the rule matches every path.
-fn covers_each_path(rule: &Rule) -> bool
-    ensures { IsTrue result ↔ Any MatchesEachPath rule.now.urls }
-{
-    rule.urls
-        .as_slice()
-        .iter()
-        .any(|word| matches_each_path(word.as_bytes()))
-}
-
-// Whether the word consists of stars only, or of a slash and then stars only.
-fn matches_each_path(word: &[u8]) -> bool
-    ensures { IsTrue result ↔ MatchesEachPath word.now }
-{
-    match word {
-        [b'/', rest @ ..] => is_stars(rest),
-        _ => is_stars(word),
-    }
-}
-
-// Whether the URL word matches some path.
-fn gives_path(word: &Word) -> bool
+// Whether the URL word, taken as a text, is a path.
+fn is_asked_url(word: &Word) -> bool
     ensures { IsTrue result ↔ GivesPath (one_star word.now) }
 {
-    word.as_bytes().starts_with(b"/".as_slice()) || is_stars(word.as_bytes())
+    gives_path(word)
 }
 
 fn is_resource_text(text: &Word) -> bool
     ensures { IsTrue result ↔ IsResourceText text.now }
 {
     !text.is_empty() && !text.as_bytes().starts_with(b"/".as_slice())
-}
-
-fn is_stars(text: &[u8]) -> bool
-    ensures { IsTrue result ↔ IsStars text.now }
-{
-    !text.is_empty() && text.iter().all(|byte| *byte == b'*')
 }

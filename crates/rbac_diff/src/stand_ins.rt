@@ -1,17 +1,31 @@
 //! Who stands in for everybody that a permission is for.
 
-ghost use Rattle.std.specs.Prelude.{◌≡◌, [], IfOk, OnOk};
+ghost use Rattle.std.specs.Prelude.{◌≡◌, ◌≤◌, [], IfOk, OnOk, Some};
 ghost use Rattle.std.specs.Prelude.{length, Ok, Err, MatchOption};
 ghost use Rattle.std.specs.Option.{option_copied};
-ghost use Rattle.rbac_terms.specs.Principals.{given_of};
-ghost use Rattle.rbac_diff.specs.Permissions.{principal_of};
-ghost use Rattle.rbac_diff.specs.StandIns.{AreRulesOf, AddsRules};
+ghost use Rattle.rbac_terms.specs.Text.{Text};
+ghost use Rattle.rbac_terms.specs.Principals.{AsMember, given_of};
+ghost use Rattle.rbac_diff.specs.Covering.{stand_ins};
+ghost use Rattle.rbac_diff.specs.Permissions.{named_group, named_user, principal_of};
+ghost use Rattle.rbac_diff.specs.StandIns.{AddsRulesIn, AddsRules, AreRulesOf, one_or_two};
 
 use crate::fault::DiffFault;
 use rbac_index::Index;
 use rbac_terms::{ModelFault, Principal, Rule, Subject, Word, Words, account_user};
-use std::alloc::Global;
+use std::alloc::{AllocError, Global};
 use std::marker::Model;
+
+// The prefix of the key of a member of a group.
+const MEMBER: &[u8] = b"g:";
+
+// The group of the users who have signed in.
+const AUTHENTICATED: &[u8] = b"system:authenticated";
+
+// The group of the anonymous user alone.
+const UNAUTHENTICATED: &[u8] = b"system:unauthenticated";
+
+// The user of a request without credentials.
+const ANONYMOUS: &[u8] = b"system:anonymous";
 
 // The principal that a subject of a binding in that namespace, or in none, stands for; nobody if
 // its name is empty, or if it is an account without any namespace.
@@ -24,24 +38,36 @@ pub(crate) fn principal_of(
         (λ p. p ≡ principal_of (option_copied namespace.entry) subject.now) }
 {
     match subject {
-        Subject::User(name) => named(Principal::user(alloc, name, &Words::new(alloc))),
-        Subject::Group(name) => named(Principal::group(alloc, name)),
+        Subject::User(name) => user_of(alloc, name),
+        Subject::Group(name) => member_of(alloc, name),
         Subject::Account {
             namespace: own,
             name,
         } => match own.as_ref().or(namespace) {
-            Some(namespace) => {
-                let user = account_user(alloc, namespace, name)?;
-                named(Principal::user(alloc, &user, &Words::new(alloc)))
-            }
+            Some(namespace) => user_of(alloc, &account_user(alloc, namespace, name)?),
             None => Ok(None),
         },
     }
 }
 
+// The user of that name, without given groups; nobody if the name is empty.
+fn user_of(alloc: Global, name: &Word) -> Result<Option<Principal>, DiffFault>
+    ensures { IfOk result (λ p. p ≡ named_user name.now) }
+{
+    named(Principal::user(alloc, name, &Words::new(alloc)))
+}
+
+// A member of that group; nobody if the name is empty.
+fn member_of(alloc: Global, name: &Word) -> Result<Option<Principal>, DiffFault>
+    ensures { IfOk result (λ p. p ≡ named_group name.now) }
+{
+    named(Principal::group(alloc, name))
+}
+
 // The principal, or nobody if the name was empty.
 fn named(made: Result<Principal, ModelFault>) -> Result<Option<Principal>, DiffFault>
-    ensures { IfOk result (λ p. MatchOption p (made ≡ Err ModelFault.EmptyName) (λ who. made ≡ Ok who)) }
+    ensures { IfOk result
+        (λ p. MatchOption p (made ≡ Err ModelFault.EmptyName) (λ who. made ≡ Ok who)) }
 {
     match made {
         Ok(principal) => Ok(Some(principal)),
@@ -77,8 +103,8 @@ impl<'p> Asked<'p> {
     pub(crate) fn of(alloc: Global, index: Index<'p>) -> Result<Self, DiffFault>
         ensures { IfOk result (λ a. a ≡ index.entry) }
     {
-        let signed_in = Word::from_slice(alloc, b"system:authenticated")?;
-        let anonymous = Word::from_slice(alloc, b"system:anonymous")?;
+        let signed_in = Word::from_slice(alloc, AUTHENTICATED)?;
+        let anonymous = Word::from_slice(alloc, ANONYMOUS)?;
         Ok(Asked {
             index,
             signed_in: Principal::group(alloc, &signed_in)?,
@@ -95,43 +121,81 @@ impl<'p> Asked<'p> {
         principal: &Principal,
         namespace: Option<&Word>,
     ) -> Result<Vec<&'p Rule>, DiffFault>
+        requires { ¬ (option_copied namespace ≡ Some []) }
         ensures { given_of principal.now ≡ [] → IfOk result
             (λ rules. AreRulesOf self.now principal.now (option_copied namespace.entry)
             rules.items) }
     {
         let namespace = namespace.unwrap_or(&self.nowhere);
+        let (first, second) = self.stand_ins(principal);
         let mut rules = Vec::new(alloc);
-        match principal.key().as_bytes() {
-            b"g:system:unauthenticated" => {
-                add_rules(&self.index, &self.anonymous, namespace, &mut rules)?;
-            }
-            [b'g', ..] => {
-                add_rules(&self.index, principal, namespace, &mut rules)?;
-                add_rules(&self.index, &self.signed_in, namespace, &mut rules)?;
-            }
-            _ => add_rules(&self.index, principal, namespace, &mut rules)?,
-        }
+        add_rules(&self.index, first, namespace, &mut rules)?;
+        let Some(second) = second else {
+            return Ok(rules);
+        };
+        add_rules(&self.index, second, namespace, &mut rules)?;
         Ok(rules)
     }
+
+    // One or two principals: bindings that name one of them name everybody whom this one stands
+    // for.
+    fn stand_ins<'a>(&'a self, principal: &'a Principal) -> (&'a Principal, Option<&'a Principal>)
+        ensures { given_of principal.now ≡ []
+            → one_or_two result.0.now (option_copied result.1) ≡ stand_ins principal.now }
+    {
+        let Some(group) = group_of(principal) else {
+            return (principal, None);
+        };
+        if group == UNAUTHENTICATED {
+            (&self.anonymous, None)
+        } else {
+            (principal, Some(&self.signed_in))
+        }
+    }
+}
+
+// The group whose member the principal is; a user is the member of none.
+fn group_of(principal: &Principal) -> Option<&[u8]>
+    ensures { MatchOption result ((group : Text) → ¬ (principal.now ≡ AsMember group))
+        (λ group. principal.now ≡ AsMember group.now) }
+{
+    principal.key().as_bytes().strip_prefix(MEMBER)
 }
 
 // Adds the rules of the grants whose bindings name the principal and are live in that namespace for
 // some target.
+#[tactic(auto, using(crate::proofs::BoundRules::run_within))]
 fn add_rules<'p>(
     index: &Index<'p>,
     principal: &Principal,
     namespace: &Word,
     rules: &mut Vec<&'p Rule>,
-) -> Result<(), DiffFault>
+) -> Result<(), AllocError>
     ensures { OnOk result
-        (AddsRules index.now principal.now namespace.now 0 (length index.now.grants) rules.old.items rules.new.items) }
+        (AddsRules index.now principal.now namespace.now 0 (length index.now.grants)
+        rules.old.items rules.new.items) }
 {
     let mut from = 0;
     while let Some((start, end)) = index.next_run(principal, namespace, from) {
-        for no in start..end {
-            rules.push(index.grant(no).rule)?;
-        }
+        add_run(index, start, end, rules)?;
         from = end;
+    }
+    Ok(())
+}
+
+// Adds the rules of the grants numbered from `start` up to `end`.
+fn add_run<'p>(
+    index: &Index<'p>,
+    start: u32,
+    end: u32,
+    rules: &mut Vec<&'p Rule>,
+) -> Result<(), AllocError>
+    requires ordered { start ≤ end }
+    requires within { end ≤ length index.now.grants }
+    ensures { OnOk result (AddsRulesIn index.now start end rules.old.items rules.new.items) }
+{
+    for no in start..end {
+        rules.push(index.grant(no).rule)?;
     }
     Ok(())
 }

@@ -82,7 +82,10 @@ fn same_rules(own: &Policy, place: usize, other: &Policy, at: usize) -> bool
         return false;
     }
     for no in from..end {
-        if !same_rule(own.grant(no).rule, other.grant(other_from + (no - from)).rule) {
+        if !same_rule(
+            own.grant(no).rule,
+            other.grant(other_from + (no - from)).rule,
+        ) {
             return false;
         }
     }

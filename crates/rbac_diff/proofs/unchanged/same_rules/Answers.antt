@@ -1,4 +1,4 @@
-use Rattle.std.proofs.Common.{rules, arith}
+use Rattle.std.proofs.Common.{rules}
 use Rattle.rbac_model.specs.Sources.{grant_of}
 use Rattle.rbac_diff.proofs.SameGrants.{same_none, same_more, have_same}
 use Rattle.rbac_diff.proofs.unchanged.same_rules.Goals as goal
