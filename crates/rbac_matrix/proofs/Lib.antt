@@ -1,4 +1,5 @@
 pub mod BeginLemmas
+pub mod BlockLemmas
 pub mod Decided
 pub mod EnumLemmas
 pub mod EveryLemmas

@@ -52,6 +52,10 @@ pub record AreKnownAt (p : PolicyView) (u : UniverseView) (at : Place) (runs : R
   pub bare : (0 < at.namespace) ⊎ (0 < at.verb) → (who : Who)
       → slice_get u.principals at.principal ≡ Some who → ServeBare p who runs
 
+-- the walk back at a number of the run that it is in
+abbrev pub back_at : Walk → ℕ → Walk
+back_at w number = record { next = number; end = w.end; later = w.later }
+
 -- the walk will still come to the cursor with that number
 abbrev pub IsAhead : PolicyView → LineView → Walk → ℕ → Type 0
 IsAhead p l w number = IsCursorAt p l number × (w.next ≤ number)

@@ -6,6 +6,7 @@ ghost use Rattle.rbac_model.specs.Universes.{IsUniverse, UniverseView, most_word
 ghost use Rattle.rbac_universe.specs.Sets.{IsWithinLimits};
 ghost use Rattle.rbac_matrix.specs.Shown.{line_of};
 ghost use Rattle.rbac_index.specs.Reaches.{AreReaches};
+ghost use Rattle.rbac_matrix.specs.Blocks.{AreBlocks, AreBlocksAt};
 ghost use Rattle.rbac_matrix.specs.Cursors.{AreKnownAt, AreRuns, AreRunsAt, IsBoundOn, ServeBare};
 ghost use Rattle.rbac_matrix.specs.Lines.{IsLineAt, lines_from};
 ghost use Rattle.rbac_matrix.specs.Passing.{EndsAll, EndsLine, FindsCell, FindsRow};
@@ -13,13 +14,15 @@ ghost use Rattle.rbac_matrix.specs.Metering.{IsMetered, IsReady, Skips};
 ghost use Rattle.rbac_matrix.specs.declared.line.Place.{Place};
 ghost use Rattle.rbac_matrix.specs.Seats.{AreEmpty, AreSeated, Costs};
 
+use crate::advance::advance;
+use crate::basis::Basis;
 use crate::bound_runs::Runs;
+use crate::kept::Kept;
 use crate::line::{Line, Place, after, line_at, settled};
 use crate::seat::Seat;
-use crate::seats::{advance, empty_line, least_seat, seat_line};
-use rbac_index::{Index, Meter, Reach};
+use crate::seats::{empty_line, seat_line};
+use rbac_index::{Index, Meter};
 use rbac_terms::Word;
-use rbac_universe::Universe;
 
 // Whether a target is asked for in this namespace, given whether it is namespaced (own).
 fn fits(namespace: &Word, namespaced: bool) -> bool
@@ -32,36 +35,40 @@ fn fits(namespace: &Word, namespaced: bool) -> bool
 // target, and the first grant that allows it. Entries of requests that don't fit are read and
 // skipped; the seats that are at the row are left there.
 pub(crate) fn next_in_line(
-    index: &Index<'_>,
-    universe: &Universe,
-    reaches: &[Reach],
+    basis: Basis<'_>,
     line: Line<'_>,
-    runs: &Runs,
+    kept: &mut Kept,
     from: u32,
     upto: u32,
     seats: &mut [Seat],
     meter: &mut Meter,
 ) -> Option<(u32, u32)>
-    requires policy { IsPolicy index.now }
-    requires universe { IsUniverse universe.now }
-    requires limits { IsWithinLimits universe.now }
-    requires runs { AreRuns index.now (line_of line) runs.now }
-    requires reaches { AreReaches index.now universe.now reaches.now }
-    requires seated { AreSeated index.now (line_of line) reaches.now from upto seats.old }
+    requires policy { IsPolicy basis.index.now }
+    requires universe { IsUniverse basis.universe.now }
+    requires limits { IsWithinLimits basis.universe.now }
+    requires reaches { AreReaches basis.index.now basis.universe.now basis.reaches.now }
+    requires seated { AreSeated basis.index.now
+        (line_of line) basis.reaches.now from upto seats.old }
+    requires blocks { AreBlocks basis.index.now
+        (line_of line) kept.old.runs seats.old kept.old.blocks.kept.items }
     ensures row { MatchOption result
-        (EndsLine index.now universe.now reaches.now (line_of line.entry) from upto seats.new)
-        (λ found. FindsRow index.now universe.now reaches.now
+        (EndsLine basis.entry.index.now basis.entry.universe.now basis.entry.reaches.now
+        (line_of line.entry) from upto seats.new)
+        (λ found. FindsRow basis.entry.index.now basis.entry.universe.now basis.entry.reaches.now
         (line_of line.entry) from upto seats.new found.0 found.1) }
+    ensures blocks { AreBlocks basis.entry.index.now
+        (line_of line.entry) kept.new.runs seats.new kept.new.blocks.kept.items }
+    ensures runs { kept.new.runs ≡ kept.old.runs }
     ensures costs { Costs 0 0 seats.old seats.new meter.old meter.new }
 {
     let mut from = from;
     let mut upto = upto;
-    while let Some((place, no)) = least_seat(index, line, runs, seats) {
-        if fits(line.namespace, universe.namespaced(place as usize)) {
+    while let Some((place, no)) = kept.blocks.least() {
+        if fits(line.namespace, basis.universe.namespaced(place as usize)) {
             return Some((place, no));
         }
-        let all = index.len();
-        advance(index, reaches, line, runs, place, all, seats, meter);
+        let all = basis.index.len();
+        advance(basis, line, kept, place, all, seats, meter);
         from = place + 1;
         upto = 0;
     }
@@ -90,32 +97,36 @@ fn renew(index: &Index<'_>, line: Line<'_>, at: Place, runs: &mut Runs)
 // returns its place; if there is none, returns the place past all lines. Expects all seats to be
 // empty, and the runs to be known.
 fn next_line(
-    index: &Index<'_>,
-    universe: &Universe,
-    reaches: &[Reach],
+    basis: Basis<'_>,
     at: Place,
-    runs: &mut Runs,
+    kept: &mut Kept,
     seats: &mut [Seat],
     meter: &mut Meter,
 ) -> Place
-    requires policy { IsPolicy index.now }
-    requires reaches { AreReaches index.now universe.now reaches.now }
-    requires empty { AreEmpty index.now seats.old }
-    requires known { AreKnownAt index.now universe.now at runs.old }
-    ensures skips { Skips index.now.held universe.now at result }
-    ensures ready { IsReady index.now universe.now reaches.now result 0 0 seats.new }
-    ensures runs { AreRunsAt index.now universe.now result runs.new }
+    requires policy { IsPolicy basis.index.now }
+    requires reaches { AreReaches basis.index.now basis.universe.now basis.reaches.now }
+    requires empty { AreEmpty basis.index.now seats.old }
+    requires known { AreKnownAt basis.index.now basis.universe.now at kept.old.runs }
+    ensures skips { Skips basis.entry.index.now.held basis.entry.universe.now at result }
+    ensures ready { IsReady basis.entry.index.now basis.entry.universe.now basis.entry.reaches.now
+        result 0 0 seats.new }
+    ensures runs { AreRunsAt basis.entry.index.now basis.entry.universe.now result kept.new.runs }
+    ensures blocks { AreBlocksAt basis.entry.index.now basis.entry.universe.now result kept.new seats.new }
     ensures costs { Costs 0 0 seats.old seats.new meter.old meter.new }
 {
-    let mut at = settled(universe, at);
-    while let Some(line) = line_at(universe, at) {
-        renew(index, line, at, runs);
-        if runs.is_empty() {
-            at = settled(universe, past_idle(index, line, at));
-        } else if seat_line(index, reaches, line, runs, 0, seats, meter) > 0 {
-            return at;
+    let index = basis.index;
+    let mut at = settled(basis.universe, at);
+    while let Some(line) = line_at(basis.universe, at) {
+        renew(index, line, at, &mut kept.runs);
+        if kept.runs.is_empty() {
+            at = settled(basis.universe, past_idle(index, line, at));
         } else {
-            at = settled(universe, after(at));
+            let filled = seat_line(index, basis.reaches, line, &kept.runs, 0, seats, meter);
+            if filled > 0 {
+                kept.blocks.fill(index, line, &kept.runs, filled, seats);
+                return at;
+            }
+            at = settled(basis.universe, after(at));
         }
     }
     at
@@ -144,40 +155,41 @@ fn past_idle(index: &Index<'_>, line: Line<'_>, at: Place) -> Place
 // below `upto`: the place of its line, and the place of its target with the first grant that allows
 // it.
 pub(crate) fn next_cell(
-    index: &Index<'_>,
-    universe: &Universe,
-    reaches: &[Reach],
+    basis: Basis<'_>,
     at: Place,
     from: u32,
     upto: u32,
-    runs: &mut Runs,
+    kept: &mut Kept,
     seats: &mut [Seat],
     meter: &mut Meter,
 ) -> (Place, Option<(u32, u32)>)
-    requires policy { IsPolicy index.now }
-    requires reaches { AreReaches index.now universe.now reaches.now }
-    requires ready { IsReady index.now universe.now reaches.now at from upto seats.old }
-    requires runs { AreRunsAt index.now universe.now at runs.old }
-    ensures runs { AreRunsAt index.now universe.now result.0 runs.new }
+    requires policy { IsPolicy basis.index.now }
+    requires reaches { AreReaches basis.index.now basis.universe.now basis.reaches.now }
+    requires ready { IsReady basis.index.now basis.universe.now basis.reaches.now
+        at from upto seats.old }
+    requires runs { AreRunsAt basis.index.now basis.universe.now at kept.old.runs }
+    requires blocks { AreBlocksAt basis.index.now basis.universe.now at kept.old seats.old }
+    ensures runs { AreRunsAt basis.entry.index.now basis.entry.universe.now result.0 kept.new.runs }
+    ensures blocks { AreBlocksAt basis.entry.index.now basis.entry.universe.now result.0 kept.new seats.new }
     ensures row { MatchOption result.1
-        (EndsAll index.now universe.now reaches.now at from upto result.0 seats.new)
-        (λ found. FindsCell index.now universe.now reaches.now at from upto result.0 seats.new
-        found.0 found.1) }
+        (EndsAll basis.entry.index.now basis.entry.universe.now basis.entry.reaches.now
+        at from upto result.0 seats.new)
+        (λ found. FindsCell basis.entry.index.now basis.entry.universe.now basis.entry.reaches.now
+        at from upto result.0 seats.new found.0 found.1) }
     ensures metered { (start : Place) (sought given : ℕ)
-        → IsMetered index.now universe.now start sought at seats.old given meter.old
-        → IsMetered index.now universe.now start sought result.0 seats.new given meter.new }
+        → IsMetered basis.entry.index.now basis.entry.universe.now start sought at seats.old given meter.old
+        → IsMetered basis.entry.index.now basis.entry.universe.now
+        start sought result.0 seats.new given meter.new }
 {
     let mut at = at;
     let mut from = from;
     let mut upto = upto;
-    while let Some(line) = line_at(universe, at) {
-        if let Some(found) = next_in_line(
-            index, universe, reaches, line, runs, from, upto, seats, meter,
-        ) {
+    while let Some(line) = line_at(basis.universe, at) {
+        if let Some(found) = next_in_line(basis, line, kept, from, upto, seats, meter) {
             return (at, Some(found));
         }
-        empty_line(index, line, runs, seats);
-        at = next_line(index, universe, reaches, after(at), runs, seats, meter);
+        empty_line(basis.index, line, &kept.runs, seats);
+        at = next_line(basis, after(at), kept, seats, meter);
         from = 0;
         upto = 0;
     }
