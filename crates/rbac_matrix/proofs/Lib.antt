@@ -26,4 +26,5 @@ pub mod SomeMatrix
 pub mod StartLemmas
 pub mod ThoseLemmas
 pub mod TouchLemmas
+pub mod VerbLemmas
 pub mod WalkLemmas

@@ -193,7 +193,7 @@ pub(crate) fn seat_start(
     let Some(line) = line_at(basis.universe, start.at) else {
         return 0;
     };
-    kept.runs = Runs::of(index, line);
+    kept.runs = Runs::of(index, basis.universe, line);
     let filled = seat_line(
         index,
         basis.reaches,

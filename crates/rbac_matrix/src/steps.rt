@@ -1,14 +1,15 @@
 //! The rows of a line, by the seats of its cursors.
 
 ghost use Rattle.std.specs.Prelude.{ℕ, ◌≡◌, ◌<◌, ◌⊎◌, ◌↔◌, ◌≤◌, [], IsTrue, MatchOption, length};
+ghost use Rattle.std.specs.Prelude.{slice_index_or, true, false};
 ghost use Rattle.rbac_model.specs.Policies.{IsPolicy};
 ghost use Rattle.rbac_model.specs.Universes.{IsUniverse, UniverseView, most_words};
 ghost use Rattle.rbac_universe.specs.Sets.{IsWithinLimits};
 ghost use Rattle.rbac_matrix.specs.Shown.{line_of};
 ghost use Rattle.rbac_index.specs.Reaches.{AreReaches};
 ghost use Rattle.rbac_matrix.specs.Blocks.{AreBlocks, AreBlocksAt};
-ghost use Rattle.rbac_matrix.specs.Cursors.{AreKnownAt, AreRuns, AreRunsAt, IsBoundOn, ServeBare};
-ghost use Rattle.rbac_matrix.specs.Lines.{IsLineAt, lines_from};
+ghost use Rattle.rbac_matrix.specs.Cursors.{AreKnownAt, AreRunsOf, AreRunsAt, IsBoundOn, ServeBare};
+ghost use Rattle.rbac_matrix.specs.Lines.{IsLineAt, lines_from, place};
 ghost use Rattle.rbac_matrix.specs.Passing.{EndsAll, EndsLine, FindsCell, FindsRow};
 ghost use Rattle.rbac_matrix.specs.Metering.{IsMetered, IsReady, Skips};
 ghost use Rattle.rbac_matrix.specs.declared.line.Place.{Place};
@@ -77,20 +78,23 @@ pub(crate) fn next_in_line(
 
 // Makes the runs of the line before this one those of this line: they are, within a namespace, and
 // in all namespaces of a principal that have no RoleBinding.
-fn renew(index: &Index<'_>, line: Line<'_>, at: Place, runs: &mut Runs)
-    requires verbs { 0 < at.verb → AreRuns index.now (line_of line) runs.old }
+fn renew(basis: Basis<'_>, line: Line<'_>, at: Place, runs: &mut Runs)
+    requires verbs { 0 < at.verb
+        → AreRunsOf basis.index.now basis.universe.now (line_of line) runs.old }
     requires bare { (0 < at.namespace) ⊎ (0 < at.verb)
-        → ServeBare index.now line.principal.now runs.old }
-    ensures runs { AreRuns index.now (line_of line.entry) runs.new }
-    ensures bare { ServeBare index.now line.entry.principal.now runs.new }
+        → ServeBare basis.index.now basis.universe.now line.principal.now runs.old }
+    ensures runs { AreRunsOf basis.entry.index.now basis.entry.universe.now
+        (line_of line.entry) runs.new }
+    ensures bare { ServeBare basis.entry.index.now basis.entry.universe.now
+        line.entry.principal.now runs.new }
 {
     if 0 < at.verb {
         return;
     }
-    if 0 < at.namespace && runs.serve(index, line.namespace) {
+    if 0 < at.namespace && runs.serve(basis.index, line.namespace) {
         return;
     }
-    *runs = Runs::of(index, line);
+    *runs = Runs::of(basis.index, basis.universe, line);
 }
 
 // Seats the cursors of the next line, from this place on, that has cursors with an entry, and
@@ -117,9 +121,11 @@ fn next_line(
     let index = basis.index;
     let mut at = settled(basis.universe, at);
     while let Some(line) = line_at(basis.universe, at) {
-        renew(index, line, at, &mut kept.runs);
+        renew(basis, line, at, &mut kept.runs);
         if kept.runs.is_empty() {
             at = settled(basis.universe, past_idle(index, line, at));
+        } else if kept.runs.lack_verb(at.verb) {
+            at = settled(basis.universe, past_verbs(&kept.runs, at));
         } else {
             let filled = seat_line(index, basis.reaches, line, &kept.runs, 0, seats, meter);
             if filled > 0 {
@@ -130,6 +136,25 @@ fn next_line(
         }
     }
     at
+}
+
+// The place after the verbs that none of these grants has.
+fn past_verbs(runs: &Runs, at: Place) -> Place
+    requires few { at.verb < most_words }
+    ensures place { result ≡ place at.principal at.namespace result.verb }
+    ensures on { at.verb < result.verb }
+    ensures lack { (v : ℕ) → at.verb < v → v < result.verb
+        → slice_index_or runs.now.verbs.items v true ≡ false }
+{
+    let mut verb = at.verb + 1;
+    while runs.lack_verb(verb) {
+        verb += 1;
+    }
+    Place {
+        principal: at.principal,
+        namespace: at.namespace,
+        verb,
+    }
 }
 
 // The place after a principal's lines in a namespace where none of the principal's grants may be

@@ -1,6 +1,6 @@
 //! Walks along a line's grants whose bindings name who asks and may be live.
 
-ghost use Rattle.std.specs.Prelude.{◌≡◌, ◌<◌, ◌≤◌, ◌⊎◌, ℕ, IfSome, MatchOption, drop, length};
+ghost use Rattle.std.specs.Prelude.{◌≡◌, ◌↔◌, IsTrue, ◌<◌, ◌≤◌, ◌⊎◌, ℕ, IfSome, MatchOption, drop, length};
 ghost use Rattle.rbac_model.specs.Policies.{PolicyView};
 ghost use Rattle.rbac_matrix.specs.Shown.{line_of};
 ghost use Rattle.rbac_matrix.specs.Lines.{LineView};
@@ -74,6 +74,15 @@ pub(crate) fn next_cursor(
         }
     }
     None
+}
+
+// Whether a line has a cursor.
+pub(crate) fn has_cursor(index: &Index<'_>, line: Line<'_>, runs: &Runs) -> bool
+    requires { AreRuns index.now (line_of line) runs.now }
+    ensures { IsTrue result ↔ ((k : ℕ) × IsCursorAt index.now (line_of line.entry) k) }
+{
+    let mut walk = whole_walk();
+    next_cursor(index, line, runs, &mut walk).is_some()
 }
 
 // The next grant of a binding that names who asks and may be live, whatever the grant's verbs.

@@ -1,6 +1,7 @@
 use Rattle.rbac_matrix.specs.Shown.{line_of}
 use Rattle.rbac_matrix.proofs.SeatLemmas.{Costs-none}
 use Rattle.rbac_matrix.proofs.LineLemmas.{are_real}
+use Rattle.rbac_matrix.proofs.VerbLemmas.{runs_here}
 use Rattle.rbac_matrix.proofs.TouchLemmas.{metered_start}
 use Rattle.rbac_matrix.proofs.BlockLemmas.{others_of}
 use Rattle.rbac_matrix.proofs.BeginLemmas.{sought_filled}
@@ -28,3 +29,9 @@ returns-clause-sought c =
 
 pub fill-requires-clause-others : goal.fill-requires-clause-others
 fill-requires-clause-others c = others_of c.args.basis.index.now (line_of c.in-Some.line) c.args.basis.reaches.now c.args.start.from 0 c.seat_line-filled.new.seats c.seat_line-filled.ensures.seated
+
+pub returns-then-start-eq0-clause-runs : goal.returns-then-start-eq0-clause-runs
+returns-then-start-eq0-clause-runs c = runs_here c.args.basis.index.now c.args.basis.universe.now c.args.start.at (line_of c.in-Some.line) _ c.of-kept.result c.in-Some.ensures.line c.of-kept.ensures.runs c.of-kept.ensures.bare
+
+pub returns-clause-runs : goal.returns-clause-runs
+returns-clause-runs c = runs_here c.args.basis.index.now c.args.basis.universe.now c.args.start.at (line_of c.in-Some.line) _ c.of-kept.result c.in-Some.ensures.line c.of-kept.ensures.runs c.of-kept.ensures.bare

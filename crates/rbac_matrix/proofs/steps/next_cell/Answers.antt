@@ -1,10 +1,10 @@
-use Rattle.std.proofs.Common.{◌≡◌, ◌∷◌, ◌∙◌, List, ap, inl, refl, sym}
+use Rattle.std.proofs.Common.{◌≡◌, ◌+◌, ◌∷◌, ◌∙◌, List, ap, inl, refl, sym}
 use Rattle.rbac_matrix.specs.Shown.{line_of}
 use Rattle.rbac_matrix.specs.Lines.{LineView, lines_from}
 use Rattle.rbac_matrix.proofs.TouchLemmas.{metered_on}
 use Rattle.rbac_matrix.proofs.BlockLemmas.{blocks_here}
 use Rattle.rbac_matrix.proofs.EnumLemmas.{leads_on, metered_over, ready_past}
-use Rattle.rbac_matrix.proofs.WalkLemmas.{known_after}
+use Rattle.rbac_matrix.proofs.WalkLemmas.{known_at}
 use Rattle.rbac_matrix.proofs.steps.next_cell.Goals as goal
 
 pub loop-line-init : goal.loop-line-init
@@ -59,7 +59,7 @@ pub next_in_line-requires-clause-blocks : goal.next_in_line-requires-clause-bloc
 next_in_line-requires-clause-blocks c = c.loop-line.invariant.blocks (line_of c.in-Some.line) _ c.in-Some.ensures.line
 
 pub empty_line-requires-clause-runs : goal.empty_line-requires-clause-runs
-empty_line-requires-clause-runs c = rw c.next_in_line.ensures.runs (c.loop-line.invariant.runs (line_of c.in-Some.line) _ c.in-Some.ensures.line).0
+empty_line-requires-clause-runs c = rw c.next_in_line.ensures.runs (c.loop-line.invariant.runs (line_of c.in-Some.line) _ c.in-Some.ensures.line).0.0
 
 pub returns-in-Some-next_in_line-clause-runs : goal.returns-in-Some-next_in_line-clause-runs
 returns-in-Some-next_in_line-clause-runs c = rw c.next_in_line.ensures.runs c.loop-line.invariant.runs
@@ -70,4 +70,4 @@ returns-in-Some-next_in_line-clause-blocks c = blocks_here c.args.basis.index.no
 pub next_line-at-requires-clause-known : goal.next_line-at-requires-clause-known
 next_line-at-requires-clause-known c =
     let known = c.loop-line.invariant.runs (line_of c.in-Some.line) _ c.in-Some.ensures.line in
-    rw (c.after.ensures, c.next_in_line.ensures.runs) (known_after c.args.basis.index.now c.args.basis.universe.now c.loop-line.at (line_of c.in-Some.line) c.loop-line.kept.runs c.in-Some.ensures.place known.0 known.1)
+    rw (c.after.ensures, c.next_in_line.ensures.runs) (known_at c.args.basis.index.now c.args.basis.universe.now c.loop-line.at (line_of c.in-Some.line) c.loop-line.kept.runs (c.loop-line.at.verb + 1) c.in-Some.ensures.place known.0 known.1)
