@@ -3,13 +3,10 @@
 
 ghost use Rattle.std.specs.Prelude.{◌≡◌, ◌+◌, ◌<◌, ◌≤◌, ◌⊎◌, ◌↔◌, ℕ, IsTrue, List, MatchOption};
 ghost use Rattle.std.specs.Prelude.{length, set};
-ghost use Rattle.rbac_model.specs.Policies.{PolicyView};
 ghost use Rattle.rbac_matrix.specs.Shown.{line_of};
 ghost use Rattle.rbac_matrix.specs.Blocks.{AreBlocks, IsBlock, IsLeastBlock, block_at, joined};
 ghost use Rattle.rbac_matrix.specs.Cursors.{AreRuns, IsCursorAt, IsWithin};
-ghost use Rattle.rbac_matrix.specs.Lines.{LineView};
 ghost use Rattle.rbac_matrix.specs.Seats.{empty_seat, past_all, seat_at};
-ghost use Rattle.rbac_matrix.specs.declared.seat.Seat.{Seat as SeatData};
 
 use crate::bound_runs::Runs;
 use crate::line::Line;

@@ -16,8 +16,8 @@ use rbac_universe::Universe;
 // The most runs of a line that are kept. Each walk looks up the others again.
 const MOST_KEPT: usize = 256;
 
-// The most verbs of which it is kept whether a line's grants have them. The others are looked at line
-// by line.
+// The most verbs of which it is kept whether a line's grants have them. The others are looked at
+// line by line.
 const MOST_TOLD: usize = 256;
 
 /// Consecutive grants of a binding: those with the numbers `start..end`.

@@ -182,7 +182,8 @@ pub(crate) fn seat_start(
     ensures ready { IsReady basis.entry.index.now basis.entry.universe.now basis.entry.reaches.now
         start.at start.from 0 seats.new }
     ensures runs { AreRunsAt basis.entry.index.now basis.entry.universe.now start.at kept.new.runs }
-    ensures blocks { AreBlocksAt basis.entry.index.now basis.entry.universe.now start.at kept.new seats.new }
+    ensures blocks { AreBlocksAt basis.entry.index.now basis.entry.universe.now
+        start.at kept.new seats.new }
     ensures metered { IsMetered basis.entry.index.now basis.entry.universe.now
         start.at result start.at seats.new 0 meter.new }
     ensures whole { start.from ≡ 0 → result ≡ 0 }

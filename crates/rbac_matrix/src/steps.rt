@@ -115,7 +115,8 @@ fn next_line(
     ensures ready { IsReady basis.entry.index.now basis.entry.universe.now basis.entry.reaches.now
         result 0 0 seats.new }
     ensures runs { AreRunsAt basis.entry.index.now basis.entry.universe.now result kept.new.runs }
-    ensures blocks { AreBlocksAt basis.entry.index.now basis.entry.universe.now result kept.new seats.new }
+    ensures blocks { AreBlocksAt basis.entry.index.now basis.entry.universe.now
+        result kept.new seats.new }
     ensures costs { Costs 0 0 seats.old seats.new meter.old meter.new }
 {
     let index = basis.index;
@@ -195,14 +196,16 @@ pub(crate) fn next_cell(
     requires runs { AreRunsAt basis.index.now basis.universe.now at kept.old.runs }
     requires blocks { AreBlocksAt basis.index.now basis.universe.now at kept.old seats.old }
     ensures runs { AreRunsAt basis.entry.index.now basis.entry.universe.now result.0 kept.new.runs }
-    ensures blocks { AreBlocksAt basis.entry.index.now basis.entry.universe.now result.0 kept.new seats.new }
+    ensures blocks { AreBlocksAt basis.entry.index.now basis.entry.universe.now
+        result.0 kept.new seats.new }
     ensures row { MatchOption result.1
         (EndsAll basis.entry.index.now basis.entry.universe.now basis.entry.reaches.now
         at from upto result.0 seats.new)
         (λ found. FindsCell basis.entry.index.now basis.entry.universe.now basis.entry.reaches.now
         at from upto result.0 seats.new found.0 found.1) }
     ensures metered { (start : Place) (sought given : ℕ)
-        → IsMetered basis.entry.index.now basis.entry.universe.now start sought at seats.old given meter.old
+        → IsMetered basis.entry.index.now basis.entry.universe.now
+        start sought at seats.old given meter.old
         → IsMetered basis.entry.index.now basis.entry.universe.now
         start sought result.0 seats.new given meter.new }
 {

@@ -1,11 +1,13 @@
 //! Walks along a line's grants whose bindings name who asks and may be live.
 
-ghost use Rattle.std.specs.Prelude.{◌≡◌, ◌↔◌, IsTrue, ◌<◌, ◌≤◌, ◌⊎◌, ℕ, IfSome, MatchOption, drop, length};
+ghost use Rattle.std.specs.Prelude.{◌≡◌, ◌↔◌, IsTrue, ◌<◌, ◌≤◌};
+ghost use Rattle.std.specs.Prelude.{◌⊎◌, ℕ, IfSome, MatchOption, drop, length};
 ghost use Rattle.rbac_model.specs.Policies.{PolicyView};
 ghost use Rattle.rbac_matrix.specs.Shown.{line_of};
 ghost use Rattle.rbac_matrix.specs.Lines.{LineView};
 ghost use Rattle.rbac_matrix.specs.Cursors.{AreRuns, AreRunsFrom, IsAhead, IsBoundOn, IsCursorAt};
-ghost use Rattle.rbac_matrix.specs.Cursors.{IsNextBound, IsNextRunOn, IsWithin, back_at, steps_left};
+ghost use Rattle.rbac_matrix.specs.Cursors.{IsNextBound, IsNextRunOn};
+ghost use Rattle.rbac_matrix.specs.Cursors.{IsWithin, back_at, steps_left};
 
 use crate::bound_runs::{Run, Runs};
 use crate::line::Line;
