@@ -189,6 +189,14 @@ module _ (xs : List Keyed) (live : Live) (from : ℕ) where
         ],
       )) (sooner_next P Q from a b f g)
 
+  -- no other group makes the first place come sooner
+  pub given_first : (given : List Text) (group : Text) → AnswersNext (IsLiveUnderAny xs live (IsGivenKey given)) from (Some from) → AnswersNext (IsLiveUnderAny xs live (IsGivenKey (given ++ group ∷ []))) from (Some from)
+  given_first given group h = record {
+    after = omega arith;
+    holds = let w = h.holds in (w.0, (w.1.0, Contains-append_left given (group ∷ []) w.1.0 w.1.1, w.1.2), w.2);
+    none_before = λ n low high. absurd (omega arith);
+  }
+
   -- the groups of a service account
   pub account_next : (who : Who) (own : Text) (a b : Option ℕ) → ((n : Text) → IsAccountIn who n ↔ (n ≡ own)) → AnswersNext (IsLiveUnder xs live (codes "g:system:serviceaccounts")) from a → AnswersNext (IsLiveUnder xs live (codes "g:system:serviceaccounts:" ++ own)) from b → AnswersNext (IsLiveUnderAny xs live (IsAccountKey who)) from (sooner a b)
   account_next who own a b is f g =

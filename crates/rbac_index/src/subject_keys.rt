@@ -1,7 +1,7 @@
 //! The bindings under the keys of their subjects, in a sorted list, so that the bindings that name
 //! a principal are found by its keys, and no export can make a look-up slow.
 
-ghost use Rattle.std.specs.Prelude.{◌≡◌, ◌≤◌, ◌++◌, ℕ, IfOk, OnOk, Contains};
+ghost use Rattle.std.specs.Prelude.{◌≡◌, ◌≤◌, ◌↔◌, ◌++◌, ℕ, IfOk, OnOk, IsTrue, Some, Contains};
 ghost use Rattle.std.specs.Ordering.{is_lt};
 ghost use Rattle.std.specs.List.Sorted.{IsSorted};
 ghost use Rattle.rbac_terms.specs.Text.{text_cmp};
@@ -140,6 +140,16 @@ fn sooner(a: Option<usize>, b: Option<usize>) -> Option<usize>
     }
 }
 
+// Whether the place that is given, if one is, is this one.
+fn is_at(next: Option<usize>, place: usize) -> bool
+    ensures { IsTrue result ↔ (next ≡ Some place) }
+{
+    match next {
+        Some(next) => next == place,
+        None => false,
+    }
+}
+
 // The next place from `from` on under the key of a group that the principal was given.
 fn next_given(entries: &[Keyed], principal: &Principal, live: Live, from: usize) -> Option<usize>
     requires { IsSorted keyed_cmp entries.now }
@@ -148,6 +158,10 @@ fn next_given(entries: &[Keyed], principal: &Principal, live: Live, from: usize)
 {
     let mut next = None;
     for group in principal.given() {
+        // No place comes sooner than the first.
+        if is_at(next, from) {
+            continue;
+        }
         next = sooner(
             next,
             next_live(entries, MEMBER, group.as_bytes(), live, from),

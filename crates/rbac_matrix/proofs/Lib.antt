@@ -1,4 +1,5 @@
 pub mod BeginLemmas
+pub mod BlockLemmas
 pub mod Decided
 pub mod EnumLemmas
 pub mod EveryLemmas
@@ -25,4 +26,5 @@ pub mod SomeMatrix
 pub mod StartLemmas
 pub mod ThoseLemmas
 pub mod TouchLemmas
+pub mod VerbLemmas
 pub mod WalkLemmas

@@ -8,8 +8,8 @@ use Rattle.rbac_matrix.specs.Lines.{LineView}
 use Rattle.rbac_matrix.specs.Cursors.{IsAhead, IsCursorAt}
 use Rattle.rbac_matrix.specs.declared.walk.Walk.{Walk}
 use Rattle.rbac_matrix.specs.declared.seat.Seat.{Seat}
-use Rattle.rbac_matrix.specs.Seats.{IsSeated, AreEmpty, AreSeated, AreSeatedAbout, ComesFirst, Costs, SeatCosts, empty_seat, filled, past_all, reach_at, seat_at, stand_of, start_at}
-use Rattle.rbac_matrix.proofs.SeatLemmas.{Costs-less, Costs-none, Costs-set, filled_set, seated_stays, set_each, empty_filled, filled_few}
+use Rattle.rbac_matrix.specs.Seats.{IsSeated, AreEmpty, Costs, SeatCosts, empty_seat, filled, past_all, reach_at, seat_at, stand_of, start_at}
+use Rattle.rbac_matrix.proofs.SeatLemmas.{Costs-none, Costs-set, filled_set, set_each, empty_filled, filled_few}
 
 pub cursor_within : (p : PolicyView) (l : LineView) (k : ℕ) → IsCursorAt p l k → k < length p.grants
 cursor_within p l k c = slice_get_within p.grants k c.grant c.at
@@ -117,20 +117,6 @@ module _ (p : PolicyView) (l : LineView) (rs : List (List ℕ)) (from : ℕ) whe
           sought = record { total = both.total; meter = both.meter; low = both.low; high = omega (arith, both.high) };
         }
 
--- a cursor's seat at the place, to which the walk will come, or from where its entries are left; or an empty one of no cursor
-abbrev pub IsAdvancedAt : PolicyView → LineView → List (List ℕ) → ℕ → ℕ → Walk → ℕ → Seat → Type 0
-IsAdvancedAt p l rs place end w k s =
-    (IsCursorAt p l k × ((IsSeated (reach_at rs k) place s × IsAhead p l w k) ⊎ IsSeated (reach_at rs k) (start_at place end k) s))
-    ⊎ ((IsCursorAt p l k → ⊥) × (s ≡ empty_seat))
-
--- the cursors that were visited stand where their entries are left, and the walk will come to the others
-pub record AreAdvanced (p : PolicyView) (l : LineView) (rs : List (List ℕ)) (place end : ℕ) (w : Walk) (old seats : List Seat) (before after : ℕ) : Type 0 where
-  pub count : length seats ≡ length p.grants
-  pub each : (k : ℕ) → k < length seats → IsAdvancedAt p l rs place end w k (seat_at seats k)
-  pub gain : ℕ
-  pub costs : Costs 0 gain old seats before after
-  pub moved : (k : ℕ) → IsCursorAt p l k → k < end → (seat_at old k).place ≡ place → ((seat_at seats k).place ≡ place) ⊎ (0 < gain)
-
 -- a grant below `end` is past the place, and another at it
 pub start_past : (r : List ℕ) (place end k : ℕ) (s : Seat) → k < end → IsSeated r (place + 1) s → IsSeated r (start_at place end k) s
 start_past r place end k s lt h = let e : start_at place end k ≡ place + 1 = omega arith in rw e h
@@ -138,164 +124,7 @@ start_past r place end k s lt h = let e : start_at place end k ≡ place + 1 = o
 pub start_here : (r : List ℕ) (place end k : ℕ) (s : Seat) → end ≤ k → IsSeated r place s → IsSeated r (start_at place end k) s
 start_here r place end k s le h = let e : start_at place end k ≡ place = omega arith in rw e h
 
-module _ (p : PolicyView) (l : LineView) (rs : List (List ℕ)) (place end : ℕ) where
-  -- before the walk
-  pub advanced_start : (w : Walk) (old : List Seat) (m : ℕ) → AreSeatedAbout p l rs place end old → ((k : ℕ) → IsCursorAt p l k → IsAhead p l w k) → AreAdvanced p l rs place end w old old m m
-  advanced_start w old m h ahead = record {
-    count = h.count;
-    each = λ k lt. elim (h.each k lt) [
-      | inl s ↦ inl (
-        s.0,
-        elim s.1 [
-          | inl here ↦ inl (here, ahead k s.0)
-          | inr past ↦ inr (start_past (reach_at rs k) place end k (seat_at old k) past.0 past.1)
-        ],
-      )
-      | inr e ↦ inr e
-    ];
-    gain = 0;
-    costs = Costs-none old m;
-    moved = λ k c lt at. inl at;
-  }
-
-  module _ (w v : Walk) (old seats : List Seat) (before m : ℕ) (h : AreAdvanced p l rs place end w old seats before m) (k : ℕ) (within : k < length seats) (on : (j : ℕ) → IsAhead p l w j → (j ≡ k) ⊎ IsAhead p l v j) where
-    -- a seat that stands at a place is a cursor's
-    pub advanced_cursor : place < past_all → (seat_at seats k).place ≡ place → IsCursorAt p l k
-    advanced_cursor real at = elim (h.each k within) [
-      | inl s ↦ s.0
-      | inr e ↦ let empty : (seat_at seats k).place ≡ past_all = rw e.1 refl in absurd (omega arith)
-    ]
-
-    other : (j : ℕ) → j ≢ k
-        → IsAdvancedAt p l rs place end w j (seat_at seats j)
-        → IsAdvancedAt p l rs place end v j (seat_at seats j)
-    other j ne (inl (c, inl (s, a))) = elim (on j a) [
-      | inl e ↦ absurd (ne e)
-      | inr b ↦ inl (c, inl (s, b))
-    ]
-    other j ne (inl (c, inr s)) = inl (c, inr s)
-    other j ne (inr e) = inr e
-
-    left_there : ((k < end) × ((seat_at seats k).place ≡ place) → ⊥) → IsSeated (reach_at rs k) place (seat_at seats k) → IsSeated (reach_at rs k) (start_at place end k) (seat_at seats k)
-    left_there ne s = elim (cases_lt k end) [
-      | inl lt ↦ start_past (reach_at rs k) place end k (seat_at seats k) lt (seated_stays (reach_at rs k) place (seat_at seats k) s (λ e. ne (lt, e)))
-      | inr ge ↦ start_here (reach_at rs k) place end k (seat_at seats k) ge s
-    ]
-
-    here : ((k < end) × ((seat_at seats k).place ≡ place) → ⊥)
-        → IsAdvancedAt p l rs place end w k (seat_at seats k)
-        → IsAdvancedAt p l rs place end v k (seat_at seats k)
-    here ne (inl (c, inl (s, a))) = inl (c, inr (left_there ne s))
-    here ne (inl (c, inr s)) = inl (c, inr s)
-    here ne (inr e) = inr e
-
-    -- the seat stood elsewhere, or isn't to be moved
-    pub advanced_stay : ((k < end) × ((seat_at seats k).place ≡ place) → ⊥) → AreAdvanced p l rs place end v old seats before m
-    advanced_stay ne = record {
-      count = h.count;
-      each = λ j lt. elim (cases_eq j k) [
-        | inl e ↦ subst (λ (i : ℕ). IsAdvancedAt p l rs place end v i (seat_at seats i)) (sym e) (here ne (h.each k within))
-        | inr other_one ↦ other j other_one (h.each j lt)
-      ];
-      gain = h.gain;
-      costs = h.costs;
-      moved = h.moved;
-    }
-
-    -- the seat stood there, and moved on
-    pub advanced_move : (r : List ℕ) (s : Seat) (m' : ℕ) → IsCursorAt p l k → k < end → r ≡ reach_at rs k → (seat_at seats k).place ≡ place → IsSeated r ((seat_at seats k).place + 1) s → SeatCosts 0 1 (seat_at seats k) s m m' → AreAdvanced p l rs place end v old (set seats k s) before m'
-    advanced_move r s m' cursor lt is at seated costs = record {
-      count = length-set seats k s ∙ h.count;
-      each = set_each seats k s within
-          (λ j x. IsAdvancedAt p l rs place end v j x)
-          (λ j l' ne. other j ne (h.each j l'))
-          (inl (cursor, inr (start_past (reach_at rs k) place end k s lt (rw (is, at) at seated))));
-      gain = h.gain + 1;
-      costs = Costs-set seats k s within old 0 h.gain 0 1 before m m' h.costs costs;
-      moved = λ j c l' there. inr (omega arith);
-    }
-
-  -- after the walk
-  module _ (w : Walk) (old seats : List Seat) (before m : ℕ) (h : AreAdvanced p l rs place end w old seats before m) (none : (k : ℕ) → IsAhead p l w k → ⊥) where
-    pub advanced_end : AreSeated p l rs place end seats
-    advanced_end = record {
-      count = h.count;
-      each = λ k lt. elim (h.each k lt) [
-        | inl s ↦ elim s.1 [
-          | inl a ↦ absurd (none k a.1)
-          | inr there ↦ inl (s.0, there)
-        ]
-        | inr e ↦ inr e
-      ];
-    }
-
-    advanced_past : (k : ℕ) → k < end → (seat_at seats k).place ≡ place → place < past_all → k < length seats → ⊥
-    advanced_past k lt at real within = elim (advanced_end.each k within) [
-      | inl s ↦ let ahead = s.1.ahead in omega arith
-      | inr e ↦ let empty : (seat_at seats k).place ≡ past_all = rw e.1 refl in omega arith
-    ]
-
-    pub advanced_gain : (k : ℕ) → place < past_all → IsCursorAt p l k → k < end → (seat_at old k).place ≡ place → Costs 0 1 old seats before m
-    advanced_gain k real c lt at = elim (h.moved k c lt at) [
-      | inl stays ↦ absurd (advanced_past k lt stays real (omega (arith, cursor_within p l k c, h.count)))
-      | inr some ↦ record { total = h.costs.total; meter = h.costs.meter; low = omega (arith, h.costs.low); high = h.costs.high }
-    ]
-
-    pub advanced_costs : Costs 0 0 old seats before m
-    advanced_costs = Costs-less 0 h.gain old seats before m h.costs
-
 -- a seat that has a place is a cursor's
 pub cursor_of_seat : (p : PolicyView) (l : LineView) (seats : List Seat) (k place : ℕ) → IsCursorAt p l k ⊎ (seat_at seats k ≡ empty_seat) → place ≡ (seat_at seats k).place → place < past_all → IsCursorAt p l k
 cursor_of_seat p l seats k place (inl c) at real = c
 cursor_of_seat p l seats k place (inr e) at real = let empty : (seat_at seats k).place ≡ past_all = rw e refl in absurd (omega arith)
-
--- the least seat of the cursors that were visited
-pub record IsLeastSoFar (p : PolicyView) (l : LineView) (seats : List Seat) (w : Walk) (place number : ℕ) : Type 0 where
-  pub bound : place ≤ past_all
-  pub cursor : place < past_all → IsCursorAt p l number
-  pub at : place < past_all → (seat_at seats number).place ≡ place
-  pub least : (k : ℕ) → IsCursorAt p l k → IsAhead p l w k ⊎ ComesFirst place number (seat_at seats k).place k
-
-module _ (p : PolicyView) (l : LineView) (seats : List Seat) (w v : Walk) (place number : ℕ) (h : IsLeastSoFar p l seats w place number) (k here : ℕ) (cursor : here < past_all → IsCursorAt p l k) (on : (j : ℕ) → IsAhead p l w j → (j ≡ k) ⊎ IsAhead p l v j) (is : here ≡ (seat_at seats k).place) where
-  pub least_more : (here < place) ⊎ ((here ≡ place) × (k < number)) → IsLeastSoFar p l seats v here k
-  least_more before = record {
-    bound = elim before [ inl lt ↦ omega (arith, h.bound) | inr same ↦ omega (arith, h.bound, same.0) ];
-    cursor = cursor;
-    at = λ _. sym is;
-    least = λ j c. elim (h.least j c) [
-      | inl a ↦ elim (on j a) [
-        | inl e ↦ inr (subst (λ (i : ℕ). ComesFirst here k (seat_at seats i).place i) (sym e) (record { least = omega arith; first = λ le real. omega arith }))
-        | inr b ↦ inl b
-      ]
-      | inr f ↦ inr (elim before [
-        | inl lt ↦ record { least = omega (arith, f.least); first = λ le real. absurd (omega (arith, f.least)) }
-        | inr same ↦ record { least = omega (arith, f.least, same.0); first = λ le real. let first = f.first (omega (arith, same.0)) (omega (arith, same.0)) in omega (arith, same.1) }
-      ])
-    ];
-  }
-
-  not_above : ((here < place) ⊎ ((here ≡ place) × (k < number)) → ⊥) → place ≤ (seat_at seats k).place
-  not_above after = elim (cases_lt here place) [
-    | inl lt ↦ absurd (after (inl lt))
-    | inr ge ↦ omega arith
-  ]
-
-  not_earlier : ((here < place) ⊎ ((here ≡ place) × (k < number)) → ⊥) → here ≡ place → number ≤ k
-  not_earlier after e = elim (cases_lt k number) [
-    | inl lt ↦ absurd (after (inr (e, lt)))
-    | inr ge ↦ ge
-  ]
-
-  pub least_keep : ((here < place) ⊎ ((here ≡ place) × (k < number)) → ⊥) → IsLeastSoFar p l seats v place number
-  least_keep after = record {
-    bound = h.bound;
-    cursor = h.cursor;
-    at = h.at;
-    least = λ j c. elim (h.least j c) [
-      | inl a ↦ elim (on j a) [
-        | inl e ↦ inr (subst (λ (i : ℕ). ComesFirst place number (seat_at seats i).place i) (sym e) (record { least = not_above after; first = λ le real. not_earlier after (omega (arith, not_above after)) }))
-        | inr b ↦ inl b
-      ]
-      | inr f ↦ inr f
-    ];
-  }

@@ -10,8 +10,8 @@ use Rattle.rbac_model.specs.Policies.{PolicyView, GrantView, BindingNames, IsPol
 use Rattle.rbac_model.specs.Universes.{LiveForSome, UniverseView}
 use Rattle.rbac_model.proofs.BindingPlaces.{of_some_binding}
 use Rattle.rbac_index.specs.Bound.{HasRoleBindings, IsBoundTo, IsNextRun}
-use Rattle.rbac_matrix.specs.Lines.{IsLineAt, IsMoved, LineView, line, next_verb}
-use Rattle.rbac_matrix.specs.Cursors.{AreKnownAt, AreRuns, AreRunsFrom, ServeBare, IsAhead, IsBoundOn, IsCursorAt, IsNextBound, IsNextRunOn, IsWithin, steps_left}
+use Rattle.rbac_matrix.specs.Lines.{IsLineAt, IsMoved, LineView, line, place}
+use Rattle.rbac_matrix.specs.Cursors.{AreKnownAt, AreRunsFrom, AreRunsOf, AreVerbs, ServeBare, IsAhead, IsBoundOn, IsCursorAt, IsNextBound, IsNextRunOn, IsWithin, steps_left}
 use Rattle.rbac_matrix.specs.declared.line.Place.{Place}
 use Rattle.rbac_matrix.specs.declared.bound_runs.Run.{Run}
 use Rattle.rbac_matrix.specs.declared.bound_runs.Runs.{Runs}
@@ -110,7 +110,7 @@ bound_for : (p : PolicyView) (l : LineView) (verb : Text) (k : ℕ) → IsBoundO
 unfolding IsBoundOn
 bound_for p l verb k b = b
 
-runs_for : (p : PolicyView) (l : LineView) (verb : Text) (are_all : Bool) (from : ℕ) (runs : List Run) → AreRunsFrom p l are_all from runs → AreRunsFrom p (line l.who l.namespace verb) are_all from runs
+pub runs_for : (p : PolicyView) (l : LineView) (verb : Text) (are_all : Bool) (from : ℕ) (runs : List Run) → AreRunsFrom p l are_all from runs → AreRunsFrom p (line l.who l.namespace verb) are_all from runs
 runs_for p l verb are_all from [] are = λ all n low bound. are all n low (bound_for p l verb n bound)
 runs_for p l verb are_all from (run ∷ runs) are = (are.0, runs_for p l verb are_all run.end runs are.1)
 
@@ -145,18 +145,32 @@ module _ (p : PolicyView) (ok : IsPolicy p) (who : Who) (a b : Text) (bare : ¬ 
   runs_elsewhere v w are_all from [] are = λ all n low bound. are all n low (bound_elsewhere p ok who b a other n bound)
   runs_elsewhere v w are_all from (run ∷ runs) are = (next_elsewhere from run.start run.end are.0, runs_elsewhere v w are_all run.end runs are.1)
 
-pub serve_bare : (p : PolicyView) → IsPolicy p → (l : LineView) (runs : Runs) → ((IsTrue runs.is_bare) → HasRoleBindings p.held l.namespace → ⊥) → AreRuns p l runs → ServeBare p l.who runs
-serve_bare p ok l runs bare are = λ is namespace verb other. runs_elsewhere p ok l.who l.namespace namespace (bare is) other l.verb verb runs.are_all 0 runs.kept.items are
+-- and so are the verbs that they have
+verbs_elsewhere : (p : PolicyView) (u : UniverseView) → IsPolicy p → (who : Who) (a b : Text) (told : List Bool) → (¬ HasRoleBindings p.held b) → AreVerbs p u who a told → AreVerbs p u who b told
+unfolding IsBoundOn
+verbs_elsewhere p u ok who a b told other are = record {
+  few = are.few;
+  missing = λ at verb is lacks k c.
+      let h = bound_elsewhere p ok who b a other k (cursor_bound p (line who b verb) k c) in
+      let same : h.0 ≡ c.grant = same_Some h.0 c.grant (sym h.1 ∙ c.at) in
+      are.missing at verb is lacks k (record { grant = h.0; at = h.1; is = (subst (λ (g : GrantView). VerbOk g.rule.rule verb) (sym same) c.is.0, h.2, h.3) });
+}
 
--- the line after one has its runs, unless a namespace begins there
-pub known_after : (p : PolicyView) (u : UniverseView) (at : Place) (l : LineView) (runs : Runs) → IsLineAt u at l → AreRuns p l runs → ServeBare p l.who runs → AreKnownAt p u (next_verb at) runs
-known_after p u at l runs here are bare = record {
+pub serve_bare : (p : PolicyView) (u : UniverseView) → IsPolicy p → (l : LineView) (runs : Runs) → ((IsTrue runs.is_bare) → HasRoleBindings p.held l.namespace → ⊥) → AreRunsOf p u l runs → ServeBare p u l.who runs
+serve_bare p u ok l runs bare are = λ is namespace verb other. (
+  runs_elsewhere p ok l.who l.namespace namespace (bare is) other l.verb verb runs.are_all 0 runs.kept.items are.0,
+  verbs_elsewhere p u ok l.who l.namespace namespace runs.verbs.items other are.1,
+)
+
+-- another line of a namespace has the runs of this one, and one of another namespace may have them
+pub known_at : (p : PolicyView) (u : UniverseView) (at : Place) (l : LineView) (runs : Runs) (verb : ℕ) → IsLineAt u at l → AreRunsOf p u l runs → ServeBare p u l.who runs → AreKnownAt p u (place at.principal at.namespace verb) runs
+known_at p u at l runs verb here are bare = record {
   verbs = λ later m there.
       let who : l.who ≡ m.who = same_Some l.who m.who (sym here.principal ∙ there.principal) in
       let namespace : l.namespace ≡ m.namespace = same_Some l.namespace m.namespace (sym here.namespace ∙ there.namespace) in
-      let same = runs_for p l m.verb runs.are_all 0 runs.kept.items are in
-      subst (λ (n : Text). AreRuns p (line m.who n m.verb) runs) namespace (subst (λ (w : Who). AreRuns p (line w l.namespace m.verb) runs) who same);
-  bare = λ later who there. subst (λ (w : Who). ServeBare p w runs) (same_Some l.who who (sym here.principal ∙ there)) bare;
+      let same : AreRunsOf p u (line l.who l.namespace m.verb) runs = (runs_for p l m.verb runs.are_all 0 runs.kept.items are.0, are.1) in
+      subst (λ (n : Text). AreRunsOf p u (line m.who n m.verb) runs) namespace (subst (λ (w : Who). AreRunsOf p u (line w l.namespace m.verb) runs) who same);
+  bare = λ later who there. subst (λ (w : Who). ServeBare p u w runs) (same_Some l.who who (sym here.principal ∙ there)) bare;
 }
 
 pub known_moved : (p : PolicyView) (u : UniverseView) (at to : Place) (runs : Runs) → IsMoved at to → AreKnownAt p u at runs → AreKnownAt p u to runs
@@ -171,14 +185,14 @@ known_moved p u at to runs (inr (none, inr same)) known = record {
 }
 
 -- and so at the first line of the next namespace
-pub known_past : (p : PolicyView) (u : UniverseView) (at to : Place) (l : LineView) (runs : Runs) → IsLineAt u at l → ServeBare p l.who runs → to.verb ≡ 0 → (to.namespace ≡ 0) ⊎ (to.principal ≡ at.principal) → AreKnownAt p u to runs
+pub known_past : (p : PolicyView) (u : UniverseView) (at to : Place) (l : LineView) (runs : Runs) → IsLineAt u at l → ServeBare p u l.who runs → to.verb ≡ 0 → (to.namespace ≡ 0) ⊎ (to.principal ≡ at.principal) → AreKnownAt p u to runs
 known_past p u at to l runs here bare none (inl first) = record {
   verbs = λ later. absurd (omega (arith, none, later));
   bare = λ later. elim later [ inl n ↦ absurd (omega (arith, first, n)) | inr n ↦ absurd (omega (arith, none, n)) ];
 }
 known_past p u at to l runs here bare none (inr same) = record {
   verbs = λ later. absurd (omega (arith, none, later));
-  bare = λ later who there. subst (λ (w : Who). ServeBare p w runs) (same_Some l.who who (sym here.principal ∙ subst (λ (n : ℕ). slice_get u.principals n ≡ Some who) same there)) bare;
+  bare = λ later who there. subst (λ (w : Who). ServeBare p u w runs) (same_Some l.who who (sym here.principal ∙ subst (λ (n : ℕ). slice_get u.principals n ≡ Some who) same there)) bare;
 }
 
 -- one move after another

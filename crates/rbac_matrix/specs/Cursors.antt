@@ -1,6 +1,6 @@
 -- The cursors of a line: the grants that may allow something on it.
 use Rattle.std.specs.Prelude.{◌≡◌, ℕ, ◌+◌, ◌<◌, ◌≤◌, ◌-◌, ◌⊎◌, Bool, IsTrue, List, [], ◌∷◌, Some}
-use Rattle.std.specs.Prelude.{slice_get, drop, length}
+use Rattle.std.specs.Prelude.{slice_get, slice_index_or, drop, length, true, false}
 use Rattle.rbac_model.specs.Policies.{PolicyView, GrantView}
 use Rattle.rbac_model.specs.Universes.{UniverseView, IsCursor}
 use Rattle.rbac_terms.specs.Text.{Text}
@@ -34,23 +34,40 @@ AreRunsFrom p l are_all from (run ∷ runs) = IsNextRun p l.who l.namespace from
 abbrev pub AreRuns : PolicyView → LineView → Runs → Type 0
 AreRuns p l runs = AreRunsFrom p l runs.are_all 0 runs.kept.items
 
+-- these first verbs of the universe are told, and those told to be missing are on no grant that may
+-- be live for who asks in that namespace
+pub record AreVerbs (p : PolicyView) (u : UniverseView) (who : Who) (namespace : Text)
+    (told : List Bool) : Type 0 where
+  pub few : length told ≤ length u.verbs
+  pub missing : (place : ℕ) (verb : Text) → slice_get u.verbs place ≡ Some verb
+      → slice_index_or told place true ≡ false
+      → (number : ℕ) → ¬ IsCursorAt p (line who namespace verb) number
+
+-- these are the first runs of the line, and the verbs of who asks in its namespace
+abbrev pub AreRunsOf : PolicyView → UniverseView → LineView → Runs → Type 0
+AreRunsOf p u l runs = AreRuns p l runs × AreVerbs p u l.who l.namespace runs.verbs.items
+
 -- if `is_bare` is true, the runs are those of who asks in each namespace without a RoleBinding
-abbrev pub ServeBare : PolicyView → Who → Runs → Type 0
-ServeBare p who runs = IsTrue runs.is_bare → (namespace verb : Text)
-    → ¬ HasRoleBindings p.held namespace → AreRuns p (line who namespace verb) runs
+abbrev pub ServeBare : PolicyView → UniverseView → Who → Runs → Type 0
+ServeBare p u who runs = IsTrue runs.is_bare → (namespace verb : Text)
+    → ¬ HasRoleBindings p.held namespace → AreRunsOf p u (line who namespace verb) runs
 
 -- the runs are those of the line at the place, if there is a line there
 abbrev pub AreRunsAt : PolicyView → UniverseView → Place → Runs → Type 0
 AreRunsAt p u at runs = (l : LineView) (ls : List LineView) → lines_from u at ≡ l ∷ ls
-    → AreRuns p l runs × ServeBare p l.who runs
+    → AreRunsOf p u l runs × ServeBare p u l.who runs
 
 -- what is known of the runs of the line before the one at the place: they are that line's too, if
 -- it isn't the first of its namespace; and they are those of its principal, if it isn't the first
 -- of its principal
 pub record AreKnownAt (p : PolicyView) (u : UniverseView) (at : Place) (runs : Runs) : Type 0 where
-  pub verbs : 0 < at.verb → (l : LineView) → IsLineAt u at l → AreRuns p l runs
+  pub verbs : 0 < at.verb → (l : LineView) → IsLineAt u at l → AreRunsOf p u l runs
   pub bare : (0 < at.namespace) ⊎ (0 < at.verb) → (who : Who)
-      → slice_get u.principals at.principal ≡ Some who → ServeBare p who runs
+      → slice_get u.principals at.principal ≡ Some who → ServeBare p u who runs
+
+-- the walk back at a number of the run that it is in
+abbrev pub back_at : Walk → ℕ → Walk
+back_at w number = record { next = number; end = w.end; later = w.later }
 
 -- the walk will still come to the cursor with that number
 abbrev pub IsAhead : PolicyView → LineView → Walk → ℕ → Type 0

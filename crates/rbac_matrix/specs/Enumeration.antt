@@ -3,6 +3,7 @@ use Rattle.std.specs.Prelude.{◌≡◌, ℕ, ◌↔◌, List, [], ◌∷◌, �
 use Rattle.std.specs.Iterator.{Count, at_most}
 use Rattle.rbac_model.specs.Policies.{IsPolicy}
 use Rattle.rbac_model.specs.Universes.{Cell, IsUniverse, RowView}
+use Rattle.rbac_matrix.specs.Blocks.{AreBlocksAt}
 use Rattle.rbac_matrix.specs.Cells.{AreRowsOf}
 use Rattle.rbac_matrix.specs.Cursors.{AreRunsAt}
 use Rattle.rbac_matrix.specs.Lines.{LineView, line, lines_from}
@@ -54,7 +55,8 @@ pub record IsUnderWay (s : Rows) (upto : ℕ) : Type 0 where
   pub universe : IsUniverse s.universe.now
   pub reaches : AreReaches s.index.now s.universe.now s.reaches.now
   pub ready : IsReady s.index.now s.universe.now s.reaches.now s.at s.from upto s.seats.now
-  pub runs : AreRunsAt s.index.now s.universe.now s.at s.runs
+  pub runs : AreRunsAt s.index.now s.universe.now s.at s.kept.runs
+  pub blocks : AreBlocksAt s.index.now s.universe.now s.at s.kept s.seats.now
   pub rows : ℕ
   pub is_returned : s.returned ≡ raised 0 rows
   pub metered : IsMetered s.index.now s.universe.now s.start s.sought s.at s.seats.now rows s.meter

@@ -1,17 +1,24 @@
 //! The grants of the bindings that name a principal and may be live in a namespace, in runs.
 
-ghost use Rattle.std.specs.Prelude.{◌≡◌, ◌↔◌, [], IsTrue};
+ghost use Rattle.std.specs.Prelude.{◌≡◌, ◌<◌, ◌↔◌, [], IsTrue, slice_index_or, true, false};
 ghost use Rattle.rbac_matrix.specs.Shown.{line_of};
 ghost use Rattle.rbac_index.specs.Bound.{HasRoleBindings};
-ghost use Rattle.rbac_matrix.specs.Cursors.{AreRuns, ServeBare};
+ghost use Rattle.rbac_model.specs.Policies.{IsPolicy};
+ghost use Rattle.rbac_matrix.specs.Cursors.{AreRuns, AreRunsOf, AreVerbs, ServeBare};
 
 use crate::line::Line;
+use crate::walk::has_cursor;
 use arrayvec::ArrayVec;
 use rbac_index::Index;
 use rbac_terms::Word;
+use rbac_universe::Universe;
 
 // The most runs of a line that are kept. Each walk looks up the others again.
 const MOST_KEPT: usize = 256;
+
+// The most verbs of which it is kept whether a line's grants have them. The others are looked at
+// line by line.
+const MOST_TOLD: usize = 256;
 
 /// Consecutive grants of a binding: those with the numbers `start..end`.
 #[derive(Clone, Copy, Default)]
@@ -29,6 +36,8 @@ pub(crate) struct Runs {
     // Whether the namespace of the line has no RoleBinding. Then the runs are those of
     // ClusterRoleBindings, and the same in every such namespace.
     is_bare: bool,
+    // Of the first verbs of the universe, whether one of these grants has each.
+    verbs: ArrayVec<bool, MOST_TOLD>,
 }
 
 impl Runs {
@@ -38,13 +47,26 @@ impl Runs {
             kept: ArrayVec::new(),
             are_all: true,
             is_bare: false,
+            verbs: ArrayVec::new(),
         }
     }
 
-    // The first runs of the line.
-    pub(crate) fn of(index: &Index<'_>, line: Line<'_>) -> Self
+    // The first runs of the line, and the verbs that their grants have.
+    pub(crate) fn of(index: &Index<'_>, universe: &Universe, line: Line<'_>) -> Self
+        ensures runs { AreRunsOf index.now universe.now (line_of line.entry) result }
+        ensures bare { ServeBare index.now universe.now line.entry.principal.now result }
+    {
+        let mut runs = Runs::first(index, line);
+        runs.verbs = verbs_of(index, universe, line, &runs);
+        runs
+    }
+
+    // The first runs of the line, with no verbs told.
+    fn first(index: &Index<'_>, line: Line<'_>) -> Self
         ensures runs { AreRuns index.now (line_of line.entry) result }
-        ensures bare { ServeBare index.now line.entry.principal.now result }
+        ensures bare { IsTrue result.is_bare
+            → ¬ HasRoleBindings index.now.held line.entry.namespace.now }
+        ensures policy { IsPolicy index.now }
     {
         let is_bare = !index.has_role_bindings(line.namespace);
         let mut kept = ArrayVec::new();
@@ -55,6 +77,7 @@ impl Runs {
                     kept,
                     are_all: true,
                     is_bare,
+                    verbs: ArrayVec::new(),
                 };
             };
             kept.push(Run { start, end });
@@ -64,6 +87,7 @@ impl Runs {
             kept,
             are_all: false,
             is_bare,
+            verbs: ArrayVec::new(),
         }
     }
 
@@ -73,6 +97,16 @@ impl Runs {
             → IsTrue self.now.is_bare × (¬ HasRoleBindings index.now.held namespace.now) }
     {
         self.is_bare && !index.has_role_bindings(namespace)
+    }
+
+    // Whether none of these grants has the verb at this place.
+    pub(crate) fn lack_verb(&self, place: usize) -> bool
+        ensures lack { IsTrue result
+            ↔ (slice_index_or self.now.verbs.items place true ≡ false) }
+        ensures few { IsTrue result → place < 256 }
+    {
+        let told = self.verbs.as_slice();
+        place < told.len() && !told[place]
     }
 
     // The runs that are kept.
@@ -95,4 +129,30 @@ impl Runs {
     {
         self.kept.is_empty() && self.are_all
     }
+}
+
+// Of the first verbs of the universe, whether one of these grants has each.
+fn verbs_of(
+    index: &Index<'_>,
+    universe: &Universe,
+    line: Line<'_>,
+    runs: &Runs,
+) -> ArrayVec<bool, MOST_TOLD>
+    requires { AreRuns index.now (line_of line) runs.now }
+    ensures { AreVerbs index.now universe.now
+        line.entry.principal.now line.entry.namespace.now result.items }
+{
+    let mut told = ArrayVec::new();
+    for verb in universe.verbs() {
+        if told.is_full() {
+            break;
+        }
+        let line = Line {
+            principal: line.principal,
+            namespace: line.namespace,
+            verb,
+        };
+        told.push(has_cursor(index, line, runs));
+    }
+    told
 }

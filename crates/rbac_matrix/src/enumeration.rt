@@ -12,11 +12,13 @@ ghost use Rattle.rbac_matrix.specs.Lines.{IsSettled};
 ghost use Rattle.rbac_matrix.specs.Enumeration.{AreEntered, BeginsAt, Gives, GoesOn, IsGoing};
 ghost use Rattle.rbac_matrix.specs.Enumeration.{IsUnderWay, left_at_most};
 
-use crate::bound_runs::Runs;
+use crate::advance::advance;
+use crate::basis::Basis;
+use crate::kept::Kept;
 use crate::line::{Place, line_at};
 use crate::row::{Row, row_of};
 use crate::seat::Seat;
-use crate::seats::{advance, empty_all};
+use crate::seats::empty_all;
 use crate::start::{Start, seat_start};
 use crate::steps::next_cell;
 use rbac_index::{Index, Meter, Reach};
@@ -33,8 +35,8 @@ pub struct Rows<'r, 'm> {
     // The line of the seats, and the place of the target from which that line's rows are left.
     pub(crate) at: Place,
     pub(crate) from: u32,
-    // The first runs of grants of that line.
-    pub(crate) runs: Runs,
+    // What is kept of that line.
+    pub(crate) kept: Kept,
     // The first line, how many of its cursors were sought, and how many rows were returned.
     pub(crate) start: Place,
     pub(crate) sought: usize,
@@ -62,11 +64,14 @@ pub(crate) fn rows_from<'r, 'm>(
     ensures universe { result.universe.now ≡ universe.now }
 {
     empty_all(index, seats);
-    let mut runs = Runs::new();
+    let mut kept = Kept::new();
     let mut meter = Meter::new();
-    let sought = seat_start(
-        index, universe, reaches, start, &mut runs, seats, &mut meter,
-    );
+    let basis = Basis {
+        index,
+        universe,
+        reaches,
+    };
+    let sought = seat_start(basis, start, &mut kept, seats, &mut meter);
     Rows {
         index,
         universe,
@@ -74,7 +79,7 @@ pub(crate) fn rows_from<'r, 'm>(
         seats,
         at: start.at,
         from: start.from,
-        runs,
+        kept,
         start: start.at,
         sought,
         returned: 0,
@@ -92,16 +97,18 @@ impl Rows<'_, '_> {
             × (self.new.returned ≡ self.old.returned) }
         ensures same { GoesOn self.old self.new }
     {
-        let index = self.index;
-        let reaches = self.reaches;
+        let basis = Basis {
+            index: self.index,
+            universe: self.universe,
+            reaches: self.reaches,
+        };
         let from = self.from;
         let Some(line) = line_at(self.universe, self.at) else {
             return;
         };
+        let kept = &mut self.kept;
         let meter = &mut self.meter;
-        advance(
-            index, reaches, line, &self.runs, from, upto, self.seats, meter,
-        );
+        advance(basis, line, kept, from, upto, self.seats, meter);
     }
 
     /// How many entries of reaches were read: no fewer than the rows that were returned, and no
@@ -139,14 +146,18 @@ impl<'m> Iterator for Rows<'_, 'm> {
     {
         let index = self.index;
         let universe = self.universe;
-        let (at, found) = next_cell(
+        let basis = Basis {
             index,
             universe,
-            self.reaches,
+            reaches: self.reaches,
+        };
+        let kept = &mut self.kept;
+        let (at, found) = next_cell(
+            basis,
             self.at,
             self.from,
             0,
-            &mut self.runs,
+            kept,
             self.seats,
             &mut self.meter,
         );
@@ -154,11 +165,9 @@ impl<'m> Iterator for Rows<'_, 'm> {
         let (place, no) = found?;
         let line = line_at(universe, at)?;
         let all = index.len();
-        let reaches = self.reaches;
+        let kept = &mut self.kept;
         let meter = &mut self.meter;
-        advance(
-            index, reaches, line, &self.runs, place, all, self.seats, meter,
-        );
+        advance(basis, line, kept, place, all, self.seats, meter);
         let targets = universe.targets();
         self.from = place + 1;
         self.returned = self.returned.saturating_add(1);

@@ -10,10 +10,11 @@ ghost use Rattle.rbac_matrix.specs.Enumeration.{AreEntered, GoesOn};
 ghost use Rattle.rbac_matrix.specs.EveryLeft.{GivesEvery, IsGoingEvery, PassesBinding};
 ghost use Rattle.rbac_matrix.specs.EveryLeft.{every_at_most};
 
+use crate::advance::advance;
+use crate::basis::Basis;
 use crate::enumeration::Rows;
 use crate::line::line_at;
 use crate::row::{Row, row_of};
-use crate::seats::advance;
 use crate::steps::next_cell;
 use rbac_index::{Index, Meter};
 
@@ -80,15 +81,18 @@ impl<'m> Iterator for EveryRows<'_, 'm> {
         let rows = &mut self.rows;
         let index = rows.index;
         let universe = rows.universe;
-        let reaches = rows.reaches;
-        let (at, found) = next_cell(
+        let basis = Basis {
             index,
             universe,
-            reaches,
+            reaches: rows.reaches,
+        };
+        let kept = &mut rows.kept;
+        let (at, found) = next_cell(
+            basis,
             rows.at,
             rows.from,
             upto,
-            &mut rows.runs,
+            kept,
             rows.seats,
             &mut rows.meter,
         );
@@ -97,10 +101,9 @@ impl<'m> Iterator for EveryRows<'_, 'm> {
         let line = line_at(universe, at)?;
         let grant = index.grant(no);
         let (binding, end) = after_binding(index, no);
+        let kept = &mut rows.kept;
         let meter = &mut rows.meter;
-        advance(
-            index, reaches, line, &rows.runs, place, end, rows.seats, meter,
-        );
+        advance(basis, line, kept, place, end, rows.seats, meter);
         let targets = universe.targets();
         rows.from = place;
         rows.returned = rows.returned.saturating_add(1);

@@ -2,11 +2,15 @@
 //! that grants it.
 #![tactic(auto)]
 
+mod advance;
+mod basis;
+mod blocks;
 mod bound_runs;
 mod enumeration;
 mod every_rows;
 mod every_start;
 mod fault;
+mod kept;
 mod laws;
 mod line;
 mod matrix;

@@ -10,7 +10,7 @@ ghost use Rattle.rbac_matrix.specs.Seats.{AreReal, filled, empty_seat, past_all,
 
 use crate::bound_runs::Runs;
 use crate::line::Line;
-use crate::seat::{Seat, seat_after, seat_from};
+use crate::seat::{Seat, seat_from};
 use crate::walk::{next_bound, next_cursor, whole_walk};
 use rbac_index::{Index, Meter, Reach};
 
@@ -19,13 +19,6 @@ fn is_untaken(seat: Seat, reach: &Reach) -> bool
     ensures { IsTrue result ↔ ((seat ≡ empty_seat) × (0 < length reach.now)) }
 {
     seat.is_empty() && 0 < reach.len()
-}
-
-// Whether a place and a number come before the other ones.
-fn comes_before(place: u32, number: u32, other_place: u32, other: u32) -> bool
-    ensures { IsTrue result ↔ ((place < other_place) ⊎ ((place ≡ other_place) × (number < other))) }
-{
-    place < other_place || (place == other_place && number < other)
 }
 
 // Seats each cursor of the line at its first entry that is at least `from`. Returns how many
@@ -59,77 +52,6 @@ pub(crate) fn seat_line(
         }
     }
     filled
-}
-
-// The least place that a seat of the line is at, with the first grant whose seat is there.
-pub(crate) fn least_seat(
-    index: &Index<'_>,
-    line: Line<'_>,
-    runs: &Runs,
-    seats: &[Seat],
-) -> Option<(u32, u32)>
-    requires runs { AreRuns index.now (line_of line) runs.now }
-    requires count { length seats.now ≡ length index.now.grants }
-    requires others { (k : ℕ) → k < length seats.now
-        → IsCursorAt index.now (line_of line) k ⊎ (seat_at seats.now k ≡ empty_seat) }
-    ensures found { IfSome result
-        (λ found. IsLeastSeat index.now (line_of line.entry) seats.now found.0 found.1) }
-    ensures none { IfNone result
-        ((k : ℕ) → IsCursorAt index.now (line_of line.entry) k
-        → past_all ≤ (seat_at seats.now k).place) }
-{
-    let mut place = u32::MAX;
-    let mut number = 0;
-    let mut walk = whole_walk();
-    while let Some(no) = next_bound(index, line, runs, &mut walk) {
-        let here = seats[no as usize].place();
-        if comes_before(here, no, place, number) {
-            place = here;
-            number = no;
-        }
-    }
-    if place == u32::MAX {
-        None
-    } else {
-        Some((place, number))
-    }
-}
-
-// Whether a seat is at the place and its number is below `end`.
-fn stands_below(seat: Seat, no: u32, place: u32, end: u32) -> bool
-    ensures { IsTrue result ↔ ((no < end) × (seat.place ≡ place)) }
-{
-    no < end && seat.place() == place
-}
-
-// Moves each seat that is at the place on by one entry, if its grant's number is below `end`.
-pub(crate) fn advance(
-    index: &Index<'_>,
-    reaches: &[Reach],
-    line: Line<'_>,
-    runs: &Runs,
-    place: u32,
-    end: u32,
-    seats: &mut [Seat],
-    meter: &mut Meter,
-)
-    requires runs { AreRuns index.now (line_of line) runs.now }
-    requires reaches { length reaches.now ≡ length index.now.grants }
-    requires seated { AreSeatedAbout index.now (line_of line) reaches.now place end seats.old }
-    requires real { AreReal reaches.now }
-    requires stands { place < past_all }
-    ensures seated { AreSeated index.now (line_of line.entry) reaches.now place end seats.new }
-    ensures costs { Costs 0 0 seats.old seats.new meter.old meter.new }
-    ensures gains { (k : ℕ) → IsCursorAt index.now (line_of line.entry) k → k < end
-        → (seat_at seats.old k).place ≡ place → Costs 0 1 seats.old seats.new meter.old meter.new }
-{
-    let mut walk = whole_walk();
-    while let Some(no) = next_bound(index, line, runs, &mut walk) {
-        let at = no as usize;
-        if stands_below(seats[at], no, place, end) {
-            seats[at] = seat_after(&reaches[at], seats[at], meter);
-        }
-    }
 }
 
 // Empties the seats of the line.

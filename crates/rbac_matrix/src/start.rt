@@ -6,6 +6,7 @@ ghost use Rattle.std.specs.Cmp.Lexicographic.{slice_cmp};
 ghost use Rattle.rbac_terms.specs.Text.{text_cmp};
 ghost use Rattle.rbac_terms.specs.Principals.{who_key};
 ghost use Rattle.rbac_model.specs.Lists.{IsAscendingBy};
+ghost use Rattle.rbac_matrix.specs.Blocks.{AreBlocksAt};
 ghost use Rattle.rbac_matrix.specs.Cursors.{AreRunsAt};
 ghost use Rattle.rbac_matrix.specs.Lines.{IsSettled, lines_from};
 ghost use Rattle.rbac_model.specs.Policies.{IsPolicy};
@@ -17,11 +18,13 @@ ghost use Rattle.rbac_matrix.specs.Starting.{BeginsOnLine, HasNoLine, IsFoundAt,
 ghost use Rattle.rbac_matrix.specs.Starting.{IsOwnPlace, IsStart, IsTargetPlace, target_part};
 ghost use Rattle.rbac_matrix.specs.Starting.{what_texts, whats};
 
+use crate::basis::Basis;
 use crate::bound_runs::Runs;
+use crate::kept::Kept;
 use crate::line::{Place, line_at, settled};
 use crate::seat::Seat;
 use crate::seats::seat_line;
-use rbac_index::{Index, Meter, Reach};
+use rbac_index::Meter;
 use rbac_terms::{Key, Target, Word};
 use rbac_universe::Universe;
 use std::cmp::Ordering;
@@ -164,33 +167,44 @@ pub(crate) fn start_after(universe: &Universe, key: Option<&Key>) -> Start
 // Seats the cursors of the line where the rows begin, if there is one. Returns how many were
 // sought. Expects all seats to be empty.
 pub(crate) fn seat_start(
-    index: &Index<'_>,
-    universe: &Universe,
-    reaches: &[Reach],
+    basis: Basis<'_>,
     start: Start,
-    runs: &mut Runs,
+    kept: &mut Kept,
     seats: &mut [Seat],
     meter: &mut Meter,
 ) -> usize
-    requires policy { IsPolicy index.now }
-    requires reaches { AreReaches index.now universe.now reaches.now }
-    requires settled { IsSettled universe.now start.at }
+    requires policy { IsPolicy basis.index.now }
+    requires reaches { AreReaches basis.index.now basis.universe.now basis.reaches.now }
+    requires settled { IsSettled basis.universe.now start.at }
     requires few { start.from ≤ most_targets }
-    requires empty { AreEmpty index.now seats.old }
+    requires empty { AreEmpty basis.index.now seats.old }
     requires fresh { meter.old ≡ 0 }
-    ensures ready { IsReady index.now universe.now reaches.now start.at start.from 0 seats.new }
-    ensures runs { AreRunsAt index.now universe.now start.at runs.new }
-    ensures metered { IsMetered index.now universe.now start.at result start.at seats.new 0
-        meter.new }
+    ensures ready { IsReady basis.entry.index.now basis.entry.universe.now basis.entry.reaches.now
+        start.at start.from 0 seats.new }
+    ensures runs { AreRunsAt basis.entry.index.now basis.entry.universe.now start.at kept.new.runs }
+    ensures blocks { AreBlocksAt basis.entry.index.now basis.entry.universe.now
+        start.at kept.new seats.new }
+    ensures metered { IsMetered basis.entry.index.now basis.entry.universe.now
+        start.at result start.at seats.new 0 meter.new }
     ensures whole { start.from ≡ 0 → result ≡ 0 }
-    ensures sought { AreSought index.now universe.now start.at result }
-    ensures universe { IsUniverse universe.now }
+    ensures sought { AreSought basis.entry.index.now basis.entry.universe.now start.at result }
+    ensures universe { IsUniverse basis.entry.universe.now }
 {
-    let Some(line) = line_at(universe, start.at) else {
+    let index = basis.index;
+    let Some(line) = line_at(basis.universe, start.at) else {
         return 0;
     };
-    *runs = Runs::of(index, line);
-    let filled = seat_line(index, reaches, line, runs, start.from, seats, meter);
+    kept.runs = Runs::of(index, basis.universe, line);
+    let filled = seat_line(
+        index,
+        basis.reaches,
+        line,
+        &kept.runs,
+        start.from,
+        seats,
+        meter,
+    );
+    kept.blocks.fill(index, line, &kept.runs, filled, seats);
     if start.from == 0 {
         return 0;
     }

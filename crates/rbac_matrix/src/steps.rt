@@ -1,25 +1,29 @@
 //! The rows of a line, by the seats of its cursors.
 
 ghost use Rattle.std.specs.Prelude.{ℕ, ◌≡◌, ◌<◌, ◌⊎◌, ◌↔◌, ◌≤◌, [], IsTrue, MatchOption, length};
+ghost use Rattle.std.specs.Prelude.{slice_index_or, true, false};
 ghost use Rattle.rbac_model.specs.Policies.{IsPolicy};
 ghost use Rattle.rbac_model.specs.Universes.{IsUniverse, UniverseView, most_words};
 ghost use Rattle.rbac_universe.specs.Sets.{IsWithinLimits};
 ghost use Rattle.rbac_matrix.specs.Shown.{line_of};
 ghost use Rattle.rbac_index.specs.Reaches.{AreReaches};
-ghost use Rattle.rbac_matrix.specs.Cursors.{AreKnownAt, AreRuns, AreRunsAt, IsBoundOn, ServeBare};
-ghost use Rattle.rbac_matrix.specs.Lines.{IsLineAt, lines_from};
+ghost use Rattle.rbac_matrix.specs.Blocks.{AreBlocks, AreBlocksAt};
+ghost use Rattle.rbac_matrix.specs.Cursors.{AreKnownAt, AreRunsOf, AreRunsAt, IsBoundOn, ServeBare};
+ghost use Rattle.rbac_matrix.specs.Lines.{IsLineAt, lines_from, place};
 ghost use Rattle.rbac_matrix.specs.Passing.{EndsAll, EndsLine, FindsCell, FindsRow};
 ghost use Rattle.rbac_matrix.specs.Metering.{IsMetered, IsReady, Skips};
 ghost use Rattle.rbac_matrix.specs.declared.line.Place.{Place};
 ghost use Rattle.rbac_matrix.specs.Seats.{AreEmpty, AreSeated, Costs};
 
+use crate::advance::advance;
+use crate::basis::Basis;
 use crate::bound_runs::Runs;
+use crate::kept::Kept;
 use crate::line::{Line, Place, after, line_at, settled};
 use crate::seat::Seat;
-use crate::seats::{advance, empty_line, least_seat, seat_line};
-use rbac_index::{Index, Meter, Reach};
+use crate::seats::{empty_line, seat_line};
+use rbac_index::{Index, Meter};
 use rbac_terms::Word;
-use rbac_universe::Universe;
 
 // Whether a target is asked for in this namespace, given whether it is namespaced (own).
 fn fits(namespace: &Word, namespaced: bool) -> bool
@@ -32,36 +36,40 @@ fn fits(namespace: &Word, namespaced: bool) -> bool
 // target, and the first grant that allows it. Entries of requests that don't fit are read and
 // skipped; the seats that are at the row are left there.
 pub(crate) fn next_in_line(
-    index: &Index<'_>,
-    universe: &Universe,
-    reaches: &[Reach],
+    basis: Basis<'_>,
     line: Line<'_>,
-    runs: &Runs,
+    kept: &mut Kept,
     from: u32,
     upto: u32,
     seats: &mut [Seat],
     meter: &mut Meter,
 ) -> Option<(u32, u32)>
-    requires policy { IsPolicy index.now }
-    requires universe { IsUniverse universe.now }
-    requires limits { IsWithinLimits universe.now }
-    requires runs { AreRuns index.now (line_of line) runs.now }
-    requires reaches { AreReaches index.now universe.now reaches.now }
-    requires seated { AreSeated index.now (line_of line) reaches.now from upto seats.old }
+    requires policy { IsPolicy basis.index.now }
+    requires universe { IsUniverse basis.universe.now }
+    requires limits { IsWithinLimits basis.universe.now }
+    requires reaches { AreReaches basis.index.now basis.universe.now basis.reaches.now }
+    requires seated { AreSeated basis.index.now
+        (line_of line) basis.reaches.now from upto seats.old }
+    requires blocks { AreBlocks basis.index.now
+        (line_of line) kept.old.runs seats.old kept.old.blocks.kept.items }
     ensures row { MatchOption result
-        (EndsLine index.now universe.now reaches.now (line_of line.entry) from upto seats.new)
-        (λ found. FindsRow index.now universe.now reaches.now
+        (EndsLine basis.entry.index.now basis.entry.universe.now basis.entry.reaches.now
+        (line_of line.entry) from upto seats.new)
+        (λ found. FindsRow basis.entry.index.now basis.entry.universe.now basis.entry.reaches.now
         (line_of line.entry) from upto seats.new found.0 found.1) }
+    ensures blocks { AreBlocks basis.entry.index.now
+        (line_of line.entry) kept.new.runs seats.new kept.new.blocks.kept.items }
+    ensures runs { kept.new.runs ≡ kept.old.runs }
     ensures costs { Costs 0 0 seats.old seats.new meter.old meter.new }
 {
     let mut from = from;
     let mut upto = upto;
-    while let Some((place, no)) = least_seat(index, line, runs, seats) {
-        if fits(line.namespace, universe.namespaced(place as usize)) {
+    while let Some((place, no)) = kept.blocks.least() {
+        if fits(line.namespace, basis.universe.namespaced(place as usize)) {
             return Some((place, no));
         }
-        let all = index.len();
-        advance(index, reaches, line, runs, place, all, seats, meter);
+        let all = basis.index.len();
+        advance(basis, line, kept, place, all, seats, meter);
         from = place + 1;
         upto = 0;
     }
@@ -70,55 +78,84 @@ pub(crate) fn next_in_line(
 
 // Makes the runs of the line before this one those of this line: they are, within a namespace, and
 // in all namespaces of a principal that have no RoleBinding.
-fn renew(index: &Index<'_>, line: Line<'_>, at: Place, runs: &mut Runs)
-    requires verbs { 0 < at.verb → AreRuns index.now (line_of line) runs.old }
+fn renew(basis: Basis<'_>, line: Line<'_>, at: Place, runs: &mut Runs)
+    requires verbs { 0 < at.verb
+        → AreRunsOf basis.index.now basis.universe.now (line_of line) runs.old }
     requires bare { (0 < at.namespace) ⊎ (0 < at.verb)
-        → ServeBare index.now line.principal.now runs.old }
-    ensures runs { AreRuns index.now (line_of line.entry) runs.new }
-    ensures bare { ServeBare index.now line.entry.principal.now runs.new }
+        → ServeBare basis.index.now basis.universe.now line.principal.now runs.old }
+    ensures runs { AreRunsOf basis.entry.index.now basis.entry.universe.now
+        (line_of line.entry) runs.new }
+    ensures bare { ServeBare basis.entry.index.now basis.entry.universe.now
+        line.entry.principal.now runs.new }
 {
     if 0 < at.verb {
         return;
     }
-    if 0 < at.namespace && runs.serve(index, line.namespace) {
+    if 0 < at.namespace && runs.serve(basis.index, line.namespace) {
         return;
     }
-    *runs = Runs::of(index, line);
+    *runs = Runs::of(basis.index, basis.universe, line);
 }
 
 // Seats the cursors of the next line, from this place on, that has cursors with an entry, and
 // returns its place; if there is none, returns the place past all lines. Expects all seats to be
 // empty, and the runs to be known.
 fn next_line(
-    index: &Index<'_>,
-    universe: &Universe,
-    reaches: &[Reach],
+    basis: Basis<'_>,
     at: Place,
-    runs: &mut Runs,
+    kept: &mut Kept,
     seats: &mut [Seat],
     meter: &mut Meter,
 ) -> Place
-    requires policy { IsPolicy index.now }
-    requires reaches { AreReaches index.now universe.now reaches.now }
-    requires empty { AreEmpty index.now seats.old }
-    requires known { AreKnownAt index.now universe.now at runs.old }
-    ensures skips { Skips index.now.held universe.now at result }
-    ensures ready { IsReady index.now universe.now reaches.now result 0 0 seats.new }
-    ensures runs { AreRunsAt index.now universe.now result runs.new }
+    requires policy { IsPolicy basis.index.now }
+    requires reaches { AreReaches basis.index.now basis.universe.now basis.reaches.now }
+    requires empty { AreEmpty basis.index.now seats.old }
+    requires known { AreKnownAt basis.index.now basis.universe.now at kept.old.runs }
+    ensures skips { Skips basis.entry.index.now.held basis.entry.universe.now at result }
+    ensures ready { IsReady basis.entry.index.now basis.entry.universe.now basis.entry.reaches.now
+        result 0 0 seats.new }
+    ensures runs { AreRunsAt basis.entry.index.now basis.entry.universe.now result kept.new.runs }
+    ensures blocks { AreBlocksAt basis.entry.index.now basis.entry.universe.now
+        result kept.new seats.new }
     ensures costs { Costs 0 0 seats.old seats.new meter.old meter.new }
 {
-    let mut at = settled(universe, at);
-    while let Some(line) = line_at(universe, at) {
-        renew(index, line, at, runs);
-        if runs.is_empty() {
-            at = settled(universe, past_idle(index, line, at));
-        } else if seat_line(index, reaches, line, runs, 0, seats, meter) > 0 {
-            return at;
+    let index = basis.index;
+    let mut at = settled(basis.universe, at);
+    while let Some(line) = line_at(basis.universe, at) {
+        renew(basis, line, at, &mut kept.runs);
+        if kept.runs.is_empty() {
+            at = settled(basis.universe, past_idle(index, line, at));
+        } else if kept.runs.lack_verb(at.verb) {
+            at = settled(basis.universe, past_verbs(&kept.runs, at));
         } else {
-            at = settled(universe, after(at));
+            let filled = seat_line(index, basis.reaches, line, &kept.runs, 0, seats, meter);
+            if filled > 0 {
+                kept.blocks.fill(index, line, &kept.runs, filled, seats);
+                return at;
+            }
+            at = settled(basis.universe, after(at));
         }
     }
     at
+}
+
+// The place after the verbs that none of these grants has.
+fn past_verbs(runs: &Runs, at: Place) -> Place
+    requires few { at.verb < most_words }
+    ensures place { result ≡ place at.principal at.namespace result.verb }
+    ensures on { at.verb < result.verb }
+    ensures lack { (v : ℕ) → at.verb < v → v < result.verb
+        → slice_index_or runs.now.verbs.items v true ≡ false }
+{
+    let mut verb = at.verb + 1;
+    while runs.lack_verb(verb) {
+        verb += 1;
+    }
+    Place {
+        principal: at.principal,
+        namespace: at.namespace,
+        verb,
+    }
 }
 
 // The place after a principal's lines in a namespace where none of the principal's grants may be
@@ -144,40 +181,43 @@ fn past_idle(index: &Index<'_>, line: Line<'_>, at: Place) -> Place
 // below `upto`: the place of its line, and the place of its target with the first grant that allows
 // it.
 pub(crate) fn next_cell(
-    index: &Index<'_>,
-    universe: &Universe,
-    reaches: &[Reach],
+    basis: Basis<'_>,
     at: Place,
     from: u32,
     upto: u32,
-    runs: &mut Runs,
+    kept: &mut Kept,
     seats: &mut [Seat],
     meter: &mut Meter,
 ) -> (Place, Option<(u32, u32)>)
-    requires policy { IsPolicy index.now }
-    requires reaches { AreReaches index.now universe.now reaches.now }
-    requires ready { IsReady index.now universe.now reaches.now at from upto seats.old }
-    requires runs { AreRunsAt index.now universe.now at runs.old }
-    ensures runs { AreRunsAt index.now universe.now result.0 runs.new }
+    requires policy { IsPolicy basis.index.now }
+    requires reaches { AreReaches basis.index.now basis.universe.now basis.reaches.now }
+    requires ready { IsReady basis.index.now basis.universe.now basis.reaches.now
+        at from upto seats.old }
+    requires runs { AreRunsAt basis.index.now basis.universe.now at kept.old.runs }
+    requires blocks { AreBlocksAt basis.index.now basis.universe.now at kept.old seats.old }
+    ensures runs { AreRunsAt basis.entry.index.now basis.entry.universe.now result.0 kept.new.runs }
+    ensures blocks { AreBlocksAt basis.entry.index.now basis.entry.universe.now
+        result.0 kept.new seats.new }
     ensures row { MatchOption result.1
-        (EndsAll index.now universe.now reaches.now at from upto result.0 seats.new)
-        (λ found. FindsCell index.now universe.now reaches.now at from upto result.0 seats.new
-        found.0 found.1) }
+        (EndsAll basis.entry.index.now basis.entry.universe.now basis.entry.reaches.now
+        at from upto result.0 seats.new)
+        (λ found. FindsCell basis.entry.index.now basis.entry.universe.now basis.entry.reaches.now
+        at from upto result.0 seats.new found.0 found.1) }
     ensures metered { (start : Place) (sought given : ℕ)
-        → IsMetered index.now universe.now start sought at seats.old given meter.old
-        → IsMetered index.now universe.now start sought result.0 seats.new given meter.new }
+        → IsMetered basis.entry.index.now basis.entry.universe.now
+        start sought at seats.old given meter.old
+        → IsMetered basis.entry.index.now basis.entry.universe.now
+        start sought result.0 seats.new given meter.new }
 {
     let mut at = at;
     let mut from = from;
     let mut upto = upto;
-    while let Some(line) = line_at(universe, at) {
-        if let Some(found) = next_in_line(
-            index, universe, reaches, line, runs, from, upto, seats, meter,
-        ) {
+    while let Some(line) = line_at(basis.universe, at) {
+        if let Some(found) = next_in_line(basis, line, kept, from, upto, seats, meter) {
             return (at, Some(found));
         }
-        empty_line(index, line, runs, seats);
-        at = next_line(index, universe, reaches, after(at), runs, seats, meter);
+        empty_line(basis.index, line, &kept.runs, seats);
+        at = next_line(basis, after(at), kept, seats, meter);
         from = 0;
         upto = 0;
     }

@@ -1,11 +1,13 @@
 //! Walks along a line's grants whose bindings name who asks and may be live.
 
-ghost use Rattle.std.specs.Prelude.{◌≡◌, ◌<◌, ◌≤◌, ◌⊎◌, ℕ, IfSome, MatchOption, drop, length};
+ghost use Rattle.std.specs.Prelude.{◌≡◌, ◌↔◌, IsTrue, ◌<◌, ◌≤◌};
+ghost use Rattle.std.specs.Prelude.{◌⊎◌, ℕ, IfSome, MatchOption, drop, length};
 ghost use Rattle.rbac_model.specs.Policies.{PolicyView};
 ghost use Rattle.rbac_matrix.specs.Shown.{line_of};
 ghost use Rattle.rbac_matrix.specs.Lines.{LineView};
 ghost use Rattle.rbac_matrix.specs.Cursors.{AreRuns, AreRunsFrom, IsAhead, IsBoundOn, IsCursorAt};
-ghost use Rattle.rbac_matrix.specs.Cursors.{IsNextBound, IsNextRunOn, IsWithin, steps_left};
+ghost use Rattle.rbac_matrix.specs.Cursors.{IsNextBound, IsNextRunOn};
+ghost use Rattle.rbac_matrix.specs.Cursors.{IsWithin, back_at, steps_left};
 
 use crate::bound_runs::{Run, Runs};
 use crate::line::Line;
@@ -13,13 +15,26 @@ use rbac_index::Index;
 use rbac_terms::verb_matches;
 
 /// A walk along the grants of a line, run by run.
-#[derive(Drop)]
+#[derive(Clone, Copy, Default)]
 pub(crate) struct Walk {
     // What is left of the run that the walk is in: the numbers `next..end`.
-    next: u32,
+    pub(crate) next: u32,
     end: u32,
     // The place of the run after that one, among those that are kept.
     later: usize,
+}
+
+impl Walk {
+    // The walk back at a grant of the run that it is in.
+    pub(crate) fn back_at(self, no: u32) -> Self
+        ensures { result ≡ back_at self no }
+    {
+        Walk {
+            next: no,
+            end: self.end,
+            later: self.later,
+        }
+    }
 }
 
 // A walk along all grants of a line.
@@ -28,6 +43,7 @@ pub(crate) fn whole_walk() -> Walk
         → IsAhead p l result k }
     ensures within { (p : PolicyView) (l : LineView) (runs : Runs) → AreRuns p l runs
         → IsWithin p l runs result }
+    ensures first { result.next ≡ 0 }
 {
     Walk {
         next: 0,
@@ -62,6 +78,15 @@ pub(crate) fn next_cursor(
     None
 }
 
+// Whether a line has a cursor.
+pub(crate) fn has_cursor(index: &Index<'_>, line: Line<'_>, runs: &Runs) -> bool
+    requires { AreRuns index.now (line_of line) runs.now }
+    ensures { IsTrue result ↔ ((k : ℕ) × IsCursorAt index.now (line_of line.entry) k) }
+{
+    let mut walk = whole_walk();
+    next_cursor(index, line, runs, &mut walk).is_some()
+}
+
 // The next grant of a binding that names who asks and may be live, whatever the grant's verbs.
 pub(crate) fn next_bound(
     index: &Index<'_>,
@@ -91,6 +116,31 @@ pub(crate) fn next_bound(
     let no = walk.next;
     walk.next = no + 1;
     Some(no)
+}
+
+// The next grant whose number is below `end` of a binding that names who asks and may be live.
+pub(crate) fn next_below(
+    index: &Index<'_>,
+    line: Line<'_>,
+    runs: &Runs,
+    end: u32,
+    walk: &mut Walk,
+) -> Option<u32>
+    requires { IsWithin index.now (line_of line) runs.now walk.old }
+    ensures found { MatchOption result
+        ((k : ℕ) → walk.old.next ≤ k → k < end → ¬ IsBoundOn index.now (line_of line.entry) k)
+        (λ k. IsNextBound index.now (line_of line.entry) walk.old walk.new k × (k < end)) }
+    ensures number { IfSome result (λ k. k < length index.now.grants) }
+    ensures within { IfSome result
+        (λ _. IsWithin index.now (line_of line.entry) runs.now walk.new) }
+    ensures ends { IfSome result
+        (λ _. steps_left index.now walk.new < steps_left index.now walk.old) }
+{
+    if end <= walk.next {
+        return None;
+    }
+    let no = next_bound(index, line, runs, walk)?;
+    if no < end { Some(no) } else { None }
 }
 
 // The run after the one that the walk is in.

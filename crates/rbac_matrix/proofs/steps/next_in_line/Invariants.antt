@@ -1,16 +1,19 @@
-use Rattle.std.proofs.Common.{◌-◌, ℕ, length}
+use Rattle.std.proofs.Common.{◌≡◌, ◌-◌, ℕ, length}
 use Rattle.rbac_matrix.specs.Shown.{line_of}
+use Rattle.rbac_matrix.specs.Blocks.{AreBlocks}
 use Rattle.rbac_matrix.specs.Passing.{IsFrom, IsHit}
 use Rattle.rbac_matrix.specs.Seats.{AreSeated, Costs}
 use Rattle.rbac_matrix.proofs.steps.next_in_line.Given as goal
 
 abbrev pub invariant-loop-place : goal.invariant-loop-place
 invariant-loop-place l = record {
-  seated : AreSeated l.index (line_of l.line) l.reaches l.from l.upto l.seats;
+  seated : AreSeated l.basis.index.now (line_of l.line) l.basis.reaches.now l.from l.upto l.seats;
+  blocks : AreBlocks l.basis.index.now (line_of l.line) l.kept.runs l.seats l.kept.blocks.kept.items;
+  runs : l.kept.runs ≡ l.fn.kept.runs;
   onward : IsFrom l.from l.upto l.fn.from l.fn.upto;
-  before : (q k : ℕ) → IsHit l.index l.universe (line_of l.line) q k → IsFrom q k l.fn.from l.fn.upto → IsFrom q k l.from l.upto;
+  before : (q k : ℕ) → IsHit l.basis.index.now l.basis.universe.now (line_of l.line) q k → IsFrom q k l.fn.from l.fn.upto → IsFrom q k l.from l.upto;
   costs : Costs 0 0 l.fn.seats l.seats l.fn.meter l.meter;
 }
 
 abbrev pub decreases-loop-place : goal.decreases-loop-place
-decreases-loop-place l = length l.universe.targets - l.from
+decreases-loop-place l = length l.basis.universe.now.targets - l.from

@@ -7,12 +7,12 @@ use Rattle.rbac_matrix.proofs.steps.next_line.Given as goal
 
 abbrev pub invariant-loop-line : goal.invariant-loop-line
 invariant-loop-line l = record {
-  settled : IsSettled l.universe l.at;
-  skips : Skips l.index.held l.universe l.fn.at l.at;
-  empty : AreEmpty l.index l.seats;
-  known : AreKnownAt l.index l.universe l.at l.runs;
+  settled : IsSettled l.basis.universe.now l.at;
+  skips : Skips l.basis.index.now.held l.basis.universe.now l.fn.at l.at;
+  empty : AreEmpty l.basis.index.now l.seats;
+  known : AreKnownAt l.basis.index.now l.basis.universe.now l.at l.kept.runs;
   costs : Costs 0 0 l.fn.seats l.seats l.fn.meter l.meter;
 }
 
 abbrev pub decreases-loop-line : goal.decreases-loop-line
-decreases-loop-line l = length (lines_from l.universe l.at)
+decreases-loop-line l = length (lines_from l.basis.universe.now l.at)

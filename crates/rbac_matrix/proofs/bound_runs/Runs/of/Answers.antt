@@ -1,27 +1,11 @@
-use Rattle.std.proofs.Common.{List, [], false, true, append-nil, subst}
-use Rattle.std.specs.Prelude.{not}
 use Rattle.rbac_matrix.specs.Shown.{line_of}
-use Rattle.rbac_matrix.specs.Cursors.{AreRunsFrom, IsBoundOn}
-use Rattle.rbac_matrix.specs.declared.bound_runs.Run.{Run}
-use Rattle.rbac_matrix.proofs.WalkLemmas.{not_both, serve_bare}
+use Rattle.rbac_matrix.proofs.WalkLemmas.{serve_bare}
 use Rattle.rbac_matrix.proofs.bound_runs.Runs.of.Goals as goal
 
-pub returns-in_default-clause-runs : goal.returns-in_default-clause-runs
-unfolding IsBoundOn
-returns-in_default-clause-runs c =
-    subst (λ (runs : List Run). AreRunsFrom c.args.index.now (line_of c.args.line) true 0 runs) (append-nil c.loop-from.kept.items) (c.loop-from.invariant.prefix true [] (λ _. c.in_default.ensures))
-
-pub returns-in_default-clause-bare : goal.returns-in_default-clause-bare
-unfolding IsBoundOn
-returns-in_default-clause-bare c =
-    let are = subst (λ (runs : List Run). AreRunsFrom c.args.index.now (line_of c.args.line) true 0 runs) (append-nil c.loop-from.kept.items) (c.loop-from.invariant.prefix true [] (λ _. c.in_default.ensures)) in
-    serve_bare c.args.index.now c.has_role_bindings-is_bare.ensures.policy (line_of c.args.line) (record { kept = c.loop-from.kept; are_all = true; is_bare = not c.has_role_bindings-is_bare.result }) (λ bare has. not_both c.has_role_bindings-is_bare.result bare (c.has_role_bindings-is_bare.ensures.has.1 has)) are
-
 pub returns-clause-runs : goal.returns-clause-runs
-returns-clause-runs c =
-    subst (λ (runs : List Run). AreRunsFrom c.args.index.now (line_of c.args.line) false 0 runs) (append-nil c.loop-from.kept.items) (c.loop-from.invariant.prefix false [] (λ t. cc))
+returns-clause-runs c = (c.first-runs.ensures.runs, c.verbs_of-runs.ensures)
 
 pub returns-clause-bare : goal.returns-clause-bare
 returns-clause-bare c =
-    let are = subst (λ (runs : List Run). AreRunsFrom c.args.index.now (line_of c.args.line) false 0 runs) (append-nil c.loop-from.kept.items) (c.loop-from.invariant.prefix false [] (λ t. cc)) in
-    serve_bare c.args.index.now c.has_role_bindings-is_bare.ensures.policy (line_of c.args.line) (record { kept = c.loop-from.kept; are_all = false; is_bare = not c.has_role_bindings-is_bare.result }) (λ bare has. not_both c.has_role_bindings-is_bare.result bare (c.has_role_bindings-is_bare.ensures.has.1 has)) are
+    serve_bare c.args.index.now c.args.universe.now c.first-runs.ensures.policy (line_of c.args.line) (record { kept = c.first-runs.result.kept; are_all = c.first-runs.result.are_all; is_bare = c.first-runs.result.is_bare; verbs = c.verbs_of-runs.result })
+    c.first-runs.ensures.bare (c.first-runs.ensures.runs, c.verbs_of-runs.ensures)

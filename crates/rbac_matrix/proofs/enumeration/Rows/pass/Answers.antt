@@ -1,4 +1,5 @@
 use Rattle.rbac_matrix.specs.Shown.{line_of}
+use Rattle.rbac_matrix.proofs.BlockLemmas.{blocks_here}
 use Rattle.rbac_matrix.proofs.BeginLemmas.{ready_line}
 use Rattle.rbac_matrix.proofs.LineLemmas.{are_real}
 use Rattle.rbac_matrix.proofs.TouchLemmas.{metered_on}
@@ -13,8 +14,12 @@ returns-clause-way c = record {
   universe = c.requires.going.universe;
   reaches = c.requires.going.reaches;
   ready = ready_line c.args.self.now.index.now c.args.self.now.universe.now c.args.self.now.reaches.now c.args.self.now.at c.args.self.now.from c.args.upto c.advance.new.seats c.requires.going.ready.settled (line_of c.in-Some.line) _ c.in-Some.ensures.line c.advance.ensures.seated;
-  runs = c.requires.going.runs;
+  runs = rw c.advance.ensures.runs c.requires.going.runs;
+  blocks = blocks_here c.args.self.now.index.now c.args.self.now.universe.now c.args.self.now.at (line_of c.in-Some.line) _ c.advance.new.kept c.advance.new.seats c.in-Some.ensures.line c.advance.ensures.blocks;
   rows = c.requires.going.rows;
   is_returned = c.requires.going.is_returned;
   metered = metered_on c.args.self.now.index.now c.args.self.now.universe.now c.args.self.now.start c.args.self.now.sought c.args.self.now.at c.args.self.now.seats.now c.advance.new.seats c.requires.going.rows c.args.self.now.meter c.advance.new.meter c.requires.going.metered c.advance.ensures.costs;
 }
+
+pub advance-requires-clause-blocks : goal.advance-requires-clause-blocks
+advance-requires-clause-blocks c = c.requires.going.blocks (line_of c.in-Some.line) _ c.in-Some.ensures.line

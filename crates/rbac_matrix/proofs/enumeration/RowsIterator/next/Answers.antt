@@ -10,6 +10,7 @@ use Rattle.rbac_matrix.specs.Passing.{cells_left, row_on}
 use Rattle.rbac_matrix.specs.Seats.{AreSeated, AreSeatedAbout}
 use Rattle.rbac_matrix.specs.Enumeration.{AreLeft, requests_left}
 use Rattle.rbac_matrix.proofs.EnumLemmas.{all_passes, cell_passes}
+use Rattle.rbac_matrix.proofs.BlockLemmas.{blocks_here}
 use Rattle.rbac_matrix.proofs.LineLemmas.{are_real}
 use Rattle.rbac_matrix.proofs.PassLemmas.{same_head}
 use Rattle.rbac_matrix.proofs.GoingLemmas.{ended_left, fewer_left, fits_namespace, gains_on, key_is, metered_after, none_given, own_row, ready_after, ready_next, row_given, target_is}
@@ -34,13 +35,14 @@ returns-in_err-place-clause-going c =
       reaches = c.requires.reaches;
       ready = e.ready c.args.self.now.from 0;
       runs = c.next_cell-found.ensures.runs;
+      blocks = c.next_cell-found.ensures.blocks;
       rows = c.requires.rows;
       is_returned = c.requires.is_returned;
       metered = c.next_cell-found.ensures.metered c.args.self.now.start c.args.self.now.sought c.requires.rows c.requires.metered;
     }
 
-pub advance-requires-clause-runs : goal.advance-requires-clause-runs
-advance-requires-clause-runs c = (c.next_cell-found.ensures.runs (line_of c.in_ok-line.line) _ c.in_ok-line.ensures.line).0
+pub advance-requires-clause-blocks : goal.advance-requires-clause-blocks
+advance-requires-clause-blocks c = c.next_cell-found.ensures.blocks (line_of c.in_ok-line.line) _ c.in_ok-line.ensures.line
 
 pub advance-requires-clause-seated : goal.advance-requires-clause-seated
 advance-requires-clause-seated c =
@@ -117,7 +119,8 @@ returns-clause-going c =
       universe = c.requires.universe;
       reaches = c.requires.reaches;
       ready = ready_next c.args.self.now.index.now c.args.self.now.universe.now c.args.self.now.reaches.now c.next_cell-found.result.0 c.in_ok-place.place c.len-all.result c.advance.new.seats c.len-all.ensures ready;
-      runs = c.next_cell-found.ensures.runs;
+      runs = rw c.advance.ensures.runs c.next_cell-found.ensures.runs;
+      blocks = blocks_here c.args.self.now.index.now c.args.self.now.universe.now c.next_cell-found.result.0 (line_of c.in_ok-line.line) _ c.advance.new.kept c.advance.new.seats c.in_ok-line.ensures.line c.advance.ensures.blocks;
       rows = c.requires.rows + 1;
       is_returned = omega (arith, c.saturating_add-self.ensures, c.requires.is_returned);
       metered = metered_after c.args.self.now.index.now c.args.self.now.universe.now c.args.self.now.reaches.now c.args.self.now.at c.args.self.now.from 0 c.next_cell-found.result.0 c.next_cell-found.new.seats c.advance.new.seats c.in_ok-place.place c.in_ok-place.no c.len-all.result f

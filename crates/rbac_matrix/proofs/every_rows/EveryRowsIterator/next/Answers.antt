@@ -10,6 +10,7 @@ use Rattle.rbac_matrix.specs.EveryLeft.{AreEveryLeft, pairs_from, pairs_left}
 use Rattle.rbac_matrix.specs.Passing.{cells_left, row_on}
 use Rattle.rbac_matrix.specs.Seats.{AreSeated, AreSeatedAbout}
 use Rattle.rbac_matrix.proofs.EveryLemmas.{none_left, passes_below, passes_own, passes_split, past_left, split_fewer, split_those}
+use Rattle.rbac_matrix.proofs.BlockLemmas.{blocks_here}
 use Rattle.rbac_matrix.proofs.LineLemmas.{are_real}
 use Rattle.rbac_matrix.proofs.PairLemmas.{hit_granted}
 use Rattle.rbac_matrix.proofs.PassLemmas.{same_head}
@@ -35,6 +36,7 @@ returns-in_err-place-clause-going c =
         reaches = c.requires.way.reaches;
         ready = e.ready c.args.self.now.rows.from c.args.self.now.upto;
         runs = c.next_cell-found.ensures.runs;
+        blocks = c.next_cell-found.ensures.blocks;
         rows = c.requires.way.rows;
         is_returned = c.requires.way.is_returned;
         metered = c.next_cell-found.ensures.metered c.args.self.now.rows.start c.args.self.now.rows.sought c.requires.way.rows c.requires.way.metered;
@@ -43,8 +45,8 @@ returns-in_err-place-clause-going c =
       within = c.requires.within;
     }
 
-pub advance-requires-clause-runs : goal.advance-requires-clause-runs
-advance-requires-clause-runs c = (c.next_cell-found.ensures.runs (line_of c.in_ok-line.line) _ c.in_ok-line.ensures.line).0
+pub advance-requires-clause-blocks : goal.advance-requires-clause-blocks
+advance-requires-clause-blocks c = c.next_cell-found.ensures.blocks (line_of c.in_ok-line.line) _ c.in_ok-line.ensures.line
 
 pub advance-requires-clause-seated : goal.advance-requires-clause-seated
 advance-requires-clause-seated c =
@@ -115,7 +117,8 @@ returns-clause-going c =
         reaches = c.requires.way.reaches;
         ready = ready_after c.args.self.now.rows.index.now c.args.self.now.rows.universe.now c.args.self.now.rows.reaches.now c.args.self.now.rows.at c.args.self.now.rows.from c.args.self.now.upto c.next_cell-found.result.0 c.next_cell-found.new.seats c.advance.new.seats c.in_ok-place.place c.in_ok-place.no c.after_binding-binding.result.1 f
             (subst (λ (l : LineView). AreSeated c.args.self.now.rows.index.now l c.args.self.now.rows.reaches.now c.in_ok-place.place c.after_binding-binding.result.1 c.advance.new.seats) line c.advance.ensures.seated);
-        runs = c.next_cell-found.ensures.runs;
+        runs = rw c.advance.ensures.runs c.next_cell-found.ensures.runs;
+        blocks = blocks_here c.args.self.now.rows.index.now c.args.self.now.rows.universe.now c.next_cell-found.result.0 (line_of c.in_ok-line.line) _ c.advance.new.kept c.advance.new.seats c.in_ok-line.ensures.line c.advance.ensures.blocks;
         rows = c.requires.way.rows + 1;
         is_returned = omega (arith, c.saturating_add-rows.ensures, c.requires.way.is_returned);
         metered = metered_after c.args.self.now.rows.index.now c.args.self.now.rows.universe.now c.args.self.now.rows.reaches.now c.args.self.now.rows.at c.args.self.now.rows.from c.args.self.now.upto c.next_cell-found.result.0 c.next_cell-found.new.seats c.advance.new.seats c.in_ok-place.place c.in_ok-place.no c.after_binding-binding.result.1 f

@@ -2,7 +2,7 @@ use Rattle.std.proofs.Common.{Bool, List, ◌++◌, ◌-◌, ◌≤◌, length}
 use Rattle.rbac_matrix.specs.Shown.{line_of}
 use Rattle.rbac_matrix.specs.Cursors.{AreRunsFrom}
 use Rattle.rbac_matrix.specs.declared.bound_runs.Run.{Run}
-use Rattle.rbac_matrix.proofs.bound_runs.Runs.of.Given as goal
+use Rattle.rbac_matrix.proofs.bound_runs.Runs.first.Given as goal
 
 abbrev pub invariant-loop-from : goal.invariant-loop-from
 invariant-loop-from l = record {

@@ -1,0 +1,91 @@
+-- What blocks say about the seats of a line's grants.
+use Rattle.std.specs.Prelude.{◌≡◌, ℕ, ◌<◌, ◌≤◌, ◌⊎◌, List, ◌∷◌, length, min, nat_lt, if◌then◌else◌}
+use Rattle.std.specs.List.{slice_index_or}
+use Rattle.rbac_model.specs.Policies.{PolicyView}
+use Rattle.rbac_model.specs.Universes.{UniverseView}
+use Rattle.rbac_matrix.specs.Lines.{LineView, lines_from}
+use Rattle.rbac_matrix.specs.Cursors.{IsCursorAt, IsWithin}
+use Rattle.rbac_matrix.specs.Seats.{ComesFirst, Costs, past_all, seat_at}
+use Rattle.rbac_matrix.specs.declared.blocks.Block.{Block}
+use Rattle.rbac_matrix.specs.declared.bound_runs.Runs.{Runs}
+use Rattle.rbac_matrix.specs.declared.kept.Kept.{Kept}
+use Rattle.rbac_matrix.specs.declared.line.Place.{Place}
+use Rattle.rbac_matrix.specs.declared.seat.Seat.{Seat}
+
+-- of the seats numbered from `start` up to `end`, that of `number` is the first with the least
+-- place, unless none of them is at an entry
+pub record IsLeastIn (seats : List Seat) (start end place number : ℕ) : Type 0 where
+  pub bound : place ≤ past_all
+  pub at : place < past_all → (start ≤ number) × (number < end)
+      × ((seat_at seats number).place ≡ place)
+  pub least : (k : ℕ) → start ≤ k → k < end → ComesFirst place number (seat_at seats k).place k
+
+-- the block has the least of its grants' seats
+abbrev pub IsBlock : List Seat → Block → Type 0
+IsBlock seats b = IsLeastIn seats b.walk.next b.end b.place b.number
+
+-- the grant with that number is of the block
+abbrev pub IsOfBlock : Block → ℕ → Type 0
+IsOfBlock b k = (b.walk.next ≤ k) × (k < b.end)
+
+-- the block with one more grant after its own, whose seat is at the place
+abbrev pub joined : Block → ℕ → ℕ → ℕ → Block
+joined b number end place = record {
+  walk = b.walk;
+  end = end;
+  place = min place b.place;
+  number = if nat_lt place b.place then number else b.number;
+}
+
+-- the block at that place; past the end it is `no_block`
+abbrev pub no_block : Block
+no_block = record {
+  walk = record { next = 0; end = 0; later = 0 };
+  end = 0;
+  place = 0;
+  number = 0;
+}
+
+abbrev pub block_at : List Block → ℕ → Block
+block_at bs i = slice_index_or bs i no_block
+
+-- the blocks have the least of their grants' seats, each comes after those before it, and the
+-- grants below `count` whose seats are at an entry are all in them
+pub record AreBlocksBelow (p : PolicyView) (l : LineView) (runs : Runs) (seats : List Seat)
+    (count : ℕ) (bs : List Block) : Type 0 where
+  pub each : (i : ℕ) → i < length bs → IsBlock seats (block_at bs i)
+  pub walks : (i : ℕ) → i < length bs → IsWithin p l runs (block_at bs i).walk
+  pub order : (i : ℕ) → i < length bs → (block_at bs i).walk.next ≤ (block_at bs i).end
+  pub below : (i : ℕ) → i < length bs → (block_at bs i).end ≤ count
+  pub apart : (i j : ℕ) → i < j → j < length bs
+      → (block_at bs i).end ≤ (block_at bs j).walk.next
+  pub all : (k : ℕ) → k < count → (seat_at seats k).place < past_all
+      → (i : ℕ) × (i < length bs) × IsOfBlock (block_at bs i) k
+
+-- these are the blocks of the line
+abbrev pub AreBlocks : PolicyView → LineView → Runs → List Seat → List Block → Type 0
+AreBlocks p l runs seats bs = AreBlocksBelow p l runs seats (length seats) bs
+
+-- these are the blocks of the line at the place, if there is a line there
+abbrev pub AreBlocksAt : PolicyView → UniverseView → Place → Kept → List Seat → Type 0
+AreBlocksAt p u at kept seats = (l : LineView) (ls : List LineView) → lines_from u at ≡ l ∷ ls
+    → AreBlocks p l kept.runs seats kept.blocks.kept.items
+
+-- of these blocks, the first with the least place has this place and number
+pub record IsLeastBlock (bs : List Block) (place number : ℕ) : Type 0 where
+  pub at : ℕ
+  pub within : at < length bs
+  pub place_at : (block_at bs at).place ≡ place
+  pub number_at : (block_at bs at).number ≡ number
+  pub real : place < past_all
+  pub least : (i : ℕ) → i < length bs → place ≤ (block_at bs i).place
+  pub first : (i : ℕ) → i < length bs → (block_at bs i).place ≤ place → at ≤ i
+
+-- from `old` to `new`, seats at the place moved on, if their numbers are below `end`: at least one
+-- of them did unless all still stand
+pub record Advances (p : PolicyView) (l : LineView) (place end : ℕ) (old new : List Seat)
+    (before after : ℕ) : Type 0 where
+  pub gain : ℕ
+  pub costs : Costs 0 gain old new before after
+  pub moved : (k : ℕ) → IsCursorAt p l k → k < end → (seat_at old k).place ≡ place
+      → ((seat_at new k).place ≡ place) ⊎ (0 < gain)

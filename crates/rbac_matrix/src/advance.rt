@@ -1,0 +1,98 @@
+//! How the seats of a line move on.
+
+ghost use Rattle.std.specs.Prelude.{◌≡◌, ◌≢◌, ◌<◌, ◌≤◌, ◌⊎◌, ◌↔◌, ℕ, IsTrue, length};
+ghost use Rattle.rbac_matrix.specs.Shown.{line_of};
+ghost use Rattle.rbac_matrix.specs.Blocks.{Advances, AreBlocks, IsOfBlock};
+ghost use Rattle.rbac_matrix.specs.Cursors.{IsCursorAt, IsWithin};
+ghost use Rattle.rbac_matrix.specs.Seats.{AreReal, AreSeated, AreSeatedAbout, Costs, past_all};
+ghost use Rattle.rbac_matrix.specs.Seats.{seat_at};
+
+use crate::basis::Basis;
+use crate::blocks::Block;
+use crate::bound_runs::Runs;
+use crate::kept::Kept;
+use crate::line::Line;
+use crate::seat::{Seat, seat_after};
+use crate::walk::next_below;
+use rbac_index::Meter;
+
+// Whether a seat is at the place and its number is below `end`.
+fn stands_below(seat: Seat, no: u32, place: u32, end: u32) -> bool
+    ensures { IsTrue result ↔ ((no < end) × (seat.place ≡ place)) }
+{
+    no < end && seat.place() == place
+}
+
+// Moves each seat of a block that is at the place on by one entry, if its grant's number is below
+// `end`.
+fn advance_in(
+    basis: Basis<'_>,
+    line: Line<'_>,
+    runs: &Runs,
+    block: Block,
+    place: u32,
+    end: u32,
+    seats: &mut [Seat],
+    meter: &mut Meter,
+)
+    requires within { IsWithin basis.index.now (line_of line) runs.now block.walk }
+    requires few { block.end ≤ length seats.old }
+    requires reaches { length basis.reaches.now ≡ length basis.index.now.grants }
+    requires seated { AreSeatedAbout basis.index.now
+        (line_of line) basis.reaches.now place end seats.old }
+    requires real { AreReal basis.reaches.now }
+    requires stands { place < past_all }
+    ensures seated { AreSeatedAbout basis.entry.index.now
+        (line_of line.entry) basis.entry.reaches.now place end seats.new }
+    ensures advances { Advances basis.entry.index.now
+        (line_of line.entry) place end seats.old seats.new meter.old meter.new }
+    ensures passed { (k : ℕ) → IsOfBlock block k → k < end → (seat_at seats.new k).place ≢ place }
+    ensures others { (k : ℕ) → (k < block.walk.next) ⊎ (block.end ≤ k)
+        → seat_at seats.new k ≡ seat_at seats.old k }
+{
+    let reaches = basis.reaches;
+    let mut walk = block.walk;
+    while let Some(no) = next_below(basis.index, line, runs, block.end, &mut walk) {
+        let at = no as usize;
+        if stands_below(seats[at], no, place, end) {
+            seats[at] = seat_after(&reaches[at], seats[at], meter);
+        }
+    }
+}
+
+// Moves each seat that is at the place on by one entry, if its grant's number is below `end`.
+pub(crate) fn advance(
+    basis: Basis<'_>,
+    line: Line<'_>,
+    kept: &mut Kept,
+    place: u32,
+    end: u32,
+    seats: &mut [Seat],
+    meter: &mut Meter,
+)
+    requires reaches { length basis.reaches.now ≡ length basis.index.now.grants }
+    requires seated { AreSeatedAbout basis.index.now
+        (line_of line) basis.reaches.now place end seats.old }
+    requires blocks { AreBlocks basis.index.now
+        (line_of line) kept.old.runs seats.old kept.old.blocks.kept.items }
+    requires real { AreReal basis.reaches.now }
+    requires stands { place < past_all }
+    ensures seated { AreSeated basis.entry.index.now
+        (line_of line.entry) basis.entry.reaches.now place end seats.new }
+    ensures blocks { AreBlocks basis.entry.index.now
+        (line_of line.entry) kept.new.runs seats.new kept.new.blocks.kept.items }
+    ensures runs { kept.new.runs ≡ kept.old.runs }
+    ensures costs { Costs 0 0 seats.old seats.new meter.old meter.new }
+    ensures gains { (k : ℕ) → IsCursorAt basis.entry.index.now (line_of line.entry) k → k < end
+        → (seat_at seats.old k).place ≡ place → Costs 0 1 seats.old seats.new meter.old meter.new }
+{
+    for at in 0..kept.blocks.len() {
+        let block = kept.blocks.get(at);
+        if !block.stands_below(place, end) {
+            continue;
+        }
+        advance_in(basis, line, &kept.runs, block, place, end, seats, meter);
+        let renewed = block.renewed(basis.index, line, &kept.runs, seats);
+        kept.blocks.put(at, renewed);
+    }
+}
