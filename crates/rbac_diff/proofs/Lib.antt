@@ -12,7 +12,6 @@ pub mod OneChanges
 pub mod OneStar
 pub mod SameGrants
 pub mod Searching
-pub mod StarredWords
 pub mod Stars
 pub mod Strangers
 pub mod Telling

@@ -1,12 +1,14 @@
 -- a URL word with one star at its end, where it has several, matches the same paths and has the same sample
-use Rattle.std.proofs.Common.{◌≡◌, ℕ, [], ◌∷◌, ◌++◌, ◌⊎◌, length, replicate, inl, inr, sym, ap, ap₂, ◌∙◌, refl, subst, zero, suc, eqb, true}
+use Rattle.std.proofs.Common.{◌≡◌, ℕ, [], ◌∷◌, ◌++◌, ◌⊎◌, ◌↔◌, length, replicate, inl, inr, sym, ap, ap₂, ◌∙◌, refl, subst, zero, suc, eqb, true}
 use Rattle.std.proofs.lemmas.Bool.{cond-true, cond-false, and_parts, and_from, eqb-true, false_from_ne_true}
 use Rattle.rbac_terms.specs.Text.{Text, star}
 use Rattle.rbac_terms.specs.Matching.{UrlWordMatches, EndsInStar}
 use Rattle.rbac_terms.proofs.Texts.{one_more_star}
-use Rattle.rbac_model.specs.OwnWords.{IsUrlSample, sample_prefix}
+use Rattle.rbac_terms.specs.declared.matching.Rule.{Rule}
+use Rattle.rbac_model.specs.OwnWords.{AllowsUrlWord, GivesPath, IsUrlSample, sample_prefix}
 use Rattle.rbac_model.proofs.UrlSamples.{Unstarred, unstarred, no_stars, starred_sample, prefix_of_match, IsUrlSample-one}
-use Rattle.rbac_diff.specs.Permissions.{are_stars, one_star}
+use Rattle.rbac_diff.specs.Covering.{CoversTarget, GivesPath as GivesOnePath}
+use Rattle.rbac_diff.specs.Permissions.{OnUrl, are_stars, one_star}
 
 -- so many stars are nothing but stars, and the other way round
 are_stars-replicate : (k : ℕ) → are_stars (replicate k star) ≡ true
@@ -67,3 +69,23 @@ one_star-matches w x m =
       | inl same ↦ subst (λ (t : Text). UrlWordMatches t x) (sym same) m
       | inr s ↦ inr (u.prefix, 0, s.2, u.none, prefix_of_match w x u.prefix s.0 s.1 u.none m)
     ]
+
+pub sample-one_star : (w x : Text) → IsUrlSample w x → IsUrlSample (one_star w) x
+sample-one_star w x is =
+    let u : Unstarred w = unstarred w in
+    elim (one_star_of w u.prefix u.stars u.is u.none) [
+      | inl same ↦ subst (λ (t : Text). IsUrlSample t x) (sym same) is
+      | inr s ↦
+          let end : Text = sample_prefix u.prefix ++ star ∷ [] in
+          let same : x ≡ end = IsUrlSample-one w x end is (starred_sample w u.prefix s.0 s.1 u.none) in
+          subst (IsUrlSample (one_star w)) (sym same) (starred_sample (one_star w) u.prefix 0 s.2 u.none)
+    ]
+
+-- so it is allowed where the word is, and gives a path where the word does
+pub covers-one_star : (r : Rule) (w : Text) → (AllowsUrlWord r w ↔ CoversTarget r (OnUrl (one_star w)))
+unfolding AllowsUrlWord
+covers-one_star r w = (λ h x is. h x (one_star-sample w x is), λ h x is. h x (sample-one_star w x is))
+
+pub gives-one_star : (w : Text) → (GivesPath w ↔ GivesOnePath (one_star w))
+unfolding GivesPath
+gives-one_star w = (λ g. (g.0, sample-one_star w g.0 g.1, g.2), λ g. (g.0, one_star-sample w g.0 g.1, g.2))

@@ -4,7 +4,8 @@ use Rattle.std.specs.Prelude.{◌≡◌, ◌≢◌, ◌⊎◌, List, [], ◌∷�
 use Rattle.std.specs.Prelude.{codes}
 use Rattle.std.specs.Str.{bytes_eq}
 use Rattle.std.specs.Prelude.{if◌then◌else◌}
-use Rattle.rbac_terms.specs.Text.{Text, BeginsWith}
+use Rattle.rbac_terms.specs.Text.{Text}
+use Rattle.rbac_terms.specs.Targets.{IsPath, IsResourceText}
 use Rattle.rbac_terms.specs.Principals.{Who, AsUser, AsMember}
 use Rattle.rbac_terms.specs.Matching.{VerbOk, WordMatches, ResourceWordMatches, NameMatches}
 use Rattle.rbac_terms.specs.Matching.{UrlWordMatches}
@@ -54,12 +55,9 @@ pub record Covers (p : PermissionView) (g : GrantView) : Type 0 where
 abbrev pub IsCovered : PolicyView → PermissionView → Type 0
 IsCovered policy p = Any (Covers p) policy.grants
 
--- a resource text isn't empty and doesn't begin with a slash; a path does
-abbrev pub IsResourceText : Text → Type 0
-IsResourceText text = (text ≢ []) × (¬ BeginsWith text (codes "/"))
-
+-- a URL word has a sample that is a path: without one it matches no path
 abbrev pub GivesPath : Text → Type 0
-GivesPath url = (x : Text) × IsUrlSample url x × BeginsWith x (codes "/")
+GivesPath url = (x : Text) × IsUrlSample url x × IsPath x
 
 -- some request is for what is permitted: a RoleBinding in the empty namespace is live nowhere, and
 -- words that match no proper target permit nothing

@@ -4,13 +4,15 @@ ghost use Rattle.std.specs.Prelude.{◌≡◌, ◌↔◌, IsTrue, Any, Some, []}
 ghost use Rattle.std.specs.Option.{option_copied};
 ghost use Rattle.rbac_terms.specs.Matching.{ResourceWordMatches};
 ghost use Rattle.rbac_diff.specs.Covering.{CoversName, CoversTarget, CoversWords, GivesPath};
-ghost use Rattle.rbac_diff.specs.Covering.{IsAskedFor, IsResourceText};
+ghost use Rattle.rbac_diff.specs.Covering.{IsAskedFor};
 ghost use Rattle.rbac_diff.specs.Permissions.{OnUrl, one_star};
 ghost use Rattle.rbac_diff.specs.Shown.{permitted_of};
 
 use crate::permission::Permitted;
 use rbac_model::{allows_url_word, gives_path};
-use rbac_terms::{Rule, Word, group_matches, name_matches, resource_matches, verb_matches};
+use rbac_terms::{
+    Rule, Word, group_matches, is_resource_text, name_matches, resource_matches, verb_matches,
+};
 
 // Whether some request is for what is permitted: a RoleBinding in the empty namespace is live
 // nowhere, and some words match no proper target.
@@ -23,7 +25,7 @@ pub(crate) fn is_asked_for(target: Permitted<'_>) -> bool
             group: _,
             resource,
             name: _,
-        } => !is_empty_namespace(namespace) && is_resource_text(resource),
+        } => !is_empty_namespace(namespace) && is_resource_text(resource.as_bytes()),
         Permitted::Url(word) => is_asked_url(word),
     }
 }
@@ -95,10 +97,4 @@ fn is_asked_url(word: &Word) -> bool
     ensures { IsTrue result ↔ GivesPath (one_star word.now) }
 {
     gives_path(word)
-}
-
-fn is_resource_text(text: &Word) -> bool
-    ensures { IsTrue result ↔ IsResourceText text.now }
-{
-    !text.is_empty() && !text.as_bytes().starts_with(b"/".as_slice())
 }

@@ -1,4 +1,4 @@
-use Rattle.rbac_diff.proofs.StarredWords.{covers-one_star}
+use Rattle.rbac_diff.proofs.OneStar.{covers-one_star}
 use Rattle.rbac_diff.proofs.covering.covers_url.Goals as goal
 
 pub returns : goal.returns

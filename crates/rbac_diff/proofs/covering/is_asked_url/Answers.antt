@@ -1,4 +1,4 @@
-use Rattle.rbac_diff.proofs.StarredWords.{gives-one_star}
+use Rattle.rbac_diff.proofs.OneStar.{gives-one_star}
 use Rattle.rbac_diff.proofs.covering.is_asked_url.Goals as goal
 
 pub returns : goal.returns
