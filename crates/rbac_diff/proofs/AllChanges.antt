@@ -72,11 +72,14 @@ module _ (before after : PolicyView) (ok : IsPolicy before) (also : IsPolicy aft
 
   first_found : (t : Text) (b : Binding) (at : ℕ) (p : PermissionView) → IsGainedAt before after at p → slice_get after.held.bindings at ≡ Some b → t ≡ permission_text p
       → ((k : ℕ) (q : PermissionView) → k < at → IsGainedAt before after k q → t ≡ permission_text q → ⊥) → IsFirstWith after p b
-  first_found t b at p h there same first = (at, record {
-    here = there;
-    holds = has_at at b p h there;
-    none_before = λ k y low is a. first k p low (gains_at k y p (gained_at_is at p h) is a) same;
-  })
+  first_found t b at p h there same first = (
+    at,
+    record {
+      here = there;
+      holds = has_at at b p h there;
+      none_before = λ k y low is a. first k p low (gains_at k y p (gained_at_is at p h) is a) same;
+    },
+  )
 
   -- who a permission is for is given no groups
   alone : (at : ℕ) (p : PermissionView) → IsGainedAt before after at p → given_of p.principal ≡ []
@@ -167,7 +170,7 @@ module _ (before after : PolicyView) (ok : IsPolicy before) (also : IsPolicy aft
       let at = place_from_lookup (λ k. is_eq (text_cmp t k)) n.entries y e in
       let same : t ≡ at.1 = exact_bytes t at.1 (equal_from_test (text_cmp t at.1) at.3) in
       let there : slice_get (map entry_change n.entries) at.0 ≡ Some (entry_change (t, y)) =
-          slice_get-map entry_change n.entries at.0 ∙ ap (option_map entry_change) at.2 ∙ ap (λ (k : Text). Some (entry_change (k, y))) (sym same) in
+      slice_get-map entry_change n.entries at.0 ∙ ap (option_map entry_change) at.2 ∙ ap (λ (k : Text). Some (entry_change (k, y))) (sym same) in
       (at.0, slice_get_within (map entry_change n.entries) at.0 (entry_change (t, y)) there, get_or_from_slice_get (map entry_change n.entries) at.0 (entry_change (t, y)) (entry_change (t, y)) there)
 
   in_list_as : (x : ChangeView) (kind : ChangeKind) (y : Found) → x.kind ≡ kind → get text_cmp n x.permission ≡ Some y → y.kind ≡ kind → x.binding ≡ y.binding.now → Contains (map entry_change n.entries) x

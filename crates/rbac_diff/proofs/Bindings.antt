@@ -1,6 +1,7 @@
 -- the permissions of one binding, subject by subject
 use Rattle.std.proofs.Common.{◌≡◌, ◌⊎◌, ◌↔◌, ◌++◌, ◌∷◌, [], ℕ, List, inl, inr, refl, sym, ◌∙◌, ap, subst, arith, Some, None, Option, Any, slice_get, Bor}
 use Rattle.std.proofs.lemmas.Option.{same_Some}
+use Rattle.rbac_terms.specs.Granting.{named, subject_principal}
 use Rattle.rbac_terms.specs.Text.{Text}
 use Rattle.rbac_terms.specs.Principals.{Who, AsUser, AsMember, account_user, given_of}
 use Rattle.rbac_terms.specs.declared.granting.Binding.{Binding}
@@ -9,7 +10,7 @@ use Rattle.rbac_terms.specs.declared.granting.Subject.TheVariants.{User, Group, 
 use Rattle.rbac_terms.specs.declared.matching.Rule.{Rule}
 use Rattle.rbac_model.specs.Policies.{PolicyView, GrantView, IsOfBinding}
 use Rattle.rbac_model.proofs.LabelSets.{any_push}
-use Rattle.rbac_diff.specs.Permissions.{PermissionView, Permitted, OnResource, OnUrl, Permits, HasPermission, principal_of, named_user, named_group}
+use Rattle.rbac_diff.specs.Permissions.{PermissionView, Permitted, OnResource, OnUrl, Permits, HasPermission}
 use Rattle.rbac_diff.specs.Covering.{IsAskedFor, IsCovered, IsAsWide, CoversWords}
 use Rattle.rbac_diff.specs.StandIns.{AreRulesOf, IsWider}
 use Rattle.rbac_diff.specs.Finding.{IsByGrants, IsMissing, IsGainedAt, Findings, Finds}
@@ -17,17 +18,13 @@ use Rattle.rbac_diff.specs.declared.change.Found.{Found}
 use Rattle.rbac_diff.proofs.Searching.{finds_none, finds_more, finds_same}
 
 -- the principal that a subject stands for is given no groups
-user_none : (name : Text) (who : Who) → named_user name ≡ Some who → given_of who ≡ []
-user_none [] who e = absurd (let both : None ≡ Some who = e in cc)
-user_none (c ∷ name) who e = ap given_of (sym (same_Some (AsUser (c ∷ name) []) who e))
+named_none : (of : Text → Who) → ((name : Text) → given_of (of name) ≡ []) → (name : Text) (who : Who) → named of name ≡ Some who → given_of who ≡ []
+named_none of none [] who e = absurd (let both : None ≡ Some who = e in cc)
+named_none of none (c ∷ name) who e = ap given_of (sym (same_Some (of (c ∷ name)) who e)) ∙ none (c ∷ name)
 
-group_none : (name : Text) (who : Who) → named_group name ≡ Some who → given_of who ≡ []
-group_none [] who e = absurd (let both : None ≡ Some who = e in cc)
-group_none (c ∷ name) who e = ap given_of (sym (same_Some (AsMember (c ∷ name)) who e))
-
-pub none_given : (own : Option Text) (s : Subject) (who : Who) → principal_of own s ≡ Some who → given_of who ≡ []
-none_given own (User name) who e = user_none name who e
-none_given own (Group name) who e = group_none name who e
+pub none_given : (own : Option Text) (s : Subject) (who : Who) → subject_principal own s ≡ Some who → given_of who ≡ []
+none_given own (User name) who e = named_none (λ n. AsUser n []) (λ n. refl) name who e
+none_given own (Group name) who e = named_none AsMember (λ n. refl) name who e
 none_given own (Account (Some namespace) name) who e = ap given_of (sym (same_Some (AsUser (account_user namespace name) []) who e))
 none_given (Some namespace) (Account None name) who e = ap given_of (sym (same_Some (AsUser (account_user namespace name) []) who e))
 none_given None (Account None name) who e = absurd (let both : None ≡ Some who = e in cc)
@@ -48,12 +45,17 @@ module _ (before : PolicyView) (own : Option Text) (rules : List (Bor Rule)) (p 
   covered_by_rule : Any (λ x. CoversWords p.verb p.target x.now) rules → IsCovered before p
   covered_by_rule a =
       let g = (are a.1.now).0 (a.0, a.1, a.2, a.3, refl) in
-      let w = g.4 in
-      (g.0, g.1, g.2, g.3, record {
-        wide = as_wide g.1.binding.namespace own r p.target permits w.0;
-        names = w.1;
-        words = subst (λ (x : Rule). CoversWords p.verb p.target x) (sym w.2) a.4;
-      })
+      let w = g.4 in (
+        g.0,
+        g.1,
+        g.2,
+        g.3,
+        record {
+          wide = as_wide g.1.binding.namespace own r p.target permits w.0;
+          names = w.1;
+          words = subst (λ (x : Rule). CoversWords p.verb p.target x) (sym w.2) a.4;
+        },
+      )
 
   rule_of_cover : IsCovered before p → Any (λ x. CoversWords p.verb p.target x.now) rules
   rule_of_cover a =
@@ -69,7 +71,7 @@ module _ (before : PolicyView) (own : Option Text) (rules : List (Bor Rule)) (p 
 
 module _ (before after : PolicyView) (place : ℕ) (own : Option Text) (x : Found) where
   abbrev pub IsBySubject : Subject → PermissionView → Type 0
-  IsBySubject s p = principal_of own s ≡ Some p.principal
+  IsBySubject s p = subject_principal own s ≡ Some p.principal
 
   abbrev pub IsUncovered : PermissionView → Type 0
   IsUncovered p = IsAskedFor p.target × (IsCovered before p → ⊥)
@@ -90,7 +92,7 @@ module _ (before after : PolicyView) (place : ℕ) (own : Option Text) (x : Foun
   )
 
   -- a subject that stands for nobody
-  pub subjects_nobody : (s : Subject) (subjects : List Subject) (a b : Findings) → principal_of own s ≡ None → Finds (IsBySubjects subjects) x a b → Finds (IsBySubjects (subjects ++ s ∷ [])) x a b
+  pub subjects_nobody : (s : Subject) (subjects : List Subject) (a b : Findings) → subject_principal own s ≡ None → Finds (IsBySubjects subjects) x a b → Finds (IsBySubjects (subjects ++ s ∷ [])) x a b
   subjects_nobody s subjects a b nobody f = finds_same (IsBySubjects subjects) (IsBySubjects (subjects ++ s ∷ [])) x a b
       (λ p. (
         λ h. (one_more s subjects p).1 (inl h),
@@ -98,17 +100,17 @@ module _ (before after : PolicyView) (place : ℕ) (own : Option Text) (x : Foun
       )) f
 
   -- a subject that stands for a principal
-  of_principal : (s : Subject) (who : Who) (rules : List (Bor Rule)) → principal_of own s ≡ Some who → AreRulesOf before who own rules → (p : PermissionView)
+  of_principal : (s : Subject) (who : Who) (rules : List (Bor Rule)) → subject_principal own s ≡ Some who → AreRulesOf before who own rules → (p : PermissionView)
       → ((p.principal ≡ who) × IsByGrants after place own p × IsMissing rules p) ↔ (IsBySubject s p × IsByGrants after place own p × IsUncovered p)
   of_principal s who rules is are p = (
     λ h. (let mine : AreRulesOf before p.principal own rules = subst (λ (w : Who). AreRulesOf before w own rules) (sym h.0) are in
-      (is ∙ ap (λ (w : Who). Some w) (sym h.0), h.1, (missing_exactly before own rules p mine h.1.1.rule.rule h.1.5).0 h.2)),
+        (is ∙ ap (λ (w : Who). Some w) (sym h.0), h.1, (missing_exactly before own rules p mine h.1.1.rule.rule h.1.5).0 h.2)),
     λ h. (let same : p.principal ≡ who = same_Some p.principal who (sym h.0 ∙ is) in
-      let mine : AreRulesOf before p.principal own rules = subst (λ (w : Who). AreRulesOf before w own rules) (sym same) are in
-      (same, h.1, (missing_exactly before own rules p mine h.1.1.rule.rule h.1.5).1 h.2)),
+        let mine : AreRulesOf before p.principal own rules = subst (λ (w : Who). AreRulesOf before w own rules) (sym same) are in
+        (same, h.1, (missing_exactly before own rules p mine h.1.1.rule.rule h.1.5).1 h.2)),
   )
 
-  pub subjects_more : (s : Subject) (subjects : List Subject) (who : Who) (rules : List (Bor Rule)) (a b c : Findings) → principal_of own s ≡ Some who → AreRulesOf before who own rules
+  pub subjects_more : (s : Subject) (subjects : List Subject) (who : Who) (rules : List (Bor Rule)) (a b c : Findings) → subject_principal own s ≡ Some who → AreRulesOf before who own rules
       → Finds (IsBySubjects subjects) x a b → Finds (λ p. (p.principal ≡ who) × IsByGrants after place own p × IsMissing rules p) x b c → Finds (IsBySubjects (subjects ++ s ∷ [])) x a c
   subjects_more s subjects who rules a b c is are f g =
       finds_more (IsBySubjects subjects) (λ p. IsBySubject s p × IsByGrants after place own p × IsUncovered p) (IsBySubjects (subjects ++ s ∷ [])) x a b c (one_more s subjects) f
@@ -123,22 +125,27 @@ module _ (before after : PolicyView) (place : ℕ) (b : Binding) (x : Found) (th
   pub gained_by_subjects : (p : PermissionView) → IsBySubjects before after place b.namespace x b.subjects p ↔ IsGainedAt before after place p
   gained_by_subjects p = (
     λ h. (let own : h.1.1.binding ≡ b = binding_is h.1.0 h.1.1 h.1.2 h.1.3 in
-      record {
-        grant = (h.1.0, h.1.1, h.1.2, h.1.3, record {
-          principal = subst (λ (c : Binding). Any (λ s. principal_of c.namespace s ≡ Some p.principal) c.subjects) (sym own) h.0;
-          verb = h.1.4;
-          target = subst (λ (c : Binding). Permits c.namespace h.1.1.rule.rule p.target) (sym own) h.1.5;
-        });
-        asked = h.2.0;
-        missing = h.2.1;
-      }),
+        record {
+          grant = (
+            h.1.0,
+            h.1.1,
+            h.1.2,
+            h.1.3,
+            record {
+              principal = subst (λ (c : Binding). Any (λ s. subject_principal c.namespace s ≡ Some p.principal) c.subjects) (sym own) h.0;
+              verb = h.1.4;
+              target = subst (λ (c : Binding). Permits c.namespace h.1.1.rule.rule p.target) (sym own) h.1.5;
+            },
+          );
+          asked = h.2.0;
+          missing = h.2.1;
+        }),
     λ h. (let g = h.grant in
-      let own : g.1.binding ≡ b = binding_is g.0 g.1 g.2 g.3 in
-      (
-        subst (λ (c : Binding). Any (λ s. principal_of c.namespace s ≡ Some p.principal) c.subjects) own g.4.principal,
-        (g.0, g.1, g.2, g.3, g.4.verb, subst (λ (c : Binding). Permits c.namespace g.1.rule.rule p.target) own g.4.target),
-        (h.asked, h.missing),
-      )),
+        let own : g.1.binding ≡ b = binding_is g.0 g.1 g.2 g.3 in (
+          subst (λ (c : Binding). Any (λ s. subject_principal c.namespace s ≡ Some p.principal) c.subjects) own g.4.principal,
+          (g.0, g.1, g.2, g.3, g.4.verb, subst (λ (c : Binding). Permits c.namespace g.1.rule.rule p.target) own g.4.target),
+          (h.asked, h.missing),
+        )),
   )
 
   -- nothing is asked for in the empty namespace
@@ -149,5 +156,5 @@ module _ (before after : PolicyView) (place : ℕ) (b : Binding) (x : Found) (th
   pub none_in_empty : b.namespace ≡ Some [] → (m : Findings) → Finds (IsGainedAt before after place) x m m
   none_in_empty empty m = finds_none (IsGainedAt before after place) x m
       (λ p h. (let g = h.grant in
-        let own : g.1.binding ≡ b = binding_is g.0 g.1 g.2 g.3 in
-        nothing_asked g.1.rule.rule p.target (subst (λ (n : Option Text). Permits n g.1.rule.rule p.target) (ap (λ (c : Binding). c.namespace) own ∙ empty) g.4.target) h.asked))
+      let own : g.1.binding ≡ b = binding_is g.0 g.1 g.2 g.3 in
+      nothing_asked g.1.rule.rule p.target (subst (λ (n : Option Text). Permits n g.1.rule.rule p.target) (ap (λ (c : Binding). c.namespace) own ∙ empty) g.4.target) h.asked))

@@ -1,6 +1,7 @@
 -- what covers a permission allows each request that it stands for
 use Rattle.std.proofs.Common.{◌≡◌, List, Contains, Any, inl, inr, sym, refl, subst, subst₂}
 use Rattle.std.specs.Prelude.{Option, Some, None}
+use Rattle.rbac_terms.specs.Granting.{subject_principal}
 use Rattle.rbac_terms.specs.Text.{Text}
 use Rattle.rbac_terms.specs.Targets.{What, Resource, Url, IsProper}
 use Rattle.rbac_terms.specs.Matching.{WordMatches, ResourceWordMatches, UrlWordMatches, NameMatches, TargetOk}
@@ -11,7 +12,7 @@ use Rattle.rbac_model.specs.Policies.{PolicyView, IsPolicy, GrantView, GrantAllo
 use Rattle.rbac_model.proofs.GrantNumbers.{grant_allows}
 use Rattle.rbac_model.proofs.OwnWords.{WordMatches-own, ResourceWordMatches-own, UrlWordMatches-own, WordMatches-through, ResourceWordMatches-through, ResourceText-word, any_from, any_weaker}
 use Rattle.rbac_model.proofs.UrlSamples.{Through, sample-through}
-use Rattle.rbac_diff.specs.Permissions.{Permitted, OnResource, OnUrl, PermissionView, HasPermission, IsNameOf, Permits, one_star, principal_of}
+use Rattle.rbac_diff.specs.Permissions.{Permitted, OnResource, OnUrl, PermissionView, HasPermission, IsNameOf, Permits, one_star}
 use Rattle.rbac_diff.specs.Requests.{RequestView, IsRequest, AllowsRequest, StandsFor, IsPermitted, IsNamed, IsGained}
 use Rattle.rbac_diff.specs.Covering.{Covers, CoversTarget, CoversName, CoversWords, IsAsWide, IsAskedFor}
 use Rattle.rbac_diff.proofs.OneStar.{one_star-sample}
@@ -92,8 +93,8 @@ wide_of_rule own r (OnUrl url) h = h.0
 
 pub same_covers : (p : PermissionView) (g h : GrantView) → HasPermission p g → IsAskedFor p.target → h.binding.namespace ≡ g.binding.namespace → h.binding.subjects ≡ g.binding.subjects → h.rule.rule ≡ g.rule.rule → Covers p h
 same_covers p g h has is here subjects rule =
-    let named : Any (λ s. principal_of h.binding.namespace s ≡ Some p.principal) h.binding.subjects =
-    subst₂ (λ (own : Option Text) (ss : List Subject). Any (λ s. principal_of own s ≡ Some p.principal) ss) (sym here) (sym subjects) has.principal in
+    let named : Any (λ s. subject_principal h.binding.namespace s ≡ Some p.principal) h.binding.subjects =
+    subst₂ (λ (own : Option Text) (ss : List Subject). Any (λ s. subject_principal own s ≡ Some p.principal) ss) (sym here) (sym subjects) has.principal in
     record {
       wide = subst (λ (own : Option Text). IsAsWide own p.target) (sym here) (wide_of_rule g.binding.namespace g.rule.rule p.target has.target);
       names = named_by_own h.binding.namespace h.binding.subjects p.principal named;

@@ -2,6 +2,7 @@
 use Rattle.std.proofs.Common.{◌≡◌, ◌∙◌, ℕ, List, [], ◌∷◌, Contains, Any, inl, inr, ap, ap₂, refl, slice_get}
 use Rattle.std.specs.Prelude.{Option, Some, None}
 use Rattle.std.proofs.lemmas.Option.{same_Some, slice_get_within, get_or_from_slice_get, slice_get-get_or}
+use Rattle.rbac_terms.specs.Granting.{subject_principal}
 use Rattle.rbac_terms.specs.Text.{Text}
 use Rattle.rbac_terms.specs.Principals.{Who, AsUser, AsMember, name_of, given_of}
 use Rattle.rbac_terms.specs.declared.granting.Binding.{Binding}
@@ -11,7 +12,7 @@ use Rattle.rbac_model.proofs.Decided.{Decided, both, all_three, any, first_of, s
 use Rattle.rbac_model.proofs.GrantNumbers.{binding_of}
 use Rattle.rbac_model.proofs.OneList.{one_of_name}
 use Rattle.rbac_model.proofs.OwnWords.{any_from}
-use Rattle.rbac_diff.specs.Permissions.{Permitted, OnResource, OnUrl, PermissionView, HasPermission, IsNameOf, Permits, HasBy, IsFirstWith, one_star, principal_of}
+use Rattle.rbac_diff.specs.Permissions.{Permitted, OnResource, OnUrl, PermissionView, HasPermission, IsNameOf, Permits, HasBy, IsFirstWith, one_star}
 
 same_texts : (xs ys : List Text) → Decided (xs ≡ ys)
 same_texts [] [] = inl refl
@@ -58,7 +59,7 @@ permits own r (OnUrl url) = both (same_option same_text own None) (any (λ w. on
 has : (p : PermissionView) (g : GrantView) → Decided (HasPermission p g)
 has p g =
     let own = g.binding.namespace in
-    elim (all_three (any (λ s. principal_of own s ≡ Some p.principal) (λ s. same_option same_who (principal_of own s) (Some p.principal)) g.binding.subjects)
+    elim (all_three (any (λ s. subject_principal own s ≡ Some p.principal) (λ s. same_option same_who (subject_principal own s) (Some p.principal)) g.binding.subjects)
     (is_among same_text g.rule.rule.verbs p.verb) (permits own g.rule.rule p.target)) [
       | inl h ↦ inl (record { principal = h.0; verb = h.1; target = h.2 })
       | inr n ↦ inr (λ h. n (h.principal, h.verb, h.target))

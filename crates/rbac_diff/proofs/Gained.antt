@@ -4,14 +4,14 @@ use Rattle.std.specs.Prelude.{Option, Some, None}
 use Rattle.rbac_terms.specs.Text.{Text}
 use Rattle.rbac_terms.specs.Targets.{What, Resource, Url}
 use Rattle.rbac_terms.specs.Principals.{Who, AsUser, AsMember}
-use Rattle.rbac_terms.specs.Granting.{Names}
+use Rattle.rbac_terms.specs.Granting.{Names, subject_principal}
 use Rattle.rbac_terms.specs.Matching.{NameMatches, TargetOk}
 use Rattle.rbac_terms.specs.declared.matching.Rule.{Rule}
 use Rattle.rbac_terms.specs.declared.granting.Subject.{Subject}
 use Rattle.rbac_model.specs.Policies.{PolicyView, IsPolicy, GrantView, GrantAllows, Live}
 use Rattle.rbac_model.proofs.GrantNumbers.{some_grant}
 use Rattle.rbac_model.proofs.OwnWords.{WordMatches-own}
-use Rattle.rbac_diff.specs.Permissions.{Permitted, OnResource, OnUrl, PermissionView, HasPermission, IsNameOf, Permits, one_star, principal_of}
+use Rattle.rbac_diff.specs.Permissions.{Permitted, OnResource, OnUrl, PermissionView, HasPermission, IsNameOf, Permits, one_star}
 use Rattle.rbac_diff.specs.Requests.{RequestView, IsRequest, IsUser, IsFor, AllowsRequest, StandsFor, IsPermitted, IsNamed, IsGained}
 use Rattle.rbac_diff.specs.Covering.{Covers, IsCovered, IsAskedFor}
 use Rattle.rbac_diff.proofs.OneStar.{one_star-matches}
@@ -73,7 +73,7 @@ permitted_for own r namespace (Resource g text n) live h =
 permitted_for None r namespace (Url path) live h = (OnUrl (one_star h.1), (refl, (h.0, h.1, h.2, h.3, refl)), one_star-matches h.1 path h.4)
 permitted_for (Some m) r namespace (Url path) live h = absurd live
 
-principal_for : (own : Option Text) (s : Subject) (who : Who) → IsUser who → Names s own who → (principal : Who) × (principal_of own s ≡ Some principal) × IsFor principal who
+principal_for : (own : Option Text) (s : Subject) (who : Who) → IsUser who → Names s own who → (principal : Who) × (subject_principal own s ≡ Some principal) × IsFor principal who
 principal_for own s (AsUser user given) is h = principal_named own s user given is h
 principal_for own s (AsMember group) is h = absurd is
 

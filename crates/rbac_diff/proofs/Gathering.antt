@@ -54,8 +54,15 @@ module _ (kind : ChangeKind) (before after : PolicyView) where
       | inr new ↦ inr (
         none_before (get text_cmp a t) (get text_cmp b t) (f.kept t) new.0,
         ap (λ (z : Found). z.kind) new.1 ∙ is,
-        (k, new.2.0, omega arith, new.2.1, there ∙ ap (λ (z : Found). Some z.binding.now) (sym new.1), new.2.2,
-        λ j q l h same. none_some (get text_cmp b t) new.0 (subst (λ (w : Text). IsSome (get text_cmp b w)) (sym same) (f.has j q l h))),
+        (
+          k,
+          new.2.0,
+          omega arith,
+          new.2.1,
+          there ∙ ap (λ (z : Found). Some z.binding.now) (sym new.1),
+          new.2.2,
+          λ j q l h same. none_some (get text_cmp b t) new.0 (subst (λ (w : Text). IsSome (get text_cmp b w)) (sym same) (f.has j q l h)),
+        ),
       )
     ];
   }

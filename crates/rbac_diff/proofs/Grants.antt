@@ -36,9 +36,9 @@ pub all_numbers : (policy : PolicyView) (own : Option Text) (place from end last
     → IsByNumbers policy own from last p ↔ IsByGrants policy place own p
 all_numbers policy own place from end last is e f between p = (
   λ h. (
-    let at = of_some_binding policy is h.0 (slice_get_within policy.grants h.0 h.1 h.4) in
-    let same : at.0 ≡ place = (between h.0 at.0 at.1).0 (h.2, omega (arith, h.3, f)) in
-    (h.0, h.1, h.4, subst (λ (i : ℕ). IsOfBinding policy h.0 i) same at.1, h.5, h.6)
-  ),
+      let at = of_some_binding policy is h.0 (slice_get_within policy.grants h.0 h.1 h.4) in
+      let same : at.0 ≡ place = (between h.0 at.0 at.1).0 (h.2, omega (arith, h.3, f)) in
+      (h.0, h.1, h.4, subst (λ (i : ℕ). IsOfBinding policy h.0 i) same at.1, h.5, h.6)
+      ),
   λ h. (let w = (between h.0 place h.3).1 refl in (h.0, h.1, w.0, omega (arith, w.1, e, f), h.2, h.4, h.5)),
 )

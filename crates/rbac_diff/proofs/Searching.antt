@@ -95,9 +95,9 @@ pub exactly_one : (rules : List (Bor Rule)) (q : PermissionView) → IsMissing r
 exactly_one rules q m p = (
   λ e. (ap (λ (w : PermissionView). w.principal) e, (ap (λ (w : PermissionView). w.verb) e, ap (λ (w : PermissionView). w.target) e), subst (λ (w : PermissionView). IsMissing rules w) (sym e) m),
   λ h. (
-    let of : Who → Text → Permitted → PermissionView = λ w v t. record { principal = w; verb = v; target = t } in
-    ap (λ (w : Who). of w p.verb p.target) h.0 ∙ ap (λ (v : Text). of q.principal v p.target) h.1.0 ∙ ap (λ (t : Permitted). of q.principal q.verb t) h.1.1
-  ),
+      let of : Who → Text → Permitted → PermissionView = λ w v t. record { principal = w; verb = v; target = t } in
+      ap (λ (w : Who). of w p.verb p.target) h.0 ∙ ap (λ (v : Text). of q.principal v p.target) h.1.0 ∙ ap (λ (t : Permitted). of q.principal q.verb t) h.1.1
+      ),
 )
 
 -- ---- a search, word by word

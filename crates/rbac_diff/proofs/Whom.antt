@@ -7,7 +7,7 @@ use Rattle.std.proofs.lemmas.Option.{same_Some}
 use Rattle.std.proofs.lemmas.Slice.Eq.{bytes_eq-Decides}
 use Rattle.rbac_terms.specs.Text.{Text}
 use Rattle.rbac_terms.specs.Principals.{Who, AsUser, AsMember, IsInGroup, IsAccountOf, account_user}
-use Rattle.rbac_terms.specs.Granting.{Names}
+use Rattle.rbac_terms.specs.Granting.{Names, subject_principal}
 use Rattle.rbac_terms.specs.declared.granting.Binding.{Binding}
 use Rattle.rbac_terms.specs.declared.granting.Subject.{Subject}
 use Rattle.rbac_terms.specs.declared.granting.Subject.TheVariants.{User, Group, Account}
@@ -15,7 +15,6 @@ use Rattle.rbac_terms.proofs.Accounts.{IsAccountOf-begins}
 use Rattle.rbac_model.specs.Policies.{BindingNames}
 use Rattle.rbac_model.proofs.OwnWords.{any_weaker}
 use Rattle.rbac_model.proofs.Decided.{same_text}
-use Rattle.rbac_diff.specs.Permissions.{principal_of}
 use Rattle.rbac_diff.specs.Requests.{IsUser, IsFor}
 use Rattle.rbac_diff.specs.Covering.{stand_ins}
 
@@ -146,7 +145,7 @@ IsOwn (AsMember group) = group ≢ []
 account_name : (namespace name : Text) → account_user namespace name ≢ []
 account_name namespace name e = let b : 115 ≡ 0 = ap (byte 0) e in omega (arith, b)
 
-pub own_principal : (own : Option Text) (s : Subject) (who : Who) → principal_of own s ≡ Some who → IsOwn who
+pub own_principal : (own : Option Text) (s : Subject) (who : Who) → subject_principal own s ≡ Some who → IsOwn who
 own_principal own (User []) who e = absurd (cc)
 own_principal own (User (c ∷ name)) who e = subst IsOwn (same_Some (AsUser (c ∷ name) []) who e) (λ n. cc, refl)
 own_principal own (Group []) who e = absurd (cc)
@@ -169,7 +168,7 @@ group_named own group =
 user_named : (own : Option Text) (s : Subject) (name : Text) → Names s own (AsUser name []) → NamesOne own s (AsUser name [])
 user_named own s name h = any_first (Names s own) (AsUser name []) [] h
 
-names_one : (own : Option Text) (s : Subject) (who : Who) → principal_of own s ≡ Some who → NamesOne own s who
+names_one : (own : Option Text) (s : Subject) (who : Who) → subject_principal own s ≡ Some who → NamesOne own s who
 names_one own (User []) who e = absurd (cc)
 names_one own (User (c ∷ name)) who e = subst (NamesOne own (User (c ∷ name))) (same_Some (AsUser (c ∷ name) []) who e) (user_named own (User (c ∷ name)) (c ∷ name) refl)
 names_one own (Group []) who e = absurd (cc)
@@ -178,7 +177,7 @@ names_one own (Account (Some m) n) who e = subst (NamesOne own (Account (Some m)
 names_one (Some m) (Account None n) who e = subst (NamesOne (Some m) (Account None n)) (same_Some (AsUser (account_user m n) []) who e) (user_named (Some m) (Account None n) (account_user m n) refl)
 names_one None (Account None n) who e = absurd (cc)
 
-pub named_by_own : (own : Option Text) (subjects : List Subject) (who : Who) → Any (λ s. principal_of own s ≡ Some who) subjects → Any (λ w. Any (λ s. Names s own w) subjects) (stand_ins who)
+pub named_by_own : (own : Option Text) (subjects : List Subject) (who : Who) → Any (λ s. subject_principal own s ≡ Some who) subjects → Any (λ w. Any (λ s. Names s own w) subjects) (stand_ins who)
 named_by_own own subjects who a =
     any_weaker (Names a.1 own) (λ w. Any (λ s. Names s own w) subjects) (stand_ins who) (λ w h. (a.0, a.1, a.2, a.3, h)) (names_one own a.1 who a.4)
 
@@ -191,7 +190,7 @@ no_empty_group user given is (inr (inr (inl a))) = let b : 0 ≡ 115 = ap (byte 
 no_empty_group user given is (inr (inr (inr a))) = let b : 0 ≡ 115 = ap (byte 0) a.2 in omega (arith, b)
 
 -- whom a subject names, its principal is for
-pub principal_named : (own : Option Text) (s : Subject) (user : Text) (given : List Text) → IsUser (AsUser user given) → Names s own (AsUser user given) → (who : Who) × (principal_of own s ≡ Some who) × IsFor who (AsUser user given)
+pub principal_named : (own : Option Text) (s : Subject) (user : Text) (given : List Text) → IsUser (AsUser user given) → Names s own (AsUser user given) → (who : Who) × (subject_principal own s ≡ Some who) × IsFor who (AsUser user given)
 principal_named own (User []) user given is h = absurd (is.0 h)
 principal_named own (User (c ∷ name)) user given is h = (AsUser (c ∷ name) [], refl, h)
 principal_named own (Group []) user given is h = absurd (no_empty_group user given is h)

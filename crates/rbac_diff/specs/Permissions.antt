@@ -2,9 +2,8 @@
 use Rattle.std.specs.Prelude.{◌≡◌, ℕ, List, [], ◌∷◌, Option, Some, None, Any, Contains, Bool}
 use Rattle.std.specs.Prelude.{◌==◌, ◌&&◌, true, if◌then◌else◌}
 use Rattle.rbac_terms.specs.Text.{Text, star}
-use Rattle.rbac_terms.specs.Principals.{Who, AsUser, AsMember, account_user}
-use Rattle.rbac_terms.specs.declared.granting.Subject.{Subject}
-use Rattle.rbac_terms.specs.declared.granting.Subject.TheVariants.{User, Group, Account}
+use Rattle.rbac_terms.specs.Principals.{Who}
+use Rattle.rbac_terms.specs.Granting.{subject_principal}
 use Rattle.rbac_terms.specs.declared.matching.Rule.{Rule}
 use Rattle.rbac_model.specs.Lists.{IsFirstAt}
 use Rattle.rbac_model.specs.Policies.{PolicyView, GrantView}
@@ -22,24 +21,6 @@ pub record PermissionView : Type 0 where
   pub principal : Who
   pub verb : Text
   pub target : Permitted
-
--- the principal that a subject of a binding in that namespace, or in none, stands for (Using RBAC
--- Authorization, Referring to subjects): a user without given groups, or a member of a group; the
--- empty name, and an account without any namespace, stand for nobody (own)
-abbrev pub named_user : Text → Option Who
-named_user [] = None
-named_user (c ∷ name) = Some (AsUser (c ∷ name) [])
-
-abbrev pub named_group : Text → Option Who
-named_group [] = None
-named_group (c ∷ name) = Some (AsMember (c ∷ name))
-
-abbrev pub principal_of : Option Text → Subject → Option Who
-principal_of _ (User name) = named_user name
-principal_of _ (Group name) = named_group name
-principal_of _ (Account (Some namespace) name) = Some (AsUser (account_user namespace name) [])
-principal_of (Some namespace) (Account None name) = Some (AsUser (account_user namespace name) [])
-principal_of None (Account None name) = None
 
 -- nothing but stars
 abbrev pub are_stars : Text → Bool
@@ -68,7 +49,7 @@ Permits own r (OnUrl url) = (own ≡ None) × Any (λ w. one_star w ≡ url) r.u
 -- verb and permits the target
 pub record HasPermission (p : PermissionView) (g : GrantView) : Type 0 where
   pub principal : Any
-      (λ s. principal_of g.binding.namespace s ≡ Some p.principal) g.binding.subjects
+      (λ s. subject_principal g.binding.namespace s ≡ Some p.principal) g.binding.subjects
   pub verb : Contains g.rule.rule.verbs p.verb
   pub target : Permits g.binding.namespace g.rule.rule p.target
 

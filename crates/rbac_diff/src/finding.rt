@@ -11,11 +11,11 @@ use crate::change::{ChangeKind, Findings, Found};
 use crate::covering::{is_asked_for, is_covered};
 use crate::fault::DiffFault;
 use crate::permission::{Permission, Permitted, permission_text};
-use crate::stand_ins::{Asked, principal_of};
+use crate::stand_ins::Asked;
 use crate::unchanged::{is_unchanged, place_from};
 use rbac_index::Index;
 use rbac_model::Policy;
-use rbac_terms::{Binding, Principal, Rule, Word};
+use rbac_terms::{Binding, Principal, Rule, Word, subject_principal};
 use std::alloc::{AllocError, Global};
 
 // Adds each permission that `after` has and `before` doesn't allow, with the first binding that has
@@ -67,7 +67,7 @@ fn add_of_binding<'p>(
         return Ok(());
     }
     for subject in binding.subjects.as_slice() {
-        if let Some(principal) = principal_of(alloc, namespace, subject)? {
+        if let Some(principal) = subject_principal(alloc, subject, namespace)? {
             let others = asked.rules_of(alloc, &principal, namespace)?;
             let search = Search {
                 found,

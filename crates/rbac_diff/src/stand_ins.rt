@@ -1,17 +1,16 @@
 //! Who stands in for everybody that a permission is for.
 
 ghost use Rattle.std.specs.Prelude.{◌≡◌, ◌≤◌, [], IfOk, OnOk, Some};
-ghost use Rattle.std.specs.Prelude.{length, Ok, Err, MatchOption};
+ghost use Rattle.std.specs.Prelude.{length, MatchOption};
 ghost use Rattle.std.specs.Option.{option_copied};
 ghost use Rattle.rbac_terms.specs.Text.{Text};
 ghost use Rattle.rbac_terms.specs.Principals.{AsMember, given_of};
 ghost use Rattle.rbac_diff.specs.Covering.{stand_ins};
-ghost use Rattle.rbac_diff.specs.Permissions.{named_group, named_user, principal_of};
 ghost use Rattle.rbac_diff.specs.StandIns.{AddsRulesIn, AddsRules, AreRulesOf, one_or_two};
 
 use crate::fault::DiffFault;
 use rbac_index::Index;
-use rbac_terms::{ModelFault, Principal, Rule, Subject, Word, Words, account_user};
+use rbac_terms::{Principal, Rule, Word, Words};
 use std::alloc::{AllocError, Global};
 use std::marker::Model;
 
@@ -26,55 +25,6 @@ const UNAUTHENTICATED: &[u8] = b"system:unauthenticated";
 
 // The user of a request without credentials.
 const ANONYMOUS: &[u8] = b"system:anonymous";
-
-// The principal that a subject of a binding in that namespace, or in none, stands for; nobody if
-// its name is empty, or if it is an account without any namespace.
-pub(crate) fn principal_of(
-    alloc: Global,
-    namespace: Option<&Word>,
-    subject: &Subject,
-) -> Result<Option<Principal>, DiffFault>
-    ensures { IfOk result
-        (λ p. p ≡ principal_of (option_copied namespace.entry) subject.now) }
-{
-    match subject {
-        Subject::User(name) => user_of(alloc, name),
-        Subject::Group(name) => member_of(alloc, name),
-        Subject::Account {
-            namespace: own,
-            name,
-        } => match own.as_ref().or(namespace) {
-            Some(namespace) => user_of(alloc, &account_user(alloc, namespace, name)?),
-            None => Ok(None),
-        },
-    }
-}
-
-// The user of that name, without given groups; nobody if the name is empty.
-fn user_of(alloc: Global, name: &Word) -> Result<Option<Principal>, DiffFault>
-    ensures { IfOk result (λ p. p ≡ named_user name.now) }
-{
-    named(Principal::user(alloc, name, &Words::new(alloc)))
-}
-
-// A member of that group; nobody if the name is empty.
-fn member_of(alloc: Global, name: &Word) -> Result<Option<Principal>, DiffFault>
-    ensures { IfOk result (λ p. p ≡ named_group name.now) }
-{
-    named(Principal::group(alloc, name))
-}
-
-// The principal, or nobody if the name was empty.
-fn named(made: Result<Principal, ModelFault>) -> Result<Option<Principal>, DiffFault>
-    ensures { IfOk result
-        (λ p. MatchOption p (made ≡ Err ModelFault.EmptyName) (λ who. made ≡ Ok who)) }
-{
-    match made {
-        Ok(principal) => Ok(Some(principal)),
-        Err(ModelFault::EmptyName) => Ok(None),
-        Err(_) => Err(DiffFault::NoMemory),
-    }
-}
 
 // A policy, with the principals that stand in for members of groups.
 #[derive(Drop)]

@@ -13,6 +13,6 @@ returns-clause-changes c =
     let first = c.in_ok-add_gained.ensures in
     let second = c.in_ok-add_gained-2.ensures in
     let all = all_changes c.args.before.now c.args.after.now first.before first.after c.new-findings.result c.add_gained.new.findings c.add_gained-2.new.findings
-        (λ t y e. (let none = ap (λ (es : List (Text × Found)). lookup (λ k. is_eq (text_cmp t k)) es) c.new-findings.ensures.empty in let both : None ≡ Some y = sym none ∙ e in cc))
-        first.gained second.gained c.listed.ensures.ordered in
+    (λ t y e. (let none = ap (λ (es : List (Text × Found)). lookup (λ k. is_eq (text_cmp t k)) es) c.new-findings.ensures.empty in let both : None ≡ Some y = sym none ∙ e in cc))
+    first.gained second.gained c.listed.ensures.ordered in
     ok_weaker _ _ c.listed.result (λ xs e. subst (λ (xs : List ChangeView). AreChanges c.args.before.now c.args.after.now xs) (sym e) all) c.listed.ensures.entries

@@ -20,7 +20,7 @@ loop-place-preserved c =
     let after = c.args.after.now in
     let k = c.loop-place.place in
     let there : slice_get after.held.bindings k ≡ Some c.index-bindings-place.result =
-        rw (← c.bindings-bindings.ensures.bindings) (slice_get_read items (length items) k c.index-bindings-place.result refl c.loop-place-test.true c.index-bindings-place.is) in
+    rw (← c.bindings-bindings.ensures.bindings) (slice_get_read items (length items) k c.index-bindings-place.result refl c.loop-place-test.true c.index-bindings-place.is) in
     let asked : c.in_ok-asked.asked ≡ before = c.in_ok-asked.ensures ∙ c.in_ok-build.ensures in
     elim c.if-not-is_unchanged.branch [
       | then-not-is_unchanged+in_ok-add_of_binding w ↦ rw w.findings-is (gathered_by c.args.kind before after k c.in_ok-asked.asked _ c.args.findings.now c.loop-place.findings w.add_of_binding.new.findings asked refl there c.loop-place.invariant w.in_ok-add_of_binding.ensures.gained)

@@ -1,11 +1,11 @@
 use Rattle.std.proofs.Common.{◌≡◌, ◌+◌, ◌++◌, ◌∷◌, [], List, Option, Some, take, arith, Bor, sym, ◌∙◌, ap, subst}
 use Rattle.std.specs.Option.{option_copied}
 use Rattle.std.proofs.lemmas.List.{take_all}
+use Rattle.rbac_terms.specs.Granting.{subject_principal}
 use Rattle.rbac_terms.specs.Text.{Text}
 use Rattle.rbac_terms.specs.declared.granting.Subject.{Subject}
 use Rattle.rbac_terms.specs.declared.matching.Rule.{Rule}
 use Rattle.rbac_model.proofs.Stairs.{take_read}
-use Rattle.rbac_diff.specs.Permissions.{principal_of}
 use Rattle.rbac_diff.specs.StandIns.{AreRulesOf}
 use Rattle.rbac_diff.specs.Finding.{Findings, Finds, IsGainedAt}
 use Rattle.rbac_diff.proofs.Bindings.{IsBySubjects, subjects_none, subjects_nobody, subjects_more, gained_by_subjects, none_given}
@@ -28,12 +28,12 @@ loop-subject-preserved c =
     let x = c.args.found in
     let more : take (i + 1) items ≡ take i items ++ s ∷ [] = take_read items i s c.loop-subject-test.true c.subject-item.is in
     rw more (elim c.match-branch-2.branch [
-      | in-Some+in_ok-others+in_ok-add_of_grants+in-Some-1 w ↦ (let is : principal_of own s ≡ Some w.in-Some.principal = sym c.in_ok-principal.ensures ∙ w.in-Some.is in
-        let rules : AreRulesOf before w.in-Some.principal own w.as_slice.result.now = subst (λ (rs : List (Bor Rule)). AreRulesOf before w.in-Some.principal own rs) (sym w.as_slice.ensures.value) (w.in_ok-others.ensures (none_given own s w.in-Some.principal is)) in
-        rw w.findings-is (subjects_more before after c.args.place own x s done w.in-Some.principal w.as_slice.result.now c.args.findings.now c.loop-subject.findings w.add_of_grants.new.findings is rules c.loop-subject.invariant w.in_ok-add_of_grants.ensures))
-      | in-Some+in_ok-others+in_ok-add_of_grants+in-None-1 w ↦ (let is : principal_of own s ≡ Some w.in-Some.principal = sym c.in_ok-principal.ensures ∙ w.in-Some.is in
-        let rules : AreRulesOf before w.in-Some.principal own w.as_slice.result.now = subst (λ (rs : List (Bor Rule)). AreRulesOf before w.in-Some.principal own rs) (sym w.as_slice.ensures.value) (w.in_ok-others.ensures (none_given own s w.in-Some.principal is)) in
-        rw w.findings-is (subjects_more before after c.args.place own x s done w.in-Some.principal w.as_slice.result.now c.args.findings.now c.loop-subject.findings w.add_of_grants.new.findings is rules c.loop-subject.invariant w.in_ok-add_of_grants.ensures))
+      | in-Some+in_ok-others+in_ok-add_of_grants+in-Some-1 w ↦ (let is : subject_principal own s ≡ Some w.in-Some.principal = sym c.in_ok-principal.ensures ∙ w.in-Some.is in
+          let rules : AreRulesOf before w.in-Some.principal own w.as_slice.result.now = subst (λ (rs : List (Bor Rule)). AreRulesOf before w.in-Some.principal own rs) (sym w.as_slice.ensures.value) (w.in_ok-others.ensures (none_given own s w.in-Some.principal is)) in
+          rw w.findings-is (subjects_more before after c.args.place own x s done w.in-Some.principal w.as_slice.result.now c.args.findings.now c.loop-subject.findings w.add_of_grants.new.findings is rules c.loop-subject.invariant w.in_ok-add_of_grants.ensures))
+      | in-Some+in_ok-others+in_ok-add_of_grants+in-None-1 w ↦ (let is : subject_principal own s ≡ Some w.in-Some.principal = sym c.in_ok-principal.ensures ∙ w.in-Some.is in
+          let rules : AreRulesOf before w.in-Some.principal own w.as_slice.result.now = subst (λ (rs : List (Bor Rule)). AreRulesOf before w.in-Some.principal own rs) (sym w.as_slice.ensures.value) (w.in_ok-others.ensures (none_given own s w.in-Some.principal is)) in
+          rw w.findings-is (subjects_more before after c.args.place own x s done w.in-Some.principal w.as_slice.result.now c.args.findings.now c.loop-subject.findings w.add_of_grants.new.findings is rules c.loop-subject.invariant w.in_ok-add_of_grants.ensures))
       | in_default w ↦ (rw w.findings-is (subjects_nobody before after c.args.place own x s done c.args.findings.now c.loop-subject.findings (sym c.in_ok-principal.ensures ∙ w.in_default.is) c.loop-subject.invariant))
     ])
 

@@ -23,8 +23,8 @@ pub returns : goal.returns
 returns c =
     let s = c.args.search.now in
     let all = rw c.as_slice-name-items.ensures at
-        (loop_all s (λ n p. HasName s c.args.rule.now c.args.verb.now c.args.group.now c.args.resource.now n p) c.as_slice-name-items.result.now c.loop-name.name-index
-        c.args.findings.now c.loop-name.findings (omega arith) c.loop-name.invariant) in
+    (loop_all s (λ n p. HasName s c.args.rule.now c.args.verb.now c.args.group.now c.args.resource.now n p) c.as_slice-name-items.result.now c.loop-name.name-index
+    c.args.findings.now c.loop-name.findings (omega arith) c.loop-name.invariant) in
     search_same s (λ p. Any (λ n. HasName s c.args.rule.now c.args.verb.now c.args.group.now c.args.resource.now n p) c.args.rule.now.resource_names)
     (IsOnResource s c.args.rule.now c.args.verb.now c.args.group.now c.args.resource.now) c.args.findings.now c.loop-name.findings
     (with_names s c.args.rule.now c.args.verb.now c.args.group.now c.args.resource.now (λ e. absurd (let both : false ≡ true = c.if-is_empty.ensures.1 e in cc))) all

@@ -16,5 +16,5 @@ pub returns : goal.returns
 returns c =
     let s = c.args.search.now in
     let all = rw c.as_slice-verb-items.ensures at
-        (loop_all s (λ v p. IsOnTarget s c.args.rule.now v p) c.as_slice-verb-items.result.now c.loop-verb.verb-index c.args.findings.now c.loop-verb.findings (omega arith) c.loop-verb.invariant) in
+    (loop_all s (λ v p. IsOnTarget s c.args.rule.now v p) c.as_slice-verb-items.result.now c.loop-verb.verb-index c.args.findings.now c.loop-verb.findings (omega arith) c.loop-verb.invariant) in
     search_same s (λ p. Any (λ v. IsOnTarget s c.args.rule.now v p) c.args.rule.now.verbs) (IsByRule s c.args.rule.now) c.args.findings.now c.loop-verb.findings (each_verb s c.args.rule.now) all

@@ -16,8 +16,8 @@ pub returns-in_ok-add_urls : goal.returns-in_ok-add_urls
 returns-in_ok-add_urls c =
     let s = c.args.search.now in
     let all = rw c.as_slice-group-items.ensures at
-        (loop_all s (λ g p. Any (λ w. IsOnResource s c.args.rule.now c.args.verb.now g w p) c.args.rule.now.resources) c.as_slice-group-items.result.now c.loop-group.group-index
-        c.args.findings.now c.loop-group.findings (omega arith) c.loop-group.invariant) in
+    (loop_all s (λ g p. Any (λ w. IsOnResource s c.args.rule.now c.args.verb.now g w p) c.args.rule.now.resources) c.as_slice-group-items.result.now c.loop-group.group-index
+    c.args.findings.now c.loop-group.findings (omega arith) c.loop-group.invariant) in
     search_more s (IsOnResources s c.args.rule.now c.args.verb.now) (IsOnUrls s c.args.rule.now c.args.verb.now) (IsOnTarget s c.args.rule.now c.args.verb.now) c.args.findings.now c.loop-group.findings c.add_urls.new.findings
     (with_urls s c.args.rule.now c.args.verb.now (copied_none s.namespace c.if-is_none.ensures)) all c.in_ok-add_urls.ensures
 
@@ -25,7 +25,7 @@ pub returns-else-is_none : goal.returns-else-is_none
 returns-else-is_none c =
     let s = c.args.search.now in
     let all = rw c.as_slice-group-items.ensures at
-        (loop_all s (λ g p. Any (λ w. IsOnResource s c.args.rule.now c.args.verb.now g w p) c.args.rule.now.resources) c.as_slice-group-items.result.now c.loop-group.group-index
-        c.args.findings.now c.loop-group.findings (omega arith) c.loop-group.invariant) in
+    (loop_all s (λ g p. Any (λ w. IsOnResource s c.args.rule.now c.args.verb.now g w p) c.args.rule.now.resources) c.as_slice-group-items.result.now c.loop-group.group-index
+    c.args.findings.now c.loop-group.findings (omega arith) c.loop-group.invariant) in
     search_same s (IsOnResources s c.args.rule.now c.args.verb.now) (IsOnTarget s c.args.rule.now c.args.verb.now) c.args.findings.now c.loop-group.findings
     (without_urls s c.args.rule.now c.args.verb.now (copied_some s.namespace c.if-is_none.ensures)) all
