@@ -7,7 +7,7 @@ use Rattle.std.proofs.lemmas.List.Elements.{All-contains, All-nil, All-push, Con
 use Rattle.std.proofs.lemmas.Option.{slice_get_within, get_or_from_slice_get, same_Some, slice_get-get_or}
 use Rattle.rbac_terms.specs.Text.{Text, slash, IsCutAtFirst, BeginsWith}
 use Rattle.rbac_terms.proofs.Texts.{IsCutAtFirst-one}
-use Rattle.rbac_terms.specs.Matching.{ResourceWordMatches, EndsInStar}
+use Rattle.rbac_terms.specs.Matching.{ResourceWordMatches, EndsInStar, IsBeforeStars}
 use Rattle.rbac_terms.specs.declared.matching.Rule.{Rule}
 use Rattle.rbac_model.specs.Universes.{Covers}
 use Rattle.rbac_lint.specs.Covering.{AllowsVerbs, AllowsVerb, AllowsGroups, AllowsGroup, AllowsResources, AllowsResource, AllowsNames, AllowsName, AllowsUrls, AllowsUrl, HasResource, HasUrl, GivesPath}
@@ -16,7 +16,7 @@ use Rattle.rbac_lint.specs.declared.listing.Field.{Field}
 use Rattle.rbac_lint.specs.declared.listing.Field.TheVariants.{Verbs, Groups, Resources, Names, Urls, Prefixes}
 use Rattle.rbac_lint.specs.declared.listing.Listing.{Listing}
 use Rattle.rbac_lint.specs.declared.candidates.Candidates.{Candidates}
-use Rattle.rbac_lint.specs.Listing.{Lists, listed, lists_in, words_in, names_or_star, IsAscending, IsPrefix, IsStem, IsListingOf}
+use Rattle.rbac_lint.specs.Listing.{Lists, listed, lists_in, words_in, names_or_star, IsAscending, IsStem, IsListingOf}
 use Rattle.rbac_lint.specs.Candidates.{IsAsked, Binds, IsFound, StandsIn, IsAmong, Ascend, Finds, AddsUnder, AddsPrefixes, IsOfEach, AreMatching, CoversAt, AreCandidates, IsLeastCoverIfAny, IsRedundantBy, IsSoonest}
 use Rattle.rbac_lint.specs.declared.prefixes.Prefix.{Prefix}
 use Rattle.rbac_lint.specs.Prefixes.{IsOnWay, LeadsTo, ArePrefixes}
@@ -57,7 +57,7 @@ verbs_of a b c (inl has) = (resources_from_samples a b (samples_from_Covers a b 
 verbs_of a b c (inr has) = (urls_from_samples a b (samples_from_Covers a b c) has).0
 
 found_url : (rules : List Rule) (l : Listing) (w u : Text) (n : ℕ) (a : Rule) → IsListingOf rules l → slice_get rules n ≡ Some a → Contains a.urls u
-    → (u ≡ w) ⊎ ((prefix : Text) × IsPrefix u prefix × BeginsWith w prefix) → IsFound Urls l w n
+    → (u ≡ w) ⊎ ((prefix : Text) × IsBeforeStars u prefix × BeginsWith w prefix) → IsFound Urls l w n
 found_url rules l w u n a is at has (inl e) = inl (is.urls.complete n a u w (slice_get_within rules n a at) at has e)
 found_url rules l w u n a is at has (inr f) =
     let m = is.prefixes.0 in

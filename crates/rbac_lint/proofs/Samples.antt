@@ -8,7 +8,8 @@ use Rattle.rbac_terms.specs.Text.{Text}
 use Rattle.rbac_terms.specs.Targets.{What, Resource, Url, IsProper}
 use Rattle.rbac_terms.specs.Matching.{WordMatches, ResourceWordMatches, UrlWordMatches, NameMatches, VerbOk, RuleAllows}
 use Rattle.rbac_model.specs.Universes.{Covers}
-use Rattle.rbac_lint.specs.Covering.{IsResourceText, IsPath, IsLongerThanAll, IsNameSample, IsSample, AllowsSamples, AllowsVerb, AllowsGroup, AllowsResource, AllowsName, AllowsUrl, AllowsVerbs, AllowsGroups, AllowsResources, AllowsNames, AllowsUrls, GivesPath, HasResource, HasUrl, CoversResources, CoversUrls}
+use Rattle.rbac_terms.specs.Targets.{IsResourceText, IsPath}
+use Rattle.rbac_lint.specs.Covering.{IsLongerThanAll, IsNameSample, IsSample, AllowsSamples, AllowsVerb, AllowsGroup, AllowsResource, AllowsName, AllowsUrl, AllowsVerbs, AllowsGroups, AllowsResources, AllowsNames, AllowsUrls, GivesPath, HasResource, HasUrl, CoversResources, CoversUrls}
 use Rattle.rbac_model.specs.OwnWords.{IsUrlSample}
 use Rattle.rbac_model.proofs.OwnWords.{ResourceWordMatches-own, UrlWordMatches-own, WordMatches-own, any_from}
 use Rattle.rbac_lint.proofs.Words.{WordMatches-through, ResourceWordMatches-through, IsResourceText-word}

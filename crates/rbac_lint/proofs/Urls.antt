@@ -6,11 +6,11 @@ use Rattle.std.proofs.lemmas.List.{same_from_push, append-nil, take-append-le, t
 use Rattle.std.proofs.lemmas.List.Elements.{All-cons, All-nil}
 use Rattle.std.proofs.Math.Seq.{take-append_seam}
 use Rattle.rbac_terms.specs.Text.{Text, star, slash, BeginsWith}
-use Rattle.rbac_terms.specs.Matching.{UrlWordMatches, EndsInStar}
-use Rattle.rbac_terms.proofs.Texts.{one_more_star, same_prefix, shorter}
+use Rattle.rbac_terms.specs.Matching.{UrlWordMatches, EndsInStar, IsBeforeStars}
+use Rattle.rbac_terms.proofs.Texts.{one_more_star, same_prefix, shorter, ends}
 use Rattle.rbac_terms.specs.declared.matching.Rule.{Rule}
-use Rattle.rbac_lint.specs.Covering.{IsPath, IsStars, AllowsUrl, GivesPath, MatchesEachPath}
-use Rattle.rbac_lint.specs.Listing.{IsPrefix}
+use Rattle.rbac_terms.specs.Targets.{IsPath}
+use Rattle.rbac_lint.specs.Covering.{IsStars, AllowsUrl, GivesPath, MatchesEachPath}
 use Rattle.rbac_model.specs.OwnWords.{IsUrlSample, sample_prefix}
 use Rattle.rbac_model.proofs.OwnWords.{UrlWordMatches-own}
 
@@ -52,10 +52,10 @@ UrlWordMatches-below u f x none m b =
     inr (r.0, r.1, r.2, r.3, BeginsWith-through x f r.0 b r.4)
 
 -- what matches the sample of a path is the path itself, or has a prefix with which it begins
-begins_with : (u w q : Text) → ReachesBelow u q → BeginsWith w q → (prefix : Text) × IsPrefix u prefix × BeginsWith w prefix
+begins_with : (u w q : Text) → ReachesBelow u q → BeginsWith w q → (prefix : Text) × IsBeforeStars u prefix × BeginsWith w prefix
 begins_with u w q r b = (r.0, (r.1, r.2, r.3), BeginsWith-through w q r.0 b r.4)
 
-pub UrlWordMatches-begins : (u w x : Text) → IsPath w → IsUrlSample w x → UrlWordMatches u x → (u ≡ w) ⊎ ((prefix : Text) × IsPrefix u prefix × BeginsWith w prefix)
+pub UrlWordMatches-begins : (u w x : Text) → IsPath w → IsUrlSample w x → UrlWordMatches u x → (u ≡ w) ⊎ ((prefix : Text) × IsBeforeStars u prefix × BeginsWith w prefix)
 UrlWordMatches-begins u w x path (inl a) (inl e) = inl (e ∙ a.1)
 UrlWordMatches-begins u w x path (inl a) (inr b) = inr (b.0, (b.1, b.2, b.3), subst (λ (t : Text). BeginsWith t b.0) a.1 b.4)
 UrlWordMatches-begins u w x path (inr ([], k, e, none, same)) m =
@@ -90,9 +90,6 @@ IsPath-less : (c : ℕ) (q rest : Text) → IsPath ((c ∷ q) ++ rest) → IsPat
 IsPath-less c q rest p = let same : c ≡ slash = cc (p.1) in (q, ap (λ d. d ∷ q) same)
 
 -- a text and its stars
-pub ends : (w q : Text) (k : ℕ) → w ≡ q ++ replicate (k + 1) star → EndsInStar w
-ends w q k e = (q ++ replicate k star, e ∙ ap (λ n. q ++ replicate n star) (add-one k) ∙ one_more_star q k)
-
 no_stars : (w q : Text) → w ≡ q ++ replicate 0 star → w ≡ q
 no_stars w q e = e ∙ append-nil q
 
@@ -300,7 +297,3 @@ MatchesEachPath-else w path = (
 pub after_slash_is : (text prefix : Text) (r : Option (Bor Text)) → prefix ≡ codes "/" → MatchOption r ((rest : Text) → text ≢ prefix ++ rest) (λ x. text ≡ prefix ++ x.now) → MatchOption r (IsPath text → ⊥) (λ x. text ≡ codes "/" ++ x.now)
 after_slash_is text prefix None e h = λ b. h b.0 (b.1 ∙ ap (λ t. t ++ b.0) (sym e))
 after_slash_is text prefix (Some x) e h = h ∙ ap (λ t. t ++ x.now) e
-
-pub without_star_is : (text back : Text) (r : Option (Bor Text)) → back ≡ star ∷ [] → MatchOption r ((prefix : Text) → text ≢ prefix ++ back) (λ x. text ≡ x.now ++ back) → MatchOption r (EndsInStar text → ⊥) (λ x. text ≡ x.now ++ star ∷ [])
-without_star_is text back None e h = λ b. h b.0 (b.1 ∙ ap (λ t. b.0 ++ t) (sym e))
-without_star_is text back (Some x) e h = h ∙ ap (λ t. x.now ++ t) e

@@ -4,7 +4,7 @@ use Rattle.std.specs.Prelude.{codes, Contains}
 use Rattle.rbac_terms.specs.Text.{Text, star, slash, IsCutAtFirst}
 use Rattle.rbac_terms.specs.Matching.{WordMatches, ResourceWordMatches, FollowsFirstSlash}
 use Rattle.rbac_terms.proofs.Texts.{IsCutAtFirst-one, IsCutAtFirst-contains}
-use Rattle.rbac_lint.specs.Covering.{IsResourceText}
+use Rattle.rbac_terms.specs.Targets.{IsResourceText}
 
 pub WordMatches-through : (u w x : Text) → WordMatches u w → WordMatches w x → WordMatches u x
 WordMatches-through u w x (inl e) m = inl e

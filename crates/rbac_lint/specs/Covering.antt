@@ -2,19 +2,11 @@
 -- decide that is finite: the other's samples.
 use Rattle.std.specs.Prelude.{◌≡◌, ◌≢◌, ◌<◌, ◌⊎◌, List, [], All, Any, Contains, length, codes}
 use Rattle.rbac_terms.specs.declared.matching.Rule.{Rule}
-use Rattle.rbac_terms.specs.Text.{Text, star, BeginsWith}
+use Rattle.rbac_terms.specs.Text.{Text, star}
 use Rattle.rbac_model.specs.OwnWords.{IsUrlSample}
-use Rattle.rbac_terms.specs.Targets.{What, Resource, Url}
+use Rattle.rbac_terms.specs.Targets.{What, Resource, Url, IsPath, IsResourceText}
 use Rattle.rbac_terms.specs.Matching.{WordMatches, ResourceWordMatches, UrlWordMatches, NameMatches}
 use Rattle.rbac_terms.specs.Matching.{VerbOk, RuleAllows}
-
--- a resource text isn't empty and doesn't begin with a slash; a path does (own, after the paths of
--- API requests)
-abbrev pub IsResourceText : Text → Type 0
-IsResourceText text = (text ≢ []) × (¬ BeginsWith text (codes "/"))
-
-abbrev pub IsPath : Text → Type 0
-IsPath path = BeginsWith path (codes "/")
 
 -- longer than each of the names
 abbrev pub IsLongerThanAll : Text → List Text → Type 0

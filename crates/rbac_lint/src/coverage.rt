@@ -2,7 +2,8 @@
 
 ghost use Rattle.std.specs.Prelude.{◌≡◌, IsTrue, ◌↔◌, ◌++◌, codes, Any, MatchOption};
 ghost use Rattle.rbac_model.specs.Universes.{Covers};
-ghost use Rattle.rbac_lint.specs.Covering.{AllowsSamples, IsResourceText, IsPath, IsStars};
+ghost use Rattle.rbac_terms.specs.Targets.{IsPath};
+ghost use Rattle.rbac_lint.specs.Covering.{AllowsSamples, IsStars};
 ghost use Rattle.rbac_lint.specs.Covering.{GivesPath, HasResource, HasUrl, CoversResources};
 ghost use Rattle.rbac_lint.specs.Covering.{CoversUrls, MatchesEachPath};
 ghost use Rattle.rbac_lint.specs.Covering.{AllowsVerb, AllowsGroup, AllowsResource, AllowsName};
@@ -10,7 +11,8 @@ ghost use Rattle.rbac_lint.specs.Covering.{AllowsUrl, AllowsVerbs, AllowsGroups,
 ghost use Rattle.rbac_lint.specs.Covering.{AllowsNames, AllowsUrls};
 
 use rbac_terms::{
-    Rule, Word, group_matches, name_matches, resource_matches, url_matches, verb_matches,
+    Rule, Word, group_matches, is_path, is_resource_text, name_matches, resource_matches,
+    url_matches, verb_matches,
 };
 
 /// Whether the first rule allows each verb on each target that the second one allows it on: for all
@@ -83,7 +85,7 @@ fn allows_resources(a: &Rule, b: &Rule) -> bool
 fn allows_resource(a: &Rule, text: &Word) -> bool
     ensures { IsTrue result ↔ AllowsResource a.now text.now }
 {
-    !is_resource_text(text) || resource_matches(a, text)
+    !is_resource_text(text.as_bytes()) || resource_matches(a, text)
 }
 
 #[tactic(auto, unfolding(crate::specs::Covering::AllowsNames))]
@@ -154,7 +156,7 @@ pub(crate) fn has_resource(rule: &Rule) -> bool
             .resources
             .as_slice()
             .iter()
-            .any(|text| is_resource_text(text))
+            .any(|text| is_resource_text(text.as_bytes()))
 }
 
 #[tactic(auto, unfolding(crate::specs::Covering::HasUrl))]
@@ -164,22 +166,10 @@ pub(crate) fn has_url(rule: &Rule) -> bool
     !rule.verbs.is_empty() && rule.urls.as_slice().iter().any(|word| gives_path(word))
 }
 
-pub(crate) fn is_path(text: &[u8]) -> bool
-    ensures { IsTrue result ↔ IsPath text.now }
-{
-    text.starts_with(b"/".as_slice())
-}
-
 fn is_stars(text: &[u8]) -> bool
     ensures { IsTrue result ↔ IsStars text.now }
 {
     !text.is_empty() && text.iter().all(|byte| *byte == b'*')
-}
-
-pub(crate) fn is_resource_text(text: &Word) -> bool
-    ensures { IsTrue result ↔ IsResourceText text.now }
-{
-    !text.is_empty() && !is_path(text.as_bytes())
 }
 
 fn gives_path(word: &Word) -> bool

@@ -1,5 +1,6 @@
 use Rattle.std.proofs.Common.{◌∙◌, sym, subst}
-use Rattle.rbac_lint.specs.Covering.{IsPath, IsStars}
+use Rattle.rbac_terms.specs.Targets.{IsPath}
+use Rattle.rbac_lint.specs.Covering.{IsStars}
 use Rattle.rbac_lint.proofs.Urls.{MatchesEachPath-slash, MatchesEachPath-else}
 use Rattle.rbac_lint.proofs.coverage.matches_each_path.Goals as goal
 
