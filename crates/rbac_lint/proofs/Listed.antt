@@ -1,5 +1,5 @@
 -- places of rules, as they are listed under words
-use Rattle.std.proofs.Common.{◌≡◌, ◌≢◌, ℕ, ◌+◌, ◌<◌, ◌≤◌, ◌⊎◌, inl, inr, List, [], ◌∷◌, ◌++◌, get_or, length, take, sym, ap, ◌∙◌, refl, subst, arith, zero, suc, cond, Bool, true, false}
+use Rattle.std.proofs.Common.{◌≡◌, ◌≢◌, ℕ, ◌+◌, ◌<◌, ◌≤◌, ◌⊎◌, inl, inr, List, [], ◌∷◌, ◌++◌, get_or, length, take, sym, ap, ◌∙◌, refl, subst, arith, zero, suc, cond, Bool, true, false, MatchOption, Bor}
 use Rattle.std.specs.Prelude.{Option, Some, None, Contains, slice_get, unwrap_or, is_some}
 use Rattle.std.specs.BTreeMap.{get}
 use Rattle.std.specs.Ordering.{is_eq}
@@ -10,6 +10,7 @@ use Rattle.std.proofs.lemmas.List.Elements.{Contains-append_left, Contains-push,
 use Rattle.std.proofs.lemmas.Map.Lookups.{exact_bytes}
 use Rattle.std.proofs.lemmas.Option.{same_Some}
 use Rattle.rbac_terms.specs.Text.{Text, text_cmp}
+use Rattle.rbac_terms.specs.Matching.{EndsInStar, IsBeforeStars}
 use Rattle.rbac_terms.proofs.Texts.{ends, IsBeforeStars-one}
 use Rattle.rbac_terms.specs.declared.matching.Rule.{Rule}
 use Rattle.rbac_terms.proofs.Cases.{by_bool}
