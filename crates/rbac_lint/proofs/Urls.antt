@@ -1,5 +1,5 @@
 -- what matches a path, taken as a text, is the path itself, or has a prefix with which it begins
-use Rattle.std.proofs.Common.{◌≡◌, ◌+◌, ◌⊎◌, [], ◌∷◌, replicate, inl, inr, sym, ap, ◌∙◌, subst, arith, add-one}
+use Rattle.std.proofs.Common.{◌≡◌, ◌+◌, ◌⊎◌, [], ◌∷◌, replicate, inl, inr, ap, ◌∙◌, subst, arith, add-one}
 use Rattle.rbac_terms.specs.Text.{Text, star, slash, BeginsWith}
 use Rattle.rbac_terms.specs.Targets.{IsPath}
 use Rattle.rbac_terms.specs.Matching.{UrlWordMatches, IsBeforeStars}

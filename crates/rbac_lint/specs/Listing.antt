@@ -1,5 +1,5 @@
 -- The places of a role's rules, listed under the words that they hold.
-use Rattle.std.specs.Prelude.{◌≡◌, ◌≢◌, ℕ, ◌+◌, ◌<◌, ◌≤◌, ◌⊎◌, List, [], ◌∷◌, ◌++◌, AllPairs}
+use Rattle.std.specs.Prelude.{◌≡◌, ◌≢◌, ℕ, ◌<◌, ◌≤◌, ◌⊎◌, List, [], ◌∷◌, ◌++◌, AllPairs}
 use Rattle.std.specs.Prelude.{Contains, codes, length, replicate, unwrap_or, slice_get, Some}
 use Rattle.std.specs.BTreeMap.{BTreeMap, get}
 use Rattle.rbac_terms.specs.Text.{Text, star, text_cmp}
