@@ -1,4 +1,3 @@
-pub mod Words
 pub mod Urls
 pub mod Samples
 pub mod Exact

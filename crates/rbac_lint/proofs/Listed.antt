@@ -1,5 +1,5 @@
 -- places of rules, as they are listed under words
-use Rattle.std.proofs.Common.{◌≡◌, ◌≢◌, ℕ, ◌+◌, ◌<◌, ◌≤◌, ◌⊎◌, inl, inr, List, [], ◌∷◌, ◌++◌, get_or, length, take, sym, ap, ◌∙◌, refl, subst, arith, zero, suc, cond, Bool, true, false}
+use Rattle.std.proofs.Common.{◌≡◌, ◌≢◌, ℕ, ◌+◌, ◌<◌, ◌≤◌, ◌⊎◌, inl, inr, List, [], ◌∷◌, ◌++◌, get_or, length, take, sym, ap, ◌∙◌, refl, subst, arith, zero, suc, cond, Bool, true, false, MatchOption, Bor}
 use Rattle.std.specs.Prelude.{Option, Some, None, Contains, slice_get, unwrap_or, is_some}
 use Rattle.std.specs.BTreeMap.{get}
 use Rattle.std.specs.Ordering.{is_eq}
@@ -10,13 +10,14 @@ use Rattle.std.proofs.lemmas.List.Elements.{Contains-append_left, Contains-push,
 use Rattle.std.proofs.lemmas.Map.Lookups.{exact_bytes}
 use Rattle.std.proofs.lemmas.Option.{same_Some}
 use Rattle.rbac_terms.specs.Text.{Text, text_cmp}
-use Rattle.rbac_terms.proofs.Texts.{same_prefix}
+use Rattle.rbac_terms.specs.Matching.{EndsInStar, IsBeforeStars}
+use Rattle.rbac_terms.proofs.Texts.{ends, IsBeforeStars-one}
 use Rattle.rbac_terms.specs.declared.matching.Rule.{Rule}
 use Rattle.rbac_terms.proofs.Cases.{by_bool}
 use Rattle.rbac_terms.proofs.Orderings.{equal_from_test}
 use Rattle.rbac_lint.specs.declared.listing.Field.{Field}
 use Rattle.rbac_lint.specs.declared.listing.Field.TheVariants.{Verbs, Groups, Resources, Names, Urls, Prefixes}
-use Rattle.rbac_lint.specs.Listing.{Lists, listed, words_in, IsAscending, IsPrefix, IsKey, TakesIn, ListsPlace, ListsAll, IsListedAsBefore, AreListed}
+use Rattle.rbac_lint.specs.Listing.{Lists, listed, words_in, IsAscending, IsKey, TakesIn, ListsPlace, ListsAll, IsListedAsBefore, AreListed}
 use Rattle.rbac_lint.proofs.Exact.{all_pairs_append}
 
 -- ---- one list
@@ -64,17 +65,20 @@ only_word : (x y : Text) (k : ℕ) → k < 1 → get_or (x ∷ []) k y ≡ y →
 only_word x y zero l e = e
 only_word x y (suc k) l e = absurd (omega arith)
 
--- a word has one prefix, and one key
-pub prefix_one : (w p q : Text) → IsPrefix w p → IsPrefix w q → p ≡ q
-prefix_one w p q a b = same_prefix p q (a.0 + 1) (b.0 + 1) a.2 b.2 (sym a.1 ∙ b.1)
+-- nothing comes before the stars of a word that ends in none
+pub prefixes_key : (w : Text) (r : Option (Bor Text)) → MatchOption r (EndsInStar w → ⊥) (λ p. IsBeforeStars w p.now)
+    → MatchOption r ((key : Text) → IsKey Prefixes w key → ⊥) (λ key. IsKey Prefixes w key.now)
+prefixes_key w None h = λ key is. h (ends w key is.0 is.1)
+prefixes_key w (Some p) h = h
 
+-- a word has one key
 key_one : (field : Field) (w p q : Text) → IsKey field w p → IsKey field w q → p ≡ q
 key_one Verbs w p q a b = sym a ∙ b
 key_one Groups w p q a b = sym a ∙ b
 key_one Resources w p q a b = sym a ∙ b
 key_one Names w p q a b = sym a ∙ b
 key_one Urls w p q a b = sym a ∙ b
-key_one Prefixes w p q a b = prefix_one w p q a b
+key_one Prefixes w p q a b = IsBeforeStars-one w p q a b
 
 -- a place listed under its key is listed for the word
 pub lists_one : (old new : Lists) (field : Field) (word key : Text) (place : ℕ) → ListsPlace old new key place → IsKey field word key

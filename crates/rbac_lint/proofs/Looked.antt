@@ -7,21 +7,24 @@ use Rattle.std.proofs.lemmas.List.Elements.{All-contains, All-nil, All-push, Con
 use Rattle.std.proofs.lemmas.Option.{slice_get_within, get_or_from_slice_get, same_Some, slice_get-get_or}
 use Rattle.rbac_terms.specs.Text.{Text, slash, IsCutAtFirst, BeginsWith}
 use Rattle.rbac_terms.proofs.Texts.{IsCutAtFirst-one}
-use Rattle.rbac_terms.specs.Matching.{ResourceWordMatches, EndsInStar}
+use Rattle.rbac_terms.specs.Matching.{ResourceWordMatches, EndsInStar, IsBeforeStars}
 use Rattle.rbac_terms.specs.declared.matching.Rule.{Rule}
 use Rattle.rbac_model.specs.Universes.{Covers}
-use Rattle.rbac_lint.specs.Covering.{AllowsVerbs, AllowsVerb, AllowsGroups, AllowsGroup, AllowsResources, AllowsResource, AllowsNames, AllowsName, AllowsUrls, AllowsUrl, HasResource, HasUrl, GivesPath}
+use Rattle.rbac_lint.specs.Covering.{AllowsVerbs, AllowsVerb, AllowsGroups, AllowsGroup, AllowsResources, AllowsResource, AllowsNames, AllowsName, AllowsUrls, AllowsUrl, HasResource, HasUrl}
+use Rattle.rbac_model.specs.OwnWords.{AllowsUrlWord, GivesPath}
 use Rattle.rbac_lint.specs.Findings.{CoversAll, MakesRedundantAt, MakesRedundant}
 use Rattle.rbac_lint.specs.declared.listing.Field.{Field}
 use Rattle.rbac_lint.specs.declared.listing.Field.TheVariants.{Verbs, Groups, Resources, Names, Urls, Prefixes}
 use Rattle.rbac_lint.specs.declared.listing.Listing.{Listing}
 use Rattle.rbac_lint.specs.declared.candidates.Candidates.{Candidates}
-use Rattle.rbac_lint.specs.Listing.{Lists, listed, lists_in, words_in, names_or_star, IsAscending, IsPrefix, IsStem, IsListingOf}
+use Rattle.rbac_lint.specs.Listing.{Lists, listed, lists_in, words_in, names_or_star, IsAscending, IsStem, IsListingOf}
 use Rattle.rbac_lint.specs.Candidates.{IsAsked, Binds, IsFound, StandsIn, IsAmong, Ascend, Finds, AddsUnder, AddsPrefixes, IsOfEach, AreMatching, CoversAt, AreCandidates, IsLeastCoverIfAny, IsRedundantBy, IsSoonest}
 use Rattle.rbac_lint.specs.declared.prefixes.Prefix.{Prefix}
 use Rattle.rbac_lint.specs.Prefixes.{IsOnWay, LeadsTo, ArePrefixes}
 use Rattle.rbac_lint.proofs.Samples.{samples_from_Covers, resources_from_samples, urls_from_samples}
-use Rattle.rbac_lint.proofs.Urls.{GivesPath-path, UrlWordMatches-begins, below_stars}
+use Rattle.rbac_model.proofs.UrlSamples.{below_stars}
+use Rattle.rbac_model.proofs.UrlWords.{GivesPath-path}
+use Rattle.rbac_lint.proofs.Urls.{UrlWordMatches-begins}
 use Rattle.rbac_lint.proofs.Linked.{prefix_listed, places_ascend, here_or_on, shorter_within}
 
 -- ---- the words that match
@@ -57,7 +60,7 @@ verbs_of a b c (inl has) = (resources_from_samples a b (samples_from_Covers a b 
 verbs_of a b c (inr has) = (urls_from_samples a b (samples_from_Covers a b c) has).0
 
 found_url : (rules : List Rule) (l : Listing) (w u : Text) (n : ℕ) (a : Rule) → IsListingOf rules l → slice_get rules n ≡ Some a → Contains a.urls u
-    → (u ≡ w) ⊎ ((prefix : Text) × IsPrefix u prefix × BeginsWith w prefix) → IsFound Urls l w n
+    → (u ≡ w) ⊎ ((prefix : Text) × IsBeforeStars u prefix × BeginsWith w prefix) → IsFound Urls l w n
 found_url rules l w u n a is at has (inl e) = inl (is.urls.complete n a u w (slice_get_within rules n a at) at has e)
 found_url rules l w u n a is at has (inr f) =
     let m = is.prefixes.0 in
@@ -67,7 +70,7 @@ found_url rules l w u n a is at has (inr f) =
 -- what covers a rule is found for each of its words that is asked
 pub found : (field : Field) (rules : List Rule) (l : Listing) (b : Rule) (w : Text) (n : ℕ) → IsListingOf rules l → Binds field b → IsAsked field w → Contains (words_in field b) w
     → CoversAt rules b n → IsFound field l w n
-unfolding AllowsVerbs AllowsVerb AllowsGroups AllowsGroup AllowsResources AllowsResource AllowsUrls AllowsUrl GivesPath
+unfolding AllowsVerbs AllowsVerb AllowsGroups AllowsGroup AllowsResources AllowsResource AllowsUrls AllowsUrl AllowsUrlWord GivesPath
 found Verbs rules l b w n is has asked at c =
     let any = All-contains (AllowsVerb c.0) b.verbs w (verbs_of c.0 b c.2 has) at in
     (any.1, inl any.4, is.verbs.complete n c.0 any.1 any.1 (slice_get_within rules n c.0 c.1) c.1 (any.0, any.2, any.3) refl)
@@ -82,7 +85,7 @@ found Names rules l b w n is has asked at c =
     (λ u has. is.names.complete n c.0 u u (slice_get_within rules n c.0 c.1) c.1 has refl)
 found Urls rules l b w n is has asked at c =
     let sample = GivesPath-path w asked in
-    let any = All-contains (AllowsUrl c.0) b.urls w (urls_from_samples c.0 b (samples_from_Covers c.0 b c.2) has).1 at sample.0 sample.1 sample.2 in
+    let any = All-contains (AllowsUrl c.0) b.urls w (urls_from_samples c.0 b (samples_from_Covers c.0 b c.2) has).1 at sample sample.0 sample.1 in
     found_url rules l w any.1 n c.0 is c.1 (any.0, any.2, any.3) (UrlWordMatches-begins any.1 w sample.0 asked sample.1 any.4)
 found Prefixes rules l b w n is has asked at c = absurd has
 

@@ -1,5 +1,5 @@
 -- covering, list by list, is covering
-use Rattle.std.proofs.Common.{◌≢◌, ℕ, ◌<◌, List, [], ◌∷◌, ◌++◌, get_or, length, inl, inr, refl, arith, All, Any, Bool, IsTrue, ◌↔◌}
+use Rattle.std.proofs.Common.{◌≢◌, ℕ, ◌<◌, List, [], ◌∷◌, ◌++◌, get_or, length, inl, inr, refl, subst, arith, All, Any, Bool, IsTrue, ◌↔◌}
 use Rattle.std.specs.Prelude.{Contains}
 use Rattle.std.proofs.lemmas.List.{length-append}
 use Rattle.std.proofs.lemmas.List.Elements.{All-nil, All-cons, All-contains, All-weaker, Contains-get_or}
@@ -8,16 +8,13 @@ use Rattle.rbac_terms.specs.Text.{Text}
 use Rattle.rbac_terms.specs.Targets.{What, Resource, Url, IsProper}
 use Rattle.rbac_terms.specs.Matching.{WordMatches, ResourceWordMatches, UrlWordMatches, NameMatches, VerbOk, RuleAllows}
 use Rattle.rbac_model.specs.Universes.{Covers}
-use Rattle.rbac_lint.specs.Covering.{IsResourceText, IsPath, IsLongerThanAll, IsNameSample, IsSample, AllowsSamples, AllowsVerb, AllowsGroup, AllowsResource, AllowsName, AllowsUrl, AllowsVerbs, AllowsGroups, AllowsResources, AllowsNames, AllowsUrls, GivesPath, HasResource, HasUrl, CoversResources, CoversUrls}
-use Rattle.rbac_model.specs.OwnWords.{IsUrlSample}
-use Rattle.rbac_model.proofs.OwnWords.{ResourceWordMatches-own, UrlWordMatches-own, WordMatches-own, any_from}
-use Rattle.rbac_lint.proofs.Words.{WordMatches-through, ResourceWordMatches-through, IsResourceText-word}
-use Rattle.rbac_lint.proofs.Urls.{Through, sample-through}
+use Rattle.rbac_terms.specs.Targets.{IsResourceText, IsPath}
+use Rattle.rbac_lint.specs.Covering.{IsLongerThanAll, IsNameSample, IsSample, AllowsSamples, AllowsVerb, AllowsGroup, AllowsResource, AllowsName, AllowsUrl, AllowsVerbs, AllowsGroups, AllowsResources, AllowsNames, AllowsUrls, HasResource, HasUrl, CoversResources, CoversUrls}
+use Rattle.rbac_model.specs.OwnWords.{IsUrlSample, AllowsUrlWord, GivesPath}
+use Rattle.rbac_model.proofs.OwnWords.{ResourceText-word, ResourceWordMatches-own, ResourceWordMatches-through, UrlWordMatches-own, WordMatches-own, WordMatches-through, any_from, any_weaker}
+use Rattle.rbac_model.proofs.UrlSamples.{IsUrlSample-one, Through, sample-through}
 
 module _ {X : Type 0} where
-  any_weaker : (P Q : X → Type 0) (xs : List X) → ((x : X) → P x → Q x) → Any P xs → Any Q xs
-  any_weaker P Q xs f a = (a.0, a.1, a.2, a.3, f a.1 a.4)
-
   any_nonempty : (P : X → Type 0) (xs : List X) → Any P xs → xs ≢ []
   any_nonempty P [] a e = omega (arith, a.2)
   any_nonempty P (x ∷ xs) a e = cc
@@ -98,12 +95,12 @@ resources_from_samples a b f has =
     )
 
 pub urls_from_samples : (a b : Rule) → AllowsSamples a b → CoversUrls a b
-unfolding HasUrl GivesPath AllowsVerbs AllowsUrls AllowsVerb AllowsUrl
+unfolding HasUrl GivesPath AllowsVerbs AllowsUrls AllowsVerb AllowsUrl AllowsUrlWord
 urls_from_samples a b f has =
     let v = some_of b.verbs has.0 in
     let u = has.1 in (
       each (AllowsVerb a) b.verbs (λ w c. (f w (Url u.4.0) (c, (u.0, u.1, u.2, u.3, u.4.1), u.4.2)).0),
-      each (AllowsUrl a) b.urls (λ w c x s p. (f v.0 (Url x) (v.1, any_from (λ y. IsUrlSample y x) b.urls w c s, p)).1),
+      each (AllowsUrl a) b.urls (λ w c g x s. (f v.0 (Url x) (v.1, any_from (λ y. IsUrlSample y x) b.urls w c s, subst IsPath (IsUrlSample-one w g.0 x g.1 s) g.2)).1),
     )
 
 -- and covers
@@ -123,7 +120,7 @@ resources_through : (a b : Rule) (s : Text) → IsResourceText s → AllowsResou
 unfolding AllowsResources AllowsResource
 resources_through a b s p all m =
     any_weaker (λ u. ResourceWordMatches u m.1) (λ u. ResourceWordMatches u s) a.resources (λ u h. ResourceWordMatches-through u m.1 s h m.4)
-    (All-contains (AllowsResource a) b.resources m.1 all (m.0, m.2, m.3) (IsResourceText-word m.1 s p m.4))
+    (All-contains (AllowsResource a) b.resources m.1 all (m.0, m.2, m.3) (ResourceText-word m.1 s p m.4))
 
 names_through : (a b : Rule) (n : Text) → AllowsNames a b → NameMatches b.resource_names n → NameMatches a.resource_names n
 unfolding AllowsNames AllowsName
@@ -135,7 +132,7 @@ unfolding HasResource
 has_resource b v g s n p h = (
   any_nonempty (λ w. WordMatches w v) b.verbs h.0,
   any_nonempty (λ w. WordMatches w g) b.groups h.1.0,
-  any_weaker (λ w. ResourceWordMatches w s) IsResourceText b.resources (λ w m. IsResourceText-word w s p m) h.1.1,
+  any_weaker (λ w. ResourceWordMatches w s) IsResourceText b.resources (λ w m. ResourceText-word w s p m) h.1.1,
 )
 
 has_url : (b : Rule) (v x : Text) → IsPath x → RuleAllows b v (Url x) → HasUrl b
@@ -146,11 +143,11 @@ has_url b v x p h = (
 )
 
 urls_through : (a b : Rule) (x : Text) → IsPath x → AllowsUrls a b → Any (λ w. UrlWordMatches w x) b.urls → Any (λ w. UrlWordMatches w x) a.urls
-unfolding AllowsUrls AllowsUrl
+unfolding AllowsUrls AllowsUrl AllowsUrlWord GivesPath
 urls_through a b x p all m =
     let t : Through m.1 x = sample-through m.1 x p m.4 in
     any_weaker (λ u. UrlWordMatches u t.sample) (λ u. UrlWordMatches u x) a.urls t.through
-    (All-contains (AllowsUrl a) b.urls m.1 all (m.0, m.2, m.3) t.sample t.is t.path)
+    (All-contains (AllowsUrl a) b.urls m.1 all (m.0, m.2, m.3) (t.sample, t.is, t.path) t.sample t.is)
 
 pub Covers-from : (a b : Rule) → CoversResources a b → CoversUrls a b → Covers a b
 Covers-from a b rs us v (Resource g s n) p h =

@@ -7,7 +7,8 @@ use Rattle.rbac_terms.specs.Text.{Text, BeginsWith}
 use Rattle.rbac_terms.specs.Matching.{ResourceWordMatches, FollowsFirstSlash, EndsInStar}
 use Rattle.rbac_terms.specs.declared.matching.Rule.{Rule}
 use Rattle.rbac_model.specs.Universes.{Covers}
-use Rattle.rbac_lint.specs.Covering.{IsResourceText, IsPath, HasResource, HasUrl}
+use Rattle.rbac_terms.specs.Targets.{IsResourceText, IsPath}
+use Rattle.rbac_lint.specs.Covering.{HasResource, HasUrl}
 use Rattle.rbac_lint.specs.Findings.{MakesRedundant}
 use Rattle.rbac_lint.specs.Listing.{Lists, listed, lists_in, IsAscending, AreAscending}
 use Rattle.rbac_lint.specs.declared.prefixes.Prefix.{Prefix}

@@ -1,20 +1,12 @@
 -- When a rule covers another: it allows everything that the other one does. What has to be asked to
 -- decide that is finite: the other's samples.
-use Rattle.std.specs.Prelude.{◌≡◌, ◌≢◌, ◌<◌, ◌⊎◌, List, [], All, Any, Contains, length, codes}
+use Rattle.std.specs.Prelude.{◌≡◌, ◌≢◌, ◌<◌, ◌⊎◌, List, [], All, Any, Contains, length}
 use Rattle.rbac_terms.specs.declared.matching.Rule.{Rule}
-use Rattle.rbac_terms.specs.Text.{Text, star, BeginsWith}
-use Rattle.rbac_model.specs.OwnWords.{IsUrlSample}
-use Rattle.rbac_terms.specs.Targets.{What, Resource, Url}
-use Rattle.rbac_terms.specs.Matching.{WordMatches, ResourceWordMatches, UrlWordMatches, NameMatches}
+use Rattle.rbac_terms.specs.Text.{Text}
+use Rattle.rbac_model.specs.OwnWords.{IsUrlSample, AllowsUrlWord, GivesPath}
+use Rattle.rbac_terms.specs.Targets.{What, Resource, Url, IsPath, IsResourceText}
+use Rattle.rbac_terms.specs.Matching.{WordMatches, ResourceWordMatches, NameMatches}
 use Rattle.rbac_terms.specs.Matching.{VerbOk, RuleAllows}
-
--- a resource text isn't empty and doesn't begin with a slash; a path does (own, after the paths of
--- API requests)
-abbrev pub IsResourceText : Text → Type 0
-IsResourceText text = (text ≢ []) × (¬ BeginsWith text (codes "/"))
-
-abbrev pub IsPath : Text → Type 0
-IsPath path = BeginsWith path (codes "/")
 
 -- longer than each of the names
 abbrev pub IsLongerThanAll : Text → List Text → Type 0
@@ -53,7 +45,7 @@ unfoldable pub AllowsName : Rule → Text → Type 0
 AllowsName a n = NameMatches a.resource_names n
 
 unfoldable pub AllowsUrl : Rule → Text → Type 0
-AllowsUrl a w = (x : Text) → IsUrlSample w x → IsPath x → Any (λ u. UrlWordMatches u x) a.urls
+AllowsUrl a w = GivesPath w → AllowsUrlWord a w
 
 -- a allows each of these words of b; if b has no names, a has none
 unfoldable pub AllowsVerbs : Rule → Rule → Type 0
@@ -71,18 +63,6 @@ AllowsNames a b = (b.resource_names ≡ [] → a.resource_names ≡ [])
 
 unfoldable pub AllowsUrls : Rule → Rule → Type 0
 AllowsUrls a b = All (AllowsUrl a) b.urls
-
--- the URL word has a sample that is a path
-unfoldable pub GivesPath : Text → Type 0
-GivesPath w = (x : Text) × IsUrlSample w x × IsPath x
-
--- the word matches `/*`, and so every path
-unfoldable pub MatchesEachPath : Text → Type 0
-MatchesEachPath w = UrlWordMatches w (codes "/*")
-
--- nothing but stars, and at least one
-abbrev pub IsStars : Text → Type 0
-IsStars t = (t ≢ []) × All (λ b. b ≡ star) t
 
 -- b has samples that are resources, or URLs
 unfoldable pub HasResource : Rule → Type 0

@@ -1,9 +1,9 @@
 -- The places of a role's rules, listed under the words that they hold.
-use Rattle.std.specs.Prelude.{◌≡◌, ◌≢◌, ℕ, ◌+◌, ◌<◌, ◌≤◌, ◌⊎◌, List, [], ◌∷◌, ◌++◌, AllPairs}
+use Rattle.std.specs.Prelude.{◌≡◌, ◌≢◌, ℕ, ◌<◌, ◌≤◌, ◌⊎◌, List, [], ◌∷◌, ◌++◌, AllPairs}
 use Rattle.std.specs.Prelude.{Contains, codes, length, replicate, unwrap_or, slice_get, Some}
 use Rattle.std.specs.BTreeMap.{BTreeMap, get}
 use Rattle.rbac_terms.specs.Text.{Text, star, text_cmp}
-use Rattle.rbac_terms.specs.Matching.{EndsInStar}
+use Rattle.rbac_terms.specs.Matching.{IsBeforeStars}
 use Rattle.rbac_terms.specs.declared.matching.Rule.{Rule}
 use Rattle.rbac_lint.specs.declared.prefixes.Prefix.{Prefix}
 use Rattle.rbac_lint.specs.Prefixes.{AreEntriesOf, ArePrefixes}
@@ -40,17 +40,13 @@ words_in Names r = names_or_star r.resource_names
 words_in Urls r = r.urls
 words_in Prefixes r = r.urls
 
--- the prefix of a word that ends in stars: what comes before all of them
-abbrev pub IsPrefix : Text → Text → Type 0
-IsPrefix w prefix = (k : ℕ) × (w ≡ prefix ++ replicate (k + 1) star) × (¬ EndsInStar prefix)
-
 -- a word without the stars at its end, if it has any
 abbrev pub IsStem : Text → Text → Type 0
 IsStem w stem = (k : ℕ) × (w ≡ stem ++ replicate k star)
 
--- what a word is listed under: itself, or its prefix
+-- what a word is listed under: itself, or what comes before its stars
 abbrev pub IsKey : Field → Text → Text → Type 0
-IsKey Prefixes w key = IsPrefix w key
+IsKey Prefixes w key = IsBeforeStars w key
 IsKey field w key = w ≡ key
 
 -- ---- while places are listed

@@ -11,10 +11,10 @@ ghost use Rattle.rbac_lint.specs.Prefixes.{ArePrefixes};
 ghost use Rattle.rbac_lint.specs.Candidates.{IsAsked, Binds, Finds, AddsUnder, AddsPrefixes};
 ghost use Rattle.rbac_lint.specs.Candidates.{IsOfEach, AreMatching, AreCandidates};
 
-use crate::coverage::{has_resource, has_url, is_path, is_resource_text};
+use crate::coverage::{has_resource, has_url};
 use crate::listing::{Field, Listing, Places, stem_of, under, words_in};
 use crate::prefixes::{Prefix, last_up_to};
-use rbac_terms::{Rule, Word, cut_at_first};
+use rbac_terms::{Rule, Word, cut_at_first, is_path, is_resource_text};
 use std::alloc::{AllocError, Global};
 use std::collections::BTreeMap;
 
@@ -109,7 +109,7 @@ fn is_asked(field: Field, word: &Word) -> bool
     ensures { IsTrue result → IsAsked field word.now }
 {
     match field {
-        Field::Resources => is_resource_text(word),
+        Field::Resources => is_resource_text(word.as_bytes()),
         Field::Urls => is_path(word.as_bytes()),
         _ => true,
     }

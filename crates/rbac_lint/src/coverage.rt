@@ -1,16 +1,16 @@
 //! Whether a rule allows everything that another one does.
 
-ghost use Rattle.std.specs.Prelude.{◌≡◌, IsTrue, ◌↔◌, ◌++◌, codes, Any, MatchOption};
+ghost use Rattle.std.specs.Prelude.{IsTrue, ◌↔◌};
 ghost use Rattle.rbac_model.specs.Universes.{Covers};
-ghost use Rattle.rbac_lint.specs.Covering.{AllowsSamples, IsResourceText, IsPath, IsStars};
-ghost use Rattle.rbac_lint.specs.Covering.{GivesPath, HasResource, HasUrl, CoversResources};
-ghost use Rattle.rbac_lint.specs.Covering.{CoversUrls, MatchesEachPath};
+ghost use Rattle.rbac_lint.specs.Covering.{AllowsSamples, HasResource, HasUrl};
+ghost use Rattle.rbac_lint.specs.Covering.{CoversResources, CoversUrls};
 ghost use Rattle.rbac_lint.specs.Covering.{AllowsVerb, AllowsGroup, AllowsResource, AllowsName};
 ghost use Rattle.rbac_lint.specs.Covering.{AllowsUrl, AllowsVerbs, AllowsGroups, AllowsResources};
 ghost use Rattle.rbac_lint.specs.Covering.{AllowsNames, AllowsUrls};
 
+use rbac_model::{allows_url_word, gives_path};
 use rbac_terms::{
-    Rule, Word, group_matches, name_matches, resource_matches, url_matches, verb_matches,
+    Rule, Word, group_matches, is_resource_text, name_matches, resource_matches, verb_matches,
 };
 
 /// Whether the first rule allows each verb on each target that the second one allows it on: for all
@@ -83,7 +83,7 @@ fn allows_resources(a: &Rule, b: &Rule) -> bool
 fn allows_resource(a: &Rule, text: &Word) -> bool
     ensures { IsTrue result ↔ AllowsResource a.now text.now }
 {
-    !is_resource_text(text) || resource_matches(a, text)
+    !is_resource_text(text.as_bytes()) || resource_matches(a, text)
 }
 
 #[tactic(auto, unfolding(crate::specs::Covering::AllowsNames))]
@@ -109,39 +109,11 @@ fn allows_urls(a: &Rule, b: &Rule) -> bool
     b.urls.as_slice().iter().all(|word| allows_url(a, word))
 }
 
-// Whether the rule allows this URL word, taken as a text. Stars at its end count as one star: what
-// allows the word with all of them allows it with one, and the other way round.
+#[tactic(auto, unfolding(crate::specs::Covering::AllowsUrl))]
 fn allows_url(a: &Rule, word: &Word) -> bool
     ensures { IsTrue result ↔ AllowsUrl a.now word.now }
 {
-    if is_stars(word.as_bytes()) {
-        return allows_each_path(a);
-    }
-    !is_path(word.as_bytes()) || url_matches(a, word)
-}
-
-// Whether some URL word of the rule matches every path.
-fn allows_each_path(a: &Rule) -> bool
-    ensures { IsTrue result ↔ Any MatchesEachPath a.now.urls }
-{
-    a.urls.as_slice().iter().any(|word| matches_each_path(word))
-}
-
-// Whether the word consists of stars only, or of a slash and then stars only.
-fn matches_each_path(word: &Word) -> bool
-    ensures { IsTrue result ↔ MatchesEachPath word.now }
-{
-    match after_slash(word.as_bytes()) {
-        Some(rest) => is_stars(rest),
-        None => is_stars(word.as_bytes()),
-    }
-}
-
-// What follows the slash at the start of a path.
-fn after_slash(text: &[u8]) -> Option<&[u8]>
-    ensures { MatchOption result (¬ IsPath text.now) (λ rest. text.now ≡ codes "/" ++ rest.now) }
-{
-    text.strip_prefix(b"/".as_slice())
+    !gives_path(word) || allows_url_word(a, word)
 }
 
 #[tactic(auto, unfolding(crate::specs::Covering::HasResource))]
@@ -154,7 +126,7 @@ pub(crate) fn has_resource(rule: &Rule) -> bool
             .resources
             .as_slice()
             .iter()
-            .any(|text| is_resource_text(text))
+            .any(|text| is_resource_text(text.as_bytes()))
 }
 
 #[tactic(auto, unfolding(crate::specs::Covering::HasUrl))]
@@ -162,28 +134,4 @@ pub(crate) fn has_url(rule: &Rule) -> bool
     ensures { IsTrue result ↔ HasUrl rule.now }
 {
     !rule.verbs.is_empty() && rule.urls.as_slice().iter().any(|word| gives_path(word))
-}
-
-pub(crate) fn is_path(text: &[u8]) -> bool
-    ensures { IsTrue result ↔ IsPath text.now }
-{
-    text.starts_with(b"/".as_slice())
-}
-
-fn is_stars(text: &[u8]) -> bool
-    ensures { IsTrue result ↔ IsStars text.now }
-{
-    !text.is_empty() && text.iter().all(|byte| *byte == b'*')
-}
-
-pub(crate) fn is_resource_text(text: &Word) -> bool
-    ensures { IsTrue result ↔ IsResourceText text.now }
-{
-    !text.is_empty() && !is_path(text.as_bytes())
-}
-
-fn gives_path(word: &Word) -> bool
-    ensures { IsTrue result ↔ GivesPath word.now }
-{
-    is_path(word.as_bytes()) || is_stars(word.as_bytes())
 }

@@ -8,7 +8,7 @@ ghost use Rattle.rbac_lint.specs.Roles.{source_object, binding_object, named_obj
 ghost use Rattle.rbac_lint.specs.Roles.{cluster_role_object};
 
 use rbac_model::SourceRole;
-use rbac_terms::{Binding, RoleRef, Word};
+use rbac_terms::{Binding, CLUSTER_ROLE, CLUSTER_ROLE_BINDING, ROLE, ROLE_BINDING, RoleRef, Word};
 use std::alloc::{AllocError, Global};
 use std::marker::Model;
 
@@ -69,24 +69,11 @@ impl Findings {
     }
 }
 
-const ROLE: &[u8] = b"Role/";
-
-const CLUSTER_ROLE: &[u8] = b"ClusterRole/";
-
-const ROLE_BINDING: &[u8] = b"RoleBinding/";
-
-const CLUSTER_ROLE_BINDING: &[u8] = b"ClusterRoleBinding/";
-
 // The text of a kind, a namespace and a name.
-fn scoped_word(
-    alloc: Global,
-    kind: &[u8],
-    namespace: &[u8],
-    name: &Word,
-) -> Result<Word, AllocError>
-    ensures { IfOk result (λ w. w ≡ kind.now ++ (namespace.now ++ 47 ∷ []) ++ name.now) }
+fn scoped_word(alloc: Global, kind: &str, namespace: &[u8], name: &Word) -> Result<Word, AllocError>
+    ensures { IfOk result (λ w. w ≡ kind.now ++ 47 ∷ (namespace.now ++ 47 ∷ []) ++ name.now) }
 {
-    let mut text = Word::from_slice(alloc, kind)?;
+    let mut text = kind_word(alloc, kind)?;
     text.push_slice(namespace)?;
     text.push(b'/')?;
     text.push_slice(name.as_bytes())?;
@@ -94,11 +81,20 @@ fn scoped_word(
 }
 
 // The text of a kind and a name.
-fn cluster_word(alloc: Global, kind: &[u8], name: &Word) -> Result<Word, AllocError>
-    ensures { IfOk result (λ w. w ≡ kind.now ++ name.now) }
+fn cluster_word(alloc: Global, kind: &str, name: &Word) -> Result<Word, AllocError>
+    ensures { IfOk result (λ w. w ≡ kind.now ++ 47 ∷ name.now) }
 {
-    let mut text = Word::from_slice(alloc, kind)?;
+    let mut text = kind_word(alloc, kind)?;
     text.push_slice(name.as_bytes())?;
+    Ok(text)
+}
+
+// A kind, with the slash after it.
+fn kind_word(alloc: Global, kind: &str) -> Result<Word, AllocError>
+    ensures { IfOk result (λ w. w ≡ kind.now ++ 47 ∷ []) }
+{
+    let mut text = Word::from_slice(alloc, kind.as_bytes())?;
+    text.push(b'/')?;
     Ok(text)
 }
 

@@ -2,14 +2,13 @@
 
 ghost use Rattle.std.specs.Prelude.{◌≡◌, ◌++◌, ◌∷◌, [], Contains, IfOk, OnOk, IsTrue, MatchOption};
 ghost use Rattle.std.specs.Prelude.{codes, length};
-ghost use Rattle.rbac_terms.specs.Text.{Text, star};
-ghost use Rattle.rbac_terms.specs.Matching.{EndsInStar};
-ghost use Rattle.rbac_lint.specs.Listing.{listed, lists_in, words_in, IsPrefix, IsKey, IsStem};
+ghost use Rattle.rbac_terms.specs.Text.{Text};
+ghost use Rattle.rbac_lint.specs.Listing.{listed, lists_in, words_in, IsKey, IsStem};
 ghost use Rattle.rbac_lint.specs.Listing.{TakesIn, ListsPlace, ListsAll, IsListedAsBefore};
 ghost use Rattle.rbac_lint.specs.Listing.{AreListed, IsListingOf};
 
 use crate::prefixes::{Prefix, prefixes_of};
-use rbac_terms::{Rule, Word};
+use rbac_terms::{Rule, Word, before_stars};
 use std::alloc::{AllocError, Global};
 use std::collections::BTreeMap;
 use std::marker::Model;
@@ -183,41 +182,19 @@ fn key_of(field: Field, word: &[u8]) -> Option<&[u8]>
         (λ key. IsKey field word.now key.now) }
 {
     match field {
-        Field::Prefixes => prefix_of(word),
+        Field::Prefixes => before_stars(word),
         _ => Some(word),
     }
-}
-
-// What comes before the stars at the end of a word, if there are any.
-fn prefix_of(word: &[u8]) -> Option<&[u8]>
-    ensures { MatchOption result ((prefix : Text) → ¬ IsPrefix word.now prefix)
-        (λ prefix. IsPrefix word.now prefix.now) }
-{
-    let Some(last) = without_star(word) else {
-        return None;
-    };
-    let mut prefix = last;
-    while let Some(before) = without_star(prefix) {
-        prefix = before;
-    }
-    Some(prefix)
 }
 
 // A word without the stars at its end, if it has any.
 pub(crate) fn stem_of(word: &[u8]) -> &[u8]
     ensures { IsStem word.now result.now }
 {
-    match prefix_of(word) {
+    match before_stars(word) {
         Some(stem) => stem,
         None => word,
     }
-}
-
-fn without_star(text: &[u8]) -> Option<&[u8]>
-    ensures { MatchOption result (¬ EndsInStar text.now)
-        (λ before. text.now ≡ before.now ++ star ∷ []) }
-{
-    text.strip_suffix(b"*".as_slice())
 }
 
 // Lists a place under this word.

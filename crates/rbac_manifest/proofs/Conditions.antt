@@ -1,8 +1,8 @@
 -- What the conditions of the table of refusals call bad is what gives nothing when it is read.
 use Rattle.std.proofs.Common.{◌≡◌, ◌||◌, ◌&&◌, ◌+◌, ℕ, Bool, true, false, not, List, [], ◌∷◌, codes, Option, Some, None, option_map, option_and_then, unwrap_or, is_none, is_some, cond, refl, sym, ap₂, ◌∙◌}
-use Rattle.std.specs.List.{list_any, position_from, starts_with}
+use Rattle.std.specs.List.{list_any, position_from}
+use Rattle.rbac_terms.specs.Targets.{is_path}
 use Rattle.std.specs.Str.{bytes_eq}
-use Rattle.std.specs.Prelude.{nat_eq}
 use Rattle.serde_json.specs.Data.{Data}
 use Rattle.serde_json.specs.Find.{as_bool, as_str}
 use Rattle.rbac_terms.specs.Text.{Text}
@@ -257,12 +257,12 @@ bad_name : (o : Option (List ℕ)) (is_bad : List ℕ → Bool) → (is_none (op
 bad_name None is_bad = refl
 bad_name (Some t) is_bad = name_if (is_empty t) t is_bad
 
-bad_resource_name_is : (e : Data) → is_none (resource_name_at e) ≡ (is_empty (text (codes "name") e) || starts_with nat_eq (text (codes "name") e) (codes "/"))
+bad_resource_name_is : (e : Data) → is_none (resource_name_at e) ≡ (is_empty (text (codes "name") e) || is_path (text (codes "name") e))
 unfolding resource_name_at name_at
 bad_resource_name_is e =
     then_bad (name_at e) [] _
     ∙ or_is refl (none_if _ _)
-    ∙ bad_name (text_at (codes "name") e) (λ name. starts_with nat_eq name (codes "/"))
+    ∙ bad_name (text_at (codes "name") e) is_path
 
 bad_entry_is : (group : Text) (e : Data) → is_none (entry_at group e) ≡ is_bad_entry e
 unfolding entry_at is_bad_entry
@@ -274,7 +274,7 @@ bad_entry_is group e =
     then_some (texts_field (codes "verbs") e) _))
     ∙ or_is (no_flag false (codes "namespaced") e) refl))
     ∙ or_is (bad_resource_name_is e) refl
-    ∙ or_assoc (is_empty (text (codes "name") e)) (starts_with nat_eq (text (codes "name") e) (codes "/")) (any_of (
+    ∙ or_assoc (is_empty (text (codes "name") e)) (is_path (text (codes "name") e)) (any_of (
     is_no_text (codes "singularName") e
     ∷ is_no_flag (codes "namespaced") e
     ∷ is_no_texts (codes "shortNames") e

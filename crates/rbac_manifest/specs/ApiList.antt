@@ -1,12 +1,13 @@
 -- API resource lists (Kubernetes API, APIResourceList).
-use Rattle.std.specs.Prelude.{◌==◌, ◌||◌, nat_eq, Bool, true, false, not, List, [], ◌∷◌, codes}
+use Rattle.std.specs.Prelude.{◌==◌, ◌||◌, Bool, true, false, not, List, [], ◌∷◌, codes}
 use Rattle.std.specs.Prelude.{Option, Some, None, if◌then◌else◌}
-use Rattle.std.specs.List.{list_any, slice_split, starts_with}
+use Rattle.std.specs.List.{list_any, slice_split}
 use Rattle.serde_json.specs.Data.{Data}
 use Rattle.rbac_manifest.specs.Fields.{◌>>=◌, list_field, texts_field, text_at, name_at, flag_at}
 use Rattle.rbac_manifest.specs.Fields.{is_empty, text, is_no_text, is_no_texts, is_no_flag, any_of}
 use Rattle.rbac_manifest.specs.Lists.{all_at, is_bad_list}
 use Rattle.rbac_terms.specs.Text.{Text, slash}
+use Rattle.rbac_terms.specs.Targets.{is_path}
 use Rattle.rbac_catalogue.specs.declared.entry.Entry.{Entry}
 
 -- the parts of a text, between its slashes
@@ -35,11 +36,10 @@ unfoldable pub is_bad_group_version : Text → Bool
 is_bad_group_version version = list_any is_empty (parts version)
     || not (are_one_or_two (parts version))
 
--- the name of an entry, like `pods` or `pods/log`: a text that isn't empty and doesn't begin with a
--- slash (own)
+-- the name of an entry, like `pods` or `pods/log`: a text that isn't empty and isn't a path (own)
 unfoldable pub resource_name_at : Data → Option Text
 resource_name_at d =
-    name_at d >>= λ name. if starts_with nat_eq name (codes "/") then None else Some name
+    name_at d >>= λ name. if is_path name then None else Some name
 
 -- the entry that an item gives, unless it is bad; its group is that of the list, and it isn't
 -- namespaced unless it says so
@@ -59,12 +59,12 @@ entry_at group d =
       verbs = verbs;
     })
 
--- an entry is bad if its name isn't a text, is empty or begins with a slash, or if another field
--- has another shape; an item that isn't an object has no name
+-- an entry is bad if its name isn't a text, is empty or is a path, or if another field has another
+-- shape; an item that isn't an object has no name
 unfoldable pub is_bad_entry : Data → Bool
 is_bad_entry e = any_of (
     is_empty (text (codes "name") e)
-    ∷ starts_with nat_eq (text (codes "name") e) (codes "/")
+    ∷ is_path (text (codes "name") e)
     ∷ is_no_text (codes "singularName") e
     ∷ is_no_flag (codes "namespaced") e
     ∷ is_no_texts (codes "shortNames") e

@@ -14,7 +14,7 @@ use crate::fields::{
 };
 use crate::listed::all_read;
 use rbac_catalogue::{Entries, Entry};
-use rbac_terms::{Word, cut_at_first};
+use rbac_terms::{Word, cut_at_first, is_path};
 use serde_json::Value;
 use std::alloc::Global;
 
@@ -46,7 +46,7 @@ fn resource_name_of(alloc: Global, value: &Value) -> Result<Word, Trouble>
     ensures { Reads result (resource_name_at (view value.now)) }
 {
     match name_of(value) {
-        Some(name) if !name.as_bytes().starts_with(b"/") => Ok(word_of(alloc, name)?),
+        Some(name) if !is_path(name.as_bytes()) => Ok(word_of(alloc, name)?),
         _ => Err(Trouble::Shape),
     }
 }

@@ -10,7 +10,7 @@ ghost use Rattle.rbac_manifest.specs.Binding.{role_ref_at};
 use crate::fault::{Cause, Trouble, read_or};
 use crate::fields::{field, name_of, text_field, word_of};
 use crate::kind::RBAC_GROUP;
-use rbac_terms::RoleRef;
+use rbac_terms::{CLUSTER_ROLE, ROLE, RoleRef};
 use serde_json::Value;
 use std::alloc::Global;
 
@@ -36,10 +36,10 @@ fn role_named(
     if !is_rbac_group(group) {
         return Err(Trouble::Shape);
     }
-    if kind == "ClusterRole" {
+    if kind == CLUSTER_ROLE {
         return Ok(RoleRef::ClusterRole(word_of(alloc, name)?));
     }
-    if in_namespace && kind == "Role" {
+    if in_namespace && kind == ROLE {
         return Ok(RoleRef::Role(word_of(alloc, name)?));
     }
     Err(Trouble::Shape)

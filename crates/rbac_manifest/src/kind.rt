@@ -13,6 +13,9 @@ ghost use Rattle.rbac_manifest.specs.declared.fault.Cause.TheVariants.{NoMemory}
 
 use crate::fault::Cause;
 use crate::fields::field;
+use rbac_terms::{
+    CLUSTER_ROLE, CLUSTER_ROLE_BINDING, NAMESPACE, ROLE, ROLE_BINDING, SERVICE_ACCOUNT,
+};
 use serde_json::Value;
 
 // The RBAC group, followed by `$rest`.
@@ -43,22 +46,22 @@ struct Row {
 const KINDS_READ: [Row; 15] = [
     Row {
         version: RBAC_V1,
-        kind: "Role",
+        kind: ROLE,
         means: Kind::Role,
     },
     Row {
         version: RBAC_V1,
-        kind: "ClusterRole",
+        kind: CLUSTER_ROLE,
         means: Kind::ClusterRole,
     },
     Row {
         version: RBAC_V1,
-        kind: "RoleBinding",
+        kind: ROLE_BINDING,
         means: Kind::RoleBinding,
     },
     Row {
         version: RBAC_V1,
-        kind: "ClusterRoleBinding",
+        kind: CLUSTER_ROLE_BINDING,
         means: Kind::ClusterRoleBinding,
     },
     Row {
@@ -88,12 +91,12 @@ const KINDS_READ: [Row; 15] = [
     },
     Row {
         version: "v1",
-        kind: "Namespace",
+        kind: NAMESPACE,
         means: Kind::Namespace,
     },
     Row {
         version: "v1",
-        kind: "ServiceAccount",
+        kind: SERVICE_ACCOUNT,
         means: Kind::ServiceAccount,
     },
     Row {
@@ -161,12 +164,12 @@ impl Implied {
     {
         match self {
             Implied::Nothing => None,
-            Implied::Role => Some("Role"),
-            Implied::ClusterRole => Some("ClusterRole"),
-            Implied::RoleBinding => Some("RoleBinding"),
-            Implied::ClusterRoleBinding => Some("ClusterRoleBinding"),
-            Implied::Namespace => Some("Namespace"),
-            Implied::ServiceAccount => Some("ServiceAccount"),
+            Implied::Role => Some(ROLE),
+            Implied::ClusterRole => Some(CLUSTER_ROLE),
+            Implied::RoleBinding => Some(ROLE_BINDING),
+            Implied::ClusterRoleBinding => Some(CLUSTER_ROLE_BINDING),
+            Implied::Namespace => Some(NAMESPACE),
+            Implied::ServiceAccount => Some(SERVICE_ACCOUNT),
         }
     }
 

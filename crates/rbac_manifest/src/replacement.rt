@@ -10,7 +10,10 @@ ghost use Rattle.rbac_manifest.specs.Replaced.{replaced_by, AreReplaced};
 
 use rbac_lists::Account;
 use rbac_model::Object;
-use rbac_terms::{Binding, Word};
+use rbac_terms::{
+    Binding, CLUSTER_ROLE, CLUSTER_ROLE_BINDING, NAMESPACE, ROLE, ROLE_BINDING, SERVICE_ACCOUNT,
+    Word,
+};
 use std::alloc::{AllocError, Global};
 use std::cmp::Ordering;
 use std::marker::Model;
@@ -44,12 +47,12 @@ impl ObjectKind {
         ensures { result.now ≡ kind_word self }
     {
         match self {
-            ObjectKind::ClusterRole => b"ClusterRole",
-            ObjectKind::ClusterRoleBinding => b"ClusterRoleBinding",
-            ObjectKind::Namespace => b"Namespace",
-            ObjectKind::Role => b"Role",
-            ObjectKind::RoleBinding => b"RoleBinding",
-            ObjectKind::ServiceAccount => b"ServiceAccount",
+            ObjectKind::ClusterRole => CLUSTER_ROLE.as_bytes(),
+            ObjectKind::ClusterRoleBinding => CLUSTER_ROLE_BINDING.as_bytes(),
+            ObjectKind::Namespace => NAMESPACE.as_bytes(),
+            ObjectKind::Role => ROLE.as_bytes(),
+            ObjectKind::RoleBinding => ROLE_BINDING.as_bytes(),
+            ObjectKind::ServiceAccount => SERVICE_ACCOUNT.as_bytes(),
         }
     }
 

@@ -2,8 +2,10 @@ use Rattle.std.proofs.Common.{sym, subst, MatchOption}
 use Rattle.rbac_terms.specs.Text.{Text}
 use Rattle.rbac_lint.specs.declared.listing.Field.{Field}
 use Rattle.rbac_lint.specs.Listing.{IsKey}
+use Rattle.rbac_lint.proofs.Listed.{prefixes_key}
 use Rattle.rbac_lint.proofs.listing.key_of.Goals as goal
 
 pub returns-in-Prefixes : goal.returns-in-Prefixes
 returns-in-Prefixes c =
-    subst (λ (f : Field). MatchOption c.prefix_of.result ((key : Text) → IsKey f c.args.word.now key → ⊥) (λ key. IsKey f c.args.word.now key.now)) (sym c.in-Prefixes.is) c.prefix_of.ensures
+    let found = c.before_stars.result in
+    subst (λ (f : Field). MatchOption found ((key : Text) → IsKey f c.args.word.now key → ⊥) (λ key. IsKey f c.args.word.now key.now)) (sym c.in-Prefixes.is) (prefixes_key c.args.word.now found c.before_stars.ensures)

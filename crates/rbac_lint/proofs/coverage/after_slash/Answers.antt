@@ -1,7 +1,0 @@
-use Rattle.std.proofs.lemmas.Slice.Eq.{strip_prefix_is}
-use Rattle.std.proofs.lemmas.Bool.Decides.{Decides-eqb}
-use Rattle.rbac_lint.proofs.Urls.{after_slash_is}
-use Rattle.rbac_lint.proofs.coverage.after_slash.Goals as goal
-
-pub returns : goal.returns
-returns c = after_slash_is c.args.text.now c.as_slice.result.now c.strip_prefix.result c.as_slice.ensures (strip_prefix_is Decides-eqb c.args.text.now c.as_slice.result.now c.strip_prefix.result c.strip_prefix.ensures.cases)
