@@ -14,7 +14,13 @@ type RuleRow<'a> = [&'a [&'a str]; 5];
 type RoleRow<'a> = (&'a str, &'a [RuleRow<'a>]);
 
 // A binding's namespace and name, its cluster role, its users and its groups.
-type BindingRow<'a> = (Option<&'a str>, &'a str, &'a str, &'a [&'a str], &'a [&'a str]);
+type BindingRow<'a> = (
+    Option<&'a str>,
+    &'a str,
+    &'a str,
+    &'a [&'a str],
+    &'a [&'a str],
+);
 
 // A policy's cluster roles and bindings.
 type Side<'a> = (&'a [RoleRow<'a>], &'a [BindingRow<'a>]);
@@ -154,7 +160,10 @@ const ROWS: &[Row<'static>] = &[
         "names limit a rule, and the name * is a name",
         READERS,
         (
-            &[("r", &[[&["get", "list"], &[""], &["pods"], &["a", "*"], &[]]])],
+            &[(
+                "r",
+                &[[&["get", "list"], &[""], &["pods"], &["a", "*"], &[]]],
+            )],
             &[(None, "b", "r", ALICE, &[])],
         ),
         "-\tu:alice\t*\tget\t-\tpods\t*\tb\n-\tu:alice\t*\tlist\t-\tpods\t*\tb\n",
@@ -180,7 +189,10 @@ const ROWS: &[Row<'static>] = &[
     ),
     (
         "everybody who has signed in may already",
-        (&[("r", &[GET])], &[(None, "b", "r", &[], &["system:authenticated"])]),
+        (
+            &[("r", &[GET])],
+            &[(None, "b", "r", &[], &["system:authenticated"])],
+        ),
         (
             &[("r", &[GET])],
             &[(
@@ -201,7 +213,16 @@ const ROWS: &[Row<'static>] = &[
             &[(None, "b", "r", ALICE, &[])],
         ),
         (
-            &[("r", &[[&["get"], &[""], &["pods/log", "log", "", "/x", "a/b"], &[], &[]]])],
+            &[(
+                "r",
+                &[[
+                    &["get"],
+                    &[""],
+                    &["pods/log", "log", "", "/x", "a/b"],
+                    &[],
+                    &[],
+                ]],
+            )],
             &[(None, "b", "r", ALICE, &[])],
         ),
         "-\tu:alice\t*\tget\t-\t*/log\t*\tb\n+\tu:alice\t*\tget\t-\tlog\t*\tb\n",
@@ -213,15 +234,27 @@ const ROWS: &[Row<'static>] = &[
             &[(None, "b", "r", ALICE, &[])],
         ),
         (
-            &[("r", &[[&["get"], &[], &[], &[], &["/a**", "/b**", "x", ""]]])],
-            &[(None, "b", "r", ALICE, &[]), (Some("dev"), "c", "r", &["bob"], &[])],
+            &[(
+                "r",
+                &[[&["get"], &[], &[], &[], &["/a**", "/b**", "x", ""]]],
+            )],
+            &[
+                (None, "b", "r", ALICE, &[]),
+                (Some("dev"), "c", "r", &["bob"], &[]),
+            ],
         ),
         "+\tu:alice\t-\tget\t-\t/b*\t-\tb\n",
     ),
     (
         "names that no request has",
         (&[], &[]),
-        (&[("r", &[GET])], &[(Some(""), "b", "r", ALICE, &[]), (None, "c", "r", &[""], &[""])]),
+        (
+            &[("r", &[GET])],
+            &[
+                (Some(""), "b", "r", ALICE, &[]),
+                (None, "c", "r", &[""], &[""]),
+            ],
+        ),
         "",
     ),
 ];
