@@ -5,8 +5,6 @@
 #[cfg(test)]
 mod catalogues;
 #[cfg(test)]
-mod changes;
-#[cfg(test)]
 mod covering;
 #[cfg(test)]
 mod effective;
