@@ -32,6 +32,7 @@ use Rattle.rbac_question.specs.declared.command.Question.{Question}
 use Rattle.rbac_cli.specs.HolderLines.{IsHolderLine, AreHolderLines, joined}
 use Rattle.rbac_cli.specs.Meant.{IsMeant}
 use Rattle.rbac_cli.specs.Out.{Answers}
+use Rattle.rbac_cli.specs.declared.exports.Exports.TheVariants.{Single}
 use Rattle.rbac_cli.specs.declared.outcome.Status.TheVariants.{Zero}
 use Rattle.rbac_cli.proofs.OneHolderLines.{one_why_text}
 
@@ -168,7 +169,7 @@ holder_at p namespace verb t xs i x are at = (are.exact x).0 (i, slice_get_withi
 -- the holders of what is asked have lines, which answer it
 pub answered : (l : LoadedView) (why : Bool) (q : Question) (target : What) (namespace : Text) (xs : List HolderView) (listed : CatalogueView) (held asked : PolicyView)
     → listed ≡ l.catalogue → held ≡ l.policy → asked ≡ l.policy → IsMeant listed.entries q target namespace → IsPolicy held → AreHolders held.held namespace q.verb target xs
-    → (lines : List Text) × AreHolders asked.held namespace q.verb target xs × AreHolderLines asked why namespace q.verb target xs lines × Answers l (WhoCan why q) (joined lines) Zero
+    → (lines : List Text) × AreHolders asked.held namespace q.verb target xs × AreHolderLines asked why namespace q.verb target xs lines × Answers (Single l) (WhoCan why q) (joined lines) Zero
 answered l why q target namespace xs listed held asked catalogue policy again meant ok holders =
     let are = subst (λ (p : PolicyView). AreHolders p.held namespace q.verb target xs) policy holders in
     let lines = lines_of l.policy (subst IsPolicy policy ok) namespace q.verb target why xs (λ x. (are.exact x).0) in (

@@ -1,5 +1,6 @@
 pub mod HolderLineLemmas
 pub mod ListingLemmas
+pub mod Loads
 pub mod Named
 pub mod OneAnswer
 pub mod OneHolderLines

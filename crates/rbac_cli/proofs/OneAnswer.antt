@@ -26,12 +26,15 @@ use Rattle.rbac_universe.proofs.OneUniverse.{one_sets}
 use Rattle.rbac_index.proofs.OneHolders.{one_holders}
 use Rattle.rbac_manifest.specs.Load.{LoadedView}
 use Rattle.rbac_lint.proofs.OneLines.{one_findings}
+use Rattle.rbac_diff.proofs.OneChanges.{one_changes}
 use Rattle.rbac_question.specs.declared.command.Action.{Action}
-use Rattle.rbac_question.specs.declared.command.Action.TheVariants.{CanI, WhoCan, Rules, Matrix, Lint}
+use Rattle.rbac_question.specs.declared.command.Action.TheVariants.{CanI, WhoCan, Rules, Matrix, Lint, Diff}
 use Rattle.rbac_question.specs.declared.command.Question.{Question}
 use Rattle.rbac_cli.specs.HolderLines.{AreHolderLines, joined}
-use Rattle.rbac_cli.specs.Out.{Answers, IsAllowed, IsDenied, rules_text, scope_asked, findings_text, findings_status, line_unless}
+use Rattle.rbac_cli.specs.Out.{Answers, IsAllowed, IsDenied, rules_text, scope_asked, findings_text, findings_status, changes_text, changes_status, line_unless}
 use Rattle.rbac_cli.specs.Listings.{AreListed}
+use Rattle.rbac_cli.specs.declared.exports.Exports.{Exports}
+use Rattle.rbac_cli.specs.declared.exports.Exports.TheVariants.{Single, Pair}
 use Rattle.rbac_cli.specs.declared.outcome.Status.{Status}
 use Rattle.rbac_matrix.specs.Every.{IsEvery, IsEveryRow, every_name}
 use Rattle.rbac_matrix.proofs.OneMatrix.{key_name, by_keys}
@@ -213,7 +216,7 @@ one_listed_lines true held lists u v rows others m n x y = one_every_lines held 
 
 -- ---- the holders are one list
 
-one_holders_text : (l : LoadedView) (why : Bool) (q : Question) (text other : List ℕ) (status ending : Status) → Answers l (WhoCan why q) text status → Answers l (WhoCan why q) other ending
+one_holders_text : (l : LoadedView) (why : Bool) (q : Question) (text other : List ℕ) (status ending : Status) → Answers (Single l) (WhoCan why q) text status → Answers (Single l) (WhoCan why q) other ending
     → (text ≡ other) × (status ≡ ending)
 one_holders_text l why q text other status ending (t, n, meant, (xs, lines, a, these, e, s)) (u, m, means, (ys, those, b, them, f, z)) =
     let p = l.policy in
@@ -230,22 +233,31 @@ not_both held entries who q (t, n, meant, allows) (u, m, means, none) =
     let same = one_meant entries q t u n m meant means in
     none (subst (λ x. Allows held who m q.verb x) same.0 (subst (λ x. Allows held who x q.verb t) same.1 allows))
 
-pub one_answer : (l : LoadedView) (action : Action) (text other : List ℕ) (status ending : Status) → Answers l action text status → Answers l action other ending
+pub one_answer : (e : Exports) (action : Action) (text other : List ℕ) (status ending : Status) → Answers e action text status → Answers e action other ending
     → (text ≡ other) × (status ≡ ending)
-one_answer l (CanI who quiet why q) text other status ending (inl (a, (r, is, e), s)) (inl (b, (o, are, f), t)) = (
+one_answer (Single l) (CanI who quiet why q) text other status ending (inl (a, (r, is, e), s)) (inl (b, (o, are, f), t)) = (
   e ∙ ap (λ (reason : List ℕ). line_unless quiet (codes "yes") ++ reason) (one_reason l.policy l.catalogue.entries who q r o quiet why is are) ∙ sym f,
   s ∙ sym t,
 )
-one_answer l (CanI who quiet why q) text other status ending (inl a) (inr b) = absurd (not_both l.policy.held l.catalogue.entries who q a.0 b.0)
-one_answer l (CanI who quiet why q) text other status ending (inr a) (inl b) = absurd (not_both l.policy.held l.catalogue.entries who q b.0 a.0)
-one_answer l (CanI who quiet why q) text other status ending (inr a) (inr b) = (a.1 ∙ sym b.1, a.2 ∙ sym b.2)
-one_answer l (WhoCan why q) text other status ending a b = one_holders_text l why q text other status ending a b
-one_answer l (Rules who scope) text other status ending (xs, are, e, s) (ys, those, f, t) =
+one_answer (Single l) (CanI who quiet why q) text other status ending (inl a) (inr b) = absurd (not_both l.policy.held l.catalogue.entries who q a.0 b.0)
+one_answer (Single l) (CanI who quiet why q) text other status ending (inr a) (inl b) = absurd (not_both l.policy.held l.catalogue.entries who q b.0 a.0)
+one_answer (Single l) (CanI who quiet why q) text other status ending (inr a) (inr b) = (a.1 ∙ sym b.1, a.2 ∙ sym b.2)
+one_answer (Single l) (WhoCan why q) text other status ending a b = one_holders_text l why q text other status ending a b
+one_answer (Single l) (Rules who scope) text other status ending (xs, are, e, s) (ys, those, f, t) =
     (e ∙ ap rules_text (one_rules who (scope_asked scope) l.policy.grants xs ys are those) ∙ sym f, s ∙ sym t)
-one_answer l (Matrix every after limit) text other status ending (u, rows, m, x, e, s) (v, others, n, y, f, t) = (
+one_answer (Single l) (Matrix every after limit) text other status ending (u, rows, m, x, e, s) (v, others, n, y, f, t) = (
   e ∙ one_listing every after limit rows others (one_listed_lines every l.policy.held l.lists u v rows others m.sets n.sets x y) ∙ sym f,
   s ∙ sym t,
 )
-one_answer l Lint text other status ending (found, are, e, s) (others, these, f, t) =
+one_answer (Single l) Lint text other status ending (found, are, e, s) (others, these, f, t) =
     let one = one_findings l.policy.held l.replaced found others are these in
     (e ∙ ap findings_text one ∙ sym f, s ∙ ap findings_status one ∙ sym t)
+one_answer (Single l) (Diff n) text other status ending a b = absurd a
+one_answer (Pair before after) (Diff n) text other status ending (xs, are, e, s) (ys, those, f, t) =
+    let one = one_changes before.policy after.policy xs ys are those in
+    (e ∙ ap changes_text one ∙ sym f, s ∙ ap changes_status one ∙ sym t)
+one_answer (Pair before after) (CanI who quiet why q) text other status ending a b = absurd a
+one_answer (Pair before after) (WhoCan why q) text other status ending a b = absurd a
+one_answer (Pair before after) (Rules who scope) text other status ending a b = absurd a
+one_answer (Pair before after) (Matrix every mark limit) text other status ending a b = absurd a
+one_answer (Pair before after) Lint text other status ending a b = absurd a

@@ -1,5 +1,5 @@
 -- Two runs that nothing stopped end alike.
-use Rattle.std.proofs.Common.{◌≡◌, ◌≢◌, ℕ, List, [], Result, Ok, Err, ap, subst, sym, refl}
+use Rattle.std.proofs.Common.{◌≡◌, ◌≢◌, ◌∙◌, ℕ, List, [], Result, Ok, Err, ap, subst, sym, refl, inl, inr, take, drop}
 use Rattle.rbac_universe.specs.declared.lists.UniverseLists.{UniverseLists}
 use Rattle.rbac_universe.specs.declared.fault.UniverseFault.{UniverseFault}
 use Rattle.rbac_universe.specs.declared.fault.UniverseFault.TheVariants as universe
@@ -8,9 +8,12 @@ use Rattle.rbac_model.specs.Universes.{UniverseView}
 use Rattle.rbac_manifest.specs.declared.fault.LoadFault.{LoadFault}
 use Rattle.rbac_manifest.specs.Load.{LoadedView, IsLoaded, HasFault}
 use Rattle.rbac_question.specs.declared.command.Action.{Action}
-use Rattle.rbac_question.specs.declared.command.Action.TheVariants.{CanI, WhoCan, Rules, Matrix, Lint}
+use Rattle.rbac_question.specs.declared.command.Action.TheVariants.{CanI, WhoCan, Rules, Matrix, Lint, Diff}
 use Rattle.rbac_question.specs.declared.command.Command.{Command}
+use Rattle.rbac_cli.specs.Exports.{AreLoaded, AreRefused, behind}
 use Rattle.rbac_cli.specs.Out.{Answers}
+use Rattle.rbac_cli.specs.declared.exports.Exports.{Exports}
+use Rattle.rbac_cli.specs.declared.exports.Exports.TheVariants.{Single, Pair}
 use Rattle.rbac_cli.specs.Ends.{Ends, LacksUniverse, IsUnstopped}
 use Rattle.rbac_cli.specs.declared.outcome.Status.{Status}
 use Rattle.rbac_cli.specs.declared.outcome.RunFault.{RunFault}
@@ -48,32 +51,88 @@ same_universe_fault lists universe.TooLarge universe.TooLarge a n b m = refl
 same_universe_fault lists universe.NoMemory g a n b m = absurd (n refl)
 same_universe_fault lists f universe.NoMemory a n b m = absurd (m refl)
 
-lacks_for_one : (l : LoadedView) (action : Action) (f g : UniverseFault) → LacksUniverse l action f → LacksUniverse l action g → f ≡ g
-lacks_for_one l (CanI who quiet why q) f g a b = absurd a
-lacks_for_one l (WhoCan why q) f g a b = absurd a
-lacks_for_one l (Rules who scope) f g a b = absurd a
-lacks_for_one l Lint f g a b = absurd a
-lacks_for_one l (Matrix every after limit) f g a b = same_universe_fault l.lists f g a.0 a.1 b.0 b.1
+lacks_for_one : (e : Exports) (action : Action) (f g : UniverseFault) → LacksUniverse e action f → LacksUniverse e action g → f ≡ g
+lacks_for_one (Single l) (CanI who quiet why q) f g a b = absurd a
+lacks_for_one (Single l) (WhoCan why q) f g a b = absurd a
+lacks_for_one (Single l) (Rules who scope) f g a b = absurd a
+lacks_for_one (Single l) Lint f g a b = absurd a
+lacks_for_one (Single l) (Diff n) f g a b = absurd a
+lacks_for_one (Single l) (Matrix every after limit) f g a b = same_universe_fault l.lists f g a.0 a.1 b.0 b.1
+lacks_for_one (Pair before after) action f g a b = absurd a
 
 module _ (loads_one : LoadsOne) (no_fault : HasNoFault) (one_fault : HasOneFault) (no_universe_fault : HasNoUniverseFault) where
   -- what has an answer lacks no universe
-  not_lacking : (l : LoadedView) (action : Action) (text : List ℕ) (status : Status) (f : UniverseFault) → Answers l action text status → LacksUniverse l action f → ⊥
-  not_lacking l (CanI who quiet why q) text status f a b = b
-  not_lacking l (WhoCan why q) text status f a b = b
-  not_lacking l (Rules who scope) text status f a b = b
-  not_lacking l Lint text status f a b = b
-  not_lacking l (Matrix every after limit) text status f (u, rows, is, listed, e, zero) b = no_universe_fault l.lists u f is b.1 b.0
+  not_lacking : (e : Exports) (action : Action) (text : List ℕ) (status : Status) (f : UniverseFault) → Answers e action text status → LacksUniverse e action f → ⊥
+  not_lacking (Single l) (CanI who quiet why q) text status f a b = b
+  not_lacking (Single l) (WhoCan why q) text status f a b = b
+  not_lacking (Single l) (Rules who scope) text status f a b = b
+  not_lacking (Single l) Lint text status f a b = b
+  not_lacking (Single l) (Diff n) text status f a b = b
+  not_lacking (Single l) (Matrix every after limit) text status f (u, rows, is, listed, e, zero) b = no_universe_fault l.lists u f is b.1 b.0
+  not_lacking (Pair before after) action text status f a b = b
+
+  -- inputs give one thing, and have no fault if they do
+  one_single : (inputs : List (List ℕ)) (l m : LoadedView) → IsLoaded inputs l → IsLoaded inputs m → Single l ≡ Single m
+  one_single inputs l m a b = ap Single (loads_one inputs l m a b)
+
+  one_loaded : (action : Action) (inputs : List (List ℕ)) (e d : Exports) → AreLoaded action inputs e → AreLoaded action inputs d → e ≡ d
+  one_loaded (Diff n) inputs (Pair x y) (Pair v w) a b =
+      rw (loads_one (take n inputs) x v a.0 b.0, loads_one (drop n inputs) y w a.1 b.1) refl
+  one_loaded (Diff n) inputs (Single l) d a b = absurd a
+  one_loaded (Diff n) inputs (Pair x y) (Single m) a b = absurd b
+  one_loaded (CanI who quiet why q) inputs (Single l) (Single m) a b = one_single inputs l m a b
+  one_loaded (WhoCan why q) inputs (Single l) (Single m) a b = one_single inputs l m a b
+  one_loaded (Rules who scope) inputs (Single l) (Single m) a b = one_single inputs l m a b
+  one_loaded (Matrix every after limit) inputs (Single l) (Single m) a b = one_single inputs l m a b
+  one_loaded Lint inputs (Single l) (Single m) a b = one_single inputs l m a b
+  one_loaded (CanI who quiet why q) inputs (Pair x y) d a b = absurd a
+  one_loaded (WhoCan why q) inputs (Pair x y) d a b = absurd a
+  one_loaded (Rules who scope) inputs (Pair x y) d a b = absurd a
+  one_loaded (Matrix every after limit) inputs (Pair x y) d a b = absurd a
+  one_loaded Lint inputs (Pair x y) d a b = absurd a
+  one_loaded (CanI who quiet why q) inputs (Single l) (Pair x y) a b = absurd b
+  one_loaded (WhoCan why q) inputs (Single l) (Pair x y) a b = absurd b
+  one_loaded (Rules who scope) inputs (Single l) (Pair x y) a b = absurd b
+  one_loaded (Matrix every after limit) inputs (Single l) (Pair x y) a b = absurd b
+  one_loaded Lint inputs (Single l) (Pair x y) a b = absurd b
+
+  not_refused : (action : Action) (inputs : List (List ℕ)) (e : Exports) (f : LoadFault) → AreLoaded action inputs e → AreRefused action inputs f → ⊥
+  not_refused (Diff n) inputs (Pair x y) f a (inl h) = no_fault (take n inputs) x f a.0 h
+  not_refused (Diff n) inputs (Pair x y) f a (inr h) = no_fault (drop n inputs) y h.1.0 a.1 h.1.1
+  not_refused (Diff n) inputs (Single l) f a h = a
+  not_refused (CanI who quiet why q) inputs (Single l) f a h = no_fault inputs l f a h
+  not_refused (WhoCan why q) inputs (Single l) f a h = no_fault inputs l f a h
+  not_refused (Rules who scope) inputs (Single l) f a h = no_fault inputs l f a h
+  not_refused (Matrix every after limit) inputs (Single l) f a h = no_fault inputs l f a h
+  not_refused Lint inputs (Single l) f a h = no_fault inputs l f a h
+  not_refused (CanI who quiet why q) inputs (Pair x y) f a h = a
+  not_refused (WhoCan why q) inputs (Pair x y) f a h = a
+  not_refused (Rules who scope) inputs (Pair x y) f a h = a
+  not_refused (Matrix every after limit) inputs (Pair x y) f a h = a
+  not_refused Lint inputs (Pair x y) f a h = a
+
+  one_refusal : (action : Action) (inputs : List (List ℕ)) (f g : LoadFault) → AreRefused action inputs f → AreRefused action inputs g → f ≡ g
+  one_refusal (Diff n) inputs f g (inl a) (inl b) = one_fault (take n inputs) f g a b
+  one_refusal (Diff n) inputs f g (inl a) (inr b) = absurd (no_fault (take n inputs) b.0.0 f b.0.1 a)
+  one_refusal (Diff n) inputs f g (inr a) (inl b) = absurd (no_fault (take n inputs) a.0.0 g a.0.1 b)
+  one_refusal (Diff n) inputs f g (inr ((l, is), (own, has, e))) (inr ((m, are), (other, had, d))) =
+      e ∙ ap (behind n) (one_fault (drop n inputs) own other has had) ∙ sym d
+  one_refusal (CanI who quiet why q) inputs f g a b = one_fault inputs f g a b
+  one_refusal (WhoCan why q) inputs f g a b = one_fault inputs f g a b
+  one_refusal (Rules who scope) inputs f g a b = one_fault inputs f g a b
+  one_refusal (Matrix every after limit) inputs f g a b = one_fault inputs f g a b
+  one_refusal Lint inputs f g a b = one_fault inputs f g a b
 
   module _ (command : Command) (inputs : List (List ℕ)) where
     answered : (took others : List ℕ → Type 0) (status : Status) (other : Result Status RunFault) → IsUnstopped other
         → Ends took command inputs (Ok status) → Ends others command inputs other → EndAlike took others (Ok status) other
     answered took others status (Ok ending) s (l, is, (text, a, t)) (m, are, (more, b, u)) =
-        let here = subst (λ (x : LoadedView). Answers x command.action text status) (loads_one inputs l m is are) a in
+        let here = subst (λ (x : Exports). Answers x command.action text status) (one_loaded command.action inputs l m is are) a in
         let same = one_answer m command.action text more status ending here b in
         (ap Ok same.1, (text, t, subst others (sym same.0) u))
-    answered took others status (Err (Load f)) s (l, is, told) (has, t) = absurd (no_fault inputs l f is has)
+    answered took others status (Err (Load f)) s (l, is, told) (has, t) = absurd (not_refused command.action inputs l f is has)
     answered took others status (Err (Universe f)) s (l, is, (text, a, t)) ((m, are, lacks), u) =
-        let here = subst (λ (x : LoadedView). Answers x command.action text status) (loads_one inputs l m is are) a in
+        let here = subst (λ (x : Exports). Answers x command.action text status) (one_loaded command.action inputs l m is are) a in
         absurd (not_lacking m command.action text status f here lacks)
     answered took others status (Err (Memory n)) s a b = absurd s
     answered took others status (Err (Write n)) s a b = absurd s
@@ -81,11 +140,11 @@ module _ (loads_one : LoadsOne) (no_fault : HasNoFault) (one_fault : HasOneFault
     -- both are refused
     refused : (took others : List ℕ → Type 0) (f g : RunFault) → IsUnstopped (Err f) → IsUnstopped (Err g)
         → Ends took command inputs (Err f) → Ends others command inputs (Err g) → EndAlike took others (Err f) (Err g)
-    refused took others (Load f) (Load g) r s a b = (ap (λ x. Err (Load x)) (one_fault inputs f g a.0 b.0), ([], a.1, b.1))
-    refused took others (Load f) (Universe g) r s a b = absurd (no_fault inputs b.0.0 f b.0.1 a.0)
-    refused took others (Universe f) (Load g) r s a b = absurd (no_fault inputs a.0.0 g a.0.1 b.0)
+    refused took others (Load f) (Load g) r s a b = (ap (λ x. Err (Load x)) (one_refusal command.action inputs f g a.0 b.0), ([], a.1, b.1))
+    refused took others (Load f) (Universe g) r s a b = absurd (not_refused command.action inputs b.0.0 f b.0.1 a.0)
+    refused took others (Universe f) (Load g) r s a b = absurd (not_refused command.action inputs a.0.0 g a.0.1 b.0)
     refused took others (Universe f) (Universe g) r s ((l, is, lacks), t) ((m, are, other), u) =
-        let here = subst (λ (x : LoadedView). LacksUniverse x command.action f) (loads_one inputs l m is are) lacks in
+        let here = subst (λ (x : Exports). LacksUniverse x command.action f) (one_loaded command.action inputs l m is are) lacks in
         (ap (λ x. Err (Universe x)) (lacks_for_one m command.action f g here other), ([], t, u))
     refused took others (Memory n) g r s a b = absurd r
     refused took others (Write n) g r s a b = absurd r

@@ -4,7 +4,7 @@ use Rattle.rbac_streams.specs.Streams.{SinkView, PageView}
 use Rattle.rbac_streams.specs.Taken.{Took, Printed, Stopped}
 use Rattle.rbac_streams.specs.declared.page.PrintFault.{PrintFault}
 use Rattle.rbac_streams.specs.declared.page.PrintFault.TheVariants as print
-use Rattle.rbac_manifest.specs.Load.{LoadedView}
+use Rattle.rbac_cli.specs.declared.exports.Exports.{Exports}
 use Rattle.rbac_question.specs.declared.command.Action.{Action}
 use Rattle.rbac_cli.specs.Out.{Answers}
 use Rattle.rbac_cli.specs.Ends.{WritesPrefix}
@@ -20,19 +20,19 @@ failed_by print.SinkFailed failed e = e
 failed_by print.NoMemory failed e = e
 
 module _ {W : Type 0} (contents : W → Option (List ℕ)) where
-  as_prefix : (s t : SinkView W) (p : PageView) (l : LoadedView) (action : Action) (text : List ℕ) (status : Status)
-      → Answers l action text status → Stopped contents s t p text → WritesPrefix (Took contents s t) l action p.written
-  as_prefix s t p l action text status a h = (text, status, a, (h.prefix, (h.rest, h.whole), h.took, h.written))
+  as_prefix : (s t : SinkView W) (p : PageView) (e : Exports) (action : Action) (text : List ℕ) (status : Status)
+      → Answers e action text status → Stopped contents s t p text → WritesPrefix (Took contents s t) e action p.written
+  as_prefix s t p e action text status a h = (text, status, a, (h.prefix, (h.rest, h.whole), h.took, h.written))
 
   -- stopped in a text that is meant, once it was printed
-  pub stopped_at : (s t : SinkView W) (p : PageView) (l : LoadedView) (action : Action) (text : List ℕ) (status : Status) (fault : PrintFault)
-      → Answers l action text status → Stopped contents s t p text → StopsWith (Took contents s t) l action (fault_at p (print_stop fault))
-  stopped_at s t p l action text status print.SinkFailed a h = as_prefix s t p l action text status a h
-  stopped_at s t p l action text status print.NoMemory a h = inr (as_prefix s t p l action text status a h)
+  pub stopped_at : (s t : SinkView W) (p : PageView) (e : Exports) (action : Action) (text : List ℕ) (status : Status) (fault : PrintFault)
+      → Answers e action text status → Stopped contents s t p text → StopsWith (Took contents s t) e action (fault_at p (print_stop fault))
+  stopped_at s t p e action text status print.SinkFailed a h = as_prefix s t p e action text status a h
+  stopped_at s t p e action text status print.NoMemory a h = inr (as_prefix s t p e action text status a h)
 
-  module _ (old new : Output W) (l : LoadedView) (action : Action) where
+  module _ (old new : Output W) (e : Exports) (action : Action) where
     -- a page stopped it while it was printed: there was a universe
-    pub stops_within : (fault : PrintFault) → StopsInAnswer contents old new l action → StopsPrinting contents old new l action (print_stop fault)
+    pub stops_within : (fault : PrintFault) → StopsInAnswer contents old new e action → StopsPrinting contents old new e action (print_stop fault)
     stops_within print.SinkFailed h = h
     stops_within print.NoMemory h = inr h
 
@@ -40,11 +40,11 @@ module _ {W : Type 0} (contents : W → Option (List ℕ)) where
       untaken : IsUntouched old new → Took contents old.sink.now new.sink.now []
       untaken h = subst (λ x. Took contents old.sink.now x []) (sym h.0) took
 
-      within : StopsInAnswer contents old new l action → WritesPrefix (Took contents old.sink.now new.sink.now) l action new.page.now.written
-      within (text, status, a, f) = as_prefix old.sink.now new.sink.now new.page.now l action text status a (f old.sink.now [] printed)
+      within : StopsInAnswer contents old new e action → WritesPrefix (Took contents old.sink.now new.sink.now) e action new.page.now.written
+      within (text, status, a, f) = as_prefix old.sink.now new.sink.now new.page.now e action text status a (f old.sink.now [] printed)
 
       -- a print that began with an empty page stopped
-      pub stopped : (stop : Stop) → StopsPrinting contents old new l action stop → StopsWith (Took contents old.sink.now new.sink.now) l action (fault_at new.page.now stop)
+      pub stopped : (stop : Stop) → StopsPrinting contents old new e action stop → StopsWith (Took contents old.sink.now new.sink.now) e action (fault_at new.page.now stop)
       stopped (NoUniverse fault) h = (h.0, untaken h.1)
       stopped NoMemory (inl u) = inl (untaken u, ap (λ (x : PageView). x.written) u.1 ∙ empty)
       stopped NoMemory (inr h) = inr (within h)

@@ -15,6 +15,7 @@ use Rattle.rbac_question.specs.declared.command.Action.TheVariants.{CanI}
 use Rattle.rbac_question.specs.declared.command.Question.{Question}
 use Rattle.rbac_cli.specs.Meant.{IsNamespaceMeant, IsMeant}
 use Rattle.rbac_cli.specs.Out.{Answers, IsWhyText, line}
+use Rattle.rbac_cli.specs.declared.exports.Exports.TheVariants.{Single}
 use Rattle.rbac_cli.specs.Verdicts.{verdict_text, verdict_status, found_text}
 
 pub one_namespace : (entries : List Entry) (target : What) (given n m : Text) → IsNamespaceMeant entries target given n → IsNamespaceMeant entries target given m → n ≡ m
@@ -34,7 +35,7 @@ module _ (l : LoadedView) (who : Who) (q : Question) (target : What) (namespace 
   pub verdict : (quiet why : Bool) (found : Option Why)
       → MatchOption found (¬ Allows l.policy.held who namespace q.verb target) (IsWhyShown l.policy who namespace q.verb target)
       → IfSome found (λ f. IsFirst l.policy.held who namespace q.verb target f.binding.now)
-      → Answers l (CanI who quiet why q) (verdict_text quiet why found) (verdict_status found)
+      → Answers (Single l) (CanI who quiet why q) (verdict_text quiet why found) (verdict_status found)
   verdict true why None none first = inr ((target, namespace, meant, none), refl, refl)
   verdict false why None none first = inr ((target, namespace, meant, none), refl, refl)
   verdict true why (Some found) shown first = inl ((target, namespace, meant, allows_first l.policy.held who namespace q.verb target found.binding.now first), ([], refl, refl), refl)

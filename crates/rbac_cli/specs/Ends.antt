@@ -6,22 +6,25 @@ use Rattle.rbac_terms.specs.Text.{BeginsWith}
 use Rattle.rbac_universe.specs.Sets.{HasUniverseFault}
 use Rattle.rbac_universe.specs.declared.fault.UniverseFault.{UniverseFault}
 use Rattle.rbac_universe.specs.declared.fault.UniverseFault.TheVariants as universe
-use Rattle.rbac_manifest.specs.Load.{LoadedView, IsLoaded, HasFault}
+use Rattle.rbac_manifest.specs.declared.fault.LoadFault.{LoadFault}
 use Rattle.rbac_question.specs.declared.command.Action.{Action}
 use Rattle.rbac_question.specs.declared.command.Action.TheVariants.{Matrix}
 use Rattle.rbac_question.specs.declared.command.Command.{Command}
+use Rattle.rbac_cli.specs.Exports.{AreLoaded, AreRefused}
 use Rattle.rbac_cli.specs.Out.{Answers}
+use Rattle.rbac_cli.specs.declared.exports.Exports.{Exports}
+use Rattle.rbac_cli.specs.declared.exports.Exports.TheVariants.{Single}
 use Rattle.rbac_cli.specs.declared.outcome.Status.{Status}
 use Rattle.rbac_cli.specs.declared.outcome.RunFault.{RunFault}
 use Rattle.rbac_cli.specs.declared.outcome.RunFault.TheVariants.{Load, Universe, Memory, Write}
 
 -- the writer took a text that the action means over what was loaded
-abbrev pub Writes : (List ℕ → Type 0) → LoadedView → Action → Status → Type 0
-Writes took l action status = (text : List ℕ) × Answers l action text status × took text
+abbrev pub Writes : (List ℕ → Type 0) → Exports → Action → Status → Type 0
+Writes took e action status = (text : List ℕ) × Answers e action text status × took text
 
 -- the writer took a prefix of a text that the action means, and n is how many bytes that is
-abbrev pub WritesPrefix : (List ℕ → Type 0) → LoadedView → Action → ℕ → Type 0
-WritesPrefix took l action n = (text : List ℕ) × (status : Status) × Answers l action text status
+abbrev pub WritesPrefix : (List ℕ → Type 0) → Exports → Action → ℕ → Type 0
+WritesPrefix took e action n = (text : List ℕ) × (status : Status) × Answers e action text status
     × ((prefix : List ℕ) × BeginsWith text prefix × took prefix × (n ≡ counted 0 (length prefix)))
 
 -- the writer took nothing, and n is 0
@@ -30,35 +33,34 @@ WritesNothing took n = took [] × (n ≡ 0)
 
 -- the action is `matrix`, and the lists make no universe because of this fault; out of memory is a
 -- fault of its own
-abbrev pub LacksUniverse : LoadedView → Action → UniverseFault → Type 0
-LacksUniverse l (Matrix every after limit) fault = HasUniverseFault l.lists fault
+abbrev pub LacksUniverse : Exports → Action → UniverseFault → Type 0
+LacksUniverse (Single l) (Matrix every after limit) fault = HasUniverseFault l.lists fault
     × (fault ≢ universe.NoMemory)
-LacksUniverse l action fault = ⊥
+LacksUniverse e action fault = ⊥
 
 -- the inputs are loaded, and what the command means over them is written
 abbrev pub Succeeds : (List ℕ → Type 0) → Command → List (List ℕ) → Status → Type 0
-Succeeds took command inputs status = (l : LoadedView) × IsLoaded inputs l
-    × Writes took l command.action status
+Succeeds took command inputs status = (e : Exports) × AreLoaded command.action inputs e
+    × Writes took e command.action status
 
 -- the inputs are loaded, and writing stopped within what the command means
 abbrev pub StopsShort : (List ℕ → Type 0) → Command → List (List ℕ) → ℕ → Type 0
-StopsShort took command inputs n = (l : LoadedView) × IsLoaded inputs l
-    × WritesPrefix took l command.action n
+StopsShort took command inputs n = (e : Exports) × AreLoaded command.action inputs e
+    × WritesPrefix took e command.action n
 
--- the inputs are refused for the fault that they have, or the run is out of memory before anything
--- is written
-abbrev pub FailsToLoad : List (List ℕ) → RunFault → Type 0
-FailsToLoad inputs (Load fault) = HasFault inputs fault
-FailsToLoad inputs (Universe fault) = ⊥
-FailsToLoad inputs (Memory n) = n ≡ 0
-FailsToLoad inputs (Write n) = ⊥
+-- inputs are refused for a fault, or the run is out of memory before anything is written
+abbrev pub FailsToLoad : (LoadFault → Type 0) → RunFault → Type 0
+FailsToLoad refused (Load fault) = refused fault
+FailsToLoad refused (Universe fault) = ⊥
+FailsToLoad refused (Memory n) = n ≡ 0
+FailsToLoad refused (Write n) = ⊥
 
 -- the inputs are refused for the fault that they have, or they are loaded but make no universe for
 -- a matrix, and in both cases nothing is written; or the run is out of memory; or a write failed
 abbrev pub Faults : (List ℕ → Type 0) → Command → List (List ℕ) → RunFault → Type 0
-Faults took command inputs (Load fault) = HasFault inputs fault × took []
-Faults took command inputs (Universe fault) = ((l : LoadedView) × IsLoaded inputs l
-    × LacksUniverse l command.action fault) × took []
+Faults took command inputs (Load fault) = AreRefused command.action inputs fault × took []
+Faults took command inputs (Universe fault) = ((e : Exports) × AreLoaded command.action inputs e
+    × LacksUniverse e command.action fault) × took []
 Faults took command inputs (Memory n) = WritesNothing took n ⊎ StopsShort took command inputs n
 Faults took command inputs (Write n) = StopsShort took command inputs n
 

@@ -1,4 +1,5 @@
 pub mod Ends
+pub mod Exports
 pub mod HolderLines
 pub mod Left
 pub mod Listings

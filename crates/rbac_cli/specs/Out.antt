@@ -12,18 +12,21 @@ use Rattle.rbac_universe.specs.Sets.{IsUniverseOf}
 use Rattle.rbac_text.specs.Rule.{grant_text}
 use Rattle.rbac_text.specs.Why.{why_text}
 use Rattle.rbac_text.specs.Finding.{finding_text}
-use Rattle.rbac_manifest.specs.Load.{LoadedView}
 use Rattle.rbac_lint.specs.declared.finding.Finding.{Finding}
 use Rattle.rbac_lint.specs.Findings.{AreFindings}
+use Rattle.rbac_diff.specs.Changes.{ChangeView, AreChanges}
+use Rattle.rbac_diff.specs.Lines.{change_text}
 use Rattle.rbac_question.specs.declared.command.Action.{Action}
 use Rattle.rbac_question.specs.declared.command.Action.TheVariants.{CanI, WhoCan, Rules, Matrix}
-use Rattle.rbac_question.specs.declared.command.Action.TheVariants.{Lint}
+use Rattle.rbac_question.specs.declared.command.Action.TheVariants.{Lint, Diff}
 use Rattle.rbac_question.specs.declared.command.Scope.{Scope}
 use Rattle.rbac_question.specs.declared.command.Scope.TheVariants as question
 use Rattle.rbac_question.specs.declared.command.Question.{Question}
 use Rattle.rbac_rules.specs.Effective.{ScopeView, Everywhere, InNamespace, ClusterWide}
 use Rattle.rbac_rules.specs.Effective.{RuleView, AreEffective}
 use Rattle.rbac_cli.specs.HolderLines.{AreHolderLines, joined}
+use Rattle.rbac_cli.specs.declared.exports.Exports.{Exports}
+use Rattle.rbac_cli.specs.declared.exports.Exports.TheVariants.{Single, Pair}
 use Rattle.rbac_cli.specs.Listings.{AreListed, listing_text}
 use Rattle.rbac_cli.specs.Meant.{IsMeant}
 use Rattle.rbac_cli.specs.declared.outcome.Status.{Status}
@@ -90,31 +93,45 @@ abbrev pub findings_status : List Finding → Status
 findings_status [] = Zero
 findings_status (f ∷ found) = One
 
+-- a line for each change, in order
+abbrev pub changes_text : List ChangeView → Text
+changes_text xs = flat_map change_text xs
+
+-- 1 if anything changes (diff(1))
+abbrev pub changes_status : List ChangeView → Status
+changes_status [] = Zero
+changes_status (x ∷ xs) = One
+
 -- the text and the status that an action means over what was loaded: `can-i` answers `yes` and 0,
 -- or `no` and 1 (kubectl auth can-i); `who-can` answers a line for each holder, and 0; `rules` a line
 -- for each rule that somebody has, and 0 (own); `matrix` a page of the rows that are listed over a
--- universe of the lists, and 0 (own); `lint` a line for each finding, and 1 if there is one (own)
-abbrev pub Answers : LoadedView → Action → List ℕ → Status → Type 0
-Answers l (CanI who quiet why q) text status =
+-- universe of the lists, and 0 (own); `lint` a line for each finding, and 1 if there is one (own);
+-- `diff` a line for each change from the first export to the second, and 1 if there is one (own)
+abbrev pub Answers : Exports → Action → List ℕ → Status → Type 0
+Answers (Single l) (CanI who quiet why q) text status =
     (IsAllowed l.policy.held l.catalogue.entries who q
     × ((reason : Text) × IsReason l.policy l.catalogue.entries who quiet why q reason
     × (text ≡ line_unless quiet (codes "yes") ++ reason))
     × (status ≡ Zero))
     ⊎ (IsDenied l.policy.held l.catalogue.entries who q × (text ≡ line_unless quiet (codes "no"))
     × (status ≡ One))
-Answers l (WhoCan why q) text status =
+Answers (Single l) (WhoCan why q) text status =
     (target : What) × (namespace : Text) × IsMeant l.catalogue.entries q target namespace
     × ((xs : List HolderView) × (lines : List Text)
     × AreHolders l.policy.held namespace q.verb target xs
     × AreHolderLines l.policy why namespace q.verb target xs lines
     × (text ≡ joined lines) × (status ≡ Zero))
-Answers l (Rules who scope) text status =
+Answers (Single l) (Rules who scope) text status =
     (xs : List RuleView) × AreEffective l.policy who (scope_asked scope) xs
     × (text ≡ rules_text xs) × (status ≡ Zero)
-Answers l (Matrix every after limit) text status =
+Answers (Single l) (Matrix every after limit) text status =
     (u : UniverseView) × (rows : List RowView) × IsUniverseOf l.lists u
     × AreListed every l.policy.held u rows
     × (text ≡ listing_text every after limit rows) × (status ≡ Zero)
-Answers l Lint text status =
+Answers (Single l) Lint text status =
     (found : List Finding) × AreFindings l.policy.held l.replaced found
     × (text ≡ findings_text found) × (status ≡ findings_status found)
+Answers (Pair before after) (Diff n) text status =
+    (xs : List ChangeView) × AreChanges before.policy after.policy xs
+    × (text ≡ changes_text xs) × (status ≡ changes_status xs)
+Answers e action text status = ⊥

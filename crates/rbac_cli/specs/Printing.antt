@@ -8,10 +8,10 @@ use Rattle.rbac_streams.specs.declared.page.PrintFault.{PrintFault}
 use Rattle.rbac_streams.specs.declared.page.PrintFault.TheVariants as print
 use Rattle.rbac_universe.specs.declared.fault.UniverseFault.{UniverseFault}
 use Rattle.rbac_universe.specs.declared.fault.UniverseFault.TheVariants as universe
-use Rattle.rbac_manifest.specs.Load.{LoadedView}
 use Rattle.rbac_question.specs.declared.command.Action.{Action}
 use Rattle.rbac_cli.specs.Out.{Answers}
 use Rattle.rbac_cli.specs.Ends.{WritesPrefix, WritesNothing, LacksUniverse}
+use Rattle.rbac_cli.specs.declared.exports.Exports.{Exports}
 use Rattle.rbac_cli.specs.declared.outcome.Status.{Status}
 use Rattle.rbac_cli.specs.declared.outcome.RunFault.{RunFault}
 use Rattle.rbac_cli.specs.declared.outcome.RunFault.TheVariants.{Load, Universe, Memory, Write}
@@ -44,16 +44,16 @@ StopsInText contents old new text =
     StopsIn contents old.sink.now old.page.now new.sink.now new.page.now text
 
 -- a text was printed that the action means over what was loaded
-abbrev pub PrintsAnswer : {W : Type 0} → (W → Option (List ℕ)) → Output W → Output W → LoadedView
+abbrev pub PrintsAnswer : {W : Type 0} → (W → Option (List ℕ)) → Output W → Output W → Exports
     → Action → Status → Type 0
-PrintsAnswer contents old new l action status =
-    (text : Text) × Answers l action text status × PrintsText contents old new text
+PrintsAnswer contents old new e action status =
+    (text : Text) × Answers e action text status × PrintsText contents old new text
 
 -- printing stopped within a text that the action means
-abbrev pub StopsInAnswer : {W : Type 0} → (W → Option (List ℕ)) → Output W → Output W → LoadedView
+abbrev pub StopsInAnswer : {W : Type 0} → (W → Option (List ℕ)) → Output W → Output W → Exports
     → Action → Type 0
-StopsInAnswer contents old new l action =
-    (text : Text) × (status : Status) × Answers l action text status
+StopsInAnswer contents old new e action =
+    (text : Text) × (status : Status) × Answers e action text status
     × StopsInText contents old new text
 
 -- nothing was printed
@@ -61,13 +61,13 @@ abbrev pub IsUntouched : {W : Type 0} → Output W → Output W → Type 0
 IsUntouched old new = (new.sink.now ≡ old.sink.now) × (new.page.now ≡ old.page.now)
 
 -- how printing an answer stops: before any of it, with no universe or out of memory; or within it
-abbrev pub StopsPrinting : {W : Type 0} → (W → Option (List ℕ)) → Output W → Output W → LoadedView
+abbrev pub StopsPrinting : {W : Type 0} → (W → Option (List ℕ)) → Output W → Output W → Exports
     → Action → Stop → Type 0
-StopsPrinting contents old new l action (NoUniverse fault) =
-    LacksUniverse l action fault × IsUntouched old new
-StopsPrinting contents old new l action NoMemory =
-    IsUntouched old new ⊎ StopsInAnswer contents old new l action
-StopsPrinting contents old new l action SinkFailed = StopsInAnswer contents old new l action
+StopsPrinting contents old new e action (NoUniverse fault) =
+    LacksUniverse e action fault × IsUntouched old new
+StopsPrinting contents old new e action NoMemory =
+    IsUntouched old new ⊎ StopsInAnswer contents old new e action
+StopsPrinting contents old new e action SinkFailed = StopsInAnswer contents old new e action
 
 -- the sink failed
 abbrev pub is_sink_fault : {T : Type 0} → Result T PrintFault → Bool
@@ -84,9 +84,9 @@ is_sink_stop (Err SinkFailed) = true
 
 -- how printing an answer ends; the sink failed exactly if it was the sink that stopped the answer
 pub record EndsPrinting {W : Type 0} (contents : W → Option (List ℕ)) (old new : Output W)
-    (l : LoadedView) (action : Action) (ended : Result Status Stop) : Type 0 where
-  pub ends : MatchResult ended (PrintsAnswer contents old new l action)
-      (StopsPrinting contents old new l action)
+    (e : Exports) (action : Action) (ended : Result Status Stop) : Type 0 where
+  pub ends : MatchResult ended (PrintsAnswer contents old new e action)
+      (StopsPrinting contents old new e action)
   pub failed : new.sink.now.has_failed ≡ is_sink_stop ended
   pub same : BorrowsTheSame old new
 
@@ -108,8 +108,8 @@ universe_stop universe.TooLarge = NoUniverse universe.TooLarge
 universe_stop universe.NoMemory = NoMemory
 
 -- how writing the answer stops, over what was loaded
-abbrev pub StopsWith : (List ℕ → Type 0) → LoadedView → Action → RunFault → Type 0
-StopsWith took l action (Load fault) = ⊥
-StopsWith took l action (Universe fault) = LacksUniverse l action fault × took []
-StopsWith took l action (Memory n) = WritesNothing took n ⊎ WritesPrefix took l action n
-StopsWith took l action (Write n) = WritesPrefix took l action n
+abbrev pub StopsWith : (List ℕ → Type 0) → Exports → Action → RunFault → Type 0
+StopsWith took e action (Load fault) = ⊥
+StopsWith took e action (Universe fault) = LacksUniverse e action fault × took []
+StopsWith took e action (Memory n) = WritesNothing took n ⊎ WritesPrefix took e action n
+StopsWith took e action (Write n) = WritesPrefix took e action n

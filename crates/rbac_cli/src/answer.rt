@@ -1,9 +1,12 @@
 //! The answer of each action.
 
 ghost use Rattle.std.specs.Prelude.{◌≡◌, false};
+ghost use Rattle.rbac_cli.specs.Exports.{IsOver};
 ghost use Rattle.rbac_cli.specs.Printing.{EndsPrinting};
 
 use crate::can_i::verdict_of;
+use crate::diff::print_changes;
+use crate::exports::Exports;
 use crate::lint::print_findings;
 use crate::matrix::print_matrix;
 use crate::outcome::Status;
@@ -11,7 +14,6 @@ use crate::output::Output;
 use crate::rules::print_rules;
 use crate::stop::Stop;
 use crate::who_can::print_holders;
-use rbac_manifest::Export;
 use rbac_question::Action;
 use std::alloc::Global;
 use std::io::Write;
@@ -19,13 +21,18 @@ use std::io::Write;
 /// Prints the answer of an action over what was loaded.
 pub(crate) fn print_answer<W: Write + Drop>(
     alloc: Global,
-    export: &Export,
+    exports: &Exports,
     action: &Action,
     output: &mut Output<'_, W>,
 ) -> Result<Status, Stop>
-    requires { output.old.sink.now.has_failed ≡ false }
-    ensures { EndsPrinting W.contents output.old output.new export.now action.now result }
+    requires over { IsOver action.now exports.now }
+    requires works { output.old.sink.now.has_failed ≡ false }
+    ensures { EndsPrinting W.contents output.old output.new exports.now action.now result }
 {
+    let export = match exports {
+        Exports::Single(export) => export,
+        Exports::Pair(before, after) => return print_changes(alloc, before, after, output),
+    };
     match action {
         Action::CanI {
             principal,
@@ -47,5 +54,6 @@ pub(crate) fn print_answer<W: Write + Drop>(
             limit,
         } => print_matrix(alloc, export, *every, after.as_ref(), *limit, output),
         Action::Lint => print_findings(alloc, export, output),
+        Action::Diff { .. } => unreachable!(),
     }
 }

@@ -4,6 +4,7 @@ ghost use Rattle.std.specs.Prelude.{◌≡◌, IfOk};
 ghost use Rattle.rbac_question.specs.declared.command.Action.TheVariants.{CanI};
 ghost use Rattle.rbac_cli.specs.Out.{Answers};
 ghost use Rattle.rbac_cli.specs.Verdicts.{verdict_text, verdict_status};
+ghost use Rattle.rbac_cli.specs.declared.exports.Exports.TheVariants.{Single};
 
 use crate::meaning::meant_by;
 use crate::outcome::Status;
@@ -32,7 +33,7 @@ pub(crate) fn verdict_of(
     question: &Question,
 ) -> Result<Verdict, AllocError>
     ensures { IfOk result
-        (λ verdict. Answers export.now
+        (λ verdict. Answers (Single export.now)
         (CanI principal.now quiet why question.now) verdict.text.items verdict.status) }
 {
     let meant = meant_by(alloc, export.catalogue(), question)?;

@@ -2,13 +2,13 @@
 //! nothing; their contracts are the laws.
 
 ghost use Rattle.std.specs.Prelude.{◌≡◌, List, ℕ, Result};
-ghost use Rattle.rbac_manifest.specs.Load.{LoadedView};
 ghost use Rattle.rbac_streams.specs.Streams.{SinkView};
 ghost use Rattle.rbac_streams.specs.Taken.{Took};
 ghost use Rattle.rbac_question.specs.declared.command.Action.{Action};
 ghost use Rattle.rbac_cli.specs.Out.{Answers};
 ghost use Rattle.rbac_question.specs.declared.command.Command.{Command};
 ghost use Rattle.rbac_cli.specs.Ends.{Ends, IsUnstopped};
+ghost use Rattle.rbac_cli.specs.declared.exports.Exports.{Exports};
 ghost use Rattle.rbac_cli.specs.declared.outcome.Status.{Status};
 ghost use Rattle.rbac_cli.specs.declared.outcome.RunFault.{RunFault};
 
@@ -19,9 +19,9 @@ use std::io::Write;
 /// Over what was loaded, an action means at most one text and one status, so everyone who runs a
 /// command over the same inputs reads the same answer (own).
 pub fn answers_are_one()
-    ensures { (l : LoadedView) (action : Action) (text other : List ℕ) (status ending : Status)
-        → Answers l action text status
-        → Answers l action other ending → (text ≡ other) × (status ≡ ending) }
+    ensures { (e : Exports) (action : Action) (text other : List ℕ) (status ending : Status)
+        → Answers e action text status
+        → Answers e action other ending → (text ≡ other) × (status ≡ ending) }
 {}
 
 /// Two runs of one command over the same inputs end alike, and their writers take the same text, if

@@ -5,6 +5,8 @@
 
 mod answer;
 mod can_i;
+mod diff;
+mod exports;
 mod laws;
 mod lines;
 mod lint;

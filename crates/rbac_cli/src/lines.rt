@@ -2,10 +2,10 @@
 
 ghost use Rattle.std.specs.Prelude.{◌≡◌, ℕ, [], false, IfOk};
 ghost use Rattle.rbac_terms.specs.Text.{Text};
-ghost use Rattle.rbac_manifest.specs.Load.{LoadedView};
 ghost use Rattle.rbac_question.specs.declared.command.Action.{Action};
 ghost use Rattle.rbac_cli.specs.Out.{Answers};
 ghost use Rattle.rbac_cli.specs.Printing.{EndsPrinting, GivesLine};
+ghost use Rattle.rbac_cli.specs.declared.exports.Exports.{Exports};
 
 use crate::outcome::Status;
 use crate::output::Output;
@@ -41,9 +41,9 @@ pub(crate) fn print_lines<L: Lines, W: Write + Drop>(
 ) -> Result<Status, Stop>
     requires going { L.is_open lines.old }
     requires works { output.old.sink.now.has_failed ≡ false }
-    ensures { (l : LoadedView) (action : Action) (text : Text)
-        → L.are_left lines.old text → Answers l action text status
-        → EndsPrinting W.contents output.old output.new l action result }
+    ensures { (e : Exports) (action : Action) (text : Text)
+        → L.are_left lines.old text → Answers e action text status
+        → EndsPrinting W.contents output.old output.new e action result }
 {
     let mut line = Vec::new(alloc);
     while lines.put_next(&mut line)? {

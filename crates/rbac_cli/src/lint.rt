@@ -4,6 +4,7 @@ ghost use Rattle.std.specs.Prelude.{◌≡◌, false};
 ghost use Rattle.rbac_question.specs.declared.command.Action.TheVariants.{Lint};
 ghost use Rattle.rbac_cli.specs.Out.{findings_text, findings_status};
 ghost use Rattle.rbac_cli.specs.Printing.{EndsPrinting};
+ghost use Rattle.rbac_cli.specs.declared.exports.Exports.TheVariants.{Single};
 
 use crate::lines::{Lines, print_lines};
 use crate::outcome::Status;
@@ -23,7 +24,7 @@ pub(crate) fn print_findings<W: Write + Drop>(
     output: &mut Output<'_, W>,
 ) -> Result<Status, Stop>
     requires { output.old.sink.now.has_failed ≡ false }
-    ensures { EndsPrinting W.contents output.old output.new export.now Lint result }
+    ensures { EndsPrinting W.contents output.old output.new (Single export.now) Lint result }
 {
     let findings = lint_export(alloc, export)?;
     let findings = findings.as_slice();

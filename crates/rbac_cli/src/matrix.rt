@@ -7,6 +7,7 @@ ghost use Rattle.rbac_index.specs.Reaches.{AreReaches};
 ghost use Rattle.rbac_manifest.specs.Load.{LoadedView};
 ghost use Rattle.rbac_question.specs.declared.command.Action.TheVariants.{Matrix as ListsMatrix};
 ghost use Rattle.rbac_cli.specs.Printing.{EndsPrinting};
+ghost use Rattle.rbac_cli.specs.declared.exports.Exports.TheVariants.{Single};
 
 use crate::lines::print_lines;
 use crate::listing::Listing;
@@ -35,7 +36,7 @@ pub(crate) fn print_matrix<W: Write + Drop>(
     output: &mut Output<'_, W>,
 ) -> Result<Status, Stop>
     requires { output.old.sink.now.has_failed ≡ false }
-    ensures { EndsPrinting W.contents output.old output.new export.now
+    ensures { EndsPrinting W.contents output.old output.new (Single export.now)
         (ListsMatrix every (option_copied after.entry) limit) result }
 {
     let basis = basis_of(alloc, export)?;
@@ -55,7 +56,7 @@ fn print_rows<W: Write + Drop>(
     requires reaches { AreReaches basis.now.index basis.now.universe basis.now.reaches.items }
     ensures { (l : LoadedView) → IsUniverseOf l.lists basis.now.universe
         → basis.now.index ≡ l.policy
-        → EndsPrinting W.contents output.old output.new l
+        → EndsPrinting W.contents output.old output.new (Single l)
         (ListsMatrix every (option_copied after.entry) limit) result }
 {
     let Ok(mut seats) = seats_for(alloc, &basis.index) else {

@@ -8,9 +8,9 @@ use std::fmt;
 /// The exit status of a run that gave its answer.
 #[derive(Clone, Copy, Debug, PartialEq, Eq)]
 pub enum Status {
-    /// 0: `yes`, all holders, a page of the matrix, or no findings.
+    /// 0: `yes`, all holders or rules, a page of the matrix, no findings, or no changes.
     Zero,
-    /// 1: `no`, or findings.
+    /// 1: `no`, findings, or changes.
     One,
 }
 

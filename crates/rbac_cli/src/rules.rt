@@ -5,6 +5,7 @@ ghost use Rattle.rbac_question.specs.declared.command.Action.TheVariants.{Rules 
 ghost use Rattle.rbac_rules.specs.Left.{scope_of};
 ghost use Rattle.rbac_cli.specs.Out.{scope_asked};
 ghost use Rattle.rbac_cli.specs.Printing.{EndsPrinting};
+ghost use Rattle.rbac_cli.specs.declared.exports.Exports.TheVariants.{Single};
 
 use crate::lines::{Lines, print_lines};
 use crate::outcome::Status;
@@ -27,7 +28,7 @@ pub(crate) fn print_rules<W: Write + Drop>(
     output: &mut Output<'_, W>,
 ) -> Result<Status, Stop>
     requires { output.old.sink.now.has_failed ≡ false }
-    ensures { EndsPrinting W.contents output.old output.new export.now
+    ensures { EndsPrinting W.contents output.old output.new (Single export.now)
         (ListsRules principal.now scope.now) result }
 {
     effective_rules_are_there();

@@ -1,16 +1,16 @@
 //! A run: load the inputs, answer the command, write the answer.
 
-ghost use Rattle.std.specs.Prelude.{◌≡◌, ◌≢◌, ◌++◌, [], false, MatchResult, IfOk, IfErr};
+ghost use Rattle.std.specs.Prelude.{◌≡◌, ◌++◌, [], false, MatchResult};
 ghost use Rattle.rbac_streams.specs.Taken.{Took, Printed};
-ghost use Rattle.rbac_manifest.specs.Load.{IsLoaded};
-ghost use Rattle.rbac_cli.specs.Ends.{Ends, FailsToLoad, Writes, is_write_fault};
+ghost use Rattle.rbac_cli.specs.Ends.{Ends, Writes, is_write_fault};
+ghost use Rattle.rbac_cli.specs.Exports.{IsOver};
 ghost use Rattle.rbac_cli.specs.Printing.{BorrowsTheSame, StopsWith};
 
 use crate::answer::print_answer;
+use crate::exports::{Exports, exports_from};
 use crate::outcome::{RunFault, Status};
 use crate::output::Output;
 use crate::stop::Stop;
-use rbac_manifest::{Cause, Export, LoadFault, load_export};
 use rbac_question::{Action, Command};
 use rbac_streams::{Input, Page, Sink};
 use std::alloc::Global;
@@ -24,9 +24,12 @@ use std::io::Write;
 /// line for each pair of a request and a binding that grants it, if the pair's row comes after the
 /// token's mark.
 ///
+/// For a `diff` the first inputs tell what was before a change, and the others what is after it.
+///
 /// Refuses inputs that [`load`] refuses and, for a matrix, those whose lists make no universe;
 /// nothing is written then. If it runs out of memory or a write fails, what was written is a prefix
 /// of the answer, and the fault says how long that prefix is.
+#[tactic(auto, using(crate::proofs::Loads::ended))]
 pub fn run<W: Write + Drop>(
     alloc: Global,
     command: &Command,
@@ -38,12 +41,12 @@ pub fn run<W: Write + Drop>(
     ensures failed { sink.new.has_failed ≡ is_write_fault result }
 {
     let mut page = Page::start(alloc, sink);
-    let export = export_from(alloc, inputs)?;
+    let exports = exports_from(alloc, &command.action, inputs)?;
     let mut output = Output {
         sink,
         page: &mut page,
     };
-    write_answer(alloc, &export, &command.action, &mut output)
+    write_answer(alloc, &exports, &command.action, &mut output)
 }
 
 /// Like [`run`], but with a writer that shows its bytes: a vector. This contract follows from the
@@ -66,44 +69,26 @@ pub fn run_into(
     run(alloc, command, inputs, sink)
 }
 
-// Loads the inputs of a run.
-fn export_from(alloc: Global, inputs: &[Input]) -> Result<Export, RunFault>
-    ensures ok { IfOk result (IsLoaded inputs.now) }
-    ensures fault { IfErr result (FailsToLoad inputs.now) }
-{
-    load_export(alloc, inputs).map_err(unloaded)
-}
-
-// Why a run stops if its inputs fail to load. Out of memory is a fault of its own.
-fn unloaded(fault: LoadFault) -> RunFault
-    ensures refused { fault.cause ≢ Cause.NoMemory → result ≡ RunFault.Load fault }
-    ensures memory { fault.cause ≡ Cause.NoMemory → result ≡ RunFault.Memory 0 }
-{
-    match fault.cause {
-        Cause::NoMemory => RunFault::Memory { written: 0 },
-        _ => RunFault::Load(fault),
-    }
-}
-
 // Writes the answer of an action over what was loaded, starting with an empty page.
 fn write_answer<W: Write + Drop>(
     alloc: Global,
-    export: &Export,
+    exports: &Exports,
     action: &Action,
     output: &mut Output<'_, W>,
 ) -> Result<Status, RunFault>
+    requires over { IsOver action.now exports.now }
     requires works { output.old.sink.now.has_failed ≡ false }
     requires printed { Printed W.contents output.old.sink.now output.old.sink.now
         output.old.page.now [] }
     requires took { Took W.contents output.old.sink.now output.old.sink.now [] }
     requires empty { output.old.page.now.written ≡ 0 }
     ensures ends { MatchResult result
-        (Writes (Took W.contents output.old.sink.now output.new.sink.now) export.now action.now)
-        (StopsWith (Took W.contents output.old.sink.now output.new.sink.now) export.now action.now) }
+        (Writes (Took W.contents output.old.sink.now output.new.sink.now) exports.now action.now)
+        (StopsWith (Took W.contents output.old.sink.now output.new.sink.now) exports.now action.now) }
     ensures failed { output.new.sink.now.has_failed ≡ is_write_fault result }
     ensures same { BorrowsTheSame output.old output.new }
 {
-    let status = match print_answer(alloc, export, action, output) {
+    let status = match print_answer(alloc, exports, action, output) {
         Ok(status) => status,
         Err(stop) => return Err(stop.fault(output.page)),
     };

@@ -8,6 +8,7 @@ ghost use Rattle.rbac_index.specs.HolderViews.{holder_shown};
 ghost use Rattle.rbac_question.specs.declared.command.Action.TheVariants.{WhoCan};
 ghost use Rattle.rbac_cli.specs.HolderLines.{AreHolderLines, IsHolderLine, joined};
 ghost use Rattle.rbac_cli.specs.Printing.{EndsPrinting};
+ghost use Rattle.rbac_cli.specs.declared.exports.Exports.TheVariants.{Single};
 
 use crate::lines::{Lines, print_lines};
 use crate::meaning::{Meant, meant_by};
@@ -33,7 +34,7 @@ pub(crate) fn print_holders<W: Write + Drop>(
     output: &mut Output<'_, W>,
 ) -> Result<Status, Stop>
     requires { output.old.sink.now.has_failed ≡ false }
-    ensures { EndsPrinting W.contents output.old output.new export.now
+    ensures { EndsPrinting W.contents output.old output.new (Single export.now)
         (WhoCan why question.now) result }
 {
     let meant = meant_by(alloc, export.catalogue(), question)?;

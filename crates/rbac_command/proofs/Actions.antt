@@ -6,29 +6,32 @@ use Rattle.std.proofs.lemmas.Slice.Eq.{bytes_eq-Decides}
 use Rattle.clap.specs.Words.{Row, Text, first_of}
 use Rattle.rbac_question.specs.Lines.{CanIParts, WhoCanParts, RulesParts, MatrixParts, MeansCanI, MeansWhoCan, MeansRules, MeansMatrix, AcceptsCanI, AcceptsQuestion, RefusesCanI, RefusesQuestion, RefusesRules, RefusesMatrix, HasBadToken, IsAfter}
 use Rattle.rbac_question.specs.declared.command.Action.{Action}
-use Rattle.rbac_question.specs.declared.command.Action.TheVariants.{CanI, WhoCan, Rules, Matrix, Lint}
+use Rattle.rbac_question.specs.declared.command.Action.TheVariants.{CanI, WhoCan, Rules, Matrix, Lint, Diff}
 use Rattle.rbac_question.specs.declared.fault.QuestionFault.{QuestionFault}
 use Rattle.rbac_question.specs.declared.fault.QuestionFault.TheVariants.{EmptyWord, UrlSubresource, BadToken, BadPrincipal, NoMemory}
 use Rattle.rbac_command.specs.Meaning.{question_in, parts_in, who_can_in, rules_in, has_flag, is_known, DoesAction, IsNumberAt, RefusesAction}
 
-first_of_five : (a b c d e : Bool) → a || (b || (c || (d || e))) ≡ true → b ≡ false → c ≡ false → d ≡ false → e ≡ false → a ≡ true
-first_of_five true b c d e h i j k l = refl
-first_of_five false true c d e h i j k l = cc
-first_of_five false false true d e h i j k l = cc
-first_of_five false false false true e h i j k l = cc
-first_of_five false false false false e h i j k l = cc
+first_of_six : (a b c d e f : Bool) → a || (b || (c || (d || (e || f)))) ≡ true
+    → b ≡ false → c ≡ false → d ≡ false → e ≡ false → f ≡ false → a ≡ true
+first_of_six true b c d e f h i j k l m = refl
+first_of_six false true c d e f h i j k l m = cc
+first_of_six false false true d e f h i j k l m = cc
+first_of_six false false false true e f h i j k l m = cc
+first_of_six false false false false true f h i j k l m = cc
+first_of_six false false false false false f h i j k l m = cc
 
 -- a known name that is none of the others is `can-i`
-pub the_other : (name : Text) (is_matrix is_who_can is_rules is_lint : Bool) → is_known name ≡ true
+pub the_other : (name : Text) (is_matrix is_who_can is_rules is_lint is_diff : Bool) → is_known name ≡ true
     → is_matrix ≡ bytes_eq name (codes "matrix") → is_matrix ≡ false
     → is_who_can ≡ bytes_eq name (codes "who-can") → is_who_can ≡ false
     → is_rules ≡ bytes_eq name (codes "rules") → is_rules ≡ false
     → is_lint ≡ bytes_eq name (codes "lint") → is_lint ≡ false
+    → is_diff ≡ bytes_eq name (codes "diff") → is_diff ≡ false
     → name ≡ codes "can-i"
-the_other name is_matrix is_who_can is_rules is_lint known m no_matrix w no_who_can r no_rules l no_lint =
+the_other name is_matrix is_who_can is_rules is_lint is_diff known m no_matrix w no_who_can r no_rules l no_lint d no_diff =
     (bytes_eq-Decides name (codes "can-i")).0
-    (first_of_five (bytes_eq name (codes "can-i")) (bytes_eq name (codes "who-can")) (bytes_eq name (codes "rules")) (bytes_eq name (codes "matrix"))
-    (bytes_eq name (codes "lint")) known (sym w ∙ no_who_can) (sym r ∙ no_rules) (sym m ∙ no_matrix) (sym l ∙ no_lint))
+    (first_of_six (bytes_eq name (codes "can-i")) (bytes_eq name (codes "who-can")) (bytes_eq name (codes "rules")) (bytes_eq name (codes "matrix"))
+    (bytes_eq name (codes "lint")) (bytes_eq name (codes "diff")) known (sym w ∙ no_who_can) (sym r ∙ no_rules) (sym m ∙ no_matrix) (sym l ∙ no_lint) (sym d ∙ no_diff))
 
 as_can_i : (name : Text) (rows : List Row) (r : Result Action QuestionFault) → name ≡ codes "can-i"
     → MatchResult r (λ a. AcceptsCanI (parts_in rows) × MeansCanI (parts_in rows) a) (RefusesCanI (parts_in rows))
@@ -38,6 +41,7 @@ as_can_i name rows (Ok (WhoCan why question)) e h = absurd h.1
 as_can_i name rows (Ok (Rules principal scope)) e h = absurd h.1
 as_can_i name rows (Ok (Matrix every after limit)) e h = absurd h.1
 as_can_i name rows (Ok Lint) e h = absurd h.1
+as_can_i name rows (Ok (Diff before)) e h = absurd h.1
 as_can_i name rows (Err EmptyWord) e h = inl (e, h)
 as_can_i name rows (Err UrlSubresource) e h = inl (e, h)
 as_can_i name rows (Err BadToken) e h = absurd h
@@ -58,6 +62,7 @@ as_who_can name rows (Ok (WhoCan why question)) e h = (e, h.0, h.1)
 as_who_can name rows (Ok (Rules principal scope)) e h = absurd h.1
 as_who_can name rows (Ok (Matrix every after limit)) e h = absurd h.1
 as_who_can name rows (Ok Lint) e h = absurd h.1
+as_who_can name rows (Ok (Diff before)) e h = absurd h.1
 as_who_can name rows (Err EmptyWord) e h = inr (e, h)
 as_who_can name rows (Err UrlSubresource) e h = inr (e, h)
 as_who_can name rows (Err BadToken) e h = absurd h
@@ -78,6 +83,7 @@ as_rules name rows (Ok (WhoCan why question)) e h = absurd h
 as_rules name rows (Ok (Rules principal scope)) e h = (e, h)
 as_rules name rows (Ok (Matrix every after limit)) e h = absurd h
 as_rules name rows (Ok Lint) e h = absurd h
+as_rules name rows (Ok (Diff before)) e h = absurd h
 as_rules name rows (Err EmptyWord) e h = absurd h
 as_rules name rows (Err UrlSubresource) e h = absurd h
 as_rules name rows (Err BadToken) e h = absurd h
@@ -100,6 +106,7 @@ matrix_line name rows l (Ok (Rules principal scope)) e v f n h = absurd h
 matrix_line name rows l (Ok (Matrix every after limit)) e v f n h =
     (e, h.0 ∙ v, subst (λ (t : _). IsAfter t after) f h.1, subst (λ (m : _). IsNumberAt (codes "limit") rows m) (sym h.2) n)
 matrix_line name rows l (Ok Lint) e v f n h = absurd h
+matrix_line name rows l (Ok (Diff before)) e v f n h = absurd h
 matrix_line name rows l (Err EmptyWord) e v f n h = absurd h
 matrix_line name rows l (Err UrlSubresource) e v f n h = absurd h
 matrix_line name rows l (Err BadToken) e v f n h = (e, subst HasBadToken f h)

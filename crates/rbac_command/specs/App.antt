@@ -1,5 +1,6 @@
 -- The command line of `rbacaudit`, as `clap` sees it.
 use Rattle.std.specs.Prelude.{Some, codes, pos, true}
+use Rattle.clap.specs.Lexer.{usize_max}
 use Rattle.clap.specs.Words.{App, Rule, new_app, new_rule, with_rule, with_subcommand}
 use Rattle.clap.specs.declared.builder.ArgAction.TheVariants.{SetTrue, Append}
 use Rattle.clap.specs.declared.builder.value_parser.ValueParser.TheVariants.{Signed}
@@ -84,6 +85,22 @@ limit_rule = record (new_rule (codes "limit")) {
 abbrev pub files_rule : Rule
 files_rule = record (new_rule (codes "files")) { value_names = 1; action = Some Append }
 
+-- one file or more
+abbrev pub some_files : Rule → Rule
+some_files r = record r {
+  action = Some Append;
+  range = Some (record { start_inclusive = 1; end_inclusive = usize_max });
+  value_names = 1;
+  required = true;
+}
+
+-- `--before FILE..` and `--after FILE..`, which must be given
+abbrev pub before_files_rule : Rule
+before_files_rule = some_files (record (new_rule (codes "before")) { long = Some (codes "before") })
+
+abbrev pub after_files_rule : Rule
+after_files_rule = some_files (record (new_rule (codes "after")) { long = Some (codes "after") })
+
 -- the options that say who asks
 abbrev pub with_asker : App → App
 with_asker a = with_rule (with_rule a user_rule) groups_rule
@@ -124,6 +141,10 @@ matrix_app =
 abbrev pub lint_app : App
 lint_app = with_rule (new_app (codes "lint")) files_rule
 
+-- diff --before FILE.. --after FILE..
+abbrev pub diff_app : App
+diff_app = with_rule (with_rule (new_app (codes "diff")) before_files_rule) after_files_rule
+
 -- the program: it has a version, a subcommand is required, and there is no subcommand `help`
 abbrev pub as_program : App → App
 as_program a = record a {
@@ -143,5 +164,5 @@ unfoldable pub rbac_app : App
 rbac_app =
     with_subcommand (with_subcommand
     (with_subcommand (with_subcommand
-    (with_subcommand bare_app can_i_app.top) who_can_app.top) rules_app.top) matrix_app.top)
-    lint_app.top
+    (with_subcommand (with_subcommand bare_app can_i_app.top) who_can_app.top) rules_app.top)
+    matrix_app.top) lint_app.top) diff_app.top

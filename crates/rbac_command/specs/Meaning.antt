@@ -1,6 +1,7 @@
 -- What the words of a command line mean, according to `clap`'s matches.
-use Rattle.std.specs.Prelude.{◌≡◌, ◌||◌, ◌⊎◌, ◌<◌, ◌^◌, ℕ, Bool, List, [], Option}
+use Rattle.std.specs.Prelude.{◌≡◌, ◌||◌, ◌⊎◌, ◌<◌, ◌^◌, ◌++◌, ℕ, Bool, List, [], length, Option}
 use Rattle.std.specs.Prelude.{Some, None, Result, map, codes, unwrap_or, MatchResult, string_bytes}
+use Rattle.std.specs.Prelude.{if◌then◌else◌}
 use Rattle.std.specs.Str.{bytes_eq}
 use Rattle.std.specs.Str.Parse.{IsNumeral, without_leading_plus, digits_value}
 use Rattle.clap.specs.Words.{Row, Text, all_of, fault_of, first_of, kind_of, one_of, subcommand_of}
@@ -11,7 +12,7 @@ use Rattle.rbac_question.specs.Lines.{RefusesCanI, RefusesQuestion, HasBadToken,
 use Rattle.rbac_question.specs.Lines.{IsAfter}
 use Rattle.rbac_question.specs.declared.command.Action.{Action}
 use Rattle.rbac_question.specs.declared.command.Action.TheVariants.{CanI, WhoCan, Rules, Matrix}
-use Rattle.rbac_question.specs.declared.command.Action.TheVariants.{Lint}
+use Rattle.rbac_question.specs.declared.command.Action.TheVariants.{Lint, Diff}
 use Rattle.rbac_question.specs.declared.command.Command.{Command}
 use Rattle.rbac_question.specs.declared.fault.QuestionFault.{QuestionFault}
 use Rattle.rbac_question.specs.declared.fault.QuestionFault.TheVariants as question
@@ -31,9 +32,16 @@ text_at id rows = unwrap_or (first_of id rows) []
 abbrev pub has_flag : Text → List Row → Bool
 has_flag id rows = bytes_eq (text_at id rows) (codes "true")
 
--- the files, in order
-abbrev pub files_in : List Row → List Text
-files_in rows = unwrap_or (all_of (codes "files") rows) []
+-- all values of an id, in order
+abbrev pub texts_at : Text → List Row → List Text
+texts_at id rows = unwrap_or (all_of id rows) []
+
+-- the files of the subcommand of that name, in order: of `diff` those before the change, and then
+-- those after it
+abbrev pub files_in : Text → List Row → List Text
+files_in name rows = if bytes_eq name (codes "diff")
+    then texts_at (codes "before") rows ++ texts_at (codes "after") rows
+    else texts_at (codes "files") rows
 
 -- the parts that ask a question
 abbrev pub question_in : List Row → QuestionParts
@@ -91,7 +99,8 @@ abbrev pub is_known : Text → Bool
 is_known name = bytes_eq name (codes "can-i")
     || (bytes_eq name (codes "who-can")
     || (bytes_eq name (codes "rules")
-    || (bytes_eq name (codes "matrix") || bytes_eq name (codes "lint"))))
+    || (bytes_eq name (codes "matrix")
+    || (bytes_eq name (codes "lint") || bytes_eq name (codes "diff")))))
 
 -- what the subcommand of that name does, according to its matches
 abbrev pub DoesAction : Text → List Row → Action → Type 0
@@ -107,11 +116,13 @@ DoesAction name rows (Matrix every after limit) =
     (name ≡ codes "matrix") × (every ≡ has_flag (codes "every") rows)
     × IsAfter (first_of (codes "after") rows) after × IsNumberAt (codes "limit") rows limit
 DoesAction name rows Lint = name ≡ codes "lint"
+DoesAction name rows (Diff before) =
+    (name ≡ codes "diff") × (before ≡ length (texts_at (codes "before") rows))
 
 -- the command is what the matches of the subcommand of that name mean
 pub record MeansRows (name : Text) (rows : List Row) (c : Command) : Type 0 where
   pub action : DoesAction name rows c.action
-  pub files : map string_bytes c.files.items ≡ files_in rows
+  pub files : map string_bytes c.files.items ≡ files_in name rows
 
 -- the command is what the subcommand that was found means
 abbrev pub Means : Option (Text × List Row) → Command → Type 0
@@ -121,7 +132,7 @@ Means (Some p) c = MeansRows p.0 p.1 c
 -- ---- refusals
 
 -- the refusal of a subcommand's matches: out of memory may come at any time; besides it, `matrix`
--- has only U4 and `rules` only U5, no other has these, and `lint` has none
+-- has only U4 and `rules` only U5, no other has these, and `lint` and `diff` have none
 abbrev pub RefusesAction : Text → List Row → QuestionFault → Type 0
 RefusesAction name rows question.NoMemory = Unit {0}
 RefusesAction name rows question.BadToken = (name ≡ codes "matrix")

@@ -8,7 +8,7 @@ ghost use Rattle.rbac_command.specs.App.{groups_rule, namespace_rule, all_rule, 
 ghost use Rattle.rbac_command.specs.App.{quiet_rule, why_rule, verb_rule, target_rule, files_rule};
 ghost use Rattle.rbac_command.specs.App.{with_scope, with_question, can_i_app, who_can_app};
 ghost use Rattle.rbac_command.specs.App.{rules_app, matrix_app, lint_app, bare_app, rbac_app};
-ghost use Rattle.rbac_command.specs.App.{who_rule};
+ghost use Rattle.rbac_command.specs.App.{who_rule, before_files_rule, after_files_rule, diff_app};
 
 use clap::{Arg, ArgAction, Command, value_parser};
 use std::alloc::{AllocError, Global};
@@ -104,6 +104,23 @@ const LINT_MORE: &str = "A line has five fields, joined by tabs; - is an empty f
 
 Example:
   rbacaudit lint cluster.json namespaced.json";
+
+const DIFF_MORE: &str = "A line has eight fields, joined by tabs; - is an empty field:
+  CHANGE     + for what only --after allows, - for what only --before does
+  WHO        u:USER, with any groups, or g:GROUP, for everybody in it
+  NAMESPACE  * is every namespace, and requests without one
+  VERB       * is any verb
+  APIGROUP   * is any API group
+  RESOURCE   * is any, */S any with the subresource S; or a URL, any that begins so if it ends in *
+  NAME       * is any object name, and none
+  BINDING    the first binding that has it, on the side that has it
+
+It compares all requests that any user can make, in any namespace. So no + line means that nobody
+may do anything new. Files are numbered in errors from the first of --before to the last of --after.
+The exit status is 0 without a line and 1 with one; 2 is an error.
+
+Example:
+  rbacaudit diff --before monday/*.json --after friday/*.json";
 
 // The help texts of options that several commands have.
 const NAMESPACE: &str = "Namespace to check (default: default)";
@@ -265,6 +282,32 @@ fn files_arg<'a>(alloc: Global) -> Arg<'a>
         .help("JSON of kubectl get -o json or --raw, or a Universe (default: standard input)")
 }
 
+fn before_files_arg<'a>(alloc: Global) -> Arg<'a>
+    ensures rule { rule_of result ≡ before_files_rule }
+    ensures local { result.global ≡ false }
+{
+    Arg::new(alloc, "before")
+        .long("before")
+        .value_name("FILE")
+        .required(true)
+        .num_args(1..)
+        .action(ArgAction::Append)
+        .help("JSON of kubectl get -o json or --raw as it was before the change, one file or more")
+}
+
+fn after_files_arg<'a>(alloc: Global) -> Arg<'a>
+    ensures rule { rule_of result ≡ after_files_rule }
+    ensures local { result.global ≡ false }
+{
+    Arg::new(alloc, "after")
+        .long("after")
+        .value_name("FILE")
+        .required(true)
+        .num_args(1..)
+        .action(ArgAction::Append)
+        .help("JSON of kubectl get -o json or --raw as it is after the change, one file or more")
+}
+
 // A command, if there was the memory to build it.
 type Built<'a> = Result<Command<'a>, AllocError>;
 
@@ -387,6 +430,20 @@ fn lint<'a>(alloc: Global) -> Built<'a>
     with(Ok(command), files_arg(alloc))
 }
 
+fn diff<'a>(alloc: Global) -> Built<'a>
+    ensures app { IfOk result (λ r. app_of r ≡ diff_app) }
+    ensures local { IfOk result (λ r. (fields_of r).has_globals ≡ false) }
+{
+    let command = named(
+        alloc,
+        "diff",
+        "List what a change lets users do and takes from them: status 1 where anything, else 0",
+        DIFF_MORE,
+    );
+    let command = with(Ok(command), before_files_arg(alloc));
+    with(command, after_files_arg(alloc))
+}
+
 // Adds a subcommand with no global argument, if it could be built.
 fn with_sub<'a>(command: Command<'a>, sub: Built<'a>) -> Built<'a>
     requires sub { IfOk sub (λ s. (fields_of s).has_globals ≡ false) }
@@ -428,5 +485,6 @@ pub(crate) fn program<'a>(alloc: Global) -> Result<Command<'a>, AllocError>
     let command = with_sub(command, who_can(alloc))?;
     let command = with_sub(command, rules(alloc))?;
     let command = with_sub(command, matrix(alloc))?;
-    with_sub(command, lint(alloc))
+    let command = with_sub(command, lint(alloc))?;
+    with_sub(command, diff(alloc))
 }

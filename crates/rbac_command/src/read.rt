@@ -1,6 +1,7 @@
 //! From words to a command.
 
-ghost use Rattle.std.specs.Prelude.{◌≡◌, [], Some, None, IfOk, IfErr, MatchResult, map};
+ghost use Rattle.std.specs.Prelude.{◌≡◌, ◌++◌, [], Some, None, IfOk, OnOk, IfErr, MatchResult};
+ghost use Rattle.std.specs.Prelude.{map, length};
 ghost use Rattle.std.specs.Prelude.{string_bytes, codes, true, false, option_map};
 ghost use Rattle.std.specs.Option.{option_map_or};
 ghost use Rattle.clap.specs.Words.{found_of, all_of, rows_of, first_of, subcommand_rows_of};
@@ -9,6 +10,7 @@ ghost use Rattle.rbac_command.specs.App.{rbac_app};
 ghost use Rattle.rbac_command.specs.Meaning.{text_at, has_flag, IsNumberAt, files_in, question_in};
 ghost use Rattle.rbac_command.specs.Meaning.{parts_in, is_known, DoesAction, RefusesAction, Means};
 ghost use Rattle.rbac_command.specs.Meaning.{IsCauseOf, IsRefusal, IsAnswer, who_can_in, rules_in};
+ghost use Rattle.rbac_command.specs.Meaning.{texts_at};
 
 use crate::build::program;
 use crate::fault::UsageFault;
@@ -118,18 +120,49 @@ fn matrix_line_of<'a>(matches: &ArgMatches<'a>) -> MatrixLine<'a>
     }
 }
 
-fn files_of(alloc: Global, matches: &ArgMatches<'_>) -> Result<Vec<String>, AllocError>
+// How many values `id` has.
+fn count_of(matches: &ArgMatches<'_>, id: &str) -> usize
+    ensures { result ≡ length (texts_at id.now (rows_of (found_of matches.now))) }
+{
+    match values_of(matches, id) {
+        Some(texts) => texts.len(),
+        None => 0,
+    }
+}
+
+// The files of the subcommand of that name: of `diff` those before the change, and then those
+// after it.
+fn files_of(alloc: Global, name: &str, matches: &ArgMatches<'_>) -> Result<Vec<String>, AllocError>
     ensures { IfOk result
-        (λ v. map string_bytes v.items ≡ files_in (rows_of (found_of matches.now))) }
+        (λ v. map string_bytes v.items ≡ files_in name.now (rows_of (found_of matches.now))) }
 {
     let mut files = Vec::new(alloc);
-    let Some(texts) = values_of(matches, "files") else {
-        return Ok(files);
+    if name == "diff" {
+        add_texts(alloc, matches, "before", &mut files)?;
+        add_texts(alloc, matches, "after", &mut files)?;
+    } else {
+        add_texts(alloc, matches, "files", &mut files)?;
+    }
+    Ok(files)
+}
+
+// Adds all values of `id`, in order.
+fn add_texts(
+    alloc: Global,
+    matches: &ArgMatches<'_>,
+    id: &str,
+    files: &mut Vec<String>,
+) -> Result<(), AllocError>
+    ensures { OnOk result (map string_bytes files.new.items
+        ≡ map string_bytes files.old.items ++ texts_at id.now (rows_of (found_of matches.now))) }
+{
+    let Some(texts) = values_of(matches, id) else {
+        return Ok(());
     };
     for text in texts {
         files.push(String::from_str(alloc, text)?)?;
     }
-    Ok(files)
+    Ok(())
 }
 
 // What `clap` makes of the words.
@@ -165,6 +198,11 @@ fn action_of(alloc: Global, name: &str, matches: &ArgMatches<'_>) -> Result<Acti
     if name == "lint" {
         return Ok(Action::Lint);
     }
+    if name == "diff" {
+        return Ok(Action::Diff {
+            before: count_of(matches, "before"),
+        });
+    }
     Action::can_i(alloc, &line_of(matches))
 }
 
@@ -183,7 +221,7 @@ fn meaning_of(alloc: Global, matches: &ArgMatches<'_>) -> Result<Command, UsageF
 {
     match subcommand_of(matches) {
         Some((name, inner)) => {
-            let files = files_of(alloc, inner)?;
+            let files = files_of(alloc, name, inner)?;
             let action = action_of(alloc, name, inner)?;
             Ok(Command { action, files })
         }

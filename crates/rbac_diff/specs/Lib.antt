@@ -1,6 +1,7 @@
 pub mod Changes
 pub mod Covering
 pub mod Finding
+pub mod Lines
 pub mod Listed
 pub mod Permissions
 pub mod Requests

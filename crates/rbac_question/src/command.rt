@@ -67,6 +67,12 @@ pub enum Action {
     },
     /// Lists what is wrong with the roles.
     Lint,
+    /// Lists what a change lets users do, and what it takes from them.
+    Diff {
+        /// How many of the files tell what was before the change: the first ones. The others tell
+        /// what is after it.
+        before: usize,
+    },
 }
 
 /// A command line that was accepted.

@@ -1,10 +1,11 @@
 use Rattle.std.proofs.Common.{ap, refl, sym, ◌∙◌}
 use Rattle.rbac_question.specs.declared.command.Action.TheVariants.{Lint}
 use Rattle.rbac_cli.specs.Out.{findings_text, findings_status}
+use Rattle.rbac_cli.specs.declared.exports.Exports.TheVariants.{Single}
 use Rattle.rbac_cli.proofs.lint.print_findings.Goals as goal
 
 pub returns : goal.returns
 returns g c =
     let found = c.in_ok-findings.findings in
-    c.print_lines.ensures c.args.export.now Lint (findings_text found) (sym (ap findings_text (c.iter.ensures.rest ∙ c.as_slice-findings.ensures)))
+    c.print_lines.ensures (Single c.args.export.now) Lint (findings_text found) (sym (ap findings_text (c.iter.ensures.rest ∙ c.as_slice-findings.ensures)))
     (found, c.in_ok-findings.ensures.ok, refl, c.status_of.ensures ∙ ap findings_status c.as_slice-findings.ensures)

@@ -6,6 +6,7 @@ use Rattle.rbac_model.specs.Universes.{UniverseView}
 use Rattle.rbac_question.specs.declared.command.Action.TheVariants.{Matrix}
 use Rattle.rbac_cli.specs.Listings.{AreListed, cut_at, listing_text, rows_past}
 use Rattle.rbac_cli.specs.PageLeft.{text_after}
+use Rattle.rbac_cli.specs.declared.exports.Exports.TheVariants.{Single}
 use Rattle.rbac_cli.proofs.matrix.print_rows.Goals as goal
 
 pub returns : goal.returns
@@ -18,6 +19,6 @@ returns g c = λ l universe policy.
     let rows = rows_past every m left.0 in
     let listed = subst (λ (p : PolicyView). AreListed every p.held basis.universe left.0) (matrix.ensures.index ∙ policy)
     (subst (λ (u : UniverseView). AreListed every matrix.result.index.now.held u left.0) matrix.ensures.universe left.1) in
-    c.print_lines.ensures l (Matrix every m c.args.limit) (listing_text every m c.args.limit left.0)
+    c.print_lines.ensures (Single l) (Matrix every m c.args.limit) (listing_text every m c.args.limit left.0)
     (None, rows, refl, left.2, ap (λ (e : Bool). text_after e None (cut_at c.args.limit rows)) (sym c.after-listing.ensures.every))
     (basis.universe, left.0, universe, listed, refl, refl)

@@ -2,7 +2,7 @@ use Rattle.std.proofs.Common.{ap, ◌≡◌, ◌∙◌, Result, Ok, Err, IfOk, I
 use Rattle.std.proofs.lemmas.Result.{IfOk-weaker}
 use Rattle.clap.specs.Words.{App, app_of, with_subcommand}
 use Rattle.clap.specs.declared.builder.command.Command.{Command}
-use Rattle.rbac_command.specs.App.{bare_app, can_i_app, who_can_app, rules_app, matrix_app, lint_app, rbac_app}
+use Rattle.rbac_command.specs.App.{bare_app, can_i_app, who_can_app, rules_app, matrix_app, lint_app, diff_app, rbac_app}
 use Rattle.rbac_command.proofs.build.program.Goals as goal
 
 -- a subcommand was added to `before`, to which `start` is equal, and so to `start`
@@ -18,4 +18,5 @@ returns c =
     let second = added c.who_can.result _ _ _ who_can_app first c.who_can.ensures.app c.in_ok-command-3.ensures.app in
     let third = added c.rules.result _ _ _ rules_app second c.rules.ensures.app c.in_ok-command-4.ensures.app in
     let fourth = added c.matrix.result _ _ _ matrix_app third c.matrix.ensures.app c.in_ok-command-5.ensures.app in
-    IfOk-weaker c.with_sub-5.result _ _ (λ m h. added c.lint.result _ _ _ lint_app fourth c.lint.ensures.app h) c.with_sub-5.ensures.app
+    let fifth = added c.lint.result _ _ _ lint_app fourth c.lint.ensures.app c.in_ok-command-6.ensures.app in
+    IfOk-weaker c.with_sub-6.result _ _ (λ m h. added c.diff.result _ _ _ diff_app fifth c.diff.ensures.app h) c.with_sub-6.ensures.app

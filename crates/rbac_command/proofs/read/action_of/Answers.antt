@@ -24,6 +24,6 @@ returns-then-eq-3 c =
 pub returns : goal.returns
 returns c =
     can_i_line c.args.name.now (rows_of (found_of c.args.matches.now)) _ c.can_i.result
-    (the_other c.args.name.now c.eq.result c.eq-2.result c.eq-3.result c.eq-4.result c.requires c.eq.ensures c.if-eq.false c.eq-2.ensures c.if-eq-2.false
-    c.eq-3.ensures c.if-eq-3.false c.eq-4.ensures c.if-eq-4.false)
+    (the_other c.args.name.now c.eq.result c.eq-2.result c.eq-3.result c.eq-4.result c.eq-5.result c.requires c.eq.ensures c.if-eq.false c.eq-2.ensures c.if-eq-2.false
+    c.eq-3.ensures c.if-eq-3.false c.eq-4.ensures c.if-eq-4.false c.eq-5.ensures c.if-eq-5.false)
     c.line_of.ensures c.can_i.ensures.answer

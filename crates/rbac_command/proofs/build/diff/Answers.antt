@@ -1,0 +1,8 @@
+use Rattle.std.proofs.Common.{Ok}
+use Rattle.rbac_command.proofs.Steps.{rule_from}
+use Rattle.rbac_command.proofs.build.diff.Goals as goal
+
+pub returns-clause-app : goal.returns-clause-app
+returns-clause-app c =
+    let before = rule_from (Ok c.named-command.result) c.with-command.result _ _ _ c.named-command.ensures.app c.before_files_arg.ensures.rule c.with-command.ensures.app in
+    rule_from c.with-command.result c.with.result _ _ _ before c.after_files_arg.ensures.rule c.with.ensures.app
