@@ -8,7 +8,7 @@ use crate::policies::{RuleRow, TO_ALICE, policy};
 use crate::universes::{Listed, principals, universe, universe_of};
 use crate::words::{built, is, word, words};
 use rbac_index::{Index, Meter, Reach, reaches_of};
-use rbac_matrix::{Matrix, Rows, Seat};
+use rbac_matrix::{Matrix, Row, Rows, Seat};
 use rbac_terms::Words;
 use rbac_universe::{ListedResource, ListedResources, Universe, UniverseLists};
 use std::alloc::Global;
@@ -115,6 +115,73 @@ fn each_place_of_the_reaches_is_read_once(rt: HostRuntime) {
     let alloc = rt.alloc();
     let universe = universe(&rt, alloc, NODES_AND_PODS);
     assert!(rt; matrix_gives(&rt, alloc, TWO_RULES, universe, 3, TWO_ROWS));
+}
+
+// Whether there is a row, and it is of this resource.
+fn shows(row: Option<Row<'_>>, resource: &str) -> bool {
+    match row {
+        Some(row) => is(row.resource, resource),
+        None => false,
+    }
+}
+
+// Whether one matrix, asked four times, begins with these rows: all of them, those after the first
+// row's key, those of every granting binding, and all again.
+fn begins_again<'m>(
+    rt: &impl Abort,
+    index: &'m Index<'m>,
+    universe: &'m Universe,
+    reaches: &'m [Reach],
+    seats: &mut [Seat],
+    resources: &[&str; 2],
+) -> bool
+    requires reaches { AreReaches index.now universe.now reaches.now }
+    requires seats { length seats.old ≡ length index.now.grants }
+{
+    let mut matrix = Matrix::build(index, universe, reaches, seats);
+    let mut rows = matrix.rows_after(None);
+    let Some(first) = rows.next() else {
+        return false;
+    };
+    let key = built(rt, first.key());
+    let mut matrix = rows.into_matrix();
+    let mut rows = matrix.rows_after(Some(&key));
+    let second = rows.next();
+    let mut matrix = rows.into_matrix();
+    let mut rows = matrix.every_after(None);
+    let of_every = rows.next();
+    let mut matrix = rows.into_matrix();
+    let again = matrix.rows_after(None).next();
+    let [one, other] = resources;
+    is(first.resource, one) && shows(second, other) && shows(of_every, one) && shows(again, one)
+}
+
+fn index_begins_again(
+    rt: &impl Abort,
+    alloc: Global,
+    index: &Index<'_>,
+    universe: &Universe,
+    resources: &[&str; 2],
+) -> bool {
+    let reaches = reaches_of(alloc, index, universe).expect(rt, "memory");
+    let mut seats = vec![in alloc; Seat::new(); index.len() as usize].expect(rt, "memory");
+    begins_again(
+        rt,
+        index,
+        universe,
+        reaches.as_slice(),
+        seats.as_mut_slice(),
+        resources,
+    )
+}
+
+#[test]
+fn a_matrix_is_asked_again(rt: HostRuntime) {
+    let alloc = rt.alloc();
+    let universe = universe(&rt, alloc, NODES_AND_PODS);
+    let policy = policy(&rt, alloc, TWO_RULES, TO_ALICE);
+    let index = built(&rt, Index::build(alloc, &policy));
+    assert!(rt; index_begins_again(&rt, alloc, &index, &universe, &["nodes", "pods"]));
 }
 
 // A rule that allows one of 65 billion requests.

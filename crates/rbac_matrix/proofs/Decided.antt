@@ -1,237 +1,19 @@
 -- Whether a binding grants a request is decided, one way or the other.
-use Rattle.std.proofs.Common.{◌≡◌, ◌≢◌, ℕ, ◌+◌, ◌<◌, List, [], ◌∷◌, ◌++◌, length, get_or, Contains, replicate, sym, ap, ap₂, ◌∙◌, refl, arith, append-nil, subst, suc, zero, add-one, ◌⊎◌, inl, inr, Bool, true, false, IsTrue}
-use Rattle.std.specs.Prelude.{Option, Some, None, Any, Decides, codes, slice_get}
-use Rattle.std.specs.Str.{bytes_eq}
-use Rattle.std.proofs.lemmas.Bool.{cases_eq, both_ways}
-use Rattle.std.proofs.lemmas.List.{get_or_default, length-append}
+use Rattle.std.proofs.Common.{◌≡◌, ℕ, List, [], ◌∷◌, sym, refl, arith, subst, suc, zero, ◌⊎◌, inl, inr}
+use Rattle.std.specs.Prelude.{Some, Any, slice_get}
 use Rattle.std.proofs.lemmas.Option.{same_Some}
-use Rattle.std.proofs.lemmas.Slice.Eq.{bytes_eq-Decides}
-use Rattle.rbac_terms.specs.Text.{Text, star, slash, colon, IsCutAtFirst, BeginsWith}
-use Rattle.rbac_terms.specs.Targets.{What, Resource, Url}
-use Rattle.rbac_terms.specs.Principals.{Who, AsUser, AsMember, IsUserNamed, IsInGroup, IsPart, IsAccountOf, IsAccountGroup, IsGroupOfAccounts, IsSignInGroup, account_user}
+use Rattle.rbac_terms.specs.Text.{Text}
+use Rattle.rbac_terms.specs.Targets.{What}
+use Rattle.rbac_terms.specs.Principals.{Who}
 use Rattle.rbac_terms.specs.Granting.{Names}
-use Rattle.rbac_terms.specs.Matching.{WordMatches, ResourceWordMatches, FollowsFirstSlash, UrlWordMatches, EndsInStar, TargetOk, RuleAllows}
-use Rattle.rbac_terms.specs.declared.matching.Rule.{Rule}
+use Rattle.rbac_terms.specs.Matching.{RuleAllows}
 use Rattle.rbac_terms.specs.declared.granting.Binding.{Binding}
-use Rattle.rbac_terms.specs.declared.granting.Subject.{Subject}
-use Rattle.rbac_terms.specs.declared.granting.Subject.TheVariants.{User, Group, Account}
-use Rattle.rbac_terms.proofs.Texts.{IsCutAtFirst-one, IsCutAtFirst-contains, same_prefix, UrlWordMatches-none, shorter}
-use Rattle.rbac_terms.proofs.Accounts.{IsAccountOf-begins, IsAccountOf-colon, IsAccountOf-from, IsAccountOf-parts, IsAccountOf-one}
 use Rattle.rbac_model.specs.Lists.{IsFirstAt}
-use Rattle.rbac_model.specs.Policies.{Held, IsHeld, GrantView, SourcedRule, AreRulesFor, AreGrantsOf, Live, Brings, Grants}
+use Rattle.rbac_model.specs.Policies.{Held, IsHeld, GrantView, SourcedRule, AreRulesFor, AreGrantsOf, Brings, Grants}
+use Rattle.rbac_model.proofs.Decided.{all_three, any, live, names, rule}
+use Rattle.rbac_model.proofs.GrantNumbers.{none_earlier}
 use Rattle.rbac_model.proofs.OneList.{one_rules_for}
-use Rattle.rbac_universe.proofs.OneMore.{as_any}
-
--- it holds, or it doesn't
-abbrev pub Decided : Type 0 → Type 0
-Decided P = P ⊎ (¬ P)
-
--- ---- what is made of decided parts
-
-pub both : {P Q : Type 0} → Decided P → Decided Q → Decided (P × Q)
-both (inl p) (inl q) = inl (p, q)
-both (inl p) (inr q) = inr (λ w. q w.1)
-both (inr p) q = inr (λ w. p w.0)
-
-all_three : {P Q R : Type 0} → Decided P → Decided Q → Decided R → Decided (P × Q × R)
-all_three (inl p) (inl q) (inl r) = inl (p, q, r)
-all_three (inl p) (inl q) (inr r) = inr (λ w. r w.2)
-all_three (inl p) (inr q) r = inr (λ w. q w.1)
-all_three (inr p) q r = inr (λ w. p w.0)
-
-pub either : {P Q : Type 0} → Decided P → Decided Q → Decided (P ⊎ Q)
-either (inl p) q = inl (inl p)
-either (inr p) (inl q) = inl (inr q)
-either (inr p) (inr q) = inr (λ w. elim w [ inl a ↦ p a | inr b ↦ q b ])
-
-not_so : {P : Type 0} → Decided P → Decided (¬ P)
-not_so (inl p) = inr (λ n. n p)
-not_so (inr n) = inl n
-
-by_bool : {P : Type 0} (b : Bool) → Decides b P → Decided P
-by_bool true d = inl (d.0 refl)
-by_bool false d = inr (λ p. both_ways false refl (d.1 p))
-
-pub is_true : (b : Bool) → Decided (IsTrue b)
-is_true true = inl refl
-is_true false = inr (λ n. both_ways false refl n)
-
-module _ {X : Type 0} (P : X → Type 0) where
-  none_of : (x : X) (xs : List X) → (P x → ⊥) → (Any P xs → ⊥) → (k : ℕ) (y : X) → k < length (x ∷ xs) → get_or (x ∷ xs) k y ≡ y → P y → ⊥
-  none_of x xs n none zero y l is p = n (subst P (sym is) p)
-  none_of x xs n none (suc k) y l is p = none (k, y, omega arith, is, p)
-
-  any : ((x : X) → Decided (P x)) → (xs : List X) → Decided (Any P xs)
-  any d [] = inr (λ a. omega (arith, a.2))
-  any d (x ∷ xs) = elim (d x) [
-    | inl p ↦ inl (0, x, omega arith, refl, p)
-    | inr n ↦ elim (any d xs) [
-      | inl a ↦ inl (suc a.0, a.1, omega (arith, a.2), a.3, a.4)
-      | inr none ↦ inr (λ a. none_of x xs n none a.0 a.1 a.2 a.3 a.4)
-    ]
-  ]
-
--- ---- texts
-
-same_text : (x y : Text) → Decided (x ≡ y)
-same_text x y = by_bool (bytes_eq x y) (bytes_eq-Decides x y)
-
-pub is_nil : {X : Type 0} (xs : List X) → Decided (xs ≡ [])
-is_nil [] = inl refl
-is_nil (x ∷ xs) = inr (λ e. let l = ap length e in omega (arith, l))
-
-is_among : {X : Type 0} → ((x y : X) → Decided (x ≡ y)) → (xs : List X) (x : X) → Decided (Contains xs x)
-is_among d xs x = elim (any (λ y. y ≡ x) (λ y. d y x) xs) [
-  | inl a ↦ inl (a.0, a.2, get_or_default xs a.0 x a.1 a.2 ∙ a.3 ∙ a.4)
-  | inr n ↦ inr (λ w. n (as_any (λ y. y ≡ x) xs x w refl))
-]
-
-heads : (a b : ℕ) (x y : Text) → a ∷ x ≡ b ∷ y → a ≡ b
-heads a b x y e = cc
-
-tails : (a b : ℕ) (x y : Text) → a ∷ x ≡ b ∷ y → x ≡ y
-tails a b x y e = cc
-
-begins : (x p : Text) → Decided (BeginsWith x p)
-begins x [] = inl (x, refl)
-begins [] (b ∷ p) = inr (λ w. let l = ap length w.1 in omega (arith, l))
-begins (a ∷ x) (b ∷ p) = elim (cases_eq a b) [
-  | inl e ↦ elim (begins x p) [
-    | inl w ↦ inl (w.0, ap₂ (λ (c : ℕ) (t : Text). c ∷ t) e w.1)
-    | inr n ↦ inr (λ w. n (w.0, tails a b x (p ++ w.0) w.1))
-  ]
-  | inr ne ↦ inr (λ w. ne (heads a b x (p ++ w.0) w.1))
-]
-
-not_in : (c : ℕ) (m : Text) (b : ℕ) → c ≢ b → (Contains m b → ⊥) → (k : ℕ) → k < length (c ∷ m) → get_or (c ∷ m) k b ≡ b → ⊥
-not_in c m b ne none zero l is = ne is
-not_in c m b ne none (suc k) l is = none (k, omega arith, is)
-
--- a text is cut at its first byte b, or has none
-cut : (x : Text) (b : ℕ) → ((m : Text) × (s : Text) × IsCutAtFirst x b m s) ⊎ (Contains x b → ⊥)
-cut [] b = inr (λ w. omega (arith, w.1))
-cut (c ∷ x) b = elim (cases_eq c b) [
-  | inl e ↦ inl ([], x, (ap (λ (y : ℕ). y ∷ x) e, λ w. omega (arith, w.1)))
-  | inr ne ↦ elim (cut x b) [
-    | inl w ↦ inl (c ∷ w.0, w.1, (ap (λ (t : Text). c ∷ t) w.2.0, λ v. not_in c w.0 b ne w.2.1 v.0 v.1 v.2))
-    | inr none ↦ inr (λ v. not_in c x b ne none v.0 v.1 v.2)
-  ]
-]
-
--- ---- the words of a rule
-
-word : (w x : Text) → Decided (WordMatches w x)
-word w x = either (same_text w (codes "*")) (same_text w x)
-
-subresource : (w x : Text) → Decided ((s : Text) × (w ≡ codes "*/" ++ s) × (s ≢ []) × FollowsFirstSlash x s)
-subresource w x = elim (cut x slash) [
-  | inl c ↦ elim (both (same_text w (codes "*/" ++ c.1)) (not_so (is_nil c.1))) [
-    | inl p ↦ inl (c.1, p.0, p.1, (c.0, c.2))
-    | inr n ↦ inr (λ a. let e : a.0 ≡ c.1 = IsCutAtFirst-one x a.3.0 c.0 a.0 c.1 slash a.3.1 c.2 in n (a.1 ∙ ap (λ (t : Text). codes "*/" ++ t) e, λ z. a.2 (e ∙ z)))
-  ]
-  | inr none ↦ inr (λ a. none (IsCutAtFirst-contains x a.3.0 a.0 slash a.3.1))
-]
-
-lone : (c : ℕ) (r : Text) → c ∷ [] ≡ r ++ star ∷ [] → c ≡ star
-lone c [] e = heads c star [] [] e
-lone c (x ∷ r) e = let l = ap length e ∙ length-append (x ∷ r) (star ∷ []) in absurd (omega (arith, l))
-
--- a text is a prefix that ends in no star, and stars
-abbrev IsStripped : Text → Type 0
-IsStripped w = (q : Text) × (k : ℕ) × (w ≡ q ++ replicate k star) × (EndsInStar q → ⊥)
-
-stripped_more : (c : ℕ) (w q : Text) (k : ℕ) → w ≡ q ++ replicate k star → (EndsInStar q → ⊥) → IsStripped (c ∷ w)
-stripped_more c w [] k e none = elim (cases_eq c star) [
-  | inl s ↦ ([], suc k, ap₂ (λ (x : ℕ) (t : Text). x ∷ t) s e, none)
-  | inr ne ↦ (c ∷ [], k, ap (λ (t : Text). c ∷ t) e, λ a. ne (lone c a.0 a.1))
-]
-stripped_more c w (d ∷ q) k e none = (c ∷ d ∷ q, k, ap (λ (t : Text). c ∷ t) e, λ a. none (shorter c d q a.0 a.1))
-
-stripped : (w : Text) → IsStripped w
-stripped [] = ([], 0, refl, λ a. let l = ap length a.1 ∙ length-append a.0 (star ∷ []) in omega (arith, l))
-stripped (c ∷ w) = let s = stripped w in stripped_more c w s.0 s.1 s.2 s.3
-
-url_prefix : (w x q : Text) (k : ℕ) → w ≢ x → w ≡ q ++ replicate k star → (EndsInStar q → ⊥) → Decided (UrlWordMatches w x)
-url_prefix w x q zero ne e none = inr (UrlWordMatches-none w x q zero ne e none (let l = ap length (e ∙ append-nil q) in omega (arith, l)))
-url_prefix w x q (suc k) ne e none = elim (begins x q) [
-  | inl b ↦ inl (inr (q, k, e ∙ ap (λ n. q ++ replicate n star) (sym (add-one k)), none, b))
-  | inr n ↦ inr (λ m. elim m [
-    | inl a ↦ ne a
-    | inr b ↦
-        let same : b.0 ≡ q = same_prefix b.0 q (b.1 + 1) (suc k) b.3 none (sym b.2 ∙ e) in
-        n (b.4.0, b.4.1 ∙ ap (λ (t : Text). t ++ b.4.0) same)
-  ])
-]
-
-url : (w x : Text) → Decided (UrlWordMatches w x)
-url w x = elim (same_text w x) [
-  | inl e ↦ inl (inl e)
-  | inr ne ↦ let s = stripped w in url_prefix w x s.0 s.1 ne s.2 s.3
-]
-
-target : (r : Rule) (t : What) → Decided (TargetOk r t)
-target r (Resource group text name) =
-    all_three
-    (any (λ w. WordMatches w group) (λ w. word w group) r.groups)
-    (any (λ w. ResourceWordMatches w text) (λ w. either (word w text) (subresource w text)) r.resources)
-    (either (is_nil r.resource_names) (is_among same_text r.resource_names name))
-target r (Url path) = any (λ w. UrlWordMatches w path) (λ w. url w path) r.urls
-
-rule : (r : Rule) (verb : Text) (t : What) → Decided (RuleAllows r verb t)
-rule r verb t = both (any (λ w. WordMatches w verb) (λ w. word w verb) r.verbs) (target r t)
-
--- ---- whom a subject names
-
-part : (t : Text) → Decided (IsPart t)
-part t = both (not_so (is_nil t)) (not_so (is_among cases_eq t colon))
-
-account : (user : Text) → ((n : Text) × IsAccountOf user n) ⊎ ((n : Text) → IsAccountOf user n → ⊥)
-account user = elim (begins user (codes "system:serviceaccount:")) [
-  | inl w ↦ elim (cut w.0 colon) [
-    | inl c ↦ elim (both (part c.0) (part c.1)) [
-      | inl p ↦ inl (c.0, IsAccountOf-from user w.0 c.0 c.1 w.1 c.2 p.0 p.1)
-      | inr n ↦ inr (λ m a. n (IsAccountOf-parts user w.0 m c.0 c.1 w.1 c.2 a))
-    ]
-    | inr none ↦ inr (λ n a. none (IsAccountOf-colon user w.0 n w.1 a))
-  ]
-  | inr none ↦ inr (λ n a. none (IsAccountOf-begins user n a))
-]
-
-account_group : (user g : Text) → Decided (IsAccountGroup user g)
-account_group user g = elim (account user) [
-  | inl a ↦ elim (either (same_text g (codes "system:serviceaccounts")) (same_text g (codes "system:serviceaccounts:" ++ a.0))) [
-    | inl e ↦ inl (a.0, a.1, e)
-    | inr n ↦ inr (λ w. n (subst (λ m. IsGroupOfAccounts m g) (IsAccountOf-one user w.0 a.0 w.1 a.1) w.2))
-  ]
-  | inr none ↦ inr (λ w. none w.0 w.1)
-]
-
-sign_in_group : (user : Text) (given : List Text) (g : Text) → Decided (IsSignInGroup user given g)
-sign_in_group user given g =
-    either (both (same_text user (codes "system:anonymous")) (same_text g (codes "system:unauthenticated")))
-    (all_three (not_so (same_text user (codes "system:anonymous"))) (not_so (is_among same_text given (codes "system:unauthenticated"))) (same_text g (codes "system:authenticated")))
-
-user_named : (who : Who) (name : Text) → Decided (IsUserNamed who name)
-user_named (AsUser user given) name = same_text user name
-user_named (AsMember group) name = inr (λ n. n)
-
-in_group : (who : Who) (g : Text) → Decided (IsInGroup who g)
-in_group (AsUser user given) g = either (is_among same_text given g) (either (account_group user g) (sign_in_group user given g))
-in_group (AsMember group) g = same_text g group
-
-names : (s : Subject) (namespace : Option Text) (who : Who) → Decided (Names s namespace who)
-names (User name) namespace who = user_named who name
-names (Group name) namespace who = in_group who name
-names (Account (Some own) name) namespace who = user_named who (account_user own name)
-names (Account None name) (Some namespace) who = user_named who (account_user namespace name)
-names (Account None name) None who = inr (λ n. n)
-
--- ---- bindings
-
-live : (namespace : Option Text) (asked : Text) (t : What) → Decided (Live namespace asked t)
-live None asked t = inl tt
-live (Some namespace) asked (Resource group text name) = both (not_so (is_nil asked)) (same_text namespace asked)
-live (Some namespace) asked (Url path) = inr (λ n. n)
+pub use Rattle.rbac_model.proofs.Decided.{Decided}
 
 module _ (h : Held) (held : IsHeld h) (who : Who) (namespace verb : Text) (t : What) where
   brings : (b : Binding) (rules : List SourcedRule) → AreRulesFor h b rules → Decided (Brings h b verb t)
@@ -246,11 +28,6 @@ module _ (h : Held) (held : IsHeld h) (who : Who) (namespace verb : Text) (t : W
 
   abbrev Granting : Binding → Type 0
   Granting b = Grants h b who namespace verb t
-
-  none_earlier : (b : Binding) (bs : List Binding) (i : ℕ) → (Granting b → ⊥) → ((k : ℕ) (y : Binding) → k < i → slice_get bs k ≡ Some y → Granting y → ⊥)
-      → (k : ℕ) (y : Binding) → k < suc i → slice_get (b ∷ bs) k ≡ Some y → Granting y → ⊥
-  none_earlier b bs i n before zero y l e p = n (subst Granting (sym (same_Some b y e)) p)
-  none_earlier b bs i n before (suc k) y l e p = before k y (omega arith) e p
 
   none_at : (b : Binding) (bs : List Binding) → (Granting b → ⊥) → ((k : ℕ) (y : Binding) → slice_get bs k ≡ Some y → Granting y → ⊥)
       → (k : ℕ) (y : Binding) → slice_get (b ∷ bs) k ≡ Some y → Granting y → ⊥

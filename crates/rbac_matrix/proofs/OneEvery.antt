@@ -16,7 +16,8 @@ use Rattle.rbac_matrix.specs.Cells.{cells_of}
 use Rattle.rbac_matrix.specs.Every.{IsEvery, every_name}
 use Rattle.rbac_matrix.specs.Pairs.{AreThose, IsGranted, cell_pairs, pair_of, pairs_of}
 use Rattle.rbac_matrix.specs.Starting.{cell_name}
-use Rattle.rbac_matrix.proofs.Decided.{both, either, grants, is_nil, is_true}
+use Rattle.rbac_model.proofs.Decided.{both, either, is_nil, is_true}
+use Rattle.rbac_matrix.proofs.Decided.{grants}
 use Rattle.rbac_matrix.proofs.Orders.{cmp_append, first_less, first_tied}
 use Rattle.rbac_matrix.proofs.Product.{cells_ascend, cells_in, in_cells, key_texts}
 use Rattle.rbac_matrix.proofs.ThoseLemmas.{some_those, those_ascend, those_complete, those_sound}

@@ -5,7 +5,8 @@ use Rattle.rbac_model.specs.Policies.{PolicyView, IsPolicy}
 use Rattle.rbac_model.specs.Universes.{UniverseView, IsUniverse, Cell, RowView, IsMatrix}
 use Rattle.rbac_matrix.specs.Cells.{HasRow, AreRowsOf, cells_of}
 use Rattle.rbac_matrix.proofs.RowLemmas.{row_at}
-use Rattle.rbac_matrix.proofs.Decided.{either, is_true, is_nil, first}
+use Rattle.rbac_model.proofs.Decided.{either, is_true, is_nil}
+use Rattle.rbac_matrix.proofs.Decided.{first}
 use Rattle.rbac_matrix.proofs.OneMatrix.{is_matrix}
 
 module _ (p : PolicyView) (is : IsPolicy p) where

@@ -53,8 +53,8 @@ impl<'m, 's> Matrix<'m, 's> {
     }
 
     /// The rows whose key is greater than this one, which may be of the universe or not; without a
-    /// key, all rows. Rows come in order of keys, each once. Doesn't allocate. No clause says what
-    /// the matrix is once the rows are dropped: for other rows build it anew.
+    /// key, all rows. Rows come in order of keys, each once. Doesn't allocate. For other rows take
+    /// the matrix back from these: no clause says what it is once they are dropped.
     pub fn rows_after(&mut self, key: Option<&Key>) -> Rows<'_, 'm>
         requires { AreLent self.old }
         ensures going { IsGoing result }
@@ -76,7 +76,7 @@ impl<'m, 's> Matrix<'m, 's> {
 
     /// The rows of every granting binding that come after this mark, whose request and binding may
     /// exist or not; without a mark, all of them. Rows come in order of keys, then of bindings,
-    /// each once. Doesn't allocate. For other rows build the matrix anew, as after `rows_after`.
+    /// each once. Doesn't allocate. For other rows take the matrix back, as from `rows_after`.
     pub fn every_after(&mut self, mark: Option<&Mark>) -> EveryRows<'_, 'm>
         requires { AreLent self.old }
         ensures going { IsGoingEvery result }
@@ -100,5 +100,30 @@ impl<'m, 's> Matrix<'m, 's> {
             binding: start.binding,
             upto: start.upto,
         }
+    }
+}
+
+impl<'r, 'm> Rows<'r, 'm> {
+    /// Ends the enumeration, and gives the matrix back, for other rows. Doesn't allocate.
+    pub fn into_matrix(self) -> Matrix<'m, 'r>
+        requires { IsGoing self }
+        ensures lent { AreLent result }
+        ensures index { result.index.now ≡ self.entry.index.now }
+        ensures universe { result.universe.now ≡ self.entry.universe.now }
+    {
+        Matrix::build(self.index, self.universe, self.reaches, self.seats)
+    }
+}
+
+impl<'r, 'm> EveryRows<'r, 'm> {
+    /// Ends the enumeration, and gives the matrix back, for other rows. Doesn't allocate.
+    pub fn into_matrix(self) -> Matrix<'m, 'r>
+        requires { IsGoingEvery self }
+        ensures lent { AreLent result }
+        ensures index { result.index.now ≡ self.entry.rows.index.now }
+        ensures universe { result.universe.now ≡ self.entry.rows.universe.now }
+    {
+        let rows = self.rows;
+        Matrix::build(rows.index, rows.universe, rows.reaches, rows.seats)
     }
 }
