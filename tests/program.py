@@ -29,13 +29,10 @@ EMPTY_WORDS = (['can-i', '--as', '', 'get', 'pods'], ['can-i', '--as', 'alice', 
 NOBODY = (['rules', ''], ['rules', 'u:'], ['rules', 'g:'], ['rules', 'kim'], ['rules', 'u'], ['rules', ':kim'], ['rules', 'x:kim'],
           ['rules', 'U:kim'], ['rules', ' u:kim'], ['rules', '-A', 's:kim'], ['rules', '--groups', 'ops', 'g:dev'],
           ['rules', 'g:dev', '--groups=,'], ['rules', '--groups', 'ops', 'u:'], ['rules', '--groups=', 'g:'])
-
-
 # Not both sides of a change are given, or more than its files.
-NO_CHANGES = ([], ['a'], ['a', 'b'], ['--before', 'a'], ['--after', 'a'], ['--before', '--after', 'a'], ['--before', 'a', '--after'],
-              ['--before', 'a', '--before', 'b'], ['c', '--before', 'a', '--after', 'b'], ['--before', 'a', '--after', 'b', '-n', 'dev'],
-              ['--before', 'a', '--after', 'b', '--why'], ['--before', 'a', '--after', 'b', '-q'],
-              ['--before', 'a', '--after', 'b', '--', 'c'], ['--before', 'a', '--after', 'b', '--limit', '1'])
+NO_CHANGES = ([], ['a'], ['a', 'b'], ['--before', 'a'], ['--after', 'a'], ['--before', 'a', '--before', 'b'],
+              *([*words, '--before', 'a', '--after', 'b'] for words in (['c'], ['-n', 'dev'], ['--why'], ['-q'], ['--limit', '1'])),
+              ['--before', 'a', '--after', 'b', '--', 'c'])
 
 
 def run(words, given=b'', **how):
@@ -204,6 +201,9 @@ def help_and_usage():
         ended = run(words)
         checked('refused: %s' % (' '.join(words) or 'no words'),
              ended.returncode == 2 and not ended.stdout and b'Usage' in ended.stderr, repr(ended))
+    for words in (['diff', '--before', '--after', 'a'], ['diff', '--after', 'a', '--before']):
+        ended = run(words)
+        checked('refused: %s' % ' '.join(words), ended.returncode == 2 and not ended.stdout and b'--before <FILE>' in ended.stderr, repr(ended))
     for limit in ('0', '1000001', '4294967297', '-1', '1.5', 'x', ''):
         ended = run(['matrix', '--limit=' + limit])
         checked('refused: matrix --limit=%s' % limit, ended.returncode == 2 and not ended.stdout and b'--limit <N>' in ended.stderr, repr(ended))
