@@ -127,7 +127,7 @@ def zsh_file():
     agrees('zsh: the commands at work', [command for command, _ in calls], ['', *commands()])
     for command, call in calls:
         specs = re.sub(r'\$(\w+)', lambda name: arrays[name[1]], call)
-        found = re.findall(r"(?:'\([^)]*\)'\{(.*?)\}'|'(--[\w-]+=?))\[(.*?)\](?::(?:\*-\*:)?([^\s:]+):(?: |_files[^']*))?'", specs)
+        found = re.findall(r"(?:'\([^)]*\)'\{(.*?)\}'|'(--[\w-]+=?))\[(.*?)\](?::([^\s:]+):(?: |_files[^']*))?'", specs)
         said = {tuple(re.findall(r'--?[\w-]+', names + name)): (value, text) for names, name, text, value in found}
         agrees('zsh: the options of %s' % (command or 'the program'), said, options(*command.split()), is_described)
 
