@@ -58,7 +58,7 @@ def reviews(it):
             it.expect('with %s %s' % (given, place), ['diff', *place, '--with', given], 1, GAINED, OVER % given)
     it.write(json.dumps(of_kinds([])), 'nothing.json')
     it.expect('with nothing', ['diff', '--export', 'prod', '--with=nothing.json'], 0, '', OVER % 'nothing.json')
-    it.write(json.dumps(of_kinds([ROLE, {**ROLE, 'rules': [{}]}])), 'change', 'z=bad.json')
+    it.write(json.dumps(of_kinds([ROLE, {**ROLE, 'rules': [{}]}], 'ClusterRole')), 'change', 'z=bad.json')
     it.expect('a bad object of the change', ['diff', '--export', 'prod', '--with', 'change'], 2, '',
               OVER % 'change' + 'rbacaudit: file 6 item 2: M5 bad rule 1\n'
               'kubectl-rbacaudit: file 6 is change/z=bad.json; item 2 of it is ClusterRole shop-view-secrets\n')
