@@ -19,6 +19,14 @@ hostile() {
     python3 generate_hostile.py "$1" "$input" "${@:2}"
 }
 
+# The same for what changes between two exports.
+measure_pair() {
+    local name=$1
+    shift
+    python3 generate_pair.py "$@" "$room/before.json" "$input"
+    measure "$name" diff --before "$room/before.json" --after
+}
+
 for count in "100000 14" "500000 14"; do
     # shellcheck disable=SC2086
     "$room/collisions" $count | hostile collide
@@ -53,3 +61,8 @@ hostile items 9000000
 measure "9000000 items that are small objects" can-i --as kim -A get pods
 hostile members 9000000
 measure "an item of 9000000 small objects" can-i --as kim -A get pods
+measure_pair "1000000 grants of 1000 users, bindings renamed" renamed 1000 1000 1000
+measure_pair "1000000 grants of 10 users, bindings renamed" renamed 10 1000 1000
+measure_pair "1000000 grants of one user, bindings renamed" renamed 1 1000 1000
+measure_pair "1000000 grants of 100000 users, bindings renamed" renamed 100000 10 100000
+measure_pair "a rule of 100 verbs, resources and names, gained" words 100

@@ -69,6 +69,18 @@ measure_pages() {
         "$(least "$audit" matrix --limit 1000 "$file")" "$(least "$audit" matrix --limit 1000 --after "$late" "$file")"
 }
 
+# One line for what changes between two exports: how many lines, the time and memory, and the ratio to can-i over the first one.
+measure_diff() {
+    local name=$1 before=$2 after=$3
+    local lines answer changes
+    lines=$("$audit" diff --before "$before" --after "$after" | wc -l)
+    answer=$(ask "$before")
+    changes=$(least "$audit" diff --before "$before" --after "$after")
+    printf '%-44s %9d lines  can-i %5d ms  diff %5d ms %4d MB  ratio %s\n' "$name" "$lines" "$answer" "$changes" \
+        "$(($(python3 least.py --memory "$audit" diff --before "$before" --after "$after") / 1024))" \
+        "$(python3 -c "print('%.2f' % ($changes / max(1, $answer)))")"
+}
+
 # One line for lint on a role of many rules, beside can-i.
 measure_lint() {
     local name=$1 file=$2
@@ -82,6 +94,11 @@ done
 typed_reader/build.sh "$room/typed_reader" 2> /dev/null || echo 'the typed Rust program is left out: its crates are not installed'
 python3 generate_export.py 10000 40000 400 7 "$room/export.json" > /dev/null
 measure_reading "reading, 10000 roles, 40000 bindings" "$room/export.json"
+measure_diff "diff, equal exports" "$room/export.json" "$room/export.json"
+python3 change_export.py bindings 100 "$room/export.json" "$room/changed.json"
+measure_diff "diff, a hundred changed bindings" "$room/export.json" "$room/changed.json"
+python3 change_export.py names "$room/export.json" "$room/changed.json"
+measure_diff "diff, each binding renamed" "$room/export.json" "$room/changed.json"
 python3 generate_export.py 4000 16000 200 9 "$room/export.json" > /dev/null
 python3 annotate_export.py "$room/export.json" "$room/annotated.json"
 measure_reading "reading, 4000 and 16000, annotated" "$room/annotated.json"

@@ -3,5 +3,5 @@
 complete -c rbacaudit-page -f
 complete -c rbacaudit-page -s h -l help -d 'show this help message and exit'
 complete -c rbacaudit-page -l lint -r -F -d 'findings to show beside, as rbacaudit lint writes them'
-complete -c rbacaudit-page -l diff -r -F -d 'changes to show beside: rows with + or - and a tab before them'
+complete -c rbacaudit-page -l diff -r -F -d 'changes to show beside, as rbacaudit diff writes them'
 complete -c rbacaudit-page -l title -x -d 'the title of the page (default: Who can do what)'

@@ -22,7 +22,7 @@ _rbacaudit() {
             place=$((place + 1))
         else
             given+="$word "
-            [[ $word == --@(as|groups|namespace|subresource|after|limit) || $word == -*([!n-])n ]] && waits=yes
+            [[ $word == --@(as|groups|namespace|subresource|after|limit|before) || $word == -*([!n-])n ]] && waits=yes
         fi
     done
 
@@ -33,12 +33,15 @@ _rbacaudit() {
         rules) options='--groups -n,--namespace -A,--all-namespaces -h,--help' ;;
         matrix) options='--every --after --limit -h,--help' ;;
         lint) options='-h,--help' ;;
+        diff) options='--before --after -h,--help' ;;
         '') options='-h,--help -V,--version' ;;
         *) return ;;
     esac
 
     COMPREPLY=()
-    if [[ $waits ]]; then
+    if [[ $command == diff && $given == *' --'[ba]* && ($waits || $cur != -*) ]]; then
+        compopt -o default # a FILE, of which each option has one or more
+    elif [[ $waits ]]; then
         return # a value is free text
     elif [[ $cur == -* && $given != *' -- '* ]]; then
         # An option is given once. The short one may stand among others, as in -Aq; what follows an n is its value.
@@ -47,12 +50,12 @@ _rbacaudit() {
                 mapfile -t -O "${#COMPREPLY[@]}" COMPREPLY < <(compgen -W "${group/,/ }" -- "$cur")
         done
     elif [[ ! $command ]]; then
-        mapfile -t COMPREPLY < <(compgen -W 'can-i who-can rules matrix lint' -- "$cur")
+        mapfile -t COMPREPLY < <(compgen -W 'can-i who-can rules matrix lint diff' -- "$cur")
     elif [[ $command == @(can-i|who-can) && $place -eq 0 ]]; then
         mapfile -t COMPREPLY < <(compgen -W 'get list watch create update patch delete deletecollection
             use bind escalate impersonate' -- "$cur")
-    elif [[ $command == rules && $place -eq 0 ]]; then
-        return # so is WHO
+    elif [[ $command == rules && $place -eq 0 || $command == diff ]]; then
+        return # so is WHO, and the files of diff follow its options
     elif [[ $command != @(can-i|who-can) || $place -gt 1 ]]; then
         compopt -o default # a FILE, which readline knows best
     fi

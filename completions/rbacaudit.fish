@@ -4,9 +4,9 @@
 function __rbacaudit_line
     set -l words (commandline -opc)
     # (an option that still waits for its value isn't given yet)
-    string match -qr -- '^(--(as|groups|namespace|subresource|after|limit)|-[^-n]*n)$' "$words[-1]"
+    string match -qr -- '^(--(as|groups|namespace|subresource|after|limit|before)|-[^-n]*n)$' "$words[-1]"
     and set -e words[-1]
-    argparse -i h/help V/version as= groups= n/namespace= A/all-namespaces subresource= q/quiet why every after= limit= \
+    argparse -i h/help V/version as= groups= n/namespace= A/all-namespaces subresource= q/quiet why every after=+ limit= before=+ \
         -- $words 2>/dev/null
     or return
     echo "$argv[2]"
@@ -28,6 +28,13 @@ function __rbacaudit_words
     and test $line[2] $argv[1] $argv[2]
 end
 
+# Whether a FILE of diff may stand here: behind one of its options.
+function __rbacaudit_sides
+    set -l line (__rbacaudit_line)
+    test "$line[1]" = diff
+    and string match -qr '^(before|after)$' $line[3..]
+end
+
 complete -c rbacaudit -f
 
 complete -c rbacaudit -n '__rbacaudit_words -eq 0 ""' -a can-i -d 'Check whether USER may VERB TARGET'
@@ -35,6 +42,7 @@ complete -c rbacaudit -n '__rbacaudit_words -eq 0 ""' -a who-can -d 'List who ma
 complete -c rbacaudit -n '__rbacaudit_words -eq 0 ""' -a rules -d 'List the rules that WHO has'
 complete -c rbacaudit -n '__rbacaudit_words -eq 0 ""' -a matrix -d 'List everything that anyone may do'
 complete -c rbacaudit -n '__rbacaudit_words -eq 0 ""' -a lint -d 'List what is wrong with the roles'
+complete -c rbacaudit -n '__rbacaudit_words -eq 0 ""' -a diff -d 'List what a change lets users do and takes from them'
 
 complete -c rbacaudit -n '__rbacaudit_lacks as can-i' -l as -x -d 'User to check'
 complete -c rbacaudit -n '__rbacaudit_lacks groups can-i rules' -l groups -x -d 'Groups of the user beside the implied ones (default: none)'
@@ -49,11 +57,16 @@ complete -c rbacaudit -n '__rbacaudit_lacks why who-can' -l why -d 'After the bi
 complete -c rbacaudit -n '__rbacaudit_lacks every matrix' -l every -d 'List every binding that grants, not only the first'
 complete -c rbacaudit -n '__rbacaudit_lacks after matrix' -l after -x -d 'List only the rows after this TOKEN of a next line (default: from the first)'
 complete -c rbacaudit -n '__rbacaudit_lacks limit matrix' -l limit -x -d 'List at most N rows, 1 to 1000000 (default: all)'
-complete -c rbacaudit -n '__rbacaudit_lacks help "" can-i who-can rules matrix lint' -s h -l help -d 'Print help'
+complete -c rbacaudit -n '__rbacaudit_lacks before diff' -l before -x -k -a '(__fish_complete_suffix .json)' \
+    -d 'JSON of kubectl get -o json or --raw as it was before the change'
+complete -c rbacaudit -n '__rbacaudit_lacks after diff' -l after -x -k -a '(__fish_complete_suffix .json)' \
+    -d 'JSON of kubectl get -o json or --raw as it is after the change'
+complete -c rbacaudit -n '__rbacaudit_lacks help "" can-i who-can rules matrix lint diff' -s h -l help -d 'Print help'
 complete -c rbacaudit -n '__rbacaudit_lacks version ""' -s V -l version -d 'Print version'
 
 complete -c rbacaudit -n '__rbacaudit_words -eq 0 can-i who-can' -k -d 'Verb to check' \
     -a 'get list watch create update patch delete deletecollection use bind escalate impersonate'
 complete -c rbacaudit -n '__rbacaudit_words -ge 2 can-i who-can' -k -a '(__fish_complete_suffix .json)'
 complete -c rbacaudit -n '__rbacaudit_words -ge 1 rules' -k -a '(__fish_complete_suffix .json)'
+complete -c rbacaudit -n __rbacaudit_sides -k -a '(__fish_complete_suffix .json)'
 complete -c rbacaudit -n '__rbacaudit_words -ge 0 matrix lint' -k -a '(__fish_complete_suffix .json)'

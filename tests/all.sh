@@ -1,8 +1,8 @@
 #!/usr/bin/env bash
 # The whole gate: each edit still fits, every proof, must-fail edit and test by `rt ci`, then what only a process can show, the
-# kubectl plugin, completions and man page, the page in a browser, what make dist packs, random matrices and rules, bad documents,
-# refused memory, reads and writes, and each public call by itself. The last line counts all of it, as `N passed, M failed`; if a test
-# skipped something that this machine lacks, the last line but one says what.
+# kubectl plugin, completions and man page, the page in a browser, what make dist packs, random matrices, rules and changes, bad
+# documents, refused memory, reads and writes, and each public call by itself. The last line counts all of it, as `N passed, M
+# failed`; if a test skipped something that this machine lacks, the last line but one says what.
 set -u
 cd "$(dirname "$0")/.."
 log=$(mktemp)
@@ -42,6 +42,7 @@ counted python3 tests/page.py
 counted python3 tests/dist.py
 counted python3 tests/pages.py
 counted python3 tests/rules.py
+counted python3 tests/diff.py
 counted python3 tests/memory.py
 counted python3 tests/fuzz.py 1 2000
 counted python3 tests/calls.py --once

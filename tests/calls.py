@@ -26,7 +26,7 @@ SOURCES = os.path.join(TOP, 'tests', 'calls')
 EXPORT = os.path.join(SOURCES, 'export.json')
 GROUPS = 'requests', 'growing', 'exports', 'matrix', 'commands'
 # Calls may be added; fewer would be a group that isn't made.
-LEAST_CALLS = 94
+LEAST_CALLS = 97
 # The texts of this project's errors, and of the kit's.
 OUT_OF_MEMORY = 'out of memory', 'memory allocation failed'
 NEVER = 10 ** 9

@@ -17,7 +17,9 @@ import re
 import subprocess
 import sys
 
+import meaning
 from common import PROGRAM, V1, export
+from meaning import allows, binding_text, groups_of, ordered_bindings
 
 # What is drawn from: few words, so that much is allowed, and some that only nearly match.
 NAMESPACES = ['', 'dev', 'prod']
@@ -116,81 +118,6 @@ def wide(draw, count):
 
 # ---- the definition
 
-def groups_of(user, given):
-    groups = set(given)
-    parts = user.split(':')
-    if len(parts) == 4 and parts[:2] == ['system', 'serviceaccount'] and parts[2] and parts[3]:
-        groups |= {'system:serviceaccounts', 'system:serviceaccounts:' + parts[2]}
-    if user == 'system:anonymous':
-        return groups | {'system:unauthenticated'}
-    return groups if 'system:unauthenticated' in groups else groups | {'system:authenticated'}
-
-
-def is_named(subject, namespace, who):
-    kind, name, groups = who
-    if subject['kind'] == 'Group':
-        return subject['name'] in groups
-    if subject['kind'] == 'User':
-        return kind == 'u' and subject['name'] == name
-    home = subject.get('namespace') or namespace
-    return kind == 'u' and bool(home) and name == 'system:serviceaccount:%s:%s' % (home, subject['name'])
-
-
-def word_matches(words, text):
-    return '*' in words or text in words
-
-
-def rule_allows(rule, verb, target):
-    if not word_matches(rule['verbs'], verb):
-        return False
-    if target[0] == 'url':
-        path = target[1]
-        return any(word == path or word.endswith('*') and path.startswith(word.rstrip('*')) for word in rule.get('nonResourceURLs', []))
-    _, group, resource, name = target
-    below = resource.partition('/')[2]
-    return (word_matches(rule.get('apiGroups', []), group)
-            and any(word in ('*', resource) or below and word == '*/' + below for word in rule.get('resources', []))
-            and (not rule.get('resourceNames') or name in rule['resourceNames']))
-
-
-def rules_of(role, cluster_roles):
-    """The rules of a role; of an aggregated one those of the plain ones that it leads to."""
-    if 'aggregationRule' not in role:
-        return role['rules']
-    reached, waiting = set(), [role]
-    while waiting:
-        selectors = waiting.pop()['aggregationRule']['clusterRoleSelectors']
-        for name, other in cluster_roles.items():
-            is_selected = any(selector['matchLabels'].items() <= other['metadata']['labels'].items() for selector in selectors)
-            if is_selected and name not in reached:
-                reached.add(name)
-                waiting += [other] * ('aggregationRule' in other)
-    return [rule for name in sorted(reached) if 'aggregationRule' not in cluster_roles[name] for rule in cluster_roles[name]['rules']]
-
-
-def name_of(item):
-    metadata = item['metadata']
-    return item['kind'], metadata.get('namespace', ''), metadata['name']
-
-
-def ordered_bindings(items):
-    """Each binding by order, as its kind word, namespace and name, its subjects and the rules of its role."""
-    last = {name_of(item): item for item in items}
-    cluster_roles = {name: item for (kind, _, name), item in last.items() if kind == 'ClusterRole'}
-    for (kind, namespace, name), item in sorted(last.items()):
-        if kind in ('ClusterRoleBinding', 'RoleBinding'):
-            wanted = item['roleRef']
-            role = last.get((wanted['kind'], namespace if wanted['kind'] == 'Role' else '', wanted['name']))
-            yield (kind, namespace, name), item['subjects'], rules_of(role, cluster_roles) if role else []
-
-
-def allows(binding, who, namespace, verb, target):
-    (_, home, _), subjects, rules = binding
-    is_live = not home or target[0] == 'resource' and home == namespace
-    return (is_live and any(is_named(subject, home, who) for subject in subjects)
-            and any(rule_allows(rule, verb, target) for rule in rules))
-
-
 def principals(lists):
     given = {}
     for entry in lists['principals']:
@@ -234,8 +161,7 @@ def is_after(row, mark, is_every):
 # ---- texts
 
 def field(text):
-    shown = ''.join('\\x%02x' % ord(c) if ord(c) < 32 or ord(c) == 127 else c * 2 if c == '\\' else c for c in text.decode('latin-1'))
-    return {'': '-', '-': '\\x2d'}.get(shown, shown)
+    return meaning.field(text.decode('latin-1'))
 
 
 def token(mark):
@@ -243,15 +169,11 @@ def token(mark):
     return base64.urlsafe_b64encode('\t'.join([version, *map(field, mark)]).encode('latin-1')).rstrip(b'=').decode()
 
 
-def binding_text(kind, namespace, name):
-    return b'/'.join([kind, namespace, name] if namespace else [kind, name]).decode()
-
-
 def page(rows, after, limit, is_every):
     """What the program has to print, and the mark of its last line, if there is one."""
     left = [row for row in (rows if is_every else firsts(rows)) if after is None or is_after(row, after, is_every)]
     shown = left if limit is None else left[:limit]
-    lines = ['\t'.join([*map(field, row[:6]), binding_text(*row[6:])]) for row in shown]
+    lines = ['\t'.join([*map(field, row[:6]), binding_text(*(text.decode('latin-1') for text in row[6:]))]) for row in shown]
     following = [row if is_every else row[:6] for row in shown[-1:] if len(shown) < len(left)]
     lines += ['next\t' + token(mark) for mark in following] or ['end']
     return ''.join(line + '\n' for line in lines), following

@@ -15,6 +15,7 @@ import subprocess
 import sys
 import tempfile
 
+import plugin_changes
 import plugin_exports
 import plugin_questions
 import plugin_server
@@ -50,7 +51,8 @@ def tools(it):
     it.expect('versions', ['--version'], 0, VERSIONS)
     for line, said in ((['--help'], 'kubectl rbacaudit who-can'), (['-h'], '--partial'), (['export', '--help'], 'incomplete.txt'),
                        (['universe', '-h'], 'Universe document'), (['can-i', '--help'], '--why'),
-                       (['who-can', '-Ah'], 'with kubectl rbacaudit who-can'), (['rules', '-h'], 'u:USER or g:GROUP'), (['matrix', '-h'], '--after'), (['lint', '--help'], 'dangling-role')):
+                       (['who-can', '-Ah'], 'with kubectl rbacaudit who-can'), (['rules', '-h'], 'u:USER or g:GROUP'), (['matrix', '-h'], '--after'), (['lint', '--help'], 'dangling-role'),
+                       (['diff', '--help'], 'objects that the change deletes')):
         status, out, err = got = it.run(*line)
         it.checked('help: %s' % ' '.join(line), (status, err) == (0, '') and said.lower() in out.lower(), got)
     for line, options in ((['--help'],
@@ -108,12 +110,13 @@ OWN = {('--export',): 'DIR', ('--partial',): '', ('--context',): 'NAME', ('--kub
        ('--request-timeout',): 'TIME'}
 HELP = ('-h', '--help')
 OF_PAGE = {('--every',): '', ('--title',): 'TEXT', ('--diff',): 'FILE'}
+OF_DIFF = {('--with',): 'PATH'}
 OF_EXPORT = {('--force',): '', ('-n', '--namespace'): 'NS', ('--context',): 'NAME',
              ('--kubeconfig',): 'FILE',
              ('--request-timeout',): 'TIME', ('--as',): 'USER', ('--as-group',): 'GROUP'}
 NOTHING, FILES, FOLDERS = ':4', ':0', ':16'
 COMPLETED = [
-    ([''], ['can-i', 'who-can', 'rules', 'matrix', 'lint', 'universe', 'page', 'export'], NOTHING),
+    ([''], ['can-i', 'who-can', 'rules', 'matrix', 'lint', 'diff', 'universe', 'page', 'export'], NOTHING),
     (['m'], ['matrix'], NOTHING),
     (['-'], ['-h', '--help', '-V', '--version'], NOTHING), (['no', ''], [], NOTHING),
     (['no', '-'], [], NOTHING),
@@ -134,6 +137,9 @@ COMPLETED = [
                                     NOTHING), (['export', 'x', ''], [], NOTHING),
     (['page', '--title', ''], [], NOTHING), (['page', '--diff', ''], [], FILES),
     (['page', ''], [], FILES),
+    (['diff', ''], [], NOTHING), (['diff', '--with', ''], [], FILES),
+    (['diff', '--export', 'x', '--export', ''], [], FOLDERS),
+    (['diff', '--export', 'x', '--e'], ['--export'], NOTHING),
     (['universe', ''], [], NOTHING), (['can-i', '-qAn', 'x', '--as=y', '--g'], ['--groups'],
                                       NOTHING),
     (['can-i', '-qA', '--a'], ['--as'], NOTHING),
@@ -146,8 +152,8 @@ COMPLETED = [
 
 def options_of(command):
     """The options of a command, with their values: those of rbacaudit, and the plugin's own."""
-    if command in ('export', 'universe', 'page'):
-        own = {'export': OF_EXPORT, 'universe': OWN, 'page': {**OWN, **OF_PAGE}}[command]
+    if command in ('diff', 'export', 'universe', 'page'):
+        own = {'export': OF_EXPORT, 'universe': OWN, 'page': {**OWN, **OF_PAGE}, 'diff': {**OWN, **OF_DIFF}}[command]
         return {**own, HELP: ''}
     return {**{names: value for names, (value, _) in options(command).items()}, **OWN}
 
@@ -179,7 +185,7 @@ def completions(it):
             for name in names if names != HELP else ():
                 got = offered([command, name, *['x'] * bool(value), '--'])[0]
                 wanted = [others[-1] for others in here if others != names
-                          or names == ('--as-group',)]
+                          or names == ('--as-group',) or (command, name) == ('diff', '--export')]
                 it.checked('%s %s is given once' % (command, name), sorted(got) == sorted(wanted),
                            got)
 
@@ -208,7 +214,7 @@ def in_kubectl():
 def man_page():
     """The man page has the options of help with their values, the version, and is rendered well."""
     text = contents(MAN)
-    wanted = {**OWN, **OF_EXPORT, **OF_PAGE, HELP: '', ('-V', '--version'): ''}
+    wanted = {**OWN, **OF_EXPORT, **OF_PAGE, **OF_DIFF, HELP: '', ('-V', '--version'): ''}
     got = {names: value for names, (value, _) in options_in(text).items()}
     checked('man: the options', got == wanted, repr(got))
     checked('man: the version', '"kubectl\\-rbacaudit 0.1.0"' in text, text[:300])
@@ -247,5 +253,5 @@ def told(words_, folder, tools_=os.path.dirname(PROGRAM)):
 
 
 if __name__ == '__main__':
-    sys.exit(tested(*plugin_exports.CHECKS, *plugin_questions.CHECKS, *plugin_server.CHECKS, tools,
+    sys.exit(tested(*plugin_exports.CHECKS, *plugin_questions.CHECKS, *plugin_changes.CHECKS, *plugin_server.CHECKS, tools,
                     script, make_run, completions, in_kubectl, man_page))

@@ -9,6 +9,7 @@ import base64
 import itertools
 import json
 import os
+import re
 import resource
 import subprocess
 import sys
@@ -28,6 +29,10 @@ EMPTY_WORDS = (['can-i', '--as', '', 'get', 'pods'], ['can-i', '--as', 'alice', 
 NOBODY = (['rules', ''], ['rules', 'u:'], ['rules', 'g:'], ['rules', 'kim'], ['rules', 'u'], ['rules', ':kim'], ['rules', 'x:kim'],
           ['rules', 'U:kim'], ['rules', ' u:kim'], ['rules', '-A', 's:kim'], ['rules', '--groups', 'ops', 'g:dev'],
           ['rules', 'g:dev', '--groups=,'], ['rules', '--groups', 'ops', 'u:'], ['rules', '--groups=', 'g:'])
+# Not both sides of a change are given, or more than its files.
+NO_CHANGES = ([], ['a'], ['a', 'b'], ['--before', 'a'], ['--after', 'a'], ['--before', 'a', '--before', 'b'],
+              *([*words, '--before', 'a', '--after', 'b'] for words in (['c'], ['-n', 'dev'], ['--why'], ['-q'], ['--limit', '1'])),
+              ['--before', 'a', '--after', 'b', '--', 'c'])
 
 
 def run(words, given=b'', **how):
@@ -113,22 +118,44 @@ def streams():
         expect('WHO first, and then files', ['rules', roles, 'u:alice'], 2, err=b'rbacaudit: U5 bad principal\n')
         expect('the file of a bad document', ALICE_GETS_PODS + [roles, put('bad.json', b'[]')], 2,
                err=b'rbacaudit: file 2: M2 not an object\n')
+        changes_of(roles, bindings, missing)
         full = put('full.json', LEAST + b' ' * (MOST_BYTES - len(LEAST)))
         expect('the longest input is read', ALICE_GETS_PODS + [full], 1, b'no\n')
         with open(full, 'ab') as file:
             file.write(b' ')
         expect('a byte more is refused', ALICE_GETS_PODS + [full], 2, err=b'rbacaudit: file 1: I2 too long\n')
+        expect('so it is on the second side', ['diff', '--before', roles, '--after', full], 2, err=b'rbacaudit: file 2: I2 too long\n')
+
+
+def changes_of(roles, bindings, missing):
+    """Sides of several files, in each order of the words; standard input isn't read."""
+    gained = b'+\tu:alice\tdefault\tget\t-\tpods\t*\tRoleBinding/default/b\n'
+    for words in (['--before', roles, '--after', roles, bindings], ['--after', roles, bindings, '--before', roles],
+                  ['--after', bindings, '--before', roles, '--after', roles], ['--before=' + roles, '--after=' + roles, '--after=' + bindings],
+                  ['--before', roles, '--before', roles, '--after', bindings, '--after', roles]):
+        expect('changes: %s' % ' '.join(map(os.path.basename, words)), ['diff', *words], 1, gained, given=b'[]')
+    for words, place in (([missing, '--after', roles], 1), ([roles, '--after', missing], 2), ([roles, bindings, '--after', missing, roles], 3),
+                         ([missing, '--after', missing], 1), ([roles, '--after', roles, '-'], 3), ([roles, '--after', os.path.dirname(roles)], 2)):
+        expect('a side that is not there: %s' % ' '.join(map(os.path.basename, words)), ['diff', '--before', *words], 2,
+               err=b'rbacaudit: file %d: I1 read fault\n' % place, given=GRANTED)
+    expect('files after, before files before', ['diff', '--after', missing, '--before', roles, bindings], 2,
+           err=b'rbacaudit: file 3: I1 read fault\n')
+    expect('a file that is no UTF-8 word', ['diff', '--before', roles, '--after', b'\xff'], 2, err=b'rbacaudit: argument 5: not UTF-8\n')
+    with open('/dev/full', 'wb') as full:
+        ended = run(['diff', '--before', roles, '--after', roles, bindings], stdout=full)
+    got = (ended.returncode, ended.stderr)
+    checked('changes on a full disk', got == (2, b'rbacaudit: write failed after 0 bytes\n'), repr(ended))
 
 
 def help_and_usage():
     """Help on standard output with status 0; a refused line on standard error with status 2."""
-    for words in (['--help'], ['can-i', '--help'], ['who-can', '--help'], ['rules', '--help'], ['matrix', '--help'], ['lint', '--help'], ['-h'],
-                  ['lint', '-h']):
+    for words in (['--help'], ['can-i', '--help'], ['who-can', '--help'], ['rules', '--help'], ['matrix', '--help'], ['lint', '--help'],
+                  ['diff', '--help'], ['-h'], ['lint', '-h']):
         ended = run(words)
         checked('%s is on standard output' % ' '.join(words),
              ended.returncode == 0 and b'Usage' in ended.stdout and not ended.stderr, repr(ended))
     commands = run(['--help']).stdout
-    for command in (b'can-i', b'who-can', b'rules', b'matrix', b'lint'):
+    for command in (b'can-i', b'who-can', b'rules', b'matrix', b'lint', b'diff'):
         checked('help names %s' % command.decode(), command in commands, repr(commands))
     options = run(['can-i', '--help']).stdout
     for option in (b'--as', b'--groups', b'-n, --namespace', b'-A, --all-namespaces', b'--subresource', b'-q, --quiet',
@@ -136,13 +163,15 @@ def help_and_usage():
         checked('help names %s' % option.decode(), option in options, repr(options))
     for line in (b'Namespace to check (default: default)', b'five fields, joined by tabs', b'rbacaudit can-i --as alice -n dev get pods'):
         checked('help of can-i says "%s"' % line.decode(), line in options, repr(options))
-    for command in ('who-can', 'rules', 'matrix', 'lint'):
+    for command in ('who-can', 'rules', 'matrix', 'lint', 'diff'):
         text = run([command, '--help']).stdout
         checked('help of %s names FILE and has an example' % command, b'FILE' in text and b'rbacaudit %s ' % command.encode() in text, repr(text))
     for option in (b'--every', b'--after <TOKEN>', b'--limit <N>'):
         checked('help names %s' % option.decode(), option in run(['matrix', '--help']).stdout)
     for said in (b'--groups <A,B>', b'-n, --namespace <NS>', b'-A, --all-namespaces', b'ten fields, joined by tabs', b'[] is the empty list'):
         checked('help of rules says "%s"' % said.decode(), said in run(['rules', '--help']).stdout)
+    for said in (b'--before <FILE>', b'--after <FILE>', b'eight fields, joined by tabs'):
+        checked('help of diff says "%s"' % said.decode(), said in run(['diff', '--help']).stdout)
     checked('help of who-can names --why', b'--why' in run(['who-can', '--help']).stdout)
     no_tokens = ['', 'MQ==', 'M', 'OQ', 'MQ', 'Mg', 'Mw', 'MQlnOmEJLQktCS0JeAkt=']
     key = '\tg:a\t-\t-\t-\tx\t-'
@@ -167,10 +196,14 @@ def help_and_usage():
                   ['lint', '--limit', '1'], ['lint', '-n', 'dev'], ['help'], ['rules'], ['rules', '-A'], ['rules', '--why', 'u:a'], ['rules', '-q', 'u:a'],
                   ['rules', '--as', 'a', 'u:a'], ['rules', '-A', '-A', 'u:a'], ['rules', '--groups', 'a', '--groups', 'b', 'u:a'],
                   ['rules', '--subresource', 'log', 'u:a'], ['rules', '-n', 'a', '--namespace', 'b', 'u:a'], ['rules', '-n', '-x', 'u:a'],
-                  ['who-can', '--why', '--why', 'get', 'pods'], ['who-can', '--why=x', 'get', 'pods'], ['matrix', '--why'], ['lint', '--groups', 'a']):
+                  ['who-can', '--why', '--why', 'get', 'pods'], ['who-can', '--why=x', 'get', 'pods'], ['matrix', '--why'], ['lint', '--groups', 'a'],
+                  *(['diff', *words] for words in NO_CHANGES)):
         ended = run(words)
         checked('refused: %s' % (' '.join(words) or 'no words'),
              ended.returncode == 2 and not ended.stdout and b'Usage' in ended.stderr, repr(ended))
+    for words in (['diff', '--before', '--after', 'a'], ['diff', '--after', 'a', '--before']):
+        ended = run(words)
+        checked('refused: %s' % ' '.join(words), ended.returncode == 2 and not ended.stdout and b'--before <FILE>' in ended.stderr, repr(ended))
     for limit in ('0', '1000001', '4294967297', '-1', '1.5', 'x', ''):
         ended = run(['matrix', '--limit=' + limit])
         checked('refused: matrix --limit=%s' % limit, ended.returncode == 2 and not ended.stdout and b'--limit <N>' in ended.stderr, repr(ended))
@@ -201,6 +234,7 @@ def rows():
         table = json.load(file)
     answers(table['answers'])
     lines(table['lines'])
+    changes(table['changes'])
     matrices(table['matrices'])
     documents(table['documents'])
 
@@ -220,6 +254,32 @@ def lines(table):
         for line, status, wanted in row['asks']:
             expect('%s %s' % (row['rule'], line), line.split(' '), status, ''.join(l + '\n' for l in wanted).encode(),
                    given=export(*row['items']))
+
+
+def changes(table):
+    """Files before and after a change, each a list of items or a text, with the lines that `diff` writes, or its fault. With
+    the sides exchanged, the lines have the other sign."""
+    for row in table:
+        with tempfile.TemporaryDirectory() as room:
+            before, after = (put_files(room, side, row[side]) for side in ('before', 'after'))
+            if 'fault' in row:
+                expect(row['rule'], ['diff', *before, *after], 2, err=b'rbacaudit: %s\n' % row['fault'].encode())
+                continue
+            told = ''.join(line + '\n' for line in row['lines'])
+            exchanged = re.sub('^[+-]', lambda sign: '-+'['+-'.index(sign[0])], told, flags=re.M)
+            status = 1 if row['lines'] else 0
+            expect(row['rule'], ['diff', *before, *after], status, told.encode())
+            expect('%s Exchanged.' % row['rule'], ['diff', '--before', *after[1:], '--after', *before[1:]], status,
+                   exchanged.encode())
+
+
+def put_files(room, side, files):
+    """Writes the files of a side: the words that give it."""
+    paths = [os.path.join(room, '%s%d.json' % (side, number)) for number in range(len(files))]
+    for path, content in zip(paths, files):
+        with open(path, 'wb') as file:
+            file.write(content.encode() if isinstance(content, str) else export(*content))
+    return ['--' + side, *paths]
 
 
 def matrices(table):
@@ -313,6 +373,11 @@ def limits():
     checked('a million rules', got.returncode == 0 and got.stdout == ''.join(lines).encode(), repr(got.stdout[:300]))
     expect('1,000 rules by 1,001 bindings', ALICE_GETS_PODS, 2, err=b'rbacaudit: M11 too many grants\n',
            given=export(*many))
+    with tempfile.TemporaryDirectory() as room:
+        most, more = (put_files(room, name, [items])[1] for name, items in (('most', many[:-1]), ('more', many)))
+        expect('a million grants on both sides', ['diff', '--before', most, '--after', most], 0)
+        for before, after in ((most, more), (more, most)):
+            expect('more on one of them', ['diff', '--before', before, '--after', after], 2, err=b'rbacaudit: M11 too many grants\n')
 
 
 def ring():

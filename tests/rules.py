@@ -11,11 +11,11 @@ holder exactly if a line of its rules allows the request, with the first such li
 """
 
 import random
-import re
 import subprocess
 import sys
 
 from common import PROGRAM, export
+from meaning import is_live, rule_allows, text_shown
 from pages import (GROUPS, NAMES, NAMESPACES, RESOURCES, TEAMS, URLS, USERS, bindings, roles,
                    some)
 
@@ -23,7 +23,6 @@ from pages import (GROUPS, NAMES, NAMESPACES, RESOURCES, TEAMS, URLS, USERS, bin
 ODD = ['', '-', ',', 'a,b', '[', ']', '[]', '\\', '\\x2c', 'a\tb', '\x7f', 'é', '\\,', '*,*']
 USER_TURNS = 12
 FIELDS = ['verbs', 'apiGroups', 'resources', 'resourceNames', 'nonResourceURLs']
-FORM = re.compile(r'\\x([0-9a-f]{2})|\\\\|[^\\]', re.S)
 
 
 def told(*words, given):
@@ -35,21 +34,11 @@ def told(*words, given):
 
 # ---- reading lines
 
-def word(shown):
-    """The text that a word of a list or a field shows."""
-    if shown == '-':
-        return ''
-    parts = [*FORM.finditer(shown)]
-    if not shown or ''.join(part[0] for part in parts) != shown:
-        raise ValueError('no field: %r' % shown)
-    return ''.join(chr(int(part[1], 16)) if part[1] else part[0][-1] for part in parts)
-
-
 def words(shown):
     """The words of a list."""
     if shown[:1] != '[' or shown[-1:] != ']' or len(shown) < 2:
         raise ValueError('no list: %r' % shown)
-    return [word(it) for it in shown[1:-1].split(',')] if len(shown) > 2 else []
+    return [text_shown(it) for it in shown[1:-1].split(',')] if len(shown) > 2 else []
 
 
 class Line:
@@ -67,22 +56,7 @@ class Line:
 
     def allows(self, namespace, verb, target):
         """Whether the rule allows this, and its binding counts there."""
-        if not any(it in ('*', verb) for it in self.lists['verbs']):
-            return False
-        if target[0] == 'url':
-            return self.home is None and any(is_path(it, target[1])
-                                             for it in self.lists['nonResourceURLs'])
-        _, group, resource, name = target
-        below = resource.partition('/')[2]
-        return (self.home in (None, namespace)
-                and any(it in ('*', group) for it in self.lists['apiGroups'])
-                and any(it in ('*', resource) or below and it == '*/' + below
-                        for it in self.lists['resources'])
-                and (not self.lists['resourceNames'] or name in self.lists['resourceNames']))
-
-
-def is_path(pattern, path):
-    return pattern == path or pattern.endswith('*') and path.startswith(pattern.rstrip('*'))
+        return is_live(self.home, namespace, target) and rule_allows(self.lists, verb, target)
 
 
 def lines_of(who, given, *options):
@@ -163,7 +137,7 @@ def holders_agree(draw, items, given):
     status, out = told('who-can', '--why', *options, *asked, given=given)
     if status:
         return 'who-can: status %d, %s' % (status, out)
-    held = {word(shown): why for shown, why in (text.split('\t', 1) for text in out.splitlines())}
+    held = {text_shown(shown): why for shown, why in (text.split('\t', 1) for text in out.splitlines())}
     for key in {*held, *('u:' + user for user in USERS), *('g:' + team for team in TEAMS)}:
         why = held.get(key)
         found = [line.why for line in lines_of(key, given) if line.allows(namespace, verb, target)]

@@ -62,7 +62,7 @@ def arguments(command):
 
 def options(*command):
     """The options of a command, or of the program: what value each has and what it means, under its spellings."""
-    found = entries(help_of(*command), 'Options', r' {2,6}(?:(-\w), )?(--[\w-]+)(?: <(\S+)>)? +(.*)')
+    found = entries(help_of(*command), 'Options', r' {2,6}(?:(-\w), )?(--[\w-]+)(?: <(\S+)>(?:\.\.\.)?)? +(.*)')
     return {spellings(short, long): (value, text) for short, long, value, text in found}
 
 
@@ -108,6 +108,7 @@ def fish_file():
     text = contents(os.path.join(COMPLETIONS, 'rbacaudit.fish'))
     said = dict(re.findall(r"""^complete .* -a (\S+) -d '(.*)'$""", text, re.M))
     agrees('fish: the commands', said, commands(), is_short_for)
+    text = text.replace(' \\\n    ', ' ').replace("-k -a '(__fish_complete_suffix .json)' ", '')
     found = re.findall(r"^complete -c rbacaudit -n '__rbacaudit_lacks (\S+) (.*)' (?:-s (\w) )?-l (\S+) (-x )?-d '(.*)'$", text, re.M)
     checked('fish: all options are told apart', len(found) == len(re.findall(r'^complete .*-l ', text, re.M)), repr(found))
     for command in ('', *commands()):
@@ -126,7 +127,7 @@ def zsh_file():
     agrees('zsh: the commands at work', [command for command, _ in calls], ['', *commands()])
     for command, call in calls:
         specs = re.sub(r'\$(\w+)', lambda name: arrays[name[1]], call)
-        found = re.findall(r"(?:'\([^)]*\)'\{(.*?)\}'|'(--[\w-]+=?))\[(.*?)\](?::(\S+): )?'", specs)
+        found = re.findall(r"(?:'\([^)]*\)'\{(.*?)\}'|'(--[\w-]+=?))\[(.*?)\](?::([^\s:]+):(?: |_files[^']*))?'", specs)
         said = {tuple(re.findall(r'--?[\w-]+', names + name)): (value, text) for names, name, text, value in found}
         agrees('zsh: the options of %s' % (command or 'the program'), said, options(*command.split()), is_described)
 
@@ -188,7 +189,7 @@ def man_facts():
     checked('man: the version', re.match(r'.*\n.*\n\.TH RBACAUDIT 1 \S+ "%s"' % re.escape(version), contents(MAN)), version)
     synopsis = [plain(re.sub(r'\.SY "(.*)"', r'\1', lines)).split() for lines in re.findall(r'(\.SY .*?)\n\.YS', contents(MAN), re.S)]
     lines = re.findall(r'^`(rbacaudit .*?)\.*`$', contents(os.path.join(TOP, 'docs', 'BEHAVIOUR.md')), re.M)
-    agrees('man: the synopsis', [' '.join(words).rstrip('.') for words in synopsis], lines)
+    agrees('man: the synopsis', [' '.join(words).rstrip('.').replace('...', '..') for words in synopsis], lines)
     findings = [' '.join(it) for it in re.findall(r'^  (L\d)  (\S+)', help_of('lint'), re.M)]
     agrees('man: the findings of lint', [*tagged(part_of_man('lint', 'SS'))], findings)
     limits = contents(os.path.join(TOP, 'docs', 'FORMATS.md')).partition('## Limits\n')[2]
@@ -326,10 +327,11 @@ def of_options():
         for names, (value, text) in here.items():
             for name in names if text not in ('Print help', 'Print version') else ():
                 yield line + name + (' x' if value else '') + ' -', [other for others in here for other in others if others != names]
-                if value:
+                if value and value != 'FILE':
                     yield line + name + ' ', []
             if value:
-                yield line + names[-1] + '=', []
+                if value != 'FILE':
+                    yield line + names[-1] + '=', []
                 yield line + names[-1] + '=x --', [other for others in here for other in others if others != names and len(other) > 2]
 
 
@@ -353,6 +355,8 @@ def of_words():
     yield 'rbacaudit rules ', []
     yield 'rbacaudit rules -n shop --groups a,b ', []
     yield 'rbacaudit rules u:system:serviceaccount:shop:ci -An shop --', ['--groups', '--help']
+    yield 'rbacaudit d', ['diff']
+    yield 'rbacaudit diff --before a.json b.json --', ['--after', '--help']
 
 
 # Lines that end in a FILE, where the folder has these. Only JSON files need be offered, and the folders that may have some.
@@ -368,6 +372,10 @@ OF_FILES = {
     'rbacaudit lint ': {'a.json', 'b.json', 'sub'},
     'rbacaudit lint sub/': {'sub/c.json'},
     'rbacaudit lint -- a': {'a.json'},
+    'rbacaudit diff --before ': {'a.json', 'b.json', 'sub'},
+    'rbacaudit diff --before a.json b': {'b.json'},
+    'rbacaudit diff --before a.json b.json --after a.json ': {'a.json', 'b.json', 'sub'},
+    'rbacaudit diff --after a.json --before sub/': {'sub/c.json'},
 }
 
 

@@ -5,7 +5,7 @@
 parts_of() {
     wanted=
     case $1 in
-        rules | lint) needed='cluster.json namespaced.json' ;;
+        rules | lint | diff) needed='cluster.json namespaced.json' ;;
         matrix) needed='cluster.json namespaced.json namespaces.json accounts.json api' ;;
         *) needed='cluster.json namespaced.json api' ;;
     esac
@@ -329,7 +329,8 @@ question_help() {
 # What the options of the plugin need, once all are taken; and the temporary folder.
 check_options() {
     [ -z "$option" ] || refuse "$option needs a value"
-    if [ -z "$export_dir" ]; then
+    # (one side of diff alone is compared with a fresh one)
+    if [ -z "$export_dir" ] || [ "$command$later_dir$with" = diff ]; then
         need_kubectl
     elif [ -n "$context$kubeconfig$timeout" ]; then
         refuse 'an export answers without a cluster: with --export, give no option of kubectl'

@@ -83,7 +83,7 @@ Write everything about the export as one HTML file, which any current browser op
   kubectl rbacaudit page [--title TEXT] [--diff FILE] [--every] [FILE].. > access.html
 
   --title TEXT  the title of the page
-  --diff FILE   changes to show beside: rows with + or - and a tab before them
+  --diff FILE   changes to show beside, as rbacaudit diff writes them
   --every       rows for every binding that grants, not only for the first
 
 The rows are those of matrix, over the universe that kubectl rbacaudit universe writes: without

@@ -24,7 +24,8 @@ read_word() {
         case $1 in
             --) literal=yes ;;
             --help) help=yes ;;
-            --as | --groups | --namespace | --subresource | --after | --limit) awaits=$1 ;;
+            --as | --groups | --namespace | --subresource | --limit) awaits=$1 ;;
+            --after) [ "$command" = diff ] || awaits=$1 ;;
             --as=* | --namespace=* | --subresource=*) take_value "${1%%=*}" "${1#*=}" ;;
             --all-namespaces) everywhere=yes ;;
             --*) ;;
@@ -94,10 +95,11 @@ take_own() {
 set_option() {
     [ -n "$2" ] || refuse "$1 needs a value"
     case $1 in
-        --export)
-            refuse_second "$1" "$export_dir"
+        --export) set_export "$2" ;;
+        --with)
+            refuse_second "$1" "$with"
             set_dir "$2"
-            export_dir=$dir
+            with=$dir
             ;;
         --context) refuse_second "$1" "$context" && context=$2 ;;
         --kubeconfig) refuse_second "$1" "$kubeconfig" && kubeconfig=$2 ;;
@@ -109,6 +111,18 @@ set_option() {
         --diff) refuse_second "$1" "$diff" && diff=$2 ;;
     esac
     option=
+}
+
+# diff takes two.
+set_export() {
+    set_dir "$1"
+    if [ "$command" = diff ] && [ -n "$export_dir" ]; then
+        [ -z "$later_dir" ] || refuse 'diff takes two exports, and --export is given three times'
+        later_dir=$dir
+    else
+        refuse_second --export "$export_dir"
+        export_dir=$dir
+    fi
 }
 
 refuse_second() {
