@@ -9,6 +9,7 @@ pub mod OneMeant
 pub mod OneReason
 pub mod OneRun
 pub mod PageLemmas
+pub mod PlusLemmas
 pub mod Printed
 pub mod Stops
 pub mod TakenBytes

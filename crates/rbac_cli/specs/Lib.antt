@@ -6,6 +6,7 @@ pub mod Listings
 pub mod Meant
 pub mod Out
 pub mod PageLeft
+pub mod PlusLines
 pub mod Printing
 pub mod RunTexts
 pub mod ShownTokens

@@ -21,7 +21,7 @@ mod running;
 mod stop;
 mod who_can;
 
-pub use laws::{answers_are_one, runs_are_one};
+pub use laws::{answers_are_one, plus_lines_tell_all, runs_are_one};
 pub use outcome::{RunFault, Status};
 pub use rbac_command::{UsageFault, command_of};
 pub use rbac_manifest::{At, Cause, LoadFault};
