@@ -22,15 +22,15 @@ _rbacaudit() {
             place=$((place + 1))
         else
             given+="$word "
-            [[ $word == --@(as|groups|namespace|subresource|after|limit|before) || $word == -*([!n-])n ]] && waits=yes
+            [[ $word == --@(as|groups|group|namespace|subresource|after|limit|before) || $word == -*([!n-])n ]] && waits=yes
         fi
     done
 
     # Two spellings of one option are joined by a comma.
     case $command in
-        can-i) options='--as --groups -n,--namespace -A,--all-namespaces --subresource -q,--quiet --why -h,--help' ;;
-        who-can) options='-n,--namespace -A,--all-namespaces --subresource --why -h,--help' ;;
-        rules) options='--groups -n,--namespace -A,--all-namespaces -h,--help' ;;
+        can-i) options='--as --groups --group -n,--namespace -A,--all-namespaces --in-namespace --subresource -q,--quiet --why -h,--help' ;;
+        who-can) options='-n,--namespace -A,--all-namespaces --in-namespace --subresource --anywhere --every --why -h,--help' ;;
+        rules) options='--groups --group -n,--namespace -A,--all-namespaces -h,--help' ;;
         matrix) options='--every --after --limit -h,--help' ;;
         lint) options='-h,--help' ;;
         diff) options='--before --after -h,--help' ;;
@@ -44,9 +44,9 @@ _rbacaudit() {
     elif [[ $waits ]]; then
         return # a value is free text
     elif [[ $cur == -* && $given != *' -- '* ]]; then
-        # An option is given once. The short one may stand among others, as in -Aq; what follows an n is its value.
+        # An option but --group is given once. The short one may stand among others, as in -Aq; what follows an n is its value.
         for group in $options; do
-            [[ $given == *" ${group#*,}"[\ =]* || $group == *,* && $given == *" -"*([!n -])"${group:1:1}"* ]] ||
+            [[ $group != --group && $given == *" ${group#*,}"[\ =]* || $group == *,* && $given == *" -"*([!n -])"${group:1:1}"* ]] ||
                 mapfile -t -O "${#COMPREPLY[@]}" COMPREPLY < <(compgen -W "${group/,/ }" -- "$cur")
         done
     elif [[ ! $command ]]; then

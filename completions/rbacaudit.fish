@@ -4,14 +4,15 @@
 function __rbacaudit_line
     set -l words (commandline -opc)
     # (an option that still waits for its value isn't given yet)
-    string match -qr -- '^(--(as|groups|namespace|subresource|after|limit|before)|-[^-n]*n)$' "$words[-1]"
+    string match -qr -- '^(--(as|groups|group|namespace|subresource|after|limit|before)|-[^-n]*n)$' "$words[-1]"
     and set -e words[-1]
-    argparse -i h/help V/version as= groups= n/namespace= A/all-namespaces subresource= q/quiet why every after=+ limit= before=+ \
-        -- $words 2>/dev/null
+    argparse -i h/help V/version as= groups= group=+ n/namespace= A/all-namespaces in-namespace subresource= q/quiet why anywhere every \
+        after=+ limit= before=+ -- $words 2>/dev/null
     or return
     echo "$argv[2]"
     count $argv[3..]
-    set --names --local | string replace -fr '^_flag_(..+)' '$1'
+    # (--group may be given again)
+    set --names --local | string replace -fr '^_flag_(..+)' '$1' | string match -v group
 end
 
 # Whether the line has one of these commands and lacks this option: __rbacaudit_lacks OPTION COMMAND..
@@ -46,14 +47,18 @@ complete -c rbacaudit -n '__rbacaudit_words -eq 0 ""' -a diff -d 'List what a ch
 
 complete -c rbacaudit -n '__rbacaudit_lacks as can-i' -l as -x -d 'User to check'
 complete -c rbacaudit -n '__rbacaudit_lacks groups can-i rules' -l groups -x -d 'Groups of the user beside the implied ones (default: none)'
+complete -c rbacaudit -n '__rbacaudit_lacks group can-i rules' -l group -x -d 'One more group, whole (default: none)'
 complete -c rbacaudit -n '__rbacaudit_lacks namespace can-i who-can' -s n -l namespace -x -d 'Namespace to check (default: default)'
 complete -c rbacaudit -n '__rbacaudit_lacks all-namespaces can-i who-can' -s A -l all-namespaces -d 'Check all namespaces at once'
 complete -c rbacaudit -n '__rbacaudit_lacks namespace rules' -s n -l namespace -x -d 'Namespace whose RoleBindings count (default: any)'
 complete -c rbacaudit -n '__rbacaudit_lacks all-namespaces rules' -s A -l all-namespaces -d 'Only what holds in all namespaces at once'
+complete -c rbacaudit -n '__rbacaudit_lacks in-namespace can-i who-can' -l in-namespace -d 'Ask in the namespace also about a cluster-scoped type'
 complete -c rbacaudit -n '__rbacaudit_lacks subresource can-i who-can' -l subresource -x -d 'Subresource to check (default: none)'
 complete -c rbacaudit -n '__rbacaudit_lacks quiet can-i' -s q -l quiet -d 'Print nothing'
 complete -c rbacaudit -n '__rbacaudit_lacks why can-i' -l why -d 'After yes, print why'
 complete -c rbacaudit -n '__rbacaudit_lacks why who-can' -l why -d 'After the binding, print why'
+complete -c rbacaudit -n '__rbacaudit_lacks anywhere who-can' -l anywhere -d 'Count the bindings of all namespaces'
+complete -c rbacaudit -n '__rbacaudit_lacks every who-can' -l every -d 'List each of them with every binding that grants it'
 complete -c rbacaudit -n '__rbacaudit_lacks every matrix' -l every -d 'List every binding that grants, not only the first'
 complete -c rbacaudit -n '__rbacaudit_lacks after matrix' -l after -x -d 'List only the rows after this TOKEN of a next line (default: from the first)'
 complete -c rbacaudit -n '__rbacaudit_lacks limit matrix' -l limit -x -d 'List at most N rows, 1 to 1000000 (default: all)'

@@ -164,6 +164,16 @@ def few_reasons():
                 'u:system:serviceaccount:dev:ci' + why % 1 + 'u:bob-who-has-a-rather-long-name' + why % 2)
 
 
+def each_binding():
+    """Each holder with every binding, of which one names a group twice in another namespace."""
+    more = item('RoleBinding', {'namespace': 'a-namespace-with-a-rather-long-name', 'name': 'b'}, roleRef=role_ref('ClusterRole', 'admin'),
+                subjects=[{'kind': 'Group', 'name': 'dev'}, {'kind': 'Group', 'name': 'dev'}])
+    return Case('who-can --anywhere --every --why', ['who-can', '--anywhere', '--every', '--why', 'get', 'pods'], export(*WORKED, more), 0,
+                ''.join('%s\t%s\tClusterRole/admin\tClusterRole/%s\t1\t%d\n' % (who, binding, LONG, place) for who, binding, place in (
+                    ('g:dev', 'ClusterRoleBinding/a', 1), ('u:alice', 'ClusterRoleBinding/a', 2),
+                    ('g:dev', 'RoleBinding/a-namespace-with-a-rather-long-name/b', 1))))
+
+
 def few_rules():
     return Case('rules', ['rules', CI_KEY], export(*WORKED), 0, DEV_RULE % 1)
 
@@ -340,6 +350,10 @@ def answers():
     yield Case('can-i -q', [*ALICE, '-q', 'get', 'po'], export(*WORKED), 0)
     yield few_holders()
     yield few_reasons()
+    yield each_binding()
+    yield Case('can-i --group', ['can-i', '--as', 'kim', '--group', 'a-group-with-a-rather-long-name,', '--group', 'dev', 'get', 'pods'],
+               export(*WORKED), 0, 'yes\n')
+    yield Case('can-i --in-namespace', [*ALICE, '--in-namespace', 'get', 'po'], export(*WORKED), 0, 'yes\n')
     yield few_rules()
     yield Case('rules --groups', ['rules', 'u:bob-who-has-a-rather-long-name', '-n', 'dev', '--groups', 'ops,dev'], export(*WORKED), 0,
                GROUP_RULES + DEV_RULE % 2)
@@ -439,7 +453,7 @@ def endless_input(shim):
 
 def failed_writes(shim, room):
     """Each write in turn: of a long text as it is written in pieces, and of short ones that are taken at once or byte by byte."""
-    shorts = few_holders(), few_reasons(), few_rules(), few_changes(room), findings(), odd_names()
+    shorts = few_holders(), few_reasons(), each_binding(), few_rules(), few_changes(room), findings(), odd_names()
     longs = (long_matrix(), 0), (long_matrix(), 10_000), (long_rules(), 0), (long_changes(room), 0)
     pieces = [*longs, *itertools.product(shorts, (0, 1))]
     for (case, piece), error in itertools.product(pieces, (errno.ENOSPC, errno.EINTR, 0)):

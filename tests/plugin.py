@@ -140,7 +140,7 @@ COMPLETED = [
     (['diff', ''], [], NOTHING), (['diff', '--with', ''], [], FILES),
     (['diff', '--export', 'x', '--export', ''], [], FOLDERS),
     (['diff', '--export', 'x', '--e'], ['--export'], NOTHING),
-    (['universe', ''], [], NOTHING), (['can-i', '-qAn', 'x', '--as=y', '--g'], ['--groups'],
+    (['universe', ''], [], NOTHING), (['can-i', '-qAn', 'x', '--as=y', '--g'], ['--groups', '--group'],
                                       NOTHING),
     (['can-i', '-qA', '--a'], ['--as'], NOTHING),
     (['can-i', '--namespace', 'x', '-n'], [], NOTHING),
@@ -185,7 +185,7 @@ def completions(it):
             for name in names if names != HELP else ():
                 got = offered([command, name, *['x'] * bool(value), '--'])[0]
                 wanted = [others[-1] for others in here if others != names
-                          or names == ('--as-group',) or (command, name) == ('diff', '--export')]
+                          or names in (('--group',), ('--as-group',)) or (command, name) == ('diff', '--export')]
                 it.checked('%s %s is given once' % (command, name), sorted(got) == sorted(wanted),
                            got)
 

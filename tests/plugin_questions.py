@@ -82,6 +82,40 @@ def namespaces(it):
               trouble=['forbid namespaces'])
 
 
+OWN = ('kubectl-rbacaudit: the question is about the object of the namespace %s, so it is asked in that namespace, as a server does; '
+       '-A asks about the whole cluster\n')
+
+
+@in_each_shell
+def own_objects(it):
+    """A namespace's own object is asked about in that namespace, unless the words say where."""
+    role = {'apiVersion': RBAC + '/v1', 'kind': 'Role', 'metadata': {'name': 'own', 'namespace': 'shop'},
+            'rules': [{'verbs': ['patch'], 'apiGroups': [''], 'resources': ['namespaces', 'nodes']}]}
+    bound = {'apiVersion': RBAC + '/v1', 'kind': 'RoleBinding', 'metadata': {'name': 'own', 'namespace': 'shop'},
+             'roleRef': {'kind': 'Role', 'name': 'own'}, 'subjects': [{'kind': 'User', 'name': 'pat'}]}
+    it.run('export', 'prod')
+    listed = {'name': 'namespaces', 'singularName': '', 'shortNames': ['ns'], 'namespaced': False, 'kind': 'Namespace', 'verbs': ['patch']}
+    files = {'own.json': {'apiVersion': 'v1', 'kind': 'List', 'items': [role, bound]},
+             'prod/api-namespaces.json': {'kind': 'APIResourceList', 'groupVersion': 'v1', 'resources': [listed]}}
+    for name, it_has in files.items():
+        with open(os.path.join(it.work, name), 'w', encoding='utf-8') as file:
+            json.dump(it_has, file)
+    can_i = ['can-i', '--export', 'prod', '--as', 'pat']
+    for target in ('namespaces/shop', 'ns/shop', 'namespaces./shop'):
+        it.expect('the object ' + target, [*can_i, 'patch', target, 'own.json'], 0, 'yes\n', OWN % 'shop')
+        it.expect('the object %s with -n' % target, [*can_i, '-n', 'shop', 'patch', target, 'own.json'], 0, 'yes\n', OWN % 'shop')
+        it.expect('the object %s with -A' % target, [*can_i, '-A', 'patch', target, 'own.json'], 1, 'no\n')
+    it.expect('the object of another namespace', [*can_i, '-n', 'shop', 'patch', 'ns/monitoring', 'own.json'], 1, 'no\n')
+    it.expect('the object of a namespace that isn\'t there', [*can_i, 'patch', 'ns/shpo', 'own.json'], 1, 'no\n', OWN % 'shpo' + NO_SPACE % 'shpo')
+    it.expect('all namespaces', [*can_i, '-n', 'shop', 'patch', 'namespaces', 'own.json'], 1, 'no\n')
+    it.expect('another type in a namespace', [*can_i, '-n', 'shop', '--in-namespace', 'patch', 'nodes', 'own.json'], 0, 'yes\n')
+    it.expect('who can change it', ['who-can', '--export', 'prod', 'patch', 'ns/shop', 'own.json'], 0,
+              DANA + 'u:pat\tRoleBinding/shop/own\n', OWN % 'shop')
+    it.expect('who can, anywhere', ['who-can', '--export', 'prod', '--anywhere', 'list', 'pods'], 0, DANA + DEVELOPERS)
+    it.expect('groups with commas', ['can-i', '--export', 'prod', '--as', 'x', '--group', 'shop-developers', '--group', 'a,b', '-n', 'shop', 'list', 'pods'],
+              0, 'yes\n')
+
+
 @in_each_shell
 def accounts(it):
     """A service account that the export doesn't have is reported, to those who may read accounts."""
@@ -596,5 +630,5 @@ def universes(it):
     it.checked('a universe of nothing is a document too', status == 0 and document(out) == {**wanted, 'resources': []}, got)
 
 
-CHECKS = [questions, rules, namespaces, accounts, alone, idle_groups, stale_aggregates, words, files,
+CHECKS = [questions, rules, namespaces, own_objects, accounts, alone, idle_groups, stale_aggregates, words, files,
           universe_faults, parts, gaps, types, subresources, universes]

@@ -28,7 +28,8 @@ EMPTY_WORDS = (['can-i', '--as', '', 'get', 'pods'], ['can-i', '--as', 'alice', 
 # WHO is no key, or groups are given to a group.
 NOBODY = (['rules', ''], ['rules', 'u:'], ['rules', 'g:'], ['rules', 'kim'], ['rules', 'u'], ['rules', ':kim'], ['rules', 'x:kim'],
           ['rules', 'U:kim'], ['rules', ' u:kim'], ['rules', '-A', 's:kim'], ['rules', '--groups', 'ops', 'g:dev'],
-          ['rules', 'g:dev', '--groups=,'], ['rules', '--groups', 'ops', 'u:'], ['rules', '--groups=', 'g:'])
+          ['rules', 'g:dev', '--groups=,'], ['rules', '--group', 'ops', 'g:dev'], ['rules', '--group', '', '--group', ',', 'g:dev'],
+          ['rules', '--group=ops', 'u:'], ['rules', '--groups', 'ops', 'u:'], ['rules', '--groups=', 'g:'])
 # Not both sides of a change are given, or more than its files.
 NO_CHANGES = ([], ['a'], ['a', 'b'], ['--before', 'a'], ['--after', 'a'], ['--before', 'a', '--before', 'b'],
               *([*words, '--before', 'a', '--after', 'b'] for words in (['c'], ['-n', 'dev'], ['--why'], ['-q'], ['--limit', '1'])),
@@ -87,6 +88,7 @@ def streams():
     for words in NOBODY:
         expect('no principal: %r' % (words,), words, 2, err=b'rbacaudit: U5 bad principal\n')
     expect('rules of nobody have status 0', ['rules', 'u:kim'], 0, given=GRANTED)
+    expect('groups of a group that are empty', ['rules', '--groups=', '--group=', '--group=', 'g:dev'], 0, given=GRANTED)
     expect('a subresource of a URL has status 2',
            ['can-i', '--as', 'alice', '--subresource', 'log', 'get', '/healthz'], 2,
            err=b'rbacaudit: U3 subresource with a URL\n')
@@ -158,7 +160,7 @@ def help_and_usage():
     for command in (b'can-i', b'who-can', b'rules', b'matrix', b'lint', b'diff'):
         checked('help names %s' % command.decode(), command in commands, repr(commands))
     options = run(['can-i', '--help']).stdout
-    for option in (b'--as', b'--groups', b'-n, --namespace', b'-A, --all-namespaces', b'--subresource', b'-q, --quiet',
+    for option in (b'--as', b'--groups', b'--group <G>', b'-n, --namespace', b'-A, --all-namespaces', b'--in-namespace', b'--subresource', b'-q, --quiet',
                    b'--why', b'VERB', b'TARGET', b'FILE'):
         checked('help names %s' % option.decode(), option in options, repr(options))
     for line in (b'Namespace to check (default: default)', b'five fields, joined by tabs', b'rbacaudit can-i --as alice -n dev get pods'):
@@ -168,11 +170,12 @@ def help_and_usage():
         checked('help of %s names FILE and has an example' % command, b'FILE' in text and b'rbacaudit %s ' % command.encode() in text, repr(text))
     for option in (b'--every', b'--after <TOKEN>', b'--limit <N>'):
         checked('help names %s' % option.decode(), option in run(['matrix', '--help']).stdout)
-    for said in (b'--groups <A,B>', b'-n, --namespace <NS>', b'-A, --all-namespaces', b'ten fields, joined by tabs', b'[] is the empty list'):
+    for said in (b'--groups <A,B>', b'--group <G>', b'-n, --namespace <NS>', b'-A, --all-namespaces', b'ten fields, joined by tabs', b'[] is the empty list'):
         checked('help of rules says "%s"' % said.decode(), said in run(['rules', '--help']).stdout)
     for said in (b'--before <FILE>', b'--after <FILE>', b'eight fields, joined by tabs'):
         checked('help of diff says "%s"' % said.decode(), said in run(['diff', '--help']).stdout)
-    checked('help of who-can names --why', b'--why' in run(['who-can', '--help']).stdout)
+    for option in (b'--in-namespace', b'--anywhere', b'--every', b'--why'):
+        checked('help of who-can names %s' % option.decode(), option in run(['who-can', '--help']).stdout)
     no_tokens = ['', 'MQ==', 'M', 'OQ', 'MQ', 'Mg', 'Mw', 'MQlnOmEJLQktCS0JeAkt=']
     key = '\tg:a\t-\t-\t-\tx\t-'
     no_tokens += map(token_of, ['2' + key, '1' + key + '\tClusterRoleBinding\t-\tb', '3' + key + '\tClusterRoleBinding\t-\tb',
@@ -191,7 +194,11 @@ def help_and_usage():
                   ['can-i', '--as', 'a', '--as', 'b', 'get', 'pods'], ['can-i', '--as', 'a', '-A', '-A', 'get', 'pods'],
                   ['can-i', '--as', '-a', 'get', 'pods'], ['who-can', 'get'], ['who-can', '--as', 'alice', 'get', 'pods'],
                   ['who-can', '--limit', '1', 'get', 'pods'],
-                  ['who-can', '--every', 'get', 'pods'], ['lint', '--every'], ['matrix', '--every', '--every'], ['matrix', '--every=x'],
+                  ['who-can', '--every', '--every', 'get', 'pods'], ['who-can', '--every=x', 'get', 'pods'], ['who-can', '--anywhere=x', 'get', 'pods'],
+                  ['who-can', '--anywhere', '--anywhere', 'get', 'pods'], ['who-can', '--group', 'a', 'get', 'pods'], ['can-i', '--as', 'a', '--anywhere', 'get', 'pods'],
+                  ['can-i', '--as', 'a', '--every', 'get', 'pods'], ['can-i', '--as', 'a', '--in-namespace', '--in-namespace', 'get', 'pods'],
+                  ['rules', '--in-namespace', 'u:a'], ['rules', '--anywhere', 'u:a'], ['matrix', '--group', 'a'], ['matrix', '--anywhere'], ['lint', '--group', 'a'],
+                  ['can-i', '--as', 'a', '--group', '-x', 'get', 'pods'], ['lint', '--every'], ['matrix', '--every', '--every'], ['matrix', '--every=x'],
                   ['matrix', '--limit', '1', '--limit', '1'], ['matrix', '--after', 'MQ', '--after', 'MQ'], ['matrix', '-n', 'dev'],
                   ['lint', '--limit', '1'], ['lint', '-n', 'dev'], ['help'], ['rules'], ['rules', '-A'], ['rules', '--why', 'u:a'], ['rules', '-q', 'u:a'],
                   ['rules', '--as', 'a', 'u:a'], ['rules', '-A', '-A', 'u:a'], ['rules', '--groups', 'a', '--groups', 'b', 'u:a'],

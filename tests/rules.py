@@ -6,7 +6,9 @@ lists and escapes too, and each request is matched against them by docs/BEHAVIOU
 has to say yes exactly if a line allows it, and the first line that does is what `can-i --why` has
 to print. What is listed in a place has to be, of all lines, those whose binding counts there.
 `can-i` can't ask about a member of one group alone, but `who-can --why` tells: a group has to be a
-holder exactly if a line of its rules allows the request, with the first such line.
+holder exactly if a line of its rules allows the request, with the first such line. And `who-can
+--every`, in a namespace or anywhere, has to list the pairs of a key and a binding that
+docs/BEHAVIOUR.md says.
 `rules.py SEED COUNT` tries other exports. The last line is `N passed, M failed`.
 """
 
@@ -15,7 +17,7 @@ import subprocess
 import sys
 
 from common import PROGRAM, export
-from meaning import is_live, rule_allows, text_shown
+from meaning import binding_text, field, is_live, key_of, ordered_bindings, rule_allows, text_shown
 from pages import (GROUPS, NAMES, NAMESPACES, RESOURCES, TEAMS, URLS, USERS, bindings, roles,
                    some)
 
@@ -114,6 +116,8 @@ def user_agrees(draw, items, given):
     """How the answers about a user differ, or nothing; and whether it was a yes."""
     user, groups = draw.choice(USERS), some(draw, TEAMS) if draw.random() < 0.5 else []
     given_groups = ['--groups', ','.join(groups)] if groups else []
+    if draw.random() < 0.3:
+        given_groups = [word for group in groups for word in ('--group', group)]
     options, namespace = place(draw)
     asked, verb, target = request(draw, items)
     whole = lines_of('u:' + user, given, *given_groups)
@@ -150,6 +154,22 @@ def holders_agree(draw, items, given):
     return None
 
 
+def pairs_agree(draw, items, given):
+    """How `who-can --every` differs from the bindings themselves, or nothing."""
+    options, namespace = place(draw)
+    asked, verb, target = request(draw, items)
+    anywhere = draw.random() < 0.5
+    wanted = []
+    for (kind, home, name), subjects, rules in ordered_bindings(items):
+        counts = is_live(home, home if anywhere and '-A' not in options else namespace, target)
+        if counts and any(rule_allows(rule, verb, target) for rule in rules):
+            keys = dict.fromkeys(key_of(subject, home) for subject in subjects)
+            wanted += ['%s\t%s\n' % (field(key), field(binding_text(kind, home, name))) for key in keys if key]
+    options = [*options, '--every', *['--anywhere'] * anywhere]
+    got = told('who-can', *options, *asked, given=given)
+    return None if got == (0, ''.join(wanted)) else 'who-can %s %s: wanted %r, got %r' % (options, asked, wanted, got)
+
+
 def without_subject(why):
     return why.rpartition('\t')[0]
 
@@ -161,10 +181,10 @@ def main(seed, count):
         items = odd(draw, [*roles(draw), *bindings(draw)])
         draw.shuffle(items)
         given = export(*items)
-        for turn in range(USER_TURNS + 2):
+        for turn in range(USER_TURNS + 4):
             try:
                 wrong, allowed = (user_agrees(draw, items, given) if turn < USER_TURNS
-                                  else (holders_agree(draw, items, given), False))
+                                  else ((holders_agree if turn % 2 else pairs_agree)(draw, items, given), False))
             except ValueError as fault:
                 wrong, allowed = str(fault), False
             passed, failed, yes = passed + (not wrong), failed + bool(wrong), yes + allowed

@@ -127,7 +127,7 @@ def zsh_file():
     agrees('zsh: the commands at work', [command for command, _ in calls], ['', *commands()])
     for command, call in calls:
         specs = re.sub(r'\$(\w+)', lambda name: arrays[name[1]], call)
-        found = re.findall(r"(?:'\([^)]*\)'\{(.*?)\}'|'(--[\w-]+=?))\[(.*?)\](?::([^\s:]+):(?: |_files[^']*))?'", specs)
+        found = re.findall(r"(?:'\([^)]*\)'\{(.*?)\}'|'\*?(--[\w-]+=?))\[(.*?)\](?::([^\s:]+):(?: |_files[^']*))?'", specs)
         said = {tuple(re.findall(r'--?[\w-]+', names + name)): (value, text) for names, name, text, value in found}
         agrees('zsh: the options of %s' % (command or 'the program'), said, options(*command.split()), is_described)
 
@@ -318,21 +318,26 @@ def in_fish(lines, home, folder):
     return [[found.partition('\t')[0] for found in lines.splitlines()] for lines in ended.stdout.decode().split('\x1d')[:-1]]
 
 
+def may_be_repeated(text):
+    return 'may be repeated' in text
+
+
 def of_options():
-    """Lines that end in an option, each with all that is to be offered: no option twice, and no word for a value."""
+    """Lines that end in an option, each with all that is to be offered: none twice that is given once, and no word for a value."""
     for command in ('', *commands()):
         here = options(*command.split())
         line = ' '.join(['rbacaudit', *command.split(), ''])
         yield line + '-', [name for names in here for name in names]
         for names, (value, text) in here.items():
+            left = [others for others in here if others != names or may_be_repeated(text)]
             for name in names if text not in ('Print help', 'Print version') else ():
-                yield line + name + (' x' if value else '') + ' -', [other for others in here for other in others if others != names]
+                yield line + name + (' x' if value else '') + ' -', [other for others in left for other in others]
                 if value and value != 'FILE':
                     yield line + name + ' ', []
             if value:
                 if value != 'FILE':
                     yield line + names[-1] + '=', []
-                yield line + names[-1] + '=x --', [other for others in here for other in others if others != names and len(other) > 2]
+                yield line + names[-1] + '=x --', [other for others in left for other in others if len(other) > 2]
 
 
 def of_words():
@@ -350,11 +355,11 @@ def of_words():
         yield 'rbacaudit %s -An shop get ' % command, []
     yield 'rbacaudit can-i --as system:serviceaccount:shop:ci ', VERBS
     yield 'rbacaudit can-i --as=system:serviceaccount:shop:ci -q get ', []
-    yield 'rbacaudit can-i -Aqn shop --', ['--as', '--groups', '--subresource', '--why', '--help']
+    yield 'rbacaudit can-i -Aqn shop --', ['--as', '--groups', '--group', '--in-namespace', '--subresource', '--why', '--help']
     yield 'rbacaudit who-can -- -', []
     yield 'rbacaudit rules ', []
     yield 'rbacaudit rules -n shop --groups a,b ', []
-    yield 'rbacaudit rules u:system:serviceaccount:shop:ci -An shop --', ['--groups', '--help']
+    yield 'rbacaudit rules u:system:serviceaccount:shop:ci -An shop --', ['--groups', '--group', '--help']
     yield 'rbacaudit d', ['diff']
     yield 'rbacaudit diff --before a.json b.json --', ['--after', '--help']
 

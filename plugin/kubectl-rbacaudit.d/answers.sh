@@ -79,8 +79,11 @@ lack() {
 
 # An export of one namespace can't answer about another, and is a part for all others.
 look_for_other() {
-    case $command,$everywhere,$asked_in in
-        can-i,* | who-can,* | rules,yes,* | rules,no,?*)
+    case $command,$everywhere$anywhere,$asked_in in
+        who-can,noyes,*)
+            report "the export has the namespace $only alone, and this answer knows no other"
+            ;;
+        can-i,* | who-can,* | rules,yesno,* | rules,nono,?*)
             [ -z "$asked_in" ] || [ "$asked_in" = "$only" ] ||
                 "$1" "the export has the namespace $only alone"
             ;;
@@ -246,9 +249,11 @@ question_command() {
     case $command in
         can-i | who-can | rules) remark_on_question ;;
     esac
-    if [ -n "$implied" ]; then
+    if [ -n "$implied$own" ]; then
         shift
-        set -- "$command" "--namespace=$implied" "$@"
+        [ -z "$own" ] || set -- --in-namespace "$@"
+        [ "$has_namespace" = yes ] || set -- "--namespace=$asked_in" "$@"
+        set -- "$command" "$@"
     fi
     answer "$@"
     exit "$answered"
@@ -289,20 +294,37 @@ look_at_about() {
 
 # Leaves in `asked_in` the namespace that a question is about, as far as the words say it: nothing
 # for a URL or the whole cluster. Without -n it is the context's, as for kubectl, and `implied` is
-# it; but rules are then those of all bindings.
+# it; but rules are then those of all bindings. A namespace's own object is asked about in that
+# namespace, as a server does, unless the words say where: `own` is its name.
 choose_namespace() {
     asked_in=
     implied=
+    own=
     if [ "$command" = rules ]; then
         [ "$everywhere" = yes ] || asked_in=$namespace
         return
     fi
-    [ -n "$type" ] && [ "$everywhere" = no ] || return 0
+    [ -n "$type" ] && [ "$everywhere$anywhere" = nono ] || return 0
     asked_in=${namespace:-default}
+    if [ "$in_namespace" = no ] && is_own_object; then
+        own=$object
+        asked_in=$object
+        return
+    fi
     [ "$has_namespace" = no ] || return 0
     [ -n "$export_dir" ] || look_at_context
     implied=${context_namespace:-default}
     asked_in=$implied
+}
+
+# Whether the target is the object of a namespace, and the words name no other namespace.
+is_own_object() {
+    case ${type%.} in
+        namespaces | namespace | ns) ;;
+        *) return 1 ;;
+    esac
+    [ -n "$object" ] || return 1
+    [ "$has_namespace" = no ] || [ "$namespace" = "$object" ]
 }
 
 # Answers, and then says so if the cluster may answer differently.

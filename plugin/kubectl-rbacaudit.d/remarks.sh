@@ -110,6 +110,8 @@ find_culprit() {
 # What is said before an answer: the type, and then the namespace and the account.
 remark_on_question() {
     [ -z "$type" ] || check_type
+    [ -z "$own" ] || report "the question is about the object of the namespace $own, so it is asked \
+in that namespace, as a server does; -A asks about the whole cluster"
     if [ -n "$asked_in" ]; then
         [ -z "$implied" ] || report "the question is about the namespace $implied; \
 -n NS asks about another, and -A about the whole cluster"

@@ -46,7 +46,7 @@ check_type() {
     grant_listed
     has_type=no
     ! with_files is_listed '' || has_type=yes
-    [ "$has_type" = no ] || with_files is_inside || asked_in=
+    [ "$has_type$in_namespace$own" != yesno ] || with_files is_inside || asked_in=
     if [ "$has_type$subresource" = yes ] ||
         { [ -n "$subresource" ] && with_files is_listed "$subresource"; }; then
         check_object

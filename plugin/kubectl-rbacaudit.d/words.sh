@@ -24,10 +24,12 @@ read_word() {
         case $1 in
             --) literal=yes ;;
             --help) help=yes ;;
-            --as | --groups | --namespace | --subresource | --limit) awaits=$1 ;;
+            --as | --groups | --group | --namespace | --subresource | --limit) awaits=$1 ;;
             --after) [ "$command" = diff ] || awaits=$1 ;;
             --as=* | --namespace=* | --subresource=*) take_value "${1%%=*}" "${1#*=}" ;;
             --all-namespaces) everywhere=yes ;;
+            --anywhere) anywhere=yes ;;
+            --in-namespace) in_namespace=yes ;;
             --*) ;;
             -?*) read_letters "${1#-}" ;;
             *) place=yes ;;

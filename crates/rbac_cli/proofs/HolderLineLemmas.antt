@@ -1,6 +1,6 @@
 -- The lines of holders: each holder has one line, and no other.
 use Rattle.std.proofs.Common.{◌≡◌, ◌∙◌, ℕ, ◌<◌, ◌≤◌, Bool, true, false, List, [], ◌∷◌, length, get_or, drop, drop-cons, add-one, ◌+◌, Contains, ap, sym, subst, refl, arith, suc, zero, ◌⊎◌, inl, inr}
-use Rattle.std.specs.Prelude.{Some, None, Any, slice_get}
+use Rattle.std.specs.Prelude.{◌↔◌, Some, None, Any, IsTrue, slice_get}
 use Rattle.std.proofs.lemmas.Bool.{cases_eq}
 use Rattle.std.proofs.lemmas.Option.{same_Some, slice_get_within, slice_get-get_or, get_or_from_slice_get}
 use Rattle.rbac_terms.specs.Text.{Text}
@@ -13,37 +13,42 @@ use Rattle.rbac_terms.specs.declared.granting.RoleRef.TheVariants as ref
 use Rattle.rbac_terms.specs.declared.granting.Binding.{Binding}
 use Rattle.rbac_terms.specs.declared.granting.Subject.TheVariants.{User}
 use Rattle.rbac_model.specs.Policies.{Held, IsHeld, PolicyView, IsPolicy, GrantView, Source, SourcedRule, InClusterRole, AreRulesFor, IsOfBinding}
-use Rattle.rbac_model.specs.Holders.{HolderView, IsHolder, AreHolders}
+use Rattle.rbac_model.specs.Holders.{HolderView}
 use Rattle.rbac_model.specs.Sources.{source_of}
 use Rattle.rbac_model.proofs.BindingPlaces.{one_binding_place, of_some_binding, grant_of_rule}
 use Rattle.rbac_model.proofs.GrantNumbers.{grant_by}
 use Rattle.rbac_model.proofs.OneList.{one_rules_for}
 use Rattle.rbac_index.specs.Deciding.{AllowsOf, IsFirstAllowing}
-use Rattle.rbac_index.specs.WhyHeld.{IsHeldShown}
+use Rattle.rbac_index.specs.WhoCan.{WhereView, InNamespace, HoldsAt, IsHolderBy, IsListedHolder, AreListedHolders}
+use Rattle.rbac_index.specs.WhyHeld.{IsFirstShown}
 use Rattle.rbac_index.specs.declared.deciding.Why.{Why}
-use Rattle.rbac_index.proofs.ReasonLemmas.{why_of_holder}
 use Rattle.rbac_matrix.proofs.Decided.{Decided, grants}
 use Rattle.rbac_text.specs.Row.{holder_text}
 use Rattle.rbac_text.specs.Why.{holder_why_text}
 use Rattle.rbac_catalogue.specs.Catalogue.{CatalogueView}
+use Rattle.rbac_catalogue.specs.declared.entry.Entry.{Entry}
 use Rattle.rbac_manifest.specs.Load.{LoadedView}
 use Rattle.rbac_question.specs.declared.command.Action.TheVariants.{WhoCan}
 use Rattle.rbac_question.specs.declared.command.Question.{Question}
 use Rattle.rbac_cli.specs.HolderLines.{IsHolderLine, AreHolderLines, joined}
-use Rattle.rbac_cli.specs.Meant.{IsMeant}
+use Rattle.rbac_cli.specs.Meant.{IsMeant, IsTargetMeant, IsNamespaceMeant, IsOutside, IsWhereMeant, where_given}
 use Rattle.rbac_cli.specs.Out.{Answers}
 use Rattle.rbac_cli.specs.declared.exports.Exports.TheVariants.{Single}
 use Rattle.rbac_cli.specs.declared.outcome.Status.TheVariants.{Zero}
-use Rattle.rbac_cli.proofs.OneHolderLines.{one_why_text}
+use Rattle.rbac_cli.proofs.OneHolderLines.{one_why_by}
 
--- what shows why a key holds it makes the line
-pub shown_text : (p : PolicyView) (namespace verb : Text) (t : What) (x : HolderView) (why : Why) (text : Text) → IsHeldShown p x.key namespace verb t why → IsHolderLine p true namespace verb t x text
+-- what is found to explain a holder makes its line
+pub shown_text : (p : PolicyView) (verb : Text) (t : What) (x : HolderView) (why : Why) (text : Text) → IsFirstShown p verb t x.binding_place x.subject_place why → IsHolderLine p true verb t x text
     → holder_why_text x.key why.binding.now (source_of why.source) why.rule_place why.subject_place ≡ text
-shown_text p namespace verb t x why text (g, held, shown) (k, j, holds, e) =
+shown_text p verb t x why text found (k, by, e) =
+    let g = found.grant in
+    let shown = found.shown in
     ap (λ (b : Binding). holder_why_text x.key b (source_of why.source) why.rule_place why.subject_place) shown.0
     ∙ ap (λ (s : Source). holder_why_text x.key g.binding s why.rule_place why.subject_place) shown.1
     ∙ ap (λ (n : ℕ). holder_why_text x.key g.binding g.rule.source n why.subject_place) shown.2
-    ∙ one_why_text p namespace verb t x.key g k why.subject_place j held holds ∙ sym e
+    ∙ ap (λ (n : ℕ). holder_why_text x.key g.binding g.rule.source g.rule.place n) found.subject
+    ∙ ap (λ (v : GrantView). holder_why_text x.key v.binding v.rule.source v.rule.place x.subject_place) (one_why_by p verb t x g k (found.number, found.first, found.granted) by)
+    ∙ sym e
 
 -- ---- whether a rule allows is decided: it's the only rule of the only binding of a cluster
 
@@ -114,7 +119,7 @@ module _ (P : ℕ → Type 0) (len : ℕ) (decide : (n : ℕ) → n < len → De
 
 -- ---- each holder has a line
 
-module _ (p : PolicyView) (ok : IsPolicy p) (namespace verb : Text) (t : What) where
+module _ (p : PolicyView) (ok : IsPolicy p) (verb : Text) (t : What) where
   allows_decided : (at n : ℕ) → n < length p.grants → Decided (AllowsOf p verb t at n)
   allows_decided at n lt =
       let of = of_some_binding p ok n lt in
@@ -127,54 +132,71 @@ module _ (p : PolicyView) (ok : IsPolicy p) (namespace verb : Text) (t : What) w
         | inr ne ↦ inr (λ w. ne (one_binding_place p ok n of.0 at of.1 w.0))
       ]
 
-  first_of : (x : HolderView) → IsHolder p.held namespace verb t x → (n : ℕ) × IsFirstAllowing p verb t x.binding_place n
-  first_of x holder =
-      let a = holder.1 in
+  first_of : (asked : WhereView) (x : HolderView) → HoldsAt p.held asked verb t x.key x.binding_place x.subject_place → (n : ℕ) × IsFirstAllowing p verb t x.binding_place n
+  first_of asked x a =
       let brings = a.4.1 in
       let any = brings.2 in
       let of = grant_of_rule p ok x.binding_place a.0 brings.0 any.1 a.2 brings.1 (any.0, any.2, any.3) in
       least (AllowsOf p verb t x.binding_place) (length p.grants) (allows_decided x.binding_place) of.0 (slice_get_within p.grants of.0 (grant_by a.0 any.1) of.1) (of.2, (grant_by a.0 any.1, of.1, any.4))
 
-  line_of : (why : Bool) (x : HolderView) → IsHolder p.held namespace verb t x → (line : Text) × IsHolderLine p why namespace verb t x line
-  line_of false x holder = (holder_text x.key x.binding, refl)
-  line_of true x holder =
-      let first = first_of x holder in
+  line_of : (asked : WhereView) (why : Bool) (x : HolderView) → IsHolderBy p.held asked verb t x → (line : Text) × IsHolderLine p why verb t x line
+  line_of asked false x holder = (holder_text x.key x.binding, refl)
+  line_of asked true x holder =
+      let first = first_of asked x holder.1 in
       let g = first.1.0.0.0 in (
         holder_why_text x.key g.binding g.rule.source g.rule.place x.subject_place,
-        (g, x.subject_place, why_of_holder p ok namespace verb t x holder first.0 g first.1 first.1.0.0.1, refl),
+        (g, (first.0, first.1, first.1.0.0.1), refl),
       )
 
-  lines_of : (why : Bool) (xs : List HolderView) → ((x : HolderView) → Contains xs x → IsHolder p.held namespace verb t x) → (lines : List Text) × AreHolderLines p why namespace verb t xs lines
-  lines_of why [] all = ([], refl)
-  lines_of why (x ∷ xs) all =
-      let line = line_of why x (all x (0, omega arith, refl)) in
-      let rest = lines_of why xs (λ y w. all y (suc w.0, omega (arith, w.1), w.2)) in
+  lines_of : (asked : WhereView) (why : Bool) (xs : List HolderView) → ((x : HolderView) → Contains xs x → IsHolderBy p.held asked verb t x) → (lines : List Text) × AreHolderLines p why verb t xs lines
+  lines_of asked why [] all = ([], refl)
+  lines_of asked why (x ∷ xs) all =
+      let line = line_of asked why x (all x (0, omega arith, refl)) in
+      let rest = lines_of asked why xs (λ y w. all y (suc w.0, omega (arith, w.1), w.2)) in
       (line.0 ∷ rest.0, (line.0, rest.0, line.1, rest.1, refl))
 
 -- ---- the line at a place
 
-pub line_at : (p : PolicyView) (why : Bool) (namespace verb : Text) (t : What) (xs : List HolderView) (i : ℕ) (x : HolderView) (lines : List Text) → slice_get xs i ≡ Some x
-    → AreHolderLines p why namespace verb t (drop i xs) lines
-    → (line : Text) × (rest : List Text) × IsHolderLine p why namespace verb t x line × AreHolderLines p why namespace verb t (drop (i + 1) xs) rest × (lines ≡ line ∷ rest)
-line_at p why namespace verb t xs i x lines at are =
+pub line_at : (p : PolicyView) (why : Bool) (verb : Text) (t : What) (xs : List HolderView) (i : ℕ) (x : HolderView) (lines : List Text) → slice_get xs i ≡ Some x
+    → AreHolderLines p why verb t (drop i xs) lines
+    → (line : Text) × (rest : List Text) × IsHolderLine p why verb t x line × AreHolderLines p why verb t (drop (i + 1) xs) rest × (lines ≡ line ∷ rest)
+line_at p why verb t xs i x lines at are =
     let lt : i < length xs = slice_get_within xs i x at in
     let e : get_or xs i x ≡ x = get_or_from_slice_get xs i x x at in
     let here : drop i xs ≡ x ∷ drop (i + 1) xs = rw (add-one, drop-cons xs i x lt, e) refl in
-    subst (λ (ys : List HolderView). AreHolderLines p why namespace verb t ys lines) here are
+    subst (λ (ys : List HolderView). AreHolderLines p why verb t ys lines) here are
 
--- who is listed is a holder
-pub holder_at : (p : PolicyView) (namespace verb : Text) (t : What) (xs : List HolderView) (i : ℕ) (x : HolderView) → AreHolders p.held namespace verb t xs → slice_get xs i ≡ Some x → IsHolder p.held namespace verb t x
-holder_at p namespace verb t xs i x are at = (are.exact x).0 (i, slice_get_within xs i x at, get_or_from_slice_get xs i x x at)
+-- who is listed is a holder by its binding
+by_binding : (h : Held) (asked : WhereView) (every : Bool) (verb : Text) (t : What) (x : HolderView) → IsListedHolder h asked every verb t x → IsHolderBy h asked verb t x
+by_binding h asked true verb t x listed = listed
+by_binding h asked false verb t x listed = listed.0
+
+-- where holders are asked for is what was made of the question
+place_meant : (entries : List Entry) (q : Question) (anywhere outside : Bool) (target : What) (namespace : Text) (asked : WhereView) → IsNamespaceMeant entries q target namespace
+    → (IsTrue outside ↔ IsOutside entries q target) → (outside ≡ true → asked ≡ InNamespace namespace) → (outside ≡ false → asked ≡ where_given anywhere namespace)
+    → IsWhereMeant entries q anywhere target asked
+place_meant entries q anywhere true target namespace asked (inl a) is out given = inl (a.0, out refl ∙ ap InNamespace a.1)
+place_meant entries q anywhere true target namespace asked (inr a) is out given = absurd (a.0 (is.0 refl))
+place_meant entries q anywhere false target namespace asked (inl a) is out given = let off = is.1 a.0 in cc
+place_meant entries q anywhere false target namespace asked (inr a) is out given = inr (a.0, given refl ∙ ap (where_given anywhere) a.1)
 
 -- the holders of what is asked have lines, which answer it
-pub answered : (l : LoadedView) (why : Bool) (q : Question) (target : What) (namespace : Text) (xs : List HolderView) (listed : CatalogueView) (held asked : PolicyView)
-    → listed ≡ l.catalogue → held ≡ l.policy → asked ≡ l.policy → IsMeant listed.entries q target namespace → IsPolicy held → AreHolders held.held namespace q.verb target xs
-    → (lines : List Text) × AreHolders asked.held namespace q.verb target xs × AreHolderLines asked why namespace q.verb target xs lines × Answers (Single l) (WhoCan why q) (joined lines) Zero
-answered l why q target namespace xs listed held asked catalogue policy again meant ok holders =
-    let are = subst (λ (p : PolicyView). AreHolders p.held namespace q.verb target xs) policy holders in
-    let lines = lines_of l.policy (subst IsPolicy policy ok) namespace q.verb target why xs (λ x. (are.exact x).0) in (
+pub answered : (l : LoadedView) (why every anywhere : Bool) (q : Question) (target : What) (namespace : Text) (outside : Bool) (asked : WhereView) (xs : List HolderView) (listed : CatalogueView) (held shown : PolicyView)
+    → listed ≡ l.catalogue → held ≡ l.policy → shown ≡ l.policy → IsMeant listed.entries q target namespace → (IsTrue outside ↔ IsOutside listed.entries q target)
+    → (outside ≡ true → asked ≡ InNamespace namespace) → (outside ≡ false → asked ≡ where_given anywhere namespace)
+    → IsPolicy held → AreListedHolders held.held asked every q.verb target xs
+    → (lines : List Text) × AreHolderLines shown why q.verb target xs lines × Answers (Single l) (WhoCan why every anywhere q) (joined lines) Zero
+answered l why every anywhere q target namespace outside asked xs listed held shown catalogue policy again meant is out given ok holders =
+    let are = subst (λ (p : PolicyView). AreListedHolders p.held asked every q.verb target xs) policy holders in
+    let lines = lines_of l.policy (subst IsPolicy policy ok) q.verb target asked why xs (λ x w. by_binding l.policy.held asked every q.verb target x ((are.exact x).0 w)) in
+    let place = place_meant listed.entries q anywhere outside target namespace asked meant.1 is out given in (
       lines.0,
-      subst (λ (p : PolicyView). AreHolders p.held namespace q.verb target xs) (sym again) are,
-      subst (λ (p : PolicyView). AreHolderLines p why namespace q.verb target xs lines.0) (sym again) lines.1,
-      (target, namespace, subst (λ (v : CatalogueView). IsMeant v.entries q target namespace) catalogue meant, (xs, lines.0, are, lines.1, refl, refl)),
+      subst (λ (p : PolicyView). AreHolderLines p why q.verb target xs lines.0) (sym again) lines.1,
+      (
+        target,
+        asked,
+        subst (λ (v : CatalogueView). IsTargetMeant v.entries q.asked target) catalogue meant.0,
+        subst (λ (v : CatalogueView). IsWhereMeant v.entries q anywhere target asked) catalogue place,
+        (xs, lines.0, are, lines.1, refl, refl),
+      ),
     )

@@ -21,7 +21,7 @@ use Rattle.rbac_cli.specs.declared.outcome.Status.{Status}
 -- every action but `diff` is answered over all inputs together
 pub single_loaded : (a : Action) (inputs : List (List ℕ)) (l : LoadedView) → ((n : ℕ) → a ≢ Diff n) → IsLoaded inputs l → AreLoaded a inputs (Single l)
 single_loaded (CanI who quiet why q) inputs l other h = h
-single_loaded (WhoCan why q) inputs l other h = h
+single_loaded (WhoCan why every anywhere q) inputs l other h = h
 single_loaded (Rules who scope) inputs l other h = h
 single_loaded (Matrix every after limit) inputs l other h = h
 single_loaded Lint inputs l other h = h
@@ -29,7 +29,7 @@ single_loaded (Diff n) inputs l other h = absurd (other n refl)
 
 pub single_refused : (a : Action) (inputs : List (List ℕ)) (f : LoadFault) → ((n : ℕ) → a ≢ Diff n) → HasFault inputs f → AreRefused a inputs f
 single_refused (CanI who quiet why q) inputs f other h = h
-single_refused (WhoCan why q) inputs f other h = h
+single_refused (WhoCan why every anywhere q) inputs f other h = h
 single_refused (Rules who scope) inputs f other h = h
 single_refused (Matrix every after limit) inputs f other h = h
 single_refused Lint inputs f other h = h
@@ -38,13 +38,13 @@ single_refused (Diff n) inputs f other h = absurd (other n refl)
 -- what is loaded for an action is what it is answered over
 pub over : (a : Action) (inputs : List (List ℕ)) (e : Exports) → AreLoaded a inputs e → IsOver a e
 over (CanI who quiet why q) inputs (Single l) h = tt
-over (WhoCan why q) inputs (Single l) h = tt
+over (WhoCan why every anywhere q) inputs (Single l) h = tt
 over (Rules who scope) inputs (Single l) h = tt
 over (Matrix every after limit) inputs (Single l) h = tt
 over Lint inputs (Single l) h = tt
 over (Diff n) inputs (Single l) h = h
 over (CanI who quiet why q) inputs (Pair x y) h = h
-over (WhoCan why q) inputs (Pair x y) h = h
+over (WhoCan why every anywhere q) inputs (Pair x y) h = h
 over (Rules who scope) inputs (Pair x y) h = h
 over (Matrix every after limit) inputs (Pair x y) h = h
 over Lint inputs (Pair x y) h = h
@@ -124,7 +124,7 @@ ended took command inputs e (Err (Write n)) is h = (e, is, h)
 pub of_diff : (P : Action → Type 0) (a : Action) (before after : LoadedView) → IsOver a (Pair before after) → ((n : ℕ) → P (Diff n)) → P a
 of_diff P (Diff n) before after is h = h n
 of_diff P (CanI who quiet why q) before after is h = absurd is
-of_diff P (WhoCan why q) before after is h = absurd is
+of_diff P (WhoCan why every anywhere q) before after is h = absurd is
 of_diff P (Rules who scope) before after is h = absurd is
 of_diff P (Matrix every mark limit) before after is h = absurd is
 of_diff P Lint before after is h = absurd is

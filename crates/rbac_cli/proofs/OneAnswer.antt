@@ -15,7 +15,7 @@ use Rattle.rbac_model.specs.Lists.{by_name, IsAscendingBy}
 use Rattle.rbac_model.specs.Policies.{Held, Grants, Allows, IsFirst, binding_name}
 use Rattle.rbac_model.specs.Unions.{AreUnited, who_name}
 use Rattle.rbac_model.specs.Universes.{UniverseView, RowView, Cell, IsRow, IsMatrix, cell_key}
-use Rattle.rbac_model.specs.Holders.{AreHolders}
+use Rattle.rbac_index.specs.WhoCan.{AreListedHolders}
 use Rattle.rbac_model.proofs.OneList.{one_list, one_of_name}
 use Rattle.rbac_catalogue.specs.declared.entry.Entry.{Entry}
 use Rattle.rbac_universe.specs.declared.lists.UniverseLists.{UniverseLists}
@@ -23,7 +23,7 @@ use Rattle.rbac_universe.specs.Sets.{AreSets}
 use Rattle.rbac_universe.proofs.Flattened.{contains_map, map_contains, pairs_map}
 use Rattle.rbac_universe.proofs.OneMore.{as_any}
 use Rattle.rbac_universe.proofs.OneUniverse.{one_sets}
-use Rattle.rbac_index.proofs.OneHolders.{one_holders}
+use Rattle.rbac_index.proofs.ListedLemmas.{one_listed}
 use Rattle.rbac_manifest.specs.Load.{LoadedView}
 use Rattle.rbac_lint.proofs.OneLines.{one_findings}
 use Rattle.rbac_diff.proofs.OneChanges.{one_changes}
@@ -33,6 +33,7 @@ use Rattle.rbac_question.specs.declared.command.Question.{Question}
 use Rattle.rbac_cli.specs.HolderLines.{AreHolderLines, joined}
 use Rattle.rbac_cli.specs.Out.{Answers, IsAllowed, IsDenied, rules_text, scope_asked, findings_text, findings_status, changes_text, changes_status, line_unless}
 use Rattle.rbac_cli.specs.Listings.{AreListed}
+use Rattle.rbac_cli.specs.Meant.{IsWhereMeant}
 use Rattle.rbac_cli.specs.declared.exports.Exports.{Exports}
 use Rattle.rbac_cli.specs.declared.exports.Exports.TheVariants.{Single, Pair}
 use Rattle.rbac_cli.specs.declared.outcome.Status.{Status}
@@ -41,7 +42,7 @@ use Rattle.rbac_matrix.proofs.OneMatrix.{key_name, by_keys}
 use Rattle.rbac_rules.proofs.RuleLists.{one_list as one_rules}
 use Rattle.rbac_cli.proofs.OneHolderLines.{one_holder_lines}
 use Rattle.rbac_cli.proofs.OneListing.{Line, line_of, one_listing}
-use Rattle.rbac_cli.proofs.OneMeant.{one_meant}
+use Rattle.rbac_cli.proofs.OneMeant.{one_meant, one_target, one_where}
 use Rattle.rbac_cli.proofs.OneReason.{one_reason}
 
 -- ---- two of one key with the same groups are named alike
@@ -216,16 +217,18 @@ one_listed_lines true held lists u v rows others m n x y = one_every_lines held 
 
 -- ---- the holders are one list
 
-one_holders_text : (l : LoadedView) (why : Bool) (q : Question) (text other : List ℕ) (status ending : Status) → Answers (Single l) (WhoCan why q) text status → Answers (Single l) (WhoCan why q) other ending
+one_holders_text : (l : LoadedView) (why every anywhere : Bool) (q : Question) (text other : List ℕ) (status ending : Status)
+    → Answers (Single l) (WhoCan why every anywhere q) text status → Answers (Single l) (WhoCan why every anywhere q) other ending
     → (text ≡ other) × (status ≡ ending)
-one_holders_text l why q text other status ending (t, n, meant, (xs, lines, a, these, e, s)) (u, m, means, (ys, those, b, them, f, z)) =
+one_holders_text l why every anywhere q text other status ending (t, v, target, meant, (xs, lines, a, these, e, s)) (u, w, means, meaning, (ys, those, b, them, f, z)) =
     let p = l.policy in
-    let same = one_meant l.catalogue.entries q t u n m meant means in
-    let here = subst (λ x. AreHolders p.held m q.verb x xs) same.0 (subst (λ x. AreHolders p.held x q.verb t xs) same.1 a) in
-    let one = one_holders p.held m q.verb u xs ys here b in
-    let lined = subst (λ hs. AreHolderLines p why m q.verb u hs lines) one
-    (subst (λ x. AreHolderLines p why m q.verb x xs lines) same.0 (subst (λ x. AreHolderLines p why x q.verb t xs lines) same.1 these)) in
-    (e ∙ ap joined (one_holder_lines p m q.verb u why ys lines those lined them) ∙ sym f, s ∙ sym z)
+    let entries = l.catalogue.entries in
+    let same = one_target entries q.asked t u target means in
+    let place = one_where entries q anywhere u v w (subst (λ x. IsWhereMeant entries q anywhere x v) same meant) meaning in
+    let here = subst (λ x. AreListedHolders p.held x every q.verb u xs) place (subst (λ x. AreListedHolders p.held v every q.verb x xs) same a) in
+    let one = one_listed p.held w every q.verb u xs ys here b in
+    let lined = subst (λ hs. AreHolderLines p why q.verb u hs lines) one (subst (λ x. AreHolderLines p why q.verb x xs lines) same these) in
+    (e ∙ ap joined (one_holder_lines p q.verb u why ys lines those lined them) ∙ sym f, s ∙ sym z)
 
 -- the one target and namespace that are meant aren't both allowed and denied
 not_both : (held : Held) (entries : List Entry) (who : Who) (q : Question) → IsAllowed held entries who q → IsDenied held entries who q → ⊥
@@ -242,7 +245,7 @@ one_answer (Single l) (CanI who quiet why q) text other status ending (inl (a, (
 one_answer (Single l) (CanI who quiet why q) text other status ending (inl a) (inr b) = absurd (not_both l.policy.held l.catalogue.entries who q a.0 b.0)
 one_answer (Single l) (CanI who quiet why q) text other status ending (inr a) (inl b) = absurd (not_both l.policy.held l.catalogue.entries who q b.0 a.0)
 one_answer (Single l) (CanI who quiet why q) text other status ending (inr a) (inr b) = (a.1 ∙ sym b.1, a.2 ∙ sym b.2)
-one_answer (Single l) (WhoCan why q) text other status ending a b = one_holders_text l why q text other status ending a b
+one_answer (Single l) (WhoCan why every anywhere q) text other status ending a b = one_holders_text l why every anywhere q text other status ending a b
 one_answer (Single l) (Rules who scope) text other status ending (xs, are, e, s) (ys, those, f, t) =
     (e ∙ ap rules_text (one_rules who (scope_asked scope) l.policy.grants xs ys are those) ∙ sym f, s ∙ sym t)
 one_answer (Single l) (Matrix every after limit) text other status ending (u, rows, m, x, e, s) (v, others, n, y, f, t) = (
@@ -257,7 +260,7 @@ one_answer (Pair before after) (Diff n) text other status ending (xs, are, e, s)
     let one = one_changes before.policy after.policy xs ys are those in
     (e ∙ ap changes_text one ∙ sym f, s ∙ ap changes_status one ∙ sym t)
 one_answer (Pair before after) (CanI who quiet why q) text other status ending a b = absurd a
-one_answer (Pair before after) (WhoCan why q) text other status ending a b = absurd a
+one_answer (Pair before after) (WhoCan why every anywhere q) text other status ending a b = absurd a
 one_answer (Pair before after) (Rules who scope) text other status ending a b = absurd a
 one_answer (Pair before after) (Matrix every mark limit) text other status ending a b = absurd a
 one_answer (Pair before after) Lint text other status ending a b = absurd a

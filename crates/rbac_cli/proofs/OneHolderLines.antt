@@ -1,30 +1,38 @@
 -- The lines of holders, with or without the reason, are one list.
-use Rattle.std.proofs.Common.{◌≡◌, ◌∙◌, ℕ, Bool, true, false, List, [], ◌∷◌, ap, ap₂, sym, subst}
+use Rattle.std.proofs.Common.{◌≡◌, ◌∙◌, ◌<◌, ℕ, Bool, true, false, List, [], ◌∷◌, ap, ap₂, inl, inr, sym, subst, slice_get}
+use Rattle.std.specs.Prelude.{Some}
+use Rattle.std.proofs.lemmas.Bool.{cases_order}
+use Rattle.std.proofs.lemmas.Option.{same_Some}
 use Rattle.rbac_terms.specs.Text.{Text}
 use Rattle.rbac_terms.specs.Targets.{What}
-use Rattle.rbac_terms.specs.Granting.{IsSubjectKey}
 use Rattle.rbac_model.specs.Policies.{PolicyView, GrantView}
 use Rattle.rbac_model.specs.Holders.{HolderView}
-use Rattle.rbac_index.specs.WhyHeld.{AllowsKey, IsWhyHeld}
+use Rattle.rbac_index.specs.Deciding.{IsFirstAllowing}
+use Rattle.rbac_index.specs.WhyHeld.{IsWhyBy}
 use Rattle.rbac_text.specs.Why.{holder_why_text}
 use Rattle.rbac_cli.specs.HolderLines.{AreHolderLines, IsHolderLine}
-use Rattle.rbac_cli.proofs.OneReason.{one_first, one_place}
 
-module _ (p : PolicyView) (namespace verb : Text) (t : What) where
-  pub one_why_text : (key : Text) (g k : GrantView) (i j : ℕ) → IsWhyHeld p key namespace verb t g i → IsWhyHeld p key namespace verb t k j
-      → holder_why_text key g.binding g.rule.source g.rule.place i ≡ holder_why_text key k.binding k.rule.source k.rule.place j
-  one_why_text key g k i j a b =
-      let same = one_first (AllowsKey key namespace verb t) p.grants a.grant.0 b.grant.0 g k a.grant.1 b.grant.1 in
-      let there = subst (λ x. IsWhyHeld p key namespace verb t x j) (sym same) b in
-      let place = one_place (λ s. IsSubjectKey s g.binding.namespace key) g.binding.subjects i j a.subject.0 there.subject.0 a.subject.1 there.subject.1 in
-      ap (λ (n : ℕ). holder_why_text key g.binding g.rule.source g.rule.place n) place
-      ∙ ap (λ (x : GrantView). holder_why_text key x.binding x.rule.source x.rule.place j) same
+module _ (p : PolicyView) (verb : Text) (t : What) where
+  pub one_first_allowing : (at n m : ℕ) → IsFirstAllowing p verb t at n → IsFirstAllowing p verb t at m → n ≡ m
+  one_first_allowing at n m a b = elim (cases_order n m) [
+    | inl e ↦ e
+    | inr d ↦ elim d [
+      | inl l ↦ absurd (b.1 n l a.0)
+      | inr l ↦ absurd (a.1 m l b.0)
+    ]
+  ]
 
-  pub one_holder_line : (why : Bool) (x : HolderView) (line other : Text) → IsHolderLine p why namespace verb t x line → IsHolderLine p why namespace verb t x other → line ≡ other
+  pub one_why_by : (x : HolderView) (g k : GrantView) → IsWhyBy p verb t x g → IsWhyBy p verb t x k → g ≡ k
+  one_why_by x g k a b =
+      let same = one_first_allowing x.binding_place a.0 b.0 a.1 b.1 in
+      same_Some g k (sym a.2 ∙ ap (slice_get p.grants) same ∙ b.2)
+
+  pub one_holder_line : (why : Bool) (x : HolderView) (line other : Text) → IsHolderLine p why verb t x line → IsHolderLine p why verb t x other → line ≡ other
   one_holder_line false x line other a b = a ∙ sym b
-  one_holder_line true x line other (g, i, a, e) (k, j, b, f) = e ∙ one_why_text x.key g k i j a b ∙ sym f
+  one_holder_line true x line other (g, a, e) (k, b, f) =
+      e ∙ ap (λ (v : GrantView). holder_why_text x.key v.binding v.rule.source v.rule.place x.subject_place) (one_why_by x g k a b) ∙ sym f
 
-  pub one_holder_lines : (why : Bool) (xs : List HolderView) (lines others : List Text) → AreHolderLines p why namespace verb t xs lines → AreHolderLines p why namespace verb t xs others → lines ≡ others
+  pub one_holder_lines : (why : Bool) (xs : List HolderView) (lines others : List Text) → AreHolderLines p why verb t xs lines → AreHolderLines p why verb t xs others → lines ≡ others
   one_holder_lines why [] lines others a b = a ∙ sym b
   one_holder_lines why (x ∷ xs) lines others (line, rest, is, are, e) (other, more, this, these, f) =
       e ∙ ap₂ (λ (l : Text) (ls : List Text). l ∷ ls) (one_holder_line why x line other is this) (one_holder_lines why xs rest more are these) ∙ sym f

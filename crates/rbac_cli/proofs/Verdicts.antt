@@ -18,11 +18,11 @@ use Rattle.rbac_cli.specs.Out.{Answers, IsWhyText, line}
 use Rattle.rbac_cli.specs.declared.exports.Exports.TheVariants.{Single}
 use Rattle.rbac_cli.specs.Verdicts.{verdict_text, verdict_status, found_text}
 
-pub one_namespace : (entries : List Entry) (target : What) (given n m : Text) → IsNamespaceMeant entries target given n → IsNamespaceMeant entries target given m → n ≡ m
-one_namespace entries target given n m (inl a) (inl b) = a.1 ∙ sym b.1
-one_namespace entries target given n m (inl a) (inr b) = absurd (b.0 a.0)
-one_namespace entries target given n m (inr a) (inl b) = absurd (a.0 b.0)
-one_namespace entries target given n m (inr a) (inr b) = a.1 ∙ sym b.1
+pub one_namespace : (entries : List Entry) (q : Question) (target : What) (n m : Text) → IsNamespaceMeant entries q target n → IsNamespaceMeant entries q target m → n ≡ m
+one_namespace entries q target n m (inl a) (inl b) = a.1 ∙ sym b.1
+one_namespace entries q target n m (inl a) (inr b) = absurd (b.0 a.0)
+one_namespace entries q target n m (inr a) (inl b) = absurd (a.0 b.0)
+one_namespace entries q target n m (inr a) (inr b) = a.1 ∙ sym b.1
 
 -- the first binding that grants grants
 allows_first : (h : Held) (who : Who) (namespace verb : Text) (t : What) (b : Binding) → IsFirst h who namespace verb t b → Allows h who namespace verb t

@@ -1,11 +1,12 @@
 -- What a question asks for, according to the entries of a catalogue.
-use Rattle.std.specs.Prelude.{◌≡◌, ◌⊎◌, List, [], ◌∷◌, ◌++◌}
+use Rattle.std.specs.Prelude.{◌≡◌, ◌⊎◌, Bool, true, false, List, [], ◌∷◌, ◌++◌}
 use Rattle.rbac_terms.specs.Text.{Text, slash}
 use Rattle.rbac_terms.specs.Targets.{What, Resource, Url, group_of, text_of}
 use Rattle.rbac_catalogue.specs.declared.entry.Entry.{Entry}
 use Rattle.rbac_catalogue.specs.declared.lookup.Found.{Found}
 use Rattle.rbac_catalogue.specs.Lookups.{IsFound}
 use Rattle.rbac_catalogue.specs.Catalogue.{IsClusterOnly}
+use Rattle.rbac_index.specs.WhoCan.{WhereView, InNamespace, Anywhere}
 use Rattle.rbac_question.specs.declared.asked.AskedFor.{AskedFor}
 use Rattle.rbac_question.specs.declared.asked.AskedFor.TheVariants.{Url as ForUrl}
 use Rattle.rbac_question.specs.declared.asked.AskedFor.TheVariants.{Resource as ForResource}
@@ -24,14 +25,32 @@ IsTargetMeant entries (ForResource word subresource name) target =
     (found : Found) × IsFound entries word found
     × (target ≡ Resource found.group (with_subresource found.resource subresource) name)
 
--- where it is asked for: in no namespace if the target is known to be outside all namespaces,
--- otherwise in the one given (own)
-abbrev pub IsNamespaceMeant : List Entry → What → Text → Text → Type 0
-IsNamespaceMeant entries target given namespace =
-    (IsClusterOnly entries (group_of target) (text_of target) × (namespace ≡ []))
-    ⊎ ((¬ IsClusterOnly entries (group_of target) (text_of target)) × (namespace ≡ given))
+-- a target is asked for outside all namespaces: it is known to be there, and `--in-namespace` isn't
+-- given (own)
+abbrev pub IsOutside : List Entry → Question → What → Type 0
+IsOutside entries q target = (q.in_namespace ≡ false)
+    × IsClusterOnly entries (group_of target) (text_of target)
+
+-- where it is asked for: in no namespace if it is asked for outside all namespaces, otherwise in the
+-- one given (own)
+abbrev pub IsNamespaceMeant : List Entry → Question → What → Text → Type 0
+IsNamespaceMeant entries q target namespace =
+    (IsOutside entries q target × (namespace ≡ []))
+    ⊎ ((¬ IsOutside entries q target) × (namespace ≡ q.namespace))
 
 -- what a question asks for, and where
 abbrev pub IsMeant : List Entry → Question → What → Text → Type 0
 IsMeant entries q target namespace = IsTargetMeant entries q.asked target
-    × IsNamespaceMeant entries target q.namespace namespace
+    × IsNamespaceMeant entries q target namespace
+
+-- where holders may be asked for: with `--anywhere` in any namespace, otherwise in the one given
+abbrev pub where_given : Bool → Text → WhereView
+where_given true namespace = Anywhere
+where_given false namespace = InNamespace namespace
+
+-- where holders are asked for: outside all namespaces if the target is, which is in the empty one;
+-- otherwise where they may be (own)
+abbrev pub IsWhereMeant : List Entry → Question → Bool → What → WhereView → Type 0
+IsWhereMeant entries q anywhere target asked =
+    (IsOutside entries q target × (asked ≡ InNamespace []))
+    ⊎ ((¬ IsOutside entries q target) × (asked ≡ where_given anywhere q.namespace))

@@ -6,7 +6,7 @@ use Rattle.rbac_terms.specs.Targets.{What}
 use Rattle.rbac_terms.specs.Principals.{Who}
 use Rattle.rbac_model.specs.Policies.{Held, Allows, PolicyView, GrantView, IsWhy}
 use Rattle.rbac_model.specs.Universes.{UniverseView, RowView}
-use Rattle.rbac_model.specs.Holders.{HolderView, AreHolders}
+use Rattle.rbac_model.specs.Holders.{HolderView}
 use Rattle.rbac_catalogue.specs.declared.entry.Entry.{Entry}
 use Rattle.rbac_universe.specs.Sets.{IsUniverseOf}
 use Rattle.rbac_text.specs.Rule.{grant_text}
@@ -24,11 +24,12 @@ use Rattle.rbac_question.specs.declared.command.Scope.TheVariants as question
 use Rattle.rbac_question.specs.declared.command.Question.{Question}
 use Rattle.rbac_rules.specs.Effective.{ScopeView, Everywhere, InNamespace, ClusterWide}
 use Rattle.rbac_rules.specs.Effective.{RuleView, AreEffective}
+use Rattle.rbac_index.specs.WhoCan.{WhereView, AreListedHolders}
 use Rattle.rbac_cli.specs.HolderLines.{AreHolderLines, joined}
 use Rattle.rbac_cli.specs.declared.exports.Exports.{Exports}
 use Rattle.rbac_cli.specs.declared.exports.Exports.TheVariants.{Single, Pair}
 use Rattle.rbac_cli.specs.Listings.{AreListed, listing_text}
-use Rattle.rbac_cli.specs.Meant.{IsMeant}
+use Rattle.rbac_cli.specs.Meant.{IsMeant, IsTargetMeant, IsWhereMeant}
 use Rattle.rbac_cli.specs.declared.outcome.Status.{Status}
 use Rattle.rbac_cli.specs.declared.outcome.Status.TheVariants.{Zero, One}
 
@@ -115,11 +116,12 @@ Answers (Single l) (CanI who quiet why q) text status =
     × (status ≡ Zero))
     ⊎ (IsDenied l.policy.held l.catalogue.entries who q × (text ≡ line_unless quiet (codes "no"))
     × (status ≡ One))
-Answers (Single l) (WhoCan why q) text status =
-    (target : What) × (namespace : Text) × IsMeant l.catalogue.entries q target namespace
+Answers (Single l) (WhoCan why every anywhere q) text status =
+    (target : What) × (asked : WhereView) × IsTargetMeant l.catalogue.entries q.asked target
+    × IsWhereMeant l.catalogue.entries q anywhere target asked
     × ((xs : List HolderView) × (lines : List Text)
-    × AreHolders l.policy.held namespace q.verb target xs
-    × AreHolderLines l.policy why namespace q.verb target xs lines
+    × AreListedHolders l.policy.held asked every q.verb target xs
+    × AreHolderLines l.policy why q.verb target xs lines
     × (text ≡ joined lines) × (status ≡ Zero))
 Answers (Single l) (Rules who scope) text status =
     (xs : List RuleView) × AreEffective l.policy who (scope_asked scope) xs

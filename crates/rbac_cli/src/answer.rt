@@ -13,7 +13,7 @@ use crate::outcome::Status;
 use crate::output::Output;
 use crate::rules::print_rules;
 use crate::stop::Stop;
-use crate::who_can::print_holders;
+use crate::who_can::{Listing, print_holders};
 use rbac_question::Action;
 use std::alloc::Global;
 use std::io::Write;
@@ -44,7 +44,19 @@ pub(crate) fn print_answer<W: Write + Drop>(
             output.print(verdict.text.as_slice())?;
             Ok(verdict.status)
         }
-        Action::WhoCan { why, question } => print_holders(alloc, export, *why, question, output),
+        Action::WhoCan {
+            why,
+            every,
+            anywhere,
+            question,
+        } => {
+            let listing = Listing {
+                why: *why,
+                every: *every,
+                anywhere: *anywhere,
+            };
+            print_holders(alloc, export, listing, question, output)
+        }
         Action::Rules { principal, scope } => {
             print_rules(alloc, export, principal, scope, output)
         }

@@ -1,11 +1,12 @@
 //! What a question asks for, according to a catalogue.
 
-ghost use Rattle.std.specs.Prelude.{◌≡◌, [], IfOk, codes};
+ghost use Rattle.std.specs.Prelude.{◌≡◌, ◌↔◌, [], IfOk, IsTrue, codes};
 ghost use Rattle.rbac_terms.specs.Targets.{Url};
 ghost use Rattle.rbac_terms.specs.Text.{BeginsWith};
 ghost use Rattle.rbac_question.specs.Asked.{IsTypeWord};
 ghost use Rattle.rbac_question.specs.declared.asked.AskedFor.TheVariants.{Resource as ForResource};
-ghost use Rattle.rbac_cli.specs.Meant.{IsTargetMeant, IsNamespaceMeant, IsMeant, with_subresource};
+ghost use Rattle.rbac_cli.specs.Meant.{IsTargetMeant, IsMeant, IsOutside};
+ghost use Rattle.rbac_cli.specs.Meant.{with_subresource};
 
 use rbac_catalogue::Catalogue;
 use rbac_question::{Asked, AskedFor, Question};
@@ -17,6 +18,8 @@ use std::alloc::{AllocError, Global};
 pub(crate) struct Meant {
     pub(crate) target: Target,
     pub(crate) namespace: Word,
+    // Whether it is asked for outside all namespaces.
+    pub(crate) is_outside: bool,
 }
 
 // What a question asks for, and where, according to a catalogue.
@@ -25,14 +28,23 @@ pub(crate) fn meant_by(
     catalogue: &Catalogue,
     question: &Question,
 ) -> Result<Meant, AllocError>
-    ensures { IfOk result
+    ensures meant { IfOk result
         (λ meant. IsMeant catalogue.now.entries question.now meant.target meant.namespace) }
+    ensures outside { IfOk result (λ meant. IsTrue meant.is_outside
+        ↔ IsOutside catalogue.now.entries question.now meant.target) }
 {
     let target = target_of(alloc, catalogue, &question.asked)?;
-    let nowhere = Word::new(alloc);
-    let namespace = namespace_for(catalogue, &target, &question.namespace, &nowhere);
-    let namespace = Word::from_slice(alloc, namespace.as_bytes())?;
-    Ok(Meant { target, namespace })
+    let is_outside = is_outside(catalogue, question, &target);
+    let namespace = if is_outside {
+        Word::new(alloc)
+    } else {
+        Word::from_slice(alloc, question.namespace.as_bytes())?
+    };
+    Ok(Meant {
+        target,
+        namespace,
+        is_outside,
+    })
 }
 
 // The target that a question asks for (own): a URL as it is written, or what
@@ -93,20 +105,10 @@ fn resource_text(alloc: Global, resource: &[u8], subresource: &[u8]) -> Result<W
     Ok(text)
 }
 
-// The namespace in which a target is asked for (own): `nowhere`, the empty one, if the catalogue
-// knows the target to be outside all namespaces, otherwise the one given.
-fn namespace_for<'a>(
-    catalogue: &Catalogue,
-    target: &Target,
-    given: &'a Word,
-    nowhere: &'a Word,
-) -> &'a Word
-    requires { nowhere.now ≡ [] }
-    ensures { IsNamespaceMeant catalogue.now.entries target.now given.now result.now }
+// Whether a target is asked for outside all namespaces (own): the catalogue knows it to be there, and
+// it isn't to be asked for in a namespace all the same.
+fn is_outside(catalogue: &Catalogue, question: &Question, target: &Target) -> bool
+    ensures { IsTrue result ↔ IsOutside catalogue.now.entries question.now target.now }
 {
-    if catalogue.cluster_only(target.group(), target.text()) {
-        nowhere
-    } else {
-        given
-    }
+    !question.in_namespace && catalogue.cluster_only(target.group(), target.text())
 }

@@ -1,21 +1,22 @@
 //! Who may do something, as an answer.
 
-ghost use Rattle.std.specs.Prelude.{◌≡◌, ◌++◌, ◌-◌, false, List, IfOk, OnOk, drop, length};
+ghost use Rattle.std.specs.Prelude.{◌≡◌, ◌++◌, ◌-◌, true, false, List, IfOk, OnOk, drop, length};
 ghost use Rattle.rbac_terms.specs.Text.{Text};
 ghost use Rattle.rbac_model.specs.Policies.{IsPolicy};
-ghost use Rattle.rbac_model.specs.Holders.{AreHolders, IsHolder};
-ghost use Rattle.rbac_index.specs.HolderViews.{holder_shown};
+ghost use Rattle.rbac_index.specs.HolderViews.{holder_shown, where_of};
+ghost use Rattle.rbac_index.specs.WhoCan.{AreListedHolders, InNamespace};
 ghost use Rattle.rbac_question.specs.declared.command.Action.TheVariants.{WhoCan};
 ghost use Rattle.rbac_cli.specs.HolderLines.{AreHolderLines, IsHolderLine, joined};
+ghost use Rattle.rbac_cli.specs.Meant.{where_given};
 ghost use Rattle.rbac_cli.specs.Printing.{EndsPrinting};
 ghost use Rattle.rbac_cli.specs.declared.exports.Exports.TheVariants.{Single};
 
 use crate::lines::{Lines, print_lines};
-use crate::meaning::{Meant, meant_by};
+use crate::meaning::meant_by;
 use crate::outcome::Status;
 use crate::output::Output;
 use crate::stop::Stop;
-use rbac_index::{Holder, Holders, Index, IndexFault, why_held};
+use rbac_index::{Holder, Holders, Index, IndexFault, Where, why_held};
 use rbac_manifest::Export;
 use rbac_model::Policy;
 use rbac_question::Question;
@@ -24,26 +25,41 @@ use rbac_text::{put_holder, put_holder_why};
 use std::alloc::{AllocError, Global};
 use std::io::Write;
 
-/// Prints who is allowed what the question asks, a line for each holder; with `why`, each line goes
-/// on with why the holder's key holds the permission.
+// Which holders are listed, and how.
+#[derive(Clone, Copy)]
+pub(crate) struct Listing {
+    // Whether each line goes on with why.
+    pub(crate) why: bool,
+    // Whether each has a line for every binding, and not only for the first.
+    pub(crate) every: bool,
+    // Whether the bindings of all namespaces count.
+    pub(crate) anywhere: bool,
+}
+
+/// Prints who is allowed what the question asks, a line for each holder, or for each with every
+/// binding that makes it one; with `why`, each line goes on with why the holder's key holds the
+/// permission by that binding.
 pub(crate) fn print_holders<W: Write + Drop>(
     alloc: Global,
     export: &Export,
-    why: bool,
+    listing: Listing,
     question: &Question,
     output: &mut Output<'_, W>,
 ) -> Result<Status, Stop>
     requires { output.old.sink.now.has_failed ≡ false }
     ensures { EndsPrinting W.contents output.old output.new (Single export.now)
-        (WhoCan why question.now) result }
+        (WhoCan listing.why listing.every listing.anywhere question.now) result }
 {
     let meant = meant_by(alloc, export.catalogue(), question)?;
-    let holders = holders_of(alloc, export.policy(), &question.verb, &meant)?;
+    let place = where_asked(meant.is_outside, listing.anywhere, &meant.namespace);
+    let policy = export.policy();
+    let verb = &question.verb;
+    let holders = holders_of(alloc, policy, place, listing.every, verb, &meant.target)?;
     let asked = Asked {
         policy: export.policy(),
-        verb: &question.verb,
+        verb,
         target: &meant.target,
-        why,
+        why: listing.why,
     };
     let mut lines = HolderLines {
         asked,
@@ -53,20 +69,35 @@ pub(crate) fn print_holders<W: Write + Drop>(
     print_lines(alloc, &mut lines, Status::Zero, output)
 }
 
+// Where holders are asked for: in this namespace, or with `anywhere` in any, unless it is asked
+// outside all namespaces.
+fn where_asked(is_outside: bool, anywhere: bool, namespace: &Word) -> Where<'_>
+    ensures outside { is_outside ≡ true → where_of result ≡ InNamespace namespace.now }
+    ensures given { is_outside ≡ false → where_of result ≡ where_given anywhere namespace.now }
+{
+    if anywhere && !is_outside {
+        Where::Anywhere
+    } else {
+        Where::Namespace(namespace)
+    }
+}
+
 fn holders_of<'p>(
     alloc: Global,
     policy: &'p Policy,
+    place: Where<'_>,
+    every: bool,
     verb: &Word,
-    meant: &Meant,
+    target: &Target,
 ) -> Result<Holders<'p>, IndexFault>
     ensures holders { IfOk result
-        (AreHolders policy.now.held meant.now.namespace verb.now meant.now.target) }
+        (AreListedHolders policy.now.held (where_of place.entry) every verb.now target.now) }
     ensures policy { IsPolicy policy.now }
 {
     // Wanted for its promise alone: what a policy is. So each holder has a line.
     let _ = policy.bindings();
     let index = Index::build(alloc, policy)?;
-    index.who_can(alloc, &meant.namespace, verb, &meant.target)
+    index.holders(alloc, place, every, verb, target)
 }
 
 // What holders are asked about, and whether to tell why they hold it.
@@ -87,11 +118,9 @@ struct HolderLines<'a, 'h, 'p> {
 }
 
 impl Lines for HolderLines<'_, '_, '_> {
-    ghost are_left = { λ it text. (namespace : Text) × (lines : List Text)
-        × AreHolders it.asked.policy.now.held namespace it.asked.verb.now it.asked.target.now
-        it.holders.now
-        × AreHolderLines it.asked.policy.now it.asked.why namespace it.asked.verb.now
-        it.asked.target.now (drop it.place it.holders.now) lines
+    ghost are_left = { λ it text. (lines : List Text)
+        × AreHolderLines it.asked.policy.now it.asked.why it.asked.verb.now it.asked.target.now
+        (drop it.place it.holders.now) lines
         × (text ≡ joined lines) };
 
     ghost most_left = { λ it. length it.holders.now - it.place };
@@ -109,10 +138,8 @@ impl Lines for HolderLines<'_, '_, '_> {
 
 // Adds the line of one holder.
 fn put_line(line: &mut Vec<u8>, asked: Asked<'_>, holder: Holder<'_>) -> Result<(), AllocError>
-    ensures { (namespace : Text) (text : Text)
-        → IsHolder asked.entry.policy.now.held namespace asked.entry.verb.now
-        asked.entry.target.now (holder_shown holder.entry)
-        → IsHolderLine asked.entry.policy.now asked.entry.why namespace asked.entry.verb.now
+    ensures { (text : Text)
+        → IsHolderLine asked.entry.policy.now asked.entry.why asked.entry.verb.now
         asked.entry.target.now (holder_shown holder.entry) text
         → OnOk result (line.new.items ≡ line.old.items ++ text) }
 {

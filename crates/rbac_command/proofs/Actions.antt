@@ -37,7 +37,7 @@ as_can_i : (name : Text) (rows : List Row) (r : Result Action QuestionFault) →
     → MatchResult r (λ a. AcceptsCanI (parts_in rows) × MeansCanI (parts_in rows) a) (RefusesCanI (parts_in rows))
     → MatchResult r (DoesAction name rows) (RefusesAction name rows)
 as_can_i name rows (Ok (CanI principal quiet why question)) e h = (e, h.0, h.1)
-as_can_i name rows (Ok (WhoCan why question)) e h = absurd h.1
+as_can_i name rows (Ok (WhoCan why every anywhere question)) e h = absurd h.1
 as_can_i name rows (Ok (Rules principal scope)) e h = absurd h.1
 as_can_i name rows (Ok (Matrix every after limit)) e h = absurd h.1
 as_can_i name rows (Ok Lint) e h = absurd h.1
@@ -58,7 +58,7 @@ as_who_can : (name : Text) (rows : List Row) (r : Result Action QuestionFault) �
     → MatchResult r (λ a. AcceptsQuestion (question_in rows) × MeansWhoCan (who_can_in rows) a) (RefusesQuestion (question_in rows))
     → MatchResult r (DoesAction name rows) (RefusesAction name rows)
 as_who_can name rows (Ok (CanI principal quiet why question)) e h = absurd h.1
-as_who_can name rows (Ok (WhoCan why question)) e h = (e, h.0, h.1)
+as_who_can name rows (Ok (WhoCan why every anywhere question)) e h = (e, h.0, h.1)
 as_who_can name rows (Ok (Rules principal scope)) e h = absurd h.1
 as_who_can name rows (Ok (Matrix every after limit)) e h = absurd h.1
 as_who_can name rows (Ok Lint) e h = absurd h.1
@@ -79,7 +79,7 @@ as_rules : (name : Text) (rows : List Row) (r : Result Action QuestionFault) →
     → MatchResult r (MeansRules (rules_in rows)) (RefusesRules (rules_in rows))
     → MatchResult r (DoesAction name rows) (RefusesAction name rows)
 as_rules name rows (Ok (CanI principal quiet why question)) e h = absurd h
-as_rules name rows (Ok (WhoCan why question)) e h = absurd h
+as_rules name rows (Ok (WhoCan why every anywhere question)) e h = absurd h
 as_rules name rows (Ok (Rules principal scope)) e h = (e, h)
 as_rules name rows (Ok (Matrix every after limit)) e h = absurd h
 as_rules name rows (Ok Lint) e h = absurd h
@@ -101,7 +101,7 @@ pub matrix_line : (name : Text) (rows : List Row) (l : MatrixParts) (r : Result 
     → l.every ≡ has_flag (codes "every") rows → l.after ≡ first_of (codes "after") rows → IsNumberAt (codes "limit") rows l.limit → MatchResult r (MeansMatrix l) (RefusesMatrix l)
     → MatchResult r (DoesAction name rows) (RefusesAction name rows)
 matrix_line name rows l (Ok (CanI principal quiet why question)) e v f n h = absurd h
-matrix_line name rows l (Ok (WhoCan why question)) e v f n h = absurd h
+matrix_line name rows l (Ok (WhoCan why every anywhere question)) e v f n h = absurd h
 matrix_line name rows l (Ok (Rules principal scope)) e v f n h = absurd h
 matrix_line name rows l (Ok (Matrix every after limit)) e v f n h =
     (e, h.0 ∙ v, subst (λ (t : _). IsAfter t after) f h.1, subst (λ (m : _). IsNumberAt (codes "limit") rows m) (sym h.2) n)

@@ -17,6 +17,14 @@ user_rule = record (new_rule (codes "as")) {
 abbrev pub groups_rule : Rule
 groups_rule = record (new_rule (codes "groups")) { long = Some (codes "groups"); value_names = 1 }
 
+-- `--group G`, which may be given several times
+abbrev pub group_rule : Rule
+group_rule = record (new_rule (codes "group")) {
+  long = Some (codes "group");
+  value_names = 1;
+  action = Some Append;
+}
+
 -- `-n NS`, `--namespace NS`
 abbrev pub namespace_rule : Rule
 namespace_rule = record (new_rule (codes "namespace")) {
@@ -30,6 +38,20 @@ abbrev pub all_rule : Rule
 all_rule = record (new_rule (codes "all")) {
   short = Some 65;
   long = Some (codes "all-namespaces");
+  action = Some SetTrue;
+}
+
+-- `--in-namespace`
+abbrev pub in_namespace_rule : Rule
+in_namespace_rule = record (new_rule (codes "in-namespace")) {
+  long = Some (codes "in-namespace");
+  action = Some SetTrue;
+}
+
+-- `--anywhere`
+abbrev pub anywhere_rule : Rule
+anywhere_rule = record (new_rule (codes "anywhere")) {
+  long = Some (codes "anywhere");
   action = Some SetTrue;
 }
 
@@ -101,34 +123,41 @@ before_files_rule = some_files (record (new_rule (codes "before")) { long = Some
 abbrev pub after_files_rule : Rule
 after_files_rule = some_files (record (new_rule (codes "after")) { long = Some (codes "after") })
 
--- the options that say who asks
-abbrev pub with_asker : App → App
-with_asker a = with_rule (with_rule a user_rule) groups_rule
+-- the options that say in which groups a user is
+abbrev pub with_groups : App → App
+with_groups a = with_rule (with_rule a groups_rule) group_rule
 
 -- the options that say where, and for which subresource
 abbrev pub with_scope : App → App
-with_scope a = with_rule (with_rule (with_rule a namespace_rule) all_rule) subresource_rule
+with_scope a =
+    with_rule (with_rule
+    (with_rule (with_rule a namespace_rule) all_rule) in_namespace_rule) subresource_rule
 
 -- what is asked, and of which files
 abbrev pub with_question : App → App
 with_question a = with_rule (with_rule (with_rule a verb_rule) target_rule) files_rule
 
--- can-i --as USER [--groups A,B] [-n NS] [-A] [--subresource S] [-q] [--why] VERB TARGET [FILE]..
+-- can-i --as USER [--groups A,B] [--group G].. [-n NS] [-A] [--in-namespace] [--subresource S] [-q]
+-- [--why] VERB TARGET [FILE]..
 abbrev pub can_i_app : App
 can_i_app =
     with_question (with_rule
-    (with_rule (with_scope (with_asker (new_app (codes "can-i")))) quiet_rule) why_rule)
+    (with_rule (with_scope (with_groups
+    (with_rule (new_app (codes "can-i")) user_rule))) quiet_rule) why_rule)
 
--- who-can [-n NS] [-A] [--subresource S] [--why] VERB TARGET [FILE]..
+-- who-can [-n NS] [-A] [--in-namespace] [--subresource S] [--anywhere] [--every] [--why] VERB TARGET
+-- [FILE]..
 abbrev pub who_can_app : App
-who_can_app = with_question (with_rule (with_scope (new_app (codes "who-can"))) why_rule)
+who_can_app =
+    with_question (with_rule (with_rule
+    (with_rule (with_scope (new_app (codes "who-can"))) anywhere_rule) every_rule) why_rule)
 
--- rules [--groups A,B] [-n NS] [-A] WHO [FILE]..
+-- rules [--groups A,B] [--group G].. [-n NS] [-A] WHO [FILE]..
 abbrev pub rules_app : App
 rules_app =
     with_rule (with_rule
     (with_rule (with_rule
-    (with_rule (new_app (codes "rules")) groups_rule) namespace_rule) all_rule) who_rule)
+    (with_groups (new_app (codes "rules"))) namespace_rule) all_rule) who_rule)
     files_rule
 
 -- matrix [--every] [--after TOKEN] [--limit N] [FILE]..

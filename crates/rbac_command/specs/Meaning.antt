@@ -47,6 +47,7 @@ files_in name rows = if bytes_eq name (codes "diff")
 abbrev pub question_in : List Row → QuestionParts
 question_in rows = record {
   all_namespaces = has_flag (codes "all") rows;
+  in_namespace = has_flag (codes "in-namespace") rows;
   namespace = text_at (codes "namespace") rows;
   subresource = text_at (codes "subresource") rows;
   verb = text_at (codes "verb") rows;
@@ -58,6 +59,7 @@ abbrev pub parts_in : List Row → CanIParts
 parts_in rows = record {
   user = text_at (codes "as") rows;
   groups = text_at (codes "groups") rows;
+  whole_groups = texts_at (codes "group") rows;
   quiet = has_flag (codes "quiet") rows;
   why = has_flag (codes "why") rows;
   question = question_in rows;
@@ -65,13 +67,19 @@ parts_in rows = record {
 
 -- the parts of a `who-can` line
 abbrev pub who_can_in : List Row → WhoCanParts
-who_can_in rows = record { why = has_flag (codes "why") rows; question = question_in rows }
+who_can_in rows = record {
+  why = has_flag (codes "why") rows;
+  every = has_flag (codes "every") rows;
+  anywhere = has_flag (codes "anywhere") rows;
+  question = question_in rows;
+}
 
 -- the parts of a `rules` line
 abbrev pub rules_in : List Row → RulesParts
 rules_in rows = record {
   who = text_at (codes "who") rows;
   groups = text_at (codes "groups") rows;
+  whole_groups = texts_at (codes "group") rows;
   namespace = text_at (codes "namespace") rows;
   all_namespaces = has_flag (codes "all") rows;
 }
@@ -107,9 +115,9 @@ abbrev pub DoesAction : Text → List Row → Action → Type 0
 DoesAction name rows (CanI principal quiet why question) =
     (name ≡ codes "can-i") × AcceptsCanI (parts_in rows)
     × MeansCanI (parts_in rows) (CanI principal quiet why question)
-DoesAction name rows (WhoCan why question) =
+DoesAction name rows (WhoCan why every anywhere question) =
     (name ≡ codes "who-can") × AcceptsQuestion (question_in rows)
-    × MeansWhoCan (who_can_in rows) (WhoCan why question)
+    × MeansWhoCan (who_can_in rows) (WhoCan why every anywhere question)
 DoesAction name rows (Rules principal scope) =
     (name ≡ codes "rules") × MeansRules (rules_in rows) (Rules principal scope)
 DoesAction name rows (Matrix every after limit) =

@@ -6,6 +6,7 @@ ghost use Rattle.clap.specs.declared.builder.command.Command.TheViews.{out-Comma
 ghost use Rattle.rbac_command.specs.App.{every_rule, after_rule, limit_rule, user_rule};
 ghost use Rattle.rbac_command.specs.App.{groups_rule, namespace_rule, all_rule, subresource_rule};
 ghost use Rattle.rbac_command.specs.App.{quiet_rule, why_rule, verb_rule, target_rule, files_rule};
+ghost use Rattle.rbac_command.specs.App.{group_rule, in_namespace_rule, anywhere_rule, with_groups};
 ghost use Rattle.rbac_command.specs.App.{with_scope, with_question, can_i_app, who_can_app};
 ghost use Rattle.rbac_command.specs.App.{rules_app, matrix_app, lint_app, bare_app, rbac_app};
 ghost use Rattle.rbac_command.specs.App.{who_rule, before_files_rule, after_files_rule, diff_app};
@@ -40,7 +41,8 @@ Examples:
 
 const WHO_CAN_MORE: &str =
     "The exit status is 0, also where nobody may; 2 is an error. Holders that are limited to object
-names are listed only where TARGET names the object.
+names are listed only where TARGET names the object. A RoleBinding counts in its namespace alone:
+--anywhere counts them all, and a line's binding tells where it counts.
 
 With --why four fields follow the binding: ROLE, SOURCE, RULE and SUBJECT, as in can-i --help. They
 are of the first rule of that binding that allows it, and of the first subject that is the holder.
@@ -48,6 +50,7 @@ are of the first rule of that binding that allows it, and of the first subject t
 Examples:
   rbacaudit who-can -n dev delete secrets cluster.json namespaced.json
   rbacaudit who-can -n dev --why delete secrets cluster.json namespaced.json
+  rbacaudit who-can --anywhere --every get secrets cluster.json namespaced.json
   rbacaudit who-can get /metrics cluster.json";
 
 const RULES_MORE: &str = "A line has ten fields, joined by tabs:
@@ -132,6 +135,11 @@ const WHY: &str = "After yes, print why: BINDING, its ROLE, the SOURCE role, its
 const WHO_CAN_WHY: &str =
     "After the binding, print why: its ROLE, the SOURCE role, its RULE, the SUBJECT";
 
+const EVERY: &str = "List every binding that grants, not only the first";
+
+const WHO_CAN_EVERY: &str =
+    "List each of them with every binding that grants it, not only the first";
+
 const RULES_NAMESPACE: &str =
     "Namespace whose RoleBindings count, with all ClusterRoleBindings (default: any)";
 
@@ -159,6 +167,17 @@ fn groups_arg<'a>(alloc: Global) -> Arg<'a>
         .help("Groups of the user beside the implied ones, e.g. dev,ops (default: none)")
 }
 
+fn group_arg<'a>(alloc: Global) -> Arg<'a>
+    ensures rule { rule_of result ≡ group_rule }
+    ensures local { result.global ≡ false }
+{
+    Arg::new(alloc, "group")
+        .long("group")
+        .value_name("G")
+        .action(ArgAction::Append)
+        .help("One more group, whole, commas and all; may be repeated (default: none)")
+}
+
 fn namespace_arg<'a>(alloc: Global, help: &'a str) -> Arg<'a>
     ensures rule { rule_of result ≡ namespace_rule }
     ensures local { result.global ≡ false }
@@ -179,6 +198,28 @@ fn all_arg<'a>(alloc: Global, help: &'a str) -> Arg<'a>
         .long("all-namespaces")
         .action(ArgAction::SetTrue)
         .help(help)
+}
+
+fn in_namespace_arg<'a>(alloc: Global) -> Arg<'a>
+    ensures rule { rule_of result ≡ in_namespace_rule }
+    ensures local { result.global ≡ false }
+{
+    Arg::new(alloc, "in-namespace")
+        .long("in-namespace")
+        .action(ArgAction::SetTrue)
+        .help(
+            "Ask in the namespace also about a cluster-scoped type, as servers do for a Namespace",
+        )
+}
+
+fn anywhere_arg<'a>(alloc: Global) -> Arg<'a>
+    ensures rule { rule_of result ≡ anywhere_rule }
+    ensures local { result.global ≡ false }
+{
+    Arg::new(alloc, "anywhere")
+        .long("anywhere")
+        .action(ArgAction::SetTrue)
+        .help("Count the bindings of all namespaces, not only of -n; -A overrides this")
 }
 
 fn subresource_arg<'a>(alloc: Global) -> Arg<'a>
@@ -241,14 +282,14 @@ fn target_arg<'a>(alloc: Global) -> Arg<'a>
         .help("TYPE, TYPE/NAME or a URL path, e.g. pods, deployments.apps/web or /healthz")
 }
 
-fn every_arg<'a>(alloc: Global) -> Arg<'a>
+fn every_arg<'a>(alloc: Global, help: &'a str) -> Arg<'a>
     ensures rule { rule_of result ≡ every_rule }
     ensures local { result.global ≡ false }
 {
     Arg::new(alloc, "every")
         .long("every")
         .action(ArgAction::SetTrue)
-        .help("List every binding that grants, not only the first")
+        .help(help)
 }
 
 fn after_arg<'a>(alloc: Global) -> Arg<'a>
@@ -329,7 +370,18 @@ fn with_scope<'a>(alloc: Global, command: Built<'a>) -> Built<'a>
 {
     let command = with(command, namespace_arg(alloc, NAMESPACE));
     let command = with(command, all_arg(alloc, ALL));
+    let command = with(command, in_namespace_arg(alloc));
     with(command, subresource_arg(alloc))
+}
+
+fn with_groups<'a>(alloc: Global, command: Built<'a>) -> Built<'a>
+    requires { IfOk command (λ c. (fields_of c).has_globals ≡ false) }
+    ensures app { IfOk result (λ r. IsOkAnd command.entry (λ c.
+        app_of r ≡ with_groups (app_of c))) }
+    ensures local { IfOk result (λ r. (fields_of r).has_globals ≡ false) }
+{
+    let command = with(command, groups_arg(alloc));
+    with(command, group_arg(alloc))
 }
 
 fn with_question<'a>(alloc: Global, command: Built<'a>) -> Built<'a>
@@ -362,7 +414,7 @@ fn can_i<'a>(alloc: Global) -> Built<'a>
         CAN_I_MORE,
     );
     let command = with(Ok(command), user_arg(alloc));
-    let command = with(command, groups_arg(alloc));
+    let command = with_groups(alloc, command);
     let command = with_scope(alloc, command);
     let command = with(command, quiet_arg(alloc));
     let command = with(command, why_arg(alloc, WHY));
@@ -380,6 +432,8 @@ fn who_can<'a>(alloc: Global) -> Built<'a>
         WHO_CAN_MORE,
     );
     let command = with_scope(alloc, Ok(command));
+    let command = with(command, anywhere_arg(alloc));
+    let command = with(command, every_arg(alloc, WHO_CAN_EVERY));
     let command = with(command, why_arg(alloc, WHO_CAN_WHY));
     with_question(alloc, command)
 }
@@ -394,7 +448,7 @@ fn rules<'a>(alloc: Global) -> Built<'a>
         "List the rules that WHO has: a line for each, with the binding that brings it",
         RULES_MORE,
     );
-    let command = with(Ok(command), groups_arg(alloc));
+    let command = with_groups(alloc, Ok(command));
     let command = with(command, namespace_arg(alloc, RULES_NAMESPACE));
     let command = with(command, all_arg(alloc, RULES_ALL));
     let command = with(command, who_arg(alloc));
@@ -411,7 +465,7 @@ fn matrix<'a>(alloc: Global) -> Built<'a>
         "List everything that anyone may do: a line for each request that is allowed, then end",
         MATRIX_MORE,
     );
-    let command = with(Ok(command), every_arg(alloc));
+    let command = with(Ok(command), every_arg(alloc, EVERY));
     let command = with(command, after_arg(alloc));
     let command = with(command, limit_arg(alloc));
     with(command, files_arg(alloc))

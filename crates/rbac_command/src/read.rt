@@ -55,6 +55,7 @@ fn question_of<'a>(matches: &ArgMatches<'a>) -> QuestionLine<'a>
 {
     QuestionLine {
         all_namespaces: flag_of(matches, "all"),
+        in_namespace: flag_of(matches, "in-namespace"),
         namespace: text_of(matches, "namespace"),
         subresource: text_of(matches, "subresource"),
         verb: text_of(matches, "verb"),
@@ -63,12 +64,13 @@ fn question_of<'a>(matches: &ArgMatches<'a>) -> QuestionLine<'a>
 }
 
 // The parts of a `can-i` line.
-fn line_of<'a>(matches: &ArgMatches<'a>) -> CanILine<'a>
+fn line_of<'m, 'a>(matches: &'m ArgMatches<'a>) -> CanILine<'m, 'a>
     ensures { result ≡ parts_in (rows_of (found_of matches.now)) }
 {
     CanILine {
         user: text_of(matches, "as"),
         groups: text_of(matches, "groups"),
+        whole_groups: values_of(matches, "group"),
         quiet: flag_of(matches, "quiet"),
         why: flag_of(matches, "why"),
         question: question_of(matches),
@@ -80,21 +82,30 @@ fn who_can_line_of<'a>(matches: &ArgMatches<'a>) -> WhoCanLine<'a>
     ensures { result ≡ who_can_in (rows_of (found_of matches.now)) }
 {
     let why = flag_of(matches, "why");
+    let every = flag_of(matches, "every");
+    let anywhere = flag_of(matches, "anywhere");
     let question = question_of(matches);
-    WhoCanLine { why, question }
+    WhoCanLine {
+        why,
+        every,
+        anywhere,
+        question,
+    }
 }
 
 // The parts of a `rules` line.
-fn rules_line_of<'a>(matches: &ArgMatches<'a>) -> RulesLine<'a>
+fn rules_line_of<'m, 'a>(matches: &'m ArgMatches<'a>) -> RulesLine<'m, 'a>
     ensures { result ≡ rules_in (rows_of (found_of matches.now)) }
 {
     let who = text_of(matches, "who");
     let groups = text_of(matches, "groups");
+    let whole_groups = values_of(matches, "group");
     let namespace = text_of(matches, "namespace");
     let all_namespaces = flag_of(matches, "all");
     RulesLine {
         who,
         groups,
+        whole_groups,
         namespace,
         all_namespaces,
     }

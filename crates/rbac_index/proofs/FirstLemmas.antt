@@ -1,10 +1,10 @@
--- the first of what is seen with each key are the holders
-use Rattle.std.proofs.Common.{◌≡◌, ℕ, ◌+◌, ◌<◌, ◌≤◌, List, [], ◌∷◌, ◌++◌, length, get_or, take, ap, sym, ◌∙◌, refl, subst, Contains, ◌⊎◌, ◌↔◌, inl, inr, arith, slice_get, slice_index, Option, None}
+-- the first of what is seen that are alike are the holders
+use Rattle.std.proofs.Common.{◌≡◌, ℕ, ◌+◌, ◌<◌, ◌≤◌, Bool, true, false, List, [], ◌∷◌, ◌++◌, length, get_or, take, ap, ap₂, sym, ◌∙◌, refl, subst, Contains, ◌↔◌, inl, inr, arith, slice_get, slice_index, Option, None}
 use Rattle.std.specs.Prelude.{Some, AllPairs, option_map}
 use Rattle.std.specs.List.Sorted.{IsStrictlySortedBy}
 use Rattle.std.specs.Map.{keys_of, values_of}
 use Rattle.std.specs.declared.cmp.Ordering.TheVariants.{Less}
-use Rattle.std.proofs.lemmas.Bool.{cases_order, cases_eq}
+use Rattle.std.proofs.lemmas.Bool.{cases_order, cases_eq, cases_lt}
 use Rattle.std.proofs.lemmas.Cmp.{nat_list_cmp_total, tied_itself}
 use Rattle.std.proofs.lemmas.List.{length-map, length-take-le, get_or-take, map-append, take_more, take_all}
 use Rattle.std.proofs.lemmas.List.Elements.{Contains-append_left, Contains-push, Contains-push_cases}
@@ -14,33 +14,13 @@ use Rattle.indexmap.specs.IndexMap.{IndexMap, keys, values}
 use Rattle.rbac_terms.specs.Text.{Text, text_cmp}
 use Rattle.rbac_terms.specs.Targets.{What}
 use Rattle.rbac_model.specs.Policies.{Held}
-use Rattle.rbac_model.specs.Holders.{HolderView, IsHolderAt, AreHolders, IsBefore}
+use Rattle.rbac_model.specs.Holders.{HolderView, IsBefore}
 use Rattle.rbac_index.specs.declared.sightings.Sighting.{Sighting}
-use Rattle.rbac_index.specs.HolderViews.{holder_of, sighted, keys_seen, KeepsFirst}
-use Rattle.rbac_index.specs.Holding.{BringsAt, HoldsThere, IsEarlier, AreSeen, AreFirsts}
+use Rattle.rbac_index.specs.HolderViews.{holder_of, sighted, label_of, labels_seen, KeepsFirst}
+use Rattle.rbac_index.specs.Holding.{BringsAt, HoldsThere, IsAlike, IsEarlier, AreSeen, AreFirsts}
+use Rattle.rbac_index.specs.WhoCan.{WhereView, HoldsAt, IsHolderBy, AreListedHolders}
 use Rattle.rbac_index.specs.Ranks.{AreRanks}
-use Rattle.rbac_index.proofs.SeenLemmas.{brings, pushed}
-
-lex_cases : (i j k l : ℕ) → IsBefore i j k l ⊎ (IsBefore k l i j ⊎ ((i ≡ k) × (j ≡ l)))
-lex_cases i j k l = elim (cases_order i k) [
-  | inl e ↦ elim (cases_order j l) [
-    | inl f ↦ inr (inr (e, f))
-    | inr f ↦ elim f [
-      | inl m ↦ inl (inr (e, m))
-      | inr m ↦ inr (inl (inr (sym e, m)))
-    ]
-  ]
-  | inr d ↦ elim d [
-    | inl m ↦ inl (inl m)
-    | inr m ↦ inr (inl (inl m))
-  ]
-]
-
-lex_not_both : (i j k l : ℕ) → IsBefore i j k l → (k < i) ⊎ ((k ≡ i) × (l < j + 1)) → ⊥
-lex_not_both i j k l (inl a) (inl b) = omega arith
-lex_not_both i j k l (inl a) (inr b) = omega (arith, b.0)
-lex_not_both i j k l (inr a) (inl b) = omega (arith, a.0)
-lex_not_both i j k l (inr a) (inr b) = omega (arith, a.1, b.1)
+use Rattle.rbac_index.proofs.SeenLemmas.{brings, holder_by, pushed}
 
 lex_asym : (i j k l : ℕ) → IsBefore i j k l → ¬ IsBefore k l i j
 lex_asym i j k l (inl a) (inl b) = omega arith
@@ -51,53 +31,77 @@ lex_asym i j k l (inr a) (inr b) = omega (arith, a.1, b.1)
 lex_itself : (i j : ℕ) → ¬ IsBefore i j i j
 lex_itself i j a = lex_asym i j i j a a
 
--- before the next pair of places, if not later
-not_later : (i j k l : ℕ) → ¬ IsBefore k l i j → IsBefore i j k (l + 1)
-not_later i j k l none = elim (lex_cases i j k l) [
-  | inl a ↦ elim a [
-    | inl b ↦ inl b
-    | inr b ↦ inr (b.0, omega (arith, b.1))
-  ]
-  | inr c ↦ elim c [
-    | inl b ↦ absurd (none b)
-    | inr e ↦ inr (e.0, omega (arith, e.1))
-  ]
-]
-
 -- where all that brings a rule that allows is passed
-pub firsts_hold : (h : Held) (namespace verb : Text) (t : What) (bound : ℕ) (xs firsts : List HolderView) → ((m : ℕ) → BringsAt h namespace verb t m → m < bound) → AreSeen h namespace verb t bound 0 xs → AreFirsts xs firsts → AreHolders h namespace verb t firsts
-firsts_hold h namespace verb t bound xs firsts below seen first = record {
-  ordered = first.ordered;
-  exact = λ x. (
-    λ w.
-        let f = (first.exact x).0 w in
-        let there = ((seen.exact x).0 f.0).0 in (
-          there.0,
-          there.1,
-          λ i j a. not_later x.binding_place x.subject_place i j (λ earlier.
-              let y : HolderView = record { key = x.key; binding = a.0; binding_place = i; subject_place = j } in
-              let holds : HoldsThere h namespace verb t y = (a.2, a) in
-              let inside : Contains xs y = (seen.exact y).1 (holds, inl (below i (brings h namespace verb t x.key i j a))) in
-              f.1 y inside refl earlier),
-        ),
-    λ holder.
-        let holds : HoldsThere h namespace verb t x = (holder.0, holder.1) in
-        (first.exact x).1 (
-          (seen.exact x).1 (holds, inl (below x.binding_place (brings h namespace verb t x.key x.binding_place x.subject_place holder.1))),
-          λ y w same earlier.
-              let there = ((seen.exact y).0 w).0 in
-              let at : IsHolderAt h namespace verb t x.key y.binding_place y.subject_place = subst (λ (k : Text). IsHolderAt h namespace verb t k y.binding_place y.subject_place) same there.1 in
-              lex_not_both y.binding_place y.subject_place x.binding_place x.subject_place earlier (holder.2 y.binding_place y.subject_place at),
-        ),
-  );
-}
+module _ (h : Held) (asked : WhereView) (verb : Text) (t : What) (bound : ℕ) (xs : List HolderView) (below : (m : ℕ) → BringsAt h asked verb t m → m < bound) (seen : AreSeen h asked verb t bound 0 xs) where
+  -- what holds was seen
+  inside : (key : Text) (i j : ℕ) → (a : HoldsAt h asked verb t key i j) → Contains xs (holder_by key a.0 i j)
+  inside key i j a = (seen.exact (holder_by key a.0 i j)).1 ((a.2, a), inl (below i (brings h asked verb t key i j a)))
+
+  holds_seen : (x : HolderView) → HoldsThere h asked verb t x → Contains xs x
+  holds_seen x there = (seen.exact x).1 (there, inl (below x.binding_place (brings h asked verb t x.key x.binding_place x.subject_place there.1)))
+
+  -- what was seen with a key holds by it
+  holds_with : (x y : HolderView) → Contains xs y → y.key ≡ x.key → HoldsAt h asked verb t x.key y.binding_place y.subject_place
+  holds_with x y w same = subst (λ (k : Text). HoldsAt h asked verb t k y.binding_place y.subject_place) same ((seen.exact y).0 w).0.1
+
+  holder_by_first : (every : Bool) (x : HolderView) → Contains xs x → ((y : HolderView) → Contains xs y → IsAlike every y x → ¬ IsEarlier y x) → IsHolderBy h asked verb t x
+  holder_by_first every x w none =
+      let there = ((seen.exact x).0 w).0 in (
+        there.0,
+        there.1,
+        λ j a. elim (cases_lt j x.subject_place) [
+          | inl l ↦ absurd (none (holder_by x.key a.0 x.binding_place j) (inside x.key x.binding_place j a) (refl, refl) (inr (refl, l)))
+          | inr l ↦ l
+        ],
+      )
+
+  none_sooner : (x y : HolderView) → IsHolderBy h asked verb t x → Contains xs y → y.key ≡ x.key → y.binding_place ≡ x.binding_place → y.subject_place < x.subject_place → ⊥
+  none_sooner x y holder w same place lt =
+      let at = subst (λ (i : ℕ). HoldsAt h asked verb t x.key i y.subject_place) place (holds_with x y w same) in
+      let least = holder.2 y.subject_place at in
+      omega arith
+
+  pub firsts_hold : (every : Bool) (firsts : List HolderView) → AreFirsts every xs firsts → AreListedHolders h asked every verb t firsts
+  firsts_hold true firsts first = record {
+    ordered = first.ordered;
+    exact = λ x. (
+      λ w. let f = (first.exact x).0 w in holder_by_first true x f.0 f.1,
+      λ holder. (first.exact x).1 (
+        holds_seen x (holder.0, holder.1),
+        λ y w alike earlier. elim earlier [
+          | inl l ↦ omega (arith, l, alike.1)
+          | inr e ↦ none_sooner x y holder w alike.0 alike.1 e.1
+        ],
+      ),
+    );
+  }
+  firsts_hold false firsts first = record {
+    ordered = first.ordered;
+    exact = λ x. (
+      λ w.
+          let f = (first.exact x).0 w in (
+            holder_by_first false x f.0 f.1,
+            λ i j a. elim (cases_lt i x.binding_place) [
+              | inl l ↦ absurd (f.1 (holder_by x.key a.0 i j) (inside x.key i j a) (refl, refl) (inl l))
+              | inr l ↦ l
+            ],
+          ),
+      λ holder. (first.exact x).1 (
+        holds_seen x (holder.0.0, holder.0.1),
+        λ y w alike earlier. elim earlier [
+          | inl l ↦ let le = holder.1 y.binding_place y.subject_place (holds_with x y w alike.0) in omega arith
+          | inr e ↦ none_sooner x y holder.0 w alike.0 e.0 e.1
+        ],
+      ),
+    );
+  }
 
 -- one more is seen, after all others
-module _ (before hs : List HolderView) (y : HolderView) (later : (x : HolderView) → Contains before x → IsEarlier x y) (first : AreFirsts before hs) where
+module _ (every : Bool) (before hs : List HolderView) (y : HolderView) (later : (x : HolderView) → Contains before x → IsEarlier x y) (first : AreFirsts every before hs) where
   not_before : (x : HolderView) → Contains before x → ¬ IsEarlier y x
   not_before x w earlier = lex_asym x.binding_place x.subject_place y.binding_place y.subject_place (later x w) earlier
 
-  still : (x : HolderView) → Contains hs x → Contains (before ++ y ∷ []) x × ((u : HolderView) → Contains (before ++ y ∷ []) u → u.key ≡ x.key → ¬ IsEarlier u x)
+  still : (x : HolderView) → Contains hs x → Contains (before ++ y ∷ []) x × ((u : HolderView) → Contains (before ++ y ∷ []) u → IsAlike every u x → ¬ IsEarlier u x)
   still x w =
       let f = (first.exact x).0 w in (
         Contains-append_left before (y ∷ []) x f.0,
@@ -107,24 +111,24 @@ module _ (before hs : List HolderView) (y : HolderView) (later : (x : HolderView
         ],
       )
 
-  was : (x : HolderView) → Contains before x → ((u : HolderView) → Contains (before ++ y ∷ []) u → u.key ≡ x.key → ¬ IsEarlier u x) → Contains hs x
+  was : (x : HolderView) → Contains before x → ((u : HolderView) → Contains (before ++ y ∷ []) u → IsAlike every u x → ¬ IsEarlier u x) → Contains hs x
   was x o none = (first.exact x).1 (o, λ u v. none u (Contains-append_left before (y ∷ []) u v))
 
   -- its key was seen
-  pub firsts_kept : (z : HolderView) → Contains before z → z.key ≡ y.key → AreFirsts (before ++ y ∷ []) hs
+  pub firsts_kept : (z : HolderView) → Contains before z → IsAlike every z y → AreFirsts every (before ++ y ∷ []) hs
   firsts_kept z inside same = record {
     ordered = first.ordered;
     exact = λ x. (
       still x,
       λ f. elim (Contains-push_cases before y x f.0) [
         | inl o ↦ was x o f.1
-        | inr e ↦ absurd (f.1 z (Contains-append_left before (y ∷ []) z inside) (same ∙ ap (λ (v : HolderView). v.key) e) (subst (IsEarlier z) e (later z inside)))
+        | inr e ↦ absurd (f.1 z (Contains-append_left before (y ∷ []) z inside) (subst (IsAlike every z) e same) (subst (IsEarlier z) e (later z inside)))
       ],
     );
   }
 
   -- its key is new
-  pub firsts_added : ((z : HolderView) → Contains before z → ¬ (z.key ≡ y.key)) → AreFirsts (before ++ y ∷ []) (hs ++ y ∷ [])
+  pub firsts_added : ((z : HolderView) → Contains before z → ¬ IsAlike every z y) → AreFirsts every (before ++ y ∷ []) (hs ++ y ∷ [])
   firsts_added new = record {
     ordered = pushed hs y first.ordered (λ x w. later x ((first.exact x).0 w).0);
     exact = λ x. (
@@ -133,7 +137,7 @@ module _ (before hs : List HolderView) (y : HolderView) (later : (x : HolderView
         | inr e ↦ (
           subst (Contains (before ++ y ∷ [])) e (Contains-push before y),
           λ u v same earlier. elim (Contains-push_cases before y u v) [
-            | inl o ↦ new u o (same ∙ ap (λ (v : HolderView). v.key) (sym e))
+            | inl o ↦ new u o (subst (IsAlike every u) (sym e) same)
             | inr f ↦ lex_itself y.binding_place y.subject_place (subst (IsEarlier y) (sym e) (subst (λ (z : HolderView). IsEarlier z x) (sym f) earlier))
           ],
         )
@@ -146,12 +150,12 @@ module _ (before hs : List HolderView) (y : HolderView) (later : (x : HolderView
   }
 
 -- what the first n sightings leave under their ranks
-pub record AreFirstsUpTo {S : Type 0} (seen : List Sighting) (ranks : List ℕ) (n : ℕ) (m : IndexMap ℕ Sighting S) : Type 0 where
-  pub firsts : AreFirsts (take n (sighted seen)) (sighted (values m))
+pub record AreFirstsUpTo {S : Type 0} (every : Bool) (seen : List Sighting) (ranks : List ℕ) (n : ℕ) (m : IndexMap ℕ Sighting S) : Type 0 where
+  pub firsts : AreFirsts every (take n (sighted seen)) (sighted (values m))
   pub ranked : (r : ℕ) → Contains (keys m) r ↔ ((k : ℕ) × (k < n) × (slice_index ranks k ≡ r))
 
-pub up_to_none : {S : Type 0} (seen : List Sighting) (ranks : List ℕ) (m : IndexMap ℕ Sighting S) → m.entries ≡ [] → AreFirstsUpTo seen ranks 0 m
-up_to_none seen ranks m empty = record {
+pub up_to_none : {S : Type 0} (every : Bool) (seen : List Sighting) (ranks : List ℕ) (m : IndexMap ℕ Sighting S) → m.entries ≡ [] → AreFirstsUpTo every seen ranks 0 m
+up_to_none every seen ranks m empty = record {
   firsts = rw empty record {
     ordered = λ i j d less within. absurd (omega arith);
     exact = λ x. (λ w. absurd (omega (arith, w.1)), λ f. absurd (omega (arith, f.0.1)));
@@ -159,7 +163,23 @@ up_to_none seen ranks m empty = record {
   ranked = λ r. (λ w. absurd (omega (arith, w.1, ap (λ (es : List (ℕ × Sighting)). length (keys_of es)) empty)), λ k. absurd (omega (arith, k.1)));
 }
 
--- the same key stands at one place only
+first_of : Text → ℕ
+first_of [] = 0
+first_of (b ∷ bs) = b
+
+behind_first : Text → Text
+behind_first [] = []
+behind_first (b ∷ bs) = bs
+
+-- what has one label is alike
+alike_labels : (every : Bool) (z s : Sighting) → label_of every z ≡ label_of every s → IsAlike every (holder_of z) (holder_of s)
+unfolding behind_first first_of
+alike_labels every z s e = (ap behind_first e, ap first_of e)
+
+same_labels : (every : Bool) (z s : Sighting) → IsAlike every (holder_of z) (holder_of s) → label_of every z ≡ label_of every s
+same_labels every z s alike = ap₂ (λ (i : ℕ) (key : Text). i ∷ key) alike.1 alike.0
+
+-- the same label stands at one place only
 once_at : (once : List Text) (key : Text) (i j : ℕ) → IsStrictlySortedBy text_cmp once → slice_get once i ≡ Some key → slice_get once j ≡ Some key → i < j → ⊥
 once_at once key i j up at there lt =
     let less = Less-from_sorted text_cmp once i j [] up lt (slice_get_within once j key there) in
@@ -175,9 +195,9 @@ one_at once key i j up at there = elim (cases_order i j) [
   ]
 ]
 
-module _ (seen : List Sighting) (ranks : List ℕ) (up : AllPairs IsEarlier (sighted seen)) (are : AreRanks (keys_seen seen) ranks) where
-  key_there : (k : ℕ) (s : Sighting) → slice_get seen k ≡ Some s → slice_get are.once (slice_index ranks k) ≡ Some s.key
-  key_there k s at = are.places k s.key (slice_get-map (λ (x : Sighting). x.key) seen k ∙ ap (option_map (λ (x : Sighting). x.key)) at)
+module _ (every : Bool) (seen : List Sighting) (ranks : List ℕ) (up : AllPairs IsEarlier (sighted seen)) (are : AreRanks (labels_seen every seen) ranks) where
+  label_there : (k : ℕ) (s : Sighting) → slice_get seen k ≡ Some s → slice_get are.once (slice_index ranks k) ≡ Some (label_of every s)
+  label_there k s at = are.places k (label_of every s) (slice_get-map (label_of every) seen k ∙ ap (option_map (label_of every)) at)
 
   view_there : (k : ℕ) (s : Sighting) → slice_get seen k ≡ Some s → slice_get (sighted seen) k ≡ Some (holder_of s)
   view_there k s at = slice_get-map holder_of seen k ∙ ap (option_map holder_of) at
@@ -201,7 +221,7 @@ module _ (seen : List Sighting) (ranks : List ℕ) (up : AllPairs IsEarlier (sig
     get_or-take n (sighted seen) k (holder_of z) less ∙ get_or_from_slice_get (sighted seen) k (holder_of z) (holder_of z) (view_there k z there),
   )
 
-  pub up_to_more : {S : Type 0} (n rank : ℕ) (s : Sighting) (old new : IndexMap ℕ Sighting S) → slice_get seen n ≡ Some s → slice_index ranks n ≡ rank → KeepsFirst old new rank s → AreFirstsUpTo seen ranks n old → AreFirstsUpTo seen ranks (n + 1) new
+  pub up_to_more : {S : Type 0} (n rank : ℕ) (s : Sighting) (old new : IndexMap ℕ Sighting S) → slice_get seen n ≡ Some s → slice_index ranks n ≡ rank → KeepsFirst old new rank s → AreFirstsUpTo every seen ranks n old → AreFirstsUpTo every seen ranks (n + 1) new
   up_to_more {S} n rank s old new at is keeps upto =
       let xs = sighted seen in
       let y = holder_of s in
@@ -217,9 +237,9 @@ module _ (seen : List Sighting) (ranks : List ℕ) (up : AllPairs IsEarlier (sig
             let (k, less, has) = (upto.ranked rank).0 same.1 in
             let z = get_or seen k s in
             let there : slice_get seen k ≡ Some z = slice_get-get_or seen k s (omega (arith, less, lt)) in
-            let one : Some z.key ≡ Some s.key = sym (key_there k z there) ∙ ap (slice_get are.once) (has ∙ sym is) ∙ key_there n s at in
-            let record_of : AreFirstsUpTo seen ranks (n + 1) old = record {
-              firsts = rw more (firsts_kept (take n xs) (sighted (values old)) y later upto.firsts (holder_of z) (inside_first n k z less lt there) (same_Some z.key s.key one));
+            let one : Some (label_of every z) ≡ Some (label_of every s) = sym (label_there k z there) ∙ ap (slice_get are.once) (has ∙ sym is) ∙ label_there n s at in
+            let record_of : AreFirstsUpTo every seen ranks (n + 1) old = record {
+              firsts = rw more (firsts_kept every (take n xs) (sighted (values old)) y later upto.firsts (holder_of z) (inside_first n k z less lt there) (alike_labels every z s (same_Some (label_of every z) (label_of every s) one)));
               ranked = λ r. (
                 λ w. let j = (upto.ranked r).0 w in (j.0, omega (arith, j.1), j.2),
                 λ j. elim (cases_eq j.0 n) [
@@ -228,15 +248,15 @@ module _ (seen : List Sighting) (ranks : List ℕ) (up : AllPairs IsEarlier (sig
                 ],
               );
             } in
-            subst (AreFirstsUpTo seen ranks (n + 1)) (sym same.0) record_of
+            subst (AreFirstsUpTo every seen ranks (n + 1)) (sym same.0) record_of
         | inr added ↦
             let shown : sighted (values new) ≡ sighted (values old) ++ y ∷ [] = ap (λ (es : List (ℕ × Sighting)). sighted (values_of es)) added.0 ∙ ap sighted (map-append (λ (e : ℕ × Sighting). e.1) old.entries ((rank, s) ∷ [])) ∙ map-append holder_of (values old) (s ∷ []) in
             let keyed : keys new ≡ keys old ++ rank ∷ [] = ap (λ (es : List (ℕ × Sighting)). keys_of es) added.0 ∙ map-append (λ (e : ℕ × Sighting). e.0) old.entries ((rank, s) ∷ []) in
             record {
-              firsts = rw (more, shown) (firsts_added (take n xs) (sighted (values old)) y later upto.firsts (λ z w same.
+              firsts = rw (more, shown) (firsts_added every (take n xs) (sighted (values old)) y later upto.firsts (λ z w same.
                   let (k, u, less, there, view) = among_first n z lt w in
-                  let key : u.key ≡ s.key = ap (λ (v : HolderView). v.key) view ∙ same in
-                  let place : slice_index ranks k ≡ slice_index ranks n = one_at are.once s.key (slice_index ranks k) (slice_index ranks n) are.each.ascending (key_there k u there ∙ ap Some key) (key_there n s at) in
+                  let label : label_of every u ≡ label_of every s = same_labels every u s (subst (λ (v : HolderView). IsAlike every v y) (sym view) same) in
+                  let place : slice_index ranks k ≡ slice_index ranks n = one_at are.once (label_of every s) (slice_index ranks k) (slice_index ranks n) are.each.ascending (label_there k u there ∙ ap Some label) (label_there n s at) in
                   added.1 ((upto.ranked rank).1 (k, less, place ∙ is))));
               ranked = λ r. (
                 λ w. elim (Contains-push_cases (keys old) rank r (subst (λ (l : List ℕ). Contains l r) keyed w)) [
@@ -251,5 +271,5 @@ module _ (seen : List Sighting) (ranks : List ℕ) (up : AllPairs IsEarlier (sig
             }
       ]
 
-  pub up_to_all : {S : Type 0} (n : ℕ) (m : IndexMap ℕ Sighting S) → length seen ≤ n → AreFirstsUpTo seen ranks n m → AreFirsts (sighted seen) (sighted (values m))
-  up_to_all n m le upto = subst (λ (xs : List HolderView). AreFirsts xs (sighted (values m))) (take_all n (sighted seen) (omega (arith, le, length-map seen holder_of))) upto.firsts
+  pub up_to_all : {S : Type 0} (n : ℕ) (m : IndexMap ℕ Sighting S) → length seen ≤ n → AreFirstsUpTo every seen ranks n m → AreFirsts every (sighted seen) (sighted (values m))
+  up_to_all n m le upto = subst (λ (xs : List HolderView). AreFirsts every xs (sighted (values m))) (take_all n (sighted seen) (omega (arith, le, length-map seen holder_of))) upto.firsts

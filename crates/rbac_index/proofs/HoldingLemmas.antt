@@ -1,5 +1,5 @@
 -- the bindings of candidates, passed in order
-use Rattle.std.proofs.Common.{◌≡◌, ℕ, ◌+◌, ◌<◌, ◌≤◌, List, length, get_or, ap, ◌∙◌, inl, inr, arith}
+use Rattle.std.proofs.Common.{◌≡◌, ℕ, ◌+◌, ◌<◌, ◌≤◌, Bool, List, length, get_or, ap, ◌∙◌, inl, inr, arith}
 use Rattle.std.proofs.lemmas.Bool.{cases_eq, cases_lt}
 use Rattle.std.proofs.lemmas.List.{get_or_default}
 use Rattle.std.proofs.lemmas.List.Elements.{Contains-get_or}
@@ -8,11 +8,12 @@ use Rattle.std.proofs.lemmas.Option.{slice_get_within}
 use Rattle.rbac_terms.specs.Text.{Text}
 use Rattle.rbac_terms.specs.Targets.{What}
 use Rattle.rbac_model.specs.Policies.{PolicyView, IsPolicy, IsOfBinding}
-use Rattle.rbac_model.specs.Holders.{HolderView, AreHolders}
+use Rattle.rbac_model.specs.Holders.{HolderView}
 use Rattle.rbac_model.proofs.GrantNumbers.{grant_by}
 use Rattle.rbac_model.proofs.BindingPlaces.{places_rise, one_binding_place, rule_of_binding, grant_of_rule}
 use Rattle.rbac_index.specs.Indexed.{AreCandidates}
 use Rattle.rbac_index.specs.Holding.{BringsAt, BringsRuleAt, AreSeen, AreFirsts}
+use Rattle.rbac_index.specs.WhoCan.{WhereView, AreListedHolders}
 use Rattle.rbac_index.proofs.FirstLemmas.{firsts_hold}
 use Rattle.rbac_index.proofs.SeenLemmas.{seen_entered}
 
@@ -21,7 +22,7 @@ pub record ArePassed (p : PolicyView) (ns : List ℕ) (count place : ℕ) : Type
   pub behind : (k i : ℕ) → k < count → IsOfBinding p (get_or ns k 0) i → i < place
   pub ahead : (k i : ℕ) → count ≤ k → k < length ns → IsOfBinding p (get_or ns k 0) i → place ≤ i + 1
 
-module _ (p : PolicyView) (ok : IsPolicy p) (namespace verb : Text) (t : What) (ns : List ℕ) (are : AreCandidates p verb t ns) where
+module _ (p : PolicyView) (ok : IsPolicy p) (asked : WhereView) (verb : Text) (t : What) (ns : List ℕ) (are : AreCandidates p verb t ns) where
   pub candidate_within : (k : ℕ) → k < length ns → get_or ns k 0 < length p.grants
   candidate_within k lt = let a = (are.exact (get_or ns k 0)).0 (Contains-get_or ns k 0 lt) in slice_get_within p.grants (get_or ns k 0) a.0 a.1
 
@@ -34,7 +35,7 @@ module _ (p : PolicyView) (ok : IsPolicy p) (namespace verb : Text) (t : What) (
       (by.0, by.1, (by.2.0, by.2.1, (has.0, a.0.rule, has.1, has.2, a.2)))
 
   -- a binding that brings a rule that allows is a candidate's
-  brings_candidate : (m : ℕ) → BringsAt p.held namespace verb t m → (k : ℕ) × (k < length ns) × IsOfBinding p (get_or ns k 0) m
+  brings_candidate : (m : ℕ) → BringsAt p.held asked verb t m → (k : ℕ) × (k < length ns) × IsOfBinding p (get_or ns k 0) m
   brings_candidate m brings =
       let any = brings.3.2 in
       let g = grant_of_rule p ok m brings.0 brings.3.0 any.1 brings.1 brings.3.1 (any.0, any.2, any.3) in
@@ -42,7 +43,7 @@ module _ (p : PolicyView) (ok : IsPolicy p) (namespace verb : Text) (t : What) (
       (w.0, w.1, rw (get_or_default ns w.0 0 g.0 w.1 ∙ w.2) g.2)
 
   -- between what is passed and the next candidate's binding none brings such a rule
-  none_between : (k next place : ℕ) → k < length ns → IsOfBinding p (get_or ns k 0) place → ArePassed p ns k next → (m : ℕ) → next ≤ m → m < place → ¬ BringsAt p.held namespace verb t m
+  none_between : (k next place : ℕ) → k < length ns → IsOfBinding p (get_or ns k 0) place → ArePassed p ns k next → (m : ℕ) → next ≤ m → m < place → ¬ BringsAt p.held asked verb t m
   none_between k next place lt of passed m low high brings =
       let c = brings_candidate m brings in
       elim (cases_lt c.0 k) [
@@ -56,8 +57,8 @@ module _ (p : PolicyView) (ok : IsPolicy p) (namespace verb : Text) (t : What) (
             omega arith
       ]
 
-  pub entered : (k next place : ℕ) (xs : List HolderView) → k < length ns → IsOfBinding p (get_or ns k 0) place → next ≤ place → ArePassed p ns k next → AreSeen p.held namespace verb t next 0 xs → AreSeen p.held namespace verb t place 0 xs
-  entered k next place xs lt of le passed seen = seen_entered p.held namespace verb t next place xs le (none_between k next place lt of passed) seen
+  pub entered : (k next place : ℕ) (xs : List HolderView) → k < length ns → IsOfBinding p (get_or ns k 0) place → next ≤ place → ArePassed p ns k next → AreSeen p.held asked verb t next 0 xs → AreSeen p.held asked verb t place 0 xs
+  entered k next place xs lt of le passed seen = seen_entered p.held asked verb t next place xs le (none_between k next place lt of passed) seen
 
   pub passed_none : ArePassed p ns 0 0
   passed_none = record {
@@ -88,5 +89,5 @@ module _ (p : PolicyView) (ok : IsPolicy p) (namespace verb : Text) (t : What) (
     ahead = λ j i low high by. passed.ahead j i (omega arith) high by;
   }
 
-  pub all_seen : (k next : ℕ) (xs firsts : List HolderView) → length ns ≤ k → ArePassed p ns k next → AreSeen p.held namespace verb t next 0 xs → AreFirsts xs firsts → AreHolders p.held namespace verb t firsts
-  all_seen k next xs firsts le passed seen first = firsts_hold p.held namespace verb t next xs firsts (λ m brings. let c = brings_candidate m brings in passed.behind c.0 m (omega (arith, c.1, le)) c.2) seen first
+  pub all_seen : (every : Bool) (k next : ℕ) (xs firsts : List HolderView) → length ns ≤ k → ArePassed p ns k next → AreSeen p.held asked verb t next 0 xs → AreFirsts every xs firsts → AreListedHolders p.held asked every verb t firsts
+  all_seen every k next xs firsts le passed seen first = firsts_hold p.held asked verb t next xs (λ m brings. let c = brings_candidate m brings in passed.behind c.0 m (omega (arith, c.1, le)) c.2) seen every firsts first

@@ -8,6 +8,8 @@ pub mod KeyedLemmas
 pub mod KeyingLemmas
 pub mod KeysOf
 pub mod RuleListLemmas
+pub mod ListedLaw
+pub mod ListedLemmas
 pub mod LivingLemmas
 pub mod MergeLemmas
 pub mod NextRunLemmas

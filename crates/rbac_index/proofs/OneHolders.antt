@@ -53,9 +53,13 @@ earlier_still i j k l m n (inl a) (inr b) = inl (omega (arith, b.0))
 earlier_still i j k l m n (inr a) (inl b) = inl (omega (arith, a.0))
 earlier_still i j k l m n (inr a) (inr b) = inr (a.0 ∙ b.0, omega (arith, a.1, b.1))
 
-pub one_holders : (held : Held) (namespace verb : Text) (t : What) (xs others : List HolderView) → AreHolders held namespace verb t xs
-    → AreHolders held namespace verb t others → xs ≡ others
-one_holders held namespace verb t xs others a b = one_ordered Earlier
+-- a list in order of pairs of places is determined by its elements
+pub one_in_order : (xs others : List HolderView) → AllPairs Earlier xs → AllPairs Earlier others → ((x : HolderView) → Contains xs x → Contains others x) → ((x : HolderView) → Contains others x → Contains xs x) → xs ≡ others
+one_in_order = one_ordered Earlier
     (λ x. none_earlier x.binding_place x.subject_place)
     (λ x y z. earlier_still x.binding_place x.subject_place y.binding_place y.subject_place z.binding_place z.subject_place)
-    xs others a.ordered b.ordered (λ x w. (b.exact x).1 ((a.exact x).0 w)) (λ x w. (a.exact x).1 ((b.exact x).0 w))
+
+pub one_holders : (held : Held) (namespace verb : Text) (t : What) (xs others : List HolderView) → AreHolders held namespace verb t xs
+    → AreHolders held namespace verb t others → xs ≡ others
+one_holders held namespace verb t xs others a b =
+    one_in_order xs others a.ordered b.ordered (λ x w. (b.exact x).1 ((a.exact x).0 w)) (λ x w. (a.exact x).1 ((b.exact x).0 w))

@@ -1,4 +1,4 @@
--- ranks: keys with their places are passed in the order of the keys
+-- ranks: labels with their places are passed in the order of the labels
 use Rattle.std.proofs.Common.{◌≡◌, ◌≢◌, ◌∙◌, ℕ, ◌+◌, ◌<◌, ◌≤◌, List, [], ◌∷◌, ◌++◌, length, get_or, ap, sym, refl, subst, Contains, inl, inr, arith, slice_get, slice_index, slice_set, false, All, Any}
 use Rattle.std.specs.Prelude.{Some, None}
 use Rattle.std.specs.Cmp.{IsTotalOrder}
@@ -18,25 +18,25 @@ use Rattle.std.proofs.lemmas.Map.Lookups.{exact_bytes}
 use Rattle.std.proofs.lemmas.Option.{same_Some, slice_get-get_or, slice_get_within, get_or_from_slice_get}
 use Rattle.rbac_terms.specs.Text.{Text, text_cmp}
 use Rattle.rbac_index.specs.declared.ranks.Placed.{Placed}
-use Rattle.rbac_index.specs.Ranks.{AreRanks, ArePlaced, IsRankAfter, placed_cmp}
+use Rattle.rbac_index.specs.Ranks.{AreRanks, ArePlaced, IsRankAfter, placed_cmp, placed_label}
 
 pub placed_total : IsTotalOrder placed_cmp
-placed_total = on_total (λ (x : Placed). x.key.now) nat_list_cmp_total
+placed_total = on_total (λ (x : Placed). (placed_label x)) nat_list_cmp_total
 
 -- the first of the keys, with their places
 pub record ArePlacedBelow (keys : List Text) (n : ℕ) (placed : List Placed) : Type 0 where
-  pub each : All (λ p. slice_get keys p.place ≡ Some p.key.now) placed
+  pub each : All (λ p. slice_get keys p.place ≡ Some (placed_label p)) placed
   pub all : (i : ℕ) → i < n → Any (λ p. p.place ≡ i) placed
 
 pub placed_none : (keys : List Text) → ArePlacedBelow keys 0 []
 placed_none keys = record {
-  each = All-nil (λ p. slice_get keys p.place ≡ Some p.key.now);
+  each = All-nil (λ p. slice_get keys p.place ≡ Some (placed_label p));
   all = λ i lt. absurd (omega arith);
 }
 
-pub placed_more : (keys : List Text) (n : ℕ) (placed : List Placed) (p : Placed) → ArePlacedBelow keys n placed → p.place ≡ n → slice_get keys p.place ≡ Some p.key.now → ArePlacedBelow keys (n + 1) (placed ++ p ∷ [])
+pub placed_more : (keys : List Text) (n : ℕ) (placed : List Placed) (p : Placed) → ArePlacedBelow keys n placed → p.place ≡ n → slice_get keys p.place ≡ Some (placed_label p) → ArePlacedBelow keys (n + 1) (placed ++ p ∷ [])
 placed_more keys n placed p are here reads = record {
-  each = All-push (λ q. slice_get keys q.place ≡ Some q.key.now) placed p are.each reads;
+  each = All-push (λ q. slice_get keys q.place ≡ Some (placed_label q)) placed p are.each reads;
   all = λ i lt. elim (cases_eq i n) [
     | inl e ↦ Any-push (λ q. q.place ≡ i) placed p (here ∙ sym e)
     | inr ne ↦
@@ -48,7 +48,7 @@ placed_more keys n placed p are here reads = record {
 
 pub placed_all : (keys : List Text) (n : ℕ) (placed sorted : List Placed) → length keys ≤ n → ArePlacedBelow keys n placed → IsPermutation placed sorted → ArePlaced keys sorted
 placed_all keys n placed sorted le are moved = record {
-  each = All-permutation (λ p. slice_get keys p.place ≡ Some p.key.now) placed sorted moved are.each;
+  each = All-permutation (λ p. slice_get keys p.place ≡ Some (placed_label p)) placed sorted moved are.each;
   all = λ i lt.
       let any = are.all i (omega arith) in
       let w = Contains-permutation placed sorted any.1 moved (any.0, any.2, any.3) in
@@ -63,33 +63,33 @@ pub record AreRanked (keys : List Text) (sorted : List Placed) (n : ℕ) (ranks 
   pub count : length once ≡ rank + 1
   pub end : slice_get once rank ≡ Some last
   pub as_many : length ranks ≡ length keys
-  pub done : (k : ℕ) (p : Placed) → k < n → slice_get sorted k ≡ Some p → slice_get once (slice_index ranks p.place) ≡ Some p.key.now
-  pub ahead : (k : ℕ) (p : Placed) → n ≤ k → slice_get sorted k ≡ Some p → is_lt (text_cmp p.key.now last) ≡ false
+  pub done : (k : ℕ) (p : Placed) → k < n → slice_get sorted k ≡ Some p → slice_get once (slice_index ranks p.place) ≡ Some (placed_label p)
+  pub ahead : (k : ℕ) (p : Placed) → n ≤ k → slice_get sorted k ≡ Some p → is_lt (text_cmp (placed_label p) last) ≡ false
 
 module _ (keys : List Text) (sorted : List Placed) (are : ArePlaced keys sorted) where
-  reads : (k : ℕ) (p : Placed) → slice_get sorted k ≡ Some p → slice_get keys p.place ≡ Some p.key.now
+  reads : (k : ℕ) (p : Placed) → slice_get sorted k ≡ Some p → slice_get keys p.place ≡ Some (placed_label p)
   reads k p at =
       let within = slice_get_within sorted k p at in
-      subst (λ (q : Placed). slice_get keys q.place ≡ Some q.key.now) (get_or_from_slice_get sorted k p p at) (All-get_or (λ q. slice_get keys q.place ≡ Some q.key.now) sorted k p within are.each)
+      subst (λ (q : Placed). slice_get keys q.place ≡ Some (placed_label q)) (get_or_from_slice_get sorted k p p at) (All-get_or (λ q. slice_get keys q.place ≡ Some (placed_label q)) sorted k p within are.each)
 
   pub placed_within : (k : ℕ) (p : Placed) → slice_get sorted k ≡ Some p → p.place < length keys
-  placed_within k p at = slice_get_within keys p.place p.key.now (reads k p at)
+  placed_within k p at = slice_get_within keys p.place (placed_label p) (reads k p at)
 
-  among_keys : (k : ℕ) (p : Placed) → slice_get sorted k ≡ Some p → Contains keys p.key.now
+  among_keys : (k : ℕ) (p : Placed) → slice_get sorted k ≡ Some p → Contains keys (placed_label p)
   among_keys k p at =
-      subst (Contains keys) (get_or_from_slice_get keys p.place p.key.now [] (reads k p at)) (Contains-get_or keys p.place [] (placed_within k p at))
+      subst (Contains keys) (get_or_from_slice_get keys p.place (placed_label p) [] (reads k p at)) (Contains-get_or keys p.place [] (placed_within k p at))
 
 module _ (keys : List Text) (sorted : List Placed) (are : ArePlaced keys sorted) (up : IsSorted placed_cmp sorted) where
-  no_less : (i j : ℕ) (p q : Placed) → i ≤ j → slice_get sorted i ≡ Some p → slice_get sorted j ≡ Some q → is_lt (text_cmp q.key.now p.key.now) ≡ false
+  no_less : (i j : ℕ) (p q : Placed) → i ≤ j → slice_get sorted i ≡ Some p → slice_get sorted j ≡ Some q → is_lt (text_cmp (placed_label q) (placed_label p)) ≡ false
   no_less i j p q le at there =
       let far = sorted_far (λ x y. is_lt (placed_cmp x y)) (ranks_by placed_total (λ (y : Placed). y)) sorted up i j p le (slice_get_within sorted j q there) in
       rw (get_or_from_slice_get sorted i p p at, get_or_from_slice_get sorted j q p there) at far
 
-  pub ranked_none : (least : Placed) (ranks : List ℕ) → slice_get sorted 0 ≡ Some least → length ranks ≡ length keys → AreRanked keys sorted 0 ranks 0 least.key.now
+  pub ranked_none : (least : Placed) (ranks : List ℕ) → slice_get sorted 0 ≡ Some least → length ranks ≡ length keys → AreRanked keys sorted 0 ranks 0 (placed_label least)
   ranked_none least ranks at many = record {
-    once = least.key.now ∷ [];
+    once = (placed_label least) ∷ [];
     adjacent = λ k lt. absurd (omega arith);
-    among = λ key w. elim (Contains-push_cases [] least.key.now key w) [
+    among = λ key w. elim (Contains-push_cases [] (placed_label least) key w) [
       | inl o ↦ absurd (omega (arith, o.1))
       | inr e ↦ subst (Contains keys) e (among_keys keys sorted are 0 least at)
     ];
@@ -101,14 +101,14 @@ module _ (keys : List Text) (sorted : List Placed) (are : ArePlaced keys sorted)
   }
 
   -- the rank that is written stays right for what has the same place
-  kept : (n : ℕ) (p : Placed) (once : List Text) (ranks : List ℕ) (next : ℕ) → slice_get sorted n ≡ Some p → length ranks ≡ length keys → slice_get once next ≡ Some p.key.now
-      → ((k : ℕ) (q : Placed) → k < n → slice_get sorted k ≡ Some q → slice_get once (slice_index ranks q.place) ≡ Some q.key.now)
-      → (k : ℕ) (q : Placed) → k < n + 1 → slice_get sorted k ≡ Some q → slice_get once (slice_index (slice_set ranks p.place next) q.place) ≡ Some q.key.now
+  kept : (n : ℕ) (p : Placed) (once : List Text) (ranks : List ℕ) (next : ℕ) → slice_get sorted n ≡ Some p → length ranks ≡ length keys → slice_get once next ≡ Some (placed_label p)
+      → ((k : ℕ) (q : Placed) → k < n → slice_get sorted k ≡ Some q → slice_get once (slice_index ranks q.place) ≡ Some (placed_label q))
+      → (k : ℕ) (q : Placed) → k < n + 1 → slice_get sorted k ≡ Some q → slice_get once (slice_index (slice_set ranks p.place next) q.place) ≡ Some (placed_label q)
   kept n p once ranks next at many is before k q lt there =
       let low : p.place < length ranks = omega (arith, many, placed_within keys sorted are n p at) in
       elim (cases_eq q.place p.place) [
         | inl e ↦
-            let same : Some p.key.now ≡ Some q.key.now = sym (reads keys sorted are n p at) ∙ ap (slice_get keys) (sym e) ∙ reads keys sorted are k q there in
+            let same : Some (placed_label p) ≡ Some (placed_label q) = sym (reads keys sorted are n p at) ∙ ap (slice_get keys) (sym e) ∙ reads keys sorted are k q there in
             rw (e, get_or-set_same ranks p.place next 0 low) (is ∙ same)
         | inr ne ↦
             let earlier : k < n = elim (cases_lt k n) [
@@ -130,9 +130,9 @@ module _ (keys : List Text) (sorted : List Placed) (are : ArePlaced keys sorted)
       by Equal e f = absurd (apart (sym (exact_bytes y x e)))
       by Greater e f = nat_list_cmp_total.antisymm x y ∙ ap ordering_reverse e
 
-  pub ranked_more : (n : ℕ) (p : Placed) (ranks : List ℕ) (rank next : ℕ) (last : Text) → slice_get sorted n ≡ Some p → IsRankAfter rank last p.key.now next → AreRanked keys sorted n ranks rank last → AreRanked keys sorted (n + 1) (slice_set ranks p.place next) next p.key.now
+  pub ranked_more : (n : ℕ) (p : Placed) (ranks : List ℕ) (rank next : ℕ) (last : Text) → slice_get sorted n ≡ Some p → IsRankAfter rank last (placed_label p) next → AreRanked keys sorted n ranks rank last → AreRanked keys sorted (n + 1) (slice_set ranks p.place next) next (placed_label p)
   ranked_more n p ranks rank next last at (inl same) r =
-      let end : slice_get r.once next ≡ Some p.key.now = rw same.1 (r.end ∙ ap Some same.0) in record {
+      let end : slice_get r.once next ≡ Some (placed_label p) = rw same.1 (r.end ∙ ap Some same.0) in record {
         once = r.once;
         adjacent = r.adjacent;
         among = r.among;
@@ -143,7 +143,7 @@ module _ (keys : List Text) (sorted : List Placed) (are : ArePlaced keys sorted)
         ahead = λ k q le there. no_less n k p q (omega arith) at there;
       }
   ranked_more n p ranks rank next last at (inr apart) r =
-      let key = p.key.now in
+      let key = (placed_label p) in
       let once = r.once ++ key ∷ [] in
       let place : length r.once ≡ next = r.count ∙ sym apart.1 in
       let more : length once ≡ next + 1 = omega (arith, length-append r.once (key ∷ []), place) in
@@ -169,16 +169,16 @@ module _ (keys : List Text) (sorted : List Placed) (are : ArePlaced keys sorted)
         count = more;
         end = end;
         as_many = length-set ranks p.place next ∙ r.as_many;
-        done = kept n p once ranks next at r.as_many end (λ k q lt there. grown (slice_index ranks q.place) q.key.now (r.done k q lt there));
+        done = kept n p once ranks next at r.as_many end (λ k q lt there. grown (slice_index ranks q.place) (placed_label q) (r.done k q lt there));
         ahead = λ k q le there. no_less n k p q (omega arith) at there;
       }
 
   -- the key at a place is among the sorted ones
-  sorted_at : (i : ℕ) (key : Text) → slice_get keys i ≡ Some key → (k : ℕ) × (p : Placed) × (slice_get sorted k ≡ Some p) × (p.place ≡ i) × (p.key.now ≡ key)
+  sorted_at : (i : ℕ) (key : Text) → slice_get keys i ≡ Some key → (k : ℕ) × (p : Placed) × (slice_get sorted k ≡ Some p) × (p.place ≡ i) × ((placed_label p) ≡ key)
   sorted_at i key is =
       let any = are.all i (slice_get_within keys i key is) in
       let there : slice_get sorted any.0 ≡ Some any.1 = slice_get-get_or sorted any.0 any.1 any.2 ∙ ap Some any.3 in
-      (any.0, any.1, there, any.4, same_Some any.1.key.now key (sym (reads keys sorted are any.0 any.1 there) ∙ ap (slice_get keys) any.4 ∙ is))
+      (any.0, any.1, there, any.4, same_Some (placed_label any.1) key (sym (reads keys sorted are any.0 any.1 there) ∙ ap (slice_get keys) any.4 ∙ is))
 
   pub ranked_all : (n : ℕ) (ranks : List ℕ) (rank : ℕ) (last : Text) → length sorted ≤ n → AreRanked keys sorted n ranks rank last → AreRanks keys ranks
   ranked_all n ranks rank last le r =

@@ -17,19 +17,19 @@ use Rattle.rbac_model.proofs.BindingPlaces.{places_rise, of_some_binding, rule_o
 use Rattle.rbac_model.proofs.GrantNumbers.{grant_by}
 use Rattle.rbac_index.specs.Deciding.{IsFirstAllowing, NoneAllowing}
 use Rattle.rbac_index.specs.Holding.{IsKeyFor}
+use Rattle.rbac_index.specs.WhoCan.{WhereView, HoldsAt}
 use Rattle.rbac_index.specs.WhyHeld.{HasKey, AllowsKey, IsWhyHeld}
 use Rattle.rbac_index.proofs.HolderLaw.{naming_key, key_names}
 
-module _ (p : PolicyView) (ok : IsPolicy p) (namespace verb : Text) (t : What) (x : HolderView) (holder : IsHolder p.held namespace verb t x) where
-  -- some grant of a holder's binding allows the request
-  pub some_allows : ¬ NoneAllowing p verb t x.binding_place
-  some_allows none =
-      let a = holder.1 in
-      let brings = a.4.1 in
-      let any = brings.2 in
-      let of = grant_of_rule p ok x.binding_place a.0 brings.0 any.1 a.2 brings.1 (any.0, any.2, any.3) in
-      none of.0 (of.2, (grant_by a.0 any.1, of.1, any.4))
+-- some grant of a binding by which a key holds the permission allows the request
+pub some_allows : (p : PolicyView) → IsPolicy p → (asked : WhereView) (verb : Text) (t : What) (key : Text) (i j : ℕ) → HoldsAt p.held asked verb t key i j → ¬ NoneAllowing p verb t i
+some_allows p ok asked verb t key i j a none =
+    let brings = a.4.1 in
+    let any = brings.2 in
+    let of = grant_of_rule p ok i a.0 brings.0 any.1 a.2 brings.1 (any.0, any.2, any.3) in
+    none of.0 (of.2, (grant_by a.0 any.1, of.1, any.4))
 
+module _ (p : PolicyView) (ok : IsPolicy p) (namespace verb : Text) (t : What) (x : HolderView) (holder : IsHolder p.held namespace verb t x) where
   -- a grant that allows the request to the key is of a binding through which it holds it
   holder_at : (k i : ℕ) (y : GrantView) → slice_get p.grants k ≡ Some y → IsOfBinding p k i → (allows : AllowsKey x.key namespace verb t y) → IsHolderAt p.held namespace verb t x.key i allows.1.0
   holder_at k i y read of allows =

@@ -1,9 +1,18 @@
-use Rattle.std.specs.Prelude.{◌≡◌, ◌⊎◌, ◌++◌, ◌∷◌, [], ℕ, List, Contains, map}
+use Rattle.std.specs.Prelude.{◌≡◌, ◌⊎◌, ◌++◌, ◌∷◌, [], ℕ, Bool, true, false, List, Contains, map}
 use Rattle.indexmap.specs.IndexMap.{IndexMap, keys}
 use Rattle.rbac_terms.specs.Text.{Text}
 use Rattle.rbac_model.specs.Holders.{HolderView}
 use Rattle.rbac_index.specs.declared.sightings.Sighting.{Sighting}
 use Rattle.rbac_index.specs.declared.holders.Holder.{Holder}
+use Rattle.rbac_index.specs.declared.asked.Where.{Where}
+use Rattle.rbac_index.specs.declared.asked.Where.TheVariants.{Namespace}
+use Rattle.rbac_index.specs.declared.asked.Where.TheVariants.{Anywhere as AskedAnywhere}
+use Rattle.rbac_index.specs.WhoCan.{WhereView, InNamespace, Anywhere}
+
+-- where it is asked
+abbrev pub where_of : Where → WhereView
+where_of (Namespace namespace) = InNamespace namespace.now
+where_of AskedAnywhere = Anywhere
 
 -- the holder that was seen
 abbrev pub holder_of : Sighting → HolderView
@@ -18,9 +27,19 @@ holder_of s = record {
 abbrev pub sighted : List Sighting → List HolderView
 sighted ss = map holder_of ss
 
--- the keys that were seen, in order
-abbrev pub keys_seen : List Sighting → List Text
-keys_seen ss = map (λ s. s.key) ss
+-- the binding in which a key is listed once: its place where each key is listed with every binding,
+-- and otherwise 0 for all of them
+abbrev pub once_in : Bool → ℕ → ℕ
+once_in true binding_place = binding_place
+once_in false binding_place = 0
+
+-- what is listed once: the key, behind the place of the binding in which it is listed once
+abbrev pub label_of : Bool → Sighting → Text
+label_of every s = once_in every s.binding_place ∷ s.key
+
+-- the labels of what was seen, in order
+abbrev pub labels_seen : Bool → List Sighting → List Text
+labels_seen every ss = map (label_of every) ss
 
 -- new is old if the rank is among old's, and otherwise old with the sighting added at the end
 abbrev pub KeepsFirst : {S : Type 0} → IndexMap ℕ Sighting S → IndexMap ℕ Sighting S → ℕ

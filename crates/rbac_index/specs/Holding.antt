@@ -1,26 +1,29 @@
-use Rattle.std.specs.Prelude.{◌≡◌, ℕ, ◌⊎◌, ◌↔◌, List, Any, AllPairs, Contains, slice_get, Some}
+use Rattle.std.specs.Prelude.{◌≡◌, ℕ, ◌⊎◌, ◌↔◌, Bool, List, Any, AllPairs, Contains, slice_get}
+use Rattle.std.specs.Prelude.{Some}
 use Rattle.rbac_terms.specs.Text.{Text}
 use Rattle.rbac_terms.specs.Targets.{What}
 use Rattle.rbac_terms.specs.Principals.{Who, AsMember, who_key, IsInGroup}
 use Rattle.rbac_terms.specs.declared.granting.Binding.{Binding}
-use Rattle.rbac_model.specs.Policies.{Held, Live, Allows, Brings}
-use Rattle.rbac_model.specs.Holders.{IsBefore, HolderView, IsHolderAt}
+use Rattle.rbac_model.specs.Policies.{Held, Allows, BindingNames, Brings}
+use Rattle.rbac_model.specs.Holders.{IsBefore, HolderView}
+use Rattle.rbac_index.specs.HolderViews.{once_in}
+use Rattle.rbac_index.specs.WhoCan.{WhereView, CountsIn, HoldsAt}
 
 -- the binding at that place brings a rule that allows the verb on the target
 abbrev pub BringsRuleAt : Held → Text → What → ℕ → Type 0
 BringsRuleAt h verb t i =
     (b : Binding) × (slice_get h.bindings i ≡ Some b) × Brings h b verb t
 
--- the binding at that place is live and brings a rule that allows the verb on the target
-abbrev pub BringsAt : Held → Text → Text → What → ℕ → Type 0
-BringsAt h namespace verb t i =
-    (b : Binding) × (slice_get h.bindings i ≡ Some b) × Live b.namespace namespace t
+-- the binding at that place counts there and brings a rule that allows the verb on the target
+abbrev pub BringsAt : Held → WhereView → Text → What → ℕ → Type 0
+BringsAt h asked verb t i =
+    (b : Binding) × (slice_get h.bindings i ≡ Some b) × CountsIn asked b.namespace t
     × Brings h b verb t
 
 -- x's key holds the permission by x's pair of places
-abbrev pub HoldsThere : Held → Text → Text → What → HolderView → Type 0
-HoldsThere h namespace verb t x = (slice_get h.bindings x.binding_place ≡ Some x.binding)
-    × IsHolderAt h namespace verb t x.key x.binding_place x.subject_place
+abbrev pub HoldsThere : Held → WhereView → Text → What → HolderView → Type 0
+HoldsThere h asked verb t x = (slice_get h.bindings x.binding_place ≡ Some x.binding)
+    × HoldsAt h asked verb t x.key x.binding_place x.subject_place
 
 -- x's pair of places comes before y's
 abbrev pub IsEarlier : HolderView → HolderView → Type 0
@@ -28,17 +31,22 @@ IsEarlier x y = IsBefore x.binding_place x.subject_place y.binding_place y.subje
 
 -- what holds the permission by a pair of places before this one, of a binding and of a subject in
 -- it, in order
-pub record AreSeen (h : Held) (namespace verb : Text) (t : What) (i j : ℕ)
+pub record AreSeen (h : Held) (asked : WhereView) (verb : Text) (t : What) (i j : ℕ)
     (xs : List HolderView) : Type 0 where
   pub ordered : AllPairs IsEarlier xs
   pub exact : (x : HolderView) → Contains xs x
-      ↔ (HoldsThere h namespace verb t x × IsBefore x.binding_place x.subject_place i j)
+      ↔ (HoldsThere h asked verb t x × IsBefore x.binding_place x.subject_place i j)
 
--- the first of xs with each key, in order
-pub record AreFirsts (xs firsts : List HolderView) : Type 0 where
+-- x and y have one key, and where every binding is asked for also one binding
+abbrev pub IsAlike : Bool → HolderView → HolderView → Type 0
+IsAlike every x y = (x.key ≡ y.key)
+    × (once_in every x.binding_place ≡ once_in every y.binding_place)
+
+-- the first of those of xs that are alike, in order
+pub record AreFirsts (every : Bool) (xs firsts : List HolderView) : Type 0 where
   pub ordered : AllPairs IsEarlier firsts
   pub exact : (x : HolderView) → Contains firsts x
-      ↔ (Contains xs x × ((y : HolderView) → Contains xs y → y.key ≡ x.key → ¬ IsEarlier y x))
+      ↔ (Contains xs x × ((y : HolderView) → Contains xs y → IsAlike every y x → ¬ IsEarlier y x))
 
 -- the key is that of who asks, or of one of its groups
 abbrev pub IsKeyFor : Who → Text → Type 0
@@ -49,3 +57,16 @@ IsKeyFor who key = (key ≡ who_key who)
 abbrev pub AllowsByHolders : Held → Text → Text → What → List HolderView → Type 0
 AllowsByHolders h namespace verb t xs = (who : Who) → Allows h who namespace verb t
     ↔ Any (λ x. IsKeyFor who x.key) xs
+
+-- a binding grants the request where it is asked: it counts there, names who asks, and brings a rule
+-- that allows it (Using RBAC Authorization)
+abbrev pub GrantsIn : Held → WhereView → Binding → Who → Text → What → Type 0
+GrantsIn h asked b who verb t = CountsIn asked b.namespace t × BindingNames b who
+    × Brings h b verb t
+
+-- the binding at a place grants a request exactly if a holder is listed with it whose key is that
+-- of who asks, or of one of its groups
+abbrev pub GrantsByHolders : Held → WhereView → Text → What → List HolderView → Type 0
+GrantsByHolders h asked verb t xs = (who : Who) (i : ℕ) (b : Binding)
+    → slice_get h.bindings i ≡ Some b
+    → GrantsIn h asked b who verb t ↔ Any (λ x. (x.binding_place ≡ i) × IsKeyFor who x.key) xs

@@ -10,5 +10,6 @@ pub mod Matched
 pub mod Ranks
 pub mod Reaches
 pub mod Spans
+pub mod WhoCan
 pub mod WhyHeld
 pub mod Written

@@ -1,29 +1,33 @@
--- The ranks of keys among themselves.
-use Rattle.std.specs.Prelude.{◌≡◌, ◌≢◌, ℕ, ◌+◌, ◌<◌, ◌⊎◌, List, All, Any, Some}
+-- The ranks of labels among themselves.
+use Rattle.std.specs.Prelude.{◌≡◌, ◌≢◌, ℕ, ◌+◌, ◌<◌, ◌⊎◌, ◌∷◌, List, All, Any, Some}
 use Rattle.std.specs.Prelude.{length, slice_get, slice_index}
 use Rattle.std.specs.declared.cmp.Ordering.{Ordering}
 use Rattle.rbac_terms.specs.Text.{Text, text_cmp}
 use Rattle.rbac_model.specs.Lists.{IsOnceEach}
 use Rattle.rbac_index.specs.declared.ranks.Placed.{Placed}
 
--- the rank of each key among the keys: its place in the list of them, each once, ascending
-pub record AreRanks (keys : List Text) (ranks : List ℕ) : Type 0 where
+-- the rank of each label among the labels: its place in the list of them, each once, ascending
+pub record AreRanks (labels : List Text) (ranks : List ℕ) : Type 0 where
   pub once : List Text
-  pub each : IsOnceEach text_cmp keys once
-  pub as_many : length ranks ≡ length keys
-  pub places : (i : ℕ) (key : Text) → slice_get keys i ≡ Some key
-      → slice_get once (slice_index ranks i) ≡ Some key
+  pub each : IsOnceEach text_cmp labels once
+  pub as_many : length ranks ≡ length labels
+  pub places : (i : ℕ) (label : Text) → slice_get labels i ≡ Some label
+      → slice_get once (slice_index ranks i) ≡ Some label
 
--- the rank of the key that comes after the last, or is the same
+-- the label that stands at a place
+abbrev pub placed_label : Placed → Text
+placed_label p = p.once_in ∷ p.key.now
+
+-- the rank of the label that comes after the last, or is the same
 abbrev pub IsRankAfter : ℕ → Text → Text → ℕ → Type 0
-IsRankAfter rank last key next = ((last ≡ key) × (next ≡ rank))
-    ⊎ ((last ≢ key) × (next ≡ rank + 1))
+IsRankAfter rank last label next = ((last ≡ label) × (next ≡ rank))
+    ⊎ ((last ≢ label) × (next ≡ rank + 1))
 
--- the order of keys
+-- the order of labels
 abbrev pub placed_cmp : Placed → Placed → Ordering
-placed_cmp a b = text_cmp a.key.now b.key.now
+placed_cmp a b = text_cmp (placed_label a) (placed_label b)
 
--- all keys, with their places
-pub record ArePlaced (keys : List Text) (placed : List Placed) : Type 0 where
-  pub each : All (λ p. slice_get keys p.place ≡ Some p.key.now) placed
-  pub all : (i : ℕ) → i < length keys → Any (λ p. p.place ≡ i) placed
+-- all labels, with their places
+pub record ArePlaced (labels : List Text) (placed : List Placed) : Type 0 where
+  pub each : All (λ p. slice_get labels p.place ≡ Some (placed_label p)) placed
+  pub all : (i : ℕ) → i < length labels → Any (λ p. p.place ≡ i) placed

@@ -1,8 +1,9 @@
-//! The holders of a verb on a target, each once.
+//! The holders of a verb on a target: each once, or once with each binding.
 
-ghost use Rattle.std.specs.Prelude.{◌≡◌, ◌<◌, OnOk, IfOk, AllPairs, slice_get, Some, length};
+ghost use Rattle.std.specs.Prelude.{◌≡◌, ◌<◌, Bool, OnOk, IfOk, AllPairs, slice_get, Some};
+ghost use Rattle.std.specs.Prelude.{length};
 ghost use Rattle.indexmap.specs.IndexMap.{values};
-ghost use Rattle.rbac_index.specs.HolderViews.{sighted, keys_seen, KeepsFirst};
+ghost use Rattle.rbac_index.specs.HolderViews.{sighted, labels_seen, KeepsFirst};
 ghost use Rattle.rbac_index.specs.Holding.{AreFirsts, IsEarlier};
 ghost use Rattle.rbac_index.specs.Ranks.{AreRanks};
 
@@ -13,13 +14,14 @@ use rbac_terms::{Binding, Word};
 use std::alloc::{AllocError, Global};
 use std::marker::Model;
 
-/// A holder: a principal's key, and the first binding and subject through which it holds the
+/// A holder: a principal's key, and a binding and the first subject there through which it holds the
 /// permission.
 #[derive(Clone, Copy)]
 pub struct Holder<'a> {
     /// The principal's key: `u:` and a user's name, or `g:` and a group's (own).
     pub principal: &'a Word,
-    /// The first binding through which it holds the permission.
+    /// A binding through which it holds the permission: the first, or any where every binding is
+    /// asked for.
     pub binding: &'a Binding,
     /// The place of that binding among the bindings, from 0.
     pub binding_place: usize,
@@ -27,12 +29,12 @@ pub struct Holder<'a> {
     pub subject_place: usize,
 }
 
-/// Holders, each once, in order of the first binding and subject through which each holds the
-/// permission.
+/// Holders, each once, or once with each binding where every binding is asked for, in order of the
+/// bindings and subjects through which each holds the permission.
 #[derive(Drop)]
 pub struct Holders<'p> {
-    // The first sighting of each key, by the key's rank among them. Ranks are always 0, 1, 2 and so
-    // on, so the author of an export, who chooses the keys, can't force collisions.
+    // The first sighting of each label, by the label's rank among them. Ranks are always 0, 1, 2 and
+    // so on, so the author of an export, who chooses the keys, can't force collisions.
     firsts: IndexMap<u32, Sighting<'p>>,
 }
 
@@ -50,12 +52,16 @@ impl<'p> Model for Holders<'p> {
 impl<'p> Holders<'p> {
     ghost use Rattle.rbac_index.specs.HolderViews.{holder_shown};
 
-    // The first sighting of each key, in order.
-    pub(crate) fn first_of(alloc: Global, seen: Vec<Sighting<'p>>) -> Result<Self, AllocError>
+    // The first sighting of each key, or with `every` of each key in each binding, in order.
+    pub(crate) fn first_of(
+        alloc: Global,
+        every: bool,
+        seen: Vec<Sighting<'p>>,
+    ) -> Result<Self, AllocError>
         requires { AllPairs IsEarlier (sighted seen.items) }
-        ensures { IfOk result (λ hs. AreFirsts (sighted seen.entry.items) hs) }
+        ensures { IfOk result (λ hs. AreFirsts every (sighted seen.entry.items) hs) }
     {
-        let ranks = ranks_of(alloc, seen.as_slice())?;
+        let ranks = ranks_of(alloc, every, seen.as_slice())?;
         let firsts = first_by_rank(alloc, ranks.as_slice(), seen)?;
         Ok(Holders { firsts })
     }
@@ -88,10 +94,10 @@ fn first_by_rank<'p>(
     ranks: &[u32],
     seen: Vec<Sighting<'p>>,
 ) -> Result<IndexMap<u32, Sighting<'p>>, AllocError>
-    requires ordered { AllPairs IsEarlier (sighted seen.items) }
-    requires ranks { AreRanks (keys_seen seen.items) ranks.now }
-    ensures { IfOk result
-        (λ firsts. AreFirsts (sighted seen.entry.items) (sighted (values firsts))) }
+    requires { AllPairs IsEarlier (sighted seen.items) }
+    ensures { (every : Bool) → AreRanks (labels_seen every seen.entry.items) ranks.now
+        → IfOk result
+        (λ firsts. AreFirsts every (sighted seen.entry.items) (sighted (values firsts))) }
 {
     let mut firsts = IndexMap::new(alloc);
     for (rank, sighting) in ranks.iter().zip(seen) {

@@ -9,10 +9,13 @@ ghost use Rattle.rbac_model.specs.Holders.{AreHolders};
 ghost use Rattle.rbac_index.specs.Indexed.{AreCandidates, HaveNumbers, IsAllowedBy};
 ghost use Rattle.rbac_index.specs.Bound.{HasRoleBindings, IsNamedBy, IsBoundTo, IsNextRun};
 ghost use Rattle.rbac_index.specs.Deciding.{IsWhyShown};
+ghost use Rattle.rbac_index.specs.HolderViews.{where_of};
 ghost use Rattle.rbac_index.specs.Holding.{AllowsByHolders};
 ghost use Rattle.rbac_index.specs.Reaches.{AreAlike};
+ghost use Rattle.rbac_index.specs.WhoCan.{AreListedHolders};
 
 use crate::alike::earlier_alike;
+use crate::asked::Where;
 use crate::deciding::{Why, why_allowed};
 use crate::fault::IndexFault;
 use crate::holders::Holders;
@@ -203,6 +206,23 @@ impl<'p> Index<'p> {
         ensures law { IfOk result
             (AllowsByHolders self.now.held namespace.now verb.now target.now) }
     {
+        self.holders(alloc, Where::Namespace(namespace), false, verb, target)
+    }
+
+    /// Who may use the verb on the target where it is asked: each holder once, with the first
+    /// binding through which it holds the permission, or with `every` once with each such binding,
+    /// in order of bindings and subjects (own). X1 NoMemory if it runs out of memory.
+    pub fn holders(
+        &self,
+        alloc: Global,
+        asked: Where<'_>,
+        every: bool,
+        verb: &Word,
+        target: &Target,
+    ) -> Result<Holders<'p>, IndexFault>
+        ensures { IfOk result
+            (AreListedHolders self.now.held (where_of asked.entry) every verb.now target.now) }
+    {
         let policy: &'p Policy = self.policy;
         let bindings: &'p [Binding] = policy.bindings();
         let numbers = self.candidates(alloc, verb, target)?;
@@ -212,11 +232,11 @@ impl<'p> Index<'p> {
         for no in numbers.as_slice() {
             let place = policy.place(*no).binding;
             if next <= place {
-                see_binding(alloc, &bindings[place], place, namespace, target, &mut seen)?;
+                see_binding(alloc, &bindings[place], place, asked, target, &mut seen)?;
                 next = place + 1;
             }
         }
-        Ok(Holders::first_of(alloc, seen)?)
+        Ok(Holders::first_of(alloc, every, seen)?)
     }
 }
 

@@ -1,12 +1,13 @@
 //! Laws of holders, each stated by the contract of a function that does nothing.
 
-ghost use Rattle.std.specs.Prelude.{◌≡◌, ◌≤◌, ℕ, List};
+ghost use Rattle.std.specs.Prelude.{◌≡◌, ◌≤◌, ◌↔◌, ℕ, Bool, true, false, List};
 ghost use Rattle.rbac_terms.specs.Principals.{Who, AsMember, who_key};
 ghost use Rattle.rbac_terms.specs.Targets.{What};
 ghost use Rattle.rbac_terms.specs.Text.{Text};
 ghost use Rattle.rbac_model.specs.Policies.{GrantView, Held, IsWhy, PolicyView};
 ghost use Rattle.rbac_model.specs.Holders.{HolderView, AreHolders};
-ghost use Rattle.rbac_index.specs.Holding.{AllowsByHolders, IsKeyFor};
+ghost use Rattle.rbac_index.specs.Holding.{AllowsByHolders, GrantsByHolders, IsKeyFor};
+ghost use Rattle.rbac_index.specs.WhoCan.{WhereView, InNamespace, AreListedHolders};
 ghost use Rattle.rbac_index.specs.WhyHeld.{IsWhyHeld};
 
 /// Who may use a verb on a target in a namespace, given the objects that are held, is one list: any
@@ -39,4 +40,25 @@ pub fn keys_explain()
     ensures member { (p : PolicyView) (group namespace verb : Text) (t : What) (g : GrantView)
         (at : ℕ) → IsWhyHeld p (who_key (AsMember group)) namespace verb t g at
         → IsWhy p (AsMember group) namespace verb t g at }
+{}
+
+/// Who may use a verb on a target where it is asked is one list, with the first binding of each
+/// holder or with each; and in one namespace those with their first bindings are the holders
+/// there (own).
+pub fn listed_holders_are_one()
+    ensures one { (held : Held) (asked : WhereView) (every : Bool) (verb : Text) (t : What)
+        (xs others : List HolderView) → AreListedHolders held asked every verb t xs
+        → AreListedHolders held asked every verb t others → xs ≡ others }
+    ensures holders { (held : Held) (namespace verb : Text) (t : What) (xs : List HolderView)
+        → AreListedHolders held (InNamespace namespace) false verb t xs
+        ↔ AreHolders held namespace verb t xs }
+{}
+
+/// Where every binding is asked for, those that are listed with the holders decide who may use a
+/// verb on a target by which of them: the binding at a place grants it to a principal exactly if a
+/// holder is listed with it whose key is the principal's own or that of one of its groups (own).
+pub fn listed_holders_decide()
+    ensures { (held : Held) (asked : WhereView) (verb : Text) (t : What) (xs : List HolderView)
+        → AreListedHolders held asked true verb t xs
+        → GrantsByHolders held asked verb t xs }
 {}

@@ -3,6 +3,7 @@
 #![tactic(auto)]
 
 mod alike;
+mod asked;
 mod deciding;
 mod fault;
 mod holders;
@@ -25,11 +26,14 @@ mod starts;
 mod stems;
 mod subject_keys;
 
+pub use asked::Where;
 pub use deciding::{Why, why_allowed};
 pub use fault::IndexFault;
 pub use holders::{Holder, Holders};
 pub use index::Index;
-pub use laws::{holders_are_one, holders_decide, keys_explain};
+pub use laws::{
+    holders_are_one, holders_decide, keys_explain, listed_holders_are_one, listed_holders_decide,
+};
 pub use meter::Meter;
 pub use numbers::GrantNos;
 pub use reach::{Reach, reaches_of};

@@ -5,15 +5,17 @@ ghost use Rattle.rbac_terms.specs.Text.{Text};
 ghost use Rattle.rbac_model.specs.Holders.{IsHolder};
 ghost use Rattle.rbac_index.specs.Deciding.{NoneAllowing};
 ghost use Rattle.rbac_index.specs.HolderViews.{holder_shown};
-ghost use Rattle.rbac_index.specs.WhyHeld.{IsFirstShown, IsHeldShown};
+ghost use Rattle.rbac_index.specs.WhoCan.{WhereView, IsHolderBy};
+ghost use Rattle.rbac_index.specs.WhyHeld.{IsFirstShown, IsHeldShown, IsShownBy};
 
 use crate::deciding::{Why, first_allowing};
 use crate::holders::Holder;
 use rbac_model::Policy;
 use rbac_terms::{Binding, Target, Word};
 
-/// Why a holder may use the verb on the target (own): the first grant that allows it to the
-/// holder's key, which is one of the holder's binding, and the first subject there with the key. A
+/// Why a holder may use the verb on the target (own): the first grant of the holder's binding that
+/// allows it, and the first subject there with the holder's key. Where that binding is the first
+/// through which it holds the permission, it is the first grant of all that allows it to the key. A
 /// user that has the key may be allowed by an earlier grant, as a member of a group. `None` if no
 /// grant of that binding allows it. Doesn't allocate.
 pub fn why_held<'p>(
@@ -30,6 +32,10 @@ pub fn why_held<'p>(
         → IsHolder policy.now.held namespace verb.now target.now (holder_shown holder.entry)
         → IsSomeAnd result
         (IsHeldShown policy.now holder.entry.principal.now namespace verb.now target.now) }
+    ensures listed { (asked : WhereView)
+        → IsHolderBy policy.now.held asked verb.now target.now (holder_shown holder.entry)
+        → IsSomeAnd result
+        (IsShownBy policy.now verb.now target.now (holder_shown holder.entry)) }
 {
     let bindings: &'p [Binding] = policy.bindings();
     let binding = bindings.get(holder.binding_place)?;

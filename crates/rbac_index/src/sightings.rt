@@ -4,10 +4,11 @@ ghost use Rattle.std.specs.Prelude.{◌≡◌, ◌+◌, OnOk, slice_get, Some};
 ghost use Rattle.rbac_terms.specs.Text.{Text};
 ghost use Rattle.rbac_terms.specs.Targets.{What};
 ghost use Rattle.rbac_model.specs.Policies.{Held};
-ghost use Rattle.rbac_index.specs.HolderViews.{sighted};
+ghost use Rattle.rbac_index.specs.HolderViews.{sighted, where_of};
 ghost use Rattle.rbac_index.specs.Holding.{AreSeen, BringsAt, BringsRuleAt};
+ghost use Rattle.rbac_index.specs.WhoCan.{WhereView};
 
-use rbac_model::is_live;
+use crate::asked::{Where, counts_in};
 use rbac_terms::{Binding, Target, Word, subject_key};
 use std::alloc::{AllocError, Global};
 
@@ -21,23 +22,24 @@ pub(crate) struct Sighting<'p> {
     pub(crate) subject_place: usize,
 }
 
-// Adds the sightings among the subjects of this binding, which is at `place`, if the binding is
-// live.
+// Adds the sightings among the subjects of this binding, which is at `place`, if the binding counts
+// where it is asked about.
 pub(crate) fn see_binding<'p>(
     alloc: Global,
     binding: &'p Binding,
     place: usize,
-    namespace: &Word,
+    asked: Where<'_>,
     target: &Target,
     seen: &mut Vec<Sighting<'p>>,
 ) -> Result<(), AllocError>
     ensures { (held : Held) (verb : Text) → slice_get held.bindings place ≡ Some binding.now
         → BringsRuleAt held verb target.now place
-        → AreSeen held namespace.now verb target.now place 0 (sighted seen.old.items)
+        → AreSeen held (where_of asked.entry) verb target.now place 0 (sighted seen.old.items)
         → OnOk result
-        (AreSeen held namespace.now verb target.now (place + 1) 0 (sighted seen.new.items)) }
+        (AreSeen held (where_of asked.entry) verb target.now (place + 1) 0
+        (sighted seen.new.items)) }
 {
-    if is_live(binding, namespace, target) {
+    if counts_in(asked, binding, target) {
         see_subjects(alloc, binding, place, seen)?;
     }
     Ok(())
@@ -50,12 +52,12 @@ fn see_subjects<'p>(
     binding_place: usize,
     seen: &mut Vec<Sighting<'p>>,
 ) -> Result<(), AllocError>
-    ensures { (held : Held) (namespace verb : Text) (t : What)
+    ensures { (held : Held) (there : WhereView) (verb : Text) (t : What)
         → slice_get held.bindings binding_place ≡ Some binding.now
-        → BringsAt held namespace verb t binding_place
-        → AreSeen held namespace verb t binding_place 0 (sighted seen.old.items)
+        → BringsAt held there verb t binding_place
+        → AreSeen held there verb t binding_place 0 (sighted seen.old.items)
         → OnOk result
-        (AreSeen held namespace verb t (binding_place + 1) 0 (sighted seen.new.items)) }
+        (AreSeen held there verb t (binding_place + 1) 0 (sighted seen.new.items)) }
 {
     for (subject_place, subject) in binding.subjects.as_slice().iter().enumerate() {
         if let Some(key) = subject_key(alloc, subject, binding.namespace.as_ref())? {

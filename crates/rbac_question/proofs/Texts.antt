@@ -1,7 +1,8 @@
 -- a byte that stands at no place isn't among a text's, and names behind a key's mark
-use Rattle.std.proofs.Common.{◌≡◌, ◌≢◌, ℕ, ◌<◌, length, get_or, Contains, ◌∙◌, [], ◌++◌, false, ◌∷◌, Bor, MatchOption}
+use Rattle.std.proofs.Common.{◌≡◌, ◌≢◌, ℕ, ◌<◌, length, get_or, All, Contains, List, map, ◌∙◌, [], ◌++◌, false, ◌∷◌, Bor, MatchOption}
 use Rattle.std.specs.Prelude.{Option, Some, None, ◌==◌}
 use Rattle.std.proofs.lemmas.List.{get_or_default}
+use Rattle.std.proofs.lemmas.List.Elements.{All-nil, All-cons, All-head, All-tail}
 use Rattle.rbac_terms.specs.Text.{Text}
 
 pub lacks : (x : Text) (b : ℕ) → ((i : ℕ) → i < length x → get_or x i 0 ≢ b) → Contains x b → ⊥
@@ -16,3 +17,7 @@ not_behind key mark (Some x) e h = cc
 pub not_empty : (x : Text) → (length x == 0) ≡ false → x ≢ []
 not_empty [] h = cc
 not_empty (b ∷ x) h = λ e. cc
+
+pub unmapped : {X Y : Type 0} (P : Y → Type 0) (f : X → Y) (xs : List X) → All P (map f xs) → All (λ x. P (f x)) xs
+unmapped P f [] all = All-nil (λ x. P (f x))
+unmapped P f (x ∷ xs) all = All-cons (λ x. P (f x)) x xs (All-head P (f x) (map f xs) all) (unmapped P f xs (All-tail P (f x) (map f xs) all))

@@ -1,5 +1,5 @@
 use Rattle.std.specs.Prelude.{◌≡◌, ◌≢◌, ◌==◌, ◌++◌, ◌⊎◌, ℕ, Bool, true, false, not, length}
-use Rattle.std.specs.Prelude.{List, [], Option, Some, None, filter, codes, if◌then◌else◌}
+use Rattle.std.specs.Prelude.{List, [], Option, Some, None, All, filter, codes, if◌then◌else◌}
 use Rattle.std.specs.List.{slice_split}
 use Rattle.rbac_terms.specs.Text.{Text}
 use Rattle.rbac_terms.specs.Principals.{Who, AsUser, AsMember}
@@ -20,15 +20,17 @@ use Rattle.rbac_question.specs.declared.fault.QuestionFault.TheVariants.{NoMemor
 -- the parts of a line that ask a question; the text of an option that isn't given is empty
 pub record QuestionParts : Type 0 where
   pub all_namespaces : Bool
+  pub in_namespace : Bool
   pub namespace : Text
   pub subresource : Text
   pub verb : Text
   pub target : Text
 
--- the parts of a `can-i` line
+-- the parts of a `can-i` line; there is a text for each `--group`, in order
 pub record CanIParts : Type 0 where
   pub user : Text
   pub groups : Text
+  pub whole_groups : List Text
   pub quiet : Bool
   pub why : Bool
   pub question : QuestionParts
@@ -36,12 +38,16 @@ pub record CanIParts : Type 0 where
 -- the parts of a `who-can` line
 pub record WhoCanParts : Type 0 where
   pub why : Bool
+  pub every : Bool
+  pub anywhere : Bool
   pub question : QuestionParts
 
--- the parts of a `rules` line; the text of an option that isn't given is empty
+-- the parts of a `rules` line; the text of an option that isn't given is empty, and there is a text
+-- for each `--group`, in order
 pub record RulesParts : Type 0 where
   pub who : Text
   pub groups : Text
+  pub whole_groups : List Text
   pub namespace : Text
   pub all_namespaces : Bool
 
@@ -66,6 +72,16 @@ is_not_empty text = not (length text == 0)
 abbrev pub groups_in : Text → List Text
 groups_in text = filter is_not_empty (parts_between comma text)
 
+-- the names of an option that may be repeated; none if it isn't given
+abbrev pub names_in : Option (List Text) → List Text
+names_in None = []
+names_in (Some names) = names
+
+-- the groups that are given: those of `--groups`, and then each `--group` that is not empty, whole, in
+-- order (own)
+abbrev pub groups_given : Text → List Text → List Text
+groups_given text whole = groups_in text ++ filter is_not_empty whole
+
 -- `-A` is the empty namespace and wins over `-n`; an empty or missing `-n` is `default` (own)
 abbrev pub namespace_meant : Bool → Text → Text
 namespace_meant true given = []
@@ -74,28 +90,38 @@ namespace_meant false given = if length given == 0 then codes "default" else giv
 -- the question that the parts ask
 pub record IsQuestion (l : QuestionParts) (q : Question) : Type 0 where
   pub namespace : q.namespace ≡ namespace_meant l.all_namespaces l.namespace
+  pub in_namespace : q.in_namespace ≡ l.in_namespace
   pub verb : q.verb ≡ l.verb
   pub asked : AsksFor l.target l.subresource q.asked
 
 -- what a `can-i` line means: the user with these groups asks the question
 abbrev pub MeansCanI : CanIParts → Action → Type 0
 MeansCanI l (CanI principal quiet why question) =
-    (principal ≡ AsUser l.user (groups_in l.groups)) × (quiet ≡ l.quiet) × (why ≡ l.why)
-    × IsQuestion l.question question
+    (principal ≡ AsUser l.user (groups_given l.groups l.whole_groups)) × (quiet ≡ l.quiet)
+    × (why ≡ l.why) × IsQuestion l.question question
 MeansCanI l action = ⊥
 
--- what a `who-can` line means: it asks who is allowed what the question asks
+-- `-A` wins over `--anywhere` too (own)
+abbrev pub anywhere_meant : Bool → Bool → Bool
+anywhere_meant true given = false
+anywhere_meant false given = given
+
+-- what a `who-can` line means: it asks who is allowed what the question asks, with `--anywhere` in
+-- any namespace, and with `--every` by each binding
 abbrev pub MeansWhoCan : WhoCanParts → Action → Type 0
-MeansWhoCan l (WhoCan why question) = (why ≡ l.why) × IsQuestion l.question question
+MeansWhoCan l (WhoCan why every anywhere question) = (why ≡ l.why) × (every ≡ l.every)
+    × (anywhere ≡ anywhere_meant l.question.all_namespaces l.anywhere)
+    × IsQuestion l.question question
 MeansWhoCan l action = ⊥
 
--- WHO names the principal: `u:` and a user's name, who is given the groups of `--groups`, or `g:`
--- and a group's name, where `--groups` isn't given or is empty; neither name is empty (own)
+-- WHO names the principal: `u:` and a user's name, who is given the groups of `--groups` and
+-- `--group`, or `g:` and a group's name, where none of these options is given or all are empty;
+-- neither name is empty (own)
 abbrev pub NamesPrincipal : RulesParts → Who → Type 0
 NamesPrincipal l (AsUser name given) = (l.who ≡ codes "u:" ++ name) × (name ≢ [])
-    × (given ≡ groups_in l.groups)
+    × (given ≡ groups_given l.groups l.whole_groups)
 NamesPrincipal l (AsMember group) = (l.who ≡ codes "g:" ++ group) × (group ≢ [])
-    × (l.groups ≡ [])
+    × (l.groups ≡ []) × All (λ whole. whole ≡ []) l.whole_groups
 
 -- `-A` is all of the cluster at once and wins over `-n`; an empty or missing `-n` is everywhere
 -- (own)
@@ -171,7 +197,7 @@ RefusesMatrix l BadToken = HasBadToken l.after
 RefusesMatrix l BadPrincipal = ⊥
 RefusesMatrix l NoMemory = Unit {0}
 
--- U5: WHO and `--groups` name no principal (own)
+-- U5: WHO, `--groups` and `--group` name no principal (own)
 abbrev pub HasBadPrincipal : RulesParts → Type 0
 HasBadPrincipal l = (p : Who) → ¬ NamesPrincipal l p
 

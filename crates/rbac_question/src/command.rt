@@ -10,6 +10,8 @@ use rbac_token::Mark;
 pub struct Question {
     /// What `-n` names, or `default`; empty with `-A`.
     pub namespace: Word,
+    /// Whether it is asked there even if the target is known to be outside all namespaces.
+    pub in_namespace: bool,
     /// Never empty if the line was accepted.
     pub verb: Word,
     /// What TARGET and `--subresource` ask for.
@@ -32,7 +34,7 @@ pub enum Scope {
 pub enum Action {
     /// Answers whether the principal is allowed what is asked: yes or no.
     CanI {
-        /// The user of `--as`, with the groups of `--groups`.
+        /// The user of `--as`, with the groups of `--groups` and `--group`.
         principal: Principal,
         /// Whether the answer is the exit status alone.
         quiet: bool,
@@ -45,12 +47,18 @@ pub enum Action {
     WhoCan {
         /// Whether each line goes on with why: the role, its source, the rule and the subject.
         why: bool,
+        /// Whether a holder has a line for each binding that makes it one, and not only the first.
+        every: bool,
+        /// Whether the bindings of all namespaces count, and not only those of the question's; never
+        /// with `-A`.
+        anywhere: bool,
         /// What is asked.
         question: Question,
     },
     /// Lists the rules that a principal has.
     Rules {
-        /// Who is asked about: the user or the group of WHO, a user with the groups of `--groups`.
+        /// Who is asked about: the user or the group of WHO, a user with the groups of `--groups`
+        /// and `--group`.
         principal: Principal,
         /// Where, from `-n` and `-A`.
         scope: Scope,

@@ -1,11 +1,13 @@
 //! What the texts of a line mean.
 
-ghost use Rattle.std.specs.Prelude.{◌≡◌, ◌≢◌, ◌++◌, ◌⊎◌, [], Some, IfOk, IfErr, MatchResult};
-ghost use Rattle.std.specs.Prelude.{MatchOption};
+ghost use Rattle.std.specs.Prelude.{◌≡◌, ◌≢◌, ◌++◌, ◌∷◌, ◌⊎◌, ◌↔◌, [], All, Some, true, filter};
+ghost use Rattle.std.specs.Prelude.{IfOk, IfErr, OnOk, MatchOption, MatchResult, map, option_map};
 ghost use Rattle.rbac_terms.specs.Text.{Text};
 ghost use Rattle.rbac_terms.specs.Principals.{AsUser, AsMember};
 ghost use Rattle.rbac_token.specs.Marks.{IsTokenOfMark};
-ghost use Rattle.rbac_question.specs.Lines.{groups_in, namespace_meant, IsQuestion, MeansCanI};
+ghost use Rattle.rbac_question.specs.Lines.{groups_given, is_not_empty, names_in};
+ghost use Rattle.rbac_question.specs.Lines.{namespace_meant};
+ghost use Rattle.rbac_question.specs.Lines.{IsQuestion, MeansCanI};
 ghost use Rattle.rbac_question.specs.Lines.{MeansWhoCan, MeansMatrix, LacksWord, AcceptsQuestion};
 ghost use Rattle.rbac_question.specs.Lines.{RefusesQuestion, AcceptsCanI, RefusesCanI};
 ghost use Rattle.rbac_question.specs.Lines.{RefusesMatrix, RefusesUser, HasBadToken, MeansRules};
@@ -26,6 +28,8 @@ use std::marker::Model;
 pub struct QuestionLine<'a> {
     /// Whether `-A` is given.
     pub all_namespaces: bool,
+    /// Whether `--in-namespace` is given.
+    pub in_namespace: bool,
     /// The name after `-n`.
     pub namespace: &'a str,
     /// The name after `--subresource`.
@@ -43,6 +47,7 @@ impl<'a> Model for QuestionLine<'a> {
 
     ghost view = { λ l. record {
       all_namespaces = l.all_namespaces;
+      in_namespace = l.in_namespace;
       namespace = l.namespace.now;
       subresource = l.subresource.now;
       verb = l.verb.now;
@@ -52,11 +57,13 @@ impl<'a> Model for QuestionLine<'a> {
 
 /// The parts of a `can-i` line; the text of an option that isn't given is empty.
 #[derive(Drop)]
-pub struct CanILine<'a> {
+pub struct CanILine<'m, 'a> {
     /// The name after `--as`.
     pub user: &'a str,
     /// The names after `--groups`, not yet split.
     pub groups: &'a str,
+    /// The name after each `--group`, in order, if it is given.
+    pub whole_groups: Option<&'m [&'a str]>,
     /// Whether `-q` is given.
     pub quiet: bool,
     /// Whether `--why` is given.
@@ -65,7 +72,9 @@ pub struct CanILine<'a> {
     pub question: QuestionLine<'a>,
 }
 
-impl<'a> Model for CanILine<'a> {
+impl<'m, 'a> Model for CanILine<'m, 'a> {
+    ghost use Rattle.std.specs.Prelude.{map, option_map};
+    ghost use Rattle.rbac_question.specs.Lines.{names_in};
     ghost use Rattle.rbac_question.specs.Lines.{CanIParts};
 
     ghost Value = { CanIParts };
@@ -73,6 +82,7 @@ impl<'a> Model for CanILine<'a> {
     ghost view = { λ l. record {
       user = l.user.now;
       groups = l.groups.now;
+      whole_groups = names_in (option_map (λ names. map (λ n. n.now) names.now) l.whole_groups);
       quiet = l.quiet;
       why = l.why;
       question = l.question;
@@ -84,6 +94,10 @@ impl<'a> Model for CanILine<'a> {
 pub struct WhoCanLine<'a> {
     /// Whether `--why` is given.
     pub why: bool,
+    /// Whether `--every` is given.
+    pub every: bool,
+    /// Whether `--anywhere` is given.
+    pub anywhere: bool,
     /// The parts that ask the question.
     pub question: QuestionLine<'a>,
 }
@@ -93,25 +107,34 @@ impl<'a> Model for WhoCanLine<'a> {
 
     ghost Value = { WhoCanParts };
 
-    ghost view = { λ l. record { why = l.why; question = l.question } };
+    ghost view = { λ l. record {
+      why = l.why;
+      every = l.every;
+      anywhere = l.anywhere;
+      question = l.question;
+    } };
 }
 
 /// The parts of a `rules` line; the text of an option that isn't given is empty.
 #[derive(Drop)]
-pub struct RulesLine<'a> {
+pub struct RulesLine<'m, 'a> {
     /// WHO: a principal's key, `u:` and a user's name or `g:` and a group's. It is taken as it is,
     /// like the name after `--as`: a backslash is a backslash, also where a line of output would
     /// print it as `\\`.
     pub who: &'a str,
     /// The names after `--groups`, not yet split.
     pub groups: &'a str,
+    /// The name after each `--group`, in order, if it is given.
+    pub whole_groups: Option<&'m [&'a str]>,
     /// The name after `-n`.
     pub namespace: &'a str,
     /// Whether `-A` is given.
     pub all_namespaces: bool,
 }
 
-impl<'a> Model for RulesLine<'a> {
+impl<'m, 'a> Model for RulesLine<'m, 'a> {
+    ghost use Rattle.std.specs.Prelude.{map, option_map};
+    ghost use Rattle.rbac_question.specs.Lines.{names_in};
     ghost use Rattle.rbac_question.specs.Lines.{RulesParts};
 
     ghost Value = { RulesParts };
@@ -119,6 +142,7 @@ impl<'a> Model for RulesLine<'a> {
     ghost view = { λ l. record {
       who = l.who.now;
       groups = l.groups.now;
+      whole_groups = names_in (option_map (λ names. map (λ n. n.now) names.now) l.whole_groups);
       namespace = l.namespace.now;
       all_namespaces = l.all_namespaces;
     } };
@@ -154,17 +178,42 @@ const USER: &[u8] = b"u:";
 // The mark of the key of a member of a group.
 const MEMBER: &[u8] = b"g:";
 
-// The groups of `--groups`: the parts between commas that are not empty, in order (own).
-fn groups_from(alloc: Global, text: &str) -> Result<Words, AllocError>
-    ensures { IfOk result (λ groups. groups ≡ groups_in text.now) }
+// The groups that `--groups` and `--group` give: the parts of the first between commas, and then each
+// of the others whole, in order, without those that are empty (own).
+fn groups_from(alloc: Global, text: &str, whole: Option<&[&str]>) -> Result<Words, AllocError>
+    ensures { IfOk result (λ groups. groups ≡ groups_given text.now
+        (names_in (option_map (λ names. map (λ n. n.now) names.now) whole.entry))) }
 {
     let mut groups = Vec::new(alloc);
     for part in text.split(',') {
-        if !part.is_empty() {
-            groups.push(Word::from_slice(alloc, part.as_bytes())?)?;
-        }
+        push_group(alloc, part, &mut groups)?;
+    }
+    if let Some(names) = whole {
+        push_groups(alloc, names, &mut groups)?;
     }
     Ok(Words::from_vec(groups))
+}
+
+// Adds the groups whose names aren't empty, in order.
+fn push_groups(alloc: Global, names: &[&str], groups: &mut Vec<Word>) -> Result<(), AllocError>
+    ensures { OnOk result (groups.new.items
+        ≡ groups.old.items ++ filter is_not_empty (map (λ n. n.now) names.now)) }
+{
+    for name in names {
+        push_group(alloc, name, groups)?;
+    }
+    Ok(())
+}
+
+// Adds a group, if its name isn't empty.
+fn push_group(alloc: Global, name: &str, groups: &mut Vec<Word>) -> Result<(), AllocError>
+    ensures { OnOk result
+        (groups.new.items ≡ groups.old.items ++ filter is_not_empty (name.now ∷ [])) }
+{
+    if !name.is_empty() {
+        groups.push(Word::from_slice(alloc, name.as_bytes())?)?;
+    }
+    Ok(())
 }
 
 // The namespace that `-A` and `-n` mean (own): with `-A` the empty one, otherwise the one given, or
@@ -182,13 +231,20 @@ fn namespace_from(alloc: Global, all: bool, given: &str) -> Result<Word, AllocEr
 }
 
 // The user who asks, with the groups given.
-fn principal_from(alloc: Global, user: &[u8], groups: &str) -> Result<Principal, QuestionFault>
+fn principal_from(
+    alloc: Global,
+    user: &[u8],
+    groups: &str,
+    whole_groups: Option<&[&str]>,
+) -> Result<Principal, QuestionFault>
     ensures { MatchResult result
-        (λ principal. (principal ≡ AsUser user.now (groups_in groups.now)) × (user.now ≢ []))
+        (λ principal. (principal ≡ AsUser user.now (groups_given groups.now
+        (names_in (option_map (λ names. map (λ n. n.now) names.now) whole_groups.entry))))
+        × (user.now ≢ []))
         (RefusesUser user.now) }
 {
     let name = Word::from_slice(alloc, user)?;
-    let given = groups_from(alloc, groups)?;
+    let given = groups_from(alloc, groups, whole_groups)?;
     match Principal::user(alloc, &name, &given) {
         Ok(principal) => Ok(principal),
         Err(ModelFault::EmptyName) => Err(QuestionFault::EmptyWord),
@@ -225,16 +281,42 @@ fn name_behind<'a>(mark: &[u8], key: &'a str) -> Option<&'a [u8]>
     Some(name)
 }
 
-// The principal that WHO and `--groups` name: U5 if there is none.
-fn principal_of(alloc: Global, line: &RulesLine<'_>) -> Result<Principal, QuestionFault>
+// Whether all of these names are empty.
+fn are_empty(names: &[&str]) -> bool
+    ensures { (result ≡ true) ↔ All (λ name. name.now ≡ []) names.now }
+{
+    names.iter().all(|name| name.is_empty())
+}
+
+// Whether an option that may be repeated gives no name, or only empty ones.
+fn names_none(names: Option<&[&str]>) -> bool
+    ensures { (result ≡ true) ↔ All (λ name. name ≡ [])
+        (names_in (option_map (λ names. map (λ n. n.now) names.now) names.entry)) }
+{
+    match names {
+        Some(names) => are_empty(names),
+        None => true,
+    }
+}
+
+// Whether no groups are given: each `--groups` and `--group` is empty, or isn't there.
+fn lacks_groups(line: &RulesLine<'_, '_>) -> bool
+    ensures { (result ≡ true)
+        ↔ ((line.now.groups ≡ []) × All (λ whole. whole ≡ []) line.now.whole_groups) }
+{
+    line.groups.is_empty() && names_none(line.whole_groups)
+}
+
+// The principal that WHO, `--groups` and `--group` name: U5 if there is none.
+fn principal_of(alloc: Global, line: &RulesLine<'_, '_>) -> Result<Principal, QuestionFault>
     ensures answer { MatchResult result (NamesPrincipal line.now) (RefusesRules line.now) }
     ensures unnamed { HasBadPrincipal line.now → result ≡ Err QuestionFault.BadPrincipal }
 {
     if let Some(user) = name_behind(USER, line.who) {
-        return principal_from(alloc, user, line.groups);
+        return principal_from(alloc, user, line.groups, line.whole_groups);
     }
     match name_behind(MEMBER, line.who) {
-        Some(group) if line.groups.is_empty() => member_from(alloc, group),
+        Some(group) if lacks_groups(line) => member_from(alloc, group),
         _ => Err(QuestionFault::BadPrincipal),
     }
 }
@@ -278,7 +360,7 @@ fn check_question(line: &QuestionLine<'_>) -> Result<(), QuestionFault>
 }
 
 // Why a `can-i` line is refused: U2 if USER is empty, otherwise as its question is.
-fn check_can_i(line: &CanILine<'_>) -> Result<(), QuestionFault>
+fn check_can_i(line: &CanILine<'_, '_>) -> Result<(), QuestionFault>
     ensures answer { MatchResult result (λ _. AcceptsCanI line.now) (RefusesCanI line.now) }
     ensures lacking { RefusesCanI line.now QuestionFault.EmptyWord
         → result ≡ Err QuestionFault.EmptyWord }
@@ -298,6 +380,7 @@ fn question_of(alloc: Global, line: &QuestionLine<'_>) -> Result<Question, Alloc
 {
     Ok(Question {
         namespace: namespace_from(alloc, line.all_namespaces, line.namespace)?,
+        in_namespace: line.in_namespace,
         verb: Word::from_slice(alloc, line.verb.as_bytes())?,
         asked: Asked::from_target(alloc, line.target, line.subresource)?,
     })
@@ -308,7 +391,7 @@ impl Action {
     ///
     /// U2 if USER, VERB or TARGET is empty, or TARGET begins with `.`; otherwise U3 if a URL has a
     /// subresource. Both are refused before anything is allocated.
-    pub fn can_i(alloc: Global, line: &CanILine<'_>) -> Result<Self, QuestionFault>
+    pub fn can_i(alloc: Global, line: &CanILine<'_, '_>) -> Result<Self, QuestionFault>
         ensures answer { MatchResult result
             (λ action. AcceptsCanI line.now × MeansCanI line.now action)
             (RefusesCanI line.now) }
@@ -318,7 +401,8 @@ impl Action {
             → result ≡ Err QuestionFault.UrlSubresource }
     {
         check_can_i(line)?;
-        let principal = principal_from(alloc, line.user.as_bytes(), line.groups)?;
+        let user = line.user.as_bytes();
+        let principal = principal_from(alloc, user, line.groups, line.whole_groups)?;
         let question = question_of(alloc, &line.question)?;
         Ok(Action::CanI {
             principal,
@@ -341,17 +425,23 @@ impl Action {
             → result ≡ Err QuestionFault.UrlSubresource }
     {
         check_question(&line.question)?;
+        let every = line.every;
+        // `-A` wins (own).
+        let anywhere = line.anywhere && !line.question.all_namespaces;
         Ok(Action::WhoCan {
             why: line.why,
+            every,
+            anywhere,
             question: question_of(alloc, &line.question)?,
         })
     }
 
     /// What a `rules` line means.
     ///
-    /// U5 if WHO isn't `u:` or `g:` with a name behind it, or a `--groups` that isn't empty comes
-    /// with `g:`, even one without a name, as `,`. It is refused before anything is allocated.
-    pub fn rules(alloc: Global, line: &RulesLine<'_>) -> Result<Self, QuestionFault>
+    /// U5 if WHO isn't `u:` or `g:` with a name behind it, or a `--groups` or `--group` that isn't
+    /// empty comes with `g:`, even one without a name, as `,`. It is refused before anything is
+    /// allocated.
+    pub fn rules(alloc: Global, line: &RulesLine<'_, '_>) -> Result<Self, QuestionFault>
         ensures answer { MatchResult result (MeansRules line.now) (RefusesRules line.now) }
         ensures unnamed { HasBadPrincipal line.now → result ≡ Err QuestionFault.BadPrincipal }
     {

@@ -16,7 +16,7 @@ returns c =
     let namespace = c.in_ok-meant.meant.namespace in
     let found = c.why_allowed-found.result in
     rw (c.in_ok-text.ensures, c.status_of.ensures) (verdict l who q target namespace
-    (subst (λ (v : CatalogueView). IsMeant v.entries q target namespace) c.catalogue.ensures c.in_ok-meant.ensures)
+    (subst (λ (v : CatalogueView). IsMeant v.entries q target namespace) c.catalogue.ensures c.in_ok-meant.ensures.meant)
     c.args.quiet c.args.why found
     (subst (λ (p : PolicyView). MatchOption found (¬ Allows p.held who namespace q.verb target) (IsWhyShown p who namespace q.verb target)) c.policy.ensures c.why_allowed-found.ensures.why)
     (subst (λ (p : PolicyView). IfSome found (λ f. IsFirst p.held who namespace q.verb target f.binding.now)) c.policy.ensures c.why_allowed-found.ensures.first))

@@ -3,12 +3,17 @@ use Rattle.std.specs.Prelude.{Some}
 use Rattle.std.proofs.lemmas.Option.{slice_get_read, slice_get_within}
 use Rattle.rbac_model.specs.Sources.{grant_of}
 use Rattle.rbac_index.specs.HolderViews.{holder_shown}
+use Rattle.rbac_index.specs.WhoCan.{InNamespace}
 use Rattle.rbac_index.proofs.ReasonLemmas.{some_allows, why_of_holder, shown_binding}
 use Rattle.rbac_index.proofs.reason.why_held.Goals as goal
 
 pub returns-in_err-no-clause-held : goal.returns-in_err-no-clause-held
 returns-in_err-no-clause-held c = λ namespace holder.
-    absurd (some_allows c.args.policy.now c.bindings-bindings.ensures.policy namespace c.args.verb.now c.args.target.now (holder_shown c.args.holder) holder c.in_err-no.ensures)
+    absurd (some_allows c.args.policy.now c.bindings-bindings.ensures.policy (InNamespace namespace) c.args.verb.now c.args.target.now c.args.holder.principal.now c.args.holder.binding_place c.args.holder.subject_place holder.1 c.in_err-no.ensures)
+
+pub returns-in_err-no-clause-listed : goal.returns-in_err-no-clause-listed
+returns-in_err-no-clause-listed c = λ asked holder.
+    absurd (some_allows c.args.policy.now c.bindings-bindings.ensures.policy asked c.args.verb.now c.args.target.now c.args.holder.principal.now c.args.holder.binding_place c.args.holder.subject_place holder.1 c.in_err-no.ensures)
 
 pub grant-grant-requires : goal.grant-grant-requires
 grant-grant-requires c = let by = c.in_ok-no.ensures.0.0 in slice_get_within c.args.policy.now.grants c.in_ok-no.no by.0 by.1
@@ -33,4 +38,14 @@ returns-clause-held c = λ namespace holder.
       grant_of c.grant-grant.result,
       why_of_holder c.args.policy.now c.bindings-bindings.ensures.policy namespace c.args.verb.now c.args.target.now (holder_shown c.args.holder) holder c.in_ok-no.no (grant_of c.grant-grant.result) c.in_ok-no.ensures c.grant-grant.ensures.grant,
       (shown_binding c.args.policy.now c.args.verb.now c.args.target.now c.args.holder.binding_place c.in_ok-no.no c.in_ok-binding.binding.now (grant_of c.grant-grant.result) there c.in_ok-no.ensures c.grant-grant.ensures.grant, refl, refl),
+    )
+
+pub returns-clause-listed : goal.returns-clause-listed
+returns-clause-listed c = λ asked holder.
+    let found = rw c.bindings-bindings.ensures.bindings at c.in_ok-binding.ensures.lookup in
+    let there : slice_get c.args.policy.now.held.bindings c.args.holder.binding_place ≡ Some c.in_ok-binding.binding.now = slice_get_read _ _ _ _ refl found.3.0 found.1 in (
+      grant_of c.grant-grant.result,
+      (c.in_ok-no.no, c.in_ok-no.ensures, c.grant-grant.ensures.grant),
+      (shown_binding c.args.policy.now c.args.verb.now c.args.target.now c.args.holder.binding_place c.in_ok-no.no c.in_ok-binding.binding.now (grant_of c.grant-grant.result) there c.in_ok-no.ensures c.grant-grant.ensures.grant, refl, refl),
+      refl,
     )

@@ -1,4 +1,4 @@
-use Rattle.std.proofs.Common.{◌≡◌, ◌≤◌, ◌∙◌, ap, refl, rules, length, slice_get, arith}
+use Rattle.std.proofs.Common.{◌≡◌, ◌≤◌, ◌∙◌, ◌∷◌, ℕ, ap, sym, refl, rules, length, slice_get, arith}
 use Rattle.std.specs.Prelude.{Some, option_map}
 use Rattle.std.specs.Ordering.{is_lt}
 use Rattle.std.proofs.lemmas.Fn.{answers_by}
@@ -6,11 +6,10 @@ use Rattle.std.proofs.lemmas.List.{length-map}
 use Rattle.std.proofs.lemmas.List.Sorted.{ranks_by}
 use Rattle.std.proofs.lemmas.Option.{slice_get-map, slice_get_read}
 use Rattle.rbac_index.specs.declared.ranks.Placed.{Placed}
-use Rattle.rbac_index.specs.declared.sightings.Sighting.{Sighting}
-use Rattle.rbac_index.specs.HolderViews.{keys_seen}
+use Rattle.rbac_index.specs.HolderViews.{label_of, labels_seen}
 use Rattle.rbac_index.specs.Ranks.{placed_cmp}
 use Rattle.rbac_index.proofs.RankLemmas.{placed_total, placed_more, placed_all}
-use Rattle.rbac_index.proofs.ranks.sorted_by_key.Goals as goal
+use Rattle.rbac_index.proofs.ranks.sorted_by_label.Goals as goal
 
 pub loop-place-preserved : goal.loop-place-preserved
 loop-place-preserved c =
@@ -18,8 +17,8 @@ loop-place-preserved c =
     let place = c.loop-place.place in
     let sighting = c.index-seen-place.result in
     let at : slice_get seen place ≡ Some sighting = slice_get_read seen (length seen) place sighting refl c.loop-place-test.true c.index-seen-place.is in
-    let reads : slice_get (keys_seen seen) place ≡ Some sighting.key = slice_get-map (λ (s : Sighting). s.key) seen place ∙ ap (option_map (λ (s : Sighting). s.key)) at in
-    rw c.in_ok-push.ensures.items (placed_more (keys_seen seen) place c.loop-place.placed.items _ c.loop-place.invariant refl reads)
+    let reads : slice_get (labels_seen c.args.every seen) place ≡ Some (c.once_in_binding.result ∷ sighting.key) = slice_get-map (label_of c.args.every) seen place ∙ ap (option_map (label_of c.args.every)) at ∙ ap (λ (i : ℕ). Some (i ∷ sighting.key)) (sym c.once_in_binding.ensures) in
+    rw c.in_ok-push.ensures.items (placed_more (labels_seen c.args.every seen) place c.loop-place.placed.items _ c.loop-place.invariant refl reads)
 
 pub returns-clause-sorted : goal.returns-clause-sorted
 returns-clause-sorted c =
@@ -28,5 +27,5 @@ returns-clause-sorted c =
 pub returns-clause-all : goal.returns-clause-all
 returns-clause-all c =
     let seen = c.args.seen.now in
-    let all : length (keys_seen seen) ≤ c.loop-place.place = omega (arith, c.loop-place-test.false, length-map seen (λ (s : Sighting). s.key)) in
-    placed_all (keys_seen seen) c.loop-place.place c.loop-place.placed.items c.sort_unstable_by.new.self.items all c.loop-place.invariant c.sort_unstable_by.ensures.permutation
+    let all : length (labels_seen c.args.every seen) ≤ c.loop-place.place = omega (arith, c.loop-place-test.false, length-map seen (label_of c.args.every)) in
+    placed_all (labels_seen c.args.every seen) c.loop-place.place c.loop-place.placed.items c.sort_unstable_by.new.self.items all c.loop-place.invariant c.sort_unstable_by.ensures.permutation
