@@ -395,26 +395,23 @@ def krew(room):
 CURL = """#!/bin/sh
 [ "$*" = "-fsSLo rbacaudit.tar.gz https://downloads.example.com/%s" ] && cp '%s' rbacaudit.tar.gz
 """
-UNIVERSE = '''{"apiVersion": "rbacaudit/v1", "kind": "Universe", "verbs": ["get", "list"],
-  "names": [""], "urls": [], "resources": [{"resource": "configmaps"}, {"resource": "secrets"}]}
-'''
-JOB_TOOLS = 'bash', 'cut', 'git', 'comm', 'wc'
-NEW = """### Newly allowed: 10. New findings: 2.
+JOB_TOOLS = 'bash', 'git', 'comm', 'wc'
+NEW = """### Gained: 10. Lost: 0. New findings: 2.
 
-    u:system:serviceaccount:ci:deploy-checkout\tcheckout\tget\t-\tsecrets\t-
-    u:system:serviceaccount:ci:deploy-checkout\tcheckout\tlist\t-\tsecrets\t-
-    u:system:serviceaccount:ci:deploy-payments\tpayments\tget\t-\tsecrets\t-
-    u:system:serviceaccount:ci:deploy-payments\tpayments\tlist\t-\tsecrets\t-
-    u:system:serviceaccount:ci:deploy-payments\tpayments-staging\tget\t-\tsecrets\t-
-    u:system:serviceaccount:ci:deploy-payments\tpayments-staging\tlist\t-\tsecrets\t-
-    u:system:serviceaccount:ci:deploy-search\tsearch\tget\t-\tsecrets\t-
-    u:system:serviceaccount:ci:deploy-search\tsearch\tlist\t-\tsecrets\t-
-    u:system:serviceaccount:search:indexer\tsearch\tget\t-\tconfigmaps\t-
-    u:system:serviceaccount:search:indexer\tsearch\tlist\t-\tconfigmaps\t-
+    +\tu:system:serviceaccount:ci:deploy-checkout\tcheckout\tget\t-\tsecrets\t*\tRoleBinding/checkout/ci-deploys
+    +\tu:system:serviceaccount:ci:deploy-checkout\tcheckout\tlist\t-\tsecrets\t*\tRoleBinding/checkout/ci-deploys
+    +\tu:system:serviceaccount:ci:deploy-payments\tpayments\tget\t-\tsecrets\t*\tRoleBinding/payments/ci-deploys
+    +\tu:system:serviceaccount:ci:deploy-payments\tpayments\tlist\t-\tsecrets\t*\tRoleBinding/payments/ci-deploys
+    +\tu:system:serviceaccount:ci:deploy-payments\tpayments-staging\tget\t-\tsecrets\t*\tRoleBinding/payments-staging/ci-deploys
+    +\tu:system:serviceaccount:ci:deploy-payments\tpayments-staging\tlist\t-\tsecrets\t*\tRoleBinding/payments-staging/ci-deploys
+    +\tu:system:serviceaccount:ci:deploy-search\tsearch\tget\t-\tsecrets\t*\tRoleBinding/search/ci-deploys
+    +\tu:system:serviceaccount:ci:deploy-search\tsearch\tlist\t-\tsecrets\t*\tRoleBinding/search/ci-deploys
+    +\tu:system:serviceaccount:search:indexer\tsearch\tget\t-\tconfigmaps\t*\tRoleBinding/search/indexer
+    +\tu:system:serviceaccount:search:indexer\tsearch\tlist\t-\tconfigmaps\t*\tRoleBinding/search/indexer
     L5\taccount-without-namespace\tClusterRoleBinding/indexer-metrics\t1\tindexer
     L5\taccount-without-namespace\tClusterRoleBinding/indexer-nodes\t1\tindexer
 """
-SAME = '### Newly allowed: 0. New findings: 0.\n\n'
+SAME = '### Gained: 0. Lost: 0. New findings: 0.\n\n'
 
 
 def part_of(job, key, margin):
@@ -441,7 +438,7 @@ def origin(room, script):
         shutil.copy(path, folder + '/rbac')
     run(['bash', '-c', script], folder)
     git(folder, 'init', '-q', '-b', 'main')
-    commit(folder, {'rbac/universe.json': UNIVERSE})
+    commit(folder, {})
     more = text_of('examples/cluster/change/roles.json')
     for branch, files in (('same', {'README': 'roles'}), ('bad', {'rbac/roles.json': '{'}),
                           ('more', {'rbac/roles.json': more, 'review.sh': 'exit 0'})):
@@ -495,10 +492,10 @@ def jobs(room):
     for name, shell in (('GitHub', github), ('GitLab', gitlab)):
         job = Job(room, address, 'bad')
         got = job.run(shell)
-        holds(name + ': bad', got[0] == 2 and 'M1 not JSON' in got[1] and not job.told(), got)
+        holds(name + ': bad', got[0] == 1 and 'M1 not JSON' in got[1] and not job.told(), got)
         job = Job(room, address, 'same')
         got = job.run(shell, SHA256='0' * 64)
-        holds(name + ': another sum', got[0] != 0 and 'Newly' not in got[1] and not job.told()
+        holds(name + ': another sum', got[0] != 0 and 'Gained' not in got[1] and not job.told()
                 and not os.path.exists(job.work + '/main'), got)
         job.run(shell)
         shutil.rmtree(job.work + '/main')
