@@ -231,7 +231,8 @@ def value_of(text):
 
 # ---- what is drawn from: good documents, each with all of its fields, and some with fields that aren't read there
 
-METADATA = {'name': 'n', 'namespace': 'dev', 'labels': {'to': 'x', 'é': '\U0001f511'}}
+METADATA = {'name': 'n', 'namespace': 'dev', 'labels': {'to': 'x', 'é': '\U0001f511'},
+            'annotations': {'a': '{"kind":"Role"}'}, 'managedFields': [{'manager': 'x', 'fieldsV1': {'f:rules': {}}, 'time': None}]}
 RULE = {'verbs': ['get', '*'], 'apiGroups': ['', 'apps'], 'resources': ['pods', '*/scale'], 'resourceNames': ['c', '']}
 LEAST_RULE = {'verbs': ['*'], 'apiGroups': ['*'], 'resources': ['*']}
 URL_RULE = {'verbs': ['get'], 'nonResourceURLs': ['/healthz', '/x*']}

@@ -1,19 +1,20 @@
 -- What the tokens ahead read as, a token or a turn at a time.
-use Rattle.std.specs.declared.alloc.Global.{Global}
-use Rattle.std.proofs.Common.{rules, String, string_bytes, Bool, Result, Ok, Err, IfOk, ◌≡◌, ℕ, ◌-◌, ◌<◌, ◌≤◌, List, [], ◌∷◌, ◌++◌, length, Option, Some, None, option_map, option_and_then, refl, sym, ap, ◌∙◌, arith}
+use Rattle.std.proofs.Common.{rules, Bor, Bool, Result, Ok, Err, IfOk, ◌≡◌, ℕ, ◌-◌, ◌<◌, ◌≤◌, List, [], ◌∷◌, ◌++◌, length, Option, Some, None, option_map, option_and_then, refl, sym, ap, ◌∙◌, arith}
 use Rattle.json.specs.Token.{Token}
 use Rattle.json.specs.Json as json
 use Rattle.json.specs.Json.{after_end_array, read_key, parse_map}
 use Rattle.json.proofs.Grammar.{left, skip_value-shorter, read_key-shorter, items_end, items_fail, items_more, members_end, members_no_key, members_fail, members_more, value_is, value-begin_array, value-begin_object}
 use Rattle.serde_json.specs.Data.{Num, Data, null, boolean, number, string, array, object, Items, no_items, item, Members, no_members, put}
 use Rattle.serde_json.specs.Read.{converted, number_of, of_json, of_items, of_members}
-use Rattle.serde_json.specs.View.{view, items_of}
-use Rattle.serde_json.specs.declared.value.Value.{Value, the_lemmas}
-use Rattle.serde_json.specs.declared.value.Value.TheVariants.{Null as ANull, Bool as ABool, String as AString}
+use Rattle.serde_json.specs.View.{number_view, items_of}
+use Rattle.serde_json.specs.declared.number.Number.{Number}
 use Rattle.json_list.specs.declared.fault.ReadFault.{ReadFault}
 use Rattle.json_list.specs.Lean.{lean}
 use Rattle.json_list.specs.List.{IsRead, IsUnread}
 use Rattle.json_list.specs.Values.{value_read, items_read, members_read}
+use Rattle.json_list.specs.View.{view}
+use Rattle.json_list.specs.declared.tree.Value.{Value, the_lemmas}
+use Rattle.json_list.specs.declared.tree.Value.TheVariants.{Null as ANull, Bool as ABool, Number as ANumber, String as AString}
 use Rattle.json_list.proofs.Lean.{whole}
 
 -- ---- what was read, and what it was read from
@@ -199,8 +200,11 @@ seen_null = search (rules, the_lemmas)
 pub seen_boolean : (b : Bool) → view (ABool b) ≡ boolean b
 seen_boolean b = search (rules, the_lemmas)
 
-pub seen_string : (s : String Global) → view (AString s) ≡ string (string_bytes s)
+pub seen_string : (s : Bor (List ℕ)) → view (AString s) ≡ string s.now
 seen_string s = search (rules, the_lemmas)
+
+pub seen_number : (x : Number) → view (ANumber x) ≡ number (number_view x)
+seen_number x = search (rules, the_lemmas)
 
 module _ (depth : ℕ) (old ts : List Token) where
   pub no_array_read : depth ≡ 0 → old ≡ Token.begin_array ∷ ts → value_read depth old ≡ None
@@ -223,11 +227,11 @@ module _ (depth : ℕ) (old ts : List Token) where
   number_read : (s : List ℕ) → old ≡ Token.number s ∷ ts → value_read depth old ≡ followed_by ts (option_map number (number_of s))
   number_read s is = ap (value_read depth) is ∙ ap (converted of_json) (value_is depth (Token.number s ∷ ts))
 
-  pub number_is : (s : List ℕ) → old ≡ Token.number s ∷ ts → (d : Data) → option_map number (number_of s) ≡ Some d → value_read depth old ≡ Some (d, ts)
-  number_is s is d e = number_read s is ∙ ap (followed_by ts) e
+  pub number_is : (s : List ℕ) → old ≡ Token.number s ∷ ts → (n : Num) → number_of s ≡ Some n → value_read depth old ≡ Some (number n, ts)
+  number_is s is n e = number_read s is ∙ ap (λ o. followed_by ts (option_map number o)) e
 
-  pub number_refused : (s : List ℕ) → old ≡ Token.number s ∷ ts → option_map number (number_of s) ≡ None → value_read depth old ≡ None
-  number_refused s is e = number_read s is ∙ ap (followed_by ts) e
+  pub number_refused : (s : List ℕ) → old ≡ Token.number s ∷ ts → number_of s ≡ None → value_read depth old ≡ None
+  number_refused s is e = number_read s is ∙ ap (λ o. followed_by ts (option_map number o)) e
 
   pub end_array_refused : old ≡ Token.end_array ∷ ts → value_read depth old ≡ None
   end_array_refused is = ap (value_read depth) is ∙ ap (converted of_json) (value_is depth (Token.end_array ∷ ts))
@@ -255,17 +259,6 @@ pub object_passed : {T : Type 0} (depth : ℕ) (old ts new : List Token) (r : Re
     → IfOk r (λ _. (ms : Members) × (members_read (depth - 1) (length ts) no_members ts ≡ Some (ms, new))) → IfOk r (λ _. (d : Data) × (value_read depth old ≡ Some (d, new)))
 object_passed depth old ts new (Ok t) is h e = (object e.0, object_read depth old ts is h ∙ ap objects e.1)
 object_passed depth old ts new (Err f) is h e = e
-
--- ---- a number, of which nothing is left out
-
-number_kept : {K : Type 0} (under : K → List ℕ → Option K) (kept : K) (o : Option Num) (d : Data) → option_map number o ≡ Some d → d ≡ lean under kept d
-number_kept under kept None d e = absurd (cc)
-number_kept under kept (Some n) d e = let is : number n ≡ d = cc in sym is ∙ ap (lean under kept) is
-
-pub number_found : {K : Type 0} (under : K → List ℕ → Option K) (kept : K) (depth : ℕ) (old ts : List Token) (s : List ℕ) → old ≡ Token.number s ∷ ts
-    → (r : Result Value ReadFault) → IfOk r (λ v. option_map number (number_of s) ≡ Some (view v)) → IfOk r (λ v. (d : Data) × (value_read depth old ≡ Some (d, ts)) × (view v ≡ lean under kept d))
-number_found under kept depth old ts s is (Ok v) e = (view v, number_is depth old ts s is (view v) e, number_kept under kept (number_of s) (view v) e)
-number_found under kept depth old ts s is (Err f) e = e
 
 -- ---- a value of which nothing is left out
 

@@ -5,9 +5,9 @@ use Rattle.json.specs.Lex.{tokens}
 use Rattle.json.specs.Json as json
 use Rattle.json.specs.Json.{parse_map}
 use Rattle.json.proofs.Grammar.{value-begin_object}
-use Rattle.serde_json.specs.Data.{array, object, Items, Members, no_members, put}
+use Rattle.serde_json.specs.Data.{Data, array, object, Items, Members, no_members, put}
 use Rattle.serde_json.specs.Read.{of_json, of_members, read}
-use Rattle.json_list.specs.List.{IsList, items_name, with_items, items_ahead}
+use Rattle.json_list.specs.List.{IsList, IsRead, IsUnread, items_name, with_items, items_ahead}
 use Rattle.json_list.specs.Places.{members_in, AreRefused, HasOneList, AreOthers, AreOthersOf, AreBefore}
 use Rattle.json_list.specs.OnePass.{IsReadUpTo}
 use Rattle.json_list.proofs.OnePass.{came_from}
@@ -70,3 +70,20 @@ module _ (text : List ℕ) (ts : List Token) (begin : tokens text ≡ Token.begi
   read_up_to before at are = λ ds rest others e r.
       let it = came_from (λ ms. of_members ms no_members) (members_in ts) (put items_name (array ds) others) [] (are ds rest others e r) in
       read_is ∙ ap (λ o. option_and_then of_json (whole (parse_map json.object o))) it.1 ∙ ap (option_map object) it.2
+
+-- ---- a text that is one value
+
+pub read_last : (text : List ℕ) (d : Data) → IsRead 127 (tokens text) d [] → read text ≡ Some d
+read_last text d e = ap (λ o. option_and_then of_json (whole o)) e.1 ∙ e.2
+
+pub read_on : (text : List ℕ) (d : Data) (new : List Token) → IsRead 127 (tokens text) d new → (new ≡ [] → ⊥) → read text ≡ None
+read_on text d [] e more = absurd (more refl)
+read_on text d (t ∷ r) e more = ap (λ o. option_and_then of_json (whole o)) e.1
+
+unread_at : (o : Option (json.Json × List Token)) → ((j : json.Json) (new : List Token) → o ≡ Some (j, new) → of_json j ≡ None) → option_and_then of_json (whole o) ≡ None
+unread_at None h = refl
+unread_at (Some (j, [])) h = h j [] refl
+unread_at (Some (j, t ∷ r)) h = refl
+
+pub unread : (text : List ℕ) → IsUnread 127 (tokens text) → read text ≡ None
+unread text h = unread_at (json.value 127 (tokens text)) h

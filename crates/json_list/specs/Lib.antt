@@ -3,3 +3,4 @@ pub mod List
 pub mod OnePass
 pub mod Places
 pub mod Values
+pub mod View

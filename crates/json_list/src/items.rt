@@ -3,16 +3,16 @@
 ghost use Rattle.std.specs.Prelude.{◌≡◌, ◌<◌, [], length, option_map, Some, None, Err, IfOk};
 ghost use Rattle.std.specs.Prelude.{IfSome, OnErr, MatchOption};
 ghost use Rattle.serde_json.specs.Data.{Data, no_items, item};
-ghost use Rattle.serde_json.specs.View.{view};
 ghost use Rattle.json_list.specs.Lean.{lean};
 ghost use Rattle.json_list.specs.List.{items_ahead};
+ghost use Rattle.json_list.specs.View.{view};
 ghost use Rattle.json_list.specs.declared.fault.ReadFault.TheVariants.{Refused};
 
 use crate::fault::ReadFault;
 use crate::kept::Kept;
+use crate::tree::Value;
 use crate::value::read_kept;
 use json::Reader;
-use serde_json::Value;
 use std::alloc::Global;
 use std::marker::Model;
 
@@ -67,7 +67,11 @@ impl<'a> Items<'a> {
     ///
     /// Refused only if the rest of the list can't be read; some items may have been given before
     /// that is known. After any error, also out of memory, every further call is refused.
-    pub fn next_item<K: Kept>(&mut self, alloc: Global, kept: K) -> Result<Option<Value>, ReadFault>
+    pub fn next_item<K: Kept>(
+        &mut self,
+        alloc: Global,
+        kept: K,
+    ) -> Result<Option<Value<'a>>, ReadFault>
         ensures next { IfOk result (λ next. MatchOption next
             ((items_ahead self.old ≡ Some no_items) × (items_ahead self.new ≡ Some no_items))
             (λ v. (d : Data) × (view v ≡ lean K.under kept d)

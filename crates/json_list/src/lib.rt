@@ -8,6 +8,8 @@ mod kept;
 mod list;
 mod one_pass;
 mod pass;
+mod text;
+mod tree;
 mod value;
 
 pub use fault::ReadFault;
@@ -15,3 +17,5 @@ pub use items::Items;
 pub use kept::Kept;
 pub use list::{OpenList, open_list};
 pub use one_pass::{ListFront, Unread, open_front};
+pub use text::read_text;
+pub use tree::Value;

@@ -6,17 +6,18 @@ ghost use Rattle.std.specs.Bool.{MatchBool};
 ghost use Rattle.json.specs.Lex.{tokens};
 ghost use Rattle.json.specs.Token.{Token as SpecToken, begin_array, begin_object};
 ghost use Rattle.serde_json.specs.Read.{read};
-ghost use Rattle.serde_json.specs.View.{members_view};
 ghost use Rattle.json_list.specs.List.{IsList, with_items, items_ahead};
 ghost use Rattle.json_list.specs.Places.{members_in, AreRefused, HasOneList, IsAtItems, AreOthers};
 ghost use Rattle.json_list.specs.Places.{IsAtItemsOf, AreOthersOf};
+ghost use Rattle.json_list.specs.View.{members_view};
 ghost use Rattle.json_list.specs.declared.fault.ReadFault.TheVariants.{Refused};
 
 use crate::fault::ReadFault;
 use crate::items::Items;
+use crate::tree::Value;
 use crate::value::read_value;
 use json::{Invalid, Reader, Scratch, Token};
-use serde_json::{Map, Value};
+use serde_json::Map;
 use std::alloc::{AllocError, Global};
 
 pub(crate) const ITEMS: &str = "items";
@@ -28,7 +29,7 @@ pub(crate) const MEMBER_DEPTH: usize = 126;
 #[derive(Drop)]
 pub struct OpenList<'a> {
     /// The members other than `items`.
-    pub others: Map<String, Value>,
+    pub others: Map<&'a str, Value<'a>>,
     /// The items, which haven't been read yet.
     pub items: Items<'a>,
 }
@@ -74,10 +75,10 @@ fn seek_items(reader: &mut Reader<'_>) -> Result<bool, Invalid>
 }
 
 // The members of an object other than `items`, if it has exactly one member of that name.
-fn read_others(
+fn read_others<'a>(
     alloc: Global,
-    reader: &mut Reader<'_>,
-) -> Result<Option<Map<String, Value>>, ReadFault>
+    reader: &mut Reader<'a>,
+) -> Result<Option<Map<&'a str, Value<'a>>>, ReadFault>
     ensures others { IfOk result (λ o. MatchOption o (¬ HasOneList reader.old)
         (λ others. AreOthers reader.old (members_view others.entries) reader.new)) }
     ensures refused { result ≡ Err Refused → AreRefused reader.old }
@@ -92,9 +93,8 @@ fn read_others(
             has_items = true;
             reader.skip_value(MEMBER_DEPTH)?;
         } else {
-            let key = String::from_str(alloc, name)?;
             let member = read_value(alloc, reader, MEMBER_DEPTH)?;
-            drop(others.insert(key, member)?);
+            drop(others.insert(name, member)?);
         }
     }
     if has_items {
@@ -122,11 +122,11 @@ fn items_in<'a>(text: &'a str, scratch: &'a mut Scratch) -> Result<Option<Items<
 
 // The members other than `items` of the object that a text is, if it has exactly one member of that
 // name.
-fn others_in(
+fn others_in<'a>(
     alloc: Global,
-    text: &str,
-    scratch: &mut Scratch,
-) -> Result<Option<Map<String, Value>>, ReadFault>
+    text: &'a str,
+    scratch: &'a mut Scratch,
+) -> Result<Option<Map<&'a str, Value<'a>>>, ReadFault>
     ensures others { IfOk result (λ o. MatchOption o (¬ IsList text.now)
         (λ others. AreOthersOf text.now (members_view others.entries))) }
     ensures refused { result ≡ Err Refused → read text.now ≡ None }
@@ -144,8 +144,9 @@ fn others_in(
 }
 
 /// The list that a text is: an object with one member `items`, which is a list (own). None only if
-/// the text isn't a list in this sense; then `serde_json` has to read it as a whole. `scratch` is
-/// where texts with escapes are kept; it grows to the length of the text.
+/// the text isn't a list in this sense; then it has to be read as a whole. `scratch` is where texts
+/// with escapes are kept, and `aside` where those of the other members are; both grow to the length
+/// of the text.
 ///
 /// # Errors
 ///
@@ -154,6 +155,7 @@ pub fn open_list<'a>(
     alloc: Global,
     text: &'a str,
     scratch: &'a mut Scratch,
+    aside: &'a mut Scratch,
 ) -> Result<Option<OpenList<'a>>, ReadFault>
     ensures list { IfOk result (λ o. IfSome o (λ list. read text.now
         ≡ option_map (with_items (members_view list.others.entries)) (items_ahead list.items))) }
@@ -164,7 +166,7 @@ pub fn open_list<'a>(
     if items_in(text, scratch)?.is_none() {
         return Ok(None);
     }
-    let Some(others) = others_in(alloc, text, scratch)? else {
+    let Some(others) = others_in(alloc, text, aside)? else {
         return Ok(None);
     };
     let Some(items) = items_in(text, scratch)? else {

@@ -3,21 +3,22 @@
 ghost use Rattle.std.specs.Prelude.{◌≡◌, ◌<◌, length, option_map, Some, None, Err, IfOk};
 ghost use Rattle.std.specs.Prelude.{IfSome, MatchOption};
 ghost use Rattle.serde_json.specs.Data.{Data, Members, no_items, item};
-ghost use Rattle.serde_json.specs.View.{view, members_view};
 ghost use Rattle.json_list.specs.Lean.{lean};
 ghost use Rattle.json_list.specs.OnePass.{items_and_rest, AreTheRest, IsReadUpTo};
 ghost use Rattle.serde_json.specs.Read.{read};
 ghost use Rattle.json_list.specs.List.{IsList};
 ghost use Rattle.json_list.specs.Places.{AreBefore, AreRefused, HasOneList};
+ghost use Rattle.json_list.specs.View.{view, members_view};
 ghost use Rattle.json_list.specs.declared.fault.ReadFault.TheVariants.{Refused};
 
 use crate::fault::ReadFault;
 use crate::items::ITEM_DEPTH;
 use crate::kept::Kept;
 use crate::list::{ITEMS, MEMBER_DEPTH, object_in, take_begin_array};
+use crate::tree::Value;
 use crate::value::{read_kept, read_value};
 use json::{Reader, Scratch};
-use serde_json::{Map, Value};
+use serde_json::Map;
 use std::alloc::Global;
 use std::marker::Model;
 
@@ -25,7 +26,7 @@ use std::marker::Model;
 #[derive(Drop)]
 pub struct ListFront<'a> {
     /// The members before the list.
-    pub before: Map<String, Value>,
+    pub before: Map<&'a str, Value<'a>>,
     /// The items, and the members after them.
     pub unread: Unread<'a>,
 }
@@ -54,7 +55,11 @@ impl<'a> Unread<'a> {
     /// # Errors
     ///
     /// Refused only if the rest of the list can't be read.
-    pub fn next_item<K: Kept>(&mut self, alloc: Global, kept: K) -> Result<Option<Value>, ReadFault>
+    pub fn next_item<K: Kept>(
+        &mut self,
+        alloc: Global,
+        kept: K,
+    ) -> Result<Option<Value<'a>>, ReadFault>
         ensures next { IfOk result (λ next. MatchOption next
             (items_and_rest self.old ≡ Some (no_items, self.new))
             (λ v. (d : Data) × (view v ≡ lean K.under kept d) × (items_and_rest self.old
@@ -78,40 +83,39 @@ impl<'a> Unread<'a> {
     pub fn rest(
         &mut self,
         alloc: Global,
-        before: Map<String, Value>,
-    ) -> Result<Option<Map<String, Value>>, ReadFault>
+        before: Map<&'a str, Value<'a>>,
+    ) -> Result<Option<Map<&'a str, Value<'a>>>, ReadFault>
         ensures rest { IfOk result (λ o. MatchOption o
-            ((others : Members) → AreTheRest (members_view before.entries) self.old others → ⊥)
+            ((others : Members) → AreTheRest (members_view before.entry.entries) self.old others → ⊥)
             (λ others.
-            AreTheRest (members_view before.entries) self.old (members_view others.entries))) }
+            AreTheRest (members_view before.entry.entries) self.old (members_view others.entries))) }
         ensures refused { result ≡ Err Refused → (others : Members)
-            → AreTheRest (members_view before.entries) self.old others → ⊥ }
+            → AreTheRest (members_view before.entry.entries) self.old others → ⊥ }
     {
         read_rest(alloc, &mut self.reader, before)
     }
 }
 
 // The members of an object beside its list, of which those before it were read.
-fn read_rest(
+fn read_rest<'a>(
     alloc: Global,
-    reader: &mut Reader<'_>,
-    before: Map<String, Value>,
-) -> Result<Option<Map<String, Value>>, ReadFault>
+    reader: &mut Reader<'a>,
+    before: Map<&'a str, Value<'a>>,
+) -> Result<Option<Map<&'a str, Value<'a>>>, ReadFault>
     ensures rest { IfOk result (λ o. MatchOption o
-        ((others : Members) → AreTheRest (members_view before.entries) reader.old others → ⊥)
+        ((others : Members) → AreTheRest (members_view before.entry.entries) reader.old others → ⊥)
         (λ others.
-        AreTheRest (members_view before.entries) reader.old (members_view others.entries))) }
+        AreTheRest (members_view before.entry.entries) reader.old (members_view others.entries))) }
     ensures refused { result ≡ Err Refused → (others : Members)
-        → AreTheRest (members_view before.entries) reader.old others → ⊥ }
+        → AreTheRest (members_view before.entry.entries) reader.old others → ⊥ }
 {
     let mut others = before;
     'members: while let Some(name) = reader.next_key()? {
         if name == ITEMS {
             return Ok(None);
         }
-        let key = String::from_str(alloc, name)?;
         let member = read_value(alloc, reader, MEMBER_DEPTH)?;
-        drop(others.insert(key, member)?);
+        drop(others.insert(name, member)?);
     }
     if reader.next().is_some() {
         return Ok(None);
@@ -120,10 +124,10 @@ fn read_rest(
 }
 
 // The members of an object before a list under `items`; None if the first `items` isn't a list.
-fn read_before(
+fn read_before<'a>(
     alloc: Global,
-    reader: &mut Reader<'_>,
-) -> Result<Option<Map<String, Value>>, ReadFault>
+    reader: &mut Reader<'a>,
+) -> Result<Option<Map<&'a str, Value<'a>>>, ReadFault>
     ensures before { IfOk result (λ o. MatchOption o (¬ HasOneList reader.old)
         (λ before. AreBefore reader.old (members_view before.entries) reader.new)) }
     ensures refused { result ≡ Err Refused → AreRefused reader.old }
@@ -136,9 +140,8 @@ fn read_before(
             }
             return Ok(None);
         }
-        let key = String::from_str(alloc, name)?;
         let member = read_value(alloc, reader, MEMBER_DEPTH)?;
-        drop(before.insert(key, member)?);
+        drop(before.insert(name, member)?);
     }
     Ok(None)
 }

@@ -1,14 +1,14 @@
 -- Labels, and the selectors of an aggregated role (Labels and Selectors; Using RBAC Authorization,
 -- Aggregated ClusterRoles).
 use Rattle.std.specs.Prelude.{ℕ, ◌||◌, ◌&&◌, Bool, not, List, [], ◌∷◌, codes, Option, Some, None}
-use Rattle.std.specs.Prelude.{option_map, option_and_then, is_none, String, string_bytes}
+use Rattle.std.specs.Prelude.{option_map, option_and_then, is_none}
 use Rattle.std.specs.Prelude.{if◌then◌else◌}
-use Rattle.std.specs.declared.alloc.Global.{Global}
+use Rattle.std.specs.Borrow.{Bor}
 use Rattle.std.specs.Str.{bytes_eq}
 use Rattle.serde_json.specs.Data.{Data, Members, no_members, member}
 use Rattle.serde_json.specs.Find.{as_str, as_object}
-use Rattle.serde_json.specs.View.{view}
-use Rattle.serde_json.specs.declared.value.Value.{Value}
+use Rattle.json_list.specs.View.{view}
+use Rattle.json_list.specs.declared.tree.Value.{Value}
 use Rattle.rbac_manifest.specs.Fields.{◌>>=◌, field, list_field, texts_field, text_at, is_object}
 use Rattle.rbac_manifest.specs.Fields.{is_empty, non_empty, text, texts, is_no_text, is_no_texts}
 use Rattle.rbac_manifest.specs.Fields.{any_of}
@@ -29,9 +29,9 @@ labels_of no_members = Some []
 labels_of (member key d ms) = cons_if (label_of key d) (labels_of ms)
 
 -- the labels of a map's entries, if each value is a text
-abbrev pub entry_labels : List (String Global × Value) → Option (List (Text × Text))
+abbrev pub entry_labels : List (Bor (List ℕ) × Value) → Option (List (Text × Text))
 entry_labels [] = Some []
-entry_labels (e ∷ es) = cons_if (label_of (string_bytes e.0) (view e.1)) (entry_labels es)
+entry_labels (e ∷ es) = cons_if (label_of e.0.now (view e.1)) (entry_labels es)
 
 -- the labels that a value gives; no labels if it is missing
 abbrev pub labels_or_empty : Option Data → Option (List (Text × Text))

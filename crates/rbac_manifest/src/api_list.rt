@@ -1,7 +1,7 @@
 //! API resource lists, as `kubectl get --raw /api/v1` and `/apis/GROUP/VERSION` write them.
 
 ghost use Rattle.std.specs.Prelude.{◌≡◌, ◌≢◌, ◌↔◌, [], Contains, IsTrue, map, option_map};
-ghost use Rattle.serde_json.specs.View.{view};
+ghost use Rattle.json_list.specs.View.{view};
 ghost use Rattle.rbac_terms.specs.Text.{slash};
 ghost use Rattle.rbac_manifest.specs.Reads.{Reads, Gives};
 ghost use Rattle.rbac_manifest.specs.Lists.{all_at};
@@ -13,9 +13,9 @@ use crate::fields::{
     flag_field, list_field, name_of, text_field, word_field, word_of, words_field,
 };
 use crate::listed::all_read;
+use json_list::Value;
 use rbac_catalogue::{Entries, Entry};
 use rbac_terms::{Word, cut_at_first, is_path};
-use serde_json::Value;
 use std::alloc::Global;
 
 // Whether a text isn't empty and has no slash.

@@ -6,7 +6,7 @@ ghost use Rattle.std.specs.Prelude.{◌≡◌, ℕ, List, OnOk, IfOk, IsTrue, No
 ghost use Rattle.std.specs.Option.{option_to_list};
 ghost use Rattle.serde_json.specs.Data.{Items, object};
 ghost use Rattle.serde_json.specs.Read.{read};
-ghost use Rattle.serde_json.specs.View.{view, members_view};
+ghost use Rattle.json_list.specs.View.{view, members_view};
 ghost use Rattle.json_list.specs.OnePass.{items_and_rest, IsReadUpTo};
 ghost use Rattle.rbac_manifest.specs.Contents.{with_contents};
 ghost use Rattle.rbac_manifest.specs.Document.{fault, stands};
@@ -22,8 +22,8 @@ use crate::item_by_item::list_kind;
 use crate::kind::{Implied, Kind, kind_named};
 use crate::part::Part;
 use json::Scratch;
-use json_list::{ListFront, ReadFault, Unread, open_front};
-use serde_json::{Map, Value};
+use json_list::{ListFront, ReadFault, Unread, Value, open_front};
+use serde_json::Map;
 use std::alloc::{AllocError, Global};
 
 // Why a list wasn't read in one pass.
@@ -62,13 +62,13 @@ impl From<Cause> for Halt {
 // Adds what an item gives to `contents`.
 fn item_at_once(
     alloc: Global,
-    item: Value,
+    item: Value<'_>,
     implied: Implied,
     contents: &mut Contents,
 ) -> Result<(), Halt>
-    ensures sound { OnOk result (fault implied (view item) ≡ None) }
-    ensures contents { OnOk result
-        (contents.new ≡ with_contents contents.old (option_to_list (stands implied (view item)))) }
+    ensures sound { OnOk result (fault implied (view item.entry) ≡ None) }
+    ensures contents { OnOk result (contents.new
+        ≡ with_contents contents.old (option_to_list (stands implied (view item.entry)))) }
 {
     let content = document_of(alloc, &item, implied)?;
     contents.take(content)?;
@@ -93,7 +93,7 @@ fn items_at_once(
 }
 
 // What a list implies about its items, as far as the members before them say.
-fn guess_of(before: &Map<String, Value>) -> Implied {
+fn guess_of<'a>(before: &Map<&'a str, Value<'a>>) -> Implied {
     let (Some(version), Some(kind)) = (before.get("apiVersion"), before.get("kind")) else {
         return Implied::Nothing;
     };
@@ -107,10 +107,11 @@ fn guess_of(before: &Map<String, Value>) -> Implied {
 }
 
 // Whether an object with these members is a list that implies this about its items.
-fn implies(others: Map<String, Value>, guess: Implied) -> bool
-    ensures { IsTrue result → IsListOf guess (object (members_view others.entries)) }
+fn implies<'a>(others: Map<&'a str, Value<'a>>, guess: Implied) -> bool
+    ensures { IsTrue result → IsListOf guess (object (members_view others.entry.entries)) }
 {
-    match list_kind(&Value::Object(others)) {
+    let document = Value::Object(others);
+    match list_kind(&document) {
         Some(implied) => implied == guess,
         None => false,
     }

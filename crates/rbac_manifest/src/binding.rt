@@ -1,7 +1,7 @@
 //! The role that a binding names.
 
 ghost use Rattle.std.specs.Prelude.{◌≡◌};
-ghost use Rattle.serde_json.specs.View.{view};
+ghost use Rattle.json_list.specs.View.{view};
 ghost use Rattle.rbac_manifest.specs.Reads.{Reads, Gives};
 ghost use Rattle.rbac_manifest.specs.Document.{bad_role_ref};
 ghost use Rattle.rbac_manifest.specs.Binding.{is_rbac_group, role_named, role_ref_from};
@@ -10,8 +10,8 @@ ghost use Rattle.rbac_manifest.specs.Binding.{role_ref_at};
 use crate::fault::{Cause, Trouble, read_or};
 use crate::fields::{field, name_of, text_field, word_of};
 use crate::kind::RBAC_GROUP;
+use json_list::Value;
 use rbac_terms::{CLUSTER_ROLE, ROLE, RoleRef};
-use serde_json::Value;
 use std::alloc::Global;
 
 // Whether this is the RBAC group. An empty group counts as the RBAC group.

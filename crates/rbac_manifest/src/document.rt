@@ -1,7 +1,7 @@
 //! What one document gives, or why the document is refused.
 
 ghost use Rattle.std.specs.Prelude.{◌≡◌, Some, IfOk, option_map};
-ghost use Rattle.serde_json.specs.View.{view};
+ghost use Rattle.json_list.specs.View.{view};
 ghost use Rattle.rbac_manifest.specs.Document.{namespace_or_default, role_in, cluster_role_in};
 ghost use Rattle.rbac_manifest.specs.Document.{binding_in, account_from, content_in, fault, stands};
 ghost use Rattle.rbac_manifest.specs.Document.{first_of, binding_refusals, bad_header, bad_body};
@@ -21,10 +21,10 @@ use crate::rule::read_rules;
 use crate::selector::aggregation_of;
 use crate::subject::subjects_of;
 use crate::universe_document::given_lists_of;
+use json_list::Value;
 use rbac_lists::Account;
 use rbac_model::Object;
 use rbac_terms::{Binding, ClusterRole, Role, Word};
-use serde_json::Value;
 use std::alloc::{AllocError, Global};
 
 // The namespace of an object, or `default` if none is given.

@@ -1,9 +1,9 @@
 //! The fields of a JSON value. A field whose value is null counts as missing.
 
-ghost use Rattle.std.specs.Prelude.{◌≡◌, map, option_map, option_and_then, true, false, IfOk};
+ghost use Rattle.std.specs.Prelude.{◌≡◌, map, option_map, option_and_then, true, false, IfOk, []};
 ghost use Rattle.std.specs.Prelude.{IfErr};
 ghost use Rattle.serde_json.specs.Find.{as_str};
-ghost use Rattle.serde_json.specs.View.{view};
+ghost use Rattle.json_list.specs.View.{view};
 ghost use Rattle.rbac_manifest.specs.Fields.{field, is_object, as_list, list_field, texts_field};
 ghost use Rattle.rbac_manifest.specs.Fields.{all_texts, text_at, name_at, flag_at};
 ghost use Rattle.rbac_manifest.specs.Reads.{Reads};
@@ -11,13 +11,13 @@ ghost use Rattle.rbac_manifest.specs.declared.fault.Trouble.TheVariants.{Shape};
 
 use crate::fault::Trouble;
 use crate::listed::all_read;
+use json_list::Value;
 use rbac_terms::{Word, Words};
-use serde_json::Value;
 use std::alloc::{AllocError, Global};
 
 // The member with this name, unless it is null.
 #[tactic(auto, unfolding(crate::specs::Fields::field))]
-pub(crate) fn field<'v>(value: &'v Value, name: &str) -> Option<&'v Value>
+pub(crate) fn field<'v, 't>(value: &'v Value<'t>, name: &str) -> Option<&'v Value<'t>>
     ensures { option_map (λ v. view v.now) result ≡ field name.now (view value.now) }
 {
     match value.get(name) {
@@ -27,7 +27,7 @@ pub(crate) fn field<'v>(value: &'v Value, name: &str) -> Option<&'v Value>
 }
 
 // This value, if it is an object.
-pub(crate) fn object_in(value: &Value) -> Result<&Value, Trouble>
+pub(crate) fn object_in<'v, 't>(value: &'v Value<'t>) -> Result<&'v Value<'t>, Trouble>
     ensures object { IfOk result (λ v. (v.now ≡ value.now) × (is_object (view value.now) ≡ true)) }
     ensures other { IfErr result (λ e. (e ≡ Shape) × (is_object (view value.now) ≡ false)) }
 {
@@ -40,20 +40,27 @@ pub(crate) fn object_in(value: &Value) -> Result<&Value, Trouble>
 
 // The items of a value, if it is a list.
 #[tactic(auto, using(crate::proofs::Elements::elements_of_items), unfolding(crate::specs::Fields::as_list))]
-pub(crate) fn as_list(value: &Value) -> Option<&[Value]>
+pub(crate) fn as_list<'v, 't>(value: &'v Value<'t>) -> Option<&'v [Value<'t>]>
     ensures { option_map (λ vs. map view vs.now) result ≡ as_list (view value.now) }
 {
     Some(value.as_array()?.as_slice())
 }
 
+// An empty list of values like this one.
+fn no_items<'v, 't>(_like: &'v Value<'t>) -> &'v [Value<'t>]
+    ensures { result.now ≡ [] }
+{
+    &[]
+}
+
 // The items of the list in a field; a missing field counts as an empty list.
 #[tactic(auto, unfolding(crate::specs::Fields::list_field))]
-pub(crate) fn list_field<'v>(value: &'v Value, name: &str) -> Option<&'v [Value]>
+pub(crate) fn list_field<'v, 't>(value: &'v Value<'t>, name: &str) -> Option<&'v [Value<'t>]>
     ensures { option_map (λ vs. map view vs.now) result ≡ list_field name.now (view value.now) }
 {
     match field(value, name) {
         Some(list) => as_list(list),
-        None => Some(&[]),
+        None => Some(no_items(value)),
     }
 }
 
@@ -110,7 +117,7 @@ pub(crate) fn text_field<'v>(value: &'v Value, name: &str) -> Option<&'v str>
 
 // The field `name`, if it is a text that isn't empty.
 #[tactic(auto, unfolding(crate::specs::Fields::name_at))]
-pub(crate) fn name_of(value: &Value) -> Option<&str>
+pub(crate) fn name_of<'v>(value: &'v Value) -> Option<&'v str>
     ensures { option_map (λ s. s.now) result ≡ name_at (view value.now) }
 {
     match text_field(value, "name") {

@@ -6,7 +6,7 @@ ghost use Rattle.std.specs.Prelude.{MatchOption, None, Some, false, if◌then◌
 ghost use Rattle.std.specs.Option.{option_to_list};
 ghost use Rattle.serde_json.specs.Data.{item as one_item};
 ghost use Rattle.serde_json.specs.Read.{read};
-ghost use Rattle.serde_json.specs.View.{view, members_view};
+ghost use Rattle.json_list.specs.View.{view, members_view};
 ghost use Rattle.json_list.specs.List.{IsList, items_ahead, with_items};
 ghost use Rattle.rbac_manifest.specs.declared.fault.Cause.TheVariants.{NoMemory, NotJson};
 ghost use Rattle.rbac_manifest.specs.declared.kind.Implied.{Implied};
@@ -21,8 +21,7 @@ use crate::fault::{Cause, Refusal};
 use crate::kind::{Implied, Kind, kind_of};
 use crate::part::Part;
 use json::Scratch;
-use json_list::{Items, OpenList, open_list};
-use serde_json::Value;
+use json_list::{Items, OpenList, Value, open_list};
 use std::alloc::Global;
 
 // Reads the remaining items, so that one that can't be read is reported.
@@ -159,7 +158,8 @@ pub(crate) fn list_into(alloc: Global, text: &str, contents: &mut Contents) -> R
         (λ e. e.cause ≢ NoMemory → refusal_of (read text.now) ≡ Some e) }
 {
     let mut scratch = Scratch::new(alloc);
-    match open_list(alloc, text, &mut scratch)? {
+    let mut aside = Scratch::new(alloc);
+    match open_list(alloc, text, &mut scratch, &mut aside)? {
         Some(list) => {
             open_into(alloc, list, contents)?;
             Ok(true)

@@ -2,7 +2,7 @@
 
 ghost use Rattle.std.specs.Prelude.{◌≡◌, ◌≢◌, IfErr, map, option_map};
 ghost use Rattle.std.specs.List.{list_any};
-ghost use Rattle.serde_json.specs.View.{view};
+ghost use Rattle.json_list.specs.View.{view};
 ghost use Rattle.rbac_manifest.specs.Kinds.{as_reading, kinds_read, is_row, meaning_in};
 ghost use Rattle.rbac_manifest.specs.Kinds.{implied_kind, implied_version, kind_at, asks_version};
 ghost use Rattle.rbac_manifest.specs.Kinds.{needs_version, version_read, version_at, kind_named};
@@ -13,10 +13,10 @@ ghost use Rattle.rbac_manifest.specs.declared.fault.Cause.TheVariants.{NoMemory}
 
 use crate::fault::Cause;
 use crate::fields::field;
+use json_list::Value;
 use rbac_terms::{
     CLUSTER_ROLE, CLUSTER_ROLE_BINDING, NAMESPACE, ROLE, ROLE_BINDING, SERVICE_ACCOUNT,
 };
-use serde_json::Value;
 
 // The RBAC group, followed by `$rest`.
 macro_rules! rbac_group {

@@ -1,13 +1,14 @@
 //! Labels of an object, and the labels that a selector asks for.
 
-ghost use Rattle.serde_json.specs.View.{view};
+ghost use Rattle.json_list.specs.View.{view};
 ghost use Rattle.rbac_manifest.specs.Reads.{Reads};
 ghost use Rattle.rbac_manifest.specs.Label.{label_of, entry_labels, labels_at};
 
 use crate::fault::Trouble;
 use crate::fields::{field, word_of};
+use json_list::Value;
 use rbac_terms::{Labels, Word};
-use serde_json::{Map, Value};
+use serde_json::Map;
 use std::alloc::Global;
 
 // The label that a member gives.
@@ -23,12 +24,12 @@ fn label_of(alloc: Global, key: &str, value: &Value) -> Result<(Word, Word), Tro
 }
 
 // The labels that all members give.
-fn labels_of(alloc: Global, members: &Map<String, Value>) -> Result<Labels, Trouble>
+fn labels_of(alloc: Global, members: &Map<&str, Value>) -> Result<Labels, Trouble>
     ensures { Reads result (entry_labels members.now.entries) }
 {
     let mut labels = Vec::new(alloc);
     for (key, value) in members {
-        labels.push(label_of(alloc, key.as_str(), value)?)?;
+        labels.push(label_of(alloc, *key, value)?)?;
     }
     Ok(Labels::from_vec(labels))
 }

@@ -2,12 +2,12 @@
 
 ghost use Rattle.std.specs.Prelude.{map, Option};
 ghost use Rattle.serde_json.specs.Data.{Data};
-ghost use Rattle.serde_json.specs.View.{view};
+ghost use Rattle.json_list.specs.View.{view};
 ghost use Rattle.rbac_manifest.specs.Reads.{Reads};
 ghost use Rattle.rbac_manifest.specs.Lists.{ReadsAll};
 
 use crate::fault::{ItemFault, Trouble};
-use serde_json::Value;
+use json_list::Value;
 use std::alloc::Global;
 
 // What all items give, each read by `read`. Fails at the first bad one.

@@ -4,7 +4,7 @@ ghost use Rattle.std.specs.Prelude.{◌≡◌, ◌≢◌, ◌≤◌, length, OnO
 ghost use Rattle.std.specs.Prelude.{false, if◌then◌else◌};
 ghost use Rattle.std.specs.Str.{IsUtf8};
 ghost use Rattle.json_list.specs.List.{IsList};
-ghost use Rattle.serde_json.specs.View.{view};
+ghost use Rattle.json_list.specs.View.{view};
 ghost use Rattle.rbac_manifest.specs.declared.fault.Cause.TheVariants.{NotJson, NoMemory};
 ghost use Rattle.rbac_manifest.specs.Load.{json_in, in_file, file_refusal, contents_of_file};
 ghost use Rattle.rbac_manifest.specs.Load.{document_fault, all_contents, too_many, IsLoaded};
@@ -22,13 +22,14 @@ use crate::fault::{Cause, LoadFault, Refusal};
 use crate::item_by_item::list_into;
 use crate::replacement::{Replaced, replaced_of};
 use crate::whole::input_into;
+use json::Scratch;
+use json_list::{ReadFault, Value, read_text};
 use rbac_catalogue::Catalogue;
 use rbac_lists::{Account, GivenLists, lists_of};
 use rbac_model::{Object, Objects, Policy, ResolveFault};
 use rbac_streams::Input;
 use rbac_terms::Word;
 use rbac_universe::UniverseLists;
-use serde_json::Value;
 use simdutf8::basic::from_utf8;
 use std::alloc::{AllocError, Global};
 use std::marker::Model;
@@ -118,15 +119,18 @@ impl Export {
 
 // The JSON value that bytes spell.
 #[tactic(auto, using(crate::proofs::Json::json_in_text, crate::proofs::Json::json_in_none))]
-fn parse(alloc: Global, bytes: &[u8]) -> Result<Value, Cause>
+fn parse<'a>(alloc: Global, bytes: &'a [u8], scratch: &'a mut Scratch) -> Result<Value<'a>, Cause>
     ensures value { IfOk result (λ v. json_in bytes.now ≡ Some (view v)) }
     ensures refused { IfErr result
         (λ e. e ≢ NoMemory → (e ≡ NotJson) × (json_in bytes.now ≡ None)) }
 {
-    match Value::from_slice(alloc, bytes) {
+    let Ok(text) = from_utf8(bytes) else {
+        return Err(Cause::NotJson);
+    };
+    match read_text(alloc, text, scratch) {
         Ok(value) => Ok(value),
-        Err(error) if error.is_memory() => Err(Cause::NoMemory),
-        Err(_) => Err(Cause::NotJson),
+        Err(ReadFault::Refused) => Err(Cause::NotJson),
+        Err(ReadFault::NoMemory) => Err(Cause::NoMemory),
     }
 }
 
@@ -158,7 +162,8 @@ fn file_into(alloc: Global, bytes: &[u8], contents: &mut Contents) -> Result<(),
     if list_in(alloc, bytes, contents)? {
         return Ok(());
     }
-    match parse(alloc, bytes) {
+    let mut scratch = Scratch::new(alloc);
+    match parse(alloc, bytes, &mut scratch) {
         Ok(value) => input_into(alloc, &value, contents),
         Err(cause) => Err(Refusal::whole(cause)),
     }

@@ -1,7 +1,7 @@
 //! The rules of a role.
 
 ghost use Rattle.std.specs.Prelude.{◌≡◌, map, option_map, None, Some, if◌then◌else◌};
-ghost use Rattle.serde_json.specs.View.{view};
+ghost use Rattle.json_list.specs.View.{view};
 ghost use Rattle.rbac_manifest.specs.Reads.{Reads, Loads};
 ghost use Rattle.rbac_manifest.specs.Lists.{bad_place, given_by};
 ghost use Rattle.rbac_manifest.specs.Role.{rules_in};
@@ -12,8 +12,8 @@ ghost use Rattle.rbac_manifest.specs.Rule.{rule_at, rule_in, has_bad_field, is_b
 use crate::fault::{Cause, ItemFault, Trouble};
 use crate::fields::{list_field, object_in, words_field};
 use crate::listed::all_read;
+use json_list::Value;
 use rbac_terms::{Rule, Rules};
-use serde_json::Value;
 use std::alloc::Global;
 
 // Whether a rule has a bad target: it must have a verb, and be for either resources or URLs; names

@@ -1,7 +1,7 @@
 //! The selectors of an aggregated role.
 
 ghost use Rattle.std.specs.Prelude.{◌≡◌, map};
-ghost use Rattle.serde_json.specs.View.{view};
+ghost use Rattle.json_list.specs.View.{view};
 ghost use Rattle.rbac_manifest.specs.Reads.{Reads, Gives};
 ghost use Rattle.rbac_manifest.specs.Document.{bad_selector};
 ghost use Rattle.rbac_manifest.specs.Lists.{all_at};
@@ -13,8 +13,8 @@ use crate::fault::{Cause, Trouble, read_or};
 use crate::fields::{field, list_field, object_in, text_field, word_of, words_field};
 use crate::label::labels_field;
 use crate::listed::all_read;
+use json_list::Value;
 use rbac_terms::{Requirement, Requirements, SelectOp, Selector, Selectors, Words};
-use serde_json::Value;
 use std::alloc::Global;
 
 // The operator with this name, if it takes this many values.

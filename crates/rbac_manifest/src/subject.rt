@@ -1,7 +1,7 @@
 //! The subjects of a binding.
 
 ghost use Rattle.std.specs.Prelude.{◌≡◌, map, option_map, IfOk};
-ghost use Rattle.serde_json.specs.View.{view};
+ghost use Rattle.json_list.specs.View.{view};
 ghost use Rattle.rbac_manifest.specs.Fields.{non_empty};
 ghost use Rattle.rbac_manifest.specs.Reads.{Reads, Loads};
 ghost use Rattle.rbac_manifest.specs.Lists.{bad_place, given_by};
@@ -14,8 +14,8 @@ use crate::binding::is_rbac_group;
 use crate::fault::{Cause, ItemFault, Trouble};
 use crate::fields::{list_field, name_of, object_in, text_field, word_of};
 use crate::listed::all_read;
+use json_list::Value;
 use rbac_terms::{Subject, Subjects, Word};
-use serde_json::Value;
 use std::alloc::{AllocError, Global};
 
 // A text, unless it is empty.

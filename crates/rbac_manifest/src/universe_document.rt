@@ -1,7 +1,7 @@
 //! The lists that a Universe document gives (own).
 
 ghost use Rattle.std.specs.Prelude.{◌≡◌, codes, option_and_then};
-ghost use Rattle.serde_json.specs.View.{view};
+ghost use Rattle.json_list.specs.View.{view};
 ghost use Rattle.rbac_manifest.specs.Fields.{as_list, texts_field};
 ghost use Rattle.rbac_manifest.specs.Reads.{Reads};
 ghost use Rattle.rbac_manifest.specs.Lists.{all_at};
@@ -12,10 +12,10 @@ ghost use Rattle.rbac_manifest.specs.UniverseDocument.{where_given, given_lists_
 use crate::fault::Trouble;
 use crate::fields::{as_list, field, flag_field, word_field, word_of, words_field, words_in};
 use crate::listed::all_read;
+use json_list::Value;
 use rbac_lists::GivenLists;
 use rbac_terms::{ModelFault, Principal, Words};
 use rbac_universe::{ListedResource, ListedResources, Principals};
-use serde_json::Value;
 use std::alloc::Global;
 
 // Why a principal is refused: its name has the wrong shape, or memory ran out.

@@ -2,7 +2,7 @@
 //! item by item, since it has `items` twice or not as a list.
 
 ghost use Rattle.std.specs.Prelude.{◌≡◌, ◌≢◌, map, OnOk, IfErr, None, Some};
-ghost use Rattle.serde_json.specs.View.{view};
+ghost use Rattle.json_list.specs.View.{view};
 ghost use Rattle.rbac_manifest.specs.declared.fault.Cause.TheVariants.{NoMemory};
 ghost use Rattle.rbac_manifest.specs.Contents.{with_contents};
 ghost use Rattle.rbac_manifest.specs.Load.{first_refusal, contents_of_items, refusal_in};
@@ -14,7 +14,7 @@ use crate::fault::{Cause, Refusal};
 use crate::fields::list_field;
 use crate::item_by_item::{document_into, list_kind};
 use crate::kind::Implied;
-use serde_json::Value;
+use json_list::Value;
 use std::alloc::Global;
 
 // Adds what the items of a list give to `contents`. Fails at the first item with a fault.

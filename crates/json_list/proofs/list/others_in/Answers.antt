@@ -1,7 +1,7 @@
 use Rattle.std.proofs.Common.{◌≡◌, ◌∷◌, [], subst, arith, rules}
 use Rattle.json.specs.Lex.{tokens}
 use Rattle.json.specs.Token.{Token}
-use Rattle.serde_json.specs.View.{members_view}
+use Rattle.json_list.specs.View.{members_view}
 use Rattle.json_list.specs.Places.{HasOneList, AreOthers}
 use Rattle.json_list.proofs.Whole.{no_object, no_list, refused, text_after, others_of}
 use Rattle.json_list.proofs.list.others_in.Goals as goal

@@ -1,8 +1,8 @@
-use Rattle.std.proofs.Common.{◌≡◌, Some, None, string_bytes, bytes_eq, true, false, sym, ap, ◌∙◌, subst, arith, rules}
+use Rattle.std.proofs.Common.{◌≡◌, Some, None, bytes_eq, true, false, sym, ap, ◌∙◌, subst, arith}
 use Rattle.json.specs.Json.{read_key}
 use Rattle.serde_json.specs.Data.{put}
-use Rattle.serde_json.specs.View.{view, members_view}
-use Rattle.serde_json.proofs.Views.{members_view-insert_entry}
+use Rattle.json_list.specs.View.{view, members_view}
+use Rattle.json_list.proofs.Views.{members_view-insert_entry}
 use Rattle.json_list.specs.List.{items_name}
 use Rattle.json_list.proofs.Others.{Gathers, begun, key_refused, one_other, other_refused, items_refused, first_items, second_items, no_list, gathered}
 use Rattle.json_list.proofs.list.read_others.Goals as goal
@@ -35,9 +35,8 @@ members-preserved c =
     let v = c.in_ok-member.member in
     let key : read_key l.reader ≡ Some (Some k, s) = grind arith in
     let other : bytes_eq k items_name ≡ false = sym c.if-eq.ensures in
-    let copied : string_bytes c.in_ok-key.key ≡ k = search rules in
     let inserted : members_view c.insert.new.self.entries ≡ put k (view v) old =
-    ap members_view c.in_ok-insert.ensures.entries ∙ members_view-insert_entry l.others.entries c.in_ok-key.key v ∙ ap (λ name. put name (view v) old) copied in
+    ap members_view c.in_ok-insert.ensures.entries ∙ members_view-insert_entry l.others.entries c.in-Some.name v in
     subst (Gathers l.has_items c.args.reader.now r) (sym inserted)
     (one_other c.args.reader.now l.reader old k s key l.has_items (view v) r l.invariant other c.in_ok-member.ensures.read c.in_ok-member.ensures.shorter)
 
@@ -80,8 +79,8 @@ returns-then-has_items-2-clause-others c =
     let over : read_key l.reader ≡ Some (None, r) = grind arith in
     gathered c.args.reader.now l.reader r others (subst (λ b. Gathers b c.args.reader.now l.reader others) c.if-has_items-2.true l.invariant) over
 
-pub returns-else-has_items-2-clause-others : goal.returns-else-has_items-2-clause-others
-returns-else-has_items-2-clause-others c =
+pub returns-clause-others : goal.returns-clause-others
+returns-clause-others c =
     let l = c.members in
     let r = c.next_key.new.self in
     let others = members_view l.others.entries in

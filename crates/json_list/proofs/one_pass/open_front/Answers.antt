@@ -1,7 +1,7 @@
 use Rattle.std.proofs.Common.{◌≡◌, ◌∷◌, arith}
 use Rattle.json.specs.Lex.{tokens}
 use Rattle.json.specs.Token.{Token}
-use Rattle.serde_json.specs.View.{members_view}
+use Rattle.json_list.specs.View.{members_view}
 use Rattle.json_list.specs.Places.{AreBefore, HasOneList}
 use Rattle.json_list.proofs.Whole.{read_up_to, no_object, no_list, refused}
 use Rattle.json_list.proofs.one_pass.open_front.Goals as goal

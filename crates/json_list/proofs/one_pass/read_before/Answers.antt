@@ -1,8 +1,8 @@
-use Rattle.std.proofs.Common.{◌≡◌, Some, None, string_bytes, bytes_eq, true, false, sym, ap, ◌∙◌, subst, arith, rules}
+use Rattle.std.proofs.Common.{◌≡◌, Some, None, bytes_eq, true, false, sym, ap, ◌∙◌, subst, arith}
 use Rattle.json.specs.Json.{read_key}
 use Rattle.serde_json.specs.Data.{no_members, put}
-use Rattle.serde_json.specs.View.{view, members_view}
-use Rattle.serde_json.proofs.Views.{members_view-insert_entry}
+use Rattle.json_list.specs.View.{view, members_view}
+use Rattle.json_list.proofs.Views.{members_view-insert_entry}
 use Rattle.json_list.specs.List.{items_name}
 use Rattle.json_list.proofs.Others.{key_refused, other_refused}
 use Rattle.json_list.proofs.Walks.{found, none_left}
@@ -24,9 +24,8 @@ members-preserved c =
     let v = c.in_ok-member.member in
     let key : read_key l.reader ≡ Some (Some k, s) = grind arith in
     let other : bytes_eq k items_name ≡ false = sym c.if-eq.ensures in
-    let copied : string_bytes c.in_ok-key.key ≡ k = search rules in
     let inserted : members_view c.insert.new.self.entries ≡ put k (view v) old =
-    ap members_view c.in_ok-insert.ensures.entries ∙ members_view-insert_entry l.before.entries c.in_ok-key.key v ∙ ap (λ name. put name (view v) old) copied in
+    ap members_view c.in_ok-insert.ensures.entries ∙ members_view-insert_entry l.before.entries c.in-Some.name v in
     subst (Adds no_members c.args.reader.now r) (sym inserted)
     (added no_members c.args.reader.now l.reader old l.invariant k s key other (view v) r c.in_ok-member.ensures.read c.in_ok-member.ensures.shorter)
 

@@ -1,8 +1,8 @@
-use Rattle.std.proofs.Common.{◌≡◌, [], Some, None, string_bytes, bytes_eq, true, false, sym, ap, ◌∙◌, subst, arith, rules}
+use Rattle.std.proofs.Common.{◌≡◌, [], Some, None, bytes_eq, true, false, sym, ap, ◌∙◌, subst, arith, rules}
 use Rattle.json.specs.Json.{read_key}
 use Rattle.serde_json.specs.Data.{put}
-use Rattle.serde_json.specs.View.{view, members_view}
-use Rattle.serde_json.proofs.Views.{members_view-insert_entry}
+use Rattle.json_list.specs.View.{view, members_view}
+use Rattle.json_list.proofs.Views.{members_view-insert_entry}
 use Rattle.json_list.specs.List.{items_name}
 use Rattle.json_list.proofs.OnePass.{Adds, begun, added, are_the_rest, items_again, bad_member, bad_key, text_goes_on}
 use Rattle.json_list.proofs.one_pass.read_rest.Goals as goal
@@ -21,9 +21,8 @@ members-preserved c =
     let v = c.in_ok-member.member in
     let key : read_key l.reader ≡ Some (Some k, s) = grind arith in
     let other : bytes_eq k items_name ≡ false = sym c.if-eq.ensures in
-    let copied : string_bytes c.in_ok-key.key ≡ k = search rules in
     let inserted : members_view c.insert.new.self.entries ≡ put k (view v) old =
-    ap members_view c.in_ok-insert.ensures.entries ∙ members_view-insert_entry l.others.entries c.in_ok-key.key v ∙ ap (λ name. put name (view v) old) copied in
+    ap members_view c.in_ok-insert.ensures.entries ∙ members_view-insert_entry l.others.entries c.in-Some.name v in
     subst (Adds start c.args.reader.now r) (sym inserted)
     (added start c.args.reader.now l.reader old l.invariant k s key other (view v) r c.in_ok-member.ensures.read c.in_ok-member.ensures.shorter)
 

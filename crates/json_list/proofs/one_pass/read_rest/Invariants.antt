@@ -1,5 +1,5 @@
 use Rattle.std.proofs.Common.{length}
-use Rattle.serde_json.specs.View.{members_view}
+use Rattle.json_list.specs.View.{members_view}
 use Rattle.json_list.proofs.OnePass.{Adds}
 use Rattle.json_list.proofs.one_pass.read_rest.Given as goal
 

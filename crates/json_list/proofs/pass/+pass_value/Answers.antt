@@ -3,8 +3,8 @@ use Rattle.json.specs.Token.{Token}
 use Rattle.json.specs.Reads.{token_of}
 use Rattle.json.specs.Json.{after_end_array, read_key}
 use Rattle.json.proofs.Grammar.{read_key-shorter}
-use Rattle.serde_json.specs.Data.{null, boolean, string, no_members, put}
-use Rattle.serde_json.specs.View.{view, items_of}
+use Rattle.serde_json.specs.Data.{null, boolean, number, string, no_members, put}
+use Rattle.serde_json.specs.View.{number_view, items_of}
 use Rattle.json_list.specs.Values.{value_read}
 use Rattle.json_list.proofs.Values.{items_over, item_found, item_refused, members_begin, members_over, key_refused, member_found, member_refused, array_read, object_read, arrays, objects, no_array_read, no_object_read, null_read, boolean_read, string_read, number_is, number_refused, end_array_refused, end_object_refused, key_first_refused, bad_refused, nothing_refused, array_passed, object_passed}
 use Rattle.json_list.proofs.pass.+pass_value.Goals as goal
@@ -98,9 +98,9 @@ pub pass_value-returns-in_ok-_number-in-Number-clause-read : goal.pass_value-ret
 pass_value-returns-in_ok-_number-in-Number-clause-read t c =
     let new = c.next.new.self in
     let s = c.in-Number.text.now in
-    let d = view c.in_ok-_number-in-Number._number in
+    let n = number_view c.in_ok-_number-in-Number._number in
     let first : c.args.reader.now ≡ Token.number s ∷ new = c.in-Some.ensures.value ∙ ap (λ k. token_of k ∷ new) c.in-Number.is in
-    (d, number_is c.args.depth c.args.reader.now new s first d c.in_ok-_number-in-Number.ensures.read)
+    (number n, number_is c.args.depth c.args.reader.now new s first n c.in_ok-_number-in-Number.ensures.read)
 
 pub pass_value-returns-in_err-_number-in-Number-clause-refused : goal.pass_value-returns-in_err-_number-in-Number-clause-refused
 pass_value-returns-in_err-_number-in-Number-clause-refused t c refusal =

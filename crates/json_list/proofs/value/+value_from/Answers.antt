@@ -1,16 +1,17 @@
-use Rattle.std.proofs.Common.{◌≡◌, ◌<◌, ◌∷◌, ◌++◌, [], length, map, Some, None, string_bytes, sym, ap, ◌∙◌, arith, rules}
+use Rattle.std.proofs.Common.{◌≡◌, ◌<◌, ◌∷◌, ◌++◌, [], length, map, Some, None, sym, ap, ◌∙◌, arith}
 use Rattle.std.proofs.lemmas.List.{map-append}
 use Rattle.json.specs.Token.{Token}
 use Rattle.json.specs.Reads.{token_of}
 use Rattle.json.specs.Json.{after_end_array, read_key}
 use Rattle.json.proofs.Grammar.{read_key-shorter}
-use Rattle.serde_json.specs.Data.{null, boolean, string, array, object, no_members, put}
-use Rattle.serde_json.specs.View.{view, members_view, items_of}
-use Rattle.serde_json.proofs.Views.{members_view-insert_entry, view-Array, view-Object}
+use Rattle.serde_json.specs.Data.{null, boolean, number, string, array, object, no_members, put}
+use Rattle.serde_json.specs.View.{number_view, items_of}
 use Rattle.json_list.specs.Lean.{lean, lean_members}
 use Rattle.json_list.specs.Values.{value_read}
+use Rattle.json_list.specs.View.{view, members_view}
 use Rattle.json_list.proofs.Lean.{order_put, left_out, put_in, lean_of}
-use Rattle.json_list.proofs.Values.{items_begin, items_over, item_found, item_refused, members_begin, members_over, key_refused, member_found, member_refused, array_read, object_read, arrays, objects, no_array_read, no_object_read, null_read, boolean_read, string_read, number_found, number_refused, end_array_refused, end_object_refused, key_first_refused, bad_refused, nothing_refused, seen_null, seen_boolean, seen_string}
+use Rattle.json_list.proofs.Values.{items_begin, items_over, item_found, item_refused, members_begin, members_over, key_refused, member_found, member_refused, array_read, object_read, arrays, objects, no_array_read, no_object_read, null_read, boolean_read, string_read, number_is, number_refused, end_array_refused, end_object_refused, key_first_refused, bad_refused, nothing_refused, seen_null, seen_boolean, seen_number, seen_string}
+use Rattle.json_list.proofs.Views.{members_view-insert_entry, view-Array, view-Object}
 use Rattle.json_list.proofs.value.+value_from.Goals as goal
 
 -- ---- items
@@ -89,9 +90,8 @@ members_from-members-preserved-in-Some-under g t c =
     let d = read.0 in
     let key : read_key l.reader ≡ Some (Some k, s) = grind arith in
     let is_kept : under kept k ≡ Some inner = sym c.in-Some-under.ensures in
-    let copied : string_bytes c.in_ok-name-in-Some-under.name ≡ k = search rules in
     let inserted : members_view c.insert.new.self.entries ≡ put k (view v) (members_view l.found.entries) =
-    ap members_view c.in_ok-insert-in-Some-under.ensures.entries ∙ members_view-insert_entry l.found.entries c.in_ok-name-in-Some-under.name v ∙ ap (λ name. put name (view v) (members_view l.found.entries)) copied in (
+    ap members_view c.in_ok-insert-in-Some-under.ensures.entries ∙ members_view-insert_entry l.found.entries c.in-Some.key v in (
       (
         put k d ms,
         member_found c.args.depth c.args.reader.now ms l.reader l.invariant.0.1 k s key d r read.1 less,
@@ -154,28 +154,27 @@ value_from-returns-in-Bool-clause-read g t c =
     let first : c.args.reader.now ≡ Token.boolean b ∷ new = c.in-Some.ensures.value ∙ ap (λ k. token_of k ∷ new) c.in-Bool.is in
     (boolean b, boolean_read c.args.depth c.args.reader.now new b first, seen_boolean b)
 
-pub value_from-returns-in-Number-clause-read : goal.value_from-returns-in-Number-clause-read
-value_from-returns-in-Number-clause-read g t c =
+pub value_from-returns-in_ok-number_of-in-Number-clause-read : goal.value_from-returns-in_ok-number_of-in-Number-clause-read
+value_from-returns-in_ok-number_of-in-Number-clause-read g t c =
+    let new = c.next.new.self in
+    let s = c.in-Number.text.now in
+    let x = c.in_ok-number_of-in-Number.field-0 in
+    let first : c.args.reader.now ≡ Token.number s ∷ new = c.in-Some.ensures.value ∙ ap (λ k. token_of k ∷ new) c.in-Number.is in
+    (number (number_view x), number_is c.args.depth c.args.reader.now new s first (number_view x) c.in_ok-number_of-in-Number.ensures.read, seen_number x)
+
+pub value_from-returns-in_err-number_of-in-Number-clause-refused : goal.value_from-returns-in_err-number_of-in-Number-clause-refused
+value_from-returns-in_err-number_of-in-Number-clause-refused g t c refusal =
     let new = c.next.new.self in
     let s = c.in-Number.text.now in
     let first : c.args.reader.now ≡ Token.number s ∷ new = c.in-Some.ensures.value ∙ ap (λ k. token_of k ∷ new) c.in-Number.is in
-    number_found g.K.Kept.under c.args.kept c.args.depth c.args.reader.now new s first c.number_of.result c.number_of.ensures.read
+    number_refused c.args.depth c.args.reader.now new s first (c.in_err-number_of-in-Number.ensures.refused (grind arith))
 
-pub value_from-returns-in-Number-clause-refused : goal.value_from-returns-in-Number-clause-refused
-value_from-returns-in-Number-clause-refused g t c refusal =
+pub value_from-returns-in-String-clause-read : goal.value_from-returns-in-String-clause-read
+value_from-returns-in-String-clause-read g t c =
     let new = c.next.new.self in
-    let s = c.in-Number.text.now in
-    let first : c.args.reader.now ≡ Token.number s ∷ new = c.in-Some.ensures.value ∙ ap (λ k. token_of k ∷ new) c.in-Number.is in
-    number_refused c.args.depth c.args.reader.now new s first (c.number_of.ensures.refused refusal)
-
-pub value_from-returns-in_ok-from_str-in-String-clause-read : goal.value_from-returns-in_ok-from_str-in-String-clause-read
-value_from-returns-in_ok-from_str-in-String-clause-read g t c =
-    let new = c.next.new.self in
-    let s = c.in-String.text.now in
-    let copy = c.in_ok-from_str-in-String.field-0 in
-    let first : c.args.reader.now ≡ Token.string s ∷ new = c.in-Some.ensures.value ∙ ap (λ k. token_of k ∷ new) c.in-String.is in
-    let copied : string_bytes copy ≡ s = search rules in
-    (string s, string_read c.args.depth c.args.reader.now new s first, seen_string copy ∙ ap string copied)
+    let text = c.in-String.text in
+    let first : c.args.reader.now ≡ Token.string text.now ∷ new = c.in-Some.ensures.value ∙ ap (λ k. token_of k ∷ new) c.in-String.is in
+    (string text.now, string_read c.args.depth c.args.reader.now new text.now first, seen_string text)
 
 -- ---- arrays
 

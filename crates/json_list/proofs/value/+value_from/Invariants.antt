@@ -1,6 +1,6 @@
 use Rattle.std.proofs.Common.{◌≡◌, ◌+◌, ◌*◌, ◌≤◌, List, length, map}
 use Rattle.serde_json.specs.Data.{Data, Members}
-use Rattle.serde_json.specs.View.{view, members_view}
+use Rattle.json_list.specs.View.{view, members_view}
 use Rattle.json_list.specs.Lean.{lean, lean_members}
 use Rattle.json_list.proofs.Lean.{InOrder}
 use Rattle.json_list.proofs.Values.{ItemsCome, MembersCome}

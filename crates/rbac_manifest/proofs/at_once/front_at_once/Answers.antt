@@ -1,6 +1,6 @@
 use Rattle.std.proofs.Common.{sym, ap, ◌∙◌}
 use Rattle.serde_json.specs.Data.{object}
-use Rattle.serde_json.specs.View.{members_view}
+use Rattle.json_list.specs.View.{members_view}
 use Rattle.json_list.specs.OnePass.{AreTheRest}
 use Rattle.rbac_manifest.specs.Contents.{with_contents}
 use Rattle.rbac_manifest.specs.ItemsAhead.{IsListOf}

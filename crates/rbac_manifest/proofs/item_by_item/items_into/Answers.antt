@@ -1,6 +1,6 @@
 use Rattle.std.proofs.Common.{◌≡◌, ◌≢◌, option_map, Some, sym, ap, ◌∙◌, rules}
 use Rattle.serde_json.specs.Data.{no_items, item as one_item}
-use Rattle.serde_json.specs.View.{view}
+use Rattle.json_list.specs.View.{view}
 use Rattle.json_list.specs.List.{items_ahead}
 use Rattle.std.specs.Option.{option_to_list}
 use Rattle.rbac_manifest.specs.Contents.{with_contents}

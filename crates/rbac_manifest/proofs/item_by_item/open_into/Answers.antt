@@ -1,8 +1,8 @@
 use Rattle.std.proofs.Common.{◌≡◌, ◌≢◌, Some, None, option_map, IsSome, IfErr, sym, ap, ◌∙◌, subst}
 use Rattle.std.specs.Option.{option_to_list}
 use Rattle.serde_json.specs.Data.{object}
-use Rattle.serde_json.specs.View.{members_view}
-use Rattle.serde_json.proofs.Views.{view-Object}
+use Rattle.json_list.specs.View.{members_view}
+use Rattle.json_list.proofs.Views.{view-Object}
 use Rattle.json_list.specs.List.{items_ahead}
 use Rattle.rbac_manifest.specs.declared.fault.Cause.TheVariants.{NoMemory}
 use Rattle.rbac_manifest.specs.declared.kind.Implied.TheVariants as lists

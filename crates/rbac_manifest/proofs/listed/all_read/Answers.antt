@@ -1,7 +1,7 @@
 use Rattle.std.proofs.Common.{◌≡◌, arith, [], ◌++◌, map, drop, Some, sym, ap, ◌∙◌}
 use Rattle.std.proofs.lemmas.List.{append-nil}
 use Rattle.std.proofs.lemmas.Grind.{common_steps}
-use Rattle.serde_json.specs.View.{view}
+use Rattle.json_list.specs.View.{view}
 use Rattle.rbac_manifest.specs.Lists.{all_at, bad_place, given_by}
 use Rattle.rbac_manifest.proofs.Texts.{with_prefix}
 use Rattle.rbac_manifest.proofs.listed.all_read.Goals as goal

@@ -1,5 +1,5 @@
 use Rattle.std.proofs.Common.{◌≡◌, ◌++◌, map, drop}
-use Rattle.serde_json.specs.View.{view}
+use Rattle.json_list.specs.View.{view}
 use Rattle.rbac_manifest.specs.Lists.{all_at, bad_place, given_by}
 use Rattle.rbac_manifest.proofs.Texts.{with_prefix}
 use Rattle.rbac_manifest.proofs.listed.all_read.Given as goal

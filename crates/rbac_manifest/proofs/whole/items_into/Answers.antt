@@ -1,6 +1,6 @@
 use Rattle.std.proofs.Common.{arith, [], map, sym, ap, ◌∙◌}
 use Rattle.std.proofs.lemmas.Grind.{common_steps}
-use Rattle.serde_json.specs.View.{view}
+use Rattle.json_list.specs.View.{view}
 use Rattle.rbac_manifest.specs.Load.{first_refusal, contents_of_items}
 use Rattle.rbac_manifest.proofs.ContentsLemmas.{contents_all, contents_more}
 use Rattle.rbac_manifest.proofs.whole.items_into.Goals as goal

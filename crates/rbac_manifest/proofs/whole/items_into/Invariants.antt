@@ -1,5 +1,5 @@
 use Rattle.std.proofs.Common.{◌≡◌, map, drop}
-use Rattle.serde_json.specs.View.{view}
+use Rattle.json_list.specs.View.{view}
 use Rattle.rbac_manifest.specs.Contents.{with_contents}
 use Rattle.rbac_manifest.specs.Load.{first_refusal, contents_of_items}
 use Rattle.rbac_manifest.proofs.whole.items_into.Given as goal
