@@ -1,5 +1,5 @@
-//! A large JSON list, read item by item, so that only one item's value is in memory at a time. A
-//! text means what `serde_json` reads it as.
+//! JSON values that borrow their texts, and large JSON lists, read item by item, so that only one
+//! item's value is in memory at a time. A text means what `serde_json` reads it as.
 #![tactic(auto)]
 
 mod fault;
