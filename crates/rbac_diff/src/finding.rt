@@ -1,12 +1,15 @@
 //! The permissions that one policy has and another one doesn't allow.
 
-ghost use Rattle.std.specs.Prelude.{◌≡◌, ◌<◌, OnOk, Some, Contains, Any, length, slice_get};
+ghost use Rattle.std.specs.Prelude.{◌≡◌, ◌<◌, IfOk, IsTrue, OnOk, Some, Contains, Any, length};
+ghost use Rattle.std.specs.Prelude.{slice_get};
 ghost use Rattle.std.specs.Option.{option_copied};
 ghost use Rattle.rbac_model.specs.Policies.{IsPolicy};
 ghost use Rattle.rbac_diff.specs.Finding.{Finds, FindsGained, IsByGrants, IsByRule, IsGainedAt};
 ghost use Rattle.rbac_diff.specs.Finding.{IsOnResource, IsOnTarget, IsOnUrl, SearchFinds};
 ghost use Rattle.rbac_diff.specs.Shown.{permitted_of};
+ghost use Rattle.rbac_diff.specs.Unchanged.{HasSameGrants};
 
+use crate::alike::Alike;
 use crate::change::{ChangeKind, Findings, Found};
 use crate::covering::{is_asked_for, is_covered};
 use crate::fault::DiffFault;
@@ -37,15 +40,38 @@ pub(crate) fn add_gained<'p>(
     let bindings: &'p [Binding] = after.bindings();
     let others = before.bindings();
     let asked = Asked::of(alloc, Index::build(alloc, before)?)?;
+    let alike = Alike::of(alloc, others)?;
     let mut at = 0;
     for (place, binding) in bindings.iter().enumerate() {
         at = place_from(others, at, binding);
-        if !is_unchanged(after, place, before, at) {
+        if !is_known(alloc, after, place, before, at, &alike)? {
             let found = Found { kind, binding };
             add_of_binding(alloc, &asked, after, place, found, findings)?;
         }
     }
     Ok(())
+}
+
+// Whether the other policy has a binding that grants the same as this one's: at that place, where
+// one of its name would stand, or where one stands that says the same under another name.
+fn is_known(
+    alloc: Global,
+    own: &Policy,
+    place: usize,
+    other: &Policy,
+    at: usize,
+    alike: &Alike,
+) -> Result<bool, AllocError>
+    requires { place < length own.now.held.bindings }
+    ensures { IfOk result (λ known. IsTrue known → HasSameGrants own.now place other.now) }
+{
+    if is_unchanged(own, place, other, at) {
+        return Ok(true);
+    }
+    match alike.place_of(alloc, &own.bindings()[place])? {
+        Some(at) => Ok(is_unchanged(own, place, other, at)),
+        None => Ok(false),
+    }
 }
 
 // Adds the permissions of the binding at this place that the policy asked doesn't allow.

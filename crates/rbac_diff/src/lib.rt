@@ -2,6 +2,7 @@
 //! that there can be.
 #![tactic(auto)]
 
+mod alike;
 mod change;
 mod covering;
 mod fault;
