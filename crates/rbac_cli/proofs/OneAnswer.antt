@@ -32,7 +32,7 @@ use Rattle.rbac_question.specs.declared.command.Action.TheVariants.{CanI, WhoCan
 use Rattle.rbac_question.specs.declared.command.Question.{Question}
 use Rattle.rbac_cli.specs.HolderLines.{AreHolderLines, joined}
 use Rattle.rbac_cli.specs.Out.{Answers, IsAllowed, IsDenied, rules_text, scope_asked, findings_text, findings_status, changes_text, changes_status, line_unless}
-use Rattle.rbac_cli.specs.Listings.{AreListed}
+use Rattle.rbac_cli.specs.MatrixPage.{AreListed}
 use Rattle.rbac_cli.specs.Meant.{IsWhereMeant}
 use Rattle.rbac_cli.specs.declared.exports.Exports.{Exports}
 use Rattle.rbac_cli.specs.declared.exports.Exports.TheVariants.{Single, Pair}
@@ -41,7 +41,7 @@ use Rattle.rbac_matrix.specs.Every.{IsEvery, IsEveryRow, every_name}
 use Rattle.rbac_matrix.proofs.OneMatrix.{key_name, by_keys}
 use Rattle.rbac_rules.proofs.RuleLists.{one_list as one_rules}
 use Rattle.rbac_cli.proofs.OneHolderLines.{one_holder_lines}
-use Rattle.rbac_cli.proofs.OneListing.{Line, line_of, one_listing}
+use Rattle.rbac_cli.proofs.OneMatrixText.{Line, line_of, one_matrix_text}
 use Rattle.rbac_cli.proofs.OneMeant.{one_meant, one_target, one_where}
 use Rattle.rbac_cli.proofs.OneReason.{one_reason}
 
@@ -249,7 +249,7 @@ one_answer (Single l) (WhoCan why every anywhere q) text other status ending a b
 one_answer (Single l) (Rules who scope) text other status ending (xs, are, e, s) (ys, those, f, t) =
     (e ∙ ap rules_text (one_rules who (scope_asked scope) l.policy.grants xs ys are those) ∙ sym f, s ∙ sym t)
 one_answer (Single l) (Matrix every after limit) text other status ending (u, rows, m, x, e, s) (v, others, n, y, f, t) = (
-  e ∙ one_listing every after limit rows others (one_listed_lines every l.policy.held l.lists u v rows others m.sets n.sets x y) ∙ sym f,
+  e ∙ one_matrix_text every after limit rows others (one_listed_lines every l.policy.held l.lists u v rows others m.sets n.sets x y) ∙ sym f,
   s ∙ sym t,
 )
 one_answer (Single l) Lint text other status ending (found, are, e, s) (others, these, f, t) =

@@ -14,11 +14,11 @@ use Rattle.rbac_token.specs.declared.mark.Mark.{Mark}
 use Rattle.rbac_matrix.specs.Every.{name_of}
 use Rattle.rbac_matrix.specs.RowTexts.{Shows, texts_shown}
 use Rattle.rbac_matrix.specs.declared.row.Row.{Row}
-use Rattle.rbac_cli.specs.Left.{AreLeftIn, GivesFirst, is_every}
-use Rattle.rbac_cli.specs.Listings.{cut_at, last_words, mark_after, rows_text}
+use Rattle.rbac_cli.specs.RowsLeft.{AreLeftIn, GivesFirst, is_every}
+use Rattle.rbac_cli.specs.MatrixPage.{cut_at, last_words, mark_after, rows_text}
 use Rattle.rbac_cli.specs.PageLeft.{IsRestOfPage, text_after}
 use Rattle.rbac_cli.specs.ShownTokens.{mark_shown}
-use Rattle.rbac_cli.specs.declared.listing.Listing.{Listing}
+use Rattle.rbac_cli.specs.declared.rows_left.RowsLeft.{RowsLeft}
 use Rattle.rbac_cli.specs.declared.pages.PageLines.{PageLines}
 
 -- what the comparison with no rows left says
@@ -49,15 +49,15 @@ same_mark true r row shows = ap₂ (λ (k : KeyTexts) (b : Binding). let m : Mar
 
 module _ (page : PageLines) (text : Text) (h : IsRestOfPage page text) where
   abbrev every : Bool
-  every = is_every page.listing
+  every = is_every page.left
 
-  module _ (t : Listing) (r : Row) (gives : GivesFirst page.listing r t) where
+  module _ (t : RowsLeft) (r : Row) (gives : GivesFirst page.left r t) where
     others : (others : List RowView) × (h.1 ≡ gives.0 ∷ others) × AreLeftIn t others
     others = gives.2 h.1 h.3
 
     -- a row is left, and the limit leaves it
     pub goes_on : page.limit ≢ Some 0 → is_every t ≡ every
-        → (rest : Text) × (text ≡ row_text (texts_shown r) r.binding.now ++ rest) × IsRestOfPage (record page { listing = t; limit = one_less page.limit; last = Some r }) rest
+        → (rest : Text) × (text ≡ row_text (texts_shown r) r.binding.now ++ rest) × IsRestOfPage (record page { left = t; limit = one_less page.limit; last = Some r }) rest
     goes_on some same =
         let cut = cut_at (one_less page.limit) others.0 in
         let words = last_words every (last_or (Some gives.0) cut.0) cut.1 in

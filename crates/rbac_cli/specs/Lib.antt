@@ -1,13 +1,13 @@
 pub mod Ends
 pub mod Exports
 pub mod HolderLines
-pub mod Left
-pub mod Listings
+pub mod MatrixPage
 pub mod Meant
 pub mod Out
 pub mod PageLeft
 pub mod PlusLines
 pub mod Printing
+pub mod RowsLeft
 pub mod RunTexts
 pub mod ShownTokens
 pub mod Verdicts

@@ -28,7 +28,7 @@ use Rattle.rbac_index.specs.WhoCan.{WhereView, AreListedHolders}
 use Rattle.rbac_cli.specs.HolderLines.{AreHolderLines, joined}
 use Rattle.rbac_cli.specs.declared.exports.Exports.{Exports}
 use Rattle.rbac_cli.specs.declared.exports.Exports.TheVariants.{Single, Pair}
-use Rattle.rbac_cli.specs.Listings.{AreListed, listing_text}
+use Rattle.rbac_cli.specs.MatrixPage.{AreListed, matrix_text}
 use Rattle.rbac_cli.specs.Meant.{IsMeant, IsTargetMeant, IsWhereMeant}
 use Rattle.rbac_cli.specs.declared.outcome.Status.{Status}
 use Rattle.rbac_cli.specs.declared.outcome.Status.TheVariants.{Zero, One}
@@ -129,7 +129,7 @@ Answers (Single l) (Rules who scope) text status =
 Answers (Single l) (Matrix every after limit) text status =
     (u : UniverseView) × (rows : List RowView) × IsUniverseOf l.lists u
     × AreListed every l.policy.held u rows
-    × (text ≡ listing_text every after limit rows) × (status ≡ Zero)
+    × (text ≡ matrix_text every after limit rows) × (status ≡ Zero)
 Answers (Single l) Lint text status =
     (found : List Finding) × AreFindings l.policy.held l.replaced found
     × (text ≡ findings_text found) × (status ≡ findings_status found)

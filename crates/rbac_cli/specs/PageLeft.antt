@@ -5,8 +5,8 @@ use Rattle.std.specs.Option.{option_map}
 use Rattle.rbac_terms.specs.Text.{Text}
 use Rattle.rbac_model.specs.Universes.{RowView}
 use Rattle.rbac_text.specs.Row.{newline}
-use Rattle.rbac_cli.specs.Left.{AreLeftIn, is_every, most_left}
-use Rattle.rbac_cli.specs.Listings.{cut_at, last_words, mark_after, rows_text}
+use Rattle.rbac_cli.specs.RowsLeft.{AreLeftIn, is_every, most_left}
+use Rattle.rbac_cli.specs.MatrixPage.{cut_at, last_words, mark_after, rows_text}
 use Rattle.rbac_cli.specs.ShownTokens.{mark_shown}
 use Rattle.rbac_cli.specs.declared.pages.PageLines.{PageLines}
 
@@ -18,15 +18,15 @@ text_after every row p =
 -- the row that was printed last has the mark of this one
 abbrev pub IsPrintedLast : PageLines → Option RowView → Type 0
 IsPrintedLast page row =
-    option_map (mark_shown (is_every page.listing)) page.last
-    ≡ option_map (mark_after (is_every page.listing)) row
+    option_map (mark_shown (is_every page.left)) page.last
+    ≡ option_map (mark_after (is_every page.left)) row
 
--- before the last line: of the listing's rows those that the limit leaves, and the last line
+-- before the last line: of the rows that are left those that the limit leaves, and the last line
 abbrev pub IsRestOfPage : PageLines → Text → Type 0
 IsRestOfPage page text =
     (row : Option RowView) × (rows : List RowView) × IsPrintedLast page row
-    × AreLeftIn page.listing rows
-    × (text ≡ text_after (is_every page.listing) row (cut_at page.limit rows))
+    × AreLeftIn page.left rows
+    × (text ≡ text_after (is_every page.left) row (cut_at page.limit rows))
 
 -- these lines are left: none after the last
 abbrev pub is_left : Bool → PageLines → Text → Type 0
@@ -42,4 +42,4 @@ lines_before true rows = 0
 lines_before false rows = rows + 1
 
 abbrev pub most_lines : PageLines → ℕ
-most_lines page = lines_before page.has_ended (most_left page.listing)
+most_lines page = lines_before page.has_ended (most_left page.left)

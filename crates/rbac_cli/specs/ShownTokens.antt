@@ -8,7 +8,7 @@ use Rattle.rbac_matrix.specs.Every.{name_of}
 use Rattle.rbac_matrix.specs.RowTexts.{texts_shown}
 use Rattle.rbac_matrix.specs.declared.row.Row.{Row}
 
--- the mark after which a listing goes on behind the row: its key, or with `--every` its key and
+-- the mark after which a matrix goes on behind the row: its key, or with `--every` its key and
 -- its binding
 abbrev pub mark_shown : Bool → Row → Mark
 mark_shown false row = record { key = texts_shown row; binding = None }

@@ -13,7 +13,7 @@ use crate::outcome::Status;
 use crate::output::Output;
 use crate::rules::print_rules;
 use crate::stop::Stop;
-use crate::who_can::{Listing, print_holders};
+use crate::who_can::{HolderOptions, print_holders};
 use rbac_question::Action;
 use std::alloc::Global;
 use std::io::Write;
@@ -50,12 +50,12 @@ pub(crate) fn print_answer<W: Write + Drop>(
             anywhere,
             question,
         } => {
-            let listing = Listing {
+            let options = HolderOptions {
                 why: *why,
                 every: *every,
                 anywhere: *anywhere,
             };
-            print_holders(alloc, export, listing, question, output)
+            print_holders(alloc, export, options, question, output)
         }
         Action::Rules { principal, scope } => {
             print_rules(alloc, export, principal, scope, output)

@@ -10,10 +10,10 @@ ghost use Rattle.rbac_cli.specs.Printing.{EndsPrinting};
 ghost use Rattle.rbac_cli.specs.declared.exports.Exports.TheVariants.{Single};
 
 use crate::lines::print_lines;
-use crate::listing::Listing;
 use crate::outcome::Status;
 use crate::output::Output;
 use crate::pages::PageLines;
+use crate::rows_left::RowsLeft;
 use crate::stop::Stop;
 use rbac_index::{Index, IndexFault, Reach, reaches_of};
 use rbac_manifest::Export;
@@ -68,10 +68,10 @@ fn print_rows<W: Write + Drop>(
         basis.reaches.as_slice(),
         seats.as_mut_slice(),
     );
-    let listing = Listing::after(&mut matrix, every, after);
+    let left = RowsLeft::after(&mut matrix, every, after);
     let mut lines = PageLines {
         alloc,
-        listing,
+        left,
         limit,
         last: None,
         has_ended: false,

@@ -5,11 +5,11 @@ ghost use Rattle.std.specs.Option.{option_map};
 ghost use Rattle.rbac_text.specs.Row.{newline, row_text};
 ghost use Rattle.rbac_matrix.specs.Every.{name_of};
 ghost use Rattle.rbac_matrix.specs.RowTexts.{texts_shown};
-ghost use Rattle.rbac_cli.specs.Left.{is_every};
+ghost use Rattle.rbac_cli.specs.RowsLeft.{is_every};
 ghost use Rattle.rbac_cli.specs.ShownTokens.{last_line, mark_shown, next_token};
 
 use crate::lines::Lines;
-use crate::listing::Listing;
+use crate::rows_left::RowsLeft;
 use crate::stop::Stop;
 use rbac_matrix::Row;
 use rbac_terms::{Binding, Word};
@@ -22,7 +22,7 @@ const NEXT: &[u8] = b"next\t";
 
 const END: &[u8] = b"end\n";
 
-/// The lines of a page of a listing (own): a line for each row that the limit leaves, and a last
+/// The lines of a page of a matrix (own): a line for each row that the limit leaves, and a last
 /// line. If more rows follow, the last line is `next` and the token of the last row, joined by a
 /// tab; otherwise it is `end`. Keeps no list of rows.
 ///
@@ -30,7 +30,7 @@ const END: &[u8] = b"end\n";
 #[derive(Drop)]
 pub(crate) struct PageLines<'r, 'm> {
     pub(crate) alloc: Global,
-    pub(crate) listing: Listing<'r, 'm>,
+    pub(crate) left: RowsLeft<'r, 'm>,
     // How many rows are left to print, if there is a limit.
     pub(crate) limit: Option<u32>,
     // The last row that was printed.
@@ -40,12 +40,12 @@ pub(crate) struct PageLines<'r, 'm> {
 }
 
 impl Lines for PageLines<'_, '_> {
-    ghost use Rattle.rbac_cli.specs.Left.{IsOpen};
+    ghost use Rattle.rbac_cli.specs.RowsLeft.{IsOpen};
     ghost use Rattle.rbac_cli.specs.PageLeft.{IsPageLeft, most_lines};
 
     ghost are_left = { IsPageLeft };
 
-    ghost is_open = { λ page. IsOpen page.listing };
+    ghost is_open = { λ page. IsOpen page.left };
 
     ghost most_left = { most_lines };
 
@@ -53,7 +53,7 @@ impl Lines for PageLines<'_, '_> {
         if self.has_ended {
             return Ok(false);
         }
-        let Some(row) = self.listing.next() else {
+        let Some(row) = self.left.next() else {
             return self.put_last(None, line);
         };
         if self.limit == Some(0) {
@@ -71,12 +71,12 @@ impl<'m> PageLines<'_, 'm> {
     fn put_last(&mut self, row: Option<Row<'m>>, line: &mut Vec<u8>) -> Result<bool, AllocError>
         requires { line.old.items ≡ [] }
         ensures line { OnOk result
-            (line.new.items ≡ last_line (is_every self.old.listing) row.entry) }
+            (line.new.items ≡ last_line (is_every self.old.left) row.entry) }
         ensures more { IfOk result (λ more. more ≡ true) }
         ensures ended { self.new ≡ record self.old { has_ended = true } }
     {
         self.has_ended = true;
-        let every = self.listing.is_every();
+        let every = self.left.is_every();
         match row {
             Some(row) => put_next(self.alloc, every, row, line).map_err(|_| AllocError)?,
             None => line.extend_from_slice(END)?,
@@ -122,7 +122,7 @@ fn put_next(alloc: Global, every: bool, row: Row<'_>, line: &mut Vec<u8>) -> Res
     Ok(())
 }
 
-// The mark after which a listing goes on behind a row: its key, and its binding's name if every
+// The mark after which a matrix goes on behind a row: its key, and its binding's name if every
 // binding is listed.
 fn mark_of(alloc: Global, every: bool, row: Row<'_>) -> Result<Mark, Stop>
     ensures { IfOk result (λ mark. mark ≡ mark_shown every row.entry) }

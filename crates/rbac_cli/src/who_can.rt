@@ -27,7 +27,7 @@ use std::io::Write;
 
 // Which holders are listed, and how.
 #[derive(Clone, Copy)]
-pub(crate) struct Listing {
+pub(crate) struct HolderOptions {
     // Whether each line goes on with why.
     pub(crate) why: bool,
     // Whether each has a line for every binding, and not only for the first.
@@ -42,24 +42,24 @@ pub(crate) struct Listing {
 pub(crate) fn print_holders<W: Write + Drop>(
     alloc: Global,
     export: &Export,
-    listing: Listing,
+    options: HolderOptions,
     question: &Question,
     output: &mut Output<'_, W>,
 ) -> Result<Status, Stop>
     requires { output.old.sink.now.has_failed ≡ false }
     ensures { EndsPrinting W.contents output.old output.new (Single export.now)
-        (WhoCan listing.why listing.every listing.anywhere question.now) result }
+        (WhoCan options.why options.every options.anywhere question.now) result }
 {
     let meant = meant_by(alloc, export.catalogue(), question)?;
-    let place = where_asked(meant.is_outside, listing.anywhere, &meant.namespace);
+    let place = where_asked(meant.is_outside, options.anywhere, &meant.namespace);
     let policy = export.policy();
     let verb = &question.verb;
-    let holders = holders_of(alloc, policy, place, listing.every, verb, &meant.target)?;
+    let holders = holders_of(alloc, policy, place, options.every, verb, &meant.target)?;
     let asked = Asked {
         policy: export.policy(),
         verb,
         target: &meant.target,
-        why: listing.why,
+        why: options.why,
     };
     let mut lines = HolderLines {
         asked,

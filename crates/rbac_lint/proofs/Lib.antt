@@ -5,7 +5,7 @@ pub mod Order
 pub mod RoleLines
 pub mod Named
 pub mod Least
-pub mod Marked
+pub mod Flags
 pub mod StaleRules
 pub mod AllFound
 pub mod OneLines

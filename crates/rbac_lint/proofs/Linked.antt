@@ -20,7 +20,7 @@ use Rattle.std.proofs.lemmas.Map.Views.{btree_map_get_iff}
 use Rattle.std.proofs.lemmas.Option.{slice_get_within, slice_get-get_or, slice_get-map, get_or_from_slice_get, same_Some}
 use Rattle.rbac_terms.specs.Text.{Text, text_cmp, BeginsWith}
 use Rattle.rbac_lint.specs.declared.prefixes.Prefix.{Prefix}
-use Rattle.rbac_lint.specs.Listing.{Lists, listed, IsAscending, AreAscending}
+use Rattle.rbac_lint.specs.RulesByWord.{Lists, listed, IsAscending, AreAscending}
 use Rattle.rbac_lint.specs.Prefixes.{entry_of, prefix, IsOnWay, LeadsTo, IsLinkedAt, AreLinked, ArePrefixes, PutsPrefix}
 
 -- ---- the order of texts

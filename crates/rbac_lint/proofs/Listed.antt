@@ -15,9 +15,9 @@ use Rattle.rbac_terms.proofs.Texts.{ends, IsBeforeStars-one}
 use Rattle.rbac_terms.specs.declared.matching.Rule.{Rule}
 use Rattle.rbac_terms.proofs.Cases.{by_bool}
 use Rattle.rbac_terms.proofs.Orderings.{equal_from_test}
-use Rattle.rbac_lint.specs.declared.listing.Field.{Field}
-use Rattle.rbac_lint.specs.declared.listing.Field.TheVariants.{Verbs, Groups, Resources, Names, Urls, Prefixes}
-use Rattle.rbac_lint.specs.Listing.{Lists, listed, words_in, IsAscending, IsKey, TakesIn, ListsPlace, ListsAll, IsListedAsBefore, AreListed}
+use Rattle.rbac_lint.specs.declared.rules_by_word.Field.{Field}
+use Rattle.rbac_lint.specs.declared.rules_by_word.Field.TheVariants.{Verbs, Groups, Resources, Names, Urls, Prefixes}
+use Rattle.rbac_lint.specs.RulesByWord.{Lists, listed, words_in, IsAscending, IsKey, TakesIn, ListsPlace, ListsAll, IsListedAsBefore, AreListed}
 use Rattle.rbac_lint.proofs.Exact.{all_pairs_append}
 
 -- ---- one list

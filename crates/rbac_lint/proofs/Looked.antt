@@ -13,11 +13,11 @@ use Rattle.rbac_model.specs.Universes.{Covers}
 use Rattle.rbac_lint.specs.Covering.{AllowsVerbs, AllowsVerb, AllowsGroups, AllowsGroup, AllowsResources, AllowsResource, AllowsNames, AllowsName, AllowsUrls, AllowsUrl, HasResource, HasUrl}
 use Rattle.rbac_model.specs.OwnWords.{AllowsUrlWord, GivesPath}
 use Rattle.rbac_lint.specs.Findings.{CoversAll, MakesRedundantAt, MakesRedundant}
-use Rattle.rbac_lint.specs.declared.listing.Field.{Field}
-use Rattle.rbac_lint.specs.declared.listing.Field.TheVariants.{Verbs, Groups, Resources, Names, Urls, Prefixes}
-use Rattle.rbac_lint.specs.declared.listing.Listing.{Listing}
+use Rattle.rbac_lint.specs.declared.rules_by_word.Field.{Field}
+use Rattle.rbac_lint.specs.declared.rules_by_word.Field.TheVariants.{Verbs, Groups, Resources, Names, Urls, Prefixes}
+use Rattle.rbac_lint.specs.declared.rules_by_word.RulesByWord.{RulesByWord}
 use Rattle.rbac_lint.specs.declared.candidates.Candidates.{Candidates}
-use Rattle.rbac_lint.specs.Listing.{Lists, listed, lists_in, words_in, names_or_star, IsAscending, IsStem, IsListingOf}
+use Rattle.rbac_lint.specs.RulesByWord.{Lists, listed, lists_in, words_in, names_or_star, IsAscending, IsStem, AreRulesByWord}
 use Rattle.rbac_lint.specs.Candidates.{IsAsked, Binds, IsFound, StandsIn, IsAmong, Ascend, Finds, AddsUnder, AddsPrefixes, IsOfEach, AreMatching, CoversAt, AreCandidates, IsLeastCoverIfAny, IsRedundantBy, IsSoonest}
 use Rattle.rbac_lint.specs.declared.prefixes.Prefix.{Prefix}
 use Rattle.rbac_lint.specs.Prefixes.{IsOnWay, LeadsTo, ArePrefixes}
@@ -59,7 +59,7 @@ verbs_of : (a b : Rule) → Covers a b → HasResource b ⊎ HasUrl b → Allows
 verbs_of a b c (inl has) = (resources_from_samples a b (samples_from_Covers a b c) has).1
 verbs_of a b c (inr has) = (urls_from_samples a b (samples_from_Covers a b c) has).0
 
-found_url : (rules : List Rule) (l : Listing) (w u : Text) (n : ℕ) (a : Rule) → IsListingOf rules l → slice_get rules n ≡ Some a → Contains a.urls u
+found_url : (rules : List Rule) (l : RulesByWord) (w u : Text) (n : ℕ) (a : Rule) → AreRulesByWord rules l → slice_get rules n ≡ Some a → Contains a.urls u
     → (u ≡ w) ⊎ ((prefix : Text) × IsBeforeStars u prefix × BeginsWith w prefix) → IsFound Urls l w n
 found_url rules l w u n a is at has (inl e) = inl (is.urls.complete n a u w (slice_get_within rules n a at) at has e)
 found_url rules l w u n a is at has (inr f) =
@@ -68,7 +68,7 @@ found_url rules l w u n a is at has (inr f) =
     inr (there.0, there.1, there.2, subst (BeginsWith w) (sym there.3) f.2, subst (λ (t : Text). EndsInStar t → ⊥) (sym there.3) f.1.2, there.4)
 
 -- what covers a rule is found for each of its words that is asked
-pub found : (field : Field) (rules : List Rule) (l : Listing) (b : Rule) (w : Text) (n : ℕ) → IsListingOf rules l → Binds field b → IsAsked field w → Contains (words_in field b) w
+pub found : (field : Field) (rules : List Rule) (l : RulesByWord) (b : Rule) (w : Text) (n : ℕ) → AreRulesByWord rules l → Binds field b → IsAsked field w → Contains (words_in field b) w
     → CoversAt rules b n → IsFound field l w n
 unfolding AllowsVerbs AllowsVerb AllowsGroups AllowsGroup AllowsResources AllowsResource AllowsUrls AllowsUrl AllowsUrlWord GivesPath
 found Verbs rules l b w n is has asked at c =
@@ -89,7 +89,7 @@ found Urls rules l b w n is has asked at c =
     found_url rules l w any.1 n c.0 is c.1 (any.0, any.2, any.3) (UrlWordMatches-begins any.1 w sample.0 asked sample.1 any.4)
 found Prefixes rules l b w n is has asked at c = absurd has
 
-pub are_candidates : (field : Field) (rules : List Rule) (l : Listing) (b : Rule) (w : Text) (c : Candidates) → IsListingOf rules l → Binds field b → IsAsked field w → Contains (words_in field b) w
+pub are_candidates : (field : Field) (rules : List Rule) (l : RulesByWord) (b : Rule) (w : Text) (c : Candidates) → AreRulesByWord rules l → Binds field b → IsAsked field w → Contains (words_in field b) w
     → Finds field l w c → AreCandidates rules b c
 unfolding AreCandidates
 are_candidates field rules l b w c is has asked at finds = (finds.0, λ n covers. finds.1 n (found field rules l b w n is has asked at covers))
@@ -148,7 +148,7 @@ all_matching m w none own every c e a b d = (
   ],
 )
 
-pub matching_found : (field : Field) (rules : List Rule) (l : Listing) (w : Text) (c : Candidates) → (field ≡ Urls → ⊥) → IsListingOf rules l → AreMatching (lists_in field l) w c → Finds field l w c
+pub matching_found : (field : Field) (rules : List Rule) (l : RulesByWord) (w : Text) (c : Candidates) → (field ≡ Urls → ⊥) → AreRulesByWord rules l → AreMatching (lists_in field l) w c → Finds field l w c
 matching_found Verbs rules l w c other is m = (m.0 is.verbs.ascending, λ n s. m.1 s.0 n s.1 s.2)
 matching_found Groups rules l w c other is m = (m.0 is.groups.ascending, λ n s. m.1 s.0 n s.1 s.2)
 matching_found Resources rules l w c other is m = (m.0 is.resources.ascending, λ n s. m.1 s.0 n s.1 s.2)
@@ -157,7 +157,7 @@ matching_found Urls rules l w c other is m = absurd (other refl)
 matching_found Prefixes rules l w c other is m = (m.0 is.urls.ascending, λ n s. m.1 s.0 n s.1 s.2)
 
 -- those of a URL, and of the prefixes with which it begins
-pub prefixes_found : (rules : List Rule) (l : Listing) (w stem : Text) (none own c : Candidates) → IsListingOf rules l → none.lists.items ≡ [] → IsStem w stem
+pub prefixes_found : (rules : List Rule) (l : RulesByWord) (w stem : Text) (none own c : Candidates) → AreRulesByWord rules l → none.lists.items ≡ [] → IsStem w stem
     → AddsUnder l.urls (λ u. u ≡ w) none own → AddsPrefixes l.prefixes.items stem own c → Finds Urls l w c
 prefixes_found rules l w stem none own c is e of a b = (
   b.ascending (places_ascend is.prefixes.0 is.prefixes.2.0 l.prefixes.items is.prefixes.2.1 is.prefixes.1.ascending)

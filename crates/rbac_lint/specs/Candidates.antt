@@ -10,12 +10,12 @@ use Rattle.rbac_model.specs.Universes.{Covers}
 use Rattle.rbac_terms.specs.Targets.{IsResourceText, IsPath}
 use Rattle.rbac_lint.specs.Covering.{HasResource, HasUrl}
 use Rattle.rbac_lint.specs.Findings.{MakesRedundant}
-use Rattle.rbac_lint.specs.Listing.{Lists, listed, lists_in, IsAscending, AreAscending}
+use Rattle.rbac_lint.specs.RulesByWord.{Lists, listed, lists_in, IsAscending, AreAscending}
 use Rattle.rbac_lint.specs.declared.prefixes.Prefix.{Prefix}
-use Rattle.rbac_lint.specs.declared.listing.Field.{Field}
-use Rattle.rbac_lint.specs.declared.listing.Field.TheVariants.{Verbs, Groups, Resources, Names}
-use Rattle.rbac_lint.specs.declared.listing.Field.TheVariants.{Urls, Prefixes}
-use Rattle.rbac_lint.specs.declared.listing.Listing.{Listing}
+use Rattle.rbac_lint.specs.declared.rules_by_word.Field.{Field}
+use Rattle.rbac_lint.specs.declared.rules_by_word.Field.TheVariants.{Verbs, Groups, Resources, Names}
+use Rattle.rbac_lint.specs.declared.rules_by_word.Field.TheVariants.{Urls, Prefixes}
+use Rattle.rbac_lint.specs.declared.rules_by_word.RulesByWord.{RulesByWord}
 use Rattle.rbac_lint.specs.declared.candidates.Candidates.{Candidates}
 
 -- every rule that covers this one allows its words in that list; no prefix is asked for
@@ -35,7 +35,7 @@ IsAsked field w = Unit {0}
 
 -- a place is listed under a word that matches this one: `*`, the word itself, or `*/` and what
 -- follows the word's first slash; for a URL, the word or a prefix of it
-abbrev pub IsFound : Field → Listing → Text → ℕ → Type 0
+abbrev pub IsFound : Field → RulesByWord → Text → ℕ → Type 0
 IsFound Urls l w n = Contains (listed l.urls w) n
     ⊎ ((j : ℕ) × (f : Prefix) × (slice_get l.prefixes.items j ≡ Some f) × BeginsWith w f.text
     × (¬ EndsInStar f.text) × Contains f.places n)
@@ -53,7 +53,7 @@ abbrev pub Ascend : Candidates → Type 0
 Ascend c = All (λ places. IsAscending places.now) c.lists.items
 
 -- each place that is to be found is among the candidates
-abbrev pub Finds : Field → Listing → Text → Candidates → Type 0
+abbrev pub Finds : Field → RulesByWord → Text → Candidates → Type 0
 Finds field l w c = Ascend c × ((n : ℕ) → IsFound field l w n → IsAmong c n)
 
 -- new has old's places, and those under the words with the property

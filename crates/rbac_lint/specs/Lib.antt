@@ -1,12 +1,12 @@
 pub mod Candidates
 pub mod Covering
 pub mod Findings
-pub mod Prefixes
 pub mod Gathering
 pub mod Lines
-pub mod Listing
-pub mod Marks
+pub mod NamedRoles
 pub mod Powers
+pub mod Prefixes
 pub mod Replaced
 pub mod Roles
 pub mod RuleSets
+pub mod RulesByWord

@@ -5,15 +5,15 @@
 ghost use Rattle.std.specs.Prelude.{◌≡◌, ◌++◌, ◌∷◌, [], ◌⊎◌, List, Some, IfOk, IfSome, OnOk};
 ghost use Rattle.std.specs.Prelude.{IsTrue};
 ghost use Rattle.rbac_terms.specs.declared.matching.Rule.{Rule as RuleView};
-ghost use Rattle.rbac_lint.specs.declared.listing.Field.TheVariants.{Urls};
-ghost use Rattle.rbac_lint.specs.Listing.{IsListingOf};
+ghost use Rattle.rbac_lint.specs.declared.rules_by_word.Field.TheVariants.{Urls};
+ghost use Rattle.rbac_lint.specs.RulesByWord.{AreRulesByWord};
 ghost use Rattle.rbac_lint.specs.Prefixes.{ArePrefixes};
 ghost use Rattle.rbac_lint.specs.Candidates.{IsAsked, Binds, Finds, AddsUnder, AddsPrefixes};
 ghost use Rattle.rbac_lint.specs.Candidates.{IsOfEach, AreMatching, AreCandidates};
 
 use crate::coverage::{has_resource, has_url};
-use crate::listing::{Field, Listing, Places, stem_of, under, words_in};
 use crate::prefixes::{Prefix, last_up_to};
+use crate::rules_by_word::{Field, Places, RulesByWord, stem_of, under, words_in};
 use rbac_terms::{Rule, Word, cut_at_first, is_path, is_resource_text};
 use std::alloc::{AllocError, Global};
 use std::collections::BTreeMap;
@@ -60,23 +60,23 @@ impl<'a> Candidates<'a> {
 // nothing.
 pub(crate) fn fewest_for<'a>(
     alloc: Global,
-    listing: &'a Listing,
+    by_word: &'a RulesByWord,
     rule: &'a Rule,
 ) -> Result<Option<Candidates<'a>>, AllocError>
-    requires { ArePrefixes listing.now.prefixes.items }
+    requires { ArePrefixes by_word.now.prefixes.items }
     ensures { IfOk result
-        (λ o. (rules : List RuleView) → IsListingOf rules listing.now
+        (λ o. (rules : List RuleView) → AreRulesByWord rules by_word.now
         → IfSome o (AreCandidates rules rule.now)) }
 {
     if has_resource(rule) {
-        let best = fewest_in(alloc, listing, rule, Field::Verbs, None)?;
-        let best = fewest_in(alloc, listing, rule, Field::Groups, best)?;
-        let best = fewest_in(alloc, listing, rule, Field::Resources, best)?;
-        return fewest_in(alloc, listing, rule, Field::Names, best);
+        let best = fewest_in(alloc, by_word, rule, Field::Verbs, None)?;
+        let best = fewest_in(alloc, by_word, rule, Field::Groups, best)?;
+        let best = fewest_in(alloc, by_word, rule, Field::Resources, best)?;
+        return fewest_in(alloc, by_word, rule, Field::Names, best);
     }
     if has_url(rule) {
-        let best = fewest_in(alloc, listing, rule, Field::Verbs, None)?;
-        return fewest_in(alloc, listing, rule, Field::Urls, best);
+        let best = fewest_in(alloc, by_word, rule, Field::Verbs, None)?;
+        return fewest_in(alloc, by_word, rule, Field::Urls, best);
     }
     Ok(None)
 }
@@ -84,21 +84,21 @@ pub(crate) fn fewest_for<'a>(
 // The fewest places, out of these and those for each word in one of the rule's lists.
 fn fewest_in<'a>(
     alloc: Global,
-    listing: &'a Listing,
+    by_word: &'a RulesByWord,
     rule: &'a Rule,
     field: Field,
     best: Option<Candidates<'a>>,
 ) -> Result<Option<Candidates<'a>>, AllocError>
-    requires { ArePrefixes listing.now.prefixes.items }
+    requires { ArePrefixes by_word.now.prefixes.items }
     ensures { IfOk result
-        (λ o. (rules : List RuleView) → IsListingOf rules listing.now → Binds field rule.now
+        (λ o. (rules : List RuleView) → AreRulesByWord rules by_word.now → Binds field rule.now
         → IfSome best.entry (AreCandidates rules rule.now)
         → IfSome o (AreCandidates rules rule.now)) }
 {
     let mut fewest = best;
-    for word in words_in(field, rule, &listing.star) {
+    for word in words_in(field, rule, &by_word.star) {
         if is_asked(field, word) {
-            let candidates = candidates_for(alloc, listing, field, word)?;
+            let candidates = candidates_for(alloc, by_word, field, word)?;
             fewest = Some(fewer(fewest, candidates));
         }
     }
@@ -128,18 +128,18 @@ fn fewer<'a>(best: Option<Candidates<'a>>, other: Candidates<'a>) -> Candidates<
 // The places under the words that may match this one.
 fn candidates_for<'a>(
     alloc: Global,
-    listing: &'a Listing,
+    by_word: &'a RulesByWord,
     field: Field,
     word: &Word,
 ) -> Result<Candidates<'a>, AllocError>
-    requires { ArePrefixes listing.now.prefixes.items }
+    requires { ArePrefixes by_word.now.prefixes.items }
     ensures { IfOk result
-        (λ c. (rules : List RuleView) → IsListingOf rules listing.now
-        → Finds field listing.now word.now c) }
+        (λ c. (rules : List RuleView) → AreRulesByWord rules by_word.now
+        → Finds field by_word.now word.now c) }
 {
     match field {
-        Field::Urls => starting(alloc, listing, word),
-        _ => matching(alloc, listing.lists(field), word),
+        Field::Urls => starting(alloc, by_word, word),
+        _ => matching(alloc, by_word.lists(field), word),
     }
 }
 
@@ -179,18 +179,18 @@ fn add_of_each<'a>(
 // The places under a URL word, and under the prefixes that it begins with.
 fn starting<'a>(
     alloc: Global,
-    listing: &'a Listing,
+    by_word: &'a RulesByWord,
     word: &Word,
 ) -> Result<Candidates<'a>, AllocError>
-    requires { ArePrefixes listing.now.prefixes.items }
+    requires { ArePrefixes by_word.now.prefixes.items }
     ensures { IfOk result
-        (λ c. (rules : List RuleView) → IsListingOf rules listing.now
-        → Finds Urls listing.now word.now c) }
+        (λ c. (rules : List RuleView) → AreRulesByWord rules by_word.now
+        → Finds Urls by_word.now word.now c) }
 {
     let mut candidates = Candidates::new(alloc);
-    candidates.add_under(listing.lists(Field::Urls), word)?;
+    candidates.add_under(by_word.lists(Field::Urls), word)?;
     let stem = stem_of(word.as_bytes());
-    add_prefixes(&mut candidates, listing.prefixes.as_slice(), stem)?;
+    add_prefixes(&mut candidates, by_word.prefixes.as_slice(), stem)?;
     Ok(candidates)
 }
 

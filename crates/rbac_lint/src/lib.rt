@@ -10,12 +10,12 @@ mod fault;
 mod finding;
 mod laws;
 mod linting;
-mod listing;
 mod prefixes;
 mod redundant_rule;
 mod replaced_object;
 mod roles;
 mod rule_set;
+mod rules_by_word;
 mod stale_aggregate;
 mod unused_role;
 

@@ -11,7 +11,7 @@ ghost use Rattle.rbac_lint.specs.declared.prefixes.Prefix.{Prefix as PrefixView}
 ghost use Rattle.rbac_lint.specs.Prefixes.{AreEntriesOf, LeadsTo, AreLinked, ArePrefixes};
 ghost use Rattle.rbac_lint.specs.Prefixes.{PutsPrefix};
 
-use crate::listing::Places;
+use crate::rules_by_word::Places;
 use rbac_terms::Word;
 use std::alloc::{AllocError, Global};
 use std::collections::BTreeMap;

@@ -6,7 +6,7 @@ ghost use Rattle.std.specs.Option.{ForSome};
 ghost use Rattle.rbac_model.specs.Sources.{source_of};
 ghost use Rattle.rbac_terms.specs.declared.matching.Rule.{Rule as RuleView};
 ghost use Rattle.rbac_lint.specs.Lines.{Adds, OfEach};
-ghost use Rattle.rbac_lint.specs.Listing.{IsAscending, IsListingOf};
+ghost use Rattle.rbac_lint.specs.RulesByWord.{IsAscending, AreRulesByWord};
 ghost use Rattle.rbac_lint.specs.Prefixes.{ArePrefixes};
 ghost use Rattle.rbac_lint.specs.Candidates.{AreCandidates, IsLeastCoverIfAny, IsSoonest};
 ghost use Rattle.rbac_lint.specs.Findings.{CoversAll, MakesRedundantAt, MakesRedundant};
@@ -15,8 +15,8 @@ ghost use Rattle.rbac_lint.specs.Findings.{IsRedundantAt, IsRedundantOf, IsRedun
 use crate::candidates::{Candidates, fewest_for};
 use crate::coverage::covers;
 use crate::finding::{Finding, Findings, number_word, role_word};
-use crate::listing::{Listing, listing_of};
 use crate::roles::{plain_rules, role_at, role_count};
+use crate::rules_by_word::{RulesByWord, listed_by_word};
 use rbac_model::{Objects, SourceRole};
 use rbac_terms::Rule;
 use std::alloc::{AllocError, Global};
@@ -58,22 +58,22 @@ fn find_in_rules(
         (Adds (OfEach
         (λ i r. IsRedundantAt (source_of role.entry) rules.now i) rules.now) found.old found.new) }
 {
-    let listing = listing_if_many(alloc, rules)?;
-    let listed = listing.as_ref();
+    let by_word = by_word_if_many(alloc, rules)?;
+    let listed = by_word.as_ref();
     for (place, rule) in rules.iter().enumerate() {
         find_at(alloc, found, role, rules, listed, place, rule)?;
     }
     Ok(())
 }
 
-// The listing of these rules; `None` if there are few, which are compared sooner than listed.
-fn listing_if_many(alloc: Global, rules: &[Rule]) -> Result<Option<Listing>, AllocError>
-    ensures { IfOk result (λ l. ForSome l (IsListingOf rules.now)) }
+// These rules by their words; `None` if there are few, which are compared sooner than listed.
+fn by_word_if_many(alloc: Global, rules: &[Rule]) -> Result<Option<RulesByWord>, AllocError>
+    ensures { IfOk result (λ l. ForSome l (AreRulesByWord rules.now)) }
 {
     if rules.len() < MANY {
         return Ok(None);
     }
-    Ok(Some(listing_of(alloc, rules)?))
+    Ok(Some(listed_by_word(alloc, rules)?))
 }
 
 // Adds the finding for the rule at this place, if there is one.
@@ -82,16 +82,16 @@ fn find_at(
     found: &mut Findings,
     role: SourceRole<'_>,
     rules: &[Rule],
-    listing: Option<&Listing>,
+    by_word: Option<&RulesByWord>,
     place: usize,
     rule: &Rule,
 ) -> Result<(), AllocError>
     requires here { slice_get rules.now place ≡ Some rule.now }
-    requires listed { ForSome listing (λ l. IsListingOf rules.now l.now) }
+    requires listed { ForSome by_word (λ l. AreRulesByWord rules.now l.now) }
     ensures { OnOk result
         (Adds (IsRedundantAt (source_of role.entry) rules.now place) found.old found.new) }
 {
-    let Some(wide) = covering_rule(alloc, rules, listing, place, rule)? else {
+    let Some(wide) = covering_rule(alloc, rules, by_word, place, rule)? else {
         return Ok(());
     };
     let object = role_word(alloc, role)?;
@@ -108,16 +108,16 @@ fn find_at(
 fn covering_rule(
     alloc: Global,
     rules: &[Rule],
-    listing: Option<&Listing>,
+    by_word: Option<&RulesByWord>,
     place: usize,
     rule: &Rule,
 ) -> Result<Option<usize>, AllocError>
     requires here { slice_get rules.now place ≡ Some rule.now }
-    requires listed { ForSome listing (λ l. IsListingOf rules.now l.now) }
+    requires listed { ForSome by_word (λ l. AreRulesByWord rules.now l.now) }
     ensures least { IfOk result (IsLeastCoverIfAny rules.now place) }
     ensures within { IfOk result (λ o. IfSome o (λ j. j < length rules.now)) }
 {
-    match candidates_if_listed(alloc, listing, rule)? {
+    match candidates_if_listed(alloc, by_word, rule)? {
         Some(candidates) => Ok(first_of(rules, candidates, place, rule)),
         None => Ok(first_of_all(rules, place, rule)),
     }
@@ -125,16 +125,16 @@ fn covering_rule(
 
 fn candidates_if_listed<'a>(
     alloc: Global,
-    listing: Option<&'a Listing>,
+    by_word: Option<&'a RulesByWord>,
     rule: &'a Rule,
 ) -> Result<Option<Candidates<'a>>, AllocError>
-    requires { ForSome listing (λ l. ArePrefixes l.now.prefixes.items) }
+    requires { ForSome by_word (λ l. ArePrefixes l.now.prefixes.items) }
     ensures { IfOk result
-        (λ o. (rules : List RuleView) → ForSome listing.entry (λ l. IsListingOf rules l.now)
+        (λ o. (rules : List RuleView) → ForSome by_word.entry (λ l. AreRulesByWord rules l.now)
         → IfSome o (AreCandidates rules rule.now)) }
 {
-    match listing {
-        Some(listing) => fewest_for(alloc, listing, rule),
+    match by_word {
+        Some(by_word) => fewest_for(alloc, by_word, rule),
         None => Ok(None),
     }
 }

@@ -7,8 +7,8 @@ ghost use Rattle.rbac_model.specs.Policies.{Source, IsHeld, IsPlain};
 ghost use Rattle.rbac_lint.specs.Lines.{Adds};
 ghost use Rattle.rbac_lint.specs.Roles.{roles_in};
 ghost use Rattle.rbac_lint.specs.Findings.{IsUsed, IsUnusedOf, IsUnused};
-ghost use Rattle.rbac_lint.specs.Marks.{AreNamed, AreGatherers, AreMarkedWith, IsReachedByNamedAt};
-ghost use Rattle.rbac_lint.specs.Marks.{IsAddedAt};
+ghost use Rattle.rbac_lint.specs.NamedRoles.{AreNamed, AreGatherers, AreFlagsWith, IsReachedByNamedAt};
+ghost use Rattle.rbac_lint.specs.NamedRoles.{IsAddedAt};
 
 use crate::finding::{Finding, Findings, role_word};
 use crate::roles::{role_at, role_count};
@@ -123,22 +123,22 @@ fn is_plain(role: &ClusterRole) -> bool
     role.aggregation.is_none()
 }
 
-// One mark for each role: whether some binding names it.
+// One flag for each role: whether some binding names it.
 fn named_roles(alloc: Global, objects: &Objects) -> Result<Vec<bool>, AllocError>
     ensures { IfOk result (λ v. AreNamed objects.now v.items) }
 {
     let mut named = vec![in alloc; false; role_count(objects)]?;
     let bindings = objects.bindings();
     for binding in bindings {
-        mark_named(objects, binding, &mut named);
+        flag_named(objects, binding, &mut named);
     }
     Ok(named)
 }
 
-// Marks the role that a binding names, if it is there.
-fn mark_named(objects: &Objects, binding: &Binding, named: &mut Vec<bool>)
+// Flags the role that a binding names, if it is there.
+fn flag_named(objects: &Objects, binding: &Binding, named: &mut Vec<bool>)
     requires { length named.old.items ≡ length (roles_in objects.now) }
-    ensures { AreMarkedWith objects.now binding.now named.old.items named.new.items }
+    ensures { AreFlagsWith objects.now binding.now named.old.items named.new.items }
 {
     if let Some(place) = ref_place(objects, binding) {
         named[place_among(objects, place)] = true;

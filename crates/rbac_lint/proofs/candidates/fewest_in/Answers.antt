@@ -2,7 +2,7 @@ use Rattle.std.proofs.Common.{sym, subst, List}
 use Rattle.std.specs.Prelude.{Option, IfSome, Contains}
 use Rattle.rbac_terms.specs.Text.{Text}
 use Rattle.rbac_lint.specs.declared.candidates.Candidates.{Candidates}
-use Rattle.rbac_lint.specs.Listing.{words_in}
+use Rattle.rbac_lint.specs.RulesByWord.{words_in}
 use Rattle.rbac_lint.specs.Candidates.{AreCandidates}
 use Rattle.rbac_lint.proofs.Looked.{are_candidates, fewer_of}
 use Rattle.rbac_lint.proofs.candidates.fewest_in.Goals as goal
@@ -11,7 +11,7 @@ use Rattle.rbac_lint.proofs.candidates.fewest_in.Goals.{then-is_asked+in_ok-cand
 pub loop-word-preserved : goal.loop-word-preserved
 loop-word-preserved c = λ rules is has old.
     let b = c.args.rule.now in
-    let l = c.args.listing.now in
+    let l = c.args.by_word.now in
     let before = c.loop-word.invariant rules is has old in
     let word : Text = c.word-item.result in
     let at : Contains (words_in c.args.field b) word = subst (λ (ws : List Text). Contains ws word) (c.words_in-word-items.ensures is.star) (c.loop-word.word-index, c.loop-word-test.true, sym c.word-item.is) in

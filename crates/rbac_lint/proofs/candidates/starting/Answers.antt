@@ -1,14 +1,14 @@
 use Rattle.std.proofs.Common.{◌≡◌, List, subst}
 use Rattle.rbac_terms.specs.Text.{Text}
 use Rattle.rbac_lint.specs.declared.prefixes.Prefix.{Prefix}
-use Rattle.rbac_lint.specs.Listing.{Lists, IsStem}
+use Rattle.rbac_lint.specs.RulesByWord.{Lists, IsStem}
 use Rattle.rbac_lint.specs.Candidates.{AddsUnder, AddsPrefixes}
 use Rattle.rbac_lint.proofs.Looked.{prefixes_found}
 use Rattle.rbac_lint.proofs.candidates.starting.Goals as goal
 
 pub returns : goal.returns
 returns c =
-    let l = c.args.listing.now in
+    let l = c.args.by_word.now in
     let w = c.args.word.now in
     let none = c.new-candidates.result in
     let own = c.add_under.new.self in

@@ -14,7 +14,7 @@ pub find_at-requires-clause-here : goal.find_at-requires-clause-here
 find_at-requires-clause-here c = slice_get_read c.args.rules.now _ c.loop-place.place c.index-rules-place.result refl c.loop-place-test.true c.index-rules-place.is
 
 pub find_at-requires-clause-listed : goal.find_at-requires-clause-listed
-find_at-requires-clause-listed c = λ l e. c.in_ok-listing.ensures l.now (sym c.as_ref-listed.ensures.value ∙ ap option_copied e)
+find_at-requires-clause-listed c = λ l e. c.in_ok-by_word.ensures l.now (sym c.as_ref-listed.ensures.value ∙ ap option_copied e)
 
 pub loop-place-init : goal.loop-place-init
 loop-place-init c = Adds-start (λ i (r : Rule). IsRedundantAt (source_of c.args.role) c.args.rules.now i) c.args.rules.now c.args.found.now

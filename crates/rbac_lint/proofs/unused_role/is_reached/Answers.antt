@@ -3,7 +3,7 @@ use Rattle.std.specs.Prelude.{slice_index_or}
 use Rattle.std.proofs.lemmas.Bool.{both_ways}
 use Rattle.std.proofs.lemmas.Option.{slice_get-get_or, slice_get_within}
 use Rattle.rbac_terms.proofs.Reading.{contains_read}
-use Rattle.rbac_lint.proofs.Marked.{reached_here, none_reaches_more, none_reaches}
+use Rattle.rbac_lint.proofs.Flags.{reached_here, none_reaches_more, none_reaches}
 use Rattle.rbac_lint.proofs.unused_role.is_reached.Goals as goal
 
 pub reaches-requires : goal.reaches-requires

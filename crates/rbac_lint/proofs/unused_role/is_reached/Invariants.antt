@@ -1,4 +1,4 @@
-use Rattle.rbac_lint.proofs.Marked.{NoneReaches}
+use Rattle.rbac_lint.proofs.Flags.{NoneReaches}
 use Rattle.rbac_lint.proofs.unused_role.is_reached.Given as goal
 
 abbrev pub invariant-loop-from : goal.invariant-loop-from

@@ -1,6 +1,6 @@
 use Rattle.std.proofs.Common.{inl, inr}
 use Rattle.std.proofs.lemmas.Bool.{both_ways}
-use Rattle.rbac_lint.proofs.Marked.{used_iff}
+use Rattle.rbac_lint.proofs.Flags.{used_iff}
 use Rattle.rbac_lint.proofs.unused_role.is_used.Goals as goal
 
 pub returns-then-named-place : goal.returns-then-named-place

@@ -5,7 +5,7 @@ use Rattle.std.proofs.lemmas.Option.{slice_get_read}
 use Rattle.rbac_terms.specs.declared.granting.ClusterRole.{ClusterRole}
 use Rattle.rbac_model.specs.Policies.{InClusterRole}
 use Rattle.rbac_lint.proofs.RoleLines.{cluster_role_there}
-use Rattle.rbac_lint.proofs.Marked.{AreGatherersBelow, gatherers_more, gatherers_same, gatherers_all}
+use Rattle.rbac_lint.proofs.Flags.{AreGatherersBelow, gatherers_more, gatherers_same, gatherers_all}
 use Rattle.rbac_lint.proofs.unused_role.named_gatherers.Goals as goal
 use Rattle.rbac_lint.proofs.unused_role.named_gatherers.Goals.{then-is_gatherer+in_ok-push, else-is_gatherer}
 

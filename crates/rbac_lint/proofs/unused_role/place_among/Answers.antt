@@ -1,5 +1,5 @@
 use Rattle.std.proofs.Common.{◌≡◌, ap, arith, length, ◌+◌, ◌-◌}
-use Rattle.rbac_lint.proofs.Marked.{among_cluster_roles, among_roles, within_cluster_roles, within_roles}
+use Rattle.rbac_lint.proofs.Flags.{among_cluster_roles, among_roles, within_cluster_roles, within_roles}
 use Rattle.rbac_lint.proofs.RoleLines.{roles_length}
 use Rattle.rbac_lint.proofs.unused_role.place_among.Goals as goal
 

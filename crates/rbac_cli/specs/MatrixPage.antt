@@ -1,0 +1,53 @@
+-- The rows that a `matrix` command lists, and the page of them that it prints.
+use Rattle.std.specs.Prelude.{ℕ, Bool, true, false, List, [], ◌∷◌, ◌++◌, codes, Option, Some, None}
+use Rattle.std.specs.List.{flat_map, last_or}
+use Rattle.std.specs.Option.{option_map}
+use Rattle.rbac_terms.specs.Text.{Text}
+use Rattle.rbac_model.specs.Policies.{Held}
+use Rattle.rbac_model.specs.Universes.{UniverseView, RowView, IsMatrix, cell_key, page, rows_after}
+use Rattle.rbac_text.specs.Row.{row_text, tab, newline}
+use Rattle.rbac_token.specs.Marks.{mark_text}
+use Rattle.rbac_token.specs.declared.mark.Mark.{Mark}
+use Rattle.rbac_matrix.specs.Every.{IsEvery, every_after, mark_of}
+
+-- the rows that are listed: the matrix, or with `--every` a row for each binding that grants (own)
+abbrev pub AreListed : Bool → Held → UniverseView → List RowView → Type 0
+AreListed false held u rows = IsMatrix held u rows
+AreListed true held u rows = IsEvery held u rows
+
+-- those that come after the mark: without `--every`, whose key is greater than the mark's (own)
+abbrev pub rows_past : Bool → Option Mark → List RowView → List RowView
+rows_past false m rows = rows_after (option_map (λ x. x.key) m) rows
+rows_past true m rows = every_after m rows
+
+-- those of these rows that the limit leaves, and whether more follow; all of them if there is no
+-- limit
+abbrev pub cut_at : Option ℕ → List RowView → List RowView × Bool
+cut_at None rows = (rows, false)
+cut_at (Some n) rows = page None n rows
+
+-- the mark after which a matrix goes on behind a row: the row's key, or with `--every` its mark
+abbrev pub mark_after : Bool → RowView → Mark
+mark_after false row = record { key = cell_key row.cell; binding = None }
+mark_after true row = mark_of row
+
+-- what the last line says: `next` and the token of the last row's mark if more rows follow it,
+-- otherwise `end` (own)
+abbrev pub last_words : Bool → Option RowView → Bool → Text
+last_words every (Some row) true = codes "next" ++ tab ∷ mark_text (mark_after every row)
+last_words every (Some row) false = codes "end"
+last_words every None more = codes "end"
+
+-- the lines of rows, one after the other
+abbrev pub rows_text : List RowView → Text
+rows_text rows = flat_map (λ row. row_text (cell_key row.cell) row.binding) rows
+
+-- the lines of a page: its rows, and the last line
+abbrev pub page_text : Bool → List RowView × Bool → Text
+page_text every p = rows_text p.0 ++ last_words every (last_or None p.0) p.1 ++ newline ∷ []
+
+-- the listed rows that come after the mark, cut at the limit, each on a line, and a last line that
+-- says whether more follow (own); with a limit n, `cut_at` of these rows is `page k n rows` of the
+-- mark's key k, or with `--every` `every_page m n rows`
+abbrev pub matrix_text : Bool → Option Mark → Option ℕ → List RowView → List ℕ
+matrix_text every m limit rows = page_text every (cut_at limit (rows_past every m rows))

@@ -1,0 +1,47 @@
+-- The rows of a matrix that are left to list.
+use Rattle.std.specs.Prelude.{◌≡◌, ℕ, Bool, true, false, List, [], ◌∷◌, Option, MatchOption}
+use Rattle.std.specs.Iterator.{Count, at_most}
+use Rattle.rbac_model.specs.Universes.{RowView}
+use Rattle.rbac_matrix.specs.Enumeration.{AreLeft, IsGoing, requests_left}
+use Rattle.rbac_matrix.specs.EveryLeft.{AreEveryLeft, IsGoingEvery, pairs_left}
+use Rattle.rbac_matrix.specs.RowTexts.{Shows}
+use Rattle.rbac_matrix.specs.declared.row.Row.{Row}
+use Rattle.rbac_cli.specs.declared.rows_left.RowsLeft.{RowsLeft}
+use Rattle.rbac_cli.specs.declared.rows_left.RowsLeft.TheVariants.{First, Every}
+
+-- it lists every binding that grants a request, and not the first alone
+abbrev pub is_every : RowsLeft → Bool
+is_every (First rows) = false
+is_every (Every rows) = true
+
+-- these rows are left
+abbrev pub AreLeftIn : RowsLeft → List RowView → Type 0
+AreLeftIn (First rows) all = AreLeft rows all
+AreLeftIn (Every rows) all = AreEveryLeft rows all
+
+-- what holds between two calls
+abbrev pub IsOpen : RowsLeft → Type 0
+IsOpen (First rows) = IsGoing rows
+IsOpen (Every rows) = IsGoingEvery rows
+
+-- at most as many rows are left
+abbrev pub most_left : RowsLeft → ℕ
+most_left (First rows) = requests_left rows
+most_left (Every rows) = pairs_left rows
+
+abbrev pub left_at_most : RowsLeft → Count
+left_at_most left = at_most (most_left left)
+
+-- a row was given: the first of those that were left, and the others are left
+abbrev pub GivesFirst : RowsLeft → Row → RowsLeft → Type 0
+GivesFirst old r new = (row : RowView) × Shows r row
+    × ((all : List RowView) → AreLeftIn old all
+    → (others : List RowView) × (all ≡ row ∷ others) × AreLeftIn new others)
+
+-- no row is left
+abbrev pub IsOver : RowsLeft → Type 0
+IsOver left = (all : List RowView) → AreLeftIn left all → all ≡ []
+
+-- a call gave the first of the rows that were left, or nothing if none was left
+abbrev pub GivesNext : RowsLeft → Option Row → RowsLeft → Type 0
+GivesNext old r new = MatchOption r (IsOver old) (λ row. GivesFirst old row new)

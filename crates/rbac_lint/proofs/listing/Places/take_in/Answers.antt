@@ -1,5 +1,0 @@
-use Rattle.rbac_lint.proofs.Listed.{takes_push}
-use Rattle.rbac_lint.proofs.listing.Places.take_in.Goals as goal
-
-pub returns : goal.returns
-returns c = rw (← c.self.view_is) (takes_push c.self.inside.items.items c.push.new.self.items c.args.place c.in_ok-push.ensures.items)

@@ -1,6 +1,0 @@
-use Rattle.std.proofs.Common.{take}
-use Rattle.rbac_lint.specs.Listing.{ListsAll}
-use Rattle.rbac_lint.proofs.listing.list_all.Given as goal
-
-abbrev pub invariant-loop-word : goal.invariant-loop-word
-invariant-loop-word l = ListsAll l.initial.lists l.lists l.field (take l.word-index l.words) l.place

@@ -1,0 +1,5 @@
+use Rattle.rbac_lint.specs.RulesByWord.{AreListed}
+use Rattle.rbac_lint.proofs.rules_by_word.lists_of.Given as goal
+
+abbrev pub invariant-loop-place : goal.invariant-loop-place
+invariant-loop-place l = AreListed l.field l.rules l.place l.lists
