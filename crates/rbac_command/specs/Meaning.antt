@@ -18,9 +18,7 @@ use Rattle.rbac_question.specs.declared.fault.QuestionFault.{QuestionFault}
 use Rattle.rbac_question.specs.declared.fault.QuestionFault.TheVariants as question
 use Rattle.rbac_command.specs.App.{rbac_app}
 use Rattle.rbac_command.specs.declared.fault.UsageFault.{UsageFault}
-use Rattle.rbac_command.specs.declared.fault.UsageFault.TheVariants.{Refused, EmptyWord}
-use Rattle.rbac_command.specs.declared.fault.UsageFault.TheVariants.{UrlSubresource, BadToken}
-use Rattle.rbac_command.specs.declared.fault.UsageFault.TheVariants.{BadPrincipal, NoMemory}
+use Rattle.rbac_command.specs.declared.fault.UsageFault.TheVariants.{Refused, Question as Asked}
 
 -- ---- what is under an id
 
@@ -151,21 +149,17 @@ RefusesAction name rows e = ((name ≡ codes "can-i") × RefusesCanI (parts_in r
     ⊎ ((name ≡ codes "who-can") × RefusesQuestion (question_in rows) e)
 
 -- a command line is refused with the refusal of its subcommand's matches
-abbrev pub IsCauseOf : Option (Text × List Row) → UsageFault → Type 0
+abbrev pub IsCauseOf : Option (Text × List Row) → QuestionFault → Type 0
 IsCauseOf None e = ⊥
-IsCauseOf (Some p) EmptyWord = RefusesAction p.0 p.1 question.EmptyWord
-IsCauseOf (Some p) UrlSubresource = RefusesAction p.0 p.1 question.UrlSubresource
-IsCauseOf (Some p) BadToken = RefusesAction p.0 p.1 question.BadToken
-IsCauseOf (Some p) BadPrincipal = RefusesAction p.0 p.1 question.BadPrincipal
-IsCauseOf (Some p) NoMemory = RefusesAction p.0 p.1 question.NoMemory
-IsCauseOf (Some p) (Refused e) = ⊥
+IsCauseOf (Some p) e = RefusesAction p.0 p.1 e
 
 -- a refusal by `clap` comes if it refuses the words, any other if it accepts them; out of memory
 -- may come at any time
 abbrev pub IsRefusal : List Text → UsageFault → Type 0
-IsRefusal words NoMemory = Unit {0}
 IsRefusal words (Refused e) = IsAmong (kind_of e) (fault_of rbac_app words)
-IsRefusal words e = (fault_of rbac_app words ≡ []) × IsCauseOf (subcommand_of rbac_app words) e
+IsRefusal words (Asked question.NoMemory) = Unit {0}
+IsRefusal words (Asked e) = (fault_of rbac_app words ≡ [])
+    × IsCauseOf (subcommand_of rbac_app words) e
 
 -- what `command_of` answers
 abbrev pub IsAnswer : List Text → Result Command UsageFault → Type 0

@@ -3,7 +3,7 @@
 ghost use Rattle.std.specs.Prelude.{◌≡◌};
 
 use rbac_question::QuestionFault;
-use std::alloc::{AllocError, AllocFailed};
+use std::alloc::AllocError;
 use std::error::Error;
 use std::fmt;
 
@@ -13,51 +13,28 @@ pub enum UsageFault {
     /// U1: refused by `clap`, or help or the version was asked for. Its `Display` is `clap`'s text,
     /// and `use_stderr` says whether it is a refusal.
     Refused(clap::Error),
-    /// U2: USER, VERB or TARGET is empty, or a type word has nothing before its dot.
-    EmptyWord,
-    /// U3: a subresource is asked for with a URL.
-    UrlSubresource,
-    /// U4: what follows `--after` isn't the token of any mark.
-    BadToken,
-    /// U5: WHO isn't `u:` or `g:` with a name behind it, or `--groups` gives groups to a group.
-    BadPrincipal,
-    /// Out of memory.
-    NoMemory,
+    /// U2 to U5, or out of memory: what the words ask.
+    Question(QuestionFault),
 }
 
 impl From<AllocError> for UsageFault {
-    ghost use Rattle.rbac_command.specs.declared.fault.UsageFault.TheVariants.{NoMemory};
+    ghost use Rattle.rbac_command.specs.declared.fault.UsageFault.TheVariants.{Question};
+    ghost use Rattle.rbac_question.specs.declared.fault.QuestionFault.TheVariants.{NoMemory};
 
-    ghost from_gives = { λ _ fault. fault ≡ NoMemory };
+    ghost from_gives = { λ _ fault. fault ≡ Question NoMemory };
 
     fn from(_: AllocError) -> Self {
-        UsageFault::NoMemory
-    }
-}
-
-impl<T: Drop> From<AllocFailed<T>> for UsageFault {
-    ghost use Rattle.rbac_command.specs.declared.fault.UsageFault.TheVariants.{NoMemory};
-
-    ghost from_gives = { λ _ fault. fault ≡ NoMemory };
-
-    fn from(_: AllocFailed<T>) -> Self {
-        UsageFault::NoMemory
+        UsageFault::Question(QuestionFault::NoMemory)
     }
 }
 
 impl From<QuestionFault> for UsageFault {
-    ghost use Rattle.rbac_command.specs.Faults.{usage_fault};
+    ghost use Rattle.rbac_command.specs.declared.fault.UsageFault.TheVariants.{Question};
 
-    ghost from_gives = { λ cause fault. fault ≡ usage_fault cause };
+    ghost from_gives = { λ cause fault. fault ≡ Question cause };
 
     fn from(cause: QuestionFault) -> Self {
-        match cause {
-            QuestionFault::EmptyWord => UsageFault::EmptyWord,
-            QuestionFault::UrlSubresource => UsageFault::UrlSubresource,
-            QuestionFault::BadToken => UsageFault::BadToken,
-            QuestionFault::BadPrincipal => UsageFault::BadPrincipal,
-            QuestionFault::NoMemory => UsageFault::NoMemory,
-        }
+        UsageFault::Question(cause)
     }
 }
 
@@ -69,11 +46,7 @@ impl fmt::Display for UsageFault {
     fn fmt<W: fmt::Write>(&self, f: &mut fmt::Formatter<W>) -> fmt::Result {
         match self {
             UsageFault::Refused(error) => write!(f, "{error}"),
-            UsageFault::EmptyWord => write!(f, "{}", QuestionFault::EmptyWord),
-            UsageFault::UrlSubresource => write!(f, "{}", QuestionFault::UrlSubresource),
-            UsageFault::BadToken => write!(f, "{}", QuestionFault::BadToken),
-            UsageFault::BadPrincipal => write!(f, "{}", QuestionFault::BadPrincipal),
-            UsageFault::NoMemory => write!(f, "{}", QuestionFault::NoMemory),
+            UsageFault::Question(fault) => write!(f, "{fault}"),
         }
     }
 }

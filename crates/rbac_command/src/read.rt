@@ -185,7 +185,7 @@ fn parsed<'a>(alloc: Global, words: &'a [String]) -> Result<ArgMatches<'a>, Usag
     match program(alloc)?.try_get_matches_from(words) {
         Ok(matches) => Ok(matches),
         Err(error) => match error.kind() {
-            ErrorKind::OutOfMemory => Err(UsageFault::NoMemory),
+            ErrorKind::OutOfMemory => Err(UsageFault::Question(QuestionFault::NoMemory)),
             _ => Err(UsageFault::Refused(error)),
         },
     }
@@ -225,7 +225,7 @@ fn subcommand_of<'m, 'a>(matches: &'m ArgMatches<'a>) -> Option<(&'a str, &'m Ar
     matches.subcommand()
 }
 
-fn meaning_of(alloc: Global, matches: &ArgMatches<'_>) -> Result<Command, UsageFault>
+fn meaning_of(alloc: Global, matches: &ArgMatches<'_>) -> Result<Command, QuestionFault>
     requires { option_map_or (λ p. is_known p.0) (subcommand_rows_of matches.now) false ≡ true }
     ensures { MatchResult result (Means (subcommand_rows_of matches.now))
         (IsCauseOf (subcommand_rows_of matches.now)) }
@@ -247,5 +247,5 @@ pub fn command_of(alloc: Global, words: &[String]) -> Result<Command, UsageFault
     ensures { IsAnswer (map string_bytes words.now) result }
 {
     let matches = parsed(alloc, words)?;
-    meaning_of(alloc, &matches)
+    Ok(meaning_of(alloc, &matches)?)
 }

@@ -10,7 +10,7 @@ ghost use Rattle.rbac_lint.specs.Roles.{cluster_role_object};
 use rbac_model::SourceRole;
 use rbac_terms::{Binding, CLUSTER_ROLE, CLUSTER_ROLE_BINDING, ROLE, ROLE_BINDING, RoleRef, Word};
 use std::alloc::{AllocError, Global};
-use std::flag::Model;
+use std::marker::Model;
 
 /// A finding (own). Its texts aren't escaped.
 #[derive(Debug, Drop)]

@@ -9,7 +9,7 @@ use rbac_terms::Rule;
 use std::alloc::{AllocError, Global};
 use std::cmp::Ordering;
 use std::collections::BTreeSet;
-use std::flag::Model;
+use std::marker::Model;
 
 // A rule, as sets order it: by its five lists, word by word.
 #[derive(Drop)]

@@ -11,7 +11,7 @@ use crate::prefixes::{Prefix, prefixes_of};
 use rbac_terms::{Rule, Word, before_stars};
 use std::alloc::{AllocError, Global};
 use std::collections::BTreeMap;
-use std::flag::Model;
+use std::marker::Model;
 use std::slice::from_ref;
 
 // Places of rules, ascending.

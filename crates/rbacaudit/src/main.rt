@@ -89,7 +89,7 @@ fn words_of(rt: &HostRuntime) -> Result<Vec<String>, Fault> {
         Err(error) => match bad_word(rt) {
             Ok(Some(place)) => Err(Fault::NotUtf8(place)),
             Ok(None) => Err(Fault::Words(error)),
-            Err(_) => Err(Fault::Usage(UsageFault::NoMemory)),
+            Err(error) => Err(Fault::Usage(error.into())),
         },
     }
 }
