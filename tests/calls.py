@@ -6,6 +6,8 @@ no failure. Each run answers that it is out of memory, or what it answers with m
 of before, and a prefix of what would have been added), the same call answers with memory as if nothing had failed, and so do all
 calls after it. Calls that allocate nothing meet no failure where every allocation would fail. A sweep that met none has failed.
 
+The last group makes the calls that answer three worked examples of tests/rows.json: what they print has to be the examples' lines.
+
 The program is proved and built in a repository of its own in FOLDER, which keeps what was proved for the next time; without
 FOLDER in one that is gone afterwards. With --once, as in the gate, the program isn't proved, and each call is made with memory alone:
 so it can't rot unseen. The last line is `N passed, M failed`.
@@ -14,22 +16,71 @@ so it can't rot unseen. The last line is `N passed, M failed`.
 import concurrent.futures
 import errno
 import itertools
+import json
 import os
 import shutil
 import subprocess
 import sys
 import tempfile
 
-from common import TOP, checked, results
+from common import TOP, checked, export, results
 
 SOURCES = os.path.join(TOP, 'tests', 'calls')
 EXPORT = os.path.join(SOURCES, 'export.json')
-GROUPS = 'requests', 'growing', 'exports', 'matrix', 'commands'
+GROUPS = 'requests', 'growing', 'exports', 'matrix', 'commands', 'examples'
 # Calls may be added; fewer would be a group that isn't made.
-LEAST_CALLS = 97
+LEAST_CALLS = 150
+# Where tests/rows.json has the worked examples, and how their rules begin.
+EXAMPLES = ('lines', 'Rules written in aggregated roles'), ('matrices', 'Verbs are in byte order'), ('lines', 'Holders, each once')
+LEAST_EXAMPLES = 12
 # The texts of this project's errors, and of the kit's.
 OUT_OF_MEMORY = 'out of memory', 'memory allocation failed'
 NEVER = 10 ** 9
+
+
+class Examples:
+    """The worked examples: files with their exports, and the status and the lines of each command over them."""
+
+    def __init__(self, room):
+        with open(os.path.join(TOP, 'tests', 'rows.json'), encoding='utf-8') as file:
+            self.groups = json.load(file)
+        self.paths, self.answers = [], {}
+        for group, rule in EXAMPLES:
+            [example] = [it for it in self.groups[group] if it['rule'].startswith(rule)]
+            self.paths.append(os.path.join(room, 'example-%d.json' % len(self.paths)))
+            with open(self.paths[-1], 'wb') as file:
+                file.write(export(*example['items']))
+            if group == 'lines':
+                self.answers.update((words, (status, lines)) for words, status, lines in example['asks'])
+            else:
+                pages = [('matrix', [*example['rows'], 'end']), *(('matrix ' + words, lines) for words, lines in example['pages'])]
+                self.answers.update((words, (0, lines)) for words, lines in pages)
+
+    def compare(self, lines):
+        """Compares what the calls print over the examples: `run` all that the command writes, the others the lines without the end of
+        a page."""
+        printed = [line for line in lines if line[0] == 'print' and ', example ' in line[1]]
+        checked('each example is answered', len(printed) >= LEAST_EXAMPLES, repr(printed))
+        for line in printed:
+            call, _, words = line[1].partition(', example ')
+            status, wanted = self.answers[words]
+            if call != 'run':
+                status, wanted = 0, [it for it in wanted if it != 'end']
+            ok = 'ok %016x' % digest(status)
+            checked(line[1], line[2:] == ['', ok, escaped(wanted), ok], repr(line))
+
+
+def digest(number):
+    """The digest of a number, as digest.rt.txt makes it."""
+    result = 0xcbf29ce484222325
+    for byte in number.to_bytes(8, 'little'):
+        result = (result ^ byte) * 0x100000001b3 % 2 ** 64
+    return result
+
+
+def escaped(lines):
+    """Lines as one field."""
+    return ''.join(line + '\n' for line in lines).replace('\\', r'\\').replace('\t', r'\x09').replace('\n', r'\x0a')
 
 
 def copied(source, folder):
@@ -69,7 +120,10 @@ def build(folder):
 
 def make_once(folder):
     """Makes each call with memory, by the program unproved."""
-    words = ['rt', 'try', '--data', 'export.json=' + EXPORT, '--', 'all', 'export.json']
+    examples = Examples(folder)
+    given = {os.path.basename(path): path for path in (EXPORT, *examples.paths)}
+    data = itertools.chain.from_iterable(('--data', '%s=%s' % it) for it in given.items())
+    words = ['rt', 'try', *data, '--', 'all', *given]
     tried = subprocess.run(words, cwd=lay_out(folder), stdout=subprocess.PIPE, stderr=subprocess.PIPE)
     lines = [line.split('\t') for line in tried.stdout.decode().splitlines()]
     lines = [line for line in lines if line[0] in ('call', 'print', 'free')]
@@ -78,12 +132,14 @@ def make_once(folder):
     for line in lines:
         well = len(line) == 6 and line[3].startswith('ok ') and line[5].startswith('ok ')
         checked('%s succeeds with memory' % line[1], well, repr(line))
+    examples.compare(lines)
 
 
 class Program:
     def __init__(self, folder):
         self.path = os.path.join(folder, 'crates', 'calls', 'out', 'calls')
         self.shim = os.path.join(folder, 'refuse.so')
+        self.examples = Examples(folder)
 
     def run(self, log, group, mark, first, last):
         """Makes a group's calls while allocations from FIRST to LAST fail in the one of this number: how many failures it met, and
@@ -91,8 +147,8 @@ class Program:
         environment = dict(LD_PRELOAD=self.shim, REFUSE='memory', REFUSE_BETWEEN=str(mark), REFUSE_FIRST=str(first),
                            REFUSE_LAST=str(last), REFUSE_ERROR=str(errno.ENOMEM), REFUSE_LOG=str(log))
         before = os.fstat(log).st_size
-        ended = subprocess.run([self.path, group, EXPORT], stdin=subprocess.DEVNULL, stdout=subprocess.PIPE, stderr=subprocess.PIPE,
-                               env=environment, pass_fds=[log], timeout=60)
+        ended = subprocess.run([self.path, group, EXPORT, *self.examples.paths], stdin=subprocess.DEVNULL, stdout=subprocess.PIPE,
+                               stderr=subprocess.PIPE, env=environment, pass_fds=[log], timeout=60)
         lines = [line.split('\t') for line in ended.stdout.decode().splitlines()]
         if ended.returncode or ended.stderr != b'()' * len(lines) or any(len(line) != 6 for line in lines):
             lines = [['status %d' % ended.returncode, repr(ended.stdout[-300:]), repr(ended.stderr[-300:])]]
@@ -153,6 +209,8 @@ def calls(program):
             _, whole = program.run(log.fileno(), group, NEVER, NEVER, NEVER)
         well = all(len(line) == 6 and line[3].startswith('ok ') for line in whole)
         checked('the calls of %s succeed with memory' % group, well, repr(whole))
+        if group == 'examples':
+            program.examples.compare(whole)
         if well:
             total += sweeps(program, group, whole)
             free_calls(program, group, whole)
@@ -161,6 +219,7 @@ def calls(program):
 
 def sweep_all(room):
     folder = os.path.abspath(sys.argv[1]) if len(sys.argv) > 1 else room
+    os.makedirs(folder, exist_ok=True)
     program = Program(folder)
     built = build(folder)
     checked('the program that makes the calls is proved and built', built.returncode == 0, built.stdout.decode()[-2000:])
