@@ -402,7 +402,7 @@ class FindingsView {
         return make('section', {}, make('h3', {}, nodesOf(title), ' ',
             muted(figure(found.length))),
             make('p', {class: 'why'}, Object.hasOwn(FINDINGS, code) ? FINDINGS[code] : ''),
-            plainTable(title, ['Object', 'Rule or subject', 'What belongs to it'], found,
+            plainTable(title, ['Object', 'Rule or subject', 'Detail'], found,
                 finding => finding.slice(2).map(word => word === '-'
                     ? muted('–') : nodesOf(textOf(word)))));
     }

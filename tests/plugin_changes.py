@@ -17,7 +17,7 @@ OVER = 'kubectl-rbacaudit: %s is put over the export: objects that the change de
 ALONE = 'kubectl-rbacaudit: the export has the namespace shop alone, and this answer knows no other\n'
 OF_ONE = ('kubectl-rbacaudit: only one of the exports is of the namespace shop alone, '
           'so what it lacks counts as gained or lost\n')
-NOTHING = 'kubectl-rbacaudit: nothing is answered; with --partial, what is there answers\n'
+NOTHING = 'kubectl-rbacaudit: nothing is answered; --partial answers from what is there\n'
 
 
 def with_role():

@@ -211,7 +211,7 @@ def export_faults(it):
         folder = 'faulty%d' % number
         status, out, err = got = it.run('export', folder, trouble=[trouble])
         it.checked('%s: status 1' % trouble, (status, out) == (1, ''), got)
-        line = next((line for line in err.splitlines() if line.startswith("kubectl-rbacaudit: %s can't be had: " % missing)), '')
+        line = next((line for line in err.splitlines() if line.startswith("kubectl-rbacaudit: %s can't be read: " % missing)), '')
         it.checked('%s is reported' % trouble, line.endswith(why) and (said is None or err.startswith(said)), err)
         it.checked('%s: the other files are there' % trouble,
                 it.files(folder) == sorted({*WHOLE, 'incomplete.txt'} - {missing}), it.files(folder))
@@ -283,7 +283,7 @@ def closed_folder(it):
         resource.setrlimit(resource.RLIMIT_FSIZE, (1024, 1024))
 
     status, out, err = got = it.run('export', 'small', preexec_fn=small)
-    it.checked('files that can\'t grow', (status, out) == (1, '') and "cluster.json can't be had" in err, got)
+    it.checked('files that can\'t grow', (status, out) == (1, '') and "cluster.json can't be read" in err, got)
     it.checked('they are absent', 'cluster.json' not in it.files('small') and 'accounts.json' in it.files('small'), it.files('small'))
     it.checked('and no file is cut', all(len(it.read('small', name)) < 1024
                                          and (name.endswith('.txt')

@@ -475,7 +475,7 @@ DOWN = ['down api-apps-v1']
 def parts(it):
     """A fresh export with a part missing answers with --partial alone, and says so."""
     down = "Warning: old\nError from server (ServiceUnavailable): try later\n" \
-           "kubectl-rbacaudit: api-apps-v1.json can't be had: kubectl get --raw /apis/apps/v1 ended with status 1\n"
+           "kubectl-rbacaudit: api-apps-v1.json can't be read: kubectl get --raw /apis/apps/v1 ended with status 1\n"
     it.expect('a group is down', UPDATE, 2, '', down + REFUSAL, trouble=DOWN)
     it.expect('a group is down, --partial', [*UPDATE, '--partial'], 0, 'yes\n',
               down + CAUTION + UNLISTED % 'type deployments.apps', trouble=DOWN)

@@ -93,7 +93,7 @@ NO_ACCOUNT = ('kubectl-rbacaudit: the export has no service account %s in the na
               'check the spelling\n')
 DANA = 'u:dana@example.com\tClusterRoleBinding/admins\n'
 DEVELOPERS = 'g:shop-developers\tRoleBinding/shop/developers-view\n'
-REFUSAL = 'kubectl-rbacaudit: a part of the export is missing, so nothing is answered; with --partial, what is there answers\n'
+REFUSAL = 'kubectl-rbacaudit: a part of the export is missing, so nothing is answered; --partial answers from what is there\n'
 CAUTION = 'kubectl-rbacaudit: a part of the export is missing: this answer knows only what is there\n'
 UNLISTED = "kubectl-rbacaudit: the API resource lists of the export don't have the %s: check the spelling\n"
 

@@ -193,7 +193,7 @@ def faults(it):
         status, out, err = got = it.run('export', *options, 'most', environment=environment)
         it.checked('a group is silent', (status, out) == (1, '') and err ==
                    'Error from server (ServiceUnavailable): not now\nkubectl-rbacaudit: '
-                   "api-metrics.k8s.io-v1beta1.json can't be had: kubectl get --raw "
+                   "api-metrics.k8s.io-v1beta1.json can't be read: kubectl get --raw "
                    '/apis/metrics.k8s.io/v1beta1 ended with status 1\nkubectl-rbacaudit: '
                    'a part of the export is missing; most/incomplete.txt repeats it\n', got)
 

@@ -32,7 +32,7 @@ open_export() {
         refuse 'neither cluster.json nor namespaced.json is there, so nothing can be answered'
     [ "$lacks" = yes ] || return 0
     [ "$partial" = yes ] ||
-        refuse 'a part of the export is missing, so nothing is answered; with --partial, what is there answers'
+        refuse 'a part of the export is missing, so nothing is answered; --partial answers from what is there'
     report 'a part of the export is missing: this answer knows only what is there'
 }
 

@@ -93,7 +93,7 @@ warn_of_namespaces() {
     report "only one of the exports is of the namespace ${only:-$only_in} alone, \
 so what it lacks counts as gained or lost"
     [ "$partial" = yes ] ||
-        refuse 'nothing is answered; with --partial, what is there answers'
+        refuse 'nothing is answered; --partial answers from what is there'
 }
 
 add_later() {

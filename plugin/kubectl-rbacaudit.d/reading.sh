@@ -52,7 +52,7 @@ collect() {
 }
 
 # Takes what the next call printed to its file, whole or not at all. Reports and notes what is
-# needed and can't be had.
+# needed and can't be read.
 settle() {
     settled=$((settled + 1))
     got=$scratch/got.$settled
@@ -93,7 +93,7 @@ note_missing() {
     why="ended with status $failed"
     [ "$failed" -ne 0 ] || why='printed nothing'
     erase_progress
-    report "$name can't be had: $asked $why"
+    report "$name can't be read: $asked $why"
     reason=$(sed '/^Warning: /d' "$said" | drop_log | tr '\n' ' ')
     reason=${reason% }
     reason=${reason:+: $reason}
@@ -133,12 +133,12 @@ fetch_lists() {
 # and a quote.
 list_versions() {
     with_kubectl run kubectl get --raw /apis >"$scratch/apis" ||
-        refuse "the API groups can't be had: kubectl get --raw /apis ended with status $?; so nothing is read"
+        refuse "the API groups can't be read: kubectl get --raw /apis ended with status $?; so nothing is read"
     signed_in=yes
     LC_ALL=C awk 'BEGIN { RS = "\"" }
         before == "groupVersion" && between ~ /^[ \t\r\n]*:[ \t\r\n]*$/ && !seen[$0]++ { print }
         { before = between; between = $0 }' "$scratch/apis" >"$scratch/versions"
-    [ -s "$scratch/versions" ] || refuse "the API groups can't be had: kubectl get --raw /apis printed none; so nothing is read"
+    [ -s "$scratch/versions" ] || refuse "the API groups can't be read: kubectl get --raw /apis printed none; so nothing is read"
     while IFS= read -r version; do
         total=$((total + 1))
     done <"$scratch/versions"
