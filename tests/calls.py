@@ -16,23 +16,19 @@ so it can't rot unseen. The last line is `N passed, M failed`.
 import concurrent.futures
 import errno
 import itertools
-import json
 import os
 import shutil
 import subprocess
 import sys
 import tempfile
 
-from common import TOP, checked, export, results
+from common import TOP, checked, results, worked_examples
 
 SOURCES = os.path.join(TOP, 'tests', 'calls')
 EXPORT = os.path.join(SOURCES, 'export.json')
 GROUPS = 'requests', 'growing', 'exports', 'matrix', 'commands', 'examples'
 # Calls may be added; fewer would be a group that isn't made.
 LEAST_CALLS = 150
-# Where tests/rows.json has the worked examples, and how their rules begin.
-EXAMPLES = ('lines', 'Rules written in aggregated roles'), ('matrices', 'Verbs are in byte order'), ('lines', 'Holders, each once')
-LEAST_EXAMPLES = 12
 # The texts of this project's errors, and of the kit's.
 OUT_OF_MEMORY = 'out of memory', 'memory allocation failed'
 NEVER = 10 ** 9
@@ -42,27 +38,19 @@ class Examples:
     """The worked examples: files with their exports, and the status and the lines of each command over them."""
 
     def __init__(self, room):
-        with open(os.path.join(TOP, 'tests', 'rows.json'), encoding='utf-8') as file:
-            self.groups = json.load(file)
         self.paths, self.answers = [], {}
-        for group, rule in EXAMPLES:
-            [example] = [it for it in self.groups[group] if it['rule'].startswith(rule)]
+        for given, answers in worked_examples():
             self.paths.append(os.path.join(room, 'example-%d.json' % len(self.paths)))
             with open(self.paths[-1], 'wb') as file:
-                file.write(export(*example['items']))
-            if group == 'lines':
-                self.answers.update((words, (status, lines)) for words, status, lines in example['asks'])
-            else:
-                pages = [('matrix', [*example['rows'], 'end']), *(('matrix ' + words, lines) for words, lines in example['pages'])]
-                self.answers.update((words, (0, lines)) for words, lines in pages)
+                file.write(given)
+            self.answers.update(answers)
 
     def compare(self, lines):
         """Compares what the calls print over the examples: `run` all that the command writes, the others the lines without the end of
         a page."""
-        printed = [line for line in lines if line[0] == 'print' and ', example ' in line[1]]
-        checked('each example is answered', len(printed) >= LEAST_EXAMPLES, repr(printed))
-        for line in printed:
-            call, _, words = line[1].partition(', example ')
+        printed = [(*line[1].partition(', example ')[::2], line) for line in lines if line[0] == 'print' and ', example ' in line[1]]
+        checked('each example is answered', {words for call, words, _ in printed if call == 'run'} == set(self.answers), repr(printed))
+        for call, words, line in printed:
             status, wanted = self.answers[words]
             if call != 'run':
                 status, wanted = 0, [it for it in wanted if it != 'end']

@@ -8,12 +8,32 @@ PROGRAM = os.path.join(TOP, 'crates/rbacaudit/out/rbacaudit')
 V1 = 'rbac.authorization.k8s.io/v1'
 V1BETA1 = V1 + 'beta1'
 PODS = {'verbs': ['get'], 'apiGroups': [''], 'resources': ['pods']}
+# The worked examples on which refused memory is swept: where tests/rows.json has each, how its rule begins, and commands over it.
+EXAMPLES = (
+    ('lines', 'Rules written in aggregated roles', ['lint']),
+    ('matrices', 'Verbs are in byte order', ['matrix', *('matrix --limit %d' % most for most in range(1, 5))]),
+    ('lines', 'Holders, each once', ['who-can -n dev get pods', 'who-can -A get pods']),
+)
 results = []
 skips = {}
 
 
 def export(*items):
     return json.dumps({'apiVersion': 'v1', 'kind': 'List', 'items': items}).encode()
+
+
+def worked_examples():
+    """For each of the worked examples its export, and the status and the lines of each command over it."""
+    with open(os.path.join(TOP, 'tests', 'rows.json'), encoding='utf-8') as file:
+        groups = json.load(file)
+    for group, rule, commands in EXAMPLES:
+        [example] = [it for it in groups[group] if it['rule'].startswith(rule)]
+        if group == 'lines':
+            answers = {words: (status, lines) for words, status, lines in example['asks']}
+        else:
+            answers = {'matrix ' + words: (0, lines) for words, lines in example['pages']}
+            answers['matrix'] = 0, [*example['rows'], 'end']
+        yield export(*example['items']), {words: answers[words] for words in commands}
 
 
 def bare(document):

@@ -22,7 +22,7 @@ import sys
 import tempfile
 import threading
 
-from common import PODS, PROGRAM, TOP, V1, V1BETA1, checked, export, tested
+from common import PODS, PROGRAM, TOP, V1, V1BETA1, checked, export, tested, worked_examples
 
 NO_MEMORY = b'rbacaudit: out of memory\n'
 READ_FAULTS = [b'rbacaudit: file %d: I1 read fault\n' % place for place in (1, 2)]
@@ -363,6 +363,13 @@ def answers():
     yield Case('lint, no findings', ['lint'], export(*WORKED), 0)
 
 
+def examples():
+    """The commands over the worked examples."""
+    for given, answers in worked_examples():
+        for words, (status, lines) in answers.items():
+            yield Case('example ' + words, words.split(), given, status, ''.join(line + '\n' for line in lines))
+
+
 def changes(room):
     yield few_changes(room)
     yield changed(room, 'diff, nothing gained', CHANGED, CHANGED[:3], 1, CHANGES_LOST)
@@ -419,7 +426,7 @@ def parser_texts():
 
 def refused_memory(shim, room):
     """Every growth of memory in turn, and every growth from each on; two sweeps at a time."""
-    cases = [(case, False) for case in (*answers(), *changes(room), *matrices(), *parser_texts(), *faults(room))]
+    cases = [(case, False) for case in (*answers(), *examples(), *changes(room), *matrices(), *parser_texts(), *faults(room))]
     cases += [(case, True) for case in (long_matrix(), long_bindings(), long_holders(), long_rules(), long_changes(room))]
     asked = [(case, must_cut, mode) for case, must_cut in cases for mode in (False, True)]
     with concurrent.futures.ThreadPoolExecutor(2) as pool:
