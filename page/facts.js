@@ -33,7 +33,7 @@ const WATCHED = [
         why: 'A token of a service account lets its holder act as that account, from anywhere.'},
     {id: 'everything', short: 'everything', title: 'Has everything (*)', pairs: [],
         why: 'May use every verb on every type that this page lists for the whole cluster or for '
-            + 'a namespace, as a rule of stars allows; or has a row for * itself.'},
+            + 'a namespace, as a rule with * allows; or has a row for * itself.'},
 ];
 const EVERYTHING = 1 << (WATCHED.length - 1);
 

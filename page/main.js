@@ -5,10 +5,10 @@ const VIEWS = {
     what: ['What', () => new WhatView()],
     watch: ['Watch list', () => new WatchView()],
     rows: ['Rows', () => new RowsView(ROWS, 'Rows', 'rows',
-        'A filter takes the rows whose field contains it. With = before it, the field has to be '
-        + 'printed exactly so: =- is the empty field, which as a namespace means the whole '
-        + 'cluster, and as an API group the core group. The binding is the first that grants, '
-        + 'unless the matrix was made with --every.')],
+        'A filter keeps the rows whose field contains its text; with = before the text, the rows '
+        + 'whose field is exactly that: =- is the empty field, which as a namespace means the '
+        + 'whole cluster, and as an API group the core group. The binding is the first that '
+        + 'grants, unless the matrix was made with --every.')],
 };
 if (PAGE.findings) {
     VIEWS.findings = ['Findings', () => new FindingsView()];
