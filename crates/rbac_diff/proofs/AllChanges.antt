@@ -1,5 +1,5 @@
 -- what was found are all changes, each once
-use Rattle.std.proofs.Common.{◌≡◌, ◌⊎◌, ◌↔◌, ◌<◌, ℕ, List, [], inl, inr, refl, sym, ◌∙◌, ap, subst, arith, Some, None, IsSome, Option, Any, true, false, AllPairs, Contains, ◌∷◌, map, length, option_map, slice_get, Result, Ok, Err, IfOk}
+use Rattle.std.proofs.Common.{◌≡◌, ◌<◌, ℕ, List, [], inl, inr, refl, sym, ◌∙◌, ap, subst, arith, Some, None, IsSome, Option, Any, true, false, AllPairs, Contains, ◌∷◌, map, length, option_map, slice_get, Result, Ok, Err, IfOk}
 use Rattle.std.specs.BTreeMap.{get, IsOrdered}
 use Rattle.std.specs.List.{AllByRecursion}
 use Rattle.std.specs.List.Sorted.{IsStrictlySortedBy}
@@ -17,8 +17,7 @@ use Rattle.rbac_terms.specs.Text.{Text, text_cmp}
 use Rattle.rbac_terms.specs.Principals.{given_of}
 use Rattle.rbac_terms.specs.declared.granting.Binding.{Binding}
 use Rattle.rbac_terms.proofs.Orderings.{equal_from_test}
-use Rattle.rbac_model.specs.Lists.{IsFirstAt}
-use Rattle.rbac_model.specs.Policies.{PolicyView, GrantView, IsOfBinding, IsPolicy}
+use Rattle.rbac_model.specs.Policies.{PolicyView, GrantView, IsPolicy}
 use Rattle.rbac_diff.specs.Permissions.{PermissionView, HasPermission, HasBy, IsFirstWith}
 use Rattle.rbac_diff.specs.Requests.{IsGained}
 use Rattle.rbac_diff.specs.Covering.{IsAskedFor, IsCovered}

@@ -10,7 +10,7 @@ use Rattle.rbac_terms.specs.declared.granting.Subject.TheVariants.{User, Group, 
 use Rattle.rbac_terms.specs.declared.matching.Rule.{Rule}
 use Rattle.rbac_model.specs.Policies.{PolicyView, GrantView, IsOfBinding}
 use Rattle.rbac_model.proofs.LabelSets.{any_push}
-use Rattle.rbac_diff.specs.Permissions.{PermissionView, Permitted, OnResource, OnUrl, Permits, HasPermission}
+use Rattle.rbac_diff.specs.Permissions.{PermissionView, Permitted, OnResource, OnUrl, Permits}
 use Rattle.rbac_diff.specs.Covering.{IsAskedFor, IsCovered, IsAsWide, CoversWords}
 use Rattle.rbac_diff.specs.StandIns.{AreRulesOf, IsWider}
 use Rattle.rbac_diff.specs.Finding.{IsByGrants, IsMissing, IsGainedAt, Findings, Finds}

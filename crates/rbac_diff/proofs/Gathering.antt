@@ -1,10 +1,9 @@
 -- what is gained, binding by binding
-use Rattle.std.proofs.Common.{◌≡◌, ◌⊎◌, ◌↔◌, ◌<◌, ◌+◌, ℕ, inl, inr, refl, sym, ◌∙◌, ap, subst, arith, Some, None, IsSome, Option, slice_get}
+use Rattle.std.proofs.Common.{◌≡◌, ◌<◌, ◌+◌, ℕ, inl, inr, sym, ◌∙◌, ap, subst, arith, Some, IsSome, slice_get}
 use Rattle.std.specs.BTreeMap.{get}
 use Rattle.std.proofs.lemmas.Bool.{cases_lt}
 use Rattle.rbac_terms.specs.Text.{Text, text_cmp}
-use Rattle.rbac_terms.specs.declared.granting.Binding.{Binding}
-use Rattle.rbac_model.specs.Policies.{PolicyView, GrantView, IsOfBinding}
+use Rattle.rbac_model.specs.Policies.{PolicyView}
 use Rattle.rbac_diff.specs.Permissions.{PermissionView}
 use Rattle.rbac_diff.specs.Texts.{permission_text}
 use Rattle.rbac_diff.specs.Unchanged.{HasSameGrants}
@@ -22,8 +21,11 @@ unchanged_gains_nothing before after place same p h =
     h.missing (there.1.0, there.0, there.1.1, there.1.2, same_covers p g.1 there.0 g.4 h.asked there.2 there.3 there.4)
 
 module _ (kind : ChangeKind) (before after : PolicyView) where
+  pub gathered_nothing : (count : ℕ) (m : Findings) → ((at : ℕ) → at < count → (p : PermissionView) → IsGainedAt before after at p → ⊥) → FindsGained kind before after count m m
+  gathered_nothing count m none = record { kept = λ t y e. e; has = λ at p l h. absurd (none at l p h); only = λ t y e. inl e }
+
   pub gathered_none : (m : Findings) → FindsGained kind before after 0 m m
-  gathered_none m = record { kept = λ t y e. e; has = λ at p l h. absurd (omega (arith, l)); only = λ t y e. inl e }
+  gathered_none m = gathered_nothing 0 m (λ at l. absurd (omega (arith, l)))
 
   pub gathered_same : (k : ℕ) (a b : Findings) → ((p : PermissionView) → IsGainedAt before after k p → ⊥) → FindsGained kind before after k a b → FindsGained kind before after (k + 1) a b
   gathered_same k a b none f = record {

@@ -3,7 +3,7 @@ use Rattle.std.proofs.Common.{◌≡◌, ◌≢◌, ◌⊎◌, ◌↔◌, ◌∙
 use Rattle.std.specs.Option.{option_copied}
 use Rattle.rbac_terms.specs.Text.{Text}
 use Rattle.rbac_terms.specs.declared.matching.Rule.{Rule}
-use Rattle.rbac_diff.specs.Permissions.{PermissionView, Permitted, OnResource, OnUrl, Permits, one_star}
+use Rattle.rbac_diff.specs.Permissions.{PermissionView, Permitted, OnResource, OnUrl, Permits}
 use Rattle.rbac_diff.specs.Finding.{IsOnResource, IsOnUrl, IsOnTarget, IsByRule}
 use Rattle.rbac_diff.specs.declared.finding.Search.{Search}
 

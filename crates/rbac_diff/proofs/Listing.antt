@@ -1,5 +1,5 @@
 -- the entries of a map, as a list of changes
-use Rattle.std.proofs.Common.{◌≡◌, ◌++◌, ◌∷◌, List, [], map, ap, sym}
+use Rattle.std.proofs.Common.{◌≡◌, ◌++◌, ◌∷◌, List, [], map, ap}
 use Rattle.rbac_terms.specs.Text.{Text}
 use Rattle.rbac_diff.specs.declared.change.Change.{Change}
 use Rattle.rbac_diff.specs.declared.change.Found.{Found}

@@ -5,7 +5,7 @@ use Rattle.rbac_terms.specs.Text.{Text, text_cmp}
 use Rattle.rbac_terms.specs.declared.granting.Binding.{Binding}
 use Rattle.rbac_model.specs.Policies.{PolicyView}
 use Rattle.rbac_diff.specs.Permissions.{PermissionView, IsFirstWith}
-use Rattle.rbac_diff.specs.Requests.{IsGained, IsGainedRequest, AllowsNoMore, AllowsRequest}
+use Rattle.rbac_diff.specs.Requests.{IsGained, AllowsRequest}
 use Rattle.rbac_diff.specs.Requests.{StandsFor, RequestView, IsRequest}
 use Rattle.rbac_diff.specs.Texts.{permission_text}
 use Rattle.rbac_diff.specs.declared.change.ChangeKind.{ChangeKind}

@@ -7,7 +7,7 @@ use Rattle.std.proofs.Common.{Bor}
 use Rattle.rbac_terms.specs.Text.{Text, text_cmp}
 use Rattle.rbac_terms.specs.declared.matching.Rule.{Rule}
 use Rattle.rbac_model.specs.Policies.{PolicyView, GrantView, IsOfBinding}
-use Rattle.rbac_diff.specs.Permissions.{PermissionView, Permitted, OnResource, OnUrl, one_star}
+use Rattle.rbac_diff.specs.Permissions.{PermissionView, OnResource, OnUrl, one_star}
 use Rattle.rbac_diff.specs.Permissions.{IsNameOf, Permits, HasPermission}
 use Rattle.rbac_diff.specs.Covering.{CoversWords, IsAskedFor, IsCovered}
 use Rattle.rbac_diff.specs.Texts.{permission_text}

@@ -1,5 +1,5 @@
 -- Bindings that grant the same in both policies.
-use Rattle.std.specs.Prelude.{◌≡◌, ℕ, Some, slice_get, Contains}
+use Rattle.std.specs.Prelude.{◌≡◌, ℕ, List, Bool, false, Some, slice_get, length, Contains}
 use Rattle.rbac_model.specs.Policies.{PolicyView, GrantView, IsOfBinding}
 
 -- each grant of the binding at that place has the rule of a grant of the other policy's binding at
@@ -17,3 +17,13 @@ HasSameGrants own place other = (no : ℕ) (g : GrantView) → slice_get own.gra
     → IsOfBinding own no place
     → (h : GrantView) × Contains other.grants h × (h.binding.namespace ≡ g.binding.namespace)
     × (h.binding.subjects ≡ g.binding.subjects) × (h.rule.rule ≡ g.rule.rule)
+
+-- a binding that isn't marked at its place grants the same as one of the other policy
+abbrev pub UnmarkedAreSame : PolicyView → List Bool → PolicyView → Type 0
+UnmarkedAreSame own marks other = (place : ℕ) → slice_get marks place ≡ Some false
+    → HasSameGrants own place other
+
+-- each binding has a mark, and those that aren't marked grant the same as one of the other policy
+pub record AreMarked (own : PolicyView) (marks : List Bool) (other : PolicyView) : Type 0 where
+  pub each : length marks ≡ length own.held.bindings
+  pub unmarked : UnmarkedAreSame own marks other

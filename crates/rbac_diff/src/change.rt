@@ -7,6 +7,7 @@ ghost use Rattle.rbac_model.specs.Policies.{IsPolicy};
 ghost use Rattle.rbac_diff.specs.Changes.{AreChanges};
 ghost use Rattle.rbac_diff.specs.Listed.{change_of, entry_change};
 
+use crate::changed::Changed;
 use crate::fault::DiffFault;
 use crate::finding::add_gained;
 use rbac_model::Policy;
@@ -58,9 +59,12 @@ pub fn changes<'p>(
     ensures before { IsPolicy before.now }
     ensures after { IsPolicy after.now }
 {
+    let changed = Changed::between(alloc, before, after)?;
+    let new = changed.after.as_slice();
+    let gone = changed.before.as_slice();
     let mut findings = BTreeMap::new(alloc);
-    add_gained(alloc, ChangeKind::Gained, before, after, &mut findings)?;
-    add_gained(alloc, ChangeKind::Lost, after, before, &mut findings)?;
+    add_gained(alloc, ChangeKind::Gained, before, after, new, &mut findings)?;
+    add_gained(alloc, ChangeKind::Lost, after, before, gone, &mut findings)?;
     listed(alloc, findings)
 }
 

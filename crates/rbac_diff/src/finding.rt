@@ -2,45 +2,44 @@
 
 ghost use Rattle.std.specs.Prelude.{◌≡◌, ◌<◌, OnOk, Some, Contains, Any, length, slice_get};
 ghost use Rattle.std.specs.Option.{option_copied};
-ghost use Rattle.rbac_model.specs.Policies.{IsPolicy};
 ghost use Rattle.rbac_diff.specs.Finding.{Finds, FindsGained, IsByGrants, IsByRule, IsGainedAt};
 ghost use Rattle.rbac_diff.specs.Finding.{IsOnResource, IsOnTarget, IsOnUrl, SearchFinds};
 ghost use Rattle.rbac_diff.specs.Shown.{permitted_of};
+ghost use Rattle.rbac_diff.specs.Unchanged.{AreMarked};
 
 use crate::change::{ChangeKind, Findings, Found};
 use crate::covering::{is_asked_for, is_covered};
 use crate::fault::DiffFault;
 use crate::permission::{Permission, Permitted, permission_text};
 use crate::stand_ins::Asked;
-use crate::unchanged::{is_unchanged, place_from};
 use rbac_index::Index;
 use rbac_model::Policy;
 use rbac_terms::{Binding, Principal, Rule, Word, subject_principal};
 use std::alloc::{AllocError, Global};
 
 // Adds each permission that `after` has and `before` doesn't allow, with the first binding that has
-// it, unless it was found already.
+// it, unless it was found already. Only the bindings that are marked have such permissions.
 pub(crate) fn add_gained<'p>(
     alloc: Global,
     kind: ChangeKind,
     before: &Policy,
     after: &'p Policy,
+    marks: &[bool],
     findings: &mut Findings<'p>,
 ) -> Result<(), DiffFault>
-    ensures gained { OnOk result
+    requires { AreMarked after.now marks.now before.now }
+    ensures { OnOk result
         (FindsGained kind before.now after.now (length after.now.held.bindings) findings.old
         findings.new) }
-    ensures before { IsPolicy before.now }
-    ensures after { IsPolicy after.now }
 {
+    if !marks.contains(&true) {
+        return Ok(());
+    }
     let after: &'p Policy = after;
     let bindings: &'p [Binding] = after.bindings();
-    let others = before.bindings();
     let asked = Asked::of(alloc, Index::build(alloc, before)?)?;
-    let mut at = 0;
     for (place, binding) in bindings.iter().enumerate() {
-        at = place_from(others, at, binding);
-        if !is_unchanged(after, place, before, at) {
+        if marks[place] {
             let found = Found { kind, binding };
             add_of_binding(alloc, &asked, after, place, found, findings)?;
         }

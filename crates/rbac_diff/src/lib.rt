@@ -2,7 +2,9 @@
 //! that there can be.
 #![tactic(auto)]
 
+mod alike;
 mod change;
+mod changed;
 mod covering;
 mod fault;
 mod finding;

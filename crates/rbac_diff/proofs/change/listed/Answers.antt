@@ -3,7 +3,6 @@ use Rattle.std.proofs.lemmas.List.{append-nil}
 use Rattle.rbac_terms.specs.Text.{Text}
 use Rattle.rbac_diff.specs.declared.change.Change.{Change}
 use Rattle.rbac_diff.specs.declared.change.Found.{Found}
-use Rattle.rbac_diff.specs.Changes.{ChangeView}
 use Rattle.rbac_diff.specs.Listed.{change_of, entry_change}
 use Rattle.rbac_diff.proofs.Listing.{listed_more}
 use Rattle.rbac_diff.proofs.change.listed.Goals as goal

@@ -1,4 +1,4 @@
-use Rattle.std.proofs.Common.{◌≡◌, ◌+◌, ◌++◌, ◌∷◌, [], List, Option, Some, take, arith, Bor, sym, ◌∙◌, ap, subst}
+use Rattle.std.proofs.Common.{◌≡◌, ◌+◌, ◌++◌, ◌∷◌, [], List, Option, Some, take, arith, Bor, sym, ◌∙◌, subst}
 use Rattle.std.specs.Option.{option_copied}
 use Rattle.std.proofs.lemmas.List.{take_all}
 use Rattle.rbac_terms.specs.Granting.{subject_principal}
@@ -7,7 +7,7 @@ use Rattle.rbac_terms.specs.declared.granting.Subject.{Subject}
 use Rattle.rbac_terms.specs.declared.matching.Rule.{Rule}
 use Rattle.rbac_model.proofs.Stairs.{take_read}
 use Rattle.rbac_diff.specs.StandIns.{AreRulesOf}
-use Rattle.rbac_diff.specs.Finding.{Findings, Finds, IsGainedAt}
+use Rattle.rbac_diff.specs.Finding.{Finds, IsGainedAt}
 use Rattle.rbac_diff.proofs.Bindings.{IsBySubjects, subjects_none, subjects_nobody, subjects_more, gained_by_subjects, none_given}
 use Rattle.rbac_diff.proofs.Searching.{finds_same}
 use Rattle.rbac_diff.proofs.finding.add_of_binding.Goals as goal

@@ -1,4 +1,3 @@
-use Rattle.std.proofs.Common.{Some, ◌≡◌, ◌≤◌, ◌<◌, ℕ, slice_get}
 use Rattle.std.specs.Option.{option_copied}
 use Rattle.rbac_diff.specs.Finding.{SearchFinds}
 use Rattle.rbac_diff.proofs.Grants.{IsByNumbers}

@@ -1,6 +1,5 @@
-use Rattle.std.proofs.Common.{arith, List, Any}
-use Rattle.rbac_terms.specs.Text.{Text}
-use Rattle.rbac_diff.specs.Finding.{IsOnUrl, SearchFinds}
+use Rattle.std.proofs.Common.{arith}
+use Rattle.rbac_diff.specs.Finding.{IsOnUrl}
 use Rattle.rbac_diff.proofs.Searching.{loop_start, loop_next, loop_all}
 use Rattle.rbac_diff.proofs.finding.add_urls.Goals as goal
 
