@@ -91,6 +91,10 @@ wide_of_rule : (own : Option Text) (r : Rule) (t : Permitted) → Permits own r 
 wide_of_rule own r (OnResource namespace group resource name) h = inr (sym h.0)
 wide_of_rule own r (OnUrl url) h = h.0
 
+-- a rule covers what it permits
+pub covers_own : (own : Option Text) (r : Rule) (p : PermissionView) → Contains r.verbs p.verb → Permits own r p.target → CoversWords p.verb p.target r
+covers_own own r p verb target = (any_from (λ w. WordMatches w p.verb) r.verbs p.verb verb (WordMatches-own p.verb), target_of_rule own r p.target target)
+
 pub same_covers : (p : PermissionView) (g h : GrantView) → HasPermission p g → IsAskedFor p.target → h.binding.namespace ≡ g.binding.namespace → h.binding.subjects ≡ g.binding.subjects → h.rule.rule ≡ g.rule.rule → Covers p h
 same_covers p g h has is here subjects rule =
     let named : Any (λ s. subject_principal h.binding.namespace s ≡ Some p.principal) h.binding.subjects =
@@ -98,7 +102,7 @@ same_covers p g h has is here subjects rule =
     record {
       wide = subst (λ (own : Option Text). IsAsWide own p.target) (sym here) (wide_of_rule g.binding.namespace g.rule.rule p.target has.target);
       names = named_by_own h.binding.namespace h.binding.subjects p.principal named;
-      words = subst (CoversWords p.verb p.target) (sym rule) (any_from (λ w. WordMatches w p.verb) g.rule.rule.verbs p.verb has.verb (WordMatches-own p.verb), target_of_rule g.binding.namespace g.rule.rule p.target has.target);
+      words = subst (CoversWords p.verb p.target) (sym rule) (covers_own g.binding.namespace g.rule.rule p has.verb has.target);
     }
 
 pub permission_allows : (after : PolicyView) → IsPolicy after → (p : PermissionView) (g : GrantView) → Contains after.grants g → HasPermission p g → (r : RequestView) → IsRequest r → StandsFor p r → AllowsRequest after r

@@ -50,7 +50,7 @@ pub(crate) fn is_covered(rules: &[&Rule], verb: &Word, target: Permitted<'_>) ->
 fn covers(rule: &Rule, verb: &Word, target: Permitted<'_>) -> bool
     ensures { IsTrue result ↔ CoversWords verb.now (permitted_of target.entry) rule.now }
 {
-    verb_matches(rule, verb) && covers_target(rule, target)
+    covers_target(rule, target) && verb_matches(rule, verb)
 }
 
 fn covers_target(rule: &Rule, target: Permitted<'_>) -> bool
@@ -62,7 +62,7 @@ fn covers_target(rule: &Rule, target: Permitted<'_>) -> bool
             group,
             resource,
             name,
-        } => group_matches(rule, group) && covers_object(rule, resource, name),
+        } => covers_object(rule, resource, name) && group_matches(rule, group),
         Permitted::Url(word) => covers_url(rule, word),
     }
 }

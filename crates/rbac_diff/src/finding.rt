@@ -12,6 +12,7 @@ use crate::covering::{is_asked_for, is_covered};
 use crate::fault::DiffFault;
 use crate::permission::{Permission, Permitted, permission_text};
 use crate::stand_ins::Asked;
+use crate::unchanged::place_of_rule;
 use rbac_index::Index;
 use rbac_model::Policy;
 use rbac_terms::{Binding, Principal, Rule, Word, subject_principal};
@@ -91,7 +92,9 @@ struct Search<'a, 'p> {
     others: &'a [&'a Rule],
 }
 
-// Adds the permissions by the grants of the binding at this place.
+// Adds the permissions by the grants of the binding at this place. A rule that stands among the
+// other policy's word for word has none; it is looked for behind the last one found, since rules
+// mostly stand in one order on both sides.
 fn add_of_grants<'a, 'p>(
     alloc: Global,
     search: &'a Search<'a, 'p>,
@@ -104,8 +107,13 @@ fn add_of_grants<'a, 'p>(
         findings.old findings.new) }
 {
     let (from, end) = after.grants_of(place);
+    let mut first = 0;
     for no in from..end {
-        add_of_rule(alloc, search, after.grant(no).rule, findings)?;
+        let rule = after.grant(no).rule;
+        match place_of_rule(search.others, first, rule) {
+            Some(at) => first = at + 1,
+            None => add_of_rule(alloc, search, rule, findings)?,
+        }
     }
     Ok(())
 }

@@ -1,6 +1,7 @@
-//! Bindings that both policies have, and that grant the same in both.
+//! Bindings that both policies have, and that grant the same in both, and rules that stand in both.
 
-ghost use Rattle.std.specs.Prelude.{◌≡◌, ◌<◌, ◌↔◌, IsTrue, length};
+ghost use Rattle.std.specs.Prelude.{◌≡◌, ◌<◌, ◌↔◌, IsTrue, IfSome, IsSome, length};
+ghost use Rattle.rbac_diff.specs.StandIns.{HasRule};
 ghost use Rattle.rbac_diff.specs.Unchanged.{HasSameGrants, HaveSameRules};
 
 use rbac_model::Policy;
@@ -92,11 +93,22 @@ fn same_rules(own: &Policy, place: usize, other: &Policy, at: usize) -> bool
     true
 }
 
+// Where the rule stands among these, word for word: looked for at that place first.
+pub(crate) fn place_of_rule(rules: &[&Rule], first: usize, rule: &Rule) -> Option<usize>
+    ensures within { IfSome result (λ at. at < length rules.now) }
+    ensures stands { IsSome result → HasRule rules.now rule.now }
+{
+    if rules.get(first).is_some_and(|held| same_rule(held, rule)) {
+        return Some(first);
+    }
+    rules.iter().position(|held| same_rule(held, rule))
+}
+
 #[tactic(auto, using(crate::proofs::SameGrants::same_lists))]
 fn same_rule(a: &Rule, b: &Rule) -> bool
     ensures { IsTrue result → a.now ≡ b.now }
 {
-    same_words(&a.verbs, &b.verbs) && same_words(&a.urls, &b.urls) && same_resources(a, b)
+    same_resources(a, b) && same_words(&a.verbs, &b.verbs) && same_words(&a.urls, &b.urls)
 }
 
 // Whether the rules are for the same resources, in the same words.
@@ -105,9 +117,9 @@ fn same_resources(a: &Rule, b: &Rule) -> bool
     ensures resources { IsTrue result → a.now.resources ≡ b.now.resources }
     ensures names { IsTrue result → a.now.resource_names ≡ b.now.resource_names }
 {
-    same_words(&a.groups, &b.groups)
-        && same_words(&a.resources, &b.resources)
+    same_words(&a.resources, &b.resources)
         && same_words(&a.resource_names, &b.resource_names)
+        && same_words(&a.groups, &b.groups)
 }
 
 fn same_words(a: &Words, b: &Words) -> bool

@@ -1,10 +1,12 @@
-use Rattle.std.proofs.Common.{◌+◌}
+use Rattle.std.proofs.Common.{◌+◌, ℕ, Option, IsSome, sym, subst, refl}
 use Rattle.std.specs.Option.{option_copied}
 use Rattle.rbac_model.specs.Sources.{grant_of}
-use Rattle.rbac_diff.specs.Finding.{IsByGrants, IsByRule}
+use Rattle.rbac_diff.specs.Finding.{Findings, SearchFinds, IsByGrants, IsByRule}
 use Rattle.rbac_diff.proofs.Grants.{IsByNumbers, no_numbers, one_number, all_numbers}
 use Rattle.rbac_diff.proofs.Searching.{search_none, search_same, search_more}
+use Rattle.rbac_diff.proofs.Standing.{search_standing}
 use Rattle.rbac_diff.proofs.finding.add_of_grants.Goals as goal
+use Rattle.rbac_diff.proofs.finding.add_of_grants.Goals.{in-Some, in-None+in_ok-add_of_rule-in-None}
 
 pub loop-no-init : goal.loop-no-init
 loop-no-init c =
@@ -14,10 +16,18 @@ loop-no-init c =
 pub loop-no-preserved : goal.loop-no-preserved
 loop-no-preserved c =
     let s = c.args.search.now in
+    let after = c.args.after.now in
     let own = option_copied s.namespace in
-    search_more s (IsByNumbers c.args.after.now own c.grants_of-from.result.0 c.loop-no.no) (IsByRule s c.grant.result.rule.now) (IsByNumbers c.args.after.now own c.grants_of-from.result.0 (c.loop-no.no + 1))
-    c.args.findings.now c.loop-no.findings c.add_of_rule.new.findings
-    (one_number c.args.after.now own c.grants_of-from.result.0 c.loop-no.no (grant_of c.grant.result) c.loop-no.auto.no c.grant.ensures.grant) c.loop-no.invariant c.in_ok-add_of_rule.ensures
+    let from = c.grants_of-from.result.0 in
+    let n = c.loop-no.no in
+    let r = c.grant.result.rule.now in
+    let more : (m : Findings) → SearchFinds s (IsByRule s r) c.loop-no.findings m → SearchFinds s (IsByNumbers after own from (n + 1)) c.args.findings.now m =
+    λ m. search_more s (IsByNumbers after own from n) (IsByRule s r) (IsByNumbers after own from (n + 1)) c.args.findings.now c.loop-no.findings m
+    (one_number after own from n (grant_of c.grant.result) c.loop-no.auto.no c.grant.ensures.grant) c.loop-no.invariant in
+    elim c.match-place_of_rule.branch [
+      | in-Some w ↦ rw w.findings-is (more c.loop-no.findings (search_standing s r c.loop-no.findings (c.place_of_rule.ensures.stands (subst (λ (o : Option ℕ). IsSome o) (sym w.in-Some.is) refl))))
+      | in-None+in_ok-add_of_rule-in-None w ↦ rw w.findings-is (more w.add_of_rule.new.findings w.in_ok-add_of_rule-in-None.ensures)
+    ]
 
 pub returns : goal.returns
 returns c =
