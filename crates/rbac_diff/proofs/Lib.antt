@@ -13,7 +13,7 @@ pub mod OneChanges
 pub mod OneStar
 pub mod SameGrants
 pub mod Searching
-pub mod Standing
+pub mod StandingRules
 pub mod Stars
 pub mod Strangers
 pub mod Telling

@@ -25,6 +25,8 @@ pub record IsSameAt (own : PolicyView) (n : ℕ) (other : PolicyView) (m : ℕ) 
   pub read : slice_get own.grants n ≡ Some mine
   pub at : slice_get other.grants m ≡ Some theirs
   pub rule : mine.rule.rule ≡ theirs.rule.rule
+  pub own_place : ℕ
+  pub own_of : IsOfBinding own n own_place
   pub place : ℕ
   pub of : IsOfBinding other m place
 
@@ -42,11 +44,27 @@ same_more own other from other_from next upto here n le lt =
       | inr ge ↦ (let e : next ≡ n = omega (arith, lt, ge) in subst (λ k. IsSameAt own k other (other_from + (k - from))) e here)
     ]
 
-pub have_same : (own other : PolicyView) (place at from end other_from other_end last : ℕ) → ((n i : ℕ) → IsOfBinding own n i → ((from ≤ n) × (n < end)) ↔ (i ≡ place)) → ((n i : ℕ) → IsOfBinding other n i → ((other_from ≤ n) × (n < other_end)) ↔ (i ≡ at)) → end - from ≡ other_end - other_from → end ≤ last → AreSameUpTo own from other other_from last → HaveSameRules own place other at
-have_same own other place at from end other_from other_end last mine theirs long upto all number g e of =
-    let within = (mine number place of).1 refl in
-    let same = all number within.0 (omega (arith, within.1, upto)) in
-    let m = other_from + (number - from) in
-    let i : same.place ≡ at = (theirs m same.place same.of).0 (omega arith, omega (arith, long, within.0, within.1)) in
-    let own_grant : same.mine ≡ g = same_Some same.mine g (sym same.read ∙ e) in
-    (m, same.theirs, same.at, subst (λ k. IsOfBinding other m k) i same.of, sym same.rule ∙ ap (λ (v : GrantView). v.rule.rule) own_grant)
+-- the grants of the binding at a place are numbered from `from` up to `end`
+abbrev pub AreNumbered : PolicyView → ℕ → ℕ → ℕ → Type 0
+AreNumbered policy place from end = (n i : ℕ) → IsOfBinding policy n i → ((from ≤ n) × (n < end)) ↔ (i ≡ place)
+
+module _ (own other : PolicyView) (place at from end other_from other_end last : ℕ) (mine : AreNumbered own place from end) (theirs : AreNumbered other at other_from other_end) (long : end - from ≡ other_end - other_from) (upto : end ≤ last) (all : AreSameUpTo own from other other_from last) where
+  pub have_same : HaveSameRules own place other at
+  have_same number g e of =
+      let within = (mine number place of).1 refl in
+      let same = all number within.0 (omega (arith, within.1, upto)) in
+      let m = other_from + (number - from) in
+      let i : same.place ≡ at = (theirs m same.place same.of).0 (omega arith, omega (arith, long, within.0, within.1)) in
+      let own_grant : same.mine ≡ g = same_Some same.mine g (sym same.read ∙ e) in
+      (m, same.theirs, same.at, subst (λ k. IsOfBinding other m k) i same.of, sym same.rule ∙ ap (λ (v : GrantView). v.rule.rule) own_grant)
+
+  pub have_same_back : HaveSameRules other at own place
+  have_same_back number g e of =
+      let within = (theirs number at of).1 refl in
+      let n = from + (number - other_from) in
+      let low : n < end = omega (arith, long, within.0, within.1) in
+      let same = all n (omega arith) (omega (arith, low, upto)) in
+      let m : other_from + (n - from) ≡ number = omega (arith, within.0) in
+      let i : same.own_place ≡ place = (mine n same.own_place same.own_of).0 (omega arith, low) in
+      let their_grant : same.theirs ≡ g = same_Some same.theirs g (sym same.at ∙ ap (λ (k : ℕ). slice_get other.grants k) m ∙ e) in
+      (n, same.mine, same.read, subst (λ k. IsOfBinding own n k) i same.own_of, same.rule ∙ ap (λ (v : GrantView). v.rule.rule) their_grant)

@@ -5,7 +5,7 @@ ghost use Rattle.rbac_model.specs.Policies.{IsPolicy};
 ghost use Rattle.rbac_diff.specs.Unchanged.{AreMarked, HasSameGrants};
 
 use crate::alike::Alike;
-use crate::unchanged::{is_unchanged, place_from};
+use crate::unchanged::{is_kept, is_unchanged, place_from};
 use rbac_model::Policy;
 use std::alloc::{AllocError, Global};
 
@@ -29,30 +29,40 @@ impl Changed {
         ensures after { IfOk result (λ c. AreMarked after.now c.after.items before.now) }
         ensures policies { IsPolicy before.now × IsPolicy after.now }
     {
-        let gone = without_namesakes(alloc, before, after)?;
-        let new = without_namesakes(alloc, after, before)?;
+        let named = Self::by_name(alloc, before, after)?;
+        let gone = named.before.as_slice();
+        let new = named.after.as_slice();
         Ok(Changed {
-            before: without_alike(alloc, before, gone.as_slice(), after, new.as_slice())?,
-            after: without_alike(alloc, after, new.as_slice(), before, gone.as_slice())?,
+            before: without_alike(alloc, before, gone, after, new)?,
+            after: without_alike(alloc, after, new, before, gone)?,
         })
     }
-}
 
-// Marks the bindings of a policy that the other one doesn't have under their names, with the same
-// subjects and rules.
-fn without_namesakes(alloc: Global, own: &Policy, other: &Policy) -> Result<Vec<bool>, AllocError>
-    ensures marks { IfOk result (λ marks. AreMarked own.now marks.items other.now) }
-    ensures policies { IsPolicy own.now × IsPolicy other.now }
-{
-    let bindings = own.bindings();
-    let others = other.bindings();
-    let mut marks = Vec::new(alloc);
-    let mut at = 0;
-    for (place, binding) in bindings.iter().enumerate() {
-        at = place_from(others, at, binding);
-        marks.push(!is_unchanged(own, place, other, at))?;
+    // Marks the bindings that the other policy doesn't have under their names, with the same
+    // subjects and rules.
+    fn by_name(alloc: Global, before: &Policy, after: &Policy) -> Result<Self, AllocError>
+        ensures before { IfOk result (λ c. AreMarked before.now c.before.items after.now) }
+        ensures after { IfOk result (λ c. AreMarked after.now c.after.items before.now) }
+        ensures policies { IsPolicy before.now × IsPolicy after.now }
+    {
+        let others = before.bindings();
+        let bindings = after.bindings();
+        let mut gone = vec![in alloc; true; others.len()]?;
+        let mut new = Vec::new(alloc);
+        let mut at = 0;
+        for (place, binding) in bindings.iter().enumerate() {
+            at = place_from(others, at, binding);
+            let is_kept = is_kept(after, place, before, at);
+            if is_kept {
+                gone[at] = false;
+            }
+            new.push(!is_kept)?;
+        }
+        Ok(Changed {
+            before: gone,
+            after: new,
+        })
     }
-    Ok(marks)
 }
 
 // Leaves the marks of the bindings for which none that is marked in the other policy says the same

@@ -12,7 +12,7 @@ use crate::covering::{is_asked_for, is_covered};
 use crate::fault::DiffFault;
 use crate::permission::{Permission, Permitted, permission_text};
 use crate::stand_ins::Asked;
-use crate::unchanged::place_of_rule;
+use crate::standing::{place_near, stands_at};
 use rbac_index::Index;
 use rbac_model::Policy;
 use rbac_terms::{Binding, Principal, Rule, Word, subject_principal};
@@ -92,9 +92,13 @@ struct Search<'a, 'p> {
     others: &'a [&'a Rule],
 }
 
+// How many rules of the other policy are looked at behind the last one that was found.
+const NEAR: usize = 64;
+
 // Adds the permissions by the grants of the binding at this place. A rule that stands among the
-// other policy's word for word has none; it is looked for behind the last one found, since rules
-// mostly stand in one order on both sides.
+// other policy's word for word gives none. Rules mostly stand in one order on both sides, so the
+// first is looked for among all, and each next one only near the last one found: the others can be
+// many more than the binding's own.
 fn add_of_grants<'a, 'p>(
     alloc: Global,
     search: &'a Search<'a, 'p>,
@@ -108,12 +112,16 @@ fn add_of_grants<'a, 'p>(
 {
     let (from, end) = after.grants_of(place);
     let mut first = 0;
+    let mut count = search.others.len();
     for no in from..end {
         let rule = after.grant(no).rule;
-        match place_of_rule(search.others, first, rule) {
-            Some(at) => first = at + 1,
-            None => add_of_rule(alloc, search, rule, findings)?,
+        let at = place_near(search.others, first, count, rule);
+        if stands_at(search.others, at, rule) {
+            first = at + 1;
+        } else {
+            add_of_rule(alloc, search, rule, findings)?;
         }
+        count = NEAR;
     }
     Ok(())
 }

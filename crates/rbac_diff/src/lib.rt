@@ -12,6 +12,7 @@ mod laws;
 mod line;
 mod permission;
 mod stand_ins;
+mod standing;
 mod unchanged;
 
 pub use change::{Change, ChangeKind, changes};

@@ -1,7 +1,6 @@
-//! Bindings that both policies have, and that grant the same in both, and rules that stand in both.
+//! Bindings that both policies have, and that grant the same in both.
 
-ghost use Rattle.std.specs.Prelude.{◌≡◌, ◌<◌, ◌↔◌, IsTrue, IfSome, IsSome, length};
-ghost use Rattle.rbac_diff.specs.StandIns.{HasRule};
+ghost use Rattle.std.specs.Prelude.{◌≡◌, ◌<◌, ◌↔◌, IsTrue, length};
 ghost use Rattle.rbac_diff.specs.Unchanged.{HasSameGrants, HaveSameRules};
 
 use rbac_model::Policy;
@@ -28,11 +27,31 @@ fn cmp_names(a: &Binding, b: &Binding) -> Ordering {
     }
 }
 
+// Whether the other policy has a binding of the same name at that place, with the same subjects and
+// the same rules as this one's.
+pub(crate) fn is_kept(own: &Policy, place: usize, other: &Policy, at: usize) -> bool
+    requires { place < length own.now.held.bindings }
+    ensures own { IsTrue result → HasSameGrants own.now place other.now }
+    ensures other { IsTrue result → HasSameGrants other.now at own.now }
+    ensures within { IsTrue result → at < length other.now.held.bindings }
+{
+    is_namesake(&own.bindings()[place], other.bindings(), at) && is_unchanged(own, place, other, at)
+}
+
+// Whether there is a binding at that place that has the same name as this one.
+fn is_namesake(binding: &Binding, others: &[Binding], at: usize) -> bool {
+    others
+        .get(at)
+        .is_some_and(|held| cmp_names(held, binding).is_eq())
+}
+
 // Whether the other policy has a binding at that place, in the same namespace or in none too, with
-// the same subjects and the same rules as this one's.
+// the same subjects and the same rules as this one's: so each grants the same as the other.
 pub(crate) fn is_unchanged(own: &Policy, place: usize, other: &Policy, at: usize) -> bool
     requires { place < length own.now.held.bindings }
-    ensures { IsTrue result → HasSameGrants own.now place other.now }
+    ensures own { IsTrue result → HasSameGrants own.now place other.now }
+    ensures other { IsTrue result → HasSameGrants other.now at own.now }
+    ensures within { IsTrue result → at < length other.now.held.bindings }
 {
     match other.bindings().get(at) {
         Some(held) => {
@@ -75,7 +94,8 @@ fn same_subject(a: &Subject, b: &Subject) -> bool
 
 // Whether the bindings at these places have the same rules, in the same order.
 fn same_rules(own: &Policy, place: usize, other: &Policy, at: usize) -> bool
-    ensures { IsTrue result → HaveSameRules own.now place other.now at }
+    ensures own { IsTrue result → HaveSameRules own.now place other.now at }
+    ensures other { IsTrue result → HaveSameRules other.now at own.now place }
 {
     let (from, end) = own.grants_of(place);
     let (other_from, other_end) = other.grants_of(at);
@@ -93,19 +113,9 @@ fn same_rules(own: &Policy, place: usize, other: &Policy, at: usize) -> bool
     true
 }
 
-// Where the rule stands among these, word for word: looked for at that place first.
-pub(crate) fn place_of_rule(rules: &[&Rule], first: usize, rule: &Rule) -> Option<usize>
-    ensures within { IfSome result (λ at. at < length rules.now) }
-    ensures stands { IsSome result → HasRule rules.now rule.now }
-{
-    if rules.get(first).is_some_and(|held| same_rule(held, rule)) {
-        return Some(first);
-    }
-    rules.iter().position(|held| same_rule(held, rule))
-}
-
+// Whether the rules are the same, word for word.
 #[tactic(auto, using(crate::proofs::SameGrants::same_lists))]
-fn same_rule(a: &Rule, b: &Rule) -> bool
+pub(crate) fn same_rule(a: &Rule, b: &Rule) -> bool
     ensures { IsTrue result → a.now ≡ b.now }
 {
     same_resources(a, b) && same_words(&a.verbs, &b.verbs) && same_words(&a.urls, &b.urls)

@@ -1,6 +1,6 @@
 use Rattle.std.proofs.Common.{rules}
 use Rattle.rbac_model.specs.Sources.{grant_of}
-use Rattle.rbac_diff.proofs.SameGrants.{same_none, same_more, have_same}
+use Rattle.rbac_diff.proofs.SameGrants.{same_none, same_more, have_same, have_same_back}
 use Rattle.rbac_diff.proofs.unchanged.same_rules.Goals as goal
 
 pub loop-no-init : goal.loop-no-init
@@ -13,9 +13,21 @@ loop-no-preserved c = same_more c.args.own.now c.args.other.now c.grants_of-from
   read = c.grant.ensures.grant;
   at = c.grant-in-loop-no.ensures.grant;
   rule = c.same_rule.ensures c.if-not-same_rule.false;
+  own_place = c.grant.result.binding_place;
+  own_of = c.grant.ensures.binding;
   place = c.grant-in-loop-no.result.binding_place;
   of = c.grant-in-loop-no.ensures.binding;
 })
 
 pub returns : goal.returns
-returns c = λ t. have_same c.args.own.now c.args.other.now c.args.place c.args.at c.grants_of-from.result.0 c.grants_of-from.result.1 c.grants_of-other_from.result.0 c.grants_of-other_from.result.1 c.loop-no.no c.grants_of-from.ensures.between c.grants_of-other_from.ensures.between (search rules) (search rules) c.loop-no.invariant
+returns c =
+    let own = c.args.own.now in
+    let other = c.args.other.now in
+    let from = c.grants_of-from.result.0 in
+    let end = c.grants_of-from.result.1 in
+    let other_from = c.grants_of-other_from.result.0 in
+    let other_end = c.grants_of-other_from.result.1 in
+    record {
+      own = λ t. have_same own other c.args.place c.args.at from end other_from other_end c.loop-no.no c.grants_of-from.ensures.between c.grants_of-other_from.ensures.between (search rules) (search rules) c.loop-no.invariant;
+      other = λ t. have_same_back own other c.args.place c.args.at from end other_from other_end c.loop-no.no c.grants_of-from.ensures.between c.grants_of-other_from.ensures.between (search rules) (search rules) c.loop-no.invariant;
+    }
