@@ -8,7 +8,7 @@ pub mod Gathering
 pub mod Grants
 pub mod Levels
 pub mod Listing
-pub mod Marks
+pub mod Flags
 pub mod OneChanges
 pub mod OneStar
 pub mod SameGrants

@@ -18,12 +18,12 @@ HasSameGrants own place other = (no : ℕ) (g : GrantView) → slice_get own.gra
     → (h : GrantView) × Contains other.grants h × (h.binding.namespace ≡ g.binding.namespace)
     × (h.binding.subjects ≡ g.binding.subjects) × (h.rule.rule ≡ g.rule.rule)
 
--- a binding that isn't marked at its place grants the same as one of the other policy
-abbrev pub UnmarkedAreSame : PolicyView → List Bool → PolicyView → Type 0
-UnmarkedAreSame own marks other = (place : ℕ) → slice_get marks place ≡ Some false
+-- a binding that isn't flagged at its place grants the same as one of the other policy
+abbrev pub UnflaggedAreSame : PolicyView → List Bool → PolicyView → Type 0
+UnflaggedAreSame own flags other = (place : ℕ) → slice_get flags place ≡ Some false
     → HasSameGrants own place other
 
--- each binding has a mark, and those that aren't marked grant the same as one of the other policy
-pub record AreMarked (own : PolicyView) (marks : List Bool) (other : PolicyView) : Type 0 where
-  pub each : length marks ≡ length own.held.bindings
-  pub unmarked : UnmarkedAreSame own marks other
+-- each binding has a flag, and those that aren't flagged grant the same as one of the other policy
+pub record AreFlags (own : PolicyView) (flags : List Bool) (other : PolicyView) : Type 0 where
+  pub each : length flags ≡ length own.held.bindings
+  pub unflagged : UnflaggedAreSame own flags other

@@ -13,15 +13,15 @@ pub(crate) struct Alike {
 }
 
 impl Alike {
-    // The bindings that are marked; there is a mark for each, in order.
+    // The bindings that are flagged; there is a flag for each, in order.
     pub(crate) fn of(
         alloc: Global,
         bindings: &[Binding],
-        marks: &[bool],
+        flags: &[bool],
     ) -> Result<Self, AllocError> {
         let mut places = BTreeMap::new(alloc);
-        for (place, (binding, marked)) in bindings.iter().zip(marks).enumerate() {
-            if *marked {
+        for (place, (binding, flagged)) in bindings.iter().zip(flags).enumerate() {
+            if *flagged {
                 places.insert(text_of(alloc, binding)?, place)?;
             }
         }

@@ -2,14 +2,14 @@
 
 ghost use Rattle.std.specs.Prelude.{◌≡◌, ◌<◌, IfOk, false, length};
 ghost use Rattle.rbac_model.specs.Policies.{IsPolicy};
-ghost use Rattle.rbac_diff.specs.Unchanged.{AreMarked, HasSameGrants};
+ghost use Rattle.rbac_diff.specs.Unchanged.{AreFlags, HasSameGrants};
 
 use crate::alike::Alike;
 use crate::unchanged::{is_kept, is_unchanged, place_from};
 use rbac_model::Policy;
 use std::alloc::{AllocError, Global};
 
-// Marks for the bindings of two policies, one for each in order. A binding that isn't marked grants
+// Flags for the bindings of two policies, one for each in order. A binding that isn't flagged grants
 // the same as one of the other policy.
 #[derive(Drop)]
 pub(crate) struct Changed {
@@ -25,8 +25,8 @@ impl Changed {
         before: &Policy,
         after: &Policy,
     ) -> Result<Self, AllocError>
-        ensures before { IfOk result (λ c. AreMarked before.now c.before.items after.now) }
-        ensures after { IfOk result (λ c. AreMarked after.now c.after.items before.now) }
+        ensures before { IfOk result (λ c. AreFlags before.now c.before.items after.now) }
+        ensures after { IfOk result (λ c. AreFlags after.now c.after.items before.now) }
         ensures policies { IsPolicy before.now × IsPolicy after.now }
     {
         let named = Self::by_name(alloc, before, after)?;
@@ -38,11 +38,11 @@ impl Changed {
         })
     }
 
-    // Marks the bindings that the other policy doesn't have under their names, with the same
+    // Flags the bindings that the other policy doesn't have under their names, with the same
     // subjects and rules.
     fn by_name(alloc: Global, before: &Policy, after: &Policy) -> Result<Self, AllocError>
-        ensures before { IfOk result (λ c. AreMarked before.now c.before.items after.now) }
-        ensures after { IfOk result (λ c. AreMarked after.now c.after.items before.now) }
+        ensures before { IfOk result (λ c. AreFlags before.now c.before.items after.now) }
+        ensures after { IfOk result (λ c. AreFlags after.now c.after.items before.now) }
         ensures policies { IsPolicy before.now × IsPolicy after.now }
     {
         let others = before.bindings();
@@ -65,41 +65,41 @@ impl Changed {
     }
 }
 
-// Leaves the marks of the bindings for which none that is marked in the other policy says the same
+// Keeps the flags of the bindings for which none that is flagged in the other policy says the same
 // under another name, with the same rules.
 fn without_alike(
     alloc: Global,
     own: &Policy,
-    marks: &[bool],
+    flags: &[bool],
     other: &Policy,
-    other_marks: &[bool],
+    other_flags: &[bool],
 ) -> Result<Vec<bool>, AllocError>
-    requires { AreMarked own.now marks.now other.now }
-    ensures { IfOk result (λ left. AreMarked own.now left.items other.now) }
+    requires { AreFlags own.now flags.now other.now }
+    ensures { IfOk result (λ left. AreFlags own.now left.items other.now) }
 {
-    let alike = Alike::of(alloc, other.bindings(), other_marks)?;
+    let alike = Alike::of(alloc, other.bindings(), other_flags)?;
     let mut left = Vec::new(alloc);
-    for (place, marked) in marks.iter().enumerate() {
-        left.push(stays_marked(alloc, *marked, own, place, other, &alike)?)?;
+    for (place, flagged) in flags.iter().enumerate() {
+        left.push(stays_flagged(alloc, *flagged, own, place, other, &alike)?)?;
     }
     Ok(left)
 }
 
-// Whether the binding stays marked: the other policy has none that says the same under another
+// Whether the binding stays flagged: the other policy has none that says the same under another
 // name, with the same rules.
-fn stays_marked(
+fn stays_flagged(
     alloc: Global,
-    marked: bool,
+    flagged: bool,
     own: &Policy,
     place: usize,
     other: &Policy,
     alike: &Alike,
 ) -> Result<bool, AllocError>
     requires within { place < length own.now.held.bindings }
-    requires unmarked { marked ≡ false → HasSameGrants own.now place other.now }
+    requires unflagged { flagged ≡ false → HasSameGrants own.now place other.now }
     ensures { IfOk result (λ stays. stays ≡ false → HasSameGrants own.now place other.now) }
 {
-    if !marked {
+    if !flagged {
         return Ok(false);
     }
     match alike.place_of(alloc, &own.bindings()[place])? {

@@ -5,7 +5,7 @@ ghost use Rattle.std.specs.Option.{option_copied};
 ghost use Rattle.rbac_diff.specs.Finding.{Finds, FindsGained, IsByGrants, IsByRule, IsGainedAt};
 ghost use Rattle.rbac_diff.specs.Finding.{IsOnResource, IsOnTarget, IsOnUrl, SearchFinds};
 ghost use Rattle.rbac_diff.specs.Shown.{permitted_of};
-ghost use Rattle.rbac_diff.specs.Unchanged.{AreMarked};
+ghost use Rattle.rbac_diff.specs.Unchanged.{AreFlags};
 
 use crate::change::{ChangeKind, Findings, Found};
 use crate::covering::{is_asked_for, is_covered};
@@ -19,28 +19,28 @@ use rbac_terms::{Binding, Principal, Rule, Word, subject_principal};
 use std::alloc::{AllocError, Global};
 
 // Adds each permission that `after` has and `before` doesn't allow, with the first binding that has
-// it, unless it was found already. Only the bindings that are marked have such permissions.
+// it, unless it was found already. Only the bindings that are flagged have such permissions.
 pub(crate) fn add_gained<'p>(
     alloc: Global,
     kind: ChangeKind,
     before: &Policy,
     after: &'p Policy,
-    marks: &[bool],
+    flags: &[bool],
     findings: &mut Findings<'p>,
 ) -> Result<(), DiffFault>
-    requires { AreMarked after.now marks.now before.now }
+    requires { AreFlags after.now flags.now before.now }
     ensures { OnOk result
         (FindsGained kind before.now after.now (length after.now.held.bindings) findings.old
         findings.new) }
 {
-    if !marks.contains(&true) {
+    if !flags.contains(&true) {
         return Ok(());
     }
     let after: &'p Policy = after;
     let bindings: &'p [Binding] = after.bindings();
     let asked = Asked::of(alloc, Index::build(alloc, before)?)?;
     for (place, binding) in bindings.iter().enumerate() {
-        if marks[place] {
+        if flags[place] {
             let found = Found { kind, binding };
             add_of_binding(alloc, &asked, after, place, found, findings)?;
         }

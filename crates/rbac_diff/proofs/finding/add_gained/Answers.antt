@@ -2,15 +2,15 @@ use Rattle.std.proofs.Common.{◌≡◌, ◌<◌, ℕ, Some, false, length, slic
 use Rattle.std.proofs.lemmas.Option.{slice_get_read, slice_get-get_or}
 use Rattle.rbac_diff.specs.Finding.{FindsGained}
 use Rattle.rbac_diff.proofs.Gathering.{gathered_none, gathered_nothing, gathered_same, gathered_by, unchanged_gains_nothing}
-use Rattle.rbac_diff.proofs.Marks.{none_set}
+use Rattle.rbac_diff.proofs.Flags.{none_set}
 use Rattle.rbac_diff.proofs.finding.add_gained.Goals as goal
-use Rattle.rbac_diff.proofs.finding.add_gained.Goals.{then-marks-place+in_ok-add_of_binding, else-marks-place}
+use Rattle.rbac_diff.proofs.finding.add_gained.Goals.{then-flags-place+in_ok-add_of_binding, else-flags-place}
 
 pub returns-then-not-contains : goal.returns-then-not-contains
 returns-then-not-contains c =
-    let marks = c.args.marks.now in
+    let flags = c.args.flags.now in
     gathered_nothing c.args.kind c.args.before.now c.args.after.now (length c.args.after.now.held.bindings) c.args.findings.now
-    (λ at low. unchanged_gains_nothing c.args.before.now c.args.after.now at (c.requires.unmarked at (none_set marks _ refl (sym c.contains.ensures.value ∙ c.if-not-contains.true) at (subst (λ (n : ℕ). at < n) (sym c.requires.each) low))))
+    (λ at low. unchanged_gains_nothing c.args.before.now c.args.after.now at (c.requires.unflagged at (none_set flags _ refl (sym c.contains.ensures.value ∙ c.if-not-contains.true) at (subst (λ (n : ℕ). at < n) (sym c.requires.each) low))))
 
 pub loop-place-init : goal.loop-place-init
 loop-place-init c = gathered_none c.args.kind c.args.before.now c.args.after.now c.args.findings.now
@@ -28,11 +28,11 @@ loop-place-preserved c =
     let k = c.loop-place.place in
     let there : slice_get after.held.bindings k ≡ Some c.index-bindings-place.result =
     rw (← c.bindings-bindings.ensures.bindings) (slice_get_read items (length items) k c.index-bindings-place.result refl c.loop-place-test.true c.index-bindings-place.is) in
-    let low : k < length c.args.marks.now = omega (arith, c.loop-place-test.true, ap length c.bindings-bindings.ensures.bindings, c.requires.each) in
+    let low : k < length c.args.flags.now = omega (arith, c.loop-place-test.true, ap length c.bindings-bindings.ensures.bindings, c.requires.each) in
     let asked : c.in_ok-asked.asked ≡ before = c.in_ok-asked.ensures ∙ c.in_ok-build.ensures in
-    elim c.if-marks-place.branch [
-      | then-marks-place+in_ok-add_of_binding w ↦ rw w.findings-is (gathered_by c.args.kind before after k c.in_ok-asked.asked _ c.args.findings.now c.loop-place.findings w.add_of_binding.new.findings asked refl there c.loop-place.invariant w.in_ok-add_of_binding.ensures.gained)
-      | else-marks-place w ↦ rw w.findings-is (gathered_same c.args.kind before after k c.args.findings.now c.loop-place.findings (unchanged_gains_nothing before after k (c.requires.unmarked k (slice_get-get_or c.args.marks.now k false low ∙ ap (λ b. Some b) w.if-marks-place.false))) c.loop-place.invariant)
+    elim c.if-flags-place.branch [
+      | then-flags-place+in_ok-add_of_binding w ↦ rw w.findings-is (gathered_by c.args.kind before after k c.in_ok-asked.asked _ c.args.findings.now c.loop-place.findings w.add_of_binding.new.findings asked refl there c.loop-place.invariant w.in_ok-add_of_binding.ensures.gained)
+      | else-flags-place w ↦ rw w.findings-is (gathered_same c.args.kind before after k c.args.findings.now c.loop-place.findings (unchanged_gains_nothing before after k (c.requires.unflagged k (slice_get-get_or c.args.flags.now k false low ∙ ap (λ b. Some b) w.if-flags-place.false))) c.loop-place.invariant)
     ]
 
 pub returns : goal.returns

@@ -1,8 +1,8 @@
 use Rattle.std.proofs.Common.{◌≡◌, ◌+◌, ℕ, List, Vec, Global, Bool, true, false, length, replicate, sym, ap, subst, ◌∙◌, refl, rules}
 use Rattle.std.proofs.lemmas.List.{length_push, length-set, length-replicate}
 use Rattle.rbac_terms.specs.declared.granting.Binding.{Binding}
-use Rattle.rbac_diff.specs.Unchanged.{HasSameGrants, UnmarkedAreSame}
-use Rattle.rbac_diff.proofs.Marks.{no_marks, one_mark, all_marked, mark_off}
+use Rattle.rbac_diff.specs.Unchanged.{HasSameGrants, UnflaggedAreSame}
+use Rattle.rbac_diff.proofs.Flags.{no_flags, one_flag, all_flagged, flag_off}
 use Rattle.rbac_diff.proofs.changed.Changed.by_name.Goals as goal
 use Rattle.rbac_diff.proofs.changed.Changed.by_name.Goals.{then-is_kept, else-is_kept}
 
@@ -12,9 +12,9 @@ loop-place-init c =
     let after = c.args.after.now in
     let all : c.in_ok-gone.gone.items ≡ replicate (length before.held.bindings) true = c.in_ok-gone.ensures.items_if_clones_equal (λ y e. search rules) ∙ ap (λ (bs : List Binding). replicate (length bs) true) c.bindings-others.ensures.bindings in (
       ap length c.new-new.ensures.items,
-      subst (λ (xs : List Bool). UnmarkedAreSame after xs before) (sym c.new-new.ensures.items) (no_marks after before),
+      subst (λ (xs : List Bool). UnflaggedAreSame after xs before) (sym c.new-new.ensures.items) (no_flags after before),
       ap length all ∙ length-replicate (length before.held.bindings) true,
-      subst (λ (xs : List Bool). UnmarkedAreSame before xs after) (sym all) (all_marked before after (length before.held.bindings)),
+      subst (λ (xs : List Bool). UnflaggedAreSame before xs after) (sym all) (all_flagged before after (length before.held.bindings)),
     )
 
 pub loop-place-preserved : goal.loop-place-preserved
@@ -25,14 +25,14 @@ loop-place-preserved c =
     let gone = c.loop-place.gone.items in
     let still = c.loop-place.invariant in (
       ap length c.in_ok-push.ensures.items ∙ length_push new _ ∙ ap (λ n. n + 1) still.0,
-      subst (λ (xs : List Bool). UnmarkedAreSame after xs before) (sym c.in_ok-push.ensures.items)
-          (one_mark after before new _ still.1 (λ is. subst (λ (i : ℕ). HasSameGrants after i before) (sym still.0) (c.is_kept-is_kept.ensures.own (search rules)))),
+      subst (λ (xs : List Bool). UnflaggedAreSame after xs before) (sym c.in_ok-push.ensures.items)
+          (one_flag after before new _ still.1 (λ is. subst (λ (i : ℕ). HasSameGrants after i before) (sym still.0) (c.is_kept-is_kept.ensures.own (search rules)))),
       elim c.if-is_kept.branch [
         | then-is_kept w ↦ ap (λ (v : Vec Bool Global). length v.items) w.gone-is ∙ length-set gone c.place_from-at.result false ∙ still.2
         | else-is_kept w ↦ ap (λ (v : Vec Bool Global). length v.items) w.gone-is ∙ still.2
       ],
       elim c.if-is_kept.branch [
-        | then-is_kept w ↦ rw w.gone-is (mark_off before after gone c.place_from-at.result still.3 (w.if-is_kept.ensures.other refl))
+        | then-is_kept w ↦ rw w.gone-is (flag_off before after gone c.place_from-at.result still.3 (w.if-is_kept.ensures.other refl))
         | else-is_kept w ↦ rw w.gone-is still.3
       ],
     )

@@ -1,4 +1,4 @@
--- marks for bindings, one after the other
+-- flags for bindings, one after the other
 use Rattle.std.proofs.Common.{◌≡◌, ◌⊎◌, ◌<◌, ◌++◌, ◌∷◌, [], ℕ, List, Bool, true, false, Some, length, get_or, set, replicate, slice_get, inl, inr, sym, ◌∙◌, ap, subst, arith}
 use Rattle.std.specs.List.{list_any}
 use Rattle.std.proofs.lemmas.Bool.{cases_lt, cases_eq}
@@ -7,7 +7,7 @@ use Rattle.std.proofs.lemmas.List.Folds.{list_any_at}
 use Rattle.std.proofs.lemmas.Option.{get_or_from_slice_get, slice_get_within, slice_get-get_or}
 use Rattle.rbac_terms.proofs.Cases.{by_bool}
 use Rattle.rbac_model.specs.Policies.{PolicyView}
-use Rattle.rbac_diff.specs.Unchanged.{HasSameGrants, UnmarkedAreSame}
+use Rattle.rbac_diff.specs.Unchanged.{HasSameGrants, UnflaggedAreSame}
 
 -- a list with one more element has the earlier ones, and the new one at its end
 got_cases : {X : Type 0} (xs : List X) (y : X) (i : ℕ) (x : X) → slice_get (xs ++ y ∷ []) i ≡ Some x → (slice_get xs i ≡ Some x) ⊎ ((i ≡ length xs) × (y ≡ x))
@@ -32,26 +32,26 @@ got_replicated n y i x e =
     sym (get_or-replicate n i y x low) ∙ get_or_from_slice_get (replicate n y) i x x e
 
 module _ (own other : PolicyView) where
-  pub no_marks : UnmarkedAreSame own [] other
-  no_marks place e = absurd (cc e)
+  pub no_flags : UnflaggedAreSame own [] other
+  no_flags place e = absurd (cc e)
 
-  pub one_mark : (marks : List Bool) (mark : Bool) → UnmarkedAreSame own marks other → (mark ≡ false → HasSameGrants own (length marks) other) → UnmarkedAreSame own (marks ++ mark ∷ []) other
-  one_mark marks mark same here place e = elim (got_cases marks mark place false e) [
+  pub one_flag : (flags : List Bool) (flag : Bool) → UnflaggedAreSame own flags other → (flag ≡ false → HasSameGrants own (length flags) other) → UnflaggedAreSame own (flags ++ flag ∷ []) other
+  one_flag flags flag same here place e = elim (got_cases flags flag place false e) [
     | inl before ↦ same place before
     | inr last ↦ subst (λ (i : ℕ). HasSameGrants own i other) (sym last.0) (here last.1)
   ]
 
-  pub all_marked : (n : ℕ) → UnmarkedAreSame own (replicate n true) other
-  all_marked n place e = absurd (let both : true ≡ false = got_replicated n true place false e in cc both)
+  pub all_flagged : (n : ℕ) → UnflaggedAreSame own (replicate n true) other
+  all_flagged n place e = absurd (let both : true ≡ false = got_replicated n true place false e in cc both)
 
-  pub mark_off : (marks : List Bool) (at : ℕ) → UnmarkedAreSame own marks other → HasSameGrants own at other → UnmarkedAreSame own (set marks at false) other
-  mark_off marks at same here place e = elim (cases_eq place at) [
+  pub flag_off : (flags : List Bool) (at : ℕ) → UnflaggedAreSame own flags other → HasSameGrants own at other → UnflaggedAreSame own (set flags at false) other
+  flag_off flags at same here place e = elim (cases_eq place at) [
     | inl is ↦ subst (λ (i : ℕ). HasSameGrants own i other) (sym is) here
-    | inr differ ↦ same place (got_other marks place at false false differ e)
+    | inr differ ↦ same place (got_other flags place at false false differ e)
   ]
 
--- where no mark is set, each is unset
-pub none_set : (marks : List Bool) (p : Bool → Bool) → p true ≡ true → list_any p marks ≡ false → (i : ℕ) → i < length marks → slice_get marks i ≡ Some false
-none_set marks p set none i low = slice_get-get_or marks i false low ∙ ap (λ b. Some b) (by_bool (get_or marks i false)
-    (λ is. absurd (let both : true ≡ false = sym (list_any_at p marks i false low (ap p is ∙ set)) ∙ none in cc both))
+-- where no flag is set, each is unset
+pub none_set : (flags : List Bool) (p : Bool → Bool) → p true ≡ true → list_any p flags ≡ false → (i : ℕ) → i < length flags → slice_get flags i ≡ Some false
+none_set flags p set none i low = slice_get-get_or flags i false low ∙ ap (λ b. Some b) (by_bool (get_or flags i false)
+    (λ is. absurd (let both : true ≡ false = sym (list_any_at p flags i false low (ap p is ∙ set)) ∙ none in cc both))
     (λ is. is))
