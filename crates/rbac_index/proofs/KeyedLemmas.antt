@@ -169,84 +169,98 @@ next_same P Q from (Some a) same f = record { after = f.after; holds = (same a).
 any_none : (xs : List Keyed) (live : Live) (Has : Text → Type 0) (n : ℕ) → ((key : Text) → Has key → ⊥) → IsLiveUnderAny xs live Has n → ⊥
 any_none xs live Has n none a = none a.0 a.1
 
-module _ (xs : List Keyed) (live : Live) (from : ℕ) where
-  -- the groups that are given, one after the other
-  pub given_none : (n : ℕ) → from ≤ n → IsLiveUnderAny xs live (IsGivenKey []) n → ⊥
-  given_none n le a = any_none xs live (IsGivenKey []) n (λ key k. absurd (omega (arith, k.1.1))) a
+-- the places of a principal's keys, by the kinds of keys
+module _ (xs : List Keyed) (live : Live) where
+  pub given_none : (n : ℕ) → IsLiveUnderAny xs live (IsGivenKey []) n → ⊥
+  given_none n a = any_none xs live (IsGivenKey []) n (λ key k. absurd (omega (arith, k.1.1))) a
 
-  pub given_more : (given : List Text) (group : Text) (a b : Option ℕ) → AnswersNext (IsLiveUnderAny xs live (IsGivenKey given)) from a → AnswersNext (IsLiveUnder xs live (codes "g:" ++ group)) from b → AnswersNext (IsLiveUnderAny xs live (IsGivenKey (given ++ group ∷ []))) from (sooner a b)
-  given_more given group a b f g =
-      let P : ℕ → Type 0 = IsLiveUnderAny xs live (IsGivenKey given) in
-      let Q : ℕ → Type 0 = IsLiveUnder xs live (codes "g:" ++ group) in
-      next_same (λ n. P n ⊎ Q n) (IsLiveUnderAny xs live (IsGivenKey (given ++ group ∷ []))) from (sooner a b) (λ n. (
-        λ d. elim d [
-          | inl w ↦ (w.0, (w.1.0, Contains-append_left given (group ∷ []) w.1.0 w.1.1, w.1.2), w.2)
-          | inr u ↦ (codes "g:" ++ group, (group, Contains-push given group, refl), u)
-        ],
-        λ w. elim (Contains-push_cases given group w.1.0 w.1.1) [
-          | inl old ↦ inl (w.0, (w.1.0, old, w.1.2), w.2)
-          | inr new ↦ inr (subst (λ (t : Text). IsLiveUnder xs live t n) (w.1.2 ∙ ap (λ (t : Text). codes "g:" ++ t) (sym new)) w.2)
-        ],
-      )) (sooner_next P Q from a b f g)
+  pub given_one : (given : List Text) (group : Text) (n : ℕ) → (IsLiveUnderAny xs live (IsGivenKey given) n ⊎ IsLiveUnder xs live (codes "g:" ++ group) n) ↔ IsLiveUnderAny xs live (IsGivenKey (given ++ group ∷ [])) n
+  given_one given group n = (
+    λ d. elim d [
+      | inl w ↦ (w.0, (w.1.0, Contains-append_left given (group ∷ []) w.1.0 w.1.1, w.1.2), w.2)
+      | inr u ↦ (codes "g:" ++ group, (group, Contains-push given group, refl), u)
+    ],
+    λ w. elim (Contains-push_cases given group w.1.0 w.1.1) [
+      | inl old ↦ inl (w.0, (w.1.0, old, w.1.2), w.2)
+      | inr new ↦ inr (subst (λ (t : Text). IsLiveUnder xs live t n) (w.1.2 ∙ ap (λ (t : Text). codes "g:" ++ t) (sym new)) w.2)
+    ],
+  )
 
-  -- no other group makes the first place come sooner
-  pub given_first : (given : List Text) (group : Text) → AnswersNext (IsLiveUnderAny xs live (IsGivenKey given)) from (Some from) → AnswersNext (IsLiveUnderAny xs live (IsGivenKey (given ++ group ∷ []))) from (Some from)
-  given_first given group h = record {
-    after = omega arith;
-    holds = let w = h.holds in (w.0, (w.1.0, Contains-append_left given (group ∷ []) w.1.0 w.1.1, w.1.2), w.2);
-    none_before = λ n low high. absurd (omega arith);
-  }
+  pub account_two : (who : Who) (own : Text) → ((n : Text) → IsAccountIn who n ↔ (n ≡ own)) → (n : ℕ) → (IsLiveUnder xs live (codes "g:system:serviceaccounts") n ⊎ IsLiveUnder xs live (codes "g:system:serviceaccounts:" ++ own) n) ↔ IsLiveUnderAny xs live (IsAccountKey who) n
+  account_two who own is n = (
+    λ d. elim d [
+      | inl u ↦ (codes "g:system:serviceaccounts", (own, (is own).1 refl, inl refl), u)
+      | inr u ↦ (codes "g:system:serviceaccounts:" ++ own, (own, (is own).1 refl, inr refl), u)
+    ],
+    λ w. elim w.1.2 [
+      | inl e ↦ inl (subst (λ (t : Text). IsLiveUnder xs live t n) e w.2)
+      | inr e ↦ inr (subst (λ (t : Text). IsLiveUnder xs live t n) (e ∙ ap (λ (t : Text). codes "g:system:serviceaccounts:" ++ t) ((is w.1.0).0 w.1.1)) w.2)
+    ],
+  )
 
-  -- the groups of a service account
-  pub account_next : (who : Who) (own : Text) (a b : Option ℕ) → ((n : Text) → IsAccountIn who n ↔ (n ≡ own)) → AnswersNext (IsLiveUnder xs live (codes "g:system:serviceaccounts")) from a → AnswersNext (IsLiveUnder xs live (codes "g:system:serviceaccounts:" ++ own)) from b → AnswersNext (IsLiveUnderAny xs live (IsAccountKey who)) from (sooner a b)
-  account_next who own a b is f g =
-      let P : ℕ → Type 0 = IsLiveUnder xs live (codes "g:system:serviceaccounts") in
-      let Q : ℕ → Type 0 = IsLiveUnder xs live (codes "g:system:serviceaccounts:" ++ own) in
-      next_same (λ n. P n ⊎ Q n) (IsLiveUnderAny xs live (IsAccountKey who)) from (sooner a b) (λ n. (
-        λ d. elim d [
-          | inl u ↦ (codes "g:system:serviceaccounts", (own, (is own).1 refl, inl refl), u)
-          | inr u ↦ (codes "g:system:serviceaccounts:" ++ own, (own, (is own).1 refl, inr refl), u)
-        ],
-        λ w. elim w.1.2 [
-          | inl e ↦ inl (subst (λ (t : Text). IsLiveUnder xs live t n) e w.2)
-          | inr e ↦ inr (subst (λ (t : Text). IsLiveUnder xs live t n) (e ∙ ap (λ (t : Text). codes "g:system:serviceaccounts:" ++ t) ((is w.1.0).0 w.1.1)) w.2)
-        ],
-      )) (sooner_next P Q from a b f g)
+  pub signed_in_one : (who : Who) (own : Text) → ((g : Text) → SignsInAs who g ↔ (g ≡ own)) → (n : ℕ) → IsLiveUnder xs live (codes "g:" ++ own) n ↔ IsLiveUnderAny xs live (IsSignInKey who) n
+  signed_in_one who own is n = (
+    λ u. (codes "g:" ++ own, (own, (is own).1 refl, refl), u),
+    λ w. subst (λ (t : Text). IsLiveUnder xs live t n) (w.1.2 ∙ ap (λ (t : Text). codes "g:" ++ t) ((is w.1.0).0 w.1.1)) w.2,
+  )
 
-  -- the group that says whether a user has signed in
-  pub signed_in_next : (who : Who) (own : Text) (a : Option ℕ) → ((g : Text) → SignsInAs who g ↔ (g ≡ own)) → AnswersNext (IsLiveUnder xs live (codes "g:" ++ own)) from a → AnswersNext (IsLiveUnderAny xs live (IsSignInKey who)) from a
-  signed_in_next who own a is f =
-      next_same (IsLiveUnder xs live (codes "g:" ++ own)) (IsLiveUnderAny xs live (IsSignInKey who)) from a (λ n. (
-        λ u. (codes "g:" ++ own, (own, (is own).1 refl, refl), u),
-        λ w. subst (λ (t : Text). IsLiveUnder xs live t n) (w.1.2 ∙ ap (λ (t : Text). codes "g:" ++ t) ((is w.1.0).0 w.1.1)) w.2,
-      )) f
+  -- under a key of one of the four kinds
+  abbrev pub IsUnderSome : Who → Text → ℕ → Type 0
+  IsUnderSome who own n = (IsLiveUnder xs live own n ⊎ IsLiveUnderAny xs live (IsGivenKey (given_of who)) n) ⊎ (IsLiveUnderAny xs live (IsAccountKey who) n ⊎ IsLiveUnderAny xs live (IsSignInKey who) n)
 
-  -- all keys
-  pub all_next : (who : Who) (own : Text) (a b c d : Option ℕ) → own ≡ who_key who → AnswersNext (IsLiveUnder xs live own) from a → AnswersNext (IsLiveUnderAny xs live (IsGivenKey (given_of who))) from b → AnswersNext (IsLiveUnderAny xs live (IsAccountKey who)) from c → AnswersNext (IsLiveUnderAny xs live (IsSignInKey who)) from d → AnswersNext (IsLiveUnderAny xs live (IsKeyFor who)) from (sooner (sooner a b) (sooner c d))
-  all_next who own a b c d is f g h k =
-      let P : ℕ → Type 0 = IsLiveUnder xs live own in
-      let Q : ℕ → Type 0 = IsLiveUnderAny xs live (IsGivenKey (given_of who)) in
-      let R : ℕ → Type 0 = IsLiveUnderAny xs live (IsAccountKey who) in
-      let S : ℕ → Type 0 = IsLiveUnderAny xs live (IsSignInKey who) in
-      next_same (λ n. (P n ⊎ Q n) ⊎ (R n ⊎ S n)) (IsLiveUnderAny xs live (IsKeyFor who)) from (sooner (sooner a b) (sooner c d)) (λ n. (
-        λ w. elim w [
-          | inl l ↦ elim l [
-            | inl u ↦ (own, (keys_sorted who own).0 (inl (inl is)), u)
-            | inr v ↦ (v.0, (keys_sorted who v.0).0 (inl (inr v.1)), v.2)
-          ]
-          | inr l ↦ elim l [
-            | inl v ↦ (v.0, (keys_sorted who v.0).0 (inr (inl v.1)), v.2)
-            | inr v ↦ (v.0, (keys_sorted who v.0).0 (inr (inr v.1)), v.2)
-          ]
-        ],
-        λ w. elim ((keys_sorted who w.0).1 w.1) [
-          | inl l ↦ elim l [
-            | inl e ↦ inl (inl (subst (λ (t : Text). IsLiveUnder xs live t n) (e ∙ sym is) w.2))
-            | inr v ↦ inl (inr (w.0, v, w.2))
-          ]
-          | inr l ↦ elim l [
-            | inl v ↦ inr (inl (w.0, v, w.2))
-            | inr v ↦ inr (inr (w.0, v, w.2))
-          ]
-        ],
-      )) (sooner_next (λ n. P n ⊎ Q n) (λ n. R n ⊎ S n) from (sooner a b) (sooner c d) (sooner_next P Q from a b f g) (sooner_next R S from c d h k))
+  pub all_four : (who : Who) (own : Text) → own ≡ who_key who → (n : ℕ) → IsUnderSome who own n ↔ IsLiveUnderAny xs live (IsKeyFor who) n
+  all_four who own is n = (
+    λ w. elim w [
+      | inl l ↦ elim l [
+        | inl u ↦ (own, (keys_sorted who own).0 (inl (inl is)), u)
+        | inr v ↦ (v.0, (keys_sorted who v.0).0 (inl (inr v.1)), v.2)
+      ]
+      | inr l ↦ elim l [
+        | inl v ↦ (v.0, (keys_sorted who v.0).0 (inr (inl v.1)), v.2)
+        | inr v ↦ (v.0, (keys_sorted who v.0).0 (inr (inr v.1)), v.2)
+      ]
+    ],
+    λ w. elim ((keys_sorted who w.0).1 w.1) [
+      | inl l ↦ elim l [
+        | inl e ↦ inl (inl (subst (λ (t : Text). IsLiveUnder xs live t n) (e ∙ sym is) w.2))
+        | inr v ↦ inl (inr (w.0, v, w.2))
+      ]
+      | inr l ↦ elim l [
+        | inl v ↦ inr (inl (w.0, v, w.2))
+        | inr v ↦ inr (inr (w.0, v, w.2))
+      ]
+    ],
+  )
+
+  module _ (from : ℕ) where
+    pub given_more : (given : List Text) (group : Text) (a b : Option ℕ) → AnswersNext (IsLiveUnderAny xs live (IsGivenKey given)) from a → AnswersNext (IsLiveUnder xs live (codes "g:" ++ group)) from b → AnswersNext (IsLiveUnderAny xs live (IsGivenKey (given ++ group ∷ []))) from (sooner a b)
+    given_more given group a b f g =
+        let P : ℕ → Type 0 = IsLiveUnderAny xs live (IsGivenKey given) in
+        let Q : ℕ → Type 0 = IsLiveUnder xs live (codes "g:" ++ group) in
+        next_same (λ n. P n ⊎ Q n) (IsLiveUnderAny xs live (IsGivenKey (given ++ group ∷ []))) from (sooner a b) (given_one given group) (sooner_next P Q from a b f g)
+
+    -- no other group makes the first place come sooner
+    pub given_first : (given : List Text) (group : Text) → AnswersNext (IsLiveUnderAny xs live (IsGivenKey given)) from (Some from) → AnswersNext (IsLiveUnderAny xs live (IsGivenKey (given ++ group ∷ []))) from (Some from)
+    given_first given group h = record {
+      after = omega arith;
+      holds = (given_one given group from).0 (inl h.holds);
+      none_before = λ n low high. absurd (omega arith);
+    }
+
+    pub account_next : (who : Who) (own : Text) (a b : Option ℕ) → ((n : Text) → IsAccountIn who n ↔ (n ≡ own)) → AnswersNext (IsLiveUnder xs live (codes "g:system:serviceaccounts")) from a → AnswersNext (IsLiveUnder xs live (codes "g:system:serviceaccounts:" ++ own)) from b → AnswersNext (IsLiveUnderAny xs live (IsAccountKey who)) from (sooner a b)
+    account_next who own a b is f g =
+        let P : ℕ → Type 0 = IsLiveUnder xs live (codes "g:system:serviceaccounts") in
+        let Q : ℕ → Type 0 = IsLiveUnder xs live (codes "g:system:serviceaccounts:" ++ own) in
+        next_same (λ n. P n ⊎ Q n) (IsLiveUnderAny xs live (IsAccountKey who)) from (sooner a b) (account_two who own is) (sooner_next P Q from a b f g)
+
+    pub signed_in_next : (who : Who) (own : Text) (a : Option ℕ) → ((g : Text) → SignsInAs who g ↔ (g ≡ own)) → AnswersNext (IsLiveUnder xs live (codes "g:" ++ own)) from a → AnswersNext (IsLiveUnderAny xs live (IsSignInKey who)) from a
+    signed_in_next who own a is f = next_same (IsLiveUnder xs live (codes "g:" ++ own)) (IsLiveUnderAny xs live (IsSignInKey who)) from a (signed_in_one who own is) f
+
+    pub all_next : (who : Who) (own : Text) (a b c d : Option ℕ) → own ≡ who_key who → AnswersNext (IsLiveUnder xs live own) from a → AnswersNext (IsLiveUnderAny xs live (IsGivenKey (given_of who))) from b → AnswersNext (IsLiveUnderAny xs live (IsAccountKey who)) from c → AnswersNext (IsLiveUnderAny xs live (IsSignInKey who)) from d → AnswersNext (IsLiveUnderAny xs live (IsKeyFor who)) from (sooner (sooner a b) (sooner c d))
+    all_next who own a b c d is f g h k =
+        let P : ℕ → Type 0 = IsLiveUnder xs live own in
+        let Q : ℕ → Type 0 = IsLiveUnderAny xs live (IsGivenKey (given_of who)) in
+        let R : ℕ → Type 0 = IsLiveUnderAny xs live (IsAccountKey who) in
+        let S : ℕ → Type 0 = IsLiveUnderAny xs live (IsSignInKey who) in
+        next_same (IsUnderSome who own) (IsLiveUnderAny xs live (IsKeyFor who)) from (sooner (sooner a b) (sooner c d)) (all_four who own is)
+        (sooner_next (λ n. P n ⊎ Q n) (λ n. R n ⊎ S n) from (sooner a b) (sooner c d) (sooner_next P Q from a b f g) (sooner_next R S from c d h k))

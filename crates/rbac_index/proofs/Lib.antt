@@ -1,6 +1,7 @@
 pub mod AlikeLemmas
 pub mod DecidingLemmas
 pub mod FirstLemmas
+pub mod FirstRunLemmas
 pub mod HolderLaw
 pub mod HoldingLemmas
 pub mod IndexLemmas
@@ -10,7 +11,9 @@ pub mod KeysOf
 pub mod RuleListLemmas
 pub mod ListedLaw
 pub mod ListedLemmas
+pub mod LeastLemmas
 pub mod LivingLemmas
+pub mod TakingLemmas
 pub mod MergeLemmas
 pub mod NextRunLemmas
 pub mod OneHolders

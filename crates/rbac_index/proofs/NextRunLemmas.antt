@@ -29,7 +29,7 @@ module _ (p : PolicyView) (ok : IsPolicy p) (xs : List Keyed) (are : AreKeyed p 
       (k.0, k.2, (are.exact (keyed k.0 place)).1 (grants, (b, there, (names.0, names.1, names.2, names.3, k.1))))
 
   module _ (live : Live) where
-    abbrev Found : ℕ → Type 0
+    abbrev pub Found : ℕ → Type 0
     Found = IsLiveUnderAny xs live (IsKeyFor who)
 
     names_of : (n at : ℕ) (of : IsOfBinding p n at) → Found at → BindingNames of.0.binding who
@@ -55,10 +55,10 @@ module _ (p : PolicyView) (ok : IsPolicy p) (xs : List Keyed) (are : AreKeyed p 
     )
 
     module _ (namespace : Text) (lives : (at : ℕ) (b : Binding) → slice_get p.held.bindings at ≡ Some b → IsLiveAt live at ↔ LiveForSome b.namespace namespace) where
-      bound_of : (n at : ℕ) → IsOfBinding p n at → Found at → IsBoundTo p who namespace n
+      pub bound_of : (n at : ℕ) → IsOfBinding p n at → Found at → IsBoundTo p who namespace n
       bound_of n at of found = (of.0, of.1, names_of n at of found, (lives at of.0.binding of.2).0 found.2.1)
 
-      of_bound : (n at : ℕ) → IsOfBinding p n at → IsBoundTo p who namespace n → Found at
+      pub of_bound : (n at : ℕ) → IsOfBinding p n at → IsBoundTo p who namespace n → Found at
       of_bound n at of bound =
           let same : bound.0 ≡ of.0 = same_Some bound.0 of.0 (sym bound.1 ∙ of.1) in
           let names = subst (λ (g : GrantView). BindingNames g.binding who) same bound.2 in

@@ -1,9 +1,11 @@
 -- Which grants a principal has in a namespace, whatever their rules.
-use Rattle.std.specs.Prelude.{◌≡◌, ℕ, ◌<◌, ◌≤◌, Any, Some, slice_get}
+use Rattle.std.specs.Prelude.{◌≡◌, ℕ, ◌<◌, ◌≤◌, ◌↔◌, Any, Bool, IsTrue, List, [], ◌∷◌, Some}
+use Rattle.std.specs.Prelude.{length, slice_get}
 use Rattle.rbac_terms.specs.Text.{Text}
 use Rattle.rbac_terms.specs.Principals.{Who}
 use Rattle.rbac_model.specs.Policies.{Held, PolicyView, GrantView, BindingNames, IsOfBinding}
 use Rattle.rbac_model.specs.Universes.{LiveForSome}
+use Rattle.rbac_index.specs.declared.first_runs.Run.{Run}
 
 -- the binding of the grant with that number names who asks
 abbrev pub IsNamedBy : PolicyView → Who → ℕ → Type 0
@@ -30,3 +32,18 @@ pub record IsNextRun (p : PolicyView) (who : Who) (namespace : Text)
       → ¬ IsBoundTo p who namespace number
   pub whole : (number place : ℕ) → from ≤ number → IsOfBinding p start place
       → IsOfBinding p number place → number < end
+
+-- the run has exactly the grants of the binding at that place
+abbrev pub IsRunAt : PolicyView → ℕ → Run → Type 0
+IsRunAt p place run = (run.end ≤ length p.grants)
+    × ((number at : ℕ) → IsOfBinding p number at
+    → ((run.start ≤ number) × (number < run.end)) ↔ (at ≡ place))
+
+-- these are the first runs, from a number on, of the grants that are bound to who asks in that
+-- namespace; exactly if `are_all` is true, there are no others
+abbrev pub AreRunsFrom : PolicyView → Who → Text → Bool → ℕ → List Run → Type 0
+AreRunsFrom p who namespace are_all from [] = IsTrue are_all
+    ↔ ((number : ℕ) → from ≤ number → ¬ IsBoundTo p who namespace number)
+AreRunsFrom p who namespace are_all from (run ∷ runs) =
+    IsNextRun p who namespace from run.start run.end
+    × AreRunsFrom p who namespace are_all run.end runs

@@ -4,6 +4,7 @@ pub mod HolderViews
 pub mod Holding
 pub mod Indexed
 pub mod Keyed
+pub mod Least
 pub mod RuleLists
 pub mod Living
 pub mod Matched

@@ -1,16 +1,18 @@
 //! The index of a policy.
 
 ghost use Rattle.std.specs.Prelude.{◌≡◌, ◌<◌, ◌≤◌, ◌↔◌, ℕ, length, IsTrue, slice_get, Some, All};
-ghost use Rattle.std.specs.Prelude.{Any, Contains, IfOk, IfSome, MatchOption};
+ghost use Rattle.std.specs.Prelude.{Any, Contains, IfOk, IfSome, MatchOption, false};
 ghost use Rattle.std.specs.List.Sorted.{IsStrictlyIncreasing};
 ghost use Rattle.rbac_model.specs.Sources.{grant_of};
 ghost use Rattle.rbac_model.specs.Policies.{Allows, IsFirst, IsOfBinding, IsPolicy};
 ghost use Rattle.rbac_model.specs.Holders.{AreHolders};
 ghost use Rattle.rbac_index.specs.Indexed.{AreCandidates, HaveNumbers, IsAllowedBy};
 ghost use Rattle.rbac_index.specs.Bound.{HasRoleBindings, IsNamedBy, IsBoundTo, IsNextRun};
+ghost use Rattle.rbac_index.specs.Bound.{AreRunsFrom};
 ghost use Rattle.rbac_index.specs.Deciding.{IsWhyShown};
 ghost use Rattle.rbac_index.specs.HolderViews.{where_of};
 ghost use Rattle.rbac_index.specs.Holding.{AllowsByHolders};
+ghost use Rattle.rbac_index.specs.Least.{most_kept};
 ghost use Rattle.rbac_index.specs.Reaches.{AreAlike};
 ghost use Rattle.rbac_index.specs.WhoCan.{AreListedHolders};
 
@@ -18,6 +20,8 @@ use crate::alike::earlier_alike;
 use crate::asked::Where;
 use crate::deciding::{Why, why_allowed};
 use crate::fault::IndexFault;
+use crate::first_places::first_places;
+use crate::first_runs::{FirstRuns, runs_at};
 use crate::holders::Holders;
 use crate::live_bindings::{Live, live_for_some, of_namespace};
 use crate::merge::{Numbers, merged};
@@ -189,6 +193,22 @@ impl<'p> Index<'p> {
         };
         let (start, end) = self.policy.grants_of(place);
         Some((start.max(from), end))
+    }
+
+    /// The first runs of the grants of bindings that name the principal and are live in this
+    /// namespace for some target, as many as there is room for, and whether there are no others.
+    /// Doesn't allocate.
+    pub fn first_runs(&self, principal: &Principal, namespace: &Word) -> FirstRuns
+        ensures runs { AreRunsFrom self.now principal.now namespace.now
+            result.are_all 0 result.runs.items }
+        ensures most { result.are_all ≡ false → length result.runs.items ≡ most_kept }
+    {
+        let live = live_for_some(self.policy.bindings(), namespace);
+        let places = first_places(self.named.as_slice(), principal, live);
+        FirstRuns {
+            runs: runs_at(self.policy, places.kept()),
+            are_all: places.are_all(),
+        }
     }
 
     /// Who may use the verb on the target in this namespace: each holder once, in order of the

@@ -18,13 +18,13 @@ use std::alloc::{AllocError, Global};
 use std::cmp::Ordering;
 
 // The prefix of the key of a group's members.
-const MEMBER: &[u8] = b"g:";
+pub(crate) const MEMBER: &[u8] = b"g:";
 
 // The key of the members of the group of all service accounts.
-const ACCOUNTS: &[u8] = b"g:system:serviceaccounts";
+pub(crate) const ACCOUNTS: &[u8] = b"g:system:serviceaccounts";
 
 // The prefix of the key of the members of the group of a namespace's service accounts.
-const ACCOUNTS_OF: &[u8] = b"g:system:serviceaccounts:";
+pub(crate) const ACCOUNTS_OF: &[u8] = b"g:system:serviceaccounts:";
 
 // The key of a subject, and the place of a binding that has it.
 #[derive(Drop)]
@@ -106,7 +106,7 @@ fn next_under(entries: &[Keyed], prefix: &[u8], rest: &[u8], from: usize) -> Opt
 }
 
 // The next place from `from` on under this key where a binding is live.
-fn next_live(
+pub(crate) fn next_live(
     entries: &[Keyed],
     prefix: &[u8],
     rest: &[u8],

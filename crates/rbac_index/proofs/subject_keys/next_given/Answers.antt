@@ -9,7 +9,7 @@ use Rattle.rbac_index.proofs.KeyedLemmas.{given_first, given_none, given_more}
 use Rattle.rbac_index.proofs.subject_keys.next_given.Goals as goal
 
 pub loop-group-init : goal.loop-group-init
-loop-group-init c = given_none c.args.entries.now c.args.live c.args.from
+loop-group-init c = λ n le a. given_none c.args.entries.now c.args.live n a
 
 pub loop-group-preserved : goal.loop-group-preserved
 loop-group-preserved c =
