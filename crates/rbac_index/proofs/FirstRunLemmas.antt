@@ -1,6 +1,7 @@
 -- the first runs of somebody's grants, from the first places of bindings that name them
-use Rattle.std.proofs.Common.{◌≡◌, ℕ, ◌<◌, ◌≤◌, List, [], ◌∷◌, length, suc, zero, slice_get, All, AllPairs, AllZip, Contains, sym, refl, subst, arith, inl, inr, ◌⊎◌, ◌↔◌, IsTrue, Bool, true, false}
+use Rattle.std.proofs.Common.{◌≡◌, ℕ, ◌<◌, ◌≤◌, List, [], ◌∷◌, ◌++◌, length, suc, zero, ap, slice_get, All, AllPairs, Contains, sym, refl, subst, arith, inl, inr, ◌⊎◌, ◌↔◌, IsTrue, Bool, true, false}
 use Rattle.std.specs.Prelude.{Some}
+use Rattle.std.specs.List.{AllZip}
 use Rattle.std.proofs.lemmas.Bool.{cases_lt}
 use Rattle.std.proofs.lemmas.List.Elements.{All-head, All-tail}
 use Rattle.std.proofs.lemmas.Option.{slice_get_within}
@@ -15,8 +16,22 @@ use Rattle.rbac_index.specs.declared.subject_keys.Keyed.{Keyed}
 use Rattle.rbac_index.specs.declared.live_bindings.Live.{Live}
 use Rattle.rbac_index.specs.Bound.{IsBoundTo, IsNextRun, IsRunAt, AreRunsFrom}
 use Rattle.rbac_index.specs.Keyed.{keyed, HasGrants, AreKeyed, IsLiveAt}
-use Rattle.rbac_index.specs.Least.{LeastView, IsPast, AreLeast}
+use Rattle.rbac_index.specs.Least.{LeastView, IsPast}
+use Rattle.rbac_index.proofs.LeastLemmas.{AreLeast}
 use Rattle.rbac_index.proofs.NextRunLemmas.{Found, bound_of, of_bound}
+
+-- one more run, of one more place
+pub zip_more : {A B : Type 0} (R : A → B → Type 0) (xs : List A) (ys : List B) (x : A) (y : B) → AllZip R xs ys → R x y → AllZip R (xs ++ x ∷ []) (ys ++ y ∷ [])
+zip_more R [] [] x y zip r = (r, tt)
+zip_more R [] (b ∷ ys) x y zip r = absurd zip
+zip_more R (a ∷ xs) [] x y zip r = absurd zip
+zip_more R (a ∷ xs) (b ∷ ys) x y zip r = (zip.0, zip_more R xs ys x y zip.1 r)
+
+pub zip_length : {A B : Type 0} (R : A → B → Type 0) (xs : List A) (ys : List B) → AllZip R xs ys → length xs ≡ length ys
+zip_length R [] [] zip = refl
+zip_length R [] (b ∷ ys) zip = absurd zip
+zip_length R (a ∷ xs) [] zip = absurd zip
+zip_length R (a ∷ xs) (b ∷ ys) zip = ap suc (zip_length R xs ys zip.1)
 
 in_more : (x : ℕ) (xs : List ℕ) (n : ℕ) → Contains (x ∷ xs) n → (x ≡ n) ⊎ Contains xs n
 in_more x xs n (zero, lt, e) = inl e
@@ -163,7 +178,7 @@ module _ (p : PolicyView) (ok : IsPolicy p) (xs : List Keyed) (are : AreKeyed p 
     ahead = λ n at c of. omega arith;
     each = λ n at found of le. least.each at found;
     others = λ e.
-        let w = (least.others e).1 in
+        let w = least.others e in
         let g = granted w.0 w.1 in
         (g.0, w.0, g.1, w.1, omega arith, w.2);
   })

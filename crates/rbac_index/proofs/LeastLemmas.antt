@@ -11,7 +11,7 @@ use Rattle.std.proofs.lemmas.List.Edits.{length-insert, get_or-insert_below, get
 use Rattle.std.proofs.lemmas.List.Sorted.{searched}
 use Rattle.std.proofs.lemmas.List.Elements.{All-weaker, All-contains, All-contains_itself, Contains-append_left, Contains-push, Contains-push_cases}
 use Rattle.rbac_terms.proofs.Reading.{read_some}
-use Rattle.rbac_index.specs.Least.{LeastView, IsPast, IsKeptOr, Takes, AreLeast, most_kept}
+use Rattle.rbac_index.specs.Least.{LeastView, IsPast, IsKeptOr, Takes, no_places}
 
 -- what holds of each that a list contains
 all_of : (P : ℕ → Type 0) (xs : List ℕ) → ((n : ℕ) → Contains xs n → P n) → All P xs
@@ -43,7 +43,7 @@ module _ (xs : List ℕ) (at y : ℕ) (le : at ≤ length xs) where
   ]
 
   all_in : (P : ℕ → Type 0) → All P xs → P y → All P (insert xs at y)
-  all_in P all one = all_of P (insert xs at y) (λ n c. elim (from_in n c) [ | inl old ↦ All-contains P xs n all old | inr e ↦ subst P (sym e) one ])
+  all_in P all one = all_of P (insert xs at y) (λ n c. elim (from_in n c) [ inl old ↦ All-contains P xs n all old | inr e ↦ subst P (sym e) one ])
 
   ascends : AllPairs (λ a b. a < b) xs → ((k d : ℕ) → k < at → get_or xs k d < y) → ((k d : ℕ) → at ≤ k → k < length xs → y < get_or xs k d) → AllPairs (λ a b. a < b) (insert xs at y)
   ascends up below above i j d lt within = elim (cases_order j at) [
@@ -102,7 +102,7 @@ module _ (xs : List ℕ) (up : AllPairs (λ a b. a < b) xs) (y : ℕ) where
 pub takes_again : (l : LeastView) (place : ℕ) → Contains l.kept place → Takes (λ other. other ≡ place) l l
 takes_again l place c = record {
   from = λ n k. inl k;
-  each = λ n k. elim k [ | inl old ↦ inl old | inr e ↦ inl (subst (Contains l.kept) (sym e) c) ];
+  each = λ n k. elim k [ inl old ↦ inl old | inr e ↦ inl (subst (Contains l.kept) (sym e) c) ];
   still = λ n past. past;
   others = λ e. inl e;
 }
@@ -111,7 +111,7 @@ takes_again l place c = record {
 pub takes_one : (l : LeastView) (at place : ℕ) → at ≤ length l.kept → (l.are_all ≡ false → ⊥) → Takes (λ other. other ≡ place) l (record { kept = insert l.kept at place; are_all = l.are_all })
 takes_one l at place le all = record {
   from = λ n k. from_in l.kept at place le n k;
-  each = λ n k. elim k [ | inl old ↦ inl (still_in l.kept at place le n old) | inr e ↦ inl (subst (Contains (insert l.kept at place)) (sym e) (put_in l.kept at place le)) ];
+  each = λ n k. elim k [ inl old ↦ inl (still_in l.kept at place le n old) | inr e ↦ inl (subst (Contains (insert l.kept at place)) (sym e) (put_in l.kept at place le)) ];
   still = λ n past. absurd (all past.0);
   others = λ e. inl e;
 }
@@ -120,7 +120,7 @@ takes_one l at place le all = record {
 pub takes_none : (l : LeastView) (place : ℕ) → All (λ other. other < place) l.kept → Takes (λ other. other ≡ place) l (record { kept = l.kept; are_all = false })
 takes_none l place all = record {
   from = λ n k. inl k;
-  each = λ n k. elim k [ | inl old ↦ inl old | inr e ↦ inr (refl, subst (λ m. All (λ other. other < m) l.kept) (sym e) all) ];
+  each = λ n k. elim k [ inl old ↦ inl old | inr e ↦ inr (refl, subst (λ m. All (λ other. other < m) l.kept) (sym e) all) ];
   still = λ n past. (refl, past.1);
   others = λ e. inr (place, inr refl, (refl, all));
 }
@@ -196,7 +196,7 @@ module _ (l : LeastView) (kept : List ℕ) (last : ℕ) (is : l.kept ≡ kept ++
 pub takes_nothing : (P : ℕ → Type 0) (l : LeastView) → ((n : ℕ) → P n → ⊥) → Takes P l l
 takes_nothing P l none = record {
   from = λ n k. inl k;
-  each = λ n k. elim k [ | inl old ↦ inl old | inr p ↦ absurd (none n p) ];
+  each = λ n k. elim k [ inl old ↦ inl old | inr p ↦ absurd (none n p) ];
   still = λ n past. past;
   others = λ e. inl e;
 }
@@ -204,23 +204,27 @@ takes_nothing P l none = record {
 pub takes_both : (P Q : ℕ → Type 0) (a b c : LeastView) → Takes P a b → Takes Q b c → Takes (λ n. P n ⊎ Q n) a c
 takes_both P Q a b c s t = record {
   from = λ n k. elim (t.from n k) [
-    | inl mid ↦ elim (s.from n mid) [ | inl old ↦ inl old | inr p ↦ inr (inl p) ]
+    | inl mid ↦ elim (s.from n mid) [ inl old ↦ inl old | inr p ↦ inr (inl p) ]
     | inr q ↦ inr (inr q)
   ];
   each = λ n k. elim k [
     | inl old ↦ later n (s.each n (inl old))
-    | inr d ↦ elim d [ | inl p ↦ later n (s.each n (inr p)) | inr q ↦ t.each n (inr q) ]
+    | inr d ↦ elim d [ inl p ↦ later n (s.each n (inr p)) | inr q ↦ t.each n (inr q) ]
   ];
   still = λ n past. t.still n (s.still n past);
   others = λ e. elim (t.others e) [
     | inl f ↦ elim (s.others f) [
       | inl g ↦ inl g
-      | inr w ↦ inr (w.0, elim w.1 [ | inl old ↦ inl old | inr p ↦ inr (inl p) ], t.still w.0 w.2)
+      | inr w ↦ inr (w.0, elim w.1 [ inl old ↦ inl old | inr p ↦ inr (inl p) ], t.still w.0 w.2)
     ]
-    | inr w ↦ inr (w.0, elim w.1 [
-      | inl mid ↦ elim (s.from w.0 mid) [ | inl old ↦ inl old | inr p ↦ inr (inl p) ]
-      | inr q ↦ inr (inr q)
-    ], w.2)
+    | inr w ↦ inr (
+      w.0,
+      elim w.1 [
+        | inl mid ↦ elim (s.from w.0 mid) [ inl old ↦ inl old | inr p ↦ inr (inl p) ]
+        | inr q ↦ inr (inr q)
+      ],
+      w.2,
+    )
   ];
 }
   where
@@ -231,15 +235,15 @@ takes_both P Q a b c s t = record {
 -- the same places by another property, if those that aren't are past
 pub takes_past : (P Q : ℕ → Type 0) (a b : LeastView) → ((n : ℕ) → P n → Q n) → ((n : ℕ) → Q n → P n ⊎ IsPast b n) → Takes P a b → Takes Q a b
 takes_past P Q a b more less s = record {
-  from = λ n k. elim (s.from n k) [ | inl old ↦ inl old | inr p ↦ inr (more n p) ];
+  from = λ n k. elim (s.from n k) [ inl old ↦ inl old | inr p ↦ inr (more n p) ];
   each = λ n k. elim k [
     | inl old ↦ s.each n (inl old)
-    | inr q ↦ elim (less n q) [ | inl p ↦ s.each n (inr p) | inr past ↦ inr past ]
+    | inr q ↦ elim (less n q) [ inl p ↦ s.each n (inr p) | inr past ↦ inr past ]
   ];
   still = s.still;
   others = λ e. elim (s.others e) [
     | inl f ↦ inl f
-    | inr w ↦ inr (w.0, elim w.1 [ | inl old ↦ inl old | inr p ↦ inr (more w.0 p) ], w.2)
+    | inr w ↦ inr (w.0, elim w.1 [ inl old ↦ inl old | inr p ↦ inr (more w.0 p) ], w.2)
   ];
 }
 
@@ -253,14 +257,21 @@ past_later l m n le past = (past.0, All-weaker (λ other. other < m) (λ other. 
 none_kept : (n : ℕ) → Contains [] n → ⊥
 none_kept n c = omega (arith, c.1)
 
+-- the least places with the property, ascending, as many as there is room for, and whether there are no others
+pub record AreLeast (P : ℕ → Type 0) (l : LeastView) : Type 0 where
+  pub ascending : AllPairs (λ a b. a < b) l.kept
+  pub have : (place : ℕ) → Contains l.kept place → P place
+  pub each : (place : ℕ) → P place → IsKeptOr (IsPast l) l place
+  pub others : l.are_all ≡ false → (place : ℕ) × P place × IsPast l place
+
 -- what was taken into nothing
-pub least : (P : ℕ → Type 0) (l : LeastView) → AllPairs (λ a b. a < b) l.kept → (l.are_all ≡ false → length l.kept ≡ most_kept) → Takes P (record { kept = []; are_all = true }) l → AreLeast P l
-least P l up full s = record {
+pub least : (P : ℕ → Type 0) (l : LeastView) → AllPairs (λ a b. a < b) l.kept → Takes P no_places l → AreLeast P l
+least P l up s = record {
   ascending = up;
-  have = λ n c. elim (s.from n c) [ | inl none ↦ absurd (none_kept n none) | inr p ↦ p ];
+  have = λ n c. elim (s.from n c) [ inl none ↦ absurd (none_kept n none) | inr p ↦ p ];
   each = λ n p. s.each n (inr p);
-  others = λ e. (full e, elim (s.others e) [
+  others = λ e. elim (s.others e) [
     | inl none ↦ cc
-    | inr w ↦ (w.0, elim w.1 [ | inl none ↦ absurd (none_kept w.0 none) | inr p ↦ p ], w.2)
-  ]);
+    | inr w ↦ (w.0, elim w.1 [ inl none ↦ absurd (none_kept w.0 none) | inr p ↦ p ], w.2)
+  ];
 }

@@ -24,24 +24,24 @@ module _ (P : ℕ → Type 0) (first : LeastView) where
   below_all from l none s = takes_same (IsBelow P from) P first l (λ n. (λ b. b.0, λ p. (p, low n p))) s
     where
       low : (n : ℕ) → P n → n < from
-      low n p = elim (cases_lt n from) [ | inl lt ↦ lt | inr le ↦ absurd (none n le p) ]
+      low n p = elim (cases_lt n from) [ inl lt ↦ lt | inr le ↦ absurd (none n le p) ]
 
   module _ (from place : ℕ) (next : IsNextOf P from place) (mid last : LeastView) (s : Takes (IsBelow P from) first mid) (one : Takes (λ n. n ≡ place) mid last) where
     both : Takes (λ n. IsBelow P from n ⊎ (n ≡ place)) first last
     both = takes_both (IsBelow P from) (λ n. n ≡ place) first mid last s one
 
     here : (n : ℕ) → IsBelow P from n ⊎ (n ≡ place) → P n
-    here n d = elim d [ | inl b ↦ b.0 | inr e ↦ subst P (sym e) next.holds ]
+    here n d = elim d [ inl b ↦ b.0 | inr e ↦ subst P (sym e) next.holds ]
 
     upto : (n : ℕ) → P n → n < place + 1 → IsBelow P from n ⊎ (n ≡ place)
     upto n p lt = elim (cases_lt n from) [
       | inl low ↦ inl (p, low)
-      | inr le ↦ elim (cases_eq n place) [ | inl e ↦ inr e | inr ne ↦ absurd (next.none_before n le (omega (arith, lt, ne)) p) ]
+      | inr le ↦ elim (cases_eq n place) [ inl e ↦ inr e | inr ne ↦ absurd (next.none_before n le (omega (arith, lt, ne)) p) ]
     ]
 
     pub below_more : Takes (IsBelow P (place + 1)) first last
     below_more = takes_same (λ n. IsBelow P from n ⊎ (n ≡ place)) (IsBelow P (place + 1)) first last (λ n. (
-      λ d. (here n d, elim d [ | inl b ↦ omega (arith, b.1, next.after) | inr e ↦ omega (arith, e) ]),
+      λ d. (here n d, elim d [ inl b ↦ omega (arith, b.1, next.after) | inr e ↦ omega (arith, e) ]),
       λ b. upto n b.0 b.1,
     )) both
 

@@ -1,5 +1,5 @@
 -- The least of the places that were taken in, as many as there is room for.
-use Rattle.std.specs.Prelude.{◌≡◌, ℕ, ◌<◌, ◌⊎◌, Bool, false, List, All, AllPairs, Contains, length}
+use Rattle.std.specs.Prelude.{◌≡◌, ℕ, ◌<◌, ◌⊎◌, Bool, true, false, List, [], All, Contains}
 
 -- the places that are kept, and whether no others were taken in
 pub record LeastView : Type 0 where
@@ -9,6 +9,10 @@ pub record LeastView : Type 0 where
 -- how many places are kept, at most, and so how many runs of grants
 abbrev pub most_kept : ℕ
 most_kept = 256
+
+-- nothing was taken in
+abbrev pub no_places : LeastView
+no_places = record { kept = []; are_all = true }
 
 -- other places were taken in, and this one comes after all that are kept
 abbrev pub IsPast : LeastView → ℕ → Type 0
@@ -25,12 +29,3 @@ pub record Takes (P : ℕ → Type 0) (old new : LeastView) : Type 0 where
   pub still : (place : ℕ) → IsPast old place → IsPast new place
   pub others : new.are_all ≡ false
       → (old.are_all ≡ false) ⊎ ((place : ℕ) × IsKeptOr P old place × IsPast new place)
-
--- the least places with the property, ascending, as many as there is room for, and whether there
--- are no others
-pub record AreLeast (P : ℕ → Type 0) (l : LeastView) : Type 0 where
-  pub ascending : AllPairs (λ a b. a < b) l.kept
-  pub have : (place : ℕ) → Contains l.kept place → P place
-  pub each : (place : ℕ) → P place → IsKeptOr (IsPast l) l place
-  pub others : l.are_all ≡ false
-      → (length l.kept ≡ most_kept) × ((place : ℕ) × P place × IsPast l place)

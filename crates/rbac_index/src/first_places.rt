@@ -6,7 +6,7 @@ ghost use Rattle.rbac_terms.specs.Principals.{given_of};
 ghost use Rattle.rbac_index.specs.Holding.{IsKeyFor};
 ghost use Rattle.rbac_index.specs.Keyed.{keyed_cmp, IsLiveUnder, IsLiveUnderAny};
 ghost use Rattle.rbac_index.specs.Keyed.{IsGivenKey, IsAccountKey, IsSignInKey};
-ghost use Rattle.rbac_index.specs.Least.{AreLeast, Takes};
+ghost use Rattle.rbac_index.specs.Least.{Takes, no_places};
 
 use crate::least_places::LeastPlaces;
 use crate::live_bindings::Live;
@@ -16,7 +16,8 @@ use rbac_terms::Principal;
 // The first places where a live binding is listed under a key of the principal.
 pub(crate) fn first_places(entries: &[Keyed], principal: &Principal, live: Live) -> LeastPlaces
     requires { IsSorted keyed_cmp entries.now }
-    ensures { AreLeast (IsLiveUnderAny entries.now live (IsKeyFor principal.now)) result }
+    ensures { Takes
+        (IsLiveUnderAny entries.now live (IsKeyFor principal.now)) no_places result }
 {
     let mut places = LeastPlaces::new();
     take_live(entries, principal.key().as_bytes(), &[], live, &mut places);

@@ -1,6 +1,7 @@
 //! The first runs of the grants of bindings at some places.
 
-ghost use Rattle.std.specs.Prelude.{◌≤◌, AllZip, length};
+ghost use Rattle.std.specs.Prelude.{◌≤◌, length};
+ghost use Rattle.std.specs.List.{AllZip};
 ghost use Rattle.rbac_index.specs.Bound.{IsRunAt};
 ghost use Rattle.rbac_index.specs.Least.{most_kept};
 

@@ -1,7 +1,7 @@
 //! The least of the places that are taken in, as many as an array has room for.
 
-ghost use Rattle.std.specs.Prelude.{◌≡◌, ◌<◌, ◌≤◌, [], AllPairs, length, true, false};
-ghost use Rattle.rbac_index.specs.Least.{IsPast, Takes, most_kept};
+ghost use Rattle.std.specs.Prelude.{◌≡◌, ◌<◌, ◌≤◌, AllPairs, length, false};
+ghost use Rattle.rbac_index.specs.Least.{IsPast, Takes, most_kept, no_places};
 
 use arrayvec::ArrayVec;
 use std::marker::Model;
@@ -32,7 +32,7 @@ impl Model for LeastPlaces {
 impl LeastPlaces {
     // No places. Doesn't allocate.
     pub(crate) fn new() -> Self
-        ensures { result ≡ record { kept = []; are_all = true } }
+        ensures { result ≡ no_places }
     {
         LeastPlaces {
             kept: ArrayVec::new(),

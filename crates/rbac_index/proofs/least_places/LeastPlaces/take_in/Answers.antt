@@ -8,9 +8,10 @@ use Rattle.rbac_index.proofs.least_places.LeastPlaces.take_in.Goals as goal
 
 pub invariant_of-self : goal.invariant_of-self
 invariant_of-self c =
-    let found : IsBinarySearchResult (λ x. nat_cmp x c.args.place) c.self.inside.kept.items (Err c.in-Err.at) = rw c.as_slice.ensures.value at c.in-Err.ensures.position in
-    (rw c.insert.ensures.items (found_ascends c.self.inside.kept.items c.self.invariant.0 c.args.place c.in-Err.at found),
-    λ e. let full = c.self.invariant.1 e in absurd (omega (arith, full, c.len.ensures.value, c.if-len-lt-MOST_KEPT.true)))
+    let found : IsBinarySearchResult (λ x. nat_cmp x c.args.place) c.self.inside.kept.items (Err c.in-Err.at) = rw c.as_slice.ensures.value at c.in-Err.ensures.position in (
+      rw c.insert.ensures.items (found_ascends c.self.inside.kept.items c.self.invariant.0 c.args.place c.in-Err.at found),
+      λ e. let full = c.self.invariant.1 e in absurd (omega (arith, full, c.len.ensures.value, c.if-len-lt-MOST_KEPT.true)),
+    )
 
 pub returns-then-len-lt-MOST_KEPT-clause-takes : goal.returns-then-len-lt-MOST_KEPT-clause-takes
 returns-then-len-lt-MOST_KEPT-clause-takes c =
