@@ -1,5 +1,5 @@
 -- the first runs of somebody's grants, from the first places of bindings that name them
-use Rattle.std.proofs.Common.{◌≡◌, ℕ, ◌<◌, ◌≤◌, List, [], ◌∷◌, ◌++◌, length, suc, zero, ap, slice_get, All, AllPairs, Contains, sym, refl, subst, arith, inl, inr, ◌⊎◌, ◌↔◌, IsTrue, Bool, true, false}
+use Rattle.std.proofs.Common.{◌≡◌, ℕ, ◌<◌, ◌≤◌, List, [], ◌∷◌, ◌++◌, length, suc, zero, ap, slice_get, AllPairs, Contains, sym, refl, subst, arith, inl, inr, ◌⊎◌, ◌↔◌, IsTrue, Bool, true, false}
 use Rattle.std.specs.Prelude.{Some}
 use Rattle.std.specs.List.{AllZip}
 use Rattle.std.proofs.lemmas.Bool.{cases_lt}
@@ -146,24 +146,17 @@ module _ (p : PolicyView) (ok : IsPolicy p) (xs : List Keyed) (are : AreKeyed p 
             (w.0, w.1, w.2, w.3, past w.0 w.1 w.2 (All-head (λ other. other < w.1) place places w.5.1), (w.5.0, All-tail (λ other. other < w.1) place places w.5.1));
       }
 
-    told : (b : Bool) → (b ≡ false → ⊥) → IsTrue b
-    told true f = refl
-    told false f = absurd (f refl)
-
     not_both : (b : Bool) → IsTrue b → b ≡ false → ⊥
     not_both true t e = cc
     not_both false t e = cc
 
     runs_left : (from : ℕ) (places : List ℕ) (runs : List Run) → AllZip (IsRunAt p) places runs → AreLeft from places → AreRunsFrom p who namespace are_all from runs
-    runs_left from [] [] zip left = (
-      λ t n le b.
-          let of = of_some_binding p ok n (slice_get_within p.grants n b.0 b.1) in
-          elim (left.each n of.0 (found_at n of.0 of.1 b) of.1 le) [
-            | inl c ↦ omega (arith, c.1)
-            | inr far ↦ not_both are_all t far.0
-          ],
-      λ none. told are_all (λ e. let w = left.others e in none w.0 w.4 (bound w.0 w.1 w.2 w.3)),
-    )
+    runs_left from [] [] zip left = λ t n le b.
+        let of = of_some_binding p ok n (slice_get_within p.grants n b.0 b.1) in
+        elim (left.each n of.0 (found_at n of.0 of.1 b) of.1 le) [
+          | inl c ↦ omega (arith, c.1)
+          | inr far ↦ not_both are_all t far.0
+        ]
     runs_left from [] (run ∷ runs) zip left = absurd zip
     runs_left from (place ∷ places) [] zip left = absurd zip
     runs_left from (place ∷ places) (run ∷ runs) zip left = (
@@ -171,14 +164,28 @@ module _ (p : PolicyView) (ok : IsPolicy p) (xs : List Keyed) (are : AreKeyed p 
       runs_left run.end places runs zip.1 (left_over from place places left run zip.0),
     )
 
-  pub first_runs : (l : LeastView) (runs : List Run) → AreLeast Finds l → AllZip (IsRunAt p) l.kept runs → AreRunsFrom p who namespace l.are_all 0 runs
-  first_runs l runs least zip = runs_left l.are_all 0 l.kept runs zip (record {
-    ascending = least.ascending;
-    have = least.have;
-    ahead = λ n at c of. omega arith;
-    each = λ n at found of le. least.each at found;
-    others = λ e.
-        let w = least.others e in
-        let g = granted w.0 w.1 in
-        (g.0, w.0, g.1, w.1, omega arith, w.2);
-  })
+    -- where other places were taken in, there are other runs
+    not_all : are_all ≡ false → (from : ℕ) (places : List ℕ) (runs : List Run) → AllZip (IsRunAt p) places runs → AreLeft from places → AreRunsFrom p who namespace true from runs → ⊥
+    not_all e from [] [] zip left are = let w = left.others e in are refl w.0 w.4 (bound w.0 w.1 w.2 w.3)
+    not_all e from [] (run ∷ runs) zip left are = absurd zip
+    not_all e from (place ∷ places) [] zip left are = absurd zip
+    not_all e from (place ∷ places) (run ∷ runs) zip left are = not_all e run.end places runs zip.1 (left_over from place places left run zip.0) are.1
+
+  module _ (l : LeastView) (least : AreLeast Finds l) where
+    left_first : AreLeft l.are_all 0 l.kept
+    left_first = record {
+      ascending = least.ascending;
+      have = least.have;
+      ahead = λ n at c of. omega arith;
+      each = λ n at found of le. least.each at found;
+      others = λ e.
+          let w = least.others e in
+          let g = granted w.0 w.1 in
+          (g.0, w.0, g.1, w.1, omega arith, w.2);
+    }
+
+    pub first_runs : (runs : List Run) → AllZip (IsRunAt p) l.kept runs → AreRunsFrom p who namespace l.are_all 0 runs
+    first_runs runs zip = runs_left l.are_all 0 l.kept runs zip left_first
+
+    pub other_runs : l.are_all ≡ false → (runs : List Run) → AllZip (IsRunAt p) l.kept runs → AreRunsFrom p who namespace true 0 runs → ⊥
+    other_runs e runs zip = not_all l.are_all e 0 l.kept runs zip left_first

@@ -1,5 +1,5 @@
 -- the least of the places that were taken in
-use Rattle.std.proofs.Common.{◌≡◌, ℕ, ◌+◌, ◌-◌, ◌<◌, ◌≤◌, List, [], ◌∷◌, ◌++◌, length, get_or, All, AllPairs, Contains, inl, inr, ◌⊎◌, ◌↔◌, ap, sym, ◌∙◌, refl, subst, arith, true, false}
+use Rattle.std.proofs.Common.{◌≡◌, ℕ, ◌+◌, ◌-◌, ◌<◌, ◌≤◌, List, [], ◌∷◌, ◌++◌, length, get_or, All, AllPairs, Contains, inl, inr, ◌⊎◌, ◌↔◌, ap, sym, ◌∙◌, refl, subst, arith, false}
 use Rattle.std.specs.List.{insert}
 use Rattle.std.specs.Prelude.{Option, Ok, Err, slice_get}
 use Rattle.std.specs.Option.{option_to_list}

@@ -40,10 +40,10 @@ IsRunAt p place run = (run.end ≤ length p.grants)
     → ((run.start ≤ number) × (number < run.end)) ↔ (at ≡ place))
 
 -- these are the first runs, from a number on, of the grants that are bound to who asks in that
--- namespace; exactly if `are_all` is true, there are no others
+-- namespace; if `are_all` is true, there are no others
 abbrev pub AreRunsFrom : PolicyView → Who → Text → Bool → ℕ → List Run → Type 0
-AreRunsFrom p who namespace are_all from [] = IsTrue are_all
-    ↔ ((number : ℕ) → from ≤ number → ¬ IsBoundTo p who namespace number)
+AreRunsFrom p who namespace are_all from [] = IsTrue are_all → (number : ℕ) → from ≤ number
+    → ¬ IsBoundTo p who namespace number
 AreRunsFrom p who namespace are_all from (run ∷ runs) =
     IsNextRun p who namespace from run.start run.end
     × AreRunsFrom p who namespace are_all run.end runs

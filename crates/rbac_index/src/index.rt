@@ -1,7 +1,7 @@
 //! The index of a policy.
 
 ghost use Rattle.std.specs.Prelude.{◌≡◌, ◌<◌, ◌≤◌, ◌↔◌, ℕ, length, IsTrue, slice_get, Some, All};
-ghost use Rattle.std.specs.Prelude.{Any, Contains, IfOk, IfSome, MatchOption, false};
+ghost use Rattle.std.specs.Prelude.{Any, Contains, IfOk, IfSome, MatchOption, true, false};
 ghost use Rattle.std.specs.List.Sorted.{IsStrictlyIncreasing};
 ghost use Rattle.rbac_model.specs.Sources.{grant_of};
 ghost use Rattle.rbac_model.specs.Policies.{Allows, IsFirst, IsOfBinding, IsPolicy};
@@ -201,6 +201,8 @@ impl<'p> Index<'p> {
     pub fn first_runs(&self, principal: &Principal, namespace: &Word) -> FirstRuns
         ensures runs { AreRunsFrom self.now principal.now namespace.now
             result.are_all 0 result.runs.items }
+        ensures others { result.are_all ≡ false
+            → ¬ AreRunsFrom self.now principal.now namespace.now true 0 result.runs.items }
         ensures most { result.are_all ≡ false → length result.runs.items ≡ most_kept }
     {
         let live = live_for_some(self.policy.bindings(), namespace);

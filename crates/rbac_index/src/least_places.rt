@@ -7,7 +7,7 @@ use arrayvec::ArrayVec;
 use std::marker::Model;
 
 /// The most places that are kept, and so the most runs that are told at once.
-pub(crate) const MOST_KEPT: usize = 256;
+pub const MOST_KEPT: usize = 256;
 
 /// The least of the places that were taken in, ascending, each once.
 #[derive(Drop)]

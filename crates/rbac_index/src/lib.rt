@@ -38,6 +38,7 @@ pub use index::Index;
 pub use laws::{
     holders_are_one, holders_decide, keys_explain, listed_holders_are_one, listed_holders_decide,
 };
+pub use least_places::MOST_KEPT as MOST_RUNS;
 pub use meter::Meter;
 pub use numbers::GrantNos;
 pub use reach::{Reach, reaches_of};

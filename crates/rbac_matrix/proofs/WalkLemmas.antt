@@ -1,7 +1,8 @@
 -- walks by runs
 use Rattle.std.proofs.Common.{◌≡◌, ℕ, length, ◌+◌, ◌<◌, ◌≤◌, ◌⊎◌, refl, ◌∙◌, sym, arith, inl, inr, subst, ap, Bool, List, [], ◌∷◌}
-use Rattle.std.specs.Prelude.{Option, Some, None, IsTrue, not, slice_get, true, false}
+use Rattle.std.specs.Prelude.{Option, Some, None, IsTrue, not, slice_get, drop, true, false}
 use Rattle.std.proofs.lemmas.Bool.{cases_eq, cases_lt}
+use Rattle.std.proofs.lemmas.List.{drop_all}
 use Rattle.std.proofs.lemmas.Option.{get_or_from_slice_get, same_Some, slice_get_within}
 use Rattle.rbac_terms.specs.Text.{Text}
 use Rattle.rbac_terms.specs.Principals.{Who}
@@ -9,11 +10,11 @@ use Rattle.rbac_terms.specs.Matching.{VerbOk}
 use Rattle.rbac_model.specs.Policies.{PolicyView, GrantView, BindingNames, IsPolicy}
 use Rattle.rbac_model.specs.Universes.{LiveForSome, UniverseView}
 use Rattle.rbac_model.proofs.BindingPlaces.{of_some_binding}
-use Rattle.rbac_index.specs.Bound.{HasRoleBindings, IsBoundTo, IsNextRun}
+use Rattle.rbac_index.specs.Bound.{HasRoleBindings, IsBoundTo, IsNextRun, AreRunsFrom}
+use Rattle.rbac_index.specs.declared.first_runs.Run.{Run}
 use Rattle.rbac_matrix.specs.Lines.{IsLineAt, IsMoved, LineView, line, place}
-use Rattle.rbac_matrix.specs.Cursors.{AreKnownAt, AreRunsFrom, AreRunsOf, AreVerbs, ServeBare, IsAhead, IsBoundOn, IsCursorAt, IsNextBound, IsNextRunOn, IsWithin, steps_left}
+use Rattle.rbac_matrix.specs.Cursors.{AreKnownAt, AreRunsOf, AreRunsOn, AreVerbs, ServeBare, IsAhead, IsBoundOn, IsCursorAt, IsNextBound, IsNextRunOn, IsWithin, steps_left}
 use Rattle.rbac_matrix.specs.declared.line.Place.{Place}
-use Rattle.rbac_matrix.specs.declared.bound_runs.Run.{Run}
 use Rattle.rbac_matrix.specs.declared.bound_runs.Runs.{Runs}
 use Rattle.rbac_matrix.specs.declared.walk.Walk.{Walk}
 
@@ -105,14 +106,17 @@ module _ (p : PolicyView) (l : LineView) (w v : Walk) (no : ℕ) (step : IsNextB
         | inr later ↦ later.1
       ]
 
--- grants are bound whatever the verb
-bound_for : (p : PolicyView) (l : LineView) (verb : Text) (k : ℕ) → IsBoundOn p (line l.who l.namespace verb) k → IsBoundOn p l k
-unfolding IsBoundOn
-bound_for p l verb k b = b
+-- past the runs that are kept there are others only if they aren't all
+module _ (p : PolicyView) (l : LineView) (runs : Runs) (at : ℕ) (past : length runs.kept.items ≤ at) where
+  none_kept : drop at runs.kept.items ≡ []
+  none_kept = drop_all at runs.kept.items past
 
-pub runs_for : (p : PolicyView) (l : LineView) (verb : Text) (are_all : Bool) (from : ℕ) (runs : List Run) → AreRunsFrom p l are_all from runs → AreRunsFrom p (line l.who l.namespace verb) are_all from runs
-runs_for p l verb are_all from [] are = λ all n low bound. are all n low (bound_for p l verb n bound)
-runs_for p l verb are_all from (run ∷ runs) are = (are.0, runs_for p l verb are_all run.end runs are.1)
+  pub none_later : (from : ℕ) → AreRunsOn p l runs from (drop at runs.kept.items) → IsTrue runs.are_all → (k : ℕ) → from ≤ k → IsBoundOn p l k → ⊥
+  unfolding IsBoundOn
+  none_later from later all = subst (AreRunsOn p l runs from) none_kept later all
+
+  pub some_later : (from : ℕ) → runs.are_all ≡ false → AreRunsOn p l runs from (drop at runs.kept.items)
+  some_later from e = subst (AreRunsOn p l runs from) (sym none_kept) (λ all. cc)
 
 -- a binding that is live in a namespace where it isn't is live in all
 lives_elsewhere : (o : Option Text) (a b : Text) → (o ≡ Some a → ⊥) → LiveForSome o a → LiveForSome o b
@@ -140,10 +144,9 @@ module _ (p : PolicyView) (ok : IsPolicy p) (who : Who) (a b : Text) (bare : ¬ 
     whole = is.whole;
   }
 
-  runs_elsewhere : (v w : Text) (are_all : Bool) (from : ℕ) (runs : List Run) → AreRunsFrom p (line who a v) are_all from runs → AreRunsFrom p (line who b w) are_all from runs
-  unfolding IsBoundOn
-  runs_elsewhere v w are_all from [] are = λ all n low bound. are all n low (bound_elsewhere p ok who b a other n bound)
-  runs_elsewhere v w are_all from (run ∷ runs) are = (next_elsewhere from run.start run.end are.0, runs_elsewhere v w are_all run.end runs are.1)
+  runs_elsewhere : (are_all : Bool) (from : ℕ) (runs : List Run) → AreRunsFrom p who a are_all from runs → AreRunsFrom p who b are_all from runs
+  runs_elsewhere are_all from [] are = λ all n low bound. are all n low (bound_elsewhere p ok who b a other n bound)
+  runs_elsewhere are_all from (run ∷ runs) are = (next_elsewhere from run.start run.end are.0, runs_elsewhere are_all run.end runs are.1)
 
 -- and so are the verbs that they have
 verbs_elsewhere : (p : PolicyView) (u : UniverseView) → IsPolicy p → (who : Who) (a b : Text) (told : List Bool) → (¬ HasRoleBindings p.held b) → AreVerbs p u who a told → AreVerbs p u who b told
@@ -158,7 +161,7 @@ verbs_elsewhere p u ok who a b told other are = record {
 
 pub serve_bare : (p : PolicyView) (u : UniverseView) → IsPolicy p → (l : LineView) (runs : Runs) → ((IsTrue runs.is_bare) → HasRoleBindings p.held l.namespace → ⊥) → AreRunsOf p u l runs → ServeBare p u l.who runs
 serve_bare p u ok l runs bare are = λ is namespace verb other. (
-  runs_elsewhere p ok l.who l.namespace namespace (bare is) other l.verb verb runs.are_all 0 runs.kept.items are.0,
+  runs_elsewhere p ok l.who l.namespace namespace (bare is) other runs.are_all 0 runs.kept.items are.0,
   verbs_elsewhere p u ok l.who l.namespace namespace runs.verbs.items other are.1,
 )
 
@@ -168,7 +171,7 @@ known_at p u at l runs verb here are bare = record {
   verbs = λ later m there.
       let who : l.who ≡ m.who = same_Some l.who m.who (sym here.principal ∙ there.principal) in
       let namespace : l.namespace ≡ m.namespace = same_Some l.namespace m.namespace (sym here.namespace ∙ there.namespace) in
-      let same : AreRunsOf p u (line l.who l.namespace m.verb) runs = (runs_for p l m.verb runs.are_all 0 runs.kept.items are.0, are.1) in
+      let same : AreRunsOf p u (line l.who l.namespace m.verb) runs = are in
       subst (λ (n : Text). AreRunsOf p u (line m.who n m.verb) runs) namespace (subst (λ (w : Who). AreRunsOf p u (line w l.namespace m.verb) runs) who same);
   bare = λ later who there. subst (λ (w : Who). ServeBare p u w runs) (same_Some l.who who (sym here.principal ∙ there)) bare;
 }

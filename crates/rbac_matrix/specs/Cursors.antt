@@ -1,13 +1,13 @@
 -- The cursors of a line: the grants that may allow something on it.
-use Rattle.std.specs.Prelude.{◌≡◌, ℕ, ◌+◌, ◌<◌, ◌≤◌, ◌-◌, ◌⊎◌, Bool, IsTrue, List, [], ◌∷◌, Some}
+use Rattle.std.specs.Prelude.{◌≡◌, ℕ, ◌+◌, ◌<◌, ◌≤◌, ◌-◌, ◌⊎◌, Bool, IsTrue, List, ◌∷◌, Some}
 use Rattle.std.specs.Prelude.{slice_get, slice_index_or, drop, length, true, false}
 use Rattle.rbac_model.specs.Policies.{PolicyView, GrantView}
 use Rattle.rbac_model.specs.Universes.{UniverseView, IsCursor}
 use Rattle.rbac_terms.specs.Text.{Text}
 use Rattle.rbac_terms.specs.Principals.{Who}
-use Rattle.rbac_index.specs.Bound.{HasRoleBindings, IsBoundTo, IsNextRun}
+use Rattle.rbac_index.specs.Bound.{HasRoleBindings, IsBoundTo, IsNextRun, AreRunsFrom}
+use Rattle.rbac_index.specs.declared.first_runs.Run.{Run}
 use Rattle.rbac_matrix.specs.Lines.{LineView, IsLineAt, line, lines_from}
-use Rattle.rbac_matrix.specs.declared.bound_runs.Run.{Run}
 use Rattle.rbac_matrix.specs.declared.bound_runs.Runs.{Runs}
 use Rattle.rbac_matrix.specs.declared.line.Place.{Place}
 use Rattle.rbac_matrix.specs.declared.walk.Walk.{Walk}
@@ -22,17 +22,14 @@ pub record IsCursorAt (p : PolicyView) (l : LineView) (number : ℕ) : Type 0 wh
 unfoldable pub IsBoundOn : PolicyView → LineView → ℕ → Type 0
 IsBoundOn p l number = IsBoundTo p l.who l.namespace number
 
--- these are the first runs, from a number on, of the grants for which `IsBoundOn` holds; if
--- `are_all` is true, there are no others
-abbrev pub AreRunsFrom : PolicyView → LineView → Bool → ℕ → List Run → Type 0
-AreRunsFrom p l are_all from [] = IsTrue are_all → (number : ℕ) → from ≤ number
-    → ¬ IsBoundOn p l number
-AreRunsFrom p l are_all from (run ∷ runs) = IsNextRun p l.who l.namespace from run.start run.end
-    × AreRunsFrom p l are_all run.end runs
+-- these are the first runs, from a number on, of the grants for which `IsBoundOn` holds; if there
+-- are others, `are_all` is false
+abbrev pub AreRunsOn : PolicyView → LineView → Runs → ℕ → List Run → Type 0
+AreRunsOn p l runs from later = AreRunsFrom p l.who l.namespace runs.are_all from later
 
 -- these are the first runs of the line
 abbrev pub AreRuns : PolicyView → LineView → Runs → Type 0
-AreRuns p l runs = AreRunsFrom p l runs.are_all 0 runs.kept.items
+AreRuns p l runs = AreRunsOn p l runs 0 runs.kept.items
 
 -- these first verbs of the universe are told, and those told to be missing are on no grant that may
 -- be live for who asks in that namespace
@@ -77,13 +74,13 @@ IsAhead p l w number = IsCursorAt p l number × (w.next ≤ number)
 pub record IsWithin (p : PolicyView) (l : LineView) (runs : Runs) (w : Walk) : Type 0 where
   pub order : w.next ≤ w.end
   pub bound : (number : ℕ) → w.next ≤ number → number < w.end → IsBoundOn p l number
-  pub later : AreRunsFrom p l runs.are_all w.end (drop w.later runs.kept.items)
+  pub later : AreRunsOn p l runs w.end (drop w.later runs.kept.items)
 
 -- from one step of a walk to another, this run was the next one, and the runs after it are left
 pub record IsNextRunOn (p : PolicyView) (l : LineView) (runs : Runs) (old new : Walk)
     (run : Run) : Type 0 where
   pub next : IsNextRun p l.who l.namespace old.end run.start run.end
-  pub later : AreRunsFrom p l runs.are_all run.end (drop new.later runs.kept.items)
+  pub later : AreRunsOn p l runs run.end (drop new.later runs.kept.items)
   pub same : new.next ≡ old.next
 
 -- from one step of a walk to the next, that number was the first for which `IsBoundOn` holds

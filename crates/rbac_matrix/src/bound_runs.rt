@@ -9,28 +9,19 @@ ghost use Rattle.rbac_matrix.specs.Cursors.{AreRuns, AreRunsOf, AreVerbs, ServeB
 use crate::line::Line;
 use crate::walk::has_cursor;
 use arrayvec::ArrayVec;
-use rbac_index::Index;
+use rbac_index::{Index, MOST_RUNS, Run};
 use rbac_terms::Word;
 use rbac_universe::Universe;
-
-// The most runs of a line that are kept. Each walk looks up the others again.
-const MOST_KEPT: usize = 256;
 
 // The most verbs of which it is kept whether a line's grants have them. The others are looked at
 // line by line.
 const MOST_TOLD: usize = 256;
 
-/// Consecutive grants of a binding: those with the numbers `start..end`.
-#[derive(Clone, Copy, Default)]
-pub(crate) struct Run {
-    pub(crate) start: u32,
-    pub(crate) end: u32,
-}
-
 /// The first runs of the grants whose bindings name who asks and may be live on a line.
 #[derive(Drop)]
 pub(crate) struct Runs {
-    kept: ArrayVec<Run, MOST_KEPT>,
+    // At most `MOST_RUNS`; each walk looks up the others again.
+    kept: ArrayVec<Run, MOST_RUNS>,
     // Whether there are no other runs.
     are_all: bool,
     // Whether the namespace of the line has no RoleBinding. Then the runs are those of
@@ -68,25 +59,11 @@ impl Runs {
             → ¬ HasRoleBindings index.now.held line.entry.namespace.now }
         ensures policy { IsPolicy index.now }
     {
-        let is_bare = !index.has_role_bindings(line.namespace);
-        let mut kept = ArrayVec::new();
-        let mut from = 0;
-        while !kept.is_full() {
-            let Some((start, end)) = index.next_run(line.principal, line.namespace, from) else {
-                return Runs {
-                    kept,
-                    are_all: true,
-                    is_bare,
-                    verbs: ArrayVec::new(),
-                };
-            };
-            kept.push(Run { start, end });
-            from = end;
-        }
+        let found = index.first_runs(line.principal, line.namespace);
         Runs {
-            kept,
-            are_all: false,
-            is_bare,
+            kept: found.runs,
+            are_all: found.are_all,
+            is_bare: !index.has_role_bindings(line.namespace),
             verbs: ArrayVec::new(),
         }
     }

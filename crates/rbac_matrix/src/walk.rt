@@ -5,13 +5,13 @@ ghost use Rattle.std.specs.Prelude.{◌⊎◌, ℕ, IfSome, MatchOption, drop, l
 ghost use Rattle.rbac_model.specs.Policies.{PolicyView};
 ghost use Rattle.rbac_matrix.specs.Shown.{line_of};
 ghost use Rattle.rbac_matrix.specs.Lines.{LineView};
-ghost use Rattle.rbac_matrix.specs.Cursors.{AreRuns, AreRunsFrom, IsAhead, IsBoundOn, IsCursorAt};
+ghost use Rattle.rbac_matrix.specs.Cursors.{AreRuns, AreRunsOn, IsAhead, IsBoundOn, IsCursorAt};
 ghost use Rattle.rbac_matrix.specs.Cursors.{IsNextBound, IsNextRunOn};
 ghost use Rattle.rbac_matrix.specs.Cursors.{IsWithin, back_at, steps_left};
 
-use crate::bound_runs::{Run, Runs};
+use crate::bound_runs::Runs;
 use crate::line::Line;
-use rbac_index::Index;
+use rbac_index::{Index, Run};
 use rbac_terms::verb_matches;
 
 /// A walk along the grants of a line, run by run.
@@ -145,7 +145,7 @@ pub(crate) fn next_below(
 
 // The run after the one that the walk is in.
 fn next_run(index: &Index<'_>, line: Line<'_>, runs: &Runs, walk: &mut Walk) -> Option<Run>
-    requires { AreRunsFrom index.now (line_of line) runs.now.are_all walk.old.end
+    requires { AreRunsOn index.now (line_of line) runs.now walk.old.end
         (drop walk.old.later runs.now.kept.items) }
     ensures found { MatchOption result
         ((k : ℕ) → walk.old.end ≤ k → ¬ IsBoundOn index.now (line_of line.entry) k)

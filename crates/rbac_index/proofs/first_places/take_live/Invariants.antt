@@ -1,4 +1,4 @@
-use Rattle.std.proofs.Common.{ℕ, ◌++◌, ◌+◌, ◌-◌}
+use Rattle.std.proofs.Common.{◌++◌, ◌+◌, ◌-◌}
 use Rattle.rbac_index.specs.Keyed.{IsLiveUnder}
 use Rattle.rbac_index.specs.Least.{Takes}
 use Rattle.rbac_index.proofs.TakingLemmas.{IsBelow}

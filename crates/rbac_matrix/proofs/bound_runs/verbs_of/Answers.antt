@@ -5,12 +5,8 @@ use Rattle.std.proofs.lemmas.Option.{slice_get-get_or}
 use Rattle.rbac_terms.specs.Text.{Text}
 use Rattle.rbac_matrix.specs.Shown.{line_of}
 use Rattle.rbac_matrix.specs.Cursors.{AreVerbs}
-use Rattle.rbac_matrix.proofs.WalkLemmas.{runs_for}
 use Rattle.rbac_matrix.proofs.VerbLemmas.{verbs_push}
 use Rattle.rbac_matrix.proofs.bound_runs.verbs_of.Goals as goal
-
-pub has_cursor-requires : goal.has_cursor-requires
-has_cursor-requires c = runs_for c.args.index.now (line_of c.args.line) _ c.args.runs.now.are_all 0 c.args.runs.now.kept.items c.requires
 
 pub loop-verb-preserved : goal.loop-verb-preserved
 loop-verb-preserved c =

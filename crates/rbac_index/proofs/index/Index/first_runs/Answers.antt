@@ -8,7 +8,7 @@ use Rattle.rbac_index.specs.Bound.{IsRunAt}
 use Rattle.rbac_index.specs.Holding.{IsKeyFor}
 use Rattle.rbac_index.specs.Keyed.{IsLiveAt, IsLiveUnderAny}
 use Rattle.rbac_index.specs.Least.{Takes, no_places}
-use Rattle.rbac_index.proofs.FirstRunLemmas.{first_runs, zip_length}
+use Rattle.rbac_index.proofs.FirstRunLemmas.{first_runs, other_runs, zip_length}
 use Rattle.rbac_index.proofs.LeastLemmas.{least}
 use Rattle.rbac_index.proofs.index.Index.first_runs.Goals as goal
 
@@ -22,8 +22,21 @@ returns-clause-runs c =
     let takes = subst (λ (l : List Keyed). Takes (IsLiveUnderAny l live (IsKeyFor who)) no_places places) c.as_slice.ensures.value c.first_places-places.ensures in
     let up : AllPairs (λ a b. a < b) places.kept = c.kept.ensures.ascending in
     let zip : AllZip (IsRunAt p) places.kept c.runs_at.result.items = subst (λ (ps : List ℕ). AllZip (IsRunAt p) ps c.runs_at.result.items) c.kept.ensures.places c.runs_at.ensures in
-    rw (← c.self.view_is, c.are_all.ensures) (first_runs p c.bindings.ensures.policy c.self.inside.named.items c.self.invariant.1 who live c.args.namespace.now lives places c.runs_at.result.items
-    (least (IsLiveUnderAny c.self.inside.named.items live (IsKeyFor who)) places up takes) zip)
+    rw (← c.self.view_is, c.are_all.ensures) (first_runs p c.bindings.ensures.policy c.self.inside.named.items c.self.invariant.1 who live c.args.namespace.now lives places
+    (least (IsLiveUnderAny c.self.inside.named.items live (IsKeyFor who)) places up takes) c.runs_at.result.items zip)
+
+pub returns-clause-others : goal.returns-clause-others
+returns-clause-others c = λ e.
+    let p = c.self.inside.policy.now in
+    let who = c.args.principal.now in
+    let live = c.live_for_some-live.result in
+    let places = c.first_places-places.result in
+    let lives = subst (λ (bs : List Binding). (at : ℕ) (b : Binding) → slice_get bs at ≡ Some b → IsLiveAt live at ↔ LiveForSome b.namespace c.args.namespace.now) c.bindings.ensures.bindings c.live_for_some-live.ensures in
+    let takes = subst (λ (l : List Keyed). Takes (IsLiveUnderAny l live (IsKeyFor who)) no_places places) c.as_slice.ensures.value c.first_places-places.ensures in
+    let up : AllPairs (λ a b. a < b) places.kept = c.kept.ensures.ascending in
+    let zip : AllZip (IsRunAt p) places.kept c.runs_at.result.items = subst (λ (ps : List ℕ). AllZip (IsRunAt p) ps c.runs_at.result.items) c.kept.ensures.places c.runs_at.ensures in
+    rw (← c.self.view_is) (other_runs p c.bindings.ensures.policy c.self.inside.named.items c.self.invariant.1 who live c.args.namespace.now lives places
+    (least (IsLiveUnderAny c.self.inside.named.items live (IsKeyFor who)) places up takes) (sym c.are_all.ensures ∙ e) c.runs_at.result.items zip)
 
 pub returns-clause-most : goal.returns-clause-most
 returns-clause-most c = λ e.

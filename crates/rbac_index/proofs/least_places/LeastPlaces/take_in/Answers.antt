@@ -1,4 +1,4 @@
-use Rattle.std.proofs.Common.{◌≡◌, ◌<◌, false, List, [], ◌++◌, ◌∷◌, ap, length, refl, arith}
+use Rattle.std.proofs.Common.{◌<◌, false, ap, length, refl, arith}
 use Rattle.std.specs.Prelude.{Err}
 use Rattle.std.proofs.lemmas.List.{length_push}
 use Rattle.std.specs.List.Sorted.{IsBinarySearchResult}
