@@ -13,7 +13,7 @@ use Rattle.rbac_model.proofs.BindingPlaces.{of_some_binding}
 use Rattle.rbac_index.specs.Bound.{HasRoleBindings, IsBoundTo, IsNextRun, AreRunsFrom}
 use Rattle.rbac_index.specs.declared.first_runs.Run.{Run}
 use Rattle.rbac_matrix.specs.Lines.{IsLineAt, IsMoved, LineView, line, place}
-use Rattle.rbac_matrix.specs.Cursors.{AreKnownAt, AreRunsOf, AreRunsOn, AreVerbs, ServeBare, IsAhead, IsBoundOn, IsCursorAt, IsNextBound, IsNextRunOn, IsWithin, steps_left}
+use Rattle.rbac_matrix.specs.Cursors.{AreKnownAt, AreRuns, AreRunsOf, AreRunsOn, AreVerbs, ServeBare, IsAhead, IsBoundOn, IsCursorAt, IsNextBound, IsNextRunOn, IsWithin, steps_left}
 use Rattle.rbac_matrix.specs.declared.line.Place.{Place}
 use Rattle.rbac_matrix.specs.declared.bound_runs.Runs.{Runs}
 use Rattle.rbac_matrix.specs.declared.walk.Walk.{Walk}
@@ -117,6 +117,11 @@ module _ (p : PolicyView) (l : LineView) (runs : Runs) (at : ℕ) (past : length
 
   pub some_later : (from : ℕ) → runs.are_all ≡ false → AreRunsOn p l runs from (drop at runs.kept.items)
   some_later from e = subst (AreRunsOn p l runs from) (sym none_kept) (λ all. cc)
+
+-- no grant is bound where there are no runs
+pub none_bound : (p : PolicyView) (l : LineView) (runs : Runs) → (runs.kept.items ≡ []) × IsTrue runs.are_all → AreRuns p l runs → (k : ℕ) → IsBoundOn p l k → ⊥
+unfolding IsBoundOn
+none_bound p l runs none are k bound = subst (AreRunsOn p l runs 0) none.0 are none.1 k (omega arith) bound
 
 -- a binding that is live in a namespace where it isn't is live in all
 lives_elsewhere : (o : Option Text) (a b : Text) → (o ≡ Some a → ⊥) → LiveForSome o a → LiveForSome o b

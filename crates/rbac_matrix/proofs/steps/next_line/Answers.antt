@@ -14,7 +14,7 @@ use Rattle.rbac_matrix.proofs.BlockLemmas.{blocks_here}
 use Rattle.rbac_matrix.proofs.SeatLemmas.{Costs-then}
 use Rattle.rbac_matrix.proofs.LineLemmas.{are_real}
 use Rattle.rbac_matrix.proofs.EnumLemmas.{idle_line, skips_line, skips_same, skips_then, unfilled}
-use Rattle.rbac_matrix.proofs.WalkLemmas.{known_at, known_moved, known_past}
+use Rattle.rbac_matrix.proofs.WalkLemmas.{known_at, known_moved, known_past, none_bound}
 use Rattle.rbac_matrix.proofs.steps.next_line.Goals as goal
 
 nought : (n : ℕ) → n ≤ 0 → n ≡ 0
@@ -63,6 +63,9 @@ loop-line-init c = record {
   known = known_moved c.args.basis.index.now c.args.basis.universe.now c.args.at c.settled-at.result c.args.kept.now.runs c.settled-at.ensures.moved c.requires.known;
   costs = search rules;
 }
+
+pub past_idle-requires-clause-idle : goal.past_idle-requires-clause-idle
+past_idle-requires-clause-idle c = none_bound c.args.basis.index.now (line_of c.in-Some.line) c.renew.new.runs (c.is_empty.ensures.0 c.if-is_empty.true) c.renew.ensures.runs.0
 
 pub renew-requires-clause-verbs : goal.renew-requires-clause-verbs
 renew-requires-clause-verbs c = λ later. c.loop-line.invariant.known.verbs later (line_of c.in-Some.line) c.in-Some.ensures.place

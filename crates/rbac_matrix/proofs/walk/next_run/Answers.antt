@@ -1,4 +1,4 @@
-use Rattle.std.proofs.Common.{◌≤◌, length, arith, ap, refl}
+use Rattle.std.proofs.Common.{◌≤◌, ◌∙◌, sym, length, arith, ap, refl}
 use Rattle.rbac_matrix.specs.Shown.{line_of}
 use Rattle.rbac_matrix.specs.Cursors.{IsBoundOn}
 use Rattle.rbac_matrix.proofs.WalkLemmas.{none_later, some_later}
@@ -8,7 +8,7 @@ pub returns-then-are_all : goal.returns-then-are_all
 returns-then-are_all c =
     let runs = c.args.runs.now in
     let past : length runs.kept.items ≤ c.args.walk.now.later = omega (arith, ap length c.kept-kept.ensures, c.if-walk-kept.false) in
-    record { found = none_later c.args.index.now (line_of c.args.line) runs c.args.walk.now.later past c.args.walk.now.end c.requires ? }
+    record { found = none_later c.args.index.now (line_of c.args.line) runs c.args.walk.now.later past c.args.walk.now.end c.requires (sym c.are_all.ensures ∙ c.if-are_all.true) }
 
 pub returns-in_err-start : goal.returns-in_err-start
 unfolding IsBoundOn
@@ -18,4 +18,4 @@ pub returns : goal.returns
 returns c =
     let runs = c.args.runs.now in
     let past : length runs.kept.items ≤ c.args.walk.now.later = omega (arith, ap length c.kept-kept.ensures, c.if-walk-kept.false) in
-    record { found = record { next = c.in_ok-start.ensures; later = some_later c.args.index.now (line_of c.args.line) runs c.args.walk.now.later past c.in_ok-start.end ?; same = refl } }
+    record { found = record { next = c.in_ok-start.ensures; later = some_later c.args.index.now (line_of c.args.line) runs c.args.walk.now.later past c.in_ok-start.end (sym c.are_all.ensures ∙ c.if-are_all.false); same = refl } }
