@@ -12,13 +12,16 @@ use rbac_model::Policy;
 /// Consecutive grants of a binding: those with the numbers `start..end`.
 #[derive(Clone, Copy, Default)]
 pub struct Run {
+    /// The number of the first.
     pub start: u32,
+    /// The number after that of the last.
     pub end: u32,
 }
 
 /// The first runs of the grants whose bindings name a principal and may be live in a namespace.
 #[derive(Drop)]
 pub struct FirstRuns {
+    /// The runs, in order of grants; at most `MOST_RUNS`.
     pub runs: ArrayVec<Run, MOST_KEPT>,
     /// Whether there are no other runs.
     pub are_all: bool,
