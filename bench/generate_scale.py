@@ -2,6 +2,7 @@
 
 accounts-N: N namespaces, two accounts in each, and two ClusterRoleBindings for everybody who signs in, 30 verbs.
 groups-N: 100 users of 100 groups each in N namespaces, and five ClusterRoleBindings for each, 20 verbs.
+given-N: the same with N groups each, in 500 namespaces.
 bindings-N: N RoleBindings in one namespace, each for another group that all of 20 users are in.
 names-N: one rule of N object names, and so a universe of as many.
 rules-N: an aggregated role of N rules, bound in 20 namespaces and once in the whole cluster.
@@ -59,13 +60,21 @@ def accounts(count):
     write('accounts-%d' % count, items, verbs=['get', 'create', *('verb%02d' % i for i in range(28))], names=[''], resources=resources)
 
 
-def groups(count):
-    teams = [['group-%d-%d' % (user, number) for number in range(100)] for user in range(100)]
+def in_groups(name, namespaces, each):
+    teams = [['group-%d-%d' % (user, number) for number in range(each)] for user in range(100)]
     items = [role('view', rule(['get'], ['pods']))]
     items += [binding('b%d' % number, 'view', [subject('Group', team[number]) for team in teams]) for number in range(5)]
-    write('groups-%d' % count, items, principals=[{'user': 'user%d' % at, 'groups': team} for at, team in enumerate(teams)],
-          namespaces=['ns%d' % i for i in range(count)], verbs=['verb%d' % i for i in range(20)], names=[''],
+    write(name, items, principals=[{'user': 'user%d' % at, 'groups': team} for at, team in enumerate(teams)],
+          namespaces=['ns%d' % i for i in range(namespaces)], verbs=['verb%d' % i for i in range(20)], names=[''],
           resources=[{'resource': 'pods'}])
+
+
+def groups(count):
+    in_groups('groups-%d' % count, count, 100)
+
+
+def given(count):
+    in_groups('given-%d' % count, 500, count)
 
 
 def bindings(count):
@@ -93,7 +102,8 @@ def rules(count):
 
 
 def main():
-    for shape, counts in ((accounts, (500, 1000, 2000)), (groups, (500, 1000)), (bindings, (64, 65, 200)), (names, (10_000, 20_000, 40_000)),
+    for shape, counts in ((accounts, (500, 1000, 2000)), (groups, (500, 1000)), (given, (200, 400)),
+                          (bindings, (64, 65, 128, 200, 256)), (names, (10_000, 20_000, 40_000)),
                           (rules, (250, 500, 1000))):
         for count in counts:
             shape(count)

@@ -81,6 +81,21 @@ measure_diff() {
         "$(python3 -c "print('%.2f' % ($changes / max(1, $answer)))")"
 }
 
+# One line for each shape of real clusters: its rows, the time of `matrix` over it, and the ratio to can-i over an export.
+measure_shapes() {
+    local file=$1 universe name rows answer whole
+    answer=$(ask "$file")
+    mkdir "$room/shapes"
+    (cd "$room/shapes" && python3 "$OLDPWD/generate_scale.py")
+    for universe in "$room"/shapes/*.universe.json; do
+        name=${universe%.universe.json}
+        rows=$(($("$audit" matrix "$name.json" "$universe" | wc -l) - 1))
+        whole=$(python3 least.py 3 "$audit" matrix "$name.json" "$universe")
+        printf '%-44s %9d rows  can-i %5d ms  matrix %5d ms  ratio %s\n' "${name##*/}" "$rows" "$answer" "$whole" \
+            "$(python3 -c "print('%.2f' % ($whole / max(1, $answer)))")"
+    done
+}
+
 # One line for lint on a role of many rules, beside can-i.
 measure_lint() {
     local name=$1 file=$2
@@ -97,6 +112,7 @@ measure_reading "reading, 10000 roles, 40000 bindings" "$room/export.json"
 measure_diff "diff, equal exports" "$room/export.json" "$room/export.json"
 python3 change_export.py bindings 100 "$room/export.json" "$room/changed.json"
 measure_diff "diff, a hundred changed bindings" "$room/export.json" "$room/changed.json"
+measure_shapes "$room/export.json"
 python3 change_export.py names "$room/export.json" "$room/changed.json"
 measure_diff "diff, each binding renamed" "$room/export.json" "$room/changed.json"
 python3 generate_export.py 4000 16000 200 9 "$room/export.json" > /dev/null
