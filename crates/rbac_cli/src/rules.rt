@@ -2,7 +2,7 @@
 
 ghost use Rattle.std.specs.Prelude.{◌≡◌, false};
 ghost use Rattle.rbac_question.specs.declared.command.Action.TheVariants.{Rules as ListsRules};
-ghost use Rattle.rbac_rules.specs.RowsLeft.{scope_of};
+ghost use Rattle.rbac_rules.specs.Left.{scope_of};
 ghost use Rattle.rbac_cli.specs.Out.{scope_asked};
 ghost use Rattle.rbac_cli.specs.Printing.{EndsPrinting};
 ghost use Rattle.rbac_cli.specs.declared.exports.Exports.TheVariants.{Single};
@@ -50,7 +50,7 @@ fn asked_scope(scope: &Scope) -> AskedScope<'_>
 impl Lines for EffectiveRules<'_> {
     ghost use Rattle.std.specs.Prelude.{List, length};
     ghost use Rattle.rbac_rules.specs.Effective.{RuleView};
-    ghost use Rattle.rbac_rules.specs.RowsLeft.{AreLeft};
+    ghost use Rattle.rbac_rules.specs.Left.{AreLeft};
     ghost use Rattle.rbac_cli.specs.Out.{rules_text};
 
     ghost are_left = { λ rules text.

@@ -1,6 +1,6 @@
 use Rattle.std.proofs.Common.{◌≡◌, ◌∙◌, ◌++◌, ap, refl, []}
 use Rattle.rbac_terms.specs.Text.{Text}
-use Rattle.rbac_rules.specs.RowsLeft.{rule_shown}
+use Rattle.rbac_rules.specs.Left.{rule_shown}
 use Rattle.rbac_rules.proofs.RuleLists.{one_list}
 use Rattle.rbac_cli.specs.Out.{rule_line, rules_text}
 use Rattle.rbac_cli.proofs.rules.EffectiveRulesLines.put_next.Goals as goal
