@@ -66,4 +66,8 @@ measure_pair "1000000 grants of 10 users, bindings renamed" renamed 10 1000 1000
 measure_pair "1000000 grants of one user, bindings renamed" renamed 1 1000 1000
 measure_pair "1000000 grants of 100000 users, bindings renamed" renamed 100000 10 100000
 measure_pair "40000 grants of one user, bindings renamed" renamed 1 10 4000
+measure_pair "1000000 grants of 1000 users, subjects exchanged" exchanged 1000 1000 1000
+measure_pair "1000000 grants of 10 users, subjects exchanged" exchanged 10 1000 1000
+measure_pair "1000000 grants of 100000 users, subjects exchanged" exchanged 100000 10 100000
+measure_pair "1000000 grants of 1000 users, rules reworded" reworded 1000 1000 1000
 measure_pair "a rule of 100 verbs, resources and names, gained" words 100
