@@ -70,4 +70,5 @@ measure_pair "1000000 grants of 1000 users, subjects exchanged" exchanged 1000 1
 measure_pair "1000000 grants of 10 users, subjects exchanged" exchanged 10 1000 1000
 measure_pair "1000000 grants of 100000 users, subjects exchanged" exchanged 100000 10 100000
 measure_pair "1000000 grants of 1000 users, rules reworded" reworded 1000 1000 1000
+measure_pair "1000000 grants of 10 users, rules reworded" reworded 10 1000 1000
 measure_pair "a rule of 100 verbs, resources and names, gained" words 100
