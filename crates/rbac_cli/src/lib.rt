@@ -25,7 +25,7 @@ pub use laws::{answers_are_one, plus_lines_tell_all, runs_are_one};
 pub use outcome::{RunFault, Status};
 pub use rbac_command::{UsageFault, command_of};
 pub use rbac_manifest::{At, Cause, LoadFault};
-pub use rbac_question::{Action, Asked, AskedFor, Command, Question, Scope};
+pub use rbac_question::{Action, Asked, AskedFor, Command, Question, QuestionFault, Scope};
 pub use rbac_streams::{
     Failed, Input, InputFault, Sink, Source, read_file, read_input, read_slice,
 };

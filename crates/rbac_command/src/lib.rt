@@ -6,5 +6,5 @@ mod fault;
 mod read;
 
 pub use fault::UsageFault;
-pub use rbac_question::{Action, Asked, AskedFor, Command, Question, Scope};
+pub use rbac_question::{Action, Asked, AskedFor, Command, Question, QuestionFault, Scope};
 pub use read::command_of;
