@@ -7,8 +7,6 @@ mod catalogues;
 #[cfg(test)]
 mod covering;
 #[cfg(test)]
-mod effective;
-#[cfg(test)]
 mod indexes;
 #[cfg(test)]
 mod matching;
