@@ -103,7 +103,7 @@ def rules(count):
 
 def main():
     for shape, counts in ((accounts, (500, 1000, 2000)), (groups, (500, 1000)), (given, (200, 400)),
-                          (bindings, (64, 65, 128, 200, 256)), (names, (10_000, 20_000, 40_000)),
+                          (bindings, (64, 65, 128, 200, 256, 400, 800)), (names, (10_000, 20_000, 40_000)),
                           (rules, (250, 500, 1000))):
         for count in counts:
             shape(count)

@@ -4,7 +4,7 @@ every altered byte of tokens of both versions.
 Each export has plain and aggregated roles, bindings of both kinds, dangling ones too, and a Universe document with all six
 lists. Its matrix is worked out here by asking every request of every binding in turn, as docs/BEHAVIOUR.md says it. Then
 the program lists it whole, in pages of random sizes from token to token, and after the keys of requests and the names of
-bindings that mostly aren't there; all that with `--every` and without. The last universes are wide: 64, 65 or 200 bindings
+bindings that mostly aren't there; all that with `--every` and without. The last universes are wide: 64, 65, 200 or 300 bindings
 meet in one of many namespaces. Last, in a token of each version each byte is replaced by every other ASCII one, and each
 prefix of it is tried.
 `pages.py SEED COUNT` tries other universes. The last line is `N passed, M failed`.
@@ -94,7 +94,7 @@ def universe(draw):
 
 
 # How many bindings meet in one namespace in exports that are wide.
-MEETING = [64, 65, 200]
+MEETING = [64, 65, 200, 300]
 
 
 def wide(draw, count):

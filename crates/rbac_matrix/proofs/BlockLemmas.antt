@@ -350,10 +350,10 @@ module _ (p : PolicyView) (l : LineView) (runs : Runs) (seats : List Seat) where
 -- the walk back at the grant that it came to
 pub back_within : (p : PolicyView) (l : LineView) (runs : Runs) (old w : Walk) (here : ℕ) → IsNextBound p l old w here → IsWithin p l runs w → IsWithin p l runs (back_at w here)
 back_within p l runs old w here step within = record {
-  order = omega (arith, within.order, step.passed);
+  order = omega (arith, within.order, step.0.passed);
   bound = λ k low high. elim (cases_lt here k) [
-    | inl lt ↦ within.bound k (omega (arith, step.passed)) high
-    | inr ge ↦ let e : k ≡ here = omega arith in subst (λ (i : ℕ). IsBoundOn p l i) (sym e) step.bound
+    | inl lt ↦ within.bound k (omega (arith, step.0.passed)) high
+    | inr ge ↦ let e : k ≡ here = omega arith in subst (λ (i : ℕ). IsBoundOn p l i) (sym e) step.1
   ];
   later = within.later;
 }

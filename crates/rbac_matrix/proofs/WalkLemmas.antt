@@ -36,12 +36,14 @@ run_first p l from start end run = run.none_before
 module _ (p : PolicyView) (l : LineView) (runs : Runs) (old : Walk) (within : IsWithin p l runs old) where
   -- a walk goes on in its run
   pub next_in_run : (w : Walk) → w ≡ old → old.next < old.end → IsNextBound p l old (record { next = w.next + 1; end = w.end; later = w.later }) w.next
-  next_in_run w e lt = subst (λ (v : Walk). IsNextBound p l old (record { next = v.next + 1; end = v.end; later = v.later }) v.next) (sym e) (record {
-    bound = within.bound old.next (omega arith) lt;
-    on = omega arith;
-    passed = refl;
-    first = λ other low high. absurd (omega arith);
-  })
+  next_in_run w e lt = subst (λ (v : Walk). IsNextBound p l old (record { next = v.next + 1; end = v.end; later = v.later }) v.next) (sym e) (
+    record {
+      on = omega arith;
+      passed = refl;
+      first = λ other low high. absurd (omega arith);
+    },
+    within.bound old.next (omega arith) lt,
+  )
 
   pub within_run : (w : Walk) → w ≡ old → old.next < old.end → IsWithin p l runs (record { next = w.next + 1; end = w.end; later = w.later })
   within_run w e lt = subst (λ (v : Walk). IsWithin p l runs (record { next = v.next + 1; end = v.end; later = v.later })) (sym e) (record {
@@ -53,12 +55,14 @@ module _ (p : PolicyView) (l : LineView) (runs : Runs) (old : Walk) (within : Is
   module _ (w mid : Walk) (run : Run) (e : w ≡ record { next = run.start; end = run.end; later = mid.later }) (over : old.end ≤ old.next) (is : IsNextRunOn p l runs old mid run) where
     -- a walk comes to a new run
     pub next_in_new : IsNextBound p l old (record { next = w.next + 1; end = w.end; later = w.later }) w.next
-    next_in_new = subst (λ (v : Walk). IsNextBound p l old (record { next = v.next + 1; end = v.end; later = v.later }) v.next) (sym e) (record {
-      bound = run_bound p l old.end run.start run.end is.next run.start (omega arith) is.next.some;
-      on = omega (arith, within.order, is.next.after);
-      passed = refl;
-      first = λ other low high. run_first p l old.end run.start run.end is.next other (omega (arith, within.order)) high;
-    })
+    next_in_new = subst (λ (v : Walk). IsNextBound p l old (record { next = v.next + 1; end = v.end; later = v.later }) v.next) (sym e) (
+      record {
+        on = omega (arith, within.order, is.next.after);
+        passed = refl;
+        first = λ other low high. run_first p l old.end run.start run.end is.next other (omega (arith, within.order)) high;
+      },
+      run_bound p l old.end run.start run.end is.next run.start (omega arith) is.next.some,
+    )
 
     pub within_new : IsWithin p l runs (record { next = w.next + 1; end = w.end; later = w.later })
     within_new = subst (λ (v : Walk). IsWithin p l runs (record { next = v.next + 1; end = v.end; later = v.later })) (sym e) (record {
@@ -76,21 +80,21 @@ module _ (p : PolicyView) (l : LineView) (w v : Walk) (no : ℕ) (step : IsNextB
   -- cursors that aren't passed are this one, or still ahead
   pub bound_on : (other : ℕ) → IsAhead p l w other → (other ≡ no) ⊎ IsAhead p l v other
   bound_on other a = elim (cases_lt other no) [
-    | inl lt ↦ absurd (step.first other a.1 lt (cursor_bound p l other a.0))
+    | inl lt ↦ absurd (step.0.first other a.1 lt (cursor_bound p l other a.0))
     | inr ge ↦ elim (cases_eq other no) [
       | inl e ↦ inl e
-      | inr ne ↦ inr (a.0, omega (arith, step.passed))
+      | inr ne ↦ inr (a.0, omega (arith, step.0.passed))
     ]
   ]
 
   pub bound_ends : steps_left p v < steps_left p w
-  bound_ends = let lt = bound_within p l no step.bound in omega (arith, step.on, step.passed)
+  bound_ends = let lt = bound_within p l no step.1 in omega (arith, step.0.on, step.0.passed)
 
   module _ (g : GrantView) (at : slice_get p.grants no ≡ Some g) where
     -- of a bound grant the verb decides
     pub bound_cursor : VerbOk g.rule.rule l.verb → IsCursorAt p l no
     bound_cursor ok =
-        let b = bound_grant p l no step.bound in
+        let b = bound_grant p l no step.1 in
         let same : b.0 ≡ g = same_Some b.0 g (sym b.1 ∙ at) in
         record { grant = g; at = at; is = (ok, subst (λ (h : GrantView). BindingNames h.binding l.who) same b.2, subst (λ (h : GrantView). LiveForSome h.binding.namespace l.namespace) same b.3) }
 

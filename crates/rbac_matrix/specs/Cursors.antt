@@ -83,12 +83,16 @@ pub record IsNextRunOn (p : PolicyView) (l : LineView) (runs : Runs) (old new : 
   pub later : AreRunsOn p l runs run.end (drop new.later runs.kept.items)
   pub same : new.next ≡ old.next
 
--- from one step of a walk to the next, that number was the first for which `IsBoundOn` holds
-pub record IsNextBound (p : PolicyView) (l : LineView) (old new : Walk) (number : ℕ) : Type 0 where
-  pub bound : IsBoundOn p l number
+-- from one step of a walk to the next, it came to that number, and passed none before it for which
+-- `IsBoundOn` holds
+pub record ComesTo (p : PolicyView) (l : LineView) (old new : Walk) (number : ℕ) : Type 0 where
   pub on : old.next ≤ number
   pub passed : new.next ≡ number + 1
   pub first : (other : ℕ) → old.next ≤ other → other < number → ¬ IsBoundOn p l other
+
+-- from one step of a walk to the next, that number was the first for which `IsBoundOn` holds
+abbrev pub IsNextBound : PolicyView → LineView → Walk → Walk → ℕ → Type 0
+IsNextBound p l old new number = ComesTo p l old new number × IsBoundOn p l number
 
 -- how many grants the walk will still look at, at most
 abbrev pub steps_left : PolicyView → Walk → ℕ

@@ -1,6 +1,7 @@
 //! The grants of the bindings that name a principal and may be live in a namespace, in runs.
 
-ghost use Rattle.std.specs.Prelude.{◌≡◌, ◌<◌, ◌↔◌, [], IsTrue, slice_index_or, true, false};
+ghost use Rattle.std.specs.Prelude.{◌≡◌, ◌<◌, ◌≤◌, ◌↔◌, [], IsTrue, length, slice_index_or};
+ghost use Rattle.std.specs.Prelude.{true, false};
 ghost use Rattle.rbac_matrix.specs.Shown.{line_of};
 ghost use Rattle.rbac_index.specs.Bound.{HasRoleBindings};
 ghost use Rattle.rbac_model.specs.Policies.{IsPolicy};
@@ -20,7 +21,7 @@ const MOST_TOLD: usize = 256;
 /// The first runs of the grants whose bindings name who asks and may be live on a line.
 #[derive(Drop)]
 pub(crate) struct Runs {
-    // At most `MOST_RUNS`; each walk looks up the others again.
+    // At most `MOST_RUNS`; a line's walks look up the others.
     kept: ArrayVec<Run, MOST_RUNS>,
     // Whether there are no other runs.
     are_all: bool,
@@ -98,6 +99,14 @@ impl Runs {
         ensures { result ≡ self.now.are_all }
     {
         self.are_all
+    }
+
+    // Whether there are others, and none at this place is kept.
+    pub(crate) fn are_unknown_at(&self, place: usize) -> bool
+        ensures { IsTrue result
+            ↔ ((length self.now.kept.items ≤ place) × (self.now.are_all ≡ false)) }
+    {
+        self.kept.len() <= place && !self.are_all
     }
 
     // Whether there are no runs at all.

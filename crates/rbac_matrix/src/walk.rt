@@ -6,7 +6,7 @@ ghost use Rattle.rbac_model.specs.Policies.{PolicyView};
 ghost use Rattle.rbac_matrix.specs.Shown.{line_of};
 ghost use Rattle.rbac_matrix.specs.Lines.{LineView};
 ghost use Rattle.rbac_matrix.specs.Cursors.{AreRuns, AreRunsOn, IsAhead, IsBoundOn, IsCursorAt};
-ghost use Rattle.rbac_matrix.specs.Cursors.{IsNextBound, IsNextRunOn};
+ghost use Rattle.rbac_matrix.specs.Cursors.{ComesTo, IsNextBound, IsNextRunOn};
 ghost use Rattle.rbac_matrix.specs.Cursors.{IsWithin, back_at, steps_left};
 
 use crate::bound_runs::Runs;
@@ -118,7 +118,9 @@ pub(crate) fn next_bound(
     Some(no)
 }
 
-// The next grant whose number is below `end` of a binding that names who asks and may be live.
+// A next grant whose number is below `end`: those that are passed are of no binding that names who
+// asks and may be live. Past the runs that are kept, each grant is a next one: to look at its seat,
+// which is empty where it is of another binding, takes less than to look up a run.
 pub(crate) fn next_below(
     index: &Index<'_>,
     line: Line<'_>,
@@ -126,10 +128,11 @@ pub(crate) fn next_below(
     end: u32,
     walk: &mut Walk,
 ) -> Option<u32>
-    requires { IsWithin index.now (line_of line) runs.now walk.old }
+    requires within { IsWithin index.now (line_of line) runs.now walk.old }
+    requires few { end ≤ length index.now.grants }
     ensures found { MatchOption result
         ((k : ℕ) → walk.old.next ≤ k → k < end → ¬ IsBoundOn index.now (line_of line.entry) k)
-        (λ k. IsNextBound index.now (line_of line.entry) walk.old walk.new k × (k < end)) }
+        (λ k. ComesTo index.now (line_of line.entry) walk.old walk.new k × (k < end)) }
     ensures number { IfSome result (λ k. k < length index.now.grants) }
     ensures within { IfSome result
         (λ _. IsWithin index.now (line_of line.entry) runs.now walk.new) }
@@ -138,6 +141,12 @@ pub(crate) fn next_below(
 {
     if end <= walk.next {
         return None;
+    }
+    if walk.end <= walk.next && runs.are_unknown_at(walk.later) {
+        let no = walk.next;
+        walk.next = no + 1;
+        walk.end = no + 1;
+        return Some(no);
     }
     let no = next_bound(index, line, runs, walk)?;
     if no < end { Some(no) } else { None }

@@ -23,7 +23,7 @@ pub returns-clause-ahead : goal.returns-clause-ahead
 returns-clause-ahead c = bound_on c.args.index.now (line_of c.args.line) c.args.walk.now _ _ (returns-clause-found c)
 
 pub returns-clause-number : goal.returns-clause-number
-returns-clause-number c = let step = returns-clause-found c in bound_within c.args.index.now (line_of c.args.line) _ step.bound
+returns-clause-number c = let step = returns-clause-found c in bound_within c.args.index.now (line_of c.args.line) _ step.1
 
 pub returns-clause-ends : goal.returns-clause-ends
 returns-clause-ends c = bound_ends c.args.index.now (line_of c.args.line) c.args.walk.now _ _ (returns-clause-found c)

@@ -16,7 +16,7 @@ returns-then-verb_matches-clause-ends c = let ends = c.in-Some.ensures.ends in o
 
 pub loop-no-preserved : goal.loop-no-preserved
 loop-no-preserved c = record {
-  onward = let step = c.in-Some.ensures.found in omega (arith, c.loop-no.invariant.onward, step.on, step.passed);
+  onward = let step = c.in-Some.ensures.found.0 in omega (arith, c.loop-no.invariant.onward, step.on, step.passed);
   ahead = bound_passes c.args.index.now (line_of c.args.line) c.loop-no.walk c.next_bound.new.walk c.in-Some.no c.in-Some.ensures.found (grant_of c.grant.result) c.grant.ensures.grant c.args.walk.now c.loop-no.invariant.ahead (λ x. both_ways _ c.if-verb_matches.false (c.verb_matches.ensures.1 x));
   within = c.in-Some.ensures.within;
 }

@@ -19,10 +19,10 @@ loop-no-init c = record {
 
 pub loop-no-preserved-then-begins_block : goal.loop-no-preserved-then-begins_block
 loop-no-preserved-then-begins_block c =
-    let step = c.in-Some.ensures.found in
+    let step = c.in-Some.ensures.found.0 in
     let idle = unbound_idle c.args.index.now (line_of c.args.line) c.args.seats.now c.loop-no.walk.next c.in-Some.no c.requires.others (omega (arith, c.in-Some.ensures.number, c.requires.count)) step.first in
     let over = blocks_over c.args.index.now (line_of c.args.line) c.args.runs.now c.args.seats.now c.loop-no.walk.next c.loop-no.self.kept.items c.loop-no.invariant.blocks c.in-Some.no step.on idle in
-    let back = subst (λ (w : Walk). IsWithin c.args.index.now (line_of c.args.line) c.args.runs.now w) (sym c.back_at.ensures) (back_within c.args.index.now (line_of c.args.line) c.args.runs.now c.loop-no.walk c.next_bound.new.walk c.in-Some.no step c.in-Some.ensures.within) in
+    let back = subst (λ (w : Walk). IsWithin c.args.index.now (line_of c.args.line) c.args.runs.now w) (sym c.back_at.ensures) (back_within c.args.index.now (line_of c.args.line) c.args.runs.now c.loop-no.walk c.next_bound.new.walk c.in-Some.no c.in-Some.ensures.found c.in-Some.ensures.within) in
     let b : Block = record { walk = c.back_at.result; end = c.next_bound.new.walk.next; place = c.place-place.result; number = c.in-Some.no } in
     let more = blocks_push c.args.index.now (line_of c.args.line) c.args.runs.now c.args.seats.now c.in-Some.no c.loop-no.self.kept.items over b (ap (λ (w : Walk). w.next) c.back_at.ensures) step.passed c.place-place.ensures refl (omega (arith, c.place-place.type_inv, c.if-place.false)) back in
     record {
@@ -35,7 +35,7 @@ loop-no-preserved-then-begins_block c =
 
 pub loop-no-preserved : goal.loop-no-preserved
 loop-no-preserved c =
-    let step = c.in-Some.ensures.found in
+    let step = c.in-Some.ensures.found.0 in
     let idle = unbound_idle c.args.index.now (line_of c.args.line) c.args.seats.now c.loop-no.walk.next c.in-Some.no c.requires.others (omega (arith, c.in-Some.ensures.number, c.requires.count)) step.first in
     let over = blocks_over c.args.index.now (line_of c.args.line) c.args.runs.now c.args.seats.now c.loop-no.walk.next c.loop-no.self.kept.items c.loop-no.invariant.blocks c.in-Some.no step.on idle in
     let some : 0 < length c.loop-no.self.kept.items = elim (c.begins_block.ensures.joins (λ t. both_ways _ c.if-begins_block.false t)) [
@@ -51,7 +51,7 @@ loop-no-preserved c =
 
 pub loop-no-preserved-then-place : goal.loop-no-preserved-then-place
 loop-no-preserved-then-place c =
-    let step = c.in-Some.ensures.found in
+    let step = c.in-Some.ensures.found.0 in
     let idle = unbound_idle c.args.index.now (line_of c.args.line) c.args.seats.now c.loop-no.walk.next c.in-Some.no c.requires.others (omega (arith, c.in-Some.ensures.number, c.requires.count)) step.first in
     record {
       blocks = blocks_over c.args.index.now (line_of c.args.line) c.args.runs.now c.args.seats.now c.loop-no.walk.next c.loop-no.self.kept.items c.loop-no.invariant.blocks c.next_bound.new.walk.next (omega (arith, step.on, step.passed))
