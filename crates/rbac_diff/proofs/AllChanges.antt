@@ -145,7 +145,7 @@ module _ (before after : PolicyView) (ok : IsPolicy before) (also : IsPolicy aft
 
   -- what before has isn't gained
   not_gained : (p : PermissionView) (b : Binding) → IsAskedFor p.target → HasBy before p b → IsCovered before p
-  not_gained p b asked a = (a.0, a.1, a.2, a.3, same_covers p a.1 a.1 a.4.1 asked refl refl refl)
+  not_gained p b asked a = (a.0, a.1, a.2, a.3, same_covers p a.1 a.1 a.4.1 asked refl (λ s is. is) refl)
 
   lost_found : (t : Text) (b : Binding) (p : PermissionView) → t ≡ permission_text p → IsGained after before p → IsFirstWith before p b → (y : Found) × (get text_cmp n t ≡ Some y) × (y.kind ≡ Lost) × (b ≡ y.binding.now)
   lost_found t b p same is w =

@@ -12,6 +12,7 @@ use Rattle.rbac_model.specs.Policies.{PolicyView, IsPolicy, GrantView, GrantAllo
 use Rattle.rbac_model.proofs.GrantNumbers.{grant_allows}
 use Rattle.rbac_model.proofs.OwnWords.{WordMatches-own, ResourceWordMatches-own, UrlWordMatches-own, WordMatches-through, ResourceWordMatches-through, ResourceText-word, any_from, any_weaker}
 use Rattle.rbac_model.proofs.UrlSamples.{Through, sample-through}
+use Rattle.rbac_diff.specs.Unchanged.{AreAmong}
 use Rattle.rbac_diff.specs.Permissions.{Permitted, OnResource, OnUrl, PermissionView, HasPermission, IsNameOf, Permits, one_star}
 use Rattle.rbac_diff.specs.Requests.{RequestView, IsRequest, AllowsRequest, StandsFor, IsPermitted, IsNamed, IsGained}
 use Rattle.rbac_diff.specs.Covering.{Covers, CoversTarget, CoversName, CoversWords, IsAsWide, IsAskedFor}
@@ -95,10 +96,14 @@ wide_of_rule own r (OnUrl url) h = h.0
 pub covers_own : (own : Option Text) (r : Rule) (p : PermissionView) → Contains r.verbs p.verb → Permits own r p.target → CoversWords p.verb p.target r
 covers_own own r p verb target = (any_from (λ w. WordMatches w p.verb) r.verbs p.verb verb (WordMatches-own p.verb), target_of_rule own r p.target target)
 
-pub same_covers : (p : PermissionView) (g h : GrantView) → HasPermission p g → IsAskedFor p.target → h.binding.namespace ≡ g.binding.namespace → h.binding.subjects ≡ g.binding.subjects → h.rule.rule ≡ g.rule.rule → Covers p h
+-- what one of some subjects is, one of more subjects is
+any_among : (P : Subject → Type 0) (xs ys : List Subject) → AreAmong xs ys → Any P xs → Any P ys
+any_among P xs ys among w = let c = among w.1 (w.0, w.2, w.3) in (c.0, w.1, c.1, c.2, w.4)
+
+pub same_covers : (p : PermissionView) (g h : GrantView) → HasPermission p g → IsAskedFor p.target → h.binding.namespace ≡ g.binding.namespace → AreAmong g.binding.subjects h.binding.subjects → h.rule.rule ≡ g.rule.rule → Covers p h
 same_covers p g h has is here subjects rule =
     let named : Any (λ s. subject_principal h.binding.namespace s ≡ Some p.principal) h.binding.subjects =
-    subst₂ (λ (own : Option Text) (ss : List Subject). Any (λ s. subject_principal own s ≡ Some p.principal) ss) (sym here) (sym subjects) has.principal in
+    subst (λ (own : Option Text). Any (λ s. subject_principal own s ≡ Some p.principal) h.binding.subjects) (sym here) (any_among (λ s. subject_principal g.binding.namespace s ≡ Some p.principal) g.binding.subjects h.binding.subjects subjects has.principal) in
     record {
       wide = subst (λ (own : Option Text). IsAsWide own p.target) (sym here) (wide_of_rule g.binding.namespace g.rule.rule p.target has.target);
       names = named_by_own h.binding.namespace h.binding.subjects p.principal named;
@@ -107,4 +112,4 @@ same_covers p g h has is here subjects rule =
 
 pub permission_allows : (after : PolicyView) → IsPolicy after → (p : PermissionView) (g : GrantView) → Contains after.grants g → HasPermission p g → (r : RequestView) → IsRequest r → StandsFor p r → AllowsRequest after r
 permission_allows after is p g c has r request stands =
-    covered_allows after is p g c (same_covers p g g has (stands_is_asked p r request stands) refl refl refl) r request stands
+    covered_allows after is p g c (same_covers p g g has (stands_is_asked p r request stands) refl (λ s is. is) refl) r request stands

@@ -13,7 +13,7 @@ use Rattle.rbac_diff.specs.declared.change.ChangeKind.{ChangeKind}
 use Rattle.rbac_diff.proofs.Searching.{still_some, none_before, none_some}
 use Rattle.rbac_diff.proofs.Covered.{same_covers}
 
--- a binding that grants the same in the other policy gains nothing
+-- a binding that grants no more than one of the other policy gains nothing
 pub unchanged_gains_nothing : (before after : PolicyView) (place : ℕ) → HasSameGrants after place before → (p : PermissionView) → IsGainedAt before after place p → ⊥
 unchanged_gains_nothing before after place same p h =
     let g = h.grant in

@@ -1,12 +1,17 @@
 -- bindings that have the same rules in both policies
-use Rattle.std.proofs.Common.{◌≡◌, ℕ, List, ◌+◌, ◌-◌, ◌<◌, ◌≤◌, ◌↔◌, slice_get, sym, ap, ◌∙◌, refl, subst, inl, inr, arith}
+use Rattle.std.proofs.Common.{◌≡◌, ℕ, List, ◌+◌, ◌-◌, ◌<◌, ◌≤◌, ◌↔◌, length, take, get_or, Contains, slice_get, sym, ap, ◌∙◌, refl, subst, inl, inr, arith}
 use Rattle.std.specs.Prelude.{Some}
 use Rattle.std.proofs.lemmas.Bool.{cases_lt}
+use Rattle.std.proofs.lemmas.List.Elements.{Contains-push_cases}
 use Rattle.std.proofs.lemmas.Option.{same_Some}
 use Rattle.rbac_terms.specs.Text.{Text}
 use Rattle.rbac_terms.specs.declared.matching.Rule.{Rule}
 use Rattle.rbac_model.specs.Policies.{PolicyView, GrantView, IsOfBinding}
-use Rattle.rbac_diff.specs.Unchanged.{HaveSameRules}
+use Rattle.rbac_terms.specs.declared.granting.Binding.{Binding}
+use Rattle.rbac_terms.specs.declared.granting.Subject.{Subject}
+use Rattle.rbac_terms.proofs.Reading.{contains_read}
+use Rattle.rbac_model.proofs.Stairs.{take_read}
+use Rattle.rbac_diff.specs.Unchanged.{AreAmong, HasSameGrants, HaveSameRules}
 
 -- rules of the same five lists are the same
 pub same_lists : (a b : Rule) → a.verbs ≡ b.verbs → a.urls ≡ b.urls → a.groups ≡ b.groups → a.resources ≡ b.resources → a.resource_names ≡ b.resource_names → a ≡ b
@@ -68,3 +73,30 @@ module _ (own other : PolicyView) (place at from end other_from other_end last :
       let i : same.own_place ≡ place = (mine n same.own_place same.own_of).0 (omega arith, low) in
       let their_grant : same.theirs ≡ g = same_Some same.theirs g (sym same.at ∙ ap (λ (k : ℕ). slice_get other.grants k) m ∙ e) in
       (n, same.mine, same.read, subst (λ k. IsOfBinding own n k) i same.own_of, same.rule ∙ ap (λ (v : GrantView). v.rule.rule) their_grant)
+
+-- two bindings with the same rules in one namespace, of which the second has all subjects of the first
+pub grants_too : (own other : PolicyView) (place at : ℕ) (b h : Binding) → slice_get own.held.bindings place ≡ Some b → slice_get other.held.bindings at ≡ Some h → h.namespace ≡ b.namespace → AreAmong b.subjects h.subjects → HaveSameRules own place other at → HasSameGrants own place other
+grants_too own other place at b h mine theirs namespace among rules number g read of =
+    let r = rules number g read of in
+    let grant : of.0 ≡ g = same_Some of.0 g (sym of.1 ∙ read) in
+    let own_binding : b ≡ g.binding = same_Some b g.binding (sym mine ∙ of.2 ∙ ap (λ (v : GrantView). Some v.binding) grant) in
+    let other_grant : r.3.0 ≡ r.1 = same_Some r.3.0 r.1 (sym r.3.1 ∙ r.2) in
+    let other_binding : h ≡ r.1.binding = same_Some h r.1.binding (sym theirs ∙ r.3.2 ∙ ap (λ (v : GrantView). Some v.binding) other_grant) in (
+      r.1,
+      contains_read other.grants r.0 r.1 r.2,
+      sym (ap (λ (x : Binding). x.namespace) other_binding) ∙ namespace ∙ ap (λ (x : Binding). x.namespace) own_binding,
+      subst (λ (x : Binding). AreAmong g.binding.subjects x.subjects) other_binding (subst (λ (x : Binding). AreAmong x.subjects h.subjects) own_binding among),
+      r.4,
+    )
+
+-- subjects found one after the other among others
+pub among_none : (xs ys : List Subject) → AreAmong (take 0 xs) ys
+among_none xs ys s is = absurd (omega (arith, is.1))
+
+pub among_more : (xs ys : List Subject) (i at : ℕ) (x y : Subject) → i < length xs → x ≡ get_or xs i x → AreAmong (take i xs) ys → slice_get ys at ≡ Some y → y ≡ x → AreAmong (take (i + 1) xs) ys
+among_more xs ys i at x y low is before there same =
+    subst (λ (zs : List Subject). AreAmong zs ys) (sym (take_read xs i x low is))
+    (λ s h. elim (Contains-push_cases (take i xs) x s h) [
+      | inl early ↦ before s early
+      | inr e ↦ subst (λ (z : Subject). Contains ys z) (same ∙ e) (contains_read ys at y there)
+    ])

@@ -1,16 +1,16 @@
-//! Which bindings of two policies the other one doesn't have.
+//! Which bindings of two policies may grant what the other one doesn't.
 
 ghost use Rattle.std.specs.Prelude.{◌≡◌, ◌<◌, IfOk, false, length};
 ghost use Rattle.rbac_model.specs.Policies.{IsPolicy};
 ghost use Rattle.rbac_diff.specs.Unchanged.{AreFlags, HasSameGrants};
 
 use crate::alike::Alike;
-use crate::unchanged::{is_kept, is_unchanged, place_from};
+use crate::unchanged::{of_bindings, of_namesakes, place_from};
 use rbac_model::Policy;
 use std::alloc::{AllocError, Global};
 
 // Flags for the bindings of two policies, one for each in order. A binding that isn't flagged grants
-// the same as one of the other policy.
+// no more than one of the other policy.
 #[derive(Drop)]
 pub(crate) struct Changed {
     pub(crate) before: Vec<bool>,
@@ -38,8 +38,8 @@ impl Changed {
         })
     }
 
-    // Flags the bindings that the other policy doesn't have under their names, with the same
-    // subjects and rules.
+    // Flags the bindings that the other policy doesn't have under their names, with all of their
+    // subjects and the same rules.
     fn by_name(alloc: Global, before: &Policy, after: &Policy) -> Result<Self, AllocError>
         ensures before { IfOk result (λ c. AreFlags before.now c.before.items after.now) }
         ensures after { IfOk result (λ c. AreFlags after.now c.after.items before.now) }
@@ -52,11 +52,11 @@ impl Changed {
         let mut at = 0;
         for (place, binding) in bindings.iter().enumerate() {
             at = place_from(others, at, binding);
-            let is_kept = is_kept(after, place, before, at);
-            if is_kept {
+            let no_more = of_namesakes(after, place, before, at);
+            if no_more.other {
                 gone[at] = false;
             }
-            new.push(!is_kept)?;
+            new.push(!no_more.own)?;
         }
         Ok(Changed {
             before: gone,
@@ -103,7 +103,7 @@ fn stays_flagged(
         return Ok(false);
     }
     match alike.place_of(alloc, &own.bindings()[place])? {
-        Some(at) => Ok(!is_unchanged(own, place, other, at)),
+        Some(at) => Ok(!of_bindings(own, place, other, at).own),
         None => Ok(true),
     }
 }

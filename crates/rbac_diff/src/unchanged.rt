@@ -1,7 +1,7 @@
-//! Bindings that both policies have, and that grant the same in both.
+//! Bindings that grant nothing that the other policy doesn't.
 
 ghost use Rattle.std.specs.Prelude.{◌≡◌, ◌<◌, ◌↔◌, IsTrue, length};
-ghost use Rattle.rbac_diff.specs.Unchanged.{HasSameGrants, HaveSameRules};
+ghost use Rattle.rbac_diff.specs.Unchanged.{AreAmong, HasSameGrants, HaveSameRules};
 
 use rbac_model::Policy;
 use rbac_terms::{Binding, Rule, Subject, Words};
@@ -27,15 +27,32 @@ fn cmp_names(a: &Binding, b: &Binding) -> Ordering {
     }
 }
 
-// Whether the other policy has a binding of the same name at that place, with the same subjects and
-// the same rules as this one's.
-pub(crate) fn is_kept(own: &Policy, place: usize, other: &Policy, at: usize) -> bool
+/// Which of two bindings of different policies, this one and the other's, grants nothing that the
+/// other doesn't: both or neither, unless one has subjects more.
+#[derive(Clone, Copy)]
+pub(crate) struct GrantsNoMore {
+    pub(crate) own: bool,
+    pub(crate) other: bool,
+}
+
+const BOTH_MORE: GrantsNoMore = GrantsNoMore {
+    own: false,
+    other: false,
+};
+
+// Which of two bindings grants no more, this one or the other policy's at that place, if they have
+// the same name.
+pub(crate) fn of_namesakes(own: &Policy, place: usize, other: &Policy, at: usize) -> GrantsNoMore
     requires { place < length own.now.held.bindings }
-    ensures own { IsTrue result → HasSameGrants own.now place other.now }
-    ensures other { IsTrue result → HasSameGrants other.now at own.now }
-    ensures within { IsTrue result → at < length other.now.held.bindings }
+    ensures own { IsTrue result.own → HasSameGrants own.now place other.now }
+    ensures other { IsTrue result.other → HasSameGrants other.now at own.now }
+    ensures within { IsTrue result.other → at < length other.now.held.bindings }
 {
-    is_namesake(&own.bindings()[place], other.bindings(), at) && is_unchanged(own, place, other, at)
+    if is_namesake(&own.bindings()[place], other.bindings(), at) {
+        of_bindings(own, place, other, at)
+    } else {
+        BOTH_MORE
+    }
 }
 
 // Whether there is a binding at that place that has the same name as this one.
@@ -45,34 +62,44 @@ fn is_namesake(binding: &Binding, others: &[Binding], at: usize) -> bool {
         .is_some_and(|held| cmp_names(held, binding).is_eq())
 }
 
-// Whether the other policy has a binding at that place, in the same namespace or in none too, with
-// the same subjects and the same rules as this one's: so each grants the same as the other.
-pub(crate) fn is_unchanged(own: &Policy, place: usize, other: &Policy, at: usize) -> bool
+// Which of two bindings grants no more, this one or the other policy's at that place. They have to
+// be in the same namespace, or in none, and to have the same rules.
+pub(crate) fn of_bindings(own: &Policy, place: usize, other: &Policy, at: usize) -> GrantsNoMore
     requires { place < length own.now.held.bindings }
-    ensures own { IsTrue result → HasSameGrants own.now place other.now }
-    ensures other { IsTrue result → HasSameGrants other.now at own.now }
-    ensures within { IsTrue result → at < length other.now.held.bindings }
+    ensures own { IsTrue result.own → HasSameGrants own.now place other.now }
+    ensures other { IsTrue result.other → HasSameGrants other.now at own.now }
+    ensures within { IsTrue result.other → at < length other.now.held.bindings }
 {
-    match other.bindings().get(at) {
-        Some(held) => {
-            bind_the_same(&own.bindings()[place], held) && same_rules(own, place, other, at)
-        }
-        None => false,
+    let binding = &own.bindings()[place];
+    let Some(held) = other.bindings().get(at) else {
+        return BOTH_MORE;
+    };
+    if binding.namespace != held.namespace || !same_rules(own, place, other, at) {
+        return BOTH_MORE;
+    }
+    let subjects = binding.subjects.as_slice();
+    let others = held.subjects.as_slice();
+    GrantsNoMore {
+        own: are_among(subjects, others),
+        other: are_among(others, subjects),
     }
 }
 
-// Whether the bindings are in the same namespace, or in none, with the same subjects.
-fn bind_the_same(a: &Binding, b: &Binding) -> bool
-    ensures namespace { IsTrue result → a.now.namespace ≡ b.now.namespace }
-    ensures subjects { IsTrue result → a.now.subjects ≡ b.now.subjects }
+// Whether each of these subjects is found among the others, behind those before it: so they are
+// where subjects were only added.
+fn are_among(subjects: &[Subject], others: &[Subject]) -> bool
+    ensures { IsTrue result → AreAmong subjects.now others.now }
 {
-    a.namespace == b.namespace && same_subjects(a.subjects.as_slice(), b.subjects.as_slice())
-}
-
-fn same_subjects(a: &[Subject], b: &[Subject]) -> bool
-    ensures { IsTrue result ↔ (a.now ≡ b.now) }
-{
-    a.len() == b.len() && a.iter().zip(b).all(|(a, b)| same_subject(a, b))
+    let mut at = 0;
+    for subject in subjects {
+        while at < others.len() && !same_subject(&others[at], subject) {
+            at += 1;
+        }
+        if at >= others.len() {
+            return false;
+        }
+    }
+    true
 }
 
 fn same_subject(a: &Subject, b: &Subject) -> bool

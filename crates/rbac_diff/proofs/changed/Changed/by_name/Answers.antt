@@ -4,7 +4,7 @@ use Rattle.rbac_terms.specs.declared.granting.Binding.{Binding}
 use Rattle.rbac_diff.specs.Unchanged.{HasSameGrants, UnflaggedAreSame}
 use Rattle.rbac_diff.proofs.Flags.{no_flags, one_flag, all_flagged, flag_off}
 use Rattle.rbac_diff.proofs.changed.Changed.by_name.Goals as goal
-use Rattle.rbac_diff.proofs.changed.Changed.by_name.Goals.{then-is_kept, else-is_kept}
+use Rattle.rbac_diff.proofs.changed.Changed.by_name.Goals.{then-no_more, else-no_more}
 
 pub loop-place-init : goal.loop-place-init
 loop-place-init c =
@@ -26,13 +26,13 @@ loop-place-preserved c =
     let still = c.loop-place.invariant in (
       ap length c.in_ok-push.ensures.items ∙ length_push new _ ∙ ap (λ n. n + 1) still.0,
       subst (λ (xs : List Bool). UnflaggedAreSame after xs before) (sym c.in_ok-push.ensures.items)
-          (one_flag after before new _ still.1 (λ is. subst (λ (i : ℕ). HasSameGrants after i before) (sym still.0) (c.is_kept-is_kept.ensures.own (search rules)))),
-      elim c.if-is_kept.branch [
-        | then-is_kept w ↦ ap (λ (v : Vec Bool Global). length v.items) w.gone-is ∙ length-set gone c.place_from-at.result false ∙ still.2
-        | else-is_kept w ↦ ap (λ (v : Vec Bool Global). length v.items) w.gone-is ∙ still.2
+          (one_flag after before new _ still.1 (λ is. subst (λ (i : ℕ). HasSameGrants after i before) (sym still.0) (c.of_namesakes-no_more.ensures.own (search rules)))),
+      elim c.if-no_more.branch [
+        | then-no_more w ↦ ap (λ (v : Vec Bool Global). length v.items) w.gone-is ∙ length-set gone c.place_from-at.result false ∙ still.2
+        | else-no_more w ↦ ap (λ (v : Vec Bool Global). length v.items) w.gone-is ∙ still.2
       ],
-      elim c.if-is_kept.branch [
-        | then-is_kept w ↦ rw w.gone-is (flag_off before after gone c.place_from-at.result still.3 (w.if-is_kept.ensures.other refl))
-        | else-is_kept w ↦ rw w.gone-is still.3
+      elim c.if-no_more.branch [
+        | then-no_more w ↦ rw w.gone-is (flag_off before after gone c.place_from-at.result still.3 (c.of_namesakes-no_more.ensures.other w.if-no_more.true))
+        | else-no_more w ↦ rw w.gone-is still.3
       ],
     )
