@@ -1,8 +1,9 @@
 //! Pages of a matrix, as they are printed.
 
-ghost use Rattle.std.specs.Prelude.{◌≡◌, ◌≢◌, ◌-◌, ◌++◌, ◌∷◌, [], true, Some, OnOk, IfOk};
+ghost use Rattle.std.specs.Prelude.{◌≡◌, ◌≢◌, ◌-◌, ◌++◌, ◌∷◌, [], true, Some, OnOk, IfOk, codes};
 ghost use Rattle.std.specs.Option.{option_map};
-ghost use Rattle.rbac_text.specs.Row.{newline, row_text};
+ghost use Rattle.rbac_text.specs.Row.{newline, row_text, tab};
+ghost use Rattle.rbac_token.specs.Marks.{mark_text};
 ghost use Rattle.rbac_matrix.specs.Every.{name_of};
 ghost use Rattle.rbac_matrix.specs.RowTexts.{texts_shown};
 ghost use Rattle.rbac_cli.specs.RowsLeft.{is_every};
@@ -114,12 +115,28 @@ fn put_next(alloc: Global, every: bool, row: Row<'_>, line: &mut Vec<u8>) -> Res
     requires { line.old.items ≡ [] }
     ensures { OnOk result (line.new.items ≡ next_token every row.entry ++ newline ∷ []) }
 {
-    let mark = mark_of(alloc, every, row)?;
-    let token = token_of_mark(alloc, &mark)?;
+    let token = token_of(alloc, every, row)?;
+    put_token(&token, line)?;
+    Ok(())
+}
+
+// Adds `next`, the token and the end of the line.
+fn put_token(token: &Word, line: &mut Vec<u8>) -> Result<(), AllocError>
+    requires { line.old.items ≡ [] }
+    ensures { OnOk result (line.new.items ≡ codes "next" ++ tab ∷ token.now ++ newline ∷ []) }
+{
     line.extend_from_slice(NEXT)?;
     line.extend_from_slice(token.as_bytes())?;
     line.push(b'\n')?;
     Ok(())
+}
+
+// The token of the mark after which a matrix goes on behind a row.
+fn token_of(alloc: Global, every: bool, row: Row<'_>) -> Result<Word, Stop>
+    ensures { IfOk result (λ token. token ≡ mark_text (mark_shown every row.entry)) }
+{
+    let mark = mark_of(alloc, every, row)?;
+    Ok(token_of_mark(alloc, &mark)?)
 }
 
 // The mark after which a matrix goes on behind a row: its key, and its binding's name if every
