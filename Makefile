@@ -29,10 +29,10 @@ test:
 fuzz:
 	python3 tests/fuzz.py "$(SEED)" "$(COUNT)"
 
-# Single public calls: every allocation in them fails in turn. The libraries and the program that makes the calls are proved first, in 60
-# and 17 processor minutes; `make calls KEPT=FOLDER` keeps what was proved in a folder outside this repository for the next time.
+# Single public calls: every allocation in them fails in turn. The libraries and the program that makes the calls are proved first; what
+# was proved before on this machine and is unchanged is kept. The program alone takes some 20 processor minutes.
 calls:
-	python3 tests/calls.py $(KEPT)
+	python3 tests/calls.py
 
 # Each wrong body that the gate leaves out has to be refused; `make wrong-bodies CRATE=NAME` tries those of a crate, or of several.
 wrong-bodies:

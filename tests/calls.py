@@ -1,4 +1,4 @@
-"""What each public call of the libraries does where an allocation fails: calls.py [FOLDER | --once]
+"""What each public call of the libraries does where an allocation fails: calls.py [--once]
 
 tests/calls is a program that makes the calls, each between two marks, and tells what each answered; tests/refuse.c, preloaded,
 makes the Nth allocation between two marks fail, that one alone or with all that follow. A sweep counts N upwards until a run meets
@@ -8,13 +8,14 @@ calls after it. Calls that allocate nothing meet no failure where every allocati
 
 The last group makes the calls that answer three worked examples of tests/rows.json: what they print has to be the examples' lines.
 
-The program is proved and built in a repository of its own in FOLDER, which keeps what was proved for the next time; without
-FOLDER in one that is gone afterwards. With --once, as in the gate, the program isn't proved, and each call is made with memory alone:
-so it can't rot unseen. The last line is `N passed, M failed`.
+`rt ci` proves and builds the program above copies of the libraries: what it proved before on this machine, in the gate too, and is
+unchanged isn't proved again. With --once, as in the gate, the program isn't proved, and each call is made with memory alone: so it
+can't rot unseen. The last line is `N passed, M failed`.
 """
 
 import concurrent.futures
 import errno
+import glob
 import itertools
 import os
 import shutil
@@ -71,15 +72,6 @@ def escaped(lines):
     return ''.join(line + '\n' for line in lines).replace('\\', r'\\').replace('\t', r'\x09').replace('\n', r'\x0a')
 
 
-def copied(source, folder):
-    """Copies a file or a folder, unless there is the same one already, so that nothing unchanged is proved again; what is gone goes there too."""
-    if subprocess.run(['diff', '-rq', source, folder], capture_output=True).returncode:
-        shutil.rmtree(folder, ignore_errors=True)
-        if os.path.exists(source):
-            os.makedirs(os.path.dirname(folder), exist_ok=True)
-            (shutil.copytree if os.path.isdir(source) else shutil.copy2)(source, folder)
-
-
 def lay_out(folder):
     """Makes the repository: copies of the libraries, and the program above them, whose folder is given. The gate reads each .rt file
     of this repository, so the program's have another ending here."""
@@ -87,23 +79,24 @@ def lay_out(folder):
         lines = [line for line in file if not line.startswith(('#', 'rbacaudit:', 'rbac_examples:'))]
     libraries = [line.partition(':')[0] for line in lines]
     for library, part in itertools.product(libraries, ('src', 'specs', 'proofs')):
-        copied(os.path.join(TOP, 'crates', library, part), os.path.join(folder, 'crates', library, part))
+        source = os.path.join(TOP, 'crates', library, part)
+        if os.path.isdir(source):
+            shutil.copytree(source, os.path.join(folder, 'crates', library, part))
     crate = os.path.join(folder, 'crates', 'calls')
-    sources = {name.replace('.rt.txt', '.rt'): name for name in os.listdir(SOURCES) if name.endswith('.rt.txt')}
-    for name in os.listdir(os.path.join(crate, 'src')) if os.path.isdir(crate) else ():
-        if name not in sources:
-            os.remove(os.path.join(crate, 'src', name))
-    for name, source in sources.items():
-        copied(os.path.join(SOURCES, source), os.path.join(crate, 'src', name))
-    copied(os.path.join(TOP, 'HANDLES'), os.path.join(folder, 'HANDLES'))
+    os.makedirs(os.path.join(crate, 'src'))
+    for source in glob.glob(os.path.join(SOURCES, '*.rt.txt')):
+        shutil.copy2(source, os.path.join(crate, 'src', os.path.basename(source).removesuffix('.txt')))
+    shutil.copy2(os.path.join(TOP, 'HANDLES'), folder)
+    # (the top of a repository, for rt)
+    os.mkdir(os.path.join(folder, '.git'))
     with open(os.path.join(folder, 'crates.txt'), 'w', encoding='utf-8') as file:
         file.writelines([*lines, 'calls: %s\n' % ' '.join(libraries)])
     return crate
 
 
 def build(folder):
-    words = ['rt', 'run', '--', 'requests', EXPORT]
-    return subprocess.run(words, cwd=lay_out(folder), stdout=subprocess.PIPE, stderr=subprocess.STDOUT)
+    lay_out(folder)
+    return subprocess.run(['rt', 'ci'], cwd=folder, stdout=subprocess.PIPE, stderr=subprocess.STDOUT)
 
 
 def make_once(folder):
@@ -205,9 +198,7 @@ def calls(program):
     print('the calls met %d failures' % total)
 
 
-def sweep_all(room):
-    folder = os.path.abspath(sys.argv[1]) if len(sys.argv) > 1 else room
-    os.makedirs(folder, exist_ok=True)
+def sweep_all(folder):
     program = Program(folder)
     built = build(folder)
     checked('the program that makes the calls is proved and built', built.returncode == 0, built.stdout.decode()[-2000:])
