@@ -18,6 +18,7 @@ import errno
 import glob
 import itertools
 import os
+import re
 import shutil
 import subprocess
 import sys
@@ -33,6 +34,7 @@ LEAST_CALLS = 150
 # The texts of this project's errors, and of the kit's.
 OUT_OF_MEMORY = 'out of memory', 'memory allocation failed'
 NEVER = 10 ** 9
+UNPROVED = re.compile(r': (not proved|no proof|could not tell)|: error\b|NOT PROVED')
 
 
 class Examples:
@@ -97,6 +99,12 @@ def lay_out(folder):
 def build(folder):
     lay_out(folder)
     return subprocess.run(['rt', 'ci'], cwd=folder, stdout=subprocess.PIPE, stderr=subprocess.STDOUT)
+
+
+def told(output):
+    """What rt said of functions that aren't proved, or its last words."""
+    lines = [line[:500] for line in output.splitlines() if UNPROVED.search(line)]
+    return '\n'.join(lines) or output[-2000:]
 
 
 def make_once(folder):
@@ -201,7 +209,7 @@ def calls(program):
 def sweep_all(folder):
     program = Program(folder)
     built = build(folder)
-    checked('the program that makes the calls is proved and built', built.returncode == 0, built.stdout.decode()[-2000:])
+    checked('the program that makes the calls is proved and built', built.returncode == 0, told(built.stdout.decode()))
     words = ['cc', '-O2', '-Wall', '-Werror', '-shared', '-fPIC', '-o', program.shim, os.path.join(TOP, 'tests', 'refuse.c')]
     checked('what refuses is built', subprocess.run(words).returncode == 0)
     if all(results):
