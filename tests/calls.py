@@ -8,9 +8,10 @@ calls after it. Calls that allocate nothing meet no failure where every allocati
 
 The last group makes the calls that answer three worked examples of tests/rows.json: what they print has to be the examples' lines.
 
-`rt ci` proves and builds the program above copies of the libraries: what it proved before on this machine, in the gate too, and is
-unchanged isn't proved again. With --once, as in the gate, the program isn't proved, and each call is made with memory alone: so it
-can't rot unseen. The last line is `N passed, M failed`.
+`rt run` proves and builds the program above copies of the libraries; what `rt check` left of a library in its out/ and is unchanged
+isn't proved again. (`rt ci` takes no program that may stop by itself, as this one does where what a call needs can't be made.) With
+--once, as in the gate, the program isn't proved, and each call is made with memory alone: so it can't rot unseen. The last line is
+`N passed, M failed`.
 """
 
 import concurrent.futures
@@ -28,6 +29,7 @@ from common import TOP, checked, results, worked_examples
 
 SOURCES = os.path.join(TOP, 'tests', 'calls')
 EXPORT = os.path.join(SOURCES, 'export.json')
+SOURCE = 'src', 'specs', 'proofs'
 GROUPS = 'requests', 'growing', 'exports', 'matrix', 'commands', 'examples'
 # Calls may be added; fewer would be a group that isn't made.
 LEAST_CALLS = 150
@@ -74,13 +76,13 @@ def escaped(lines):
     return ''.join(line + '\n' for line in lines).replace('\\', r'\\').replace('\t', r'\x09').replace('\n', r'\x0a')
 
 
-def lay_out(folder):
-    """Makes the repository: copies of the libraries, and the program above them, whose folder is given. The gate reads each .rt file
-    of this repository, so the program's have another ending here."""
+def lay_out(folder, *parts):
+    """Makes the repository: these parts of the libraries, and the program above them, whose folder is given. The gate reads each .rt
+    file of this repository, so the program's have another ending here."""
     with open(os.path.join(TOP, 'crates.txt'), encoding='utf-8') as file:
         lines = [line for line in file if not line.startswith(('#', 'rbacaudit:', 'rbac_examples:'))]
     libraries = [line.partition(':')[0] for line in lines]
-    for library, part in itertools.product(libraries, ('src', 'specs', 'proofs')):
+    for library, part in itertools.product(libraries, parts):
         source = os.path.join(TOP, 'crates', library, part)
         if os.path.isdir(source):
             shutil.copytree(source, os.path.join(folder, 'crates', library, part))
@@ -97,8 +99,9 @@ def lay_out(folder):
 
 
 def build(folder):
-    lay_out(folder)
-    return subprocess.run(['rt', 'ci'], cwd=folder, stdout=subprocess.PIPE, stderr=subprocess.STDOUT)
+    crate = lay_out(folder, *SOURCE, 'out')
+    words = ['rt', 'run', '--', 'requests', EXPORT]
+    return subprocess.run(words, cwd=crate, stdout=subprocess.PIPE, stderr=subprocess.STDOUT)
 
 
 def told(output):
@@ -113,7 +116,7 @@ def make_once(folder):
     given = {os.path.basename(path): path for path in (EXPORT, *examples.paths)}
     data = itertools.chain.from_iterable(('--data', '%s=%s' % it) for it in given.items())
     words = ['rt', 'try', *data, '--', 'all', *given]
-    tried = subprocess.run(words, cwd=lay_out(folder), stdout=subprocess.PIPE, stderr=subprocess.PIPE)
+    tried = subprocess.run(words, cwd=lay_out(folder, *SOURCE), stdout=subprocess.PIPE, stderr=subprocess.PIPE)
     lines = [line.split('\t') for line in tried.stdout.decode().splitlines()]
     lines = [line for line in lines if line[0] in ('call', 'print', 'free')]
     said = repr(tried.stdout[-1000:] + tried.stderr[-1000:])

@@ -13,7 +13,6 @@ use crate::fault::DiffFault;
 use crate::permission::{Permission, Permitted, permission_text};
 use crate::stand_ins::Asked;
 use crate::standing::{place_near, stands_at};
-use rbac_index::Index;
 use rbac_model::Policy;
 use rbac_terms::{Binding, Principal, Rule, Word, subject_principal};
 use std::alloc::{AllocError, Global};
@@ -38,7 +37,7 @@ pub(crate) fn add_gained<'p>(
     }
     let after: &'p Policy = after;
     let bindings: &'p [Binding] = after.bindings();
-    let asked = Asked::of(alloc, Index::build(alloc, before)?)?;
+    let asked = Asked::of(alloc, before)?;
     for (place, binding) in bindings.iter().enumerate() {
         if flags[place] {
             let found = Found { kind, binding };

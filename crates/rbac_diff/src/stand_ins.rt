@@ -9,7 +9,8 @@ ghost use Rattle.rbac_diff.specs.Covering.{stand_ins};
 ghost use Rattle.rbac_diff.specs.StandIns.{AddsRulesIn, AddsRules, AreRulesOf, one_or_two};
 
 use crate::fault::DiffFault;
-use rbac_index::Index;
+use rbac_index::SubjectIndex;
+use rbac_model::Policy;
 use rbac_terms::{Principal, Rule, Word, Words};
 use std::alloc::{AllocError, Global};
 use std::marker::Model;
@@ -29,7 +30,8 @@ const ANONYMOUS: &[u8] = b"system:anonymous";
 // A policy, with the principals that stand in for members of groups.
 #[derive(Drop)]
 pub(crate) struct Asked<'p> {
-    index: Index<'p>,
+    policy: &'p Policy,
+    subjects: SubjectIndex<'p>,
     // A member of the group of all that have signed in.
     signed_in: Principal,
     anonymous: Principal,
@@ -43,20 +45,23 @@ impl<'p> Model for Asked<'p> {
 
     ghost Value = { PolicyView };
 
-    ghost view = { λ a. a.index };
+    ghost view = { λ a. a.policy.now };
 
     ghost invariant = { λ a. (a.signed_in ≡ AsMember (codes "system:authenticated"))
-        × (a.anonymous ≡ AsUser (codes "system:anonymous") []) × (a.nowhere ≡ []) };
+        × (a.anonymous ≡ AsUser (codes "system:anonymous") []) × (a.nowhere ≡ [])
+        × (a.subjects ≡ a.policy.now) };
 }
 
 impl<'p> Asked<'p> {
-    pub(crate) fn of(alloc: Global, index: Index<'p>) -> Result<Self, DiffFault>
-        ensures { IfOk result (λ a. a ≡ index.entry) }
+    pub(crate) fn of(alloc: Global, policy: &'p Policy) -> Result<Self, DiffFault>
+        ensures { IfOk result (λ a. a ≡ policy.now) }
     {
+        let subjects = SubjectIndex::build(alloc, policy)?;
         let signed_in = Word::from_slice(alloc, AUTHENTICATED)?;
         let anonymous = Word::from_slice(alloc, ANONYMOUS)?;
         Ok(Asked {
-            index,
+            policy,
+            subjects,
             signed_in: Principal::group(alloc, &signed_in)?,
             anonymous: Principal::user(alloc, &anonymous, &Words::new(alloc))?,
             nowhere: Word::new(alloc),
@@ -79,11 +84,11 @@ impl<'p> Asked<'p> {
         let namespace = namespace.unwrap_or(&self.nowhere);
         let (first, second) = self.stand_ins(principal);
         let mut rules = Vec::new(alloc);
-        add_rules(&self.index, first, namespace, &mut rules)?;
+        add_rules(self.policy, &self.subjects, first, namespace, &mut rules)?;
         let Some(second) = second else {
             return Ok(rules);
         };
-        add_rules(&self.index, second, namespace, &mut rules)?;
+        add_rules(self.policy, &self.subjects, second, namespace, &mut rules)?;
         Ok(rules)
     }
 
@@ -116,18 +121,20 @@ fn group_of(principal: &Principal) -> Option<&[u8]>
 // some target.
 #[tactic(auto, using(crate::proofs::BoundRules::run_within))]
 fn add_rules<'p>(
-    index: &Index<'p>,
+    policy: &'p Policy,
+    subjects: &SubjectIndex<'_>,
     principal: &Principal,
     namespace: &Word,
     rules: &mut Vec<&'p Rule>,
 ) -> Result<(), AllocError>
+    requires { subjects.now ≡ policy.now }
     ensures { OnOk result
-        (AddsRules index.now principal.now namespace.now 0 (length index.now.grants)
+        (AddsRules policy.now principal.now namespace.now 0 (length policy.now.grants)
         rules.old.items rules.new.items) }
 {
     let mut from = 0;
-    while let Some((start, end)) = index.next_run(principal, namespace, from) {
-        add_run(index, start, end, rules)?;
+    while let Some((start, end)) = subjects.next_run(principal, namespace, from) {
+        add_run(policy, start, end, rules)?;
         from = end;
     }
     Ok(())
@@ -135,17 +142,17 @@ fn add_rules<'p>(
 
 // Adds the rules of the grants numbered from `start` up to `end`.
 fn add_run<'p>(
-    index: &Index<'p>,
+    policy: &'p Policy,
     start: u32,
     end: u32,
     rules: &mut Vec<&'p Rule>,
 ) -> Result<(), AllocError>
     requires ordered { start ≤ end }
-    requires within { end ≤ length index.now.grants }
-    ensures { OnOk result (AddsRulesIn index.now start end rules.old.items rules.new.items) }
+    requires within { end ≤ length policy.now.grants }
+    ensures { OnOk result (AddsRulesIn policy.now start end rules.old.items rules.new.items) }
 {
     for no in start..end {
-        rules.push(index.grant(no).rule)?;
+        rules.push(policy.grant(no).rule)?;
     }
     Ok(())
 }

@@ -20,17 +20,14 @@ use crate::alike::earlier_alike;
 use crate::asked::Where;
 use crate::deciding::{Why, why_allowed};
 use crate::fault::IndexFault;
-use crate::first_places::first_places;
-use crate::first_runs::{FirstRuns, runs_at};
 use crate::holders::Holders;
-use crate::live_bindings::{Live, live_for_some, of_namespace};
 use crate::merge::{Numbers, merged};
 use crate::numbers::GrantNos;
 use crate::rule_lists::{RuleLists, matching, rule_lists_of};
 use crate::rule_rows::{Written, laid_out, rows_of};
 use crate::sightings::see_binding;
 use crate::starts::starts_by_row;
-use crate::subject_keys::{Keyed, keyed_by, next_for};
+use crate::subject_index::SubjectIndex;
 use rbac_model::{Grant, Policy};
 use rbac_terms::{Binding, Principal, Target, Word, rule_allows};
 use std::alloc::{AllocError, Global};
@@ -46,20 +43,20 @@ pub struct Index<'p> {
     lists: RuleLists,
     // Where the runs of grants by each row of rules begin.
     starts: Vec<GrantNos>,
-    named: Vec<Keyed>,
+    subjects: SubjectIndex<'p>,
 }
 
 impl<'p> Model for Index<'p> {
     ghost use Rattle.rbac_model.specs.Policies.{PolicyView};
+    ghost use Rattle.std.specs.Prelude.{◌≡◌};
     ghost use Rattle.rbac_index.specs.Indexed.{IsIndexOf};
-    ghost use Rattle.rbac_index.specs.Keyed.{AreKeyed};
 
     ghost Value = { PolicyView };
 
     ghost view = { λ i. i.policy.now };
 
     ghost invariant = { λ i. IsIndexOf i.policy.now i.rules.items i.lists i.starts.items
-        × AreKeyed i.policy.now i.named.items };
+        × (i.subjects ≡ i.policy.now) };
 }
 
 impl<'p> Index<'p> {
@@ -71,13 +68,13 @@ impl<'p> Index<'p> {
         let rules = laid_out(alloc, rows.as_slice())?;
         let lists = rule_lists_of(alloc, rules.as_slice())?;
         let starts = starts_by_row(alloc, policy, rows.as_slice())?;
-        let named = keyed_by(alloc, policy)?;
+        let subjects = SubjectIndex::build(alloc, policy)?;
         Ok(Index {
             policy,
             rules,
             lists,
             starts,
-            named,
+            subjects,
         })
     }
 
@@ -86,6 +83,13 @@ impl<'p> Index<'p> {
         ensures { result.now ≡ self.now }
     {
         self.policy
+    }
+
+    /// The policy's bindings by the keys of their subjects.
+    pub fn subjects(&self) -> &SubjectIndex<'p>
+        ensures { result.now ≡ self.now }
+    {
+        &self.subjects
     }
 
     /// How many grants there are.
@@ -152,65 +156,6 @@ impl<'p> Index<'p> {
     {
         let policy: &'p Policy = self.policy;
         why_allowed(policy, principal, namespace, verb, target)
-    }
-
-    /// Whether some grant belongs to a binding that names the principal. Doesn't allocate.
-    pub fn has_grants(&self, principal: &Principal) -> bool
-        ensures { IsTrue result ↔ ((number : ℕ) × IsNamedBy self.now principal.now number) }
-    {
-        let everywhere = Live {
-            cluster_wide: self.policy.bindings().len(),
-            from: 0,
-            to: 0,
-        };
-        next_for(self.named.as_slice(), principal, everywhere, 0).is_some()
-    }
-
-    /// Whether a RoleBinding is in this namespace. Doesn't allocate.
-    pub fn has_role_bindings(&self, namespace: &Word) -> bool
-        ensures has { IsTrue result ↔ HasRoleBindings self.now.held namespace.now }
-        ensures policy { IsPolicy self.now }
-    {
-        let (from, to) = of_namespace(self.policy.bindings(), namespace);
-        from < to
-    }
-
-    /// The next grants, from this number on, of bindings that name the principal and are live in
-    /// this namespace for some target: a run of numbers, from the first up to the second. `None` if
-    /// there are no more of them. Doesn't allocate.
-    pub fn next_run(&self, principal: &Principal, namespace: &Word, from: u32) -> Option<(u32, u32)>
-        ensures { MatchOption result
-            ((number : ℕ) → from ≤ number → ¬ IsBoundTo self.now principal.now namespace.now number)
-            (λ run. IsNextRun self.now principal.now namespace.now from run.0 run.1) }
-    {
-        if self.len() <= from {
-            return None;
-        }
-        let live = live_for_some(self.policy.bindings(), namespace);
-        let here = self.policy.place(from).binding;
-        let Some(place) = next_for(self.named.as_slice(), principal, live, here) else {
-            return None;
-        };
-        let (start, end) = self.policy.grants_of(place);
-        Some((start.max(from), end))
-    }
-
-    /// The first runs of the grants of bindings that name the principal and are live in this
-    /// namespace for some target, as many as there is room for, and whether there are no others.
-    /// Doesn't allocate.
-    pub fn first_runs(&self, principal: &Principal, namespace: &Word) -> FirstRuns
-        ensures runs { AreRunsFrom self.now principal.now namespace.now
-            result.are_all 0 result.runs.items }
-        ensures others { result.are_all ≡ false
-            → ¬ AreRunsFrom self.now principal.now namespace.now true 0 result.runs.items }
-        ensures most { result.are_all ≡ false → length result.runs.items ≡ most_kept }
-    {
-        let live = live_for_some(self.policy.bindings(), namespace);
-        let places = first_places(self.named.as_slice(), principal, live);
-        FirstRuns {
-            runs: runs_at(self.policy, places.kept()),
-            are_all: places.are_all(),
-        }
     }
 
     /// Who may use the verb on the target in this namespace: each holder once, in order of the

@@ -27,6 +27,7 @@ mod sightings;
 mod spans;
 mod starts;
 mod stems;
+mod subject_index;
 mod subject_keys;
 
 pub use asked::Where;
@@ -43,3 +44,4 @@ pub use meter::Meter;
 pub use numbers::GrantNos;
 pub use reach::{Reach, reaches_of};
 pub use reason::why_held;
+pub use subject_index::SubjectIndex;

@@ -13,7 +13,7 @@ use Rattle.rbac_model.proofs.BindingPlaces.{of_some_binding}
 use Rattle.rbac_index.specs.Bound.{HasRoleBindings, IsBoundTo, IsNextRun, AreRunsFrom}
 use Rattle.rbac_index.specs.declared.first_runs.Run.{Run}
 use Rattle.rbac_matrix.specs.Lines.{IsLineAt, IsMoved, LineView, line, place}
-use Rattle.rbac_matrix.specs.Cursors.{AreKnownAt, AreRuns, AreRunsOf, AreRunsOn, AreVerbs, ServeBare, IsAhead, IsBoundOn, IsCursorAt, IsNextBound, IsNextRunOn, IsWithin, steps_left}
+use Rattle.rbac_matrix.specs.Cursors.{AreKnownAt, AreRuns, AreRunsOf, AreRunsOn, AreVerbs, ServeBare, IsAhead, IsBoundOn, IsCursorAt, ComesTo, IsNextBound, IsNextRunOn, IsWithin, steps_left}
 use Rattle.rbac_matrix.specs.declared.line.Place.{Place}
 use Rattle.rbac_matrix.specs.declared.bound_runs.Runs.{Runs}
 use Rattle.rbac_matrix.specs.declared.walk.Walk.{Walk}
@@ -76,16 +76,19 @@ pub cursor_bound : (p : PolicyView) (l : LineView) (k : ℕ) → IsCursorAt p l 
 unfolding IsBoundOn
 cursor_bound p l k c = (c.grant, c.at, c.is.1, c.is.2)
 
-module _ (p : PolicyView) (l : LineView) (w v : Walk) (no : ℕ) (step : IsNextBound p l w v no) where
-  -- cursors that aren't passed are this one, or still ahead
-  pub bound_on : (other : ℕ) → IsAhead p l w other → (other ≡ no) ⊎ IsAhead p l v other
-  bound_on other a = elim (cases_lt other no) [
-    | inl lt ↦ absurd (step.0.first other a.1 lt (cursor_bound p l other a.0))
-    | inr ge ↦ elim (cases_eq other no) [
-      | inl e ↦ inl e
-      | inr ne ↦ inr (a.0, omega (arith, step.0.passed))
-    ]
+-- cursors that aren't passed are this one, or still ahead
+pub comes_on : (p : PolicyView) (l : LineView) (w v : Walk) (no : ℕ) → ComesTo p l w v no → (other : ℕ) → IsAhead p l w other → (other ≡ no) ⊎ IsAhead p l v other
+comes_on p l w v no step other a = elim (cases_lt other no) [
+  | inl lt ↦ absurd (step.first other a.1 lt (cursor_bound p l other a.0))
+  | inr ge ↦ elim (cases_eq other no) [
+    | inl e ↦ inl e
+    | inr ne ↦ inr (a.0, omega (arith, step.passed))
   ]
+]
+
+module _ (p : PolicyView) (l : LineView) (w v : Walk) (no : ℕ) (step : IsNextBound p l w v no) where
+  pub bound_on : (other : ℕ) → IsAhead p l w other → (other ≡ no) ⊎ IsAhead p l v other
+  bound_on = comes_on p l w v no step.0
 
   pub bound_ends : steps_left p v < steps_left p w
   bound_ends = let lt = bound_within p l no step.1 in omega (arith, step.0.on, step.0.passed)

@@ -11,7 +11,7 @@ ghost use Rattle.rbac_matrix.specs.Seats.{empty_seat, past_all, seat_at};
 use crate::bound_runs::Runs;
 use crate::line::Line;
 use crate::seat::Seat;
-use crate::walk::{Walk, next_below, next_bound, whole_walk};
+use crate::walk::{Walk, next_below, whole_walk};
 use arrayvec::ArrayVec;
 use rbac_index::Index;
 
@@ -146,11 +146,12 @@ impl Blocks {
             → IsCursorAt index.now (line_of line) k ⊎ (seat_at seats.now k ≡ empty_seat) }
         ensures { AreBlocks index.now (line_of line.entry) runs.now seats.now self.new.kept.items }
     {
+        let end = index.len();
         let mut walk = whole_walk();
         // How many more grants the last block takes.
         let mut room: usize = 0;
         self.kept.clear();
-        while let Some(no) = next_bound(index, line, runs, &mut walk) {
+        while let Some(no) = next_below(index, line, runs, end, &mut walk) {
             let place = seats[no as usize].place();
             if place == u32::MAX {
                 continue;

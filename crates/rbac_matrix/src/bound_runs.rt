@@ -60,11 +60,12 @@ impl Runs {
             → ¬ HasRoleBindings index.now.held line.entry.namespace.now }
         ensures policy { IsPolicy index.now }
     {
-        let found = index.first_runs(line.principal, line.namespace);
+        let subjects = index.subjects();
+        let found = subjects.first_runs(line.principal, line.namespace);
         Runs {
             kept: found.runs,
             are_all: found.are_all,
-            is_bare: !index.has_role_bindings(line.namespace),
+            is_bare: !subjects.has_role_bindings(line.namespace),
             verbs: ArrayVec::new(),
         }
     }
@@ -74,7 +75,7 @@ impl Runs {
         ensures { IsTrue result
             → IsTrue self.now.is_bare × (¬ HasRoleBindings index.now.held namespace.now) }
     {
-        self.is_bare && !index.has_role_bindings(namespace)
+        self.is_bare && !index.subjects().has_role_bindings(namespace)
     }
 
     // Whether none of these grants has the verb at this place.

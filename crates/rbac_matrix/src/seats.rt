@@ -11,7 +11,7 @@ ghost use Rattle.rbac_matrix.specs.Seats.{AreReal, filled, empty_seat, past_all,
 use crate::bound_runs::Runs;
 use crate::line::Line;
 use crate::seat::{Seat, seat_from};
-use crate::walk::{next_bound, next_cursor, whole_walk};
+use crate::walk::{next_below, next_cursor, whole_walk};
 use rbac_index::{Index, Meter, Reach};
 
 // Whether nothing was seated here and the reach has places.
@@ -62,8 +62,9 @@ pub(crate) fn empty_line(index: &Index<'_>, line: Line<'_>, runs: &Runs, seats: 
         → IsCursorAt index.now (line_of line) k ⊎ (seat_at seats.old k ≡ empty_seat) }
     ensures { AreEmpty index.now seats.new }
 {
+    let end = index.len();
     let mut walk = whole_walk();
-    while let Some(no) = next_bound(index, line, runs, &mut walk) {
+    while let Some(no) = next_below(index, line, runs, end, &mut walk) {
         seats[no as usize] = Seat::new();
     }
 }

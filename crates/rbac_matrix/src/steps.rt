@@ -171,7 +171,7 @@ fn past_idle(index: &Index<'_>, line: Line<'_>, at: Place) -> Place
     ensures on { (u : UniverseView) → IsLineAt u at (line_of line.entry)
         → length (lines_from u result) < length (lines_from u at) }
 {
-    if at.namespace == 0 && !index.has_grants(line.principal) {
+    if at.namespace == 0 && !index.subjects().has_grants(line.principal) {
         return Place::of_principal(at.principal + 1);
     }
     Place::of_namespace(at.principal, at.namespace + 1)

@@ -169,6 +169,7 @@ fn next_run(index: &Index<'_>, line: Line<'_>, runs: &Runs, walk: &mut Walk) -> 
     if runs.are_all() {
         return None;
     }
-    let (start, end) = index.next_run(line.principal, line.namespace, walk.end)?;
+    let subjects = index.subjects();
+    let (start, end) = subjects.next_run(line.principal, line.namespace, walk.end)?;
     Some(Run { start, end })
 }

@@ -29,7 +29,7 @@ loop-place-preserved c =
     let there : slice_get after.held.bindings k ≡ Some c.index-bindings-place.result =
     rw (← c.bindings-bindings.ensures.bindings) (slice_get_read items (length items) k c.index-bindings-place.result refl c.loop-place-test.true c.index-bindings-place.is) in
     let low : k < length c.args.flags.now = omega (arith, c.loop-place-test.true, ap length c.bindings-bindings.ensures.bindings, c.requires.each) in
-    let asked : c.in_ok-asked.asked ≡ before = c.in_ok-asked.ensures ∙ c.in_ok-build.ensures in
+    let asked : c.in_ok-asked.asked ≡ before = c.in_ok-asked.ensures in
     elim c.if-flags-place.branch [
       | then-flags-place+in_ok-add_of_binding w ↦ rw w.findings-is (gathered_by c.args.kind before after k c.in_ok-asked.asked _ c.args.findings.now c.loop-place.findings w.add_of_binding.new.findings asked refl there c.loop-place.invariant w.in_ok-add_of_binding.ensures.gained)
       | else-flags-place w ↦ rw w.findings-is (gathered_same c.args.kind before after k c.args.findings.now c.loop-place.findings (unchanged_gains_nothing before after k (c.requires.unflagged k (slice_get-get_or c.args.flags.now k false low ∙ ap (λ b. Some b) w.if-flags-place.false))) c.loop-place.invariant)

@@ -1,5 +1,7 @@
-use Rattle.std.proofs.Common.{inl, inr}
+use Rattle.std.proofs.Common.{inl, inr, arith, length}
 use Rattle.rbac_matrix.specs.Shown.{line_of}
+use Rattle.rbac_matrix.proofs.WalkLemmas.{comes_on, cursor_bound}
+use Rattle.rbac_matrix.proofs.LoopLemmas.{cursor_within}
 use Rattle.rbac_matrix.proofs.seats.empty_line.Goals as goal
 
 pub loop-no-init : goal.loop-no-init

@@ -14,5 +14,5 @@ invariant_of-result c =
         granted = c.in_ok-starts.ensures.starts;
         few = c.in_ok-starts.ensures.few;
       },
-      c.in_ok-named.ensures,
+      c.in_ok-subjects.ensures,
     )

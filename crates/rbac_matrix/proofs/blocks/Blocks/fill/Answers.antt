@@ -7,6 +7,7 @@ use Rattle.rbac_matrix.specs.Cursors.{IsWithin}
 use Rattle.rbac_matrix.specs.declared.blocks.Block.{Block}
 use Rattle.rbac_matrix.specs.declared.walk.Walk.{Walk}
 use Rattle.rbac_matrix.proofs.BlockLemmas.{back_within, blocks_join, blocks_none, blocks_over, blocks_push, unbound_idle}
+use Rattle.rbac_matrix.proofs.WalkLemmas.{cursor_bound}
 use Rattle.rbac_matrix.proofs.blocks.Blocks.fill.Goals as goal
 
 pub loop-no-init : goal.loop-no-init
@@ -22,8 +23,12 @@ loop-no-preserved-then-begins_block c =
     let step = c.in-Some.ensures.found.0 in
     let idle = unbound_idle c.args.index.now (line_of c.args.line) c.args.seats.now c.loop-no.walk.next c.in-Some.no c.requires.others (omega (arith, c.in-Some.ensures.number, c.requires.count)) step.first in
     let over = blocks_over c.args.index.now (line_of c.args.line) c.args.runs.now c.args.seats.now c.loop-no.walk.next c.loop-no.self.kept.items c.loop-no.invariant.blocks c.in-Some.no step.on idle in
-    let back = subst (λ (w : Walk). IsWithin c.args.index.now (line_of c.args.line) c.args.runs.now w) (sym c.back_at.ensures) (back_within c.args.index.now (line_of c.args.line) c.args.runs.now c.loop-no.walk c.next_bound.new.walk c.in-Some.no c.in-Some.ensures.found c.in-Some.ensures.within) in
-    let b : Block = record { walk = c.back_at.result; end = c.next_bound.new.walk.next; place = c.place-place.result; number = c.in-Some.no } in
+    let bound = elim (c.requires.others c.in-Some.no (omega (arith, c.in-Some.ensures.number, c.requires.count))) [
+      | inl cursor ↦ cursor_bound c.args.index.now (line_of c.args.line) c.in-Some.no cursor
+      | inr e ↦ let empty : (seat_at c.args.seats.now c.in-Some.no).place ≡ past_all = rw e refl in absurd (omega (arith, empty, c.place-place.ensures, c.if-place.false))
+    ] in
+    let back = subst (λ (w : Walk). IsWithin c.args.index.now (line_of c.args.line) c.args.runs.now w) (sym c.back_at.ensures) (back_within c.args.index.now (line_of c.args.line) c.args.runs.now c.loop-no.walk c.next_below.new.walk c.in-Some.no (step, bound) c.in-Some.ensures.within) in
+    let b : Block = record { walk = c.back_at.result; end = c.next_below.new.walk.next; place = c.place-place.result; number = c.in-Some.no } in
     let more = blocks_push c.args.index.now (line_of c.args.line) c.args.runs.now c.args.seats.now c.in-Some.no c.loop-no.self.kept.items over b (ap (λ (w : Walk). w.next) c.back_at.ensures) step.passed c.place-place.ensures refl (omega (arith, c.place-place.type_inv, c.if-place.false)) back in
     record {
       blocks = subst (λ (n : ℕ). AreBlocksBelow c.args.index.now (line_of c.args.line) c.args.runs.now c.args.seats.now n c.push.new.self.items) (sym step.passed)
@@ -54,7 +59,7 @@ loop-no-preserved-then-place c =
     let step = c.in-Some.ensures.found.0 in
     let idle = unbound_idle c.args.index.now (line_of c.args.line) c.args.seats.now c.loop-no.walk.next c.in-Some.no c.requires.others (omega (arith, c.in-Some.ensures.number, c.requires.count)) step.first in
     record {
-      blocks = blocks_over c.args.index.now (line_of c.args.line) c.args.runs.now c.args.seats.now c.loop-no.walk.next c.loop-no.self.kept.items c.loop-no.invariant.blocks c.next_bound.new.walk.next (omega (arith, step.on, step.passed))
+      blocks = blocks_over c.args.index.now (line_of c.args.line) c.args.runs.now c.args.seats.now c.loop-no.walk.next c.loop-no.self.kept.items c.loop-no.invariant.blocks c.next_below.new.walk.next (omega (arith, step.on, step.passed))
           (λ k low high. elim (cases_lt k c.in-Some.no) [
             | inl lt ↦ idle k low lt
             | inr ge ↦
@@ -69,4 +74,4 @@ loop-no-preserved-then-place c =
 pub returns : goal.returns
 returns c =
     blocks_over c.args.index.now (line_of c.args.line) c.args.runs.now c.args.seats.now c.loop-no.walk.next c.loop-no.self.kept.items c.loop-no.invariant.blocks (length c.args.seats.now) c.loop-no.invariant.few
-    (unbound_idle c.args.index.now (line_of c.args.line) c.args.seats.now c.loop-no.walk.next (length c.args.seats.now) c.requires.others (omega arith) (λ k low high. c.in_default.ensures.found k low))
+    (unbound_idle c.args.index.now (line_of c.args.line) c.args.seats.now c.loop-no.walk.next (length c.args.seats.now) c.requires.others (omega arith) (λ k low high. c.in_default.ensures.found k low (omega (arith, c.len-end.ensures, c.requires.count, high))))

@@ -4,7 +4,7 @@ use Rattle.rbac_index.specs.declared.live_bindings.Live.{Live}
 use Rattle.rbac_index.specs.Holding.{IsKeyFor}
 use Rattle.rbac_index.specs.Keyed.{AnswersNext, IsLiveUnderAny}
 use Rattle.rbac_index.proofs.NextRunLemmas.{any_named}
-use Rattle.rbac_index.proofs.index.Index.has_grants.Goals as goal
+use Rattle.rbac_index.proofs.subject_index.SubjectIndex.has_grants.Goals as goal
 
 pub returns : goal.returns
 returns c =
@@ -13,4 +13,4 @@ returns c =
     let live : Live = record { cluster_wide = length c.bindings.result.now; from = 0; to = 0 } in
     let bound : length p.held.bindings ≤ live.cluster_wide = omega (arith, ap length c.bindings.ensures.bindings) in
     let next = subst (λ (l : List Keyed). AnswersNext (IsLiveUnderAny l live (IsKeyFor who)) 0 c.next_for.result) c.as_slice.ensures.value c.next_for.ensures in
-    rw (c.is_some.ensures, ← c.self.view_is) (any_named p c.bindings.ensures.policy c.self.inside.named.items c.self.invariant.1 who live bound c.next_for.result next)
+    rw (c.is_some.ensures, ← c.self.view_is) (any_named p c.bindings.ensures.policy c.self.inside.named.items c.self.invariant who live bound c.next_for.result next)

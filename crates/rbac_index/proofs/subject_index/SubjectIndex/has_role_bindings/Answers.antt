@@ -3,7 +3,7 @@ use Rattle.std.specs.Prelude.{Some}
 use Rattle.std.proofs.lemmas.Bool.Decides.{nat_tests}
 use Rattle.rbac_terms.specs.declared.granting.Binding.{Binding}
 use Rattle.rbac_index.proofs.LivingLemmas.{some_between}
-use Rattle.rbac_index.proofs.index.Index.has_role_bindings.Goals as goal
+use Rattle.rbac_index.proofs.subject_index.SubjectIndex.has_role_bindings.Goals as goal
 
 pub returns-clause-has : goal.returns-clause-has
 returns-clause-has c =

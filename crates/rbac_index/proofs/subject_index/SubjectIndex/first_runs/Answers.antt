@@ -10,7 +10,7 @@ use Rattle.rbac_index.specs.Keyed.{IsLiveAt, IsLiveUnderAny}
 use Rattle.rbac_index.specs.Least.{Takes, no_places}
 use Rattle.rbac_index.proofs.FirstRunLemmas.{first_runs, other_runs, zip_length}
 use Rattle.rbac_index.proofs.LeastLemmas.{least}
-use Rattle.rbac_index.proofs.index.Index.first_runs.Goals as goal
+use Rattle.rbac_index.proofs.subject_index.SubjectIndex.first_runs.Goals as goal
 
 pub returns-clause-runs : goal.returns-clause-runs
 returns-clause-runs c =
@@ -22,7 +22,7 @@ returns-clause-runs c =
     let takes = subst (λ (l : List Keyed). Takes (IsLiveUnderAny l live (IsKeyFor who)) no_places places) c.as_slice.ensures.value c.first_places-places.ensures in
     let up : AllPairs (λ a b. a < b) places.kept = c.kept.ensures.ascending in
     let zip : AllZip (IsRunAt p) places.kept c.runs_at.result.items = subst (λ (ps : List ℕ). AllZip (IsRunAt p) ps c.runs_at.result.items) c.kept.ensures.places c.runs_at.ensures in
-    rw (← c.self.view_is, c.are_all.ensures) (first_runs p c.bindings.ensures.policy c.self.inside.named.items c.self.invariant.1 who live c.args.namespace.now lives places
+    rw (← c.self.view_is, c.are_all.ensures) (first_runs p c.bindings.ensures.policy c.self.inside.named.items c.self.invariant who live c.args.namespace.now lives places
     (least (IsLiveUnderAny c.self.inside.named.items live (IsKeyFor who)) places up takes) c.runs_at.result.items zip)
 
 pub returns-clause-others : goal.returns-clause-others
@@ -35,7 +35,7 @@ returns-clause-others c = λ e.
     let takes = subst (λ (l : List Keyed). Takes (IsLiveUnderAny l live (IsKeyFor who)) no_places places) c.as_slice.ensures.value c.first_places-places.ensures in
     let up : AllPairs (λ a b. a < b) places.kept = c.kept.ensures.ascending in
     let zip : AllZip (IsRunAt p) places.kept c.runs_at.result.items = subst (λ (ps : List ℕ). AllZip (IsRunAt p) ps c.runs_at.result.items) c.kept.ensures.places c.runs_at.ensures in
-    rw (← c.self.view_is) (other_runs p c.bindings.ensures.policy c.self.inside.named.items c.self.invariant.1 who live c.args.namespace.now lives places
+    rw (← c.self.view_is) (other_runs p c.bindings.ensures.policy c.self.inside.named.items c.self.invariant who live c.args.namespace.now lives places
     (least (IsLiveUnderAny c.self.inside.named.items live (IsKeyFor who)) places up takes) (sym c.are_all.ensures ∙ e) c.runs_at.result.items zip)
 
 pub returns-clause-most : goal.returns-clause-most
