@@ -77,14 +77,18 @@ unfolding IsBoundOn
 cursor_bound p l k c = (c.grant, c.at, c.is.1, c.is.2)
 
 -- cursors that aren't passed are this one, or still ahead
-pub comes_on : (p : PolicyView) (l : LineView) (w v : Walk) (no : ℕ) → ComesTo p l w v no → (other : ℕ) → IsAhead p l w other → (other ≡ no) ⊎ IsAhead p l v other
-comes_on p l w v no step other a = elim (cases_lt other no) [
+pub comes_on : (p : PolicyView) (l : LineView) (w v : Walk) (here : ℕ) → ComesTo p l w v here → (other : ℕ) → IsAhead p l w other → (other ≡ here) ⊎ IsAhead p l v other
+comes_on p l w v here step other a = elim (cases_lt other here) [
   | inl lt ↦ absurd (step.first other a.1 lt (cursor_bound p l other a.0))
-  | inr ge ↦ elim (cases_eq other no) [
+  | inr ge ↦ elim (cases_eq other here) [
     | inl e ↦ inl e
     | inr ne ↦ inr (a.0, omega (arith, step.passed))
   ]
 ]
+
+-- a walk that comes to no other grant has no cursor ahead
+pub none_ahead : (p : PolicyView) (l : LineView) (w : Walk) → ((k : ℕ) → w.next ≤ k → k < length p.grants → IsBoundOn p l k → ⊥) → (k : ℕ) → IsAhead p l w k → ⊥
+none_ahead p l w none k a = let bound = cursor_bound p l k a.0 in none k a.1 (bound_within p l k bound) bound
 
 module _ (p : PolicyView) (l : LineView) (w v : Walk) (no : ℕ) (step : IsNextBound p l w v no) where
   pub bound_on : (other : ℕ) → IsAhead p l w other → (other ≡ no) ⊎ IsAhead p l v other

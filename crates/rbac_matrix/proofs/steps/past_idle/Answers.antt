@@ -5,7 +5,7 @@ use Rattle.rbac_matrix.proofs.steps.past_idle.Goals as goal
 
 pub returns-then-not-has_grants-clause-skips : goal.returns-then-not-has_grants-clause-skips
 returns-then-not-has_grants-clause-skips c = λ u here.
-    rw c.of_principal.ensures (skips_principal u c.args.at (line_of c.args.line) here c.args.index.now c.requires.policy (λ k named. both_ways _ c.if-not-has_grants.true (c.has_grants.ensures.1 (k, named))))
+    rw c.of_principal.ensures (skips_principal u c.args.at (line_of c.args.line) here c.args.index.now c.requires.policy (λ k named. both_ways _ c.if-not-has_grants.true (c.has_grants.ensures.1 (rw c.subjects.ensures (k, named)))))
 
 pub returns-then-not-has_grants-clause-on : goal.returns-then-not-has_grants-clause-on
 returns-then-not-has_grants-clause-on c = λ u here. rw c.of_principal.ensures (fewer_after_principal u c.args.at (line_of c.args.line) here)

@@ -3,7 +3,7 @@ use Rattle.std.proofs.lemmas.Bool.{both_ways, cases_lt}
 use Rattle.rbac_matrix.specs.Seats.{past_all, seat_at}
 use Rattle.rbac_matrix.specs.Shown.{line_of}
 use Rattle.rbac_matrix.specs.Blocks.{AreBlocksBelow}
-use Rattle.rbac_matrix.specs.Cursors.{IsWithin}
+use Rattle.rbac_matrix.specs.Cursors.{IsBoundOn, IsWithin}
 use Rattle.rbac_matrix.specs.declared.blocks.Block.{Block}
 use Rattle.rbac_matrix.specs.declared.walk.Walk.{Walk}
 use Rattle.rbac_matrix.proofs.BlockLemmas.{back_within, blocks_join, blocks_none, blocks_over, blocks_push, unbound_idle}
@@ -23,7 +23,7 @@ loop-no-preserved-then-begins_block c =
     let step = c.in-Some.ensures.found.0 in
     let idle = unbound_idle c.args.index.now (line_of c.args.line) c.args.seats.now c.loop-no.walk.next c.in-Some.no c.requires.others (omega (arith, c.in-Some.ensures.number, c.requires.count)) step.first in
     let over = blocks_over c.args.index.now (line_of c.args.line) c.args.runs.now c.args.seats.now c.loop-no.walk.next c.loop-no.self.kept.items c.loop-no.invariant.blocks c.in-Some.no step.on idle in
-    let bound = elim (c.requires.others c.in-Some.no (omega (arith, c.in-Some.ensures.number, c.requires.count))) [
+    let bound : IsBoundOn c.args.index.now (line_of c.args.line) c.in-Some.no = elim (c.requires.others c.in-Some.no (omega (arith, c.in-Some.ensures.number, c.requires.count))) [
       | inl cursor ↦ cursor_bound c.args.index.now (line_of c.args.line) c.in-Some.no cursor
       | inr e ↦ let empty : (seat_at c.args.seats.now c.in-Some.no).place ≡ past_all = rw e refl in absurd (omega (arith, empty, c.place-place.ensures, c.if-place.false))
     ] in
