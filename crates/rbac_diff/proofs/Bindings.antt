@@ -13,7 +13,7 @@ use Rattle.rbac_model.proofs.LabelSets.{any_push}
 use Rattle.rbac_diff.specs.Permissions.{PermissionView, Permitted, OnResource, OnUrl, Permits}
 use Rattle.rbac_diff.specs.Covering.{IsAskedFor, IsCovered, IsAsWide, CoversWords}
 use Rattle.rbac_diff.specs.StandIns.{AreRulesOf, IsWider}
-use Rattle.rbac_diff.specs.Finding.{IsByGrants, IsMissing, IsGainedAt, Findings, Finds}
+use Rattle.rbac_diff.specs.Finding.{IsByGrants, IsMissing, IsGainedAt, IsUncovered, Findings, Finds}
 use Rattle.rbac_diff.specs.declared.change.Found.{Found}
 use Rattle.rbac_diff.proofs.Searching.{finds_none, finds_more, finds_same}
 
@@ -73,16 +73,13 @@ module _ (before after : PolicyView) (place : ℕ) (own : Option Text) (x : Foun
   abbrev pub IsBySubject : Subject → PermissionView → Type 0
   IsBySubject s p = subject_principal own s ≡ Some p.principal
 
-  abbrev pub IsUncovered : PermissionView → Type 0
-  IsUncovered p = IsAskedFor p.target × (IsCovered before p → ⊥)
-
   abbrev pub IsBySubjects : List Subject → PermissionView → Type 0
-  IsBySubjects subjects p = Any (λ s. IsBySubject s p) subjects × IsByGrants after place own p × IsUncovered p
+  IsBySubjects subjects p = Any (λ s. IsBySubject s p) subjects × IsByGrants after place own p × IsUncovered before p
 
   pub subjects_none : (m : Findings) → Finds (IsBySubjects []) x m m
   subjects_none m = finds_none (IsBySubjects []) x m (λ p h. omega (arith, h.0.2))
 
-  one_more : (s : Subject) (subjects : List Subject) (p : PermissionView) → IsBySubjects (subjects ++ s ∷ []) p ↔ (IsBySubjects subjects p ⊎ (IsBySubject s p × IsByGrants after place own p × IsUncovered p))
+  one_more : (s : Subject) (subjects : List Subject) (p : PermissionView) → IsBySubjects (subjects ++ s ∷ []) p ↔ (IsBySubjects subjects p ⊎ (IsBySubject s p × IsByGrants after place own p × IsUncovered before p))
   one_more s subjects p = (
     λ h. elim ((any_push (λ y. IsBySubject y p) subjects s).0 h.0) [ inl a ↦ inl (a, h.1, h.2) | inr b ↦ inr (b, h.1, h.2) ],
     λ h. elim h [
@@ -99,22 +96,28 @@ module _ (before after : PolicyView) (place : ℕ) (own : Option Text) (x : Foun
         λ h. elim ((one_more s subjects p).0 h) [ inl k ↦ k | inr k ↦ absurd (let both : None ≡ Some p.principal = sym nobody ∙ k.0 in cc) ],
       )) f
 
-  -- a subject that stands for a principal
-  of_principal : (s : Subject) (who : Who) (rules : List (Bor Rule)) → subject_principal own s ≡ Some who → AreRulesOf before who own rules → (p : PermissionView)
-      → ((p.principal ≡ who) × IsByGrants after place own p × IsMissing rules p) ↔ (IsBySubject s p × IsByGrants after place own p × IsUncovered p)
-  of_principal s who rules is are p = (
-    λ h. (let mine : AreRulesOf before p.principal own rules = subst (λ (w : Who). AreRulesOf before w own rules) (sym h.0) are in
-        (is ∙ ap (λ (w : Who). Some w) (sym h.0), h.1, (missing_exactly before own rules p mine h.1.1.rule.rule h.1.5).0 h.2)),
-    λ h. (let same : p.principal ≡ who = same_Some p.principal who (sym h.0 ∙ is) in
-        let mine : AreRulesOf before p.principal own rules = subst (λ (w : Who). AreRulesOf before w own rules) (sym same) are in
-        (same, h.1, (missing_exactly before own rules p mine h.1.1.rule.rule h.1.5).1 h.2)),
-  )
+  -- the rules that everybody has whom a principal stands for decide what is found
+  abbrev pub IsByPrincipal : Who → PermissionView → Type 0
+  IsByPrincipal who p = (p.principal ≡ who) × IsByGrants after place own p × IsUncovered before p
 
-  pub subjects_more : (s : Subject) (subjects : List Subject) (who : Who) (rules : List (Bor Rule)) (a b c : Findings) → subject_principal own s ≡ Some who → AreRulesOf before who own rules
-      → Finds (IsBySubjects subjects) x a b → Finds (λ p. (p.principal ≡ who) × IsByGrants after place own p × IsMissing rules p) x b c → Finds (IsBySubjects (subjects ++ s ∷ [])) x a c
-  subjects_more s subjects who rules a b c is are f g =
-      finds_more (IsBySubjects subjects) (λ p. IsBySubject s p × IsByGrants after place own p × IsUncovered p) (IsBySubjects (subjects ++ s ∷ [])) x a b c (one_more s subjects) f
-      (finds_same (λ p. (p.principal ≡ who) × IsByGrants after place own p × IsMissing rules p) (λ p. IsBySubject s p × IsByGrants after place own p × IsUncovered p) x b c (of_principal s who rules is are) g)
+  pub principal_finds : (who : Who) (rules : List (Bor Rule)) (a b : Findings) → AreRulesOf before who own rules
+      → Finds (λ p. (p.principal ≡ who) × IsByGrants after place own p × IsMissing rules p) x a b → Finds (IsByPrincipal who) x a b
+  principal_finds who rules a b are = finds_same (λ p. (p.principal ≡ who) × IsByGrants after place own p × IsMissing rules p) (IsByPrincipal who) x a b
+      (λ p. (
+        λ h. (h.0, h.1, (missing_exactly before own rules p (subst (λ (w : Who). AreRulesOf before w own rules) (sym h.0) are) h.1.1.rule.rule h.1.5).0 h.2),
+        λ h. (h.0, h.1, (missing_exactly before own rules p (subst (λ (w : Who). AreRulesOf before w own rules) (sym h.0) are) h.1.1.rule.rule h.1.5).1 h.2),
+      ))
+
+  -- a subject that stands for a principal
+  pub subjects_more : (s : Subject) (subjects : List Subject) (who : Who) (a b c : Findings) → subject_principal own s ≡ Some who
+      → Finds (IsBySubjects subjects) x a b → Finds (IsByPrincipal who) x b c → Finds (IsBySubjects (subjects ++ s ∷ [])) x a c
+  subjects_more s subjects who a b c is f g =
+      finds_more (IsBySubjects subjects) (λ p. IsBySubject s p × IsByGrants after place own p × IsUncovered before p) (IsBySubjects (subjects ++ s ∷ [])) x a b c (one_more s subjects) f
+      (finds_same (IsByPrincipal who) (λ p. IsBySubject s p × IsByGrants after place own p × IsUncovered before p) x b c
+      (λ p. (
+        λ h. (is ∙ ap (λ (w : Who). Some w) (sym h.0), h.1, h.2),
+        λ h. (same_Some p.principal who (sym h.0 ∙ is), h.1, h.2),
+      )) g)
 
 module _ (before after : PolicyView) (place : ℕ) (b : Binding) (x : Found) (there : slice_get after.held.bindings place ≡ Some b) where
   binding_is : (n : ℕ) (g : GrantView) → slice_get after.grants n ≡ Some g → IsOfBinding after n place → g.binding ≡ b

@@ -1,5 +1,5 @@
 -- what covers a permission allows each request that it stands for
-use Rattle.std.proofs.Common.{◌≡◌, List, Contains, Any, inl, inr, sym, refl, subst, subst₂}
+use Rattle.std.proofs.Common.{◌≡◌, List, Contains, Any, inl, inr, sym, refl, subst}
 use Rattle.std.specs.Prelude.{Option, Some, None}
 use Rattle.rbac_terms.specs.Granting.{subject_principal}
 use Rattle.rbac_terms.specs.Text.{Text}

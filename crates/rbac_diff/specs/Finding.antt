@@ -63,6 +63,10 @@ IsByGrants policy place own p = (no : ℕ) × (g : GrantView) × (slice_get poli
     × IsOfBinding policy no place × Contains g.rule.rule.verbs p.verb
     × Permits own g.rule.rule p.target
 
+-- some request is for the permission, and before doesn't allow all that it stands for
+abbrev pub IsUncovered : PolicyView → PermissionView → Type 0
+IsUncovered before p = IsAskedFor p.target × (¬ IsCovered before p)
+
 -- a permission by a grant of the binding at that place, which before doesn't allow
 pub record IsGainedAt (before after : PolicyView) (at : ℕ) (p : PermissionView) : Type 0 where
   pub grant : (no : ℕ) × (g : GrantView) × (slice_get after.grants no ≡ Some g)

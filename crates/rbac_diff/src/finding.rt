@@ -1,9 +1,10 @@
 //! The permissions that one policy has and another one doesn't allow.
 
-ghost use Rattle.std.specs.Prelude.{◌≡◌, ◌<◌, OnOk, Some, Contains, Any, length, slice_get};
+ghost use Rattle.std.specs.Prelude.{◌≡◌, ◌<◌, [], OnOk, Some, Contains, Any, length, slice_get};
+ghost use Rattle.rbac_terms.specs.Principals.{given_of};
 ghost use Rattle.std.specs.Option.{option_copied};
 ghost use Rattle.rbac_diff.specs.Finding.{Finds, FindsGained, IsByGrants, IsByRule, IsGainedAt};
-ghost use Rattle.rbac_diff.specs.Finding.{IsOnResource, IsOnTarget, IsOnUrl, SearchFinds};
+ghost use Rattle.rbac_diff.specs.Finding.{IsOnResource, IsOnTarget, IsOnUrl, IsUncovered, SearchFinds};
 ghost use Rattle.rbac_diff.specs.Shown.{permitted_of};
 ghost use Rattle.rbac_diff.specs.Unchanged.{AreFlags};
 
@@ -35,13 +36,29 @@ pub(crate) fn add_gained<'p>(
     if !flags.contains(&true) {
         return Ok(());
     }
-    let after: &'p Policy = after;
-    let bindings: &'p [Binding] = after.bindings();
     let asked = Asked::of(alloc, before)?;
+    add_of_flagged(alloc, kind, &asked, after, flags, findings)
+}
+
+// Adds the permissions of the bindings that are flagged, where the policy asked doesn't allow them.
+fn add_of_flagged<'p>(
+    alloc: Global,
+    kind: ChangeKind,
+    asked: &Asked<'_>,
+    after: &'p Policy,
+    flags: &[bool],
+    findings: &mut Findings<'p>,
+) -> Result<(), DiffFault>
+    requires { AreFlags after.now flags.now asked.now }
+    ensures { OnOk result
+        (FindsGained kind asked.now after.now (length after.now.held.bindings) findings.old
+        findings.new) }
+{
+    let bindings: &'p [Binding] = after.bindings();
     for (place, binding) in bindings.iter().enumerate() {
         if flags[place] {
             let found = Found { kind, binding };
-            add_of_binding(alloc, &asked, after, place, found, findings)?;
+            add_of_binding(alloc, asked, after, place, found, findings)?;
         }
     }
     Ok(())
@@ -67,17 +84,40 @@ fn add_of_binding<'p>(
     }
     for subject in binding.subjects.as_slice() {
         if let Some(principal) = subject_principal(alloc, subject, namespace)? {
-            let others = asked.rules_of(alloc, &principal, namespace)?;
-            let search = Search {
-                found,
-                namespace,
-                principal: &principal,
-                others: others.as_slice(),
-            };
-            add_of_grants(alloc, &search, after, place, findings)?;
+            add_of_principal(alloc, asked, after, place, found, &principal, findings)?;
         }
     }
     Ok(())
+}
+
+// Adds the permissions that the principal has by the binding at this place and that the policy
+// asked doesn't allow.
+fn add_of_principal<'p>(
+    alloc: Global,
+    asked: &Asked<'_>,
+    after: &'p Policy,
+    place: usize,
+    found: Found<'p>,
+    principal: &Principal,
+    findings: &mut Findings<'p>,
+) -> Result<(), DiffFault>
+    requires somewhere { ¬ (found.binding.now.namespace ≡ Some []) }
+    requires alone { given_of principal.now ≡ [] }
+    ensures { OnOk result
+        (Finds (λ p. (p.principal ≡ principal.now)
+        × IsByGrants after.now place found.entry.binding.now.namespace p
+        × IsUncovered asked.now p)
+        found.entry findings.old findings.new) }
+{
+    let namespace = found.binding.namespace.as_ref();
+    let others = asked.rules_of(alloc, principal, namespace)?;
+    let search = Search {
+        found,
+        namespace,
+        principal,
+        others: others.as_slice(),
+    };
+    Ok(add_of_grants(alloc, &search, after, place, findings)?)
 }
 
 // A search for the permissions that a principal has by a binding, and that these rules of the other

@@ -1,17 +1,14 @@
-use Rattle.std.proofs.Common.{◌≡◌, ◌+◌, ◌++◌, ◌∷◌, [], List, Option, Some, take, arith, Bor, sym, ◌∙◌, subst}
+use Rattle.std.proofs.Common.{◌≡◌, ◌+◌, ◌++◌, ◌∷◌, [], List, Option, take, arith, sym, ◌∙◌, subst}
 use Rattle.std.specs.Option.{option_copied}
 use Rattle.std.proofs.lemmas.List.{take_all}
-use Rattle.rbac_terms.specs.Granting.{subject_principal}
 use Rattle.rbac_terms.specs.Text.{Text}
 use Rattle.rbac_terms.specs.declared.granting.Subject.{Subject}
-use Rattle.rbac_terms.specs.declared.matching.Rule.{Rule}
 use Rattle.rbac_model.proofs.Stairs.{take_read}
-use Rattle.rbac_diff.specs.StandIns.{AreRulesOf}
 use Rattle.rbac_diff.specs.Finding.{Finds, IsGainedAt}
-use Rattle.rbac_diff.proofs.Bindings.{IsBySubjects, subjects_none, subjects_nobody, subjects_more, gained_by_subjects, none_given}
+use Rattle.rbac_diff.proofs.Bindings.{IsByPrincipal, IsBySubjects, subjects_none, subjects_nobody, subjects_more, gained_by_subjects}
 use Rattle.rbac_diff.proofs.Searching.{finds_same}
 use Rattle.rbac_diff.proofs.finding.add_of_binding.Goals as goal
-use Rattle.rbac_diff.proofs.finding.add_of_binding.Goals.{in-Some+in_ok-others+in_ok-add_of_grants+in-Some-1, in-Some+in_ok-others+in_ok-add_of_grants+in-None-1, in_default}
+use Rattle.rbac_diff.proofs.finding.add_of_binding.Goals.{in-Some+in_ok-add_of_principal+in-Some-1, in-Some+in_ok-add_of_principal+in-None-1, in_default}
 
 pub loop-subject-init : goal.loop-subject-init
 loop-subject-init c = subjects_none c.args.asked.now c.args.after.now c.args.place (option_copied c.as_ref-namespace.result) c.args.found c.args.findings.now
@@ -28,12 +25,14 @@ loop-subject-preserved c =
     let x = c.args.found in
     let more : take (i + 1) items ≡ take i items ++ s ∷ [] = take_read items i s c.loop-subject-test.true c.subject-item.is in
     rw more (elim c.match-branch-2.branch [
-      | in-Some+in_ok-others+in_ok-add_of_grants+in-Some-1 w ↦ (let is : subject_principal own s ≡ Some w.in-Some.principal = sym c.in_ok-principal.ensures ∙ w.in-Some.is in
-          let rules : AreRulesOf before w.in-Some.principal own w.as_slice.result.now = subst (λ (rs : List (Bor Rule)). AreRulesOf before w.in-Some.principal own rs) (sym w.as_slice.ensures.value) (w.in_ok-others.ensures (none_given own s w.in-Some.principal is)) in
-          rw w.findings-is (subjects_more before after c.args.place own x s done w.in-Some.principal w.as_slice.result.now c.args.findings.now c.loop-subject.findings w.add_of_grants.new.findings is rules c.loop-subject.invariant w.in_ok-add_of_grants.ensures))
-      | in-Some+in_ok-others+in_ok-add_of_grants+in-None-1 w ↦ (let is : subject_principal own s ≡ Some w.in-Some.principal = sym c.in_ok-principal.ensures ∙ w.in-Some.is in
-          let rules : AreRulesOf before w.in-Some.principal own w.as_slice.result.now = subst (λ (rs : List (Bor Rule)). AreRulesOf before w.in-Some.principal own rs) (sym w.as_slice.ensures.value) (w.in_ok-others.ensures (none_given own s w.in-Some.principal is)) in
-          rw w.findings-is (subjects_more before after c.args.place own x s done w.in-Some.principal w.as_slice.result.now c.args.findings.now c.loop-subject.findings w.add_of_grants.new.findings is rules c.loop-subject.invariant w.in_ok-add_of_grants.ensures))
+      | in-Some+in_ok-add_of_principal+in-Some-1 w ↦ (let who = w.in-Some.principal in
+          let found : Finds (IsByPrincipal before after c.args.place own x who) x c.loop-subject.findings w.add_of_principal.new.findings =
+          subst (λ (o : Option Text). Finds (IsByPrincipal before after c.args.place o x who) x c.loop-subject.findings w.add_of_principal.new.findings) (sym c.as_ref-namespace.ensures.value) w.in_ok-add_of_principal.ensures in
+          rw w.findings-is (subjects_more before after c.args.place own x s done who c.args.findings.now c.loop-subject.findings w.add_of_principal.new.findings (sym c.in_ok-principal.ensures ∙ w.in-Some.is) c.loop-subject.invariant found))
+      | in-Some+in_ok-add_of_principal+in-None-1 w ↦ (let who = w.in-Some.principal in
+          let found : Finds (IsByPrincipal before after c.args.place own x who) x c.loop-subject.findings w.add_of_principal.new.findings =
+          subst (λ (o : Option Text). Finds (IsByPrincipal before after c.args.place o x who) x c.loop-subject.findings w.add_of_principal.new.findings) (sym c.as_ref-namespace.ensures.value) w.in_ok-add_of_principal.ensures in
+          rw w.findings-is (subjects_more before after c.args.place own x s done who c.args.findings.now c.loop-subject.findings w.add_of_principal.new.findings (sym c.in_ok-principal.ensures ∙ w.in-Some.is) c.loop-subject.invariant found))
       | in_default w ↦ (rw w.findings-is (subjects_nobody before after c.args.place own x s done c.args.findings.now c.loop-subject.findings (sym c.in_ok-principal.ensures ∙ w.in_default.is) c.loop-subject.invariant))
     ])
 
