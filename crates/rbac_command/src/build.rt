@@ -571,16 +571,9 @@ fn with_sub<'a>(command: Command<'a>, sub: Built<'a>) -> Built<'a>
     command.subcommand(sub?)
 }
 
-// Sets the program's name in usage texts, whatever the first word is.
-fn with_bin_name<'a>(command: Command<'a>, name: &str) -> Built<'a>
-    ensures { IfOk result (λ r. app_of r ≡ app_of command.entry) }
-{
-    command.bin_name(name)
-}
-
-// The program with no subcommands yet.
-fn bare<'a>(alloc: Global) -> Command<'a>
-    ensures { app_of result ≡ bare_app }
+// The program with no subcommands yet. Usage texts name it so, whatever the first word is.
+fn bare<'a>(alloc: Global) -> Built<'a>
+    ensures { IfOk result (λ r. app_of r ≡ bare_app) }
 {
     named(
         alloc,
@@ -591,6 +584,7 @@ fn bare<'a>(alloc: Global) -> Command<'a>
     .version(VERSION)
     .subcommand_required(true)
     .disable_help_subcommand(true)
+    .bin_name("rbacaudit")
 }
 
 /// The whole command line: `rbacaudit` with its subcommands.
@@ -598,7 +592,7 @@ fn bare<'a>(alloc: Global) -> Command<'a>
 pub(crate) fn program<'a>(alloc: Global) -> Result<Command<'a>, AllocError>
     ensures { IfOk result (λ r. app_of r ≡ rbac_app) }
 {
-    let command = with_bin_name(bare(alloc), "rbacaudit")?;
+    let command = bare(alloc)?;
     let command = with_sub(command, can_i(alloc))?;
     let command = with_sub(command, who_can(alloc))?;
     let command = with_sub(command, rules(alloc))?;

@@ -14,7 +14,7 @@ added (Err e) start before after part same built h = absurd h
 pub returns : goal.returns
 unfolding rbac_app
 returns c =
-    let first = added c.can_i.result bare_app _ _ can_i_app (c.in_ok-command.ensures ∙ c.bare.ensures) c.can_i.ensures.app c.in_ok-command-2.ensures.app in
+    let first = added c.can_i.result bare_app _ _ can_i_app c.in_ok-command.ensures c.can_i.ensures.app c.in_ok-command-2.ensures.app in
     let second = added c.who_can.result _ _ _ who_can_app first c.who_can.ensures.app c.in_ok-command-3.ensures.app in
     let third = added c.rules.result _ _ _ rules_app second c.rules.ensures.app c.in_ok-command-4.ensures.app in
     let fourth = added c.matrix.result _ _ _ matrix_app third c.matrix.ensures.app c.in_ok-command-5.ensures.app in
