@@ -587,15 +587,23 @@ fn bare<'a>(alloc: Global) -> Built<'a>
     .bin_name("rbacaudit")
 }
 
+// The program with the subcommands that ask what somebody may do.
+fn asking<'a>(alloc: Global) -> Built<'a>
+    ensures { IfOk result (λ r. app_of r ≡ with_subcommand (with_subcommand
+        (with_subcommand bare_app can_i_app.top) who_can_app.top) rules_app.top) }
+{
+    let command = bare(alloc)?;
+    let command = with_sub(command, can_i(alloc))?;
+    let command = with_sub(command, who_can(alloc))?;
+    with_sub(command, rules(alloc))
+}
+
 /// The whole command line: `rbacaudit` with its subcommands.
 #[tactic(auto, unfolding(crate::specs::App::rbac_app))]
 pub(crate) fn program<'a>(alloc: Global) -> Result<Command<'a>, AllocError>
     ensures { IfOk result (λ r. app_of r ≡ rbac_app) }
 {
-    let command = bare(alloc)?;
-    let command = with_sub(command, can_i(alloc))?;
-    let command = with_sub(command, who_can(alloc))?;
-    let command = with_sub(command, rules(alloc))?;
+    let command = asking(alloc)?;
     let command = with_sub(command, matrix(alloc))?;
     let command = with_sub(command, lint(alloc))?;
     with_sub(command, diff(alloc))
