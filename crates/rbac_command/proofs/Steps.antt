@@ -1,6 +1,6 @@
 -- What steps make of a command, each of which goes on where the one before it built something.
 use Rattle.std.proofs.Common.{◌≡◌, ◌∙◌, ap, subst, Result, Ok, Err, IfOk, IsOkAnd}
-use Rattle.clap.specs.Words.{App, Rule, app_of, with_rule}
+use Rattle.clap.specs.Words.{App, Rule, app_of, with_rule, with_subcommand}
 use Rattle.clap.specs.declared.builder.command.Command.{Command}
 
 -- what is built in the end is the change of what was built at first
@@ -34,3 +34,9 @@ from (Ok m) (Ok r) f start h k = k ∙ ap f h
 pub rule_from : {E : Type 0} (mid last : Result Command E) (start : App) (r s : Rule) → IfOk mid (λ m. app_of m ≡ start) → r ≡ s
     → Makes mid last (λ a. with_rule a r) → IfOk last (λ x. app_of x ≡ with_rule start s)
 rule_from mid last start r s h same k = from mid last (λ a. with_rule a s) start h (rule mid last r s same k)
+
+-- a subcommand was added to `before`, to which `start` is equal, and so to `start`
+pub added : {E : Type 0} (sub : Result Command E) (start before after part : App) → before ≡ start → IfOk sub (λ s. app_of s ≡ part)
+    → IsOkAnd sub (λ s. after ≡ with_subcommand before (app_of s).top) → after ≡ with_subcommand start part.top
+added (Ok s) start before after part same built h = h ∙ ap (λ (a : App). with_subcommand before a.top) built ∙ ap (λ (a : App). with_subcommand a part.top) same
+added (Err e) start before after part same built h = absurd h

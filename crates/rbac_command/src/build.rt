@@ -1,7 +1,9 @@
 //! The command line, built anew for each parse.
 
-ghost use Rattle.std.specs.Prelude.{◌≡◌, IfOk, IsOkAnd, false};
-ghost use Rattle.clap.specs.Words.{app_of, new_app, rule_of, with_rule, with_subcommand};
+ghost use Rattle.std.specs.Prelude.{◌≡◌, IfOk, IsOkAnd, Some, false, true};
+ghost use Rattle.clap.specs.Words.{app_of, new_app, new_rule, rule_of, with_rule};
+ghost use Rattle.clap.specs.Words.{with_subcommand};
+ghost use Rattle.clap.specs.declared.builder.ArgAction.TheVariants.{SetTrue};
 ghost use Rattle.clap.specs.declared.builder.command.Command.TheViews.{out-Command as fields_of};
 ghost use Rattle.rbac_command.specs.App.{every_rule, after_rule, limit_rule, user_rule};
 ghost use Rattle.rbac_command.specs.App.{groups_rule, namespace_rule, all_rule, subresource_rule};
@@ -10,6 +12,7 @@ ghost use Rattle.rbac_command.specs.App.{group_rule, in_namespace_rule, anywhere
 ghost use Rattle.rbac_command.specs.App.{with_scope, with_question, can_i_app, who_can_app};
 ghost use Rattle.rbac_command.specs.App.{rules_app, matrix_app, lint_app, bare_app, rbac_app};
 ghost use Rattle.rbac_command.specs.App.{who_rule, before_files_rule, after_files_rule, diff_app};
+ghost use Rattle.rbac_command.specs.App.{some_files};
 
 use clap::{Arg, ArgAction, Command, value_parser};
 use std::alloc::{AllocError, Global};
@@ -146,47 +149,104 @@ const RULES_NAMESPACE: &str =
 const RULES_ALL: &str =
     "Only what holds in all namespaces at once: ClusterRoleBindings; overrides -n";
 
+// A flag, named by its long form.
+fn flag<'a>(alloc: Global, name: &'a str, help: &'a str) -> Arg<'a>
+    ensures rule { rule_of result ≡ record (new_rule name.entry.now) {
+      long = Some name.entry.now;
+      action = Some SetTrue;
+    } }
+    ensures local { result.global ≡ false }
+{
+    Arg::new(alloc, name)
+        .long(name)
+        .action(ArgAction::SetTrue)
+        .help(help)
+}
+
+// An option with a value, named by its long form.
+fn option<'a>(alloc: Global, name: &'a str, value: &'a str, help: &'a str) -> Arg<'a>
+    ensures rule { rule_of result ≡ record (new_rule name.entry.now) {
+      long = Some name.entry.now;
+      value_names = 1;
+    } }
+    ensures local { result.global ≡ false }
+{
+    Arg::new(alloc, name)
+        .long(name)
+        .value_name(value)
+        .help(help)
+}
+
+// A word that must be given.
+fn word<'a>(alloc: Global, name: &'a str, value: &'a str, help: &'a str) -> Arg<'a>
+    ensures rule { rule_of result ≡ record (new_rule name.entry.now) {
+      value_names = 1;
+      required = true;
+    } }
+    ensures local { result.global ≡ false }
+{
+    Arg::new(alloc, name)
+        .value_name(value)
+        .required(true)
+        .help(help)
+}
+
+// An option with one file or more that must be given, named by its long form.
+fn files_option<'a>(alloc: Global, name: &'a str, help: &'a str) -> Arg<'a>
+    ensures rule { rule_of result ≡ some_files (record (new_rule name.entry.now) {
+      long = Some name.entry.now;
+    }) }
+    ensures local { result.global ≡ false }
+{
+    option(alloc, name, "FILE", help)
+        .required(true)
+        .num_args(1..)
+        .action(ArgAction::Append)
+}
+
 fn user_arg<'a>(alloc: Global) -> Arg<'a>
     ensures rule { rule_of result ≡ user_rule }
     ensures local { result.global ≡ false }
 {
-    Arg::new(alloc, "as")
-        .long("as")
-        .value_name("USER")
-        .required(true)
-        .help("User to check, e.g. alice or system:serviceaccount:dev:ci")
+    option(
+        alloc,
+        "as",
+        "USER",
+        "User to check, e.g. alice or system:serviceaccount:dev:ci",
+    )
+    .required(true)
 }
 
 fn groups_arg<'a>(alloc: Global) -> Arg<'a>
     ensures rule { rule_of result ≡ groups_rule }
     ensures local { result.global ≡ false }
 {
-    Arg::new(alloc, "groups")
-        .long("groups")
-        .value_name("A,B")
-        .help("Groups of the user beside the implied ones, e.g. dev,ops (default: none)")
+    option(
+        alloc,
+        "groups",
+        "A,B",
+        "Groups of the user beside the implied ones, e.g. dev,ops (default: none)",
+    )
 }
 
 fn group_arg<'a>(alloc: Global) -> Arg<'a>
     ensures rule { rule_of result ≡ group_rule }
     ensures local { result.global ≡ false }
 {
-    Arg::new(alloc, "group")
-        .long("group")
-        .value_name("G")
-        .action(ArgAction::Append)
-        .help("One more group, whole, commas and all; may be repeated (default: none)")
+    option(
+        alloc,
+        "group",
+        "G",
+        "One more group, whole, commas and all; may be repeated (default: none)",
+    )
+    .action(ArgAction::Append)
 }
 
 fn namespace_arg<'a>(alloc: Global, help: &'a str) -> Arg<'a>
     ensures rule { rule_of result ≡ namespace_rule }
     ensures local { result.global ≡ false }
 {
-    Arg::new(alloc, "namespace")
-        .short('n')
-        .long("namespace")
-        .value_name("NS")
-        .help(help)
+    option(alloc, "namespace", "NS", help).short('n')
 }
 
 fn all_arg<'a>(alloc: Global, help: &'a str) -> Arg<'a>
@@ -204,60 +264,63 @@ fn in_namespace_arg<'a>(alloc: Global) -> Arg<'a>
     ensures rule { rule_of result ≡ in_namespace_rule }
     ensures local { result.global ≡ false }
 {
-    Arg::new(alloc, "in-namespace")
-        .long("in-namespace")
-        .action(ArgAction::SetTrue)
-        .help(
-            "Ask in the namespace also about a cluster-scoped type, as servers do for a Namespace",
-        )
+    flag(
+        alloc,
+        "in-namespace",
+        "Ask in the namespace also about a cluster-scoped type, as servers do for a Namespace",
+    )
 }
 
 fn anywhere_arg<'a>(alloc: Global) -> Arg<'a>
     ensures rule { rule_of result ≡ anywhere_rule }
     ensures local { result.global ≡ false }
 {
-    Arg::new(alloc, "anywhere")
-        .long("anywhere")
-        .action(ArgAction::SetTrue)
-        .help("Count the bindings of all namespaces, not only of -n; -A overrides this")
+    flag(
+        alloc,
+        "anywhere",
+        "Count the bindings of all namespaces, not only of -n; -A overrides this",
+    )
 }
 
 fn subresource_arg<'a>(alloc: Global) -> Arg<'a>
     ensures rule { rule_of result ≡ subresource_rule }
     ensures local { result.global ≡ false }
 {
-    Arg::new(alloc, "subresource")
-        .long("subresource")
-        .value_name("S")
-        .help("Subresource to check, e.g. log for the logs of pods (default: none); a URL has none")
+    option(
+        alloc,
+        "subresource",
+        "S",
+        "Subresource to check, e.g. log for the logs of pods (default: none); a URL has none",
+    )
 }
 
 fn quiet_arg<'a>(alloc: Global) -> Arg<'a>
     ensures rule { rule_of result ≡ quiet_rule }
     ensures local { result.global ≡ false }
 {
-    Arg::new(alloc, "quiet")
-        .short('q')
-        .long("quiet")
-        .action(ArgAction::SetTrue)
-        .help("Print nothing: the exit status is the answer")
+    flag(
+        alloc,
+        "quiet",
+        "Print nothing: the exit status is the answer",
+    )
+    .short('q')
 }
 
 fn why_arg<'a>(alloc: Global, help: &'a str) -> Arg<'a>
     ensures rule { rule_of result ≡ why_rule }
     ensures local { result.global ≡ false }
 {
-    Arg::new(alloc, "why")
-        .long("why")
-        .action(ArgAction::SetTrue)
-        .help(help)
+    flag(alloc, "why", help)
 }
 
 fn who_arg<'a>(alloc: Global) -> Arg<'a>
     ensures rule { rule_of result ≡ who_rule }
     ensures local { result.global ≡ false }
 {
-    Arg::new(alloc, "who").value_name("WHO").required(true).help(
+    word(
+        alloc,
+        "who",
+        "WHO",
         "u:USER or g:GROUP, e.g. u:alice, u:system:serviceaccount:dev:ci or g:dev",
     )
 }
@@ -266,51 +329,56 @@ fn verb_arg<'a>(alloc: Global) -> Arg<'a>
     ensures rule { rule_of result ≡ verb_rule }
     ensures local { result.global ≡ false }
 {
-    Arg::new(alloc, "verb")
-        .value_name("VERB")
-        .required(true)
-        .help("Verb to check, e.g. get, list or delete")
+    word(
+        alloc,
+        "verb",
+        "VERB",
+        "Verb to check, e.g. get, list or delete",
+    )
 }
 
 fn target_arg<'a>(alloc: Global) -> Arg<'a>
     ensures rule { rule_of result ≡ target_rule }
     ensures local { result.global ≡ false }
 {
-    Arg::new(alloc, "target")
-        .value_name("TARGET")
-        .required(true)
-        .help("TYPE, TYPE/NAME or a URL path, e.g. pods, deployments.apps/web or /healthz")
+    word(
+        alloc,
+        "target",
+        "TARGET",
+        "TYPE, TYPE/NAME or a URL path, e.g. pods, deployments.apps/web or /healthz",
+    )
 }
 
 fn every_arg<'a>(alloc: Global, help: &'a str) -> Arg<'a>
     ensures rule { rule_of result ≡ every_rule }
     ensures local { result.global ≡ false }
 {
-    Arg::new(alloc, "every")
-        .long("every")
-        .action(ArgAction::SetTrue)
-        .help(help)
+    flag(alloc, "every", help)
 }
 
 fn after_arg<'a>(alloc: Global) -> Arg<'a>
     ensures rule { rule_of result ≡ after_rule }
     ensures local { result.global ≡ false }
 {
-    Arg::new(alloc, "after")
-        .long("after")
-        .value_name("TOKEN")
-        .help("List only the rows after this TOKEN of a next line (default: from the first)")
+    option(
+        alloc,
+        "after",
+        "TOKEN",
+        "List only the rows after this TOKEN of a next line (default: from the first)",
+    )
 }
 
 fn limit_arg<'a>(alloc: Global) -> Arg<'a>
     ensures rule { rule_of result ≡ limit_rule }
     ensures local { result.global ≡ false }
 {
-    Arg::new(alloc, "limit")
-        .long("limit")
-        .value_name("N")
-        .value_parser(value_parser!(u32).range(1..=1_000_000))
-        .help("List at most N rows, 1 to 1000000 (default: all)")
+    option(
+        alloc,
+        "limit",
+        "N",
+        "List at most N rows, 1 to 1000000 (default: all)",
+    )
+    .value_parser(value_parser!(u32).range(1..=1_000_000))
 }
 
 fn files_arg<'a>(alloc: Global) -> Arg<'a>
@@ -327,26 +395,22 @@ fn before_files_arg<'a>(alloc: Global) -> Arg<'a>
     ensures rule { rule_of result ≡ before_files_rule }
     ensures local { result.global ≡ false }
 {
-    Arg::new(alloc, "before")
-        .long("before")
-        .value_name("FILE")
-        .required(true)
-        .num_args(1..)
-        .action(ArgAction::Append)
-        .help("JSON of kubectl get -o json or --raw as it was before the change, one file or more")
+    files_option(
+        alloc,
+        "before",
+        "JSON of kubectl get -o json or --raw as it was before the change, one file or more",
+    )
 }
 
 fn after_files_arg<'a>(alloc: Global) -> Arg<'a>
     ensures rule { rule_of result ≡ after_files_rule }
     ensures local { result.global ≡ false }
 {
-    Arg::new(alloc, "after")
-        .long("after")
-        .value_name("FILE")
-        .required(true)
-        .num_args(1..)
-        .action(ArgAction::Append)
-        .help("JSON of kubectl get -o json or --raw as it is after the change, one file or more")
+    files_option(
+        alloc,
+        "after",
+        "JSON of kubectl get -o json or --raw as it is after the change, one file or more",
+    )
 }
 
 // A command, if there was the memory to build it.
@@ -507,16 +571,9 @@ fn with_sub<'a>(command: Command<'a>, sub: Built<'a>) -> Built<'a>
     command.subcommand(sub?)
 }
 
-// Sets the program's name in usage texts, whatever the first word is.
-fn with_bin_name<'a>(command: Command<'a>, name: &str) -> Built<'a>
-    ensures { IfOk result (λ r. app_of r ≡ app_of command.entry) }
-{
-    command.bin_name(name)
-}
-
-// The program with no subcommands yet.
-fn bare<'a>(alloc: Global) -> Command<'a>
-    ensures { app_of result ≡ bare_app }
+// The program with no subcommands yet. Usage texts name it so, whatever the first word is.
+fn bare<'a>(alloc: Global) -> Built<'a>
+    ensures { IfOk result (λ r. app_of r ≡ bare_app) }
 {
     named(
         alloc,
@@ -527,6 +584,18 @@ fn bare<'a>(alloc: Global) -> Command<'a>
     .version(VERSION)
     .subcommand_required(true)
     .disable_help_subcommand(true)
+    .bin_name("rbacaudit")
+}
+
+// The program with the subcommands that ask what somebody may do.
+fn asking<'a>(alloc: Global) -> Built<'a>
+    ensures { IfOk result (λ r. app_of r ≡ with_subcommand (with_subcommand
+        (with_subcommand bare_app can_i_app.top) who_can_app.top) rules_app.top) }
+{
+    let command = bare(alloc)?;
+    let command = with_sub(command, can_i(alloc))?;
+    let command = with_sub(command, who_can(alloc))?;
+    with_sub(command, rules(alloc))
 }
 
 /// The whole command line: `rbacaudit` with its subcommands.
@@ -534,10 +603,7 @@ fn bare<'a>(alloc: Global) -> Command<'a>
 pub(crate) fn program<'a>(alloc: Global) -> Result<Command<'a>, AllocError>
     ensures { IfOk result (λ r. app_of r ≡ rbac_app) }
 {
-    let command = with_bin_name(bare(alloc), "rbacaudit")?;
-    let command = with_sub(command, can_i(alloc))?;
-    let command = with_sub(command, who_can(alloc))?;
-    let command = with_sub(command, rules(alloc))?;
+    let command = asking(alloc)?;
     let command = with_sub(command, matrix(alloc))?;
     let command = with_sub(command, lint(alloc))?;
     with_sub(command, diff(alloc))

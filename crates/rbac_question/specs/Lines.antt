@@ -148,14 +148,6 @@ MeansMatrix l (Matrix every after limit) =
     (every ≡ l.every) × IsAfter l.after after × (limit ≡ l.limit)
 MeansMatrix l action = ⊥
 
--- which refusal USER leads to
-abbrev pub RefusesUser : Text → QuestionFault → Type 0
-RefusesUser user EmptyWord = user ≡ []
-RefusesUser user UrlSubresource = ⊥
-RefusesUser user BadToken = ⊥
-RefusesUser user BadPrincipal = ⊥
-RefusesUser user NoMemory = Unit {0}
-
 -- U2 of a question: VERB or TARGET is empty, or the type word has nothing before its dot (own)
 abbrev pub LacksWord : QuestionParts → Type 0
 LacksWord l = (l.verb ≡ []) ⊎ LacksType l.target

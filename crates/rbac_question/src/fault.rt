@@ -64,13 +64,14 @@ impl fmt::Display for QuestionFault {
     ghost output = { λ fault. Some (fault_text fault) };
 
     fn fmt<W: fmt::Write>(&self, f: &mut fmt::Formatter<W>) -> fmt::Result {
-        match self {
-            QuestionFault::EmptyWord => write!(f, "U2 empty word"),
-            QuestionFault::UrlSubresource => write!(f, "U3 subresource with a URL"),
-            QuestionFault::BadToken => write!(f, "U4 bad token"),
-            QuestionFault::BadPrincipal => write!(f, "U5 bad principal"),
-            QuestionFault::NoMemory => write!(f, "out of memory"),
-        }
+        let text = match self {
+            QuestionFault::EmptyWord => "U2 empty word",
+            QuestionFault::UrlSubresource => "U3 subresource with a URL",
+            QuestionFault::BadToken => "U4 bad token",
+            QuestionFault::BadPrincipal => "U5 bad principal",
+            QuestionFault::NoMemory => "out of memory",
+        };
+        f.write_str(text)
     }
 }
 

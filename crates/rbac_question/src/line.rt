@@ -10,7 +10,7 @@ ghost use Rattle.rbac_question.specs.Lines.{namespace_meant};
 ghost use Rattle.rbac_question.specs.Lines.{IsQuestion, MeansCanI};
 ghost use Rattle.rbac_question.specs.Lines.{MeansWhoCan, MeansMatrix, LacksWord, AcceptsQuestion};
 ghost use Rattle.rbac_question.specs.Lines.{RefusesQuestion, AcceptsCanI, RefusesCanI};
-ghost use Rattle.rbac_question.specs.Lines.{RefusesMatrix, RefusesUser, HasBadToken, MeansRules};
+ghost use Rattle.rbac_question.specs.Lines.{RefusesMatrix, HasBadToken, MeansRules};
 ghost use Rattle.rbac_question.specs.Lines.{RefusesRules, HasBadPrincipal, NamesPrincipal};
 ghost use Rattle.rbac_question.specs.Lines.{scope_meant};
 
@@ -237,19 +237,28 @@ fn principal_from(
     groups: &str,
     whole_groups: Option<&[&str]>,
 ) -> Result<Principal, QuestionFault>
+    requires { user.now ≢ [] }
     ensures { MatchResult result
-        (λ principal. (principal ≡ AsUser user.now (groups_given groups.now
+        (λ principal. principal ≡ AsUser user.now (groups_given groups.now
         (names_in (option_map (λ names. map (λ n. n.now) names.now) whole_groups.entry))))
-        × (user.now ≢ []))
-        (RefusesUser user.now) }
+        (λ e. e ≡ QuestionFault.NoMemory) }
 {
     let name = Word::from_slice(alloc, user)?;
     let given = groups_from(alloc, groups, whole_groups)?;
-    match Principal::user(alloc, &name, &given) {
+    user_from(alloc, &name, &given)
+}
+
+// A user with these groups.
+fn user_from(alloc: Global, name: &Word, groups: &Words) -> Result<Principal, QuestionFault>
+    requires { name.now ≢ [] }
+    ensures { MatchResult result
+        (λ principal. principal ≡ AsUser name.now groups.now)
+        (λ e. e ≡ QuestionFault.NoMemory) }
+{
+    match Principal::user(alloc, name, groups) {
         Ok(principal) => Ok(principal),
-        Err(ModelFault::EmptyName) => Err(QuestionFault::EmptyWord),
         Err(ModelFault::NoMemory) => Err(QuestionFault::NoMemory),
-        Err(ModelFault::BadTarget) => unreachable!(),
+        Err(ModelFault::EmptyName | ModelFault::BadTarget) => unreachable!(),
     }
 }
 
@@ -386,6 +395,22 @@ fn question_of(alloc: Global, line: &QuestionLine<'_>) -> Result<Question, Alloc
     })
 }
 
+// What a `can-i` line means that isn't refused.
+fn can_i_from(alloc: Global, line: &CanILine<'_, '_>) -> Result<Action, QuestionFault>
+    requires { AcceptsCanI line.now }
+    ensures { MatchResult result (MeansCanI line.now) (λ e. e ≡ QuestionFault.NoMemory) }
+{
+    let user = line.user.as_bytes();
+    let principal = principal_from(alloc, user, line.groups, line.whole_groups)?;
+    let question = question_of(alloc, &line.question)?;
+    Ok(Action::CanI {
+        principal,
+        quiet: line.quiet,
+        why: line.why,
+        question,
+    })
+}
+
 impl Action {
     /// What a `can-i` line means.
     ///
@@ -401,15 +426,7 @@ impl Action {
             → result ≡ Err QuestionFault.UrlSubresource }
     {
         check_can_i(line)?;
-        let user = line.user.as_bytes();
-        let principal = principal_from(alloc, user, line.groups, line.whole_groups)?;
-        let question = question_of(alloc, &line.question)?;
-        Ok(Action::CanI {
-            principal,
-            quiet: line.quiet,
-            why: line.why,
-            question,
-        })
+        can_i_from(alloc, line)
     }
 
     /// What a `who-can` line means.
