@@ -43,12 +43,9 @@ pub fn lists_of(
         lists ≡ lists_meant objects.now catalogue.now namespaces.now accounts.now documents.now) }
 {
     let given = last_lists(documents);
-    let principals = given_or(given.principals, || principals_of(alloc, objects, accounts))?;
-    let namespaces = given_or(
-        given.namespaces,
-        || namespaces_of(alloc, objects, namespaces, accounts),
-    )?;
-    let resources = given_or(given.resources, || resources_of(alloc, objects, catalogue))?;
+    let principals = principals_meant(alloc, given.principals, objects, accounts)?;
+    let namespaces = namespaces_meant(alloc, given.namespaces, objects, namespaces, accounts)?;
+    let resources = resources_meant(alloc, given.resources, objects, catalogue)?;
     let (verbs, names, urls) = words_of(alloc, objects, catalogue, given)?;
     Ok(UniverseLists {
         principals,
@@ -75,9 +72,9 @@ fn words_of(
     ensures urls { IfOk result
         (λ lists. lists.2 ≡ unwrap_or (option_copied given.entry.urls) (urls_of objects.now)) }
 {
-    let verbs = given_or(given.verbs, || verbs_of(alloc, objects, catalogue))?;
-    let names = given_or(given.names, || names_of(alloc, objects))?;
-    let urls = given_or(given.urls, || urls_of(alloc, objects))?;
+    let verbs = verbs_meant(alloc, given.verbs, objects, catalogue)?;
+    let names = names_meant(alloc, given.names, objects)?;
+    let urls = urls_meant(alloc, given.urls, objects)?;
     Ok((verbs, names, urls))
 }
 
@@ -133,42 +130,89 @@ fn over<'a>(document: &'a GivenLists, earlier: LastLists<'a>) -> LastLists<'a>
     }
 }
 
-// A list that can be copied as it is. For a list of unknown type, the contract of a derived clone
-// says too little.
-trait Copied: Drop {
-    fn copied(&self) -> Result<Self, AllocError>
-        ensures { IfOk result (λ copy. copy ≡ self.now) };
-}
-
-impl Copied for Words {
-    fn copied(&self) -> Result<Words, AllocError> {
-        self.clone()
-    }
-}
-
-impl Copied for Principals {
-    fn copied(&self) -> Result<Principals, AllocError> {
-        self.clone()
-    }
-}
-
-impl Copied for ListedResources {
-    fn copied(&self) -> Result<ListedResources, AllocError> {
-        self.clone()
-    }
-}
-
-// The list that is given, even if it is empty, otherwise the derived one.
-fn given_or<T: Copied, F: FnOnce() -> Result<T, AllocError>>(
-    given: Option<&T>,
-    derive: F,
-) -> Result<T, AllocError>
-    requires { F.IsAlwaysCallable derive }
-    ensures { (derived : T) → ((made : _) → F.post derive made → IfOk made (λ list. list ≡ derived))
-        → IfOk result (λ list. list ≡ unwrap_or (option_copied given.entry) derived) }
+// The principals that are given, even if there are none, otherwise the derived ones. So for each
+// list.
+fn principals_meant(
+    alloc: Global,
+    given: Option<&Principals>,
+    objects: &Objects,
+    accounts: &[Account],
+) -> Result<Principals, AllocError>
+    ensures { IfOk result
+        (λ list. list
+        ≡ unwrap_or (option_copied given.entry) (principals_of objects.now accounts.now)) }
 {
     match given {
-        Some(list) => list.copied(),
-        None => derive(),
+        Some(principals) => principals.clone(),
+        None => principals_of(alloc, objects, accounts),
+    }
+}
+
+fn namespaces_meant(
+    alloc: Global,
+    given: Option<&Words>,
+    objects: &Objects,
+    names: &[Word],
+    accounts: &[Account],
+) -> Result<Words, AllocError>
+    ensures { IfOk result
+        (λ list. list ≡ unwrap_or (option_copied given.entry)
+        (namespaces_of objects.now names.now accounts.now)) }
+{
+    match given {
+        Some(namespaces) => namespaces.clone(),
+        None => namespaces_of(alloc, objects, names, accounts),
+    }
+}
+
+fn resources_meant(
+    alloc: Global,
+    given: Option<&ListedResources>,
+    objects: &Objects,
+    catalogue: &Catalogue,
+) -> Result<ListedResources, AllocError>
+    ensures { IfOk result
+        (λ list. list
+        ≡ unwrap_or (option_copied given.entry) (resources_of objects.now catalogue.now)) }
+{
+    match given {
+        Some(resources) => resources.clone(),
+        None => resources_of(alloc, objects, catalogue),
+    }
+}
+
+fn verbs_meant(
+    alloc: Global,
+    given: Option<&Words>,
+    objects: &Objects,
+    catalogue: &Catalogue,
+) -> Result<Words, AllocError>
+    ensures { IfOk result
+        (λ list. list
+        ≡ unwrap_or (option_copied given.entry) (verbs_of objects.now catalogue.now)) }
+{
+    match given {
+        Some(verbs) => verbs.clone(),
+        None => verbs_of(alloc, objects, catalogue),
+    }
+}
+
+fn names_meant(alloc: Global, given: Option<&Words>, objects: &Objects) -> Result<Words, AllocError>
+    ensures { IfOk result
+        (λ list. list ≡ unwrap_or (option_copied given.entry) (names_of objects.now)) }
+{
+    match given {
+        Some(names) => names.clone(),
+        None => names_of(alloc, objects),
+    }
+}
+
+fn urls_meant(alloc: Global, given: Option<&Words>, objects: &Objects) -> Result<Words, AllocError>
+    ensures { IfOk result
+        (λ list. list ≡ unwrap_or (option_copied given.entry) (urls_of objects.now)) }
+{
+    match given {
+        Some(urls) => urls.clone(),
+        None => urls_of(alloc, objects),
     }
 }

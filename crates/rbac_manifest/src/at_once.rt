@@ -145,7 +145,21 @@ pub(crate) fn list_at_once(alloc: Global, text: &str, contents: &mut Contents) -
         then with_contents contents.old (contents_of_value (read text.now)) else contents.old)) }
 {
     let mut scratch = Scratch::new(alloc);
-    match open_front(alloc, text, &mut scratch)? {
+    list_with(alloc, text, &mut scratch, contents)
+}
+
+// Adds what a text gives to `contents`, if it is such an object, read with this scratch memory.
+fn list_with(
+    alloc: Global,
+    text: &str,
+    scratch: &mut Scratch,
+    contents: &mut Contents,
+) -> Result<bool, Halt>
+    ensures sound { IfOk result (λ is_list. IsTrue is_list → refusal_of (read text.now) ≡ None) }
+    ensures contents { IfOk result (λ is_list. contents.new ≡ (if is_list
+        then with_contents contents.old (contents_of_value (read text.now)) else contents.old)) }
+{
+    match open_front(alloc, text, scratch)? {
         Some(front) => {
             front_at_once(alloc, front, contents)?;
             Ok(true)

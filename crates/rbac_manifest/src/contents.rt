@@ -1,6 +1,6 @@
 //! What documents gave so far, grouped by its use.
 
-ghost use Rattle.std.specs.Prelude.{◌≡◌, OnOk, []};
+ghost use Rattle.std.specs.Prelude.{◌≡◌, ◌++◌, ◌∷◌, OnOk, []};
 ghost use Rattle.std.specs.Option.{option_to_list};
 ghost use Rattle.rbac_manifest.specs.Contents.{sorted_contents, with_contents};
 
@@ -36,6 +36,14 @@ impl Model for Contents {
     } };
 }
 
+// Adds an item at the end.
+fn put<T: Drop>(list: &mut Vec<T>, item: T) -> Result<(), AllocError>
+    ensures { OnOk result (list.new.items ≡ list.old.items ++ item ∷ []) }
+{
+    list.push(item)?;
+    Ok(())
+}
+
 impl Contents {
     // Nothing yet. Doesn't allocate.
     #[tactic(auto, unfolding(crate::specs::Contents::sorted_contents))]
@@ -57,13 +65,12 @@ impl Contents {
         ensures { OnOk result (self.new ≡ with_contents self.old (option_to_list content)) }
     {
         match content {
-            Some(Content::Object(object)) => self.objects.push(object)?,
-            Some(Content::Namespace(name)) => self.namespaces.push(name)?,
-            Some(Content::Account(account)) => self.accounts.push(account)?,
-            Some(Content::ApiList(entries)) => self.catalogue.give(entries)?,
-            Some(Content::Lists(lists)) => self.documents.push(lists)?,
-            None => {}
+            Some(Content::Object(object)) => put(&mut self.objects, object),
+            Some(Content::Namespace(name)) => put(&mut self.namespaces, name),
+            Some(Content::Account(account)) => put(&mut self.accounts, account),
+            Some(Content::ApiList(entries)) => self.catalogue.give(entries),
+            Some(Content::Lists(lists)) => put(&mut self.documents, lists),
+            None => Ok(()),
         }
-        Ok(())
     }
 }

@@ -237,10 +237,9 @@ impl fmt::Display for At {
     ghost output = { λ at. Some (at_text at) };
 
     fn fmt<W: fmt::Write>(&self, f: &mut fmt::Formatter<W>) -> fmt::Result {
-        write!(f, "file {}", from_one(self.file))?;
         match self.item {
-            Some(item) => write!(f, " item {}", from_one(item)),
-            None => Ok(()),
+            Some(item) => write!(f, "file {} item {}", from_one(self.file), from_one(item)),
+            None => write!(f, "file {}", from_one(self.file)),
         }
     }
 }
@@ -305,10 +304,10 @@ impl fmt::Display for LoadFault {
     ghost output = { λ fault. Some (fault_text fault) };
 
     fn fmt<W: fmt::Write>(&self, f: &mut fmt::Formatter<W>) -> fmt::Result {
-        if let Some(at) = self.at {
-            write!(f, "{at}: ")?;
+        match self.at {
+            Some(at) => write!(f, "{at}: {}", self.cause),
+            None => write!(f, "{}", self.cause),
         }
-        write!(f, "{}", self.cause)
     }
 }
 

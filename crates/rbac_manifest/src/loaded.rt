@@ -54,7 +54,7 @@ impl Loaded {
     pub fn objects(&self) -> &Objects
         ensures { result.now ≡ self.now.policy.held }
     {
-        self.export.objects()
+        self.policy().objects()
     }
 
     /// The catalogue of all API resource lists (own). Doesn't allocate.

@@ -71,14 +71,6 @@ impl Export {
         &self.policy
     }
 
-    /// The objects that are kept: for each kind, namespace and name the last one given. Doesn't
-    /// allocate.
-    pub fn objects(&self) -> &Objects
-        ensures { result.now ≡ self.now.policy.held }
-    {
-        self.policy.objects()
-    }
-
     /// The catalogue of all API resource lists (own). Doesn't allocate.
     pub fn catalogue(&self) -> &Catalogue
         ensures { result.now ≡ self.now.catalogue }
@@ -107,7 +99,7 @@ impl Export {
     {
         lists_of(
             alloc,
-            self.objects(),
+            self.policy().objects(),
             self.catalogue(),
             self.namespaces.as_slice(),
             self.accounts.as_slice(),

@@ -1,6 +1,6 @@
 //! What of a document is read.
 
-ghost use Rattle.std.specs.Prelude.{◌≡◌};
+ghost use Rattle.std.specs.Prelude.{◌≡◌, map};
 ghost use Rattle.rbac_manifest.specs.Part.{is_among, object_names, list_names, metadata_names};
 ghost use Rattle.rbac_manifest.specs.Part.{read_under};
 
@@ -17,36 +17,61 @@ pub(crate) enum Part {
     Whole,
 }
 
+// The members of roles and bindings that say something, beside the metadata.
+const OBJECT_NAMES: &[&str] = &[
+    "kind",
+    "apiVersion",
+    "roleRef",
+    "subjects",
+    "rules",
+    "aggregationRule",
+];
+
+// The members of API resource lists and Universe documents that say something, beside the kind.
+const LIST_NAMES: &[&str] = &[
+    "groupVersion",
+    "resources",
+    "principals",
+    "namespaces",
+    "verbs",
+    "names",
+    "urls",
+];
+
+// The members of metadata that are read.
+const METADATA_NAMES: &[&str] = &["name", "namespace", "labels"];
+
+// Whether a name is one of these.
+fn is_among(names: &[&str], name: &str) -> bool
+    ensures { result ≡ is_among (map (λ known. known.now) names.now) name.now }
+{
+    for known in names {
+        if name == *known {
+            return true;
+        }
+    }
+    false
+}
+
 // Whether a member of a role or a binding says something.
 fn is_of_object(name: &str) -> bool
     ensures { result ≡ is_among object_names name.now }
 {
-    name == "kind"
-        || name == "apiVersion"
-        || name == "roleRef"
-        || name == "subjects"
-        || name == "rules"
-        || name == "aggregationRule"
+    is_among(OBJECT_NAMES, name)
 }
 
 // Whether a member of an API resource list or a Universe document says something.
 fn is_of_list(name: &str) -> bool
     ensures { result ≡ is_among list_names name.now }
 {
-    name == "groupVersion"
-        || name == "resources"
-        || name == "principals"
-        || name == "namespaces"
-        || name == "verbs"
-        || name == "names"
-        || name == "urls"
+    is_among(LIST_NAMES, name)
 }
 
 // Whether a member of metadata is read.
 fn is_of_metadata(name: &str) -> bool
     ensures { result ≡ is_among metadata_names name.now }
 {
-    name == "name" || name == "namespace" || name == "labels"
+    is_among(METADATA_NAMES, name)
 }
 
 impl Kept for Part {
