@@ -1,5 +1,6 @@
 -- What is kept of members that are put in one after another.
 use Rattle.std.proofs.Common.{◌≡◌, ℕ, List, [], ◌∷◌, map, Ordering, Less, Equal, Greater, nat_cmp, is_eq, Option, Some, None, option_map, refl, sym, ap, ap₂, ◌∙◌}
+use Rattle.std.specs.Prelude.{MatchOption}
 use Rattle.std.proofs.lemmas.Cmp.{nat_list_cmp_total}
 use Rattle.std.proofs.lemmas.Map.Text.{is_eq-slice_cmp}
 use Rattle.std.proofs.lemmas.Slice.Eq.{bytes_eq-Decides}
@@ -9,6 +10,7 @@ use Rattle.serde_json.specs.Data.{Data, null, boolean, number, string, array, ob
 use Rattle.serde_json.specs.Find.{get_member}
 use Rattle.serde_json.specs.View.{items_of}
 use Rattle.json_list.specs.Lean.{with_member, lean, lean_items, lean_members}
+use Rattle.json_list.specs.Places.{IsPutIn}
 
 abbrev cmp : List ℕ → List ℕ → Ordering
 cmp = slice_cmp nat_cmp
@@ -113,6 +115,20 @@ module _ {K : Type 0} (under : K → List ℕ → Option K) (kept : K) where
       pub put_in : (ms : Members) → InOrder ms → lean_members under kept (put k d ms) ≡ put k (lean under inner d) (lean_members under kept ms)
       put_in no_members order = first no_members tt
       put_in (member l e ms) order = put_in_at l e ms (cmp k l) refl order (put_in ms order.1)
+
+    module _ (ms old new : Members) (order : InOrder ms) (so_far : old ≡ lean_members under kept ms) where
+      put_kept_at : (o : Option K) → under kept k ≡ o → MatchOption o (new ≡ old) (λ inner. new ≡ put k (lean under inner d) old) → new ≡ lean_members under kept (put k d ms)
+      put_kept_at None is e = e ∙ so_far ∙ sym (left_out ms is)
+      put_kept_at (Some inner) is e = e ∙ ap (put k (lean under inner d)) so_far ∙ sym (put_in inner is ms order)
+
+      pub put_kept : IsPutIn under kept k d old new → new ≡ lean_members under kept (put k d ms)
+      put_kept e = put_kept_at (under kept k) refl e
+
+    pub is_put_in : (inner : K) → under kept k ≡ Some inner → (old new : Members) → new ≡ put k (lean under inner d) old → IsPutIn under kept k d old new
+    is_put_in inner some old new e = rw some e
+
+    pub is_left_out : under kept k ≡ None → (old : Members) → IsPutIn under kept k d old old
+    is_left_out none old = rw none refl
 
   pub lean_of : (ds : List Data) → lean_items under kept (items_of ds) ≡ items_of (map (lean under kept) ds)
   lean_of [] = refl

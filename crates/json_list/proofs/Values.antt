@@ -1,7 +1,10 @@
 -- What the tokens ahead read as, a token or a turn at a time.
 use Rattle.std.specs.declared.alloc.Global.{Global}
-use Rattle.std.proofs.Common.{rules, String, string_bytes, Bool, Result, Ok, Err, IfOk, ◌≡◌, ℕ, ◌-◌, ◌<◌, ◌≤◌, List, [], ◌∷◌, ◌++◌, length, Option, Some, None, option_map, option_and_then, refl, sym, ap, ◌∙◌, arith}
+use Rattle.std.proofs.Common.{◌⊎◌, inl, inr, rules, String, string_bytes, Bool, Result, Ok, Err, IfOk, OnOk, ◌≡◌, ℕ, ◌-◌, ◌<◌, ◌≤◌, List, [], ◌∷◌, ◌++◌, length, Option, Some, None, option_map, option_and_then, refl, sym, ap, ◌∙◌, arith}
 use Rattle.json.specs.Token.{Token}
+use Rattle.json.specs.Reads.{token_of}
+use Rattle.json.specs.declared.token.Token.{Token as Began}
+use Rattle.json.specs.declared.token.Token.TheVariants.{BeginObject, EndObject, BeginArray, EndArray, Key, String as AText, Number, Bool as ABoolean, Null, Bad}
 use Rattle.json.specs.Json as json
 use Rattle.json.specs.Json.{after_end_array, read_key, parse_map}
 use Rattle.json.proofs.Grammar.{left, skip_value-shorter, read_key-shorter, items_end, items_fail, items_more, members_end, members_no_key, members_fail, members_more, value_is, value-begin_array, value-begin_object}
@@ -12,9 +15,10 @@ use Rattle.serde_json.specs.declared.value.Value.{Value, the_lemmas}
 use Rattle.serde_json.specs.declared.value.Value.TheVariants.{Null as ANull, Bool as ABool, String as AString}
 use Rattle.json_list.specs.declared.fault.ReadFault.{ReadFault}
 use Rattle.json_list.specs.Lean.{lean}
+use Rattle.json_list.specs.Places.{IsPutIn}
 use Rattle.json_list.specs.List.{IsRead, IsUnread}
 use Rattle.json_list.specs.Values.{value_read, items_read, members_read}
-use Rattle.json_list.proofs.Lean.{whole}
+use Rattle.json_list.proofs.Lean.{whole, is_left_out}
 
 -- ---- what was read, and what it was read from
 
@@ -40,6 +44,10 @@ read_from (Some q) d new e = from_one q.0 q.1 (of_json q.0) d new refl e
 
 pub is_read : (depth : ℕ) (old : List Token) (d : Data) (new : List Token) → value_read depth old ≡ Some (d, new) → IsRead depth old d new
 is_read depth old d new e = read_from (json.value depth old) d new e
+
+-- what was read takes a token at least
+pub read_shorter : (depth : ℕ) (old : List Token) (d : Data) (new : List Token) → value_read depth old ≡ Some (d, new) → length new < length old
+read_shorter depth old d new e = skip_value-shorter depth old new (ap left (read_from (json.value depth old) d new e).1)
 
 unread_from : (r : Option Data) (new : List Token) → followed_by new r ≡ None → r ≡ None
 unread_from None new e = refl
@@ -100,9 +108,10 @@ module _ (depth : ℕ) (first : List Token) (found : List Data) (now : List Toke
   pub items_over : (r : List Token) → after_end_array now ≡ Some r → items_read depth (length first) first ≡ Some (items_of found, r)
   items_over r e = come.2 ∙ ap (λ o. all_with found (converted of_items o)) (items_end (json.value depth) come.0 now r come.1 e) ∙ ap (λ ds. Some (ds, r)) (before_none found)
 
-  pub item_found : (d : Data) (r : List Token) → after_end_array now ≡ None → value_read depth now ≡ Some (d, r) → length r < length now → ItemsCome depth first (found ++ d ∷ []) r
-  item_found d r going e less =
-      let f = read_from (json.value depth now) d r e in (
+  pub item_found : (d : Data) (r : List Token) → after_end_array now ≡ None → value_read depth now ≡ Some (d, r) → ItemsCome depth first (found ++ d ∷ []) r
+  item_found d r going e =
+      let f = read_from (json.value depth now) d r e in
+      let less = read_shorter depth now d r e in (
         come.0 - 1,
         omega (arith, come.1),
         come.2
@@ -145,9 +154,10 @@ module _ (depth : ℕ) (first : List Token) (found : Members) (now : List Token)
   key_refused e = come.2 ∙ ap (converted (λ ms. of_members ms found)) (members_no_key (json.value depth) come.0 now e)
 
   module _ (k : List ℕ) (s : List Token) (key : read_key now ≡ Some (Some k, s)) where
-    pub member_found : (d : Data) (r : List Token) → value_read depth s ≡ Some (d, r) → length r < length s → MembersCome depth first (put k d found) r
-    member_found d r e less =
+    pub member_found : (d : Data) (r : List Token) → value_read depth s ≡ Some (d, r) → MembersCome depth first (put k d found) r
+    member_found d r e =
         let f = read_from (json.value depth s) d r e in
+        let less = read_shorter depth s d r e in
         let shorter = read_key-shorter now (Some k) s key in (
           come.0 - 1,
           omega (arith, come.1),
@@ -159,6 +169,9 @@ module _ (depth : ℕ) (first : List Token) (found : Members) (now : List Token)
     no_value (Some q) is e =
         let shorter = read_key-shorter now (Some k) s key in
         ap (converted (λ ms. of_members ms found)) (members_more (json.value depth) come.0 k now s q.1 q.0 (omega (arith, come.1)) key is) ∙ no_member k q.0 found _ (unread_from (of_json q.0) q.1 e)
+
+    pub member_shorter : (d : Data) (r : List Token) → value_read depth s ≡ Some (d, r) → length r < length now
+    member_shorter d r e = omega (arith, read_shorter depth s d r e, read_key-shorter now (Some k) s key)
 
     pub member_refused : value_read depth s ≡ None → members_read depth (length first) no_members first ≡ None
     member_refused e = come.2 ∙ no_value (json.value depth s) refl e
@@ -229,32 +242,29 @@ module _ (depth : ℕ) (old ts : List Token) where
   pub number_refused : (s : List ℕ) → old ≡ Token.number s ∷ ts → option_map number (number_of s) ≡ None → value_read depth old ≡ None
   number_refused s is e = number_read s is ∙ ap (followed_by ts) e
 
-  pub end_array_refused : old ≡ Token.end_array ∷ ts → value_read depth old ≡ None
-  end_array_refused is = ap (value_read depth) is ∙ ap (converted of_json) (value_is depth (Token.end_array ∷ ts))
-
-  pub end_object_refused : old ≡ Token.end_object ∷ ts → value_read depth old ≡ None
-  end_object_refused is = ap (value_read depth) is ∙ ap (converted of_json) (value_is depth (Token.end_object ∷ ts))
-
-  pub key_first_refused : (s : List ℕ) → old ≡ Token.key s ∷ ts → value_read depth old ≡ None
-  key_first_refused s is = ap (value_read depth) is ∙ ap (converted of_json) (value_is depth (Token.key s ∷ ts))
-
-  pub bad_refused : old ≡ Token.bad ∷ ts → value_read depth old ≡ None
-  bad_refused is = ap (value_read depth) is ∙ ap (converted of_json) (value_is depth (Token.bad ∷ ts))
-
 pub nothing_refused : (depth : ℕ) (old : List Token) → old ≡ [] → value_read depth old ≡ None
 nothing_refused depth old is = ap (value_read depth) is ∙ ap (converted of_json) (value_is depth [])
 
--- ---- what a call passed over
+-- ---- tokens that begin no value
 
-pub array_passed : {T : Type 0} (depth : ℕ) (old ts new : List Token) (r : Result T ReadFault) → old ≡ Token.begin_array ∷ ts → 0 < depth
-    → IfOk r (λ _. (ds : Items) × (items_read (depth - 1) (length ts) ts ≡ Some (ds, new))) → IfOk r (λ _. (d : Data) × (value_read depth old ≡ Some (d, new)))
-array_passed depth old ts new (Ok t) is h e = (array e.0, array_read depth old ts is h ∙ ap arrays e.1)
-array_passed depth old ts new (Err f) is h e = e
+pub begins_none : (depth : ℕ) (ts : List Token) (t : Began) → (t ≡ BeginObject → ⊥) → (t ≡ BeginArray → ⊥) → ((s : _) → t ≡ AText s → ⊥) → ((s : _) → t ≡ Number s → ⊥) → ((b : Bool) → t ≡ ABoolean b → ⊥) → (t ≡ Null → ⊥)
+    → value_read depth (token_of t ∷ ts) ≡ None
+begins_none depth ts BeginObject no_object no_array no_string no_number no_boolean no_null = absurd (no_object refl)
+begins_none depth ts EndObject no_object no_array no_string no_number no_boolean no_null = ap (converted of_json) (value_is depth (Token.end_object ∷ ts))
+begins_none depth ts BeginArray no_object no_array no_string no_number no_boolean no_null = absurd (no_array refl)
+begins_none depth ts EndArray no_object no_array no_string no_number no_boolean no_null = ap (converted of_json) (value_is depth (Token.end_array ∷ ts))
+begins_none depth ts (Key s) no_object no_array no_string no_number no_boolean no_null = ap (converted of_json) (value_is depth (Token.key s.now ∷ ts))
+begins_none depth ts (AText s) no_object no_array no_string no_number no_boolean no_null = absurd (no_string s refl)
+begins_none depth ts (Number s) no_object no_array no_string no_number no_boolean no_null = absurd (no_number s refl)
+begins_none depth ts (ABoolean b) no_object no_array no_string no_number no_boolean no_null = absurd (no_boolean b refl)
+begins_none depth ts Null no_object no_array no_string no_number no_boolean no_null = absurd (no_null refl)
+begins_none depth ts Bad no_object no_array no_string no_number no_boolean no_null = ap (converted of_json) (value_is depth (Token.bad ∷ ts))
 
-pub object_passed : {T : Type 0} (depth : ℕ) (old ts new : List Token) (r : Result T ReadFault) → old ≡ Token.begin_object ∷ ts → 0 < depth
-    → IfOk r (λ _. (ms : Members) × (members_read (depth - 1) (length ts) no_members ts ≡ Some (ms, new))) → IfOk r (λ _. (d : Data) × (value_read depth old ≡ Some (d, new)))
-object_passed depth old ts new (Ok t) is h e = (object e.0, object_read depth old ts is h ∙ ap objects e.1)
-object_passed depth old ts new (Err f) is h e = e
+-- a token that is a value
+pub plain_passed : (depth : ℕ) (ts : List Token) (t : Began) → (t ≡ Null) ⊎ ((b : _) × (t ≡ ABoolean b)) ⊎ ((s : _) × (t ≡ AText s)) → (d : Data) × (value_read depth (token_of t ∷ ts) ≡ Some (d, ts))
+plain_passed depth ts t (inl is) = (null, null_read depth _ ts (ap (λ k. token_of k ∷ ts) is))
+plain_passed depth ts t (inr (inl (b, is))) = (boolean b, boolean_read depth _ ts b (ap (λ k. token_of k ∷ ts) is))
+plain_passed depth ts t (inr (inr (s, is))) = (string s.now, string_read depth _ ts s.now (ap (λ k. token_of k ∷ ts) is))
 
 -- ---- a number, of which nothing is left out
 
@@ -267,9 +277,40 @@ pub number_found : {K : Type 0} (under : K → List ℕ → Option K) (kept : K)
 number_found under kept depth old ts s is (Ok v) e = (view v, number_is depth old ts s is (view v) e, number_kept under kept (number_of s) (view v) e)
 number_found under kept depth old ts s is (Err f) e = e
 
--- ---- a value of which nothing is left out
+pub number_passed : (depth : ℕ) (old ts : List Token) (s : List ℕ) → old ≡ Token.number s ∷ ts
+    → (r : Result Unit ReadFault) → IfOk r (λ _. (d : Data) × (option_map number (number_of s) ≡ Some d)) → IfOk r (λ _. (d : Data) × (value_read depth old ≡ Some (d, ts)))
+number_passed depth old ts s is (Ok t) e = (e.0, number_is depth old ts s is e.0 e.1)
+number_passed depth old ts s is (Err f) e = e
 
-pub all_read : {K : Type 0} (under : K → List ℕ → Option K) (kept : K) → ((name : List ℕ) → under kept name ≡ Some kept) → (depth : ℕ) (old new : List Token) (r : Result Value ReadFault)
-    → IfOk r (λ v. (d : Data) × (value_read depth old ≡ Some (d, new)) × (view v ≡ lean under kept d)) → IfOk r (λ v. IsRead depth old (view v) new)
-all_read under kept all depth old new (Ok v) e = is_read depth old (view v) new (e.1 ∙ ap (λ d. Some (d, new)) (sym (e.2 ∙ whole under kept all e.0)))
-all_read under kept all depth old new (Err f) e = e
+pub string_found : {K : Type 0} (under : K → List ℕ → Option K) (kept : K) (depth : ℕ) (old ts : List Token) (s : List ℕ) → old ≡ Token.string s ∷ ts
+    → (r : Result Value ReadFault) → IfOk r (λ v. view v ≡ string s) → IfOk r (λ v. (d : Data) × (value_read depth old ≡ Some (d, ts)) × (view v ≡ lean under kept d))
+string_found under kept depth old ts s is (Ok v) e = (string s, string_read depth old ts s is, e)
+string_found under kept depth old ts s is (Err f) e = e
+
+-- ---- a value of which something may be left out
+
+pub kept_shorter : {K : Type 0} (under : K → List ℕ → Option K) (kept : K) (depth : ℕ) (old new : List Token) (r : Result Value ReadFault)
+    → IfOk r (λ v. (d : Data) × (value_read depth old ≡ Some (d, new)) × (view v ≡ lean under kept d)) → OnOk r (length new < length old)
+kept_shorter under kept depth old new (Ok v) e = read_shorter depth old e.0 new e.1
+kept_shorter under kept depth old new (Err f) e = tt
+
+-- tokens are ahead
+pub some_ahead : (old : List Token) (t : Token) (ts : List Token) → old ≡ t ∷ ts → old ≡ [] → ⊥
+some_ahead old t ts is none = let never : t ∷ ts ≡ [] = sym is ∙ none in absurd (cc)
+
+-- ---- members
+
+module _ {K : Type 0} (under : K → List ℕ → Option K) (kept : K) (depth : ℕ) (old new : List Token) (k : List ℕ) where
+  pub passed_over : under kept k ≡ None → (ms : Members) (r : Result Unit ReadFault) → IfOk r (λ _. (d : Data) × (value_read depth old ≡ Some (d, new)))
+      → IfOk r (λ _. (d : Data) × (value_read depth old ≡ Some (d, new)) × IsPutIn under kept k d ms ms)
+  passed_over none ms (Ok t) e = (e.0, e.1, is_left_out under kept k e.0 none ms)
+  passed_over none ms (Err f) e = e
+
+  pub put_shorter : (ms ns : Members) (r : Result Unit ReadFault) → IfOk r (λ _. (d : Data) × (value_read depth old ≡ Some (d, new)) × IsPutIn under kept k d ms ns) → OnOk r (length new < length old)
+  put_shorter ms ns (Ok t) e = read_shorter depth old e.0 new e.1
+  put_shorter ms ns (Err f) e = tt
+
+  pub member_put : ((name : List ℕ) → under kept name ≡ Some kept) → (ms ns : Members) (r : Result Unit ReadFault) → IfOk r (λ _. (d : Data) × (value_read depth old ≡ Some (d, new)) × IsPutIn under kept k d ms ns)
+      → IfOk r (λ _. (d : Data) × IsRead depth old d new × (ns ≡ put k d ms))
+  member_put all ms ns (Ok t) e = (e.0, is_read depth old e.0 new e.1, (rw (all k) at e.2) ∙ ap (λ f. put k f ms) (whole under kept all e.0))
+  member_put all ms ns (Err f) e = e

@@ -1,10 +1,12 @@
 -- Where a reader is in an object or in its list of items; for private clauses.
 use Rattle.std.specs.Prelude.{◌≡◌, ℕ, List, [], ◌∷◌, length, Option, Some, None, option_map}
+use Rattle.std.specs.Prelude.{MatchOption}
 use Rattle.json.specs.Token.{Token}
 use Rattle.json.specs.Lex.{tokens}
 use Rattle.json.specs.Json as json
-use Rattle.serde_json.specs.Data.{array, Items, Members, no_members, put}
+use Rattle.serde_json.specs.Data.{Data, array, Items, Members, no_members, put}
 use Rattle.serde_json.specs.Read.{converted, of_json, of_members, read}
+use Rattle.json_list.specs.Lean.{lean}
 use Rattle.json_list.specs.List.{items_name, values_of, HaveOneList, with_items, items_ahead}
 use Rattle.json_list.specs.OnePass.{items_and_rest, AreTheRest}
 use Rattle.json_list.specs.declared.items.Place.{Place}
@@ -60,3 +62,10 @@ AreBefore old found at = (ds : Items) (rest : List Token) (others : Members)
     → items_and_rest at ≡ Some (ds, rest) → AreTheRest found rest others
     → converted (λ ms. of_members ms no_members) (members_in old)
     ≡ Some (put items_name (array ds) others, [])
+
+-- what is kept of a member was put to those that were found of its object; nothing, if it is left
+-- out
+abbrev pub IsPutIn : {K : Type 0} → (K → List ℕ → Option K) → K → List ℕ → Data → Members → Members
+    → Type 0
+IsPutIn under kept name d old new = MatchOption (under kept name) (new ≡ old)
+    (λ inner. new ≡ put name (lean under inner d) old)

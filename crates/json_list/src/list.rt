@@ -14,7 +14,7 @@ ghost use Rattle.json_list.specs.declared.fault.ReadFault.TheVariants.{Refused};
 
 use crate::fault::ReadFault;
 use crate::items::Items;
-use crate::value::read_value;
+use crate::value::read_member;
 use json::{Invalid, Reader, Scratch, Token};
 use serde_json::{Map, Value};
 use std::alloc::{AllocError, Global};
@@ -92,9 +92,7 @@ fn read_others(
             has_items = true;
             reader.skip_value(MEMBER_DEPTH)?;
         } else {
-            let key = String::from_str(alloc, name)?;
-            let member = read_value(alloc, reader, MEMBER_DEPTH)?;
-            drop(others.insert(key, member)?);
+            read_member(alloc, reader, name, &mut others)?;
         }
     }
     if has_items {

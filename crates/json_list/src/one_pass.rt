@@ -14,8 +14,8 @@ ghost use Rattle.json_list.specs.declared.fault.ReadFault.TheVariants.{Refused};
 use crate::fault::ReadFault;
 use crate::items::ITEM_DEPTH;
 use crate::kept::Kept;
-use crate::list::{ITEMS, MEMBER_DEPTH, object_in, take_begin_array};
-use crate::value::{read_kept, read_value};
+use crate::list::{ITEMS, object_in, take_begin_array};
+use crate::value::{read_kept, read_member};
 use json::{Reader, Scratch};
 use serde_json::{Map, Value};
 use std::alloc::Global;
@@ -109,9 +109,7 @@ fn read_rest(
         if name == ITEMS {
             return Ok(None);
         }
-        let key = String::from_str(alloc, name)?;
-        let member = read_value(alloc, reader, MEMBER_DEPTH)?;
-        drop(others.insert(key, member)?);
+        read_member(alloc, reader, name, &mut others)?;
     }
     if reader.next().is_some() {
         return Ok(None);
@@ -136,9 +134,7 @@ fn read_before(
             }
             return Ok(None);
         }
-        let key = String::from_str(alloc, name)?;
-        let member = read_value(alloc, reader, MEMBER_DEPTH)?;
-        drop(before.insert(key, member)?);
+        read_member(alloc, reader, name, &mut before)?;
     }
     Ok(None)
 }

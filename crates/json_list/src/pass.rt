@@ -1,8 +1,11 @@
 //! Passing over a value, which is checked as `serde_json` checks it.
 
-ghost use Rattle.std.specs.Prelude.{◌≡◌, ◌<◌, [], length, Some, None, Err, IfOk, OnOk};
-ghost use Rattle.serde_json.specs.Data.{Data, Items, Members, no_members};
-ghost use Rattle.json_list.specs.Values.{value_read, items_read, members_read};
+ghost use Rattle.std.specs.Prelude.{◌≡◌, ◌∷◌, option_map, Some, None, Err, IfOk};
+ghost use Rattle.json.specs.Print.{IsNumber};
+ghost use Rattle.json.specs.Token.{begin_array, begin_object};
+ghost use Rattle.serde_json.specs.Data.{Data, number};
+ghost use Rattle.serde_json.specs.Read.{number_of as number_in};
+ghost use Rattle.json_list.specs.Values.{value_read};
 ghost use Rattle.json_list.specs.declared.fault.ReadFault.TheVariants.{Refused};
 
 use crate::fault::ReadFault;
@@ -19,50 +22,43 @@ pub(crate) fn pass_value(
 ) -> Result<(), ReadFault>
     ensures read { IfOk result
         (λ _. (d : Data) × (value_read depth reader.old ≡ Some (d, reader.new))) }
-    ensures shorter { OnOk result (length reader.new < length reader.old) }
     ensures refused { result ≡ Err Refused → value_read depth reader.old ≡ None }
 {
     let Some(token) = reader.next() else {
         return Err(ReadFault::Refused);
     };
     match token {
-        Token::Null => Ok(()),
-        Token::Bool(_) => Ok(()),
-        Token::Number(text) => {
-            let _number = number_of(alloc, text)?;
-            Ok(())
-        }
-        Token::String(_) => Ok(()),
-        Token::BeginArray => {
-            if depth == 0 {
-                return Err(ReadFault::Refused);
-            }
-            pass_items(alloc, reader, depth - 1)
-        }
-        Token::BeginObject => {
-            if depth == 0 {
-                return Err(ReadFault::Refused);
-            }
-            pass_members(alloc, reader, depth - 1)
-        }
-        Token::EndArray => Err(ReadFault::Refused),
-        Token::EndObject => Err(ReadFault::Refused),
-        Token::Key(_) => Err(ReadFault::Refused),
-        Token::Bad => Err(ReadFault::Refused),
+        Token::Null | Token::Bool(_) | Token::String(_) => Ok(()),
+        Token::Number(text) => pass_number(alloc, text),
+        Token::BeginArray => pass_items(alloc, reader, depth),
+        Token::BeginObject => pass_members(alloc, reader, depth),
+        _ => Err(ReadFault::Refused),
     }
+}
+
+// Passes over a number, from its text.
+fn pass_number(alloc: Global, text: &str) -> Result<(), ReadFault>
+    requires { IsNumber text.now }
+    ensures read { IfOk result
+        (λ _. (d : Data) × (option_map number (number_in text.now) ≡ Some d)) }
+    ensures refused { result ≡ Err Refused → option_map number (number_in text.now) ≡ None }
+{
+    drop(number_of(alloc, text)?);
+    Ok(())
 }
 
 // Passes over the items of an array, after the bracket that opens it.
 #[cycle(pass_value)]
 fn pass_items(alloc: Global, reader: &mut Reader<'_>, depth: usize) -> Result<(), ReadFault>
-    ensures read { IfOk result (λ _. (ds : Items) × (items_read depth (length reader.old) reader.old
-        ≡ Some (ds, reader.new))) }
-    ensures shorter { OnOk result (length reader.new < length reader.old) }
-    ensures refused { result ≡ Err Refused
-        → items_read depth (length reader.old) reader.old ≡ None }
+    ensures read { IfOk result (λ _. (d : Data)
+        × (value_read depth (begin_array ∷ reader.old) ≡ Some (d, reader.new))) }
+    ensures refused { result ≡ Err Refused → value_read depth (begin_array ∷ reader.old) ≡ None }
 {
+    if depth == 0 {
+        return Err(ReadFault::Refused);
+    }
     'items: while !reader.take_end_array() {
-        pass_value(alloc, reader, depth)?;
+        pass_value(alloc, reader, depth - 1)?;
     }
     Ok(())
 }
@@ -70,14 +66,15 @@ fn pass_items(alloc: Global, reader: &mut Reader<'_>, depth: usize) -> Result<()
 // Passes over the members of an object, after the brace that opens it.
 #[cycle(pass_value)]
 fn pass_members(alloc: Global, reader: &mut Reader<'_>, depth: usize) -> Result<(), ReadFault>
-    ensures read { IfOk result (λ _. (ms : Members)
-        × (members_read depth (length reader.old) no_members reader.old ≡ Some (ms, reader.new))) }
-    ensures shorter { OnOk result (length reader.new < length reader.old) }
-    ensures refused { result ≡ Err Refused
-        → members_read depth (length reader.old) no_members reader.old ≡ None }
+    ensures read { IfOk result (λ _. (d : Data)
+        × (value_read depth (begin_object ∷ reader.old) ≡ Some (d, reader.new))) }
+    ensures refused { result ≡ Err Refused → value_read depth (begin_object ∷ reader.old) ≡ None }
 {
+    if depth == 0 {
+        return Err(ReadFault::Refused);
+    }
     'members: while let Some(_) = reader.next_key()? {
-        pass_value(alloc, reader, depth)?;
+        pass_value(alloc, reader, depth - 1)?;
     }
     Ok(())
 }

@@ -1,8 +1,6 @@
-use Rattle.std.proofs.Common.{◌≡◌, Some, None, string_bytes, bytes_eq, true, false, sym, ap, ◌∙◌, subst, arith, rules}
+use Rattle.std.proofs.Common.{◌≡◌, Some, None, bytes_eq, true, false, sym, subst, arith}
 use Rattle.json.specs.Json.{read_key}
-use Rattle.serde_json.specs.Data.{put}
-use Rattle.serde_json.specs.View.{view, members_view}
-use Rattle.serde_json.proofs.Views.{members_view-insert_entry}
+use Rattle.serde_json.specs.View.{members_view}
 use Rattle.json_list.specs.List.{items_name}
 use Rattle.json_list.proofs.Others.{Gathers, begun, key_refused, one_other, other_refused, items_refused, first_items, second_items, no_list, gathered}
 use Rattle.json_list.proofs.list.read_others.Goals as goal
@@ -17,13 +15,13 @@ returns-in_err-name-clause-refused c _ =
     let l = c.members in
     key_refused l.has_items c.args.reader.now l.reader (members_view l.others.entries) l.invariant c.in_err-name.ensures.value
 
-pub returns-in_err-member-clause-refused : goal.returns-in_err-member-clause-refused
-returns-in_err-member-clause-refused c refusal =
+pub returns-in_err-read_member-clause-refused : goal.returns-in_err-read_member-clause-refused
+returns-in_err-read_member-clause-refused c refusal =
     let l = c.members in
     let k = c.in-Some.name.now in
     let s = c.next_key.new.self in
     let key : read_key l.reader ≡ Some (Some k, s) = grind arith in
-    other_refused c.args.reader.now l.reader (members_view l.others.entries) k s key l.has_items l.invariant (c.in_err-member.ensures.refused (grind arith))
+    other_refused c.args.reader.now l.reader (members_view l.others.entries) k s key l.has_items l.invariant (c.in_err-read_member.ensures.refused (grind arith))
 
 pub members-preserved : goal.members-preserved
 members-preserved c =
@@ -31,15 +29,12 @@ members-preserved c =
     let old = members_view l.others.entries in
     let k = c.in-Some.name.now in
     let s = c.next_key.new.self in
-    let r = c.read_value.new.reader in
-    let v = c.in_ok-member.member in
+    let r = c.read_member.new.reader in
+    let read = c.in_ok-read_member.ensures.read in
     let key : read_key l.reader ≡ Some (Some k, s) = grind arith in
     let other : bytes_eq k items_name ≡ false = sym c.if-eq.ensures in
-    let copied : string_bytes c.in_ok-key.key ≡ k = search rules in
-    let inserted : members_view c.insert.new.self.entries ≡ put k (view v) old =
-    ap members_view c.in_ok-insert.ensures.entries ∙ members_view-insert_entry l.others.entries c.in_ok-key.key v ∙ ap (λ name. put name (view v) old) copied in
-    subst (Gathers l.has_items c.args.reader.now r) (sym inserted)
-    (one_other c.args.reader.now l.reader old k s key l.has_items (view v) r l.invariant other c.in_ok-member.ensures.read c.in_ok-member.ensures.shorter)
+    subst (Gathers l.has_items c.args.reader.now r) (sym read.2)
+    (one_other c.args.reader.now l.reader old k s key l.has_items read.0 r l.invariant other read.1 c.in_ok-read_member.ensures.shorter)
 
 pub returns-then-has_items-clause-others : goal.returns-then-has_items-clause-others
 returns-then-has_items-clause-others c =
@@ -51,8 +46,8 @@ returns-then-has_items-clause-others c =
     let same : bytes_eq k items_name ≡ true = sym c.if-eq.ensures in
     second_items c.args.reader.now l.reader others k s key same (subst (λ b. Gathers b c.args.reader.now l.reader others) c.if-has_items.true l.invariant)
 
-pub members-preserved-in_ok-skip_value : goal.members-preserved-in_ok-skip_value
-members-preserved-in_ok-skip_value c =
+pub members-preserved-in-Continue-branch-3 : goal.members-preserved-in-Continue-branch-3
+members-preserved-in-Continue-branch-3 c =
     let l = c.members in
     let k = c.in-Some.name.now in
     let s = c.next_key.new.self in

@@ -1,8 +1,7 @@
-use Rattle.std.proofs.Common.{◌≡◌, Some, None, string_bytes, bytes_eq, true, false, sym, ap, ◌∙◌, subst, arith, rules}
+use Rattle.std.proofs.Common.{◌≡◌, Some, None, bytes_eq, true, false, sym, subst, arith}
 use Rattle.json.specs.Json.{read_key}
-use Rattle.serde_json.specs.Data.{no_members, put}
-use Rattle.serde_json.specs.View.{view, members_view}
-use Rattle.serde_json.proofs.Views.{members_view-insert_entry}
+use Rattle.serde_json.specs.Data.{no_members}
+use Rattle.serde_json.specs.View.{members_view}
 use Rattle.json_list.specs.List.{items_name}
 use Rattle.json_list.proofs.Others.{key_refused, other_refused}
 use Rattle.json_list.proofs.Walks.{found, none_left}
@@ -20,15 +19,12 @@ members-preserved c =
     let old = members_view l.before.entries in
     let k = c.in-Some.name.now in
     let s = c.next_key.new.self in
-    let r = c.read_value.new.reader in
-    let v = c.in_ok-member.member in
+    let r = c.read_member.new.reader in
+    let read = c.in_ok-read_member.ensures.read in
     let key : read_key l.reader ≡ Some (Some k, s) = grind arith in
     let other : bytes_eq k items_name ≡ false = sym c.if-eq.ensures in
-    let copied : string_bytes c.in_ok-key.key ≡ k = search rules in
-    let inserted : members_view c.insert.new.self.entries ≡ put k (view v) old =
-    ap members_view c.in_ok-insert.ensures.entries ∙ members_view-insert_entry l.before.entries c.in_ok-key.key v ∙ ap (λ name. put name (view v) old) copied in
-    subst (Adds no_members c.args.reader.now r) (sym inserted)
-    (added no_members c.args.reader.now l.reader old l.invariant k s key other (view v) r c.in_ok-member.ensures.read c.in_ok-member.ensures.shorter)
+    subst (Adds no_members c.args.reader.now r) (sym read.2)
+    (added no_members c.args.reader.now l.reader old l.invariant k s key other read.0 r read.1 c.in_ok-read_member.ensures.shorter)
 
 pub returns-then-take_begin_array-clause-before : goal.returns-then-take_begin_array-clause-before
 returns-then-take_begin_array-clause-before c =
@@ -44,13 +40,13 @@ returns-in_err-name-clause-refused c _ =
     let l = c.members in
     key_refused false c.args.reader.now l.reader (members_view l.before.entries) l.invariant c.in_err-name.ensures.value
 
-pub returns-in_err-member-clause-refused : goal.returns-in_err-member-clause-refused
-returns-in_err-member-clause-refused c refusal =
+pub returns-in_err-read_member-clause-refused : goal.returns-in_err-read_member-clause-refused
+returns-in_err-read_member-clause-refused c refusal =
     let l = c.members in
     let k = c.in-Some.name.now in
     let s = c.next_key.new.self in
     let key : read_key l.reader ≡ Some (Some k, s) = grind arith in
-    other_refused c.args.reader.now l.reader (members_view l.before.entries) k s key false l.invariant (c.in_err-member.ensures.refused (grind arith))
+    other_refused c.args.reader.now l.reader (members_view l.before.entries) k s key false l.invariant (c.in_err-read_member.ensures.refused (grind arith))
 
 pub returns-then-eq-clause-before : goal.returns-then-eq-clause-before
 returns-then-eq-clause-before c =

@@ -1,8 +1,6 @@
-use Rattle.std.proofs.Common.{◌≡◌, [], Some, None, string_bytes, bytes_eq, true, false, sym, ap, ◌∙◌, subst, arith, rules}
+use Rattle.std.proofs.Common.{◌≡◌, [], Some, None, bytes_eq, true, false, sym, subst, arith, rules}
 use Rattle.json.specs.Json.{read_key}
-use Rattle.serde_json.specs.Data.{put}
-use Rattle.serde_json.specs.View.{view, members_view}
-use Rattle.serde_json.proofs.Views.{members_view-insert_entry}
+use Rattle.serde_json.specs.View.{members_view}
 use Rattle.json_list.specs.List.{items_name}
 use Rattle.json_list.proofs.OnePass.{Adds, begun, added, are_the_rest, items_again, bad_member, bad_key, text_goes_on}
 use Rattle.json_list.proofs.one_pass.read_rest.Goals as goal
@@ -17,15 +15,12 @@ members-preserved c =
     let old = members_view l.others.entries in
     let k = c.in-Some.name.now in
     let s = c.next_key.new.self in
-    let r = c.read_value.new.reader in
-    let v = c.in_ok-member.member in
+    let r = c.read_member.new.reader in
+    let read = c.in_ok-read_member.ensures.read in
     let key : read_key l.reader ≡ Some (Some k, s) = grind arith in
     let other : bytes_eq k items_name ≡ false = sym c.if-eq.ensures in
-    let copied : string_bytes c.in_ok-key.key ≡ k = search rules in
-    let inserted : members_view c.insert.new.self.entries ≡ put k (view v) old =
-    ap members_view c.in_ok-insert.ensures.entries ∙ members_view-insert_entry l.others.entries c.in_ok-key.key v ∙ ap (λ name. put name (view v) old) copied in
-    subst (Adds start c.args.reader.now r) (sym inserted)
-    (added start c.args.reader.now l.reader old l.invariant k s key other (view v) r c.in_ok-member.ensures.read c.in_ok-member.ensures.shorter)
+    subst (Adds start c.args.reader.now r) (sym read.2)
+    (added start c.args.reader.now l.reader old l.invariant k s key other read.0 r read.1 c.in_ok-read_member.ensures.shorter)
 
 pub returns-clause-rest : goal.returns-clause-rest
 returns-clause-rest c =
@@ -49,13 +44,13 @@ returns-then-eq-clause-rest c =
     let same : bytes_eq k items_name ≡ true = sym c.if-eq.ensures in
     items_again (members_view c.args.before.entries) c.args.reader.now l.reader (members_view l.others.entries) l.invariant k s key same
 
-pub returns-in_err-member-clause-refused : goal.returns-in_err-member-clause-refused
-returns-in_err-member-clause-refused c refusal =
+pub returns-in_err-read_member-clause-refused : goal.returns-in_err-read_member-clause-refused
+returns-in_err-read_member-clause-refused c refusal =
     let l = c.members in
     let k = c.in-Some.name.now in
     let s = c.next_key.new.self in
     let key : read_key l.reader ≡ Some (Some k, s) = grind arith in
-    bad_member (members_view c.args.before.entries) c.args.reader.now l.reader (members_view l.others.entries) l.invariant k s key (c.in_err-member.ensures.refused (grind arith))
+    bad_member (members_view c.args.before.entries) c.args.reader.now l.reader (members_view l.others.entries) l.invariant k s key (c.in_err-read_member.ensures.refused (grind arith))
 
 pub returns-then-is_some-clause-rest : goal.returns-then-is_some-clause-rest
 returns-then-is_some-clause-rest c =

@@ -1,4 +1,3 @@
-use Rattle.std.proofs.Common.{refl}
 use Rattle.json_list.proofs.one_pass.Unread.rest.Goals as goal
 
 pub returns-clause-rest : goal.returns-clause-rest
