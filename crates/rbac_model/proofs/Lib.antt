@@ -24,6 +24,7 @@ pub mod OneList
 pub mod OwnWords
 pub mod PlaceSets
 pub mod Searched
+pub mod Sourced
 pub mod Stairs
 pub mod UpTo
 pub mod UrlSamples
