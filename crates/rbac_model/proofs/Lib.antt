@@ -1,7 +1,6 @@
 pub mod AllGranted
 pub mod BindingPlaces
 pub mod Brought
-pub mod ByKind
 pub mod Closing
 pub mod Decided
 pub mod Gathered
