@@ -1,8 +1,8 @@
 -- sets of the roles whose labels have a property
-use Rattle.std.proofs.Common.{◌≡◌, ℕ, ◌<◌, ◌⊎◌, ◌↔◌, List, [], ◌∷◌, ◌++◌, length, Any, All, Contains, inl, inr, sym, ap, ◌∙◌, refl, arith, subst, length-append}
+use Rattle.std.proofs.Common.{◌≡◌, ℕ, ◌<◌, ◌⊎◌, ◌↔◌, List, [], ◌∷◌, ◌++◌, length, Any, All, Contains, inl, inr, sym, ap, ◌∙◌, refl, arith, subst, take, drop, length-append}
 use Rattle.std.specs.Prelude.{Some, slice_get}
 use Rattle.std.proofs.lemmas.Bool.{cases_lt}
-use Rattle.std.proofs.lemmas.List.{get_or_at}
+use Rattle.std.proofs.lemmas.List.{get_or_at, take-append-drop}
 use Rattle.std.proofs.Math.ListN.{get_or-append}
 use Rattle.std.proofs.lemmas.List.Elements.{All-push, Contains-push, Contains-push_cases, Contains-append_left}
 use Rattle.std.proofs.lemmas.List.Quantifiers.{Any-push}
@@ -29,6 +29,12 @@ any_push P xs y = (
     | inr p ↦ Any-push P xs y p
   ],
 )
+
+pub any_take : {X : Type 0} (P : X → Type 0) (n : ℕ) (xs : List X) → Any P (take n xs) → Any P xs
+any_take {X} P n xs w =
+    let left = take n xs in
+    let right = drop n xs in
+    subst (λ (all : List X). Any P all) (take-append-drop n xs) (w.0, w.1, omega (arith, w.2, length-append left right), get_or-append left right w.1 w.0 w.2 ∙ w.3, w.4)
 
 pub none_any : {X : Type 0} (P : X → Type 0) → Any P [] → ⊥
 none_any P w = absurd (omega (arith, w.2))
@@ -94,6 +100,12 @@ module _ (roles : List ClusterRole) where
       | inr v ↦ absurd (omega (arith, (all k).0 m, v.0))
     ],
     λ w. (all k).1 (slice_get_within roles k w.0 w.1),
+  )
+
+  pub with_all : (P Q : LabelTexts → Type 0) (a : List ℕ) → ((k : ℕ) → k < length roles → HasPlace a k) → AreWith P roles a → ((ls : LabelTexts) → P ls → Q ls) → AreWith Q roles a
+  with_all P Q a all are more k = (
+    λ m. let w = (are k).0 m in (w.0, w.1, more w.0.labels w.2),
+    λ w. all k (slice_get_within roles k w.0 w.1),
   )
 
   pub with_nobody : (P : LabelTexts → Type 0) → ((ls : LabelTexts) → P ls → ⊥) → AreWith P roles []

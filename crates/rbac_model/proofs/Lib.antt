@@ -1,7 +1,6 @@
 pub mod AllGranted
 pub mod BindingPlaces
 pub mod Brought
-pub mod ByKind
 pub mod Closing
 pub mod Decided
 pub mod Gathered
@@ -24,6 +23,7 @@ pub mod OneList
 pub mod OwnWords
 pub mod PlaceSets
 pub mod Searched
+pub mod Sourced
 pub mod Stairs
 pub mod UpTo
 pub mod UrlSamples

@@ -30,11 +30,23 @@ pub(crate) fn reached_by_each(alloc: Global, objects: &Objects) -> Result<Vec<Pl
 fn steps_of(alloc: Global, objects: &Objects) -> Result<Vec<PlaceSet>, AllocError>
     ensures { IfOk result (λ rows. AreSteps objects.now rows.items) }
 {
+    let labelled = Labelled::new(alloc, objects.cluster_roles())?;
+    rows_of(alloc, objects, &labelled)
+}
+
+// The same, looked up in the labels of the cluster roles.
+fn rows_of(
+    alloc: Global,
+    objects: &Objects,
+    labelled: &Labelled,
+) -> Result<Vec<PlaceSet>, AllocError>
+    requires { labelled.now ≡ objects.now.cluster_roles }
+    ensures { IfOk result (λ rows. AreSteps objects.now rows.items) }
+{
     let roles = objects.cluster_roles();
-    let labelled = Labelled::new(alloc, roles)?;
     let mut rows = Vec::with_capacity(alloc, roles.len())?;
     for (at, role) in roles.iter().enumerate() {
-        rows.push(steps_from(alloc, objects, &labelled, role, at)?)?;
+        rows.push(steps_from(alloc, objects, labelled, role, at)?)?;
     }
     Ok(rows)
 }

@@ -80,8 +80,7 @@ fn close_at(
     }
     let row = reach(graph.as_slice(), closed, ends, at)?;
     graph[at] = row;
-    closed.insert(at)?;
-    Ok(())
+    closed.insert(at)
 }
 
 // All vertices that a vertex leads to. The search takes the edges of each vertex that it visits;
@@ -146,7 +145,7 @@ fn take(
     seen.add(row)?;
     done.insert(at)?;
     if closed.has(at) {
-        done.add(row)?;
+        return done.add(row);
     }
     Ok(())
 }

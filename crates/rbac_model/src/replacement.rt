@@ -1,7 +1,7 @@
 //! Which of the objects given are kept: a later one replaces an earlier one of its kind, namespace
 //! and name.
 
-ghost use Rattle.std.specs.Prelude.{◌≡◌, IfOk, IfErr};
+ghost use Rattle.std.specs.Prelude.{◌≡◌, ◌++◌, ◌∷◌, [], IfOk, IfErr, OnOk};
 ghost use Rattle.std.specs.List.{filter_map};
 ghost use Rattle.rbac_model.specs.Kept.{AreKept, AreLastNamed, as_role, as_cluster_role};
 ghost use Rattle.rbac_model.specs.Kept.{as_binding};
@@ -16,6 +16,27 @@ struct Kinds {
     roles: Vec<Role>,
     cluster_roles: Vec<ClusterRole>,
     bindings: Vec<Binding>,
+}
+
+impl Kinds {
+    // Adds an object to those of its kind.
+    fn push(&mut self, object: Object) -> Result<(), AllocError>
+        ensures roles { OnOk result
+            (self.new.roles.items ≡ self.old.roles.items ++ filter_map as_role (object ∷ [])) }
+        ensures cluster_roles { OnOk result
+            (self.new.cluster_roles.items
+            ≡ self.old.cluster_roles.items ++ filter_map as_cluster_role (object ∷ [])) }
+        ensures bindings { OnOk result
+            (self.new.bindings.items
+            ≡ self.old.bindings.items ++ filter_map as_binding (object ∷ [])) }
+    {
+        match object {
+            Object::Role(role) => self.roles.push(role)?,
+            Object::ClusterRole(role) => self.cluster_roles.push(role)?,
+            Object::Binding(binding) => self.bindings.push(binding)?,
+        }
+        Ok(())
+    }
 }
 
 impl Objects {
@@ -45,21 +66,15 @@ fn by_kind(alloc: Global, given: Vec<Object>) -> Result<Kinds, AllocError>
     ensures bindings { IfOk result
         (λ kinds. kinds.bindings.items ≡ filter_map as_binding given.items) }
 {
-    let mut roles = Vec::new(alloc);
-    let mut cluster_roles = Vec::new(alloc);
-    let mut bindings = Vec::new(alloc);
+    let mut kinds = Kinds {
+        roles: Vec::new(alloc),
+        cluster_roles: Vec::new(alloc),
+        bindings: Vec::new(alloc),
+    };
     for object in given {
-        match object {
-            Object::Role(role) => roles.push(role)?,
-            Object::ClusterRole(role) => cluster_roles.push(role)?,
-            Object::Binding(binding) => bindings.push(binding)?,
-        }
+        kinds.push(object)?;
     }
-    Ok(Kinds {
-        roles,
-        cluster_roles,
-        bindings,
-    })
+    Ok(kinds)
 }
 
 // For each name, the last item that has it. The items are sorted first, so that each one goes at

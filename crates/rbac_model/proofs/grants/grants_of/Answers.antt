@@ -1,4 +1,5 @@
 use Rattle.std.proofs.Common.{◌<◌, length, refl, arith, take}
+use Rattle.std.proofs.lemmas.List.{take_all}
 use Rattle.std.proofs.lemmas.Option.{slice_get_read}
 use Rattle.std.proofs.lemmas.Result.{err_from_is_err_and}
 use Rattle.rbac_model.specs.Policies.{grants_at, grant_at}
@@ -40,3 +41,12 @@ returns-in_err-put_binding-clause-many c =
         grants_from h h.bindings c.loop-at.at c.index-bindings-at.result (grants_at h c.loop-at.grants.items) m.0 all.0 c.bindings-bindings.ensures.held read are m.1 all.1,
       ),
     ))
+
+pub put_binding-requires-clause-at : goal.put_binding-requires-clause-at
+put_binding-requires-clause-at c =
+    let bindings = c.bindings-bindings.result.now in
+    rw c.bindings-bindings.ensures.bindings at (slice_get_read bindings (length bindings) c.loop-at.at c.index-bindings-at.result refl c.loop-at-test.true c.index-bindings-at.is)
+
+pub returns-clause-are : goal.returns-clause-are
+returns-clause-are c =
+    rw c.bindings-bindings.ensures.bindings at (rw (take_all c.loop-at.at c.bindings-bindings.result.now c.loop-at-test.false) at c.loop-at.invariant.are)

@@ -1,21 +1,17 @@
 use Rattle.std.proofs.Common.{◌++◌, ◌∷◌, [], ◌∙◌, sym, ap}
-use Rattle.rbac_model.proofs.ByKind.{role_more, cluster_role_more, binding_more}
+use Rattle.std.specs.List.{filter_map}
+use Rattle.std.proofs.lemmas.List.Elements.{filter_map-append}
+use Rattle.rbac_model.specs.Kept.{as_role, as_cluster_role, as_binding}
 use Rattle.rbac_model.proofs.replacement.by_kind.Goals as goal
-
-pub loop-object-preserved-in-Continue-1 : goal.loop-object-preserved-in-Continue-1
-loop-object-preserved-in-Continue-1 c =
-    let was = c.loop-object.invariant in
-    let more = role_more c.loop-object.yielded c.in-Some.object c.in-Role.role c.in-Role.is in
-    (c.in_ok-push-in-Role.ensures.items ∙ ap (λ rs. rs ++ c.in-Role.role ∷ []) was.0 ∙ sym more.0, was.1 ∙ sym more.1, was.2 ∙ sym more.2)
-
-pub loop-object-preserved-in-Continue-branch-2 : goal.loop-object-preserved-in-Continue-branch-2
-loop-object-preserved-in-Continue-branch-2 c =
-    let was = c.loop-object.invariant in
-    let more = cluster_role_more c.loop-object.yielded c.in-Some.object c.in-ClusterRole.role c.in-ClusterRole.is in
-    (was.0 ∙ sym more.0, c.in_ok-push-in-ClusterRole.ensures.items ∙ ap (λ rs. rs ++ c.in-ClusterRole.role ∷ []) was.1 ∙ sym more.1, was.2 ∙ sym more.2)
 
 pub loop-object-preserved : goal.loop-object-preserved
 loop-object-preserved c =
+    let seen = c.loop-object.yielded in
+    let one = c.in-Some.object ∷ [] in
     let was = c.loop-object.invariant in
-    let more = binding_more c.loop-object.yielded c.in-Some.object c.in-Binding.binding c.in-Binding.is in
-    (was.0 ∙ sym more.0, was.1 ∙ sym more.1, c.in_ok-push-in-Binding.ensures.items ∙ ap (λ bs. bs ++ c.in-Binding.binding ∷ []) was.2 ∙ sym more.2)
+    let now = c.in_ok-push.ensures in
+    record {
+      roles = now.roles ∙ ap (λ rs. rs ++ filter_map as_role one) was.roles ∙ sym (filter_map-append as_role seen one);
+      cluster_roles = now.cluster_roles ∙ ap (λ rs. rs ++ filter_map as_cluster_role one) was.cluster_roles ∙ sym (filter_map-append as_cluster_role seen one);
+      bindings = now.bindings ∙ ap (λ bs. bs ++ filter_map as_binding one) was.bindings ∙ sym (filter_map-append as_binding seen one);
+    }
