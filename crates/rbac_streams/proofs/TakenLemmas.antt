@@ -39,6 +39,10 @@ read_past most n seen room h k = rw (length-append, length-take-le n room k) (om
 pub read_upto : (n bound : ℕ) (seen room : List ℕ) → length seen + n ≤ bound → n ≤ length room → length (seen ++ take n room) ≤ bound
 read_upto n bound seen room h k = rw (length-append, length-take-le n room k) h
 
+-- how many reads there were with one more
+pub reads_upto : (start n m len : ℕ) → m ≡ counted n 1 → n ≤ start + len → len ≤ 67108864 → m ≤ start + (67108864 + 1)
+reads_upto start n m len e h k = omega (arith, e, h, k)
+
 -- the piece is a range up to the end
 pub take_add_rest : (s : List ℕ) (a n : ℕ) → take (a + n) s ≡ take a s ++ take n (take (length s - a) (drop a s))
 take_add_rest s a n = take_add s a n ∙ ap (λ (l : List ℕ). take a s ++ take n l) (sym (take_rest s a))
