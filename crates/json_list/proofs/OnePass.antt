@@ -1,5 +1,6 @@
 -- The members before a list, its items, and the members after it, in one pass.
 use Rattle.std.proofs.Common.{◌≡◌, ℕ, zero, suc, ◌<◌, ◌≤◌, List, [], ◌∷◌, length, Bool, true, false, bytes_eq, cond, Option, Some, None, option_map, option_and_then, refl, sym, ap, ◌∙◌, arith}
+use Rattle.std.specs.Prelude.{MatchBool}
 use Rattle.std.proofs.lemmas.Slice.Eq.{bytes_eq-Decides}
 use Rattle.json.specs.Token.{Token}
 use Rattle.json.specs.Json as json
@@ -9,9 +10,10 @@ use Rattle.serde_json.specs.Data.{Data, array, Members, no_members, put}
 use Rattle.serde_json.specs.Read.{converted, of_json, of_items, of_members}
 use Rattle.json_list.specs.List.{items_name, values_of, IsRead, IsUnread}
 use Rattle.json_list.specs.OnePass.{AreTheRest}
-use Rattle.json_list.specs.Places.{AreBefore}
+use Rattle.json_list.specs.Places.{AreBefore, HasOneList}
 use Rattle.json_list.proofs.Puts.{put_in_either_order}
 use Rattle.json_list.proofs.Walks.{Passed, none_passed, no_key, over, one_more, next}
+use Rattle.json_list.proofs.Walks as Walks
 
 -- ---- what was read, and what it was read from
 
@@ -88,7 +90,7 @@ module _ (start : Members) (first ts : List Token) (found : Members) (so_far : A
     λ ms. so_far.3 (json.member k is.0 ms) ∙ ap (option_and_then (λ e. of_members ms (put k e found))) is.2,
   )
 
-  pub are_the_rest : (r : List Token) → read_key ts ≡ Some (None, r) → r ≡ [] → AreTheRest start first found
+  are_the_rest : (r : List Token) → read_key ts ≡ Some (None, r) → r ≡ [] → AreTheRest start first found
   are_the_rest r key last = (
     so_far.0 json.no_members,
     over first ts so_far.0 so_far.1 r key ∙ ap (λ t. Some (so_far.0 json.no_members, t)) last,
@@ -126,8 +128,12 @@ module _ (start : Members) (first ts : List Token) (found : Members) (so_far : A
   pub bad_key : read_key ts ≡ None → (others : Members) → AreTheRest start first others → ⊥
   bad_key e others are = let never = sym (no_key first ts so_far.0 so_far.1 e) ∙ are.1 in absurd (cc)
 
-  pub text_goes_on : (r : List Token) → read_key ts ≡ Some (None, r) → (r ≡ [] → ⊥) → (others : Members) → AreTheRest start first others → ⊥
+  text_goes_on : (r : List Token) → read_key ts ≡ Some (None, r) → (r ≡ [] → ⊥) → (others : Members) → AreTheRest start first others → ⊥
   text_goes_on r key more others are = more (ap left_or (sym (over first ts so_far.0 so_far.1 r key) ∙ are.1))
+
+  pub the_rest_or_not : (r : List Token) → read_key ts ≡ Some (None, r) → (is_last : Bool) → MatchBool is_last (r ≡ []) (r ≡ [] → ⊥) → MatchBool is_last (AreTheRest start first found) ((others : Members) → AreTheRest start first others → ⊥)
+  the_rest_or_not r key true last = are_the_rest r key last
+  the_rest_or_not r key false more = text_goes_on r key more
 
 -- ---- `items`, before other members or after them
 
@@ -150,7 +156,7 @@ module _ (v : Data) where
   items_aside (json.member k j ms) found none = aside_at (bytes_eq k items_name) k j ms found refl none (λ e f. items_aside ms f e)
 
 module _ (old ts : List Token) (found : Members) (so_far : Adds no_members old ts found) where
-  pub are_before : (k : List ℕ) (s at : List Token) → read_key ts ≡ Some (Some k, s) → bytes_eq k items_name ≡ true → s ≡ Token.begin_array ∷ at → AreBefore old found at
+  are_before : (k : List ℕ) (s at : List Token) → read_key ts ≡ Some (Some k, s) → bytes_eq k items_name ≡ true → s ≡ Token.begin_array ∷ at → AreBefore old found at
   are_before k s at key is_items begin = λ ds rest others e r.
       let list = came_from of_items (json.items (json.value 125) (length at) at) ds rest e in
       let value : json.value 126 s ≡ Some (json.array list.0, rest) = ap (json.value 126) begin ∙ value-begin_array 126 at (omega arith) ∙ ap (parse_map json.array) list.1 in
@@ -168,3 +174,8 @@ module _ (old ts : List Token) (found : Members) (so_far : Adds no_members old t
       ∙ items_aside (array ds) r.0 found r.2
       ∙ ap (option_map (put items_name (array ds))) r.3
       )
+
+  pub before_or_not : (k : List ℕ) (s : List Token) → read_key ts ≡ Some (Some k, s) → bytes_eq k items_name ≡ true → (is_list : Bool) (at : List Token) → MatchBool is_list (s ≡ Token.begin_array ∷ at) ((r : List Token) → s ≡ Token.begin_array ∷ r → ⊥)
+      → MatchBool is_list (AreBefore old found at) (¬ HasOneList old)
+  before_or_not k s key is_items true at begin = are_before k s at key is_items begin
+  before_or_not k s key is_items false at other = Walks.found old ts (so_far.0, so_far.1, so_far.2) k s key is_items false at other

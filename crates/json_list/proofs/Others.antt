@@ -1,5 +1,6 @@
 -- The members of an object beside `items`, one after another.
 use Rattle.std.proofs.Common.{◌≡◌, ℕ, ◌<◌, List, [], ◌∷◌, length, Bool, true, false, bytes_eq, cond, Option, Some, None, option_map, option_and_then, refl, sym, ap, ◌∙◌}
+use Rattle.std.specs.Prelude.{MatchBool}
 use Rattle.std.proofs.lemmas.Slice.Eq.{bytes_eq-Decides}
 use Rattle.json.specs.Token.{Token}
 use Rattle.json.specs.Json as json
@@ -115,13 +116,13 @@ module _ (old ts : List Token) (others : Members) (k : List ℕ) (s : List Token
 
 -- ---- the end
 
-pub no_list : (old ts r : List Token) (others : Members) → Gathers false old ts others → read_key ts ≡ Some (None, r) → ¬ HasOneList old
+no_list : (old ts r : List Token) (others : Members) → Gathers false old ts others → read_key ts ≡ Some (None, r) → ¬ HasOneList old
 no_list old ts r others so_far e has =
     let all = all_passed old ts so_far.0 so_far.1 r e has.0 has.1 has.2 in
     let never : [] ≡ json.array has.3.0 ∷ [] = sym (so_far.2 json.no_members) ∙ ap (values_of items_name) (sym all) ∙ has.3.1 in
     absurd (cc)
 
-pub gathered : (old ts r : List Token) (others : Members) → Gathers true old ts others → read_key ts ≡ Some (None, r) → AreOthers old others r
+gathered : (old ts r : List Token) (others : Members) → Gathers true old ts others → read_key ts ≡ Some (None, r) → AreOthers old others r
 gathered old ts r others so_far e = (
   so_far.0 json.no_members,
   so_far.1,
@@ -129,3 +130,7 @@ gathered old ts r others so_far e = (
   so_far.3 json.no_members,
   so_far.4 json.no_members ∙ as_map (λ d. put items_name d others) (of_json so_far.1),
 )
+
+pub gathered_or_not : (has_items : Bool) (old ts r : List Token) (others : Members) → Gathers has_items old ts others → read_key ts ≡ Some (None, r) → MatchBool has_items (AreOthers old others r) (¬ HasOneList old)
+gathered_or_not true old ts r others so_far e = gathered old ts r others so_far e
+gathered_or_not false old ts r others so_far e = no_list old ts r others so_far e

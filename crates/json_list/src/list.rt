@@ -5,6 +5,7 @@ ghost use Rattle.std.specs.Prelude.{MatchOption, OnErr};
 ghost use Rattle.std.specs.Bool.{MatchBool};
 ghost use Rattle.json.specs.Lex.{tokens};
 ghost use Rattle.json.specs.Token.{Token as SpecToken, begin_array, begin_object};
+ghost use Rattle.serde_json.specs.Data.{no_members};
 ghost use Rattle.serde_json.specs.Read.{read};
 ghost use Rattle.serde_json.specs.View.{members_view};
 ghost use Rattle.json_list.specs.List.{IsList, with_items, items_ahead};
@@ -73,33 +74,32 @@ fn seek_items(reader: &mut Reader<'_>) -> Result<bool, Invalid>
     Ok(false)
 }
 
-// The members of an object other than `items`, if it has exactly one member of that name.
+// Puts the members of an object other than `items` to none; false if it hasn't exactly one member
+// of that name.
 fn read_others(
     alloc: Global,
     reader: &mut Reader<'_>,
-) -> Result<Option<Map<String, Value>>, ReadFault>
-    ensures others { IfOk result (λ o. MatchOption o (¬ HasOneList reader.old)
-        (λ others. AreOthers reader.old (members_view others.entries) reader.new)) }
+    members: &mut Map<String, Value>,
+) -> Result<bool, ReadFault>
+    requires { members_view members.old.entries ≡ no_members }
+    ensures others { IfOk result (λ has_one. MatchBool has_one
+        (AreOthers reader.old (members_view members.new.entries) reader.new)
+        (¬ HasOneList reader.old)) }
     ensures refused { result ≡ Err Refused → AreRefused reader.old }
 {
-    let mut others = Map::new(alloc);
     let mut has_items = false;
     'members: while let Some(name) = reader.next_key()? {
         if name == ITEMS {
             if has_items {
-                return Ok(None);
+                return Ok(false);
             }
             has_items = true;
             reader.skip_value(MEMBER_DEPTH)?;
         } else {
-            read_member(alloc, reader, name, &mut others)?;
+            read_member(alloc, reader, name, members)?;
         }
     }
-    if has_items {
-        Ok(Some(others))
-    } else {
-        Ok(None)
-    }
+    Ok(has_items)
 }
 
 // The items of the list that a text is, if the first member named `items` is a list.
@@ -132,9 +132,10 @@ fn others_in(
     let Some(mut reader) = object_in(text, scratch)? else {
         return Ok(None);
     };
-    let Some(others) = read_others(alloc, &mut reader)? else {
+    let mut others = Map::new(alloc);
+    if !read_others(alloc, &mut reader, &mut others)? {
         return Ok(None);
-    };
+    }
     if reader.next().is_some() {
         return Err(ReadFault::Refused);
     }

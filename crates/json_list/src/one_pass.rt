@@ -2,7 +2,8 @@
 
 ghost use Rattle.std.specs.Prelude.{◌≡◌, ◌<◌, length, option_map, Some, None, Err, IfOk};
 ghost use Rattle.std.specs.Prelude.{IfSome, MatchOption};
-ghost use Rattle.serde_json.specs.Data.{Data, Members, no_items, item};
+ghost use Rattle.std.specs.Bool.{MatchBool};
+ghost use Rattle.serde_json.specs.Data.{Data, Members, no_members, no_items, item};
 ghost use Rattle.serde_json.specs.View.{view, members_view};
 ghost use Rattle.json_list.specs.Lean.{lean};
 ghost use Rattle.json_list.specs.OnePass.{items_and_rest, AreTheRest, IsReadUpTo};
@@ -87,56 +88,57 @@ impl<'a> Unread<'a> {
         ensures refused { result ≡ Err Refused → (others : Members)
             → AreTheRest (members_view before.entries) self.old others → ⊥ }
     {
-        read_rest(alloc, &mut self.reader, before)
+        let mut others = before;
+        if !read_rest(alloc, &mut self.reader, &mut others)? {
+            return Ok(None);
+        }
+        Ok(Some(others))
     }
 }
 
-// The members of an object beside its list, of which those before it were read.
+// Puts the members after a list to those before it; false if they aren't the rest of a text.
 fn read_rest(
     alloc: Global,
     reader: &mut Reader<'_>,
-    before: Map<String, Value>,
-) -> Result<Option<Map<String, Value>>, ReadFault>
-    ensures rest { IfOk result (λ o. MatchOption o
-        ((others : Members) → AreTheRest (members_view before.entries) reader.old others → ⊥)
-        (λ others.
-        AreTheRest (members_view before.entries) reader.old (members_view others.entries))) }
+    members: &mut Map<String, Value>,
+) -> Result<bool, ReadFault>
+    ensures rest { IfOk result (λ is_rest. MatchBool is_rest
+        (AreTheRest (members_view members.old.entries) reader.old
+        (members_view members.new.entries))
+        ((others : Members) → AreTheRest (members_view members.old.entries) reader.old others
+        → ⊥)) }
     ensures refused { result ≡ Err Refused → (others : Members)
-        → AreTheRest (members_view before.entries) reader.old others → ⊥ }
+        → AreTheRest (members_view members.old.entries) reader.old others → ⊥ }
 {
-    let mut others = before;
     'members: while let Some(name) = reader.next_key()? {
         if name == ITEMS {
-            return Ok(None);
+            return Ok(false);
         }
-        read_member(alloc, reader, name, &mut others)?;
+        read_member(alloc, reader, name, members)?;
     }
-    if reader.next().is_some() {
-        return Ok(None);
-    }
-    Ok(Some(others))
+    Ok(reader.next().is_none())
 }
 
-// The members of an object before a list under `items`; None if the first `items` isn't a list.
+// Puts the members of an object before a list under `items` to none; false if the first `items`
+// isn't a list.
 fn read_before(
     alloc: Global,
     reader: &mut Reader<'_>,
-) -> Result<Option<Map<String, Value>>, ReadFault>
-    ensures before { IfOk result (λ o. MatchOption o (¬ HasOneList reader.old)
-        (λ before. AreBefore reader.old (members_view before.entries) reader.new)) }
+    members: &mut Map<String, Value>,
+) -> Result<bool, ReadFault>
+    requires { members_view members.old.entries ≡ no_members }
+    ensures before { IfOk result (λ found. MatchBool found
+        (AreBefore reader.old (members_view members.new.entries) reader.new)
+        (¬ HasOneList reader.old)) }
     ensures refused { result ≡ Err Refused → AreRefused reader.old }
 {
-    let mut before = Map::new(alloc);
     'members: while let Some(name) = reader.next_key()? {
         if name == ITEMS {
-            if take_begin_array(reader) {
-                return Ok(Some(before));
-            }
-            return Ok(None);
+            return Ok(take_begin_array(reader));
         }
-        read_member(alloc, reader, name, &mut before)?;
+        read_member(alloc, reader, name, members)?;
     }
-    Ok(None)
+    Ok(false)
 }
 
 /// The list that a text is, read up to its items (own). None only if the text isn't an object with
@@ -158,9 +160,10 @@ pub fn open_front<'a>(
     let Some(mut reader) = object_in(text, scratch)? else {
         return Ok(None);
     };
-    let Some(before) = read_before(alloc, &mut reader)? else {
+    let mut before = Map::new(alloc);
+    if !read_before(alloc, &mut reader, &mut before)? {
         return Ok(None);
-    };
+    }
     Ok(Some(ListFront {
         before,
         unread: Unread { reader },

@@ -1,10 +1,11 @@
 -- Pieces that a writer takes one after another are one piece.
-use Rattle.std.proofs.Common.{◌≡◌, ◌∙◌, ℕ, ◌+◌, ◌-◌, ◌<◌, ◌≤◌, List, [], ◌++◌, length, take, drop, Option, ap, ap₂, sym, refl, subst, arith, length-append, append_assoc, append-nil}
+use Rattle.std.proofs.Common.{Result, Ok, Err, OnOk, OnErr, ◌≡◌, ◌∙◌, ℕ, ◌+◌, ◌-◌, ◌<◌, ◌≤◌, List, [], ◌++◌, length, take, drop, Option, ap, ap₂, sym, refl, subst, arith, length-append, append_assoc, append-nil}
 use Rattle.std.proofs.lemmas.List.{take-append-drop, drop-take, take-take, length-take-le, take_rest}
 use Rattle.std.specs.Io.KnownBytes.{Keeps}
 use Rattle.std.proofs.KnownBytes.{Appends-nil, Appends-trans, Appends-kept, Keeps-refl}
 use Rattle.rbac_streams.specs.Streams.{SinkView, PageView}
 use Rattle.rbac_streams.specs.Taken.{Took, Printed, Prints, Stopped, StopsIn, counted}
+use Rattle.rbac_streams.specs.declared.page.PrintFault.{PrintFault}
 
 pub counted_none : (n : ℕ) → n ≡ counted n 0
 counted_none n = omega arith
@@ -37,6 +38,10 @@ read_past most n seen room h k = rw (length-append, length-take-le n room k) (om
 -- how much there is with one more read
 pub read_upto : (n bound : ℕ) (seen room : List ℕ) → length seen + n ≤ bound → n ≤ length room → length (seen ++ take n room) ≤ bound
 read_upto n bound seen room h k = rw (length-append, length-take-le n room k) h
+
+-- how many reads there were with one more
+pub reads_upto : (start n m len : ℕ) → m ≡ counted n 1 → n ≤ start + len → len ≤ 67108864 → m ≤ start + (67108864 + 1)
+reads_upto start n m len e h k = omega (arith, e, h, k)
 
 -- the piece is a range up to the end
 pub take_add_rest : (s : List ℕ) (a n : ℕ) → take (a + n) s ≡ take a s ++ take n (take (length s - a) (drop a s))
@@ -95,6 +100,37 @@ module _ {W : Type 0} (contents : W → Option (List ℕ)) where
   pub Stops-after : (s t u : SinkView W) (p q r : PageView) (bs cs : List ℕ) → Prints contents s p t q bs → StopsIn contents t q u r cs → StopsIn contents s p u r (bs ++ cs)
   Stops-after s t u p q r bs cs f g = λ start text h.
       subst (λ (x : List ℕ). Stopped contents start u r x) (append_assoc text bs cs) (g start (text ++ bs) (f start text h))
+
+  -- more is pending, and the sink is as it was
+  pub Prints-pending : (s : SinkView W) (p q : PageView) (more : List ℕ) → q.pending ≡ p.pending ++ more → q.written ≡ p.written → Prints contents s p s q more
+  Prints-pending s p q more e w = λ start text h. record {
+    prefix = h.prefix;
+    took = h.took;
+    whole = ap (λ (l : List ℕ). l ++ more) h.whole ∙ append_assoc h.prefix p.pending more ∙ ap (λ (l : List ℕ). h.prefix ++ l) (sym e);
+    written = w ∙ h.written;
+  }
+
+  -- nothing more was printed
+  pub Stops-unprinted : (s : SinkView W) (p q : PageView) (more : List ℕ) → q.written ≡ p.written → StopsIn contents s p s q more
+  Stops-unprinted s p q more w = λ start text h. record {
+    prefix = h.prefix;
+    rest = p.pending ++ more;
+    took = h.took;
+    whole = ap (λ (l : List ℕ). l ++ more) h.whole ∙ append_assoc h.prefix p.pending more;
+    written = w ∙ h.written;
+  }
+
+  -- what was pending was written, or the sink failed
+  module _ (s t : SinkView W) (p q r : PageView) (more : List ℕ) (printed : Prints contents s p s q more) where
+    pub Prints-flushed : (result : Result Unit PrintFault) → OnOk result ((start : SinkView W) (text : List ℕ) → Printed contents start s q text → Printed contents start t r text)
+        → OnOk result (Prints contents s p t r more)
+    Prints-flushed (Ok done) flushed = λ start text h. flushed start (text ++ more) (printed start text h)
+    Prints-flushed (Err fault) flushed = tt
+
+    pub Stops-flushed : (result : Result Unit PrintFault) → OnErr result ((start : SinkView W) (text : List ℕ) → Printed contents start s q text → Stopped contents start t r text)
+        → OnErr result (StopsIn contents s p t r more)
+    Stops-flushed (Ok done) stopping = tt
+    Stops-flushed (Err fault) stopping = λ start text h. stopping start (text ++ more) (printed start text h)
 
   -- a page that is empty, at its own sink
   pub Printed-nothing : (s : SinkView W) (p : PageView) → p.pending ≡ [] → p.written ≡ 0 → Printed contents s s p []

@@ -4,19 +4,19 @@ use Rattle.serde_json.specs.Data.{no_members}
 use Rattle.serde_json.specs.View.{members_view}
 use Rattle.json_list.specs.List.{items_name}
 use Rattle.json_list.proofs.Others.{key_refused, other_refused}
-use Rattle.json_list.proofs.Walks.{found, none_left}
-use Rattle.json_list.proofs.OnePass.{Adds, begun, added, are_before}
+use Rattle.json_list.proofs.Walks.{none_left}
+use Rattle.json_list.proofs.OnePass.{Adds, begun, added, before_or_not}
 use Rattle.json_list.proofs.one_pass.read_before.Goals as goal
 
 pub members-init : goal.members-init
 members-init c =
     let old = c.args.reader.now in
-    subst (λ es. Adds no_members old old (members_view es)) (sym c.new-before.ensures.empty) (begun no_members old)
+    subst (Adds no_members old old) (sym c.requires) (begun no_members old)
 
 pub members-preserved : goal.members-preserved
 members-preserved c =
     let l = c.members in
-    let old = members_view l.before.entries in
+    let old = members_view l.members.entries in
     let k = c.in-Some.name.now in
     let s = c.next_key.new.self in
     let r = c.read_member.new.reader in
@@ -26,19 +26,10 @@ members-preserved c =
     subst (Adds no_members c.args.reader.now r) (sym read.2)
     (added no_members c.args.reader.now l.reader old l.invariant k s key other read.0 r read.1 c.in_ok-read_member.ensures.shorter)
 
-pub returns-then-take_begin_array-clause-before : goal.returns-then-take_begin_array-clause-before
-returns-then-take_begin_array-clause-before c =
-    let l = c.members in
-    let k = c.in-Some.name.now in
-    let s = c.next_key.new.self in
-    let key : read_key l.reader ≡ Some (Some k, s) = grind arith in
-    let same : bytes_eq k items_name ≡ true = sym c.if-eq.ensures in
-    are_before c.args.reader.now l.reader (members_view l.before.entries) l.invariant k s c.take_begin_array.new.reader key same c.if-take_begin_array.ensures
-
 pub returns-in_err-name-clause-refused : goal.returns-in_err-name-clause-refused
 returns-in_err-name-clause-refused c _ =
     let l = c.members in
-    key_refused false c.args.reader.now l.reader (members_view l.before.entries) l.invariant c.in_err-name.ensures.value
+    key_refused false c.args.reader.now l.reader (members_view l.members.entries) l.invariant c.in_err-name.ensures.value
 
 pub returns-in_err-read_member-clause-refused : goal.returns-in_err-read_member-clause-refused
 returns-in_err-read_member-clause-refused c refusal =
@@ -46,7 +37,7 @@ returns-in_err-read_member-clause-refused c refusal =
     let k = c.in-Some.name.now in
     let s = c.next_key.new.self in
     let key : read_key l.reader ≡ Some (Some k, s) = grind arith in
-    other_refused c.args.reader.now l.reader (members_view l.before.entries) k s key false l.invariant (c.in_err-read_member.ensures.refused (grind arith))
+    other_refused c.args.reader.now l.reader (members_view l.members.entries) k s key false l.invariant (c.in_err-read_member.ensures.refused (grind arith))
 
 pub returns-then-eq-clause-before : goal.returns-then-eq-clause-before
 returns-then-eq-clause-before c =
@@ -55,7 +46,7 @@ returns-then-eq-clause-before c =
     let s = c.next_key.new.self in
     let key : read_key l.reader ≡ Some (Some k, s) = grind arith in
     let same : bytes_eq k items_name ≡ true = sym c.if-eq.ensures in
-    found c.args.reader.now l.reader (l.invariant.0, l.invariant.1, l.invariant.2) k s key same false c.take_begin_array.new.reader (rw c.if-take_begin_array.false at c.take_begin_array.ensures)
+    before_or_not c.args.reader.now l.reader (members_view l.members.entries) l.invariant k s key same c.take_begin_array.result c.take_begin_array.new.reader c.take_begin_array.ensures
 
 pub returns-clause-before : goal.returns-clause-before
 returns-clause-before c =

@@ -4,7 +4,7 @@ use Rattle.json_list.proofs.OnePass.{Adds}
 use Rattle.json_list.proofs.one_pass.read_rest.Given as goal
 
 abbrev pub invariant-members : goal.invariant-members
-invariant-members l = Adds (members_view l.fn.before.entries) l.initial.reader l.reader (members_view l.others.entries)
+invariant-members l = Adds (members_view l.fn.members.entries) l.initial.reader l.reader (members_view l.members.entries)
 
 abbrev pub decreases-members : goal.decreases-members
 decreases-members l = length l.reader
