@@ -96,7 +96,7 @@ impl<'a> Unread<'a> {
     }
 }
 
-// Puts the members after a list to those before it; false if they aren't the rest of a text.
+// Adds the members after a list to those before it; false if they aren't the rest of a text.
 fn read_rest(
     alloc: Global,
     reader: &mut Reader<'_>,
@@ -119,8 +119,8 @@ fn read_rest(
     Ok(reader.next().is_none())
 }
 
-// Puts the members of an object before a list under `items` to none; false if the first `items`
-// isn't a list.
+// Puts the members of an object before a list under `items` into an empty map; false if the first
+// `items` isn't a list.
 fn read_before(
     alloc: Global,
     reader: &mut Reader<'_>,
