@@ -86,7 +86,7 @@ pub(crate) fn check_target(target: &str, subresource: &str) -> Result<(), Questi
     if lacks_type(target) {
         return Err(QuestionFault::EmptyWord);
     }
-    if is_path(target.as_bytes()) && !subresource.is_empty() {
+    if has_url_subresource(target, subresource) {
         return Err(QuestionFault::UrlSubresource);
     }
     Ok(())
@@ -96,6 +96,12 @@ fn lacks_type(target: &str) -> bool
     ensures { IsTrue result ↔ LacksType target.now }
 {
     target.is_empty() || target.as_bytes().starts_with(b".".as_slice())
+}
+
+fn has_url_subresource(target: &str, subresource: &str) -> bool
+    ensures { IsTrue result ↔ HasUrlSubresource target.now subresource.now }
+{
+    is_path(target.as_bytes()) && !subresource.is_empty()
 }
 
 // A URL by its path.
