@@ -3,7 +3,7 @@ use Rattle.std.proofs.Common.{◌≡◌, ℕ, ◌+◌, ◌<◌, ◌≤◌, ◌�
 use Rattle.std.specs.Prelude.{Option, Some, None, Contains, slice_get, codes, IfSome}
 use Rattle.std.proofs.lemmas.Bool.{cases_lt}
 use Rattle.std.proofs.lemmas.List.{get_or_append_left, get_or_push, length-append}
-use Rattle.std.proofs.lemmas.List.Elements.{All-contains, All-nil, All-push, Contains-append_left, Contains-push, Contains-push_cases}
+use Rattle.std.proofs.lemmas.List.Elements.{All-contains, All-nil, All-push, Contains-append_left, Contains-append_right, Contains-push, Contains-push_cases}
 use Rattle.std.proofs.lemmas.Option.{slice_get_within, get_or_from_slice_get, same_Some, slice_get-get_or}
 use Rattle.rbac_terms.specs.Text.{Text, slash, IsCutAtFirst, BeginsWith}
 use Rattle.rbac_terms.proofs.Texts.{IsCutAtFirst-one}
@@ -136,6 +136,14 @@ adds_fewer m P Q old new f a = record {
 pub of_each_one : (w prefix rest word : Text) → IsCutAtFirst w slash prefix rest → word ≡ codes "*/" ++ rest → (u : Text) → IsOfEach w u → u ≡ word
 of_each_one w prefix rest word cut is u of =
     of.1 ∙ ap (λ (s : Text). codes "*/" ++ s) (IsCutAtFirst-one w of.2.0 prefix of.0 rest slash of.2.1 cut) ∙ sym is
+
+-- a word without a slash has none
+pub no_of_each : (m : Lists) (w : Text) (c : Candidates) → ¬ Contains w slash → AddsUnder m (IsOfEach w) c c
+no_of_each m w c none = record {
+  kept = λ n s. s;
+  has = λ u n of s. absurd (none (subst (λ (t : Text). Contains t slash) (sym of.2.1.0) (Contains-append_right of.2.0 (slash ∷ of.0) slash (0, omega arith, refl))));
+  ascending = λ up a. a;
+}
 
 -- those under the words that match a resource text
 pub all_matching : (m : Lists) (w : Text) (none own every c : Candidates) → none.lists.items ≡ [] → AddsUnder m (λ u. u ≡ w) none own → AddsUnder m (λ u. u ≡ codes "*") own every

@@ -13,7 +13,7 @@ ghost use Rattle.rbac_lint.specs.Candidates.{IsOfEach, AreMatching, AreCandidate
 
 use crate::coverage::{has_resource, has_url};
 use crate::prefixes::{Prefix, last_up_to};
-use crate::rules_by_word::{Field, Places, RulesByWord, stem_of, under, words_in};
+use crate::rules_by_word::{Field, Places, RulesByWord, star_word, stem_of, under, words_in};
 use rbac_terms::{Rule, Word, cut_at_first, is_path, is_resource_text};
 use std::alloc::{AllocError, Global};
 use std::collections::BTreeMap;
@@ -152,7 +152,7 @@ fn matching<'a>(
     ensures { IfOk result (AreMatching lists.now word.now) }
 {
     let mut candidates = Candidates::new(alloc);
-    let every = Word::from_slice(alloc, b"*".as_slice())?;
+    let every = star_word(alloc)?;
     candidates.add_under(lists, word)?;
     candidates.add_under(lists, &every)?;
     add_of_each(alloc, &mut candidates, lists, word)?;

@@ -70,7 +70,12 @@ impl Findings {
 }
 
 // The text of a kind, a namespace and a name.
-fn scoped_word(alloc: Global, kind: &str, namespace: &[u8], name: &Word) -> Result<Word, AllocError>
+pub(crate) fn scoped_word(
+    alloc: Global,
+    kind: &[u8],
+    namespace: &[u8],
+    name: &Word,
+) -> Result<Word, AllocError>
     ensures { IfOk result (λ w. w ≡ kind.now ++ 47 ∷ (namespace.now ++ 47 ∷ []) ++ name.now) }
 {
     let mut text = kind_word(alloc, kind)?;
@@ -81,7 +86,7 @@ fn scoped_word(alloc: Global, kind: &str, namespace: &[u8], name: &Word) -> Resu
 }
 
 // The text of a kind and a name.
-fn cluster_word(alloc: Global, kind: &str, name: &Word) -> Result<Word, AllocError>
+pub(crate) fn cluster_word(alloc: Global, kind: &[u8], name: &Word) -> Result<Word, AllocError>
     ensures { IfOk result (λ w. w ≡ kind.now ++ 47 ∷ name.now) }
 {
     let mut text = kind_word(alloc, kind)?;
@@ -90,10 +95,10 @@ fn cluster_word(alloc: Global, kind: &str, name: &Word) -> Result<Word, AllocErr
 }
 
 // A kind, with the slash after it.
-fn kind_word(alloc: Global, kind: &str) -> Result<Word, AllocError>
+fn kind_word(alloc: Global, kind: &[u8]) -> Result<Word, AllocError>
     ensures { IfOk result (λ w. w ≡ kind.now ++ 47 ∷ []) }
 {
-    let mut text = Word::from_slice(alloc, kind.as_bytes())?;
+    let mut text = Word::from_slice(alloc, kind)?;
     text.push(b'/')?;
     Ok(text)
 }
@@ -101,13 +106,13 @@ fn kind_word(alloc: Global, kind: &str) -> Result<Word, AllocError>
 fn role_name_word(alloc: Global, namespace: &[u8], name: &Word) -> Result<Word, AllocError>
     ensures { IfOk result (λ w. w ≡ object_text (role_object namespace.now name.now)) }
 {
-    scoped_word(alloc, ROLE, namespace, name)
+    scoped_word(alloc, ROLE.as_bytes(), namespace, name)
 }
 
 fn cluster_role_name_word(alloc: Global, name: &Word) -> Result<Word, AllocError>
     ensures { IfOk result (λ w. w ≡ object_text (cluster_role_object name.now)) }
 {
-    cluster_word(alloc, CLUSTER_ROLE, name)
+    cluster_word(alloc, CLUSTER_ROLE.as_bytes(), name)
 }
 
 // A role as findings name it.
@@ -125,8 +130,13 @@ pub(crate) fn binding_word(alloc: Global, binding: &Binding) -> Result<Word, All
     ensures { IfOk result (λ w. w ≡ object_text (binding_object binding.now)) }
 {
     match &binding.namespace {
-        Some(namespace) => { scoped_word(alloc, ROLE_BINDING, namespace.as_bytes(), &binding.name) }
-        None => cluster_word(alloc, CLUSTER_ROLE_BINDING, &binding.name),
+        Some(namespace) => scoped_word(
+            alloc,
+            ROLE_BINDING.as_bytes(),
+            namespace.as_bytes(),
+            &binding.name,
+        ),
+        None => cluster_word(alloc, CLUSTER_ROLE_BINDING.as_bytes(), &binding.name),
     }
 }
 

@@ -1,6 +1,6 @@
 //! Everything that lint finds.
 
-ghost use Rattle.std.specs.Prelude.{◌≡◌, IfOk, IfErr};
+ghost use Rattle.std.specs.Prelude.{◌≡◌, [], IfOk, IfErr, OnOk};
 ghost use Rattle.rbac_lint.specs.Findings.{AreFindings};
 
 use crate::accounts::find_accounts;
@@ -13,7 +13,7 @@ use crate::replaced_object::find_replaced;
 use crate::stale_aggregate::find_stale;
 use crate::unused_role::find_unused;
 use rbac_manifest::{Export, Loaded};
-use std::alloc::Global;
+use std::alloc::{AllocError, Global};
 
 /// What deserves a second look in the loaded inputs (own): bindings whose role is missing, roles
 /// that no binding leads to, rules that another rule of their role covers, rules that let a subject
@@ -38,15 +38,24 @@ pub fn lint_export(alloc: Global, export: &Export) -> Result<Findings, LintFault
     ensures ok { IfOk result (AreFindings export.now.policy.held export.now.replaced) }
     ensures only_memory { IfErr result (λ e. e ≡ LintFault.NoMemory) }
 {
+    let mut found = Findings::new(alloc);
+    find_all(alloc, &mut found, export)?;
+    Ok(found)
+}
+
+// Adds everything that deserves a second look, in order.
+fn find_all(alloc: Global, found: &mut Findings, export: &Export) -> Result<(), AllocError>
+    ensures { OnOk result (found.old ≡ []
+        → AreFindings export.now.policy.held export.now.replaced found.new) }
+{
     let policy = export.policy();
     let objects = policy.objects();
-    let mut found = Findings::new(alloc);
-    find_dangling(alloc, &mut found, objects)?;
-    find_unused(alloc, &mut found, policy)?;
-    find_redundant(alloc, &mut found, objects)?;
-    find_escalations(alloc, &mut found, objects)?;
-    find_accounts(alloc, &mut found, objects)?;
-    find_stale(alloc, &mut found, policy)?;
-    find_replaced(alloc, &mut found, export.replaced())?;
-    Ok(found)
+    find_dangling(alloc, found, objects)?;
+    find_unused(alloc, found, policy)?;
+    find_redundant(alloc, found, objects)?;
+    find_escalations(alloc, found, objects)?;
+    find_accounts(alloc, found, objects)?;
+    find_stale(alloc, found, policy)?;
+    find_replaced(alloc, found, export.replaced())?;
+    Ok(())
 }

@@ -6,7 +6,7 @@ ghost use Rattle.rbac_manifest.specs.Replaced.{replaced_name};
 ghost use Rattle.rbac_lint.specs.Lines.{Adds, object_text};
 ghost use Rattle.rbac_lint.specs.Replaced.{replaced_object, IsReplacedOf, IsReplaced};
 
-use crate::finding::{Finding, Findings, number_word};
+use crate::finding::{Finding, Findings, cluster_word, number_word, scoped_word};
 use rbac_manifest::Replaced;
 use rbac_terms::Word;
 use std::alloc::{AllocError, Global};
@@ -47,12 +47,11 @@ fn find_replaced_of(
 fn replaced_word(alloc: Global, replaced: &Replaced) -> Result<Word, AllocError>
     ensures { IfOk result (λ w. w ≡ object_text (replaced_object replaced.now)) }
 {
-    let mut text = Word::from_slice(alloc, replaced.kind.as_bytes())?;
-    text.push(b'/')?;
-    if !replaced.namespace.is_empty() {
-        text.push_slice(replaced.namespace.as_bytes())?;
-        text.push(b'/')?;
+    let kind = replaced.kind.as_bytes();
+    let namespace = replaced.namespace.as_bytes();
+    if namespace.is_empty() {
+        cluster_word(alloc, kind, &replaced.name)
+    } else {
+        scoped_word(alloc, kind, namespace, &replaced.name)
     }
-    text.push_slice(replaced.name.as_bytes())?;
-    Ok(text)
 }

@@ -1,15 +1,24 @@
 //! Sets of rules, compared in an order of their words.
 
 ghost use Rattle.std.specs.Prelude.{◌≡◌, ◌↔◌, IfOk, IsTrue, All, Contains};
+ghost use Rattle.std.specs.Cmp.Lexicographic.{slice_cmp};
+ghost use Rattle.rbac_terms.specs.Text.{text_cmp};
 ghost use Rattle.rbac_lint.specs.Findings.{HasSameRules};
 ghost use Rattle.rbac_lint.specs.Gathering.{rules_at};
 ghost use Rattle.rbac_lint.specs.RuleSets.{IsIn, IsSetOf};
 
-use rbac_terms::Rule;
+use rbac_terms::{Rule, Words};
 use std::alloc::{AllocError, Global};
 use std::cmp::Ordering;
 use std::collections::BTreeSet;
 use std::marker::Model;
+
+// The order of two lists of words: word by word.
+fn cmp_words(a: &Words, b: &Words) -> Ordering
+    ensures { result ≡ slice_cmp text_cmp a.now b.now }
+{
+    a.as_slice().cmp(b.as_slice())
+}
 
 // A rule, as sets order it: by its five lists, word by word.
 #[derive(Drop)]
@@ -74,11 +83,11 @@ impl<'a> Ord for RuleKey<'a> {
     fn cmp(&self, other: &Self) -> Ordering {
         let a = self.rule;
         let b = other.rule;
-        let names = a.resource_names.as_slice().cmp(b.resource_names.as_slice());
-        let last = names.then(a.urls.as_slice().cmp(b.urls.as_slice()));
-        let resources = a.resources.as_slice().cmp(b.resources.as_slice());
-        let groups = a.groups.as_slice().cmp(b.groups.as_slice());
-        let verbs = a.verbs.as_slice().cmp(b.verbs.as_slice());
+        let names = cmp_words(&a.resource_names, &b.resource_names);
+        let last = names.then(cmp_words(&a.urls, &b.urls));
+        let resources = cmp_words(&a.resources, &b.resources);
+        let groups = cmp_words(&a.groups, &b.groups);
+        let verbs = cmp_words(&a.verbs, &b.verbs);
         verbs.then(groups.then(resources.then(last)))
     }
 }

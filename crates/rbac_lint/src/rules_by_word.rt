@@ -86,17 +86,25 @@ pub(crate) struct RulesByWord {
     pub(crate) prefixes: Vec<Prefix>,
 }
 
+// The word that stands for all words.
+pub(crate) fn star_word(alloc: Global) -> Result<Word, AllocError>
+    ensures { IfOk result (λ word. word ≡ codes "*") }
+{
+    Word::from_slice(alloc, b"*".as_slice())
+}
+
 // Lists these rules.
 pub(crate) fn listed_by_word(alloc: Global, rules: &[Rule]) -> Result<RulesByWord, AllocError>
     ensures { IfOk result (AreRulesByWord rules.now) }
 {
-    let star = Word::from_slice(alloc, b"*".as_slice())?;
+    let star = star_word(alloc)?;
     let verbs = lists_of(alloc, rules, &star, Field::Verbs)?;
     let groups = lists_of(alloc, rules, &star, Field::Groups)?;
     let resources = lists_of(alloc, rules, &star, Field::Resources)?;
     let names = lists_of(alloc, rules, &star, Field::Names)?;
     let urls = lists_of(alloc, rules, &star, Field::Urls)?;
-    let prefixes = prefixes_of(alloc, lists_of(alloc, rules, &star, Field::Prefixes)?)?;
+    let by_prefix = lists_of(alloc, rules, &star, Field::Prefixes)?;
+    let prefixes = prefixes_of(alloc, by_prefix)?;
     Ok(RulesByWord {
         star,
         verbs,

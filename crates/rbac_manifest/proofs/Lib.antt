@@ -1,4 +1,5 @@
 pub mod Beside
+pub mod Chains
 pub mod Elements
 pub mod Conditions
 pub mod ContentsLemmas

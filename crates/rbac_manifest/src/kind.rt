@@ -35,7 +35,7 @@ const RBAC_V1BETA1: &str = rbac_group!("/v1beta1");
 const RBAC_PREFIX: &str = rbac_group!("/");
 
 // A pair of version and kind that is read, and what a document with this pair is.
-#[derive(Clone, Copy, Drop)]
+#[derive(Drop)]
 struct Row {
     version: &'static str,
     kind: &'static str,
@@ -43,7 +43,7 @@ struct Row {
 }
 
 // The pairs that are read, with versions as `version_read` gives them.
-const KINDS_READ: [Row; 15] = [
+const KINDS_READ: &[Row] = &[
     Row {
         version: RBAC_V1,
         kind: ROLE,
@@ -121,9 +121,8 @@ const KINDS_READ: [Row; 15] = [
     },
 ];
 
-// A copy of `KINDS_READ`.
-fn kinds_read() -> [Row; 15]
-    ensures { map as_reading result ≡ kinds_read }
+fn kinds_read() -> &'static [Row]
+    ensures { map as_reading result.now ≡ kinds_read }
 {
     KINDS_READ
 }
@@ -203,7 +202,7 @@ fn kind_text<'v>(document: &'v Value, implied: Implied) -> Option<&'v str>
 fn needs_version(kind: &str) -> bool
     ensures { result ≡ needs_version kind.now }
 {
-    some_asks_version(&kinds_read(), kind)
+    some_asks_version(kinds_read(), kind)
 }
 
 // Whether one of these rows is of this kind and needs a version.
@@ -264,7 +263,7 @@ fn version_text<'v>(document: &'v Value, implied: Implied, kind: &str) -> Option
 pub(crate) fn kind_named(version: &str, kind: &str) -> Kind
     ensures { result ≡ kind_named version.now kind.now }
 {
-    meaning_in(&kinds_read(), version, kind)
+    meaning_in(kinds_read(), version, kind)
 }
 
 // Whether this row is the one for this version and kind.

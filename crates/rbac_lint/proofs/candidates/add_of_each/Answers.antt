@@ -1,10 +1,13 @@
 use Rattle.std.proofs.Common.{◌≡◌, ◌++◌, ◌∙◌, ap, subst}
-use Rattle.std.specs.Prelude.{codes}
+use Rattle.std.specs.Prelude.{Contains, codes}
 use Rattle.rbac_terms.specs.Text.{Text, slash, IsCutAtFirst}
 use Rattle.rbac_terms.proofs.Cases.{on_ok}
 use Rattle.rbac_lint.specs.Candidates.{IsOfEach}
-use Rattle.rbac_lint.proofs.Looked.{adds_fewer, of_each_one}
+use Rattle.rbac_lint.proofs.Looked.{adds_fewer, of_each_one, no_of_each}
 use Rattle.rbac_lint.proofs.candidates.add_of_each.Goals as goal
+
+pub returns-in_default : goal.returns-in_default
+returns-in_default c = no_of_each c.args.lists.now c.args.word.now c.args.candidates.now (subst (λ (t : Text). ¬ Contains t slash) c.as_bytes.ensures c.in_default.ensures)
 
 pub returns : goal.returns
 returns c =

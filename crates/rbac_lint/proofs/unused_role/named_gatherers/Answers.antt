@@ -4,10 +4,13 @@ use Rattle.std.proofs.lemmas.Bool.{both_ways}
 use Rattle.std.proofs.lemmas.Option.{slice_get_read}
 use Rattle.rbac_terms.specs.declared.granting.ClusterRole.{ClusterRole}
 use Rattle.rbac_model.specs.Policies.{InClusterRole}
-use Rattle.rbac_lint.proofs.RoleLines.{cluster_role_there}
+use Rattle.rbac_lint.proofs.RoleLines.{cluster_role_there, roles_length}
 use Rattle.rbac_lint.proofs.Flags.{AreGatherersBelow, gatherers_more, gatherers_same, gatherers_all}
 use Rattle.rbac_lint.proofs.unused_role.named_gatherers.Goals as goal
 use Rattle.rbac_lint.proofs.unused_role.named_gatherers.Goals.{then-is_gatherer+in_ok-push, else-is_gatherer}
+
+pub is_gatherer-requires : goal.is_gatherer-requires
+is_gatherer-requires c = omega (arith, c.requires.len, roles_length c.args.objects.now, ap length c.cluster_roles-roles.ensures.cluster_roles)
 
 pub loop-place-preserved : goal.loop-place-preserved
 loop-place-preserved c =

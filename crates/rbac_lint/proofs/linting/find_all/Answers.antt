@@ -7,10 +7,10 @@ use Rattle.rbac_lint.specs.Lines.{Adds}
 use Rattle.rbac_lint.specs.Findings.{IsDangling, IsUnused, IsRedundant, IsEscalation, IsAccountWithout, IsStale}
 use Rattle.rbac_lint.specs.Replaced.{IsReplaced}
 use Rattle.rbac_lint.proofs.AllFound.{all_found}
-use Rattle.rbac_lint.proofs.linting.lint_export.Goals as goal
+use Rattle.rbac_lint.proofs.linting.find_all.Goals as goal
 
-pub returns-clause-ok : goal.returns-clause-ok
-returns-clause-ok c =
+pub returns : goal.returns
+returns c none =
     let h = c.args.export.now.policy.held in
     let p = ap (λ (v : PolicyView). v.held) c.policy-policy.ensures in
     let e = c.objects-objects.ensures.held ∙ p in
@@ -21,14 +21,14 @@ returns-clause-ok c =
     let w = c.find_accounts.new.found in
     let z = c.find_stale.new.found in
     let k = c.find_replaced.new.found in
-    let P1 : Held → Type 0 = λ v. Adds (IsDangling v) c.new-found.result b in
+    let P1 : Held → Type 0 = λ v. Adds (IsDangling v) c.args.found.now b in
     let P2 : Held → Type 0 = λ v. Adds (IsUnused v) b u in
     let P3 : Held → Type 0 = λ v. Adds (IsRedundant v) u r in
     let P4 : Held → Type 0 = λ v. Adds (IsEscalation v) r s in
     let P5 : Held → Type 0 = λ v. Adds (IsAccountWithout v) s w in
     let P6 : Held → Type 0 = λ v. Adds (IsStale v) w z in
     let P7 : List Replaced → Type 0 = λ rs. Adds (IsReplaced rs) z k in
-    all_found h c.args.export.now.replaced c.new-found.result b u r s w z k c.new-found.ensures
+    all_found h c.args.export.now.replaced c.args.found.now b u r s w z k none
     (subst P1 e c.in_ok-find_dangling.ensures) (subst P2 p c.in_ok-find_unused.ensures) (subst P3 e c.in_ok-find_redundant.ensures)
     (subst P4 e c.in_ok-find_escalations.ensures) (subst P5 e c.in_ok-find_accounts.ensures) (subst P6 p c.in_ok-find_stale.ensures)
     (subst P7 c.replaced.ensures.replaced c.in_ok-find_replaced.ensures)
