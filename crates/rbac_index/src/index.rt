@@ -25,11 +25,11 @@ use crate::merge::{Numbers, merged};
 use crate::numbers::GrantNos;
 use crate::rule_lists::{RuleLists, matching, rule_lists_of};
 use crate::rule_rows::{Written, laid_out, rows_of};
-use crate::sightings::see_binding;
+use crate::sightings::sightings_of;
 use crate::starts::starts_by_row;
 use crate::subject_index::SubjectIndex;
 use rbac_model::{Grant, Policy};
-use rbac_terms::{Binding, Principal, Target, Word, rule_allows};
+use rbac_terms::{Principal, Target, Word, rule_allows};
 use std::alloc::{AllocError, Global};
 use std::marker::Model;
 
@@ -191,18 +191,8 @@ impl<'p> Index<'p> {
             (AreListedHolders self.now.held (where_of asked.entry) every verb.now target.now) }
     {
         let policy: &'p Policy = self.policy;
-        let bindings: &'p [Binding] = policy.bindings();
         let numbers = self.candidates(alloc, verb, target)?;
-        let mut seen = Vec::new(alloc);
-        // The place after the last binding that was looked at.
-        let mut next = 0;
-        for no in numbers.as_slice() {
-            let place = policy.place(*no).binding;
-            if next <= place {
-                see_binding(alloc, &bindings[place], place, asked, target, &mut seen)?;
-                next = place + 1;
-            }
-        }
+        let seen = sightings_of(alloc, policy, numbers.as_slice(), asked, target)?;
         Ok(Holders::first_of(alloc, every, seen)?)
     }
 }
