@@ -1,4 +1,4 @@
-use Rattle.std.proofs.Common.{◌≡◌, ◌<◌, length, slice_get, refl}
+use Rattle.std.proofs.Common.{◌≡◌, ◌<◌, length, slice_get, refl, arith}
 use Rattle.std.specs.Prelude.{Some}
 use Rattle.std.proofs.lemmas.List.Elements.{All-get_or}
 use Rattle.std.proofs.lemmas.Option.{slice_get_within, slice_get_read}
@@ -21,6 +21,18 @@ pub bounds-bindings-place : goal.bounds-bindings-place
 bounds-bindings-place c =
     let of = c.place-place.ensures.binding in
     rw c.bindings-bindings.ensures.bindings (slice_get_within c.args.policy.now.held.bindings c.place-place.result.binding of.0.binding of.2)
+
+pub offset_bounds-bindings-place : goal.offset_bounds-bindings-place
+offset_bounds-bindings-place c =
+    let of = c.place-place.ensures.binding in
+    let low : c.place-place.result.binding < length c.bindings-bindings.result.now = rw c.bindings-bindings.ensures.bindings (slice_get_within c.args.policy.now.held.bindings c.place-place.result.binding of.0.binding of.2) in
+    omega arith
+
+pub overflow_add-next : goal.overflow_add-next
+overflow_add-next c =
+    let of = c.place-place.ensures.binding in
+    let low : c.place-place.result.binding < length c.bindings-bindings.result.now = rw c.bindings-bindings.ensures.bindings (slice_get_within c.args.policy.now.held.bindings c.place-place.result.binding of.0.binding of.2) in
+    omega arith
 
 pub loop-no-preserved : goal.loop-no-preserved
 loop-no-preserved c = λ verb are.
