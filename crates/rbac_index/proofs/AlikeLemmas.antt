@@ -1,8 +1,10 @@
 -- grants of one place of a rule are by one rule, and have one reach
-use Rattle.std.proofs.Common.{◌≡◌, ℕ, ◌<◌, List, length, slice_get, ap, sym, ◌∙◌, subst}
+use Rattle.std.proofs.Common.{◌≡◌, ℕ, ◌+◌, ◌<◌, List, [], ◌∷◌, ◌++◌, length, slice_get, refl, ap, sym, ◌∙◌, subst, inl, inr, arith}
 use Rattle.std.specs.Prelude.{Option, Some, None, option_and_then}
 use Rattle.std.specs.Option.{option_map}
-use Rattle.std.proofs.lemmas.Option.{same_Some}
+use Rattle.std.proofs.lemmas.Bool.{cases_lt}
+use Rattle.std.proofs.lemmas.List.{length_push}
+use Rattle.std.proofs.lemmas.Option.{same_Some, slice_get_within}
 use Rattle.rbac_terms.specs.declared.granting.Binding.{Binding}
 use Rattle.rbac_terms.specs.declared.matching.Rule.{Rule}
 use Rattle.rbac_model.specs.Policies.{Held, PolicyView, GrantView, SourcedRule, grant_at, sourced_at}
@@ -11,7 +13,7 @@ use Rattle.rbac_model.specs.declared.places.GrantPlace.{GrantPlace}
 use Rattle.rbac_model.specs.declared.places.RolePlace.{RolePlace}
 use Rattle.rbac_index.specs.Reaches.{AreAlike, IsReach, IsReachAt, AreReachesBelow}
 use Rattle.std.specs.Prelude.{map}
-use Rattle.rbac_terms.proofs.Reading.{read_some}
+use Rattle.rbac_terms.proofs.Reading.{read_some, read_left, read_right}
 
 rule_from : (ob : Option Binding) (or : Option SourcedRule) (g : GrantView) → option_and_then (λ b. option_map (λ (rule : SourcedRule). record { binding = b; rule = rule }) or) ob ≡ Some g → or ≡ Some g.rule
 rule_from None or g e = cc
@@ -34,3 +36,24 @@ reach_shared p u first n reaches places lt alike below read =
     let here = read_some p.grants n lt in
     let same : r.0.rule.rule ≡ here.0.rule.rule = alike r.0 here.0 r.1 here.1 in
     (here.0, here.1, subst (λ (rule : Rule). IsReach rule (map (λ (t : Listed). t.0) u.targets) places) same r.2)
+
+pub reaches_none : (p : PolicyView) (u : UniverseView) → AreReachesBelow p u 0 []
+reaches_none p u = record {
+  len = refl;
+  each = λ k places read. absurd (omega (arith, slice_get_within [] k places read));
+}
+
+-- the reach of one grant more
+pub reaches_more : (p : PolicyView) (u : UniverseView) (n : ℕ) (reaches : List (List ℕ)) (reach : List ℕ) → AreReachesBelow p u n reaches → IsReachAt p u n reach → AreReachesBelow p u (n + 1) (reaches ++ reach ∷ [])
+reaches_more p u n reaches reach below at =
+    let len : length (reaches ++ reach ∷ []) ≡ length reaches + 1 = length_push reaches reach in
+    record {
+      len = omega (arith, len, below.len);
+      each = λ k places read. elim (cases_lt k n) [
+        | inl lt ↦ below.each k places (sym (read_left reaches (reach ∷ []) k (omega (arith, lt, below.len))) ∙ read)
+        | inr ge ↦
+            let e : k ≡ n = omega (arith, ge, len, below.len, slice_get_within (reaches ++ reach ∷ []) k places read) in
+            let last : slice_get (reaches ++ reach ∷ []) k ≡ Some reach = read_right reaches (reach ∷ []) k 0 (omega (arith, e, below.len)) in
+            rw e (subst (IsReachAt p u n) (same_Some reach places (sym last ∙ read)) at)
+      ];
+    }

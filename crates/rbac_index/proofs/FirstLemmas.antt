@@ -17,10 +17,10 @@ use Rattle.rbac_model.specs.Policies.{Held}
 use Rattle.rbac_model.specs.Holders.{HolderView, IsBefore}
 use Rattle.rbac_index.specs.declared.sightings.Sighting.{Sighting}
 use Rattle.rbac_index.specs.HolderViews.{holder_of, sighted, label_of, labels_seen, KeepsFirst}
-use Rattle.rbac_index.specs.Holding.{BringsAt, HoldsThere, IsAlike, IsEarlier, AreSeen, AreFirsts}
+use Rattle.rbac_index.specs.Holding.{HoldsThere, IsAlike, IsEarlier, AreAllSeen, AreFirsts}
 use Rattle.rbac_index.specs.WhoCan.{WhereView, HoldsAt, IsHolderBy, AreListedHolders}
 use Rattle.rbac_index.specs.Ranks.{AreRanks}
-use Rattle.rbac_index.proofs.SeenLemmas.{brings, holder_by, pushed}
+use Rattle.rbac_index.proofs.SeenLemmas.{holder_by, pushed}
 
 lex_asym : (i j k l : ℕ) → IsBefore i j k l → ¬ IsBefore k l i j
 lex_asym i j k l (inl a) (inl b) = omega arith
@@ -31,22 +31,21 @@ lex_asym i j k l (inr a) (inr b) = omega (arith, a.1, b.1)
 lex_itself : (i j : ℕ) → ¬ IsBefore i j i j
 lex_itself i j a = lex_asym i j i j a a
 
--- where all that brings a rule that allows is passed
-module _ (h : Held) (asked : WhereView) (verb : Text) (t : What) (bound : ℕ) (xs : List HolderView) (below : (m : ℕ) → BringsAt h asked verb t m → m < bound) (seen : AreSeen h asked verb t bound 0 xs) where
-  -- what holds was seen
+-- where all that holds was seen
+module _ (h : Held) (asked : WhereView) (verb : Text) (t : What) (xs : List HolderView) (seen : AreAllSeen h asked verb t xs) where
   inside : (key : Text) (i j : ℕ) → (a : HoldsAt h asked verb t key i j) → Contains xs (holder_by key a.0 i j)
-  inside key i j a = (seen.exact (holder_by key a.0 i j)).1 ((a.2, a), inl (below i (brings h asked verb t key i j a)))
+  inside key i j a = (seen.exact (holder_by key a.0 i j)).1 (a.2, a)
 
   holds_seen : (x : HolderView) → HoldsThere h asked verb t x → Contains xs x
-  holds_seen x there = (seen.exact x).1 (there, inl (below x.binding_place (brings h asked verb t x.key x.binding_place x.subject_place there.1)))
+  holds_seen x there = (seen.exact x).1 there
 
   -- what was seen with a key holds by it
   holds_with : (x y : HolderView) → Contains xs y → y.key ≡ x.key → HoldsAt h asked verb t x.key y.binding_place y.subject_place
-  holds_with x y w same = subst (λ (k : Text). HoldsAt h asked verb t k y.binding_place y.subject_place) same ((seen.exact y).0 w).0.1
+  holds_with x y w same = subst (λ (k : Text). HoldsAt h asked verb t k y.binding_place y.subject_place) same ((seen.exact y).0 w).1
 
   holder_by_first : (every : Bool) (x : HolderView) → Contains xs x → ((y : HolderView) → Contains xs y → IsAlike every y x → ¬ IsEarlier y x) → IsHolderBy h asked verb t x
   holder_by_first every x w none =
-      let there = ((seen.exact x).0 w).0 in (
+      let there = (seen.exact x).0 w in (
         there.0,
         there.1,
         λ j a. elim (cases_lt j x.subject_place) [

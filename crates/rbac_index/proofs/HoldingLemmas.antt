@@ -1,8 +1,8 @@
 -- the bindings of candidates, passed in order
-use Rattle.std.proofs.Common.{◌≡◌, ℕ, ◌+◌, ◌<◌, ◌≤◌, Bool, List, length, get_or, ap, ◌∙◌, inl, inr, arith}
+use Rattle.std.proofs.Common.{◌≡◌, ℕ, ◌+◌, ◌<◌, ◌≤◌, List, All, Contains, length, get_or, ap, ◌∙◌, inl, inr, arith}
 use Rattle.std.proofs.lemmas.Bool.{cases_eq, cases_lt}
 use Rattle.std.proofs.lemmas.List.{get_or_default}
-use Rattle.std.proofs.lemmas.List.Elements.{Contains-get_or}
+use Rattle.std.proofs.lemmas.List.Elements.{All-weaker, All-contains_itself, Contains-get_or}
 use Rattle.std.proofs.lemmas.List.Kept.{AllPairs-from_increasing}
 use Rattle.std.proofs.lemmas.Option.{slice_get_within}
 use Rattle.rbac_terms.specs.Text.{Text}
@@ -12,20 +12,19 @@ use Rattle.rbac_model.specs.Holders.{HolderView}
 use Rattle.rbac_model.proofs.GrantNumbers.{grant_by}
 use Rattle.rbac_model.proofs.BindingPlaces.{places_rise, one_binding_place, rule_of_binding, grant_of_rule}
 use Rattle.rbac_index.specs.Indexed.{AreCandidates}
-use Rattle.rbac_index.specs.Holding.{BringsAt, BringsRuleAt, AreSeen, AreFirsts}
-use Rattle.rbac_index.specs.WhoCan.{WhereView, AreListedHolders}
-use Rattle.rbac_index.proofs.FirstLemmas.{firsts_hold}
-use Rattle.rbac_index.proofs.SeenLemmas.{seen_entered}
+use Rattle.rbac_index.specs.Holding.{BringsAt, BringsRuleAt, AreSeen, AreAllSeen}
+use Rattle.rbac_index.specs.WhoCan.{WhereView}
+use Rattle.rbac_index.proofs.SeenLemmas.{brings, seen_entered}
 
 -- the bindings of the grants with the first `count` numbers are before `place`, and those of the others are no earlier than right before it
 pub record ArePassed (p : PolicyView) (ns : List ℕ) (count place : ℕ) : Type 0 where
   pub behind : (k i : ℕ) → k < count → IsOfBinding p (get_or ns k 0) i → i < place
   pub ahead : (k i : ℕ) → count ≤ k → k < length ns → IsOfBinding p (get_or ns k 0) i → place ≤ i + 1
 
-module _ (p : PolicyView) (ok : IsPolicy p) (asked : WhereView) (verb : Text) (t : What) (ns : List ℕ) (are : AreCandidates p verb t ns) where
-  pub candidate_within : (k : ℕ) → k < length ns → get_or ns k 0 < length p.grants
-  candidate_within k lt = let a = (are.exact (get_or ns k 0)).0 (Contains-get_or ns k 0 lt) in slice_get_within p.grants (get_or ns k 0) a.0 a.1
+pub candidates_within : (p : PolicyView) (verb : Text) (t : What) (ns : List ℕ) → AreCandidates p verb t ns → All (λ n. n < length p.grants) ns
+candidates_within p verb t ns are = All-weaker (Contains ns) (λ n. n < length p.grants) (λ n w. let a = (are.exact n).0 w in slice_get_within p.grants n a.0 a.1) ns (All-contains_itself ns)
 
+module _ (p : PolicyView) (ok : IsPolicy p) (asked : WhereView) (verb : Text) (t : What) (ns : List ℕ) (are : AreCandidates p verb t ns) where
   -- a candidate's binding brings a rule that allows
   pub candidate_brings : (k place : ℕ) → k < length ns → IsOfBinding p (get_or ns k 0) place → BringsRuleAt p.held verb t place
   candidate_brings k place lt of =
@@ -89,5 +88,14 @@ module _ (p : PolicyView) (ok : IsPolicy p) (asked : WhereView) (verb : Text) (t
     ahead = λ j i low high by. passed.ahead j i (omega arith) high by;
   }
 
-  pub all_seen : (every : Bool) (k next : ℕ) (xs firsts : List HolderView) → length ns ≤ k → ArePassed p ns k next → AreSeen p.held asked verb t next 0 xs → AreFirsts every xs firsts → AreListedHolders p.held asked every verb t firsts
-  all_seen every k next xs firsts le passed seen first = firsts_hold p.held asked verb t next xs (λ m brings. let c = brings_candidate m brings in passed.behind c.0 m (omega (arith, c.1, le)) c.2) seen every firsts first
+  pub all_seen : (k next : ℕ) (xs : List HolderView) → length ns ≤ k → ArePassed p ns k next → AreSeen p.held asked verb t next 0 xs → AreAllSeen p.held asked verb t xs
+  all_seen k next xs le passed seen = record {
+    ordered = seen.ordered;
+    exact = λ x. (
+      λ w. ((seen.exact x).0 w).0,
+      λ there.
+          let c = brings_candidate x.binding_place (brings p.held asked verb t x.key x.binding_place x.subject_place there.1) in
+          let low : x.binding_place < next = passed.behind c.0 x.binding_place (omega (arith, c.1, le)) c.2 in
+          (seen.exact x).1 (there, inl low),
+    );
+  }

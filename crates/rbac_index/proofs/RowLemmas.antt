@@ -1,8 +1,8 @@
 -- where the runs of each row begin, as they are found in turn
-use Rattle.std.proofs.Common.{◌≡◌, ℕ, ◌+◌, ◌-◌, ◌<◌, List, [], ◌∷◌, ◌++◌, map, Bor, length, get_or, set, slice_get, ap, sym, ◌∙◌, zero, suc, arith, inl, inr, All, Contains, replicate}
+use Rattle.std.proofs.Common.{◌≡◌, ℕ, ◌+◌, ◌-◌, ◌<◌, List, [], ◌∷◌, ◌++◌, map, Bor, length, get_or, set, slice_get, take, append_assoc, ap, sym, ◌∙◌, zero, suc, arith, inl, inr, All, Contains, replicate}
 use Rattle.std.specs.Prelude.{Some}
 use Rattle.std.proofs.lemmas.Bool.{cases_eq, cases_lt}
-use Rattle.std.proofs.lemmas.List.{get_or-set_same, get_or-set_other, length-set, length-map, length-replicate}
+use Rattle.std.proofs.lemmas.List.{get_or-set_same, get_or-set_other, length-set, length-map, length-replicate, map-append, take_more}
 use Rattle.std.proofs.lemmas.List.Elements.{All-weaker, All-contains_itself, Contains-append_left, Contains-push, Contains-push_cases}
 use Rattle.std.proofs.lemmas.Option.{same_Some, slice_get_within}
 use Rattle.rbac_terms.specs.declared.matching.Rule.{Rule}
@@ -65,3 +65,12 @@ module _ (rows : List (Bor (List Rule))) (all : List (List Rule)) (are : map (λ
 
   pub row_read : (r : Bor (List Rule)) → r ≡ get_or rows row r → r.now ≡ rs
   row_read r is = same_Some r.now rs (sym (read_now rows row r row_within is) ∙ ap (λ (l : List (List Rule)). slice_get l row) are ∙ there)
+
+-- the rules of one item more, added as a row
+pub rows_more : {X : Type 0} (rules : X → List Rule) (items : List X) (i : ℕ) (item : X) (before : List (List Rule)) (old new : List (Bor (List Rule))) (row : Bor (List Rule)) → i < length items → item ≡ get_or items i item → row.now ≡ rules item → new ≡ old ++ row ∷ []
+    → map (λ r. r.now) old ≡ before ++ map rules (take i items) → map (λ r. r.now) new ≡ before ++ map rules (take (i + 1) items)
+rows_more {X} rules items i item before old new row lt is same new_is old_is =
+    let now : Bor (List Rule) → List Rule = λ r. r.now in
+    let more : take (i + 1) items ≡ take i items ++ item ∷ [] = take_more items i item lt ∙ ap (λ (x : X). take i items ++ x ∷ []) (sym is) in
+    let put : map now new ≡ map now old ++ row.now ∷ [] = ap (map now) new_is ∙ map-append now old (row ∷ []) in
+    put ∙ ap (λ (rs : List (List Rule)). rs ++ row.now ∷ []) old_is ∙ ap (λ (rs : List Rule). (before ++ map rules (take i items)) ++ rs ∷ []) same ∙ append_assoc before (map rules (take i items)) (rules item ∷ []) ∙ ap (λ (rs : List (List Rule)). before ++ rs) (sym (ap (map rules) more ∙ map-append rules (take i items) (item ∷ [])))

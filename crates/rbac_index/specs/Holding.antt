@@ -37,6 +37,12 @@ pub record AreSeen (h : Held) (asked : WhereView) (verb : Text) (t : What) (i j 
   pub exact : (x : HolderView) → Contains xs x
       ↔ (HoldsThere h asked verb t x × IsBefore x.binding_place x.subject_place i j)
 
+-- all that holds the permission by a pair of places, in order
+pub record AreAllSeen (h : Held) (asked : WhereView) (verb : Text) (t : What)
+    (xs : List HolderView) : Type 0 where
+  pub ordered : AllPairs IsEarlier xs
+  pub exact : (x : HolderView) → Contains xs x ↔ HoldsThere h asked verb t x
+
 -- x and y have one key, and where every binding is asked for also one binding
 abbrev pub IsAlike : Bool → HolderView → HolderView → Type 0
 IsAlike every x y = (x.key ≡ y.key)

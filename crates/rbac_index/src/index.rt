@@ -23,13 +23,13 @@ use crate::fault::IndexFault;
 use crate::holders::Holders;
 use crate::merge::{Numbers, merged};
 use crate::numbers::GrantNos;
-use crate::rule_lists::{RuleLists, matching, rule_lists_of};
-use crate::rule_rows::{Written, laid_out, rows_of};
-use crate::sightings::see_binding;
+use crate::rule_lists::{ListedRules, listed_rules, matching};
+use crate::rule_rows::{Written, rows_of};
+use crate::sightings::sightings_of;
 use crate::starts::starts_by_row;
 use crate::subject_index::SubjectIndex;
 use rbac_model::{Grant, Policy};
-use rbac_terms::{Binding, Principal, Target, Word, rule_allows};
+use rbac_terms::{Principal, Target, Word, rule_allows};
 use std::alloc::{AllocError, Global};
 use std::marker::Model;
 
@@ -39,8 +39,7 @@ use std::marker::Model;
 #[derive(Drop)]
 pub struct Index<'p> {
     policy: &'p Policy,
-    rules: Vec<Written<'p>>,
-    lists: RuleLists,
+    listed: ListedRules<'p>,
     // Where the runs of grants by each row of rules begin.
     starts: Vec<GrantNos>,
     subjects: SubjectIndex<'p>,
@@ -55,8 +54,8 @@ impl<'p> Model for Index<'p> {
 
     ghost view = { λ i. i.policy.now };
 
-    ghost invariant = { λ i. IsIndexOf i.policy.now i.rules.items i.lists i.starts.items
-        × (i.subjects ≡ i.policy.now) };
+    ghost invariant = { λ i. IsIndexOf i.policy.now i.listed.rules.items i.listed.lists
+        i.starts.items × (i.subjects ≡ i.policy.now) };
 }
 
 impl<'p> Index<'p> {
@@ -65,14 +64,12 @@ impl<'p> Index<'p> {
         ensures { IfOk result (λ i. i ≡ policy.now) }
     {
         let rows = rows_of(alloc, policy.objects())?;
-        let rules = laid_out(alloc, rows.as_slice())?;
-        let lists = rule_lists_of(alloc, rules.as_slice())?;
+        let listed = listed_rules(alloc, rows.as_slice())?;
         let starts = starts_by_row(alloc, policy, rows.as_slice())?;
         let subjects = SubjectIndex::build(alloc, policy)?;
         Ok(Index {
             policy,
-            rules,
-            lists,
+            listed,
             starts,
             subjects,
         })
@@ -127,13 +124,13 @@ impl<'p> Index<'p> {
     ) -> Result<GrantNos, IndexFault>
         ensures { IfOk result (λ ns. AreCandidates self.now verb.now target.now ns) }
     {
-        let rules = self.rules.as_slice();
+        let rules = self.listed.rules.as_slice();
         let starts = self.starts.as_slice();
         if target.is_url() {
-            let places = self.lists.with_urls.as_slice();
+            let places = self.listed.lists.with_urls.as_slice();
             Ok(allowed_by(alloc, rules, starts, places, verb, target)?)
         } else {
-            let places = matching(alloc, &self.lists.by_word, target.text())?;
+            let places = matching(alloc, &self.listed.lists.by_word, target.text())?;
             Ok(allowed_by(alloc, rules, starts, places.as_slice(), verb, target)?)
         }
     }
@@ -191,18 +188,8 @@ impl<'p> Index<'p> {
             (AreListedHolders self.now.held (where_of asked.entry) every verb.now target.now) }
     {
         let policy: &'p Policy = self.policy;
-        let bindings: &'p [Binding] = policy.bindings();
         let numbers = self.candidates(alloc, verb, target)?;
-        let mut seen = Vec::new(alloc);
-        // The place after the last binding that was looked at.
-        let mut next = 0;
-        for no in numbers.as_slice() {
-            let place = policy.place(*no).binding;
-            if next <= place {
-                see_binding(alloc, &bindings[place], place, asked, target, &mut seen)?;
-                next = place + 1;
-            }
-        }
+        let seen = sightings_of(alloc, policy, numbers.as_slice(), asked, target)?;
         Ok(Holders::first_of(alloc, every, seen)?)
     }
 }

@@ -1,14 +1,14 @@
 //! Lists of rules, one under each word of their resources.
 
 ghost use Rattle.std.specs.Prelude.{◌≡◌, ◌≢◌, ◌++◌, [], ℕ, IfOk, OnOk, Contains, ◌↔◌, ◌⊎◌};
-ghost use Rattle.std.specs.Prelude.{MatchOption, codes, length};
+ghost use Rattle.std.specs.Prelude.{MatchOption, codes, length, map};
 ghost use Rattle.rbac_terms.specs.Text.{Text};
 ghost use Rattle.rbac_terms.specs.Matching.{ResourceWordMatches, FollowsFirstSlash};
-ghost use Rattle.rbac_index.specs.Written.{bare_rules};
+ghost use Rattle.rbac_index.specs.Written.{AreWritten, bare_rules};
 ghost use Rattle.rbac_index.specs.RuleLists.{listed, ListsMore, ListsUnder, ListsRule, AreListed};
 
-use crate::rule_rows::Written;
-use rbac_terms::{Items, Rule, Word, cut_at_first};
+use crate::rule_rows::{Written, laid_out};
+use rbac_terms::{Items, Rule, Rules, Word, cut_at_first};
 use std::alloc::{AllocError, Global};
 use std::collections::BTreeMap;
 
@@ -19,8 +19,29 @@ pub(crate) struct RuleLists {
     pub(crate) with_urls: Items<usize>,
 }
 
+// Rules, and lists of them by their places.
+#[derive(Drop)]
+pub(crate) struct ListedRules<'p> {
+    pub(crate) rules: Vec<Written<'p>>,
+    pub(crate) lists: RuleLists,
+}
+
+// The rules of these rows, one row after the other, and lists of them.
+pub(crate) fn listed_rules<'p>(
+    alloc: Global,
+    rows: &[&'p Rules],
+) -> Result<ListedRules<'p>, AllocError>
+    ensures written { IfOk result (λ l. AreWritten (map (λ r. r.now) rows.now) l.rules.items) }
+    ensures listed { IfOk result
+        (λ l. AreListed (bare_rules l.rules.items) (length l.rules.items) l.lists) }
+{
+    let rules = laid_out(alloc, rows)?;
+    let lists = rule_lists_of(alloc, rules.as_slice())?;
+    Ok(ListedRules { rules, lists })
+}
+
 // Lists these rules by their places.
-pub(crate) fn rule_lists_of(alloc: Global, rules: &[Written<'_>]) -> Result<RuleLists, AllocError>
+fn rule_lists_of(alloc: Global, rules: &[Written<'_>]) -> Result<RuleLists, AllocError>
     ensures { IfOk result (AreListed (bare_rules rules.now) (length rules.now)) }
 {
     let mut lists = RuleLists {

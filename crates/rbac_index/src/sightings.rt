@@ -1,14 +1,16 @@
 //! Where the holders of a verb on a target are seen: the subjects that it is granted to.
 
-ghost use Rattle.std.specs.Prelude.{◌≡◌, ◌+◌, OnOk, slice_get, Some};
+ghost use Rattle.std.specs.Prelude.{◌≡◌, ◌+◌, ◌<◌, All, IfOk, OnOk, length, slice_get, Some};
 ghost use Rattle.rbac_terms.specs.Text.{Text};
 ghost use Rattle.rbac_terms.specs.Targets.{What};
 ghost use Rattle.rbac_model.specs.Policies.{Held};
 ghost use Rattle.rbac_index.specs.HolderViews.{sighted, where_of};
-ghost use Rattle.rbac_index.specs.Holding.{AreSeen, BringsAt, BringsRuleAt};
+ghost use Rattle.rbac_index.specs.Holding.{AreAllSeen, AreSeen, BringsAt, BringsRuleAt};
+ghost use Rattle.rbac_index.specs.Indexed.{AreCandidates};
 ghost use Rattle.rbac_index.specs.WhoCan.{WhereView};
 
 use crate::asked::{Where, counts_in};
+use rbac_model::Policy;
 use rbac_terms::{Binding, Target, Word, subject_key};
 use std::alloc::{AllocError, Global};
 
@@ -22,9 +24,38 @@ pub(crate) struct Sighting<'p> {
     pub(crate) subject_place: usize,
 }
 
+// The sightings of all that holds a permission where it is asked about, given the numbers,
+// ascending, of the grants whose rule allows it.
+pub(crate) fn sightings_of<'p>(
+    alloc: Global,
+    policy: &'p Policy,
+    numbers: &[u32],
+    asked: Where<'_>,
+    target: &Target,
+) -> Result<Vec<Sighting<'p>>, AllocError>
+    requires { All (λ no. no < length policy.now.grants) numbers.now }
+    ensures { (verb : Text) → AreCandidates policy.now verb target.now numbers.now
+        → IfOk result
+        (λ v. AreAllSeen policy.now.held (where_of asked.entry) verb target.now
+        (sighted v.items)) }
+{
+    let bindings: &'p [Binding] = policy.bindings();
+    let mut seen = Vec::new(alloc);
+    // The place after the last binding that was looked at.
+    let mut next = 0;
+    for no in numbers {
+        let place = policy.place(*no).binding;
+        if next <= place {
+            see_binding(alloc, &bindings[place], place, asked, target, &mut seen)?;
+            next = place + 1;
+        }
+    }
+    Ok(seen)
+}
+
 // Adds the sightings among the subjects of this binding, which is at `place`, if the binding counts
 // where it is asked about.
-pub(crate) fn see_binding<'p>(
+fn see_binding<'p>(
     alloc: Global,
     binding: &'p Binding,
     place: usize,

@@ -1,4 +1,4 @@
-use Rattle.std.proofs.Common.{◌≡◌, refl, slice_get}
+use Rattle.std.proofs.Common.{◌≡◌, refl, slice_get, arith}
 use Rattle.std.specs.Prelude.{Some}
 use Rattle.std.proofs.lemmas.Option.{slice_get_read, slice_get_within}
 use Rattle.rbac_model.specs.Sources.{grant_of}
@@ -6,6 +6,21 @@ use Rattle.rbac_index.specs.HolderViews.{holder_shown}
 use Rattle.rbac_index.specs.WhoCan.{InNamespace}
 use Rattle.rbac_index.proofs.ReasonLemmas.{some_allows, why_of_holder, shown_binding}
 use Rattle.rbac_index.proofs.reason.why_held.Goals as goal
+
+pub returns-in_err-binding-clause-first : goal.returns-in_err-binding-clause-first
+returns-in_err-binding-clause-first c =
+    let past = rw c.bindings-bindings.ensures.bindings at c.in_err-binding.ensures.lookup in
+    rw c.from_residual.ensures (λ n by. absurd (omega (arith, past.3, slice_get_within c.args.policy.now.held.bindings c.args.holder.binding_place by.0.0.binding by.0.2)))
+
+pub returns-in_err-binding-clause-held : goal.returns-in_err-binding-clause-held
+returns-in_err-binding-clause-held c = λ namespace holder.
+    let past = rw c.bindings-bindings.ensures.bindings at c.in_err-binding.ensures.lookup in
+    absurd (omega (arith, past.3, slice_get_within c.args.policy.now.held.bindings c.args.holder.binding_place c.args.holder.binding.now holder.0))
+
+pub returns-in_err-binding-clause-listed : goal.returns-in_err-binding-clause-listed
+returns-in_err-binding-clause-listed c = λ asked holder.
+    let past = rw c.bindings-bindings.ensures.bindings at c.in_err-binding.ensures.lookup in
+    absurd (omega (arith, past.3, slice_get_within c.args.policy.now.held.bindings c.args.holder.binding_place c.args.holder.binding.now holder.0))
 
 pub returns-in_err-no-clause-held : goal.returns-in_err-no-clause-held
 returns-in_err-no-clause-held c = λ namespace holder.

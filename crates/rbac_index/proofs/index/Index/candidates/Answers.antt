@@ -3,26 +3,26 @@ use Rattle.rbac_index.proofs.index.Index.candidates.Goals as goal
 
 pub allowed_by-requires-clause-rules : goal.allowed_by-requires-clause-rules
 allowed_by-requires-clause-rules c =
-    rw (c.as_slice-places.ensures, c.as_slice-rules.ensures.value) (urls_within c.self.inside.policy.now c.self.inside.rules.items c.self.inside.lists c.self.inside.starts.items c.self.invariant.0 c.args.verb.now)
+    rw (c.as_slice-places.ensures, c.as_slice-rules.ensures.value) (urls_within c.self.inside.policy.now c.self.inside.listed.rules.items c.self.inside.listed.lists c.self.inside.starts.items c.self.invariant.0 c.args.verb.now)
 
 pub allowed_by-requires-clause-numbers : goal.allowed_by-requires-clause-numbers
 allowed_by-requires-clause-numbers c =
-    rw (c.as_slice-rules.ensures.value, c.as_slice-starts.ensures.value) (have_numbers c.self.inside.policy.now c.self.inside.rules.items c.self.inside.lists c.self.inside.starts.items c.self.invariant.0)
+    rw (c.as_slice-rules.ensures.value, c.as_slice-starts.ensures.value) (have_numbers c.self.inside.policy.now c.self.inside.listed.rules.items c.self.inside.listed.lists c.self.inside.starts.items c.self.invariant.0)
 
 pub allowed_by-requires-else-is_url-clause-rules : goal.allowed_by-requires-else-is_url-clause-rules
 allowed_by-requires-else-is_url-clause-rules c =
-    rw (c.as_slice.ensures.value, c.as_slice-rules.ensures.value) (found_within c.self.inside.policy.now c.self.inside.rules.items c.self.inside.lists c.self.inside.starts.items c.self.invariant.0 c.args.verb.now c.text.result.now c.in_ok-places.places.items c.in_ok-places.ensures)
+    rw (c.as_slice.ensures.value, c.as_slice-rules.ensures.value) (found_within c.self.inside.policy.now c.self.inside.listed.rules.items c.self.inside.listed.lists c.self.inside.starts.items c.self.invariant.0 c.args.verb.now c.text.result.now c.in_ok-places.places.items c.in_ok-places.ensures)
 
 pub allowed_by-requires-else-is_url-clause-numbers : goal.allowed_by-requires-else-is_url-clause-numbers
 allowed_by-requires-else-is_url-clause-numbers c =
-    rw (c.as_slice-rules.ensures.value, c.as_slice-starts.ensures.value) (have_numbers c.self.inside.policy.now c.self.inside.rules.items c.self.inside.lists c.self.inside.starts.items c.self.invariant.0)
+    rw (c.as_slice-rules.ensures.value, c.as_slice-starts.ensures.value) (have_numbers c.self.inside.policy.now c.self.inside.listed.rules.items c.self.inside.listed.lists c.self.inside.starts.items c.self.invariant.0)
 
 pub returns-in_ok-allowed_by : goal.returns-in_ok-allowed_by
 returns-in_ok-allowed_by c =
-    rw (← c.self.view_is) (candidates_urls c.self.inside.policy.now c.self.inside.rules.items c.self.inside.lists c.self.inside.starts.items c.self.invariant.0 c.args.verb.now c.args.target.now c.in_ok-allowed_by.field-0
+    rw (← c.self.view_is) (candidates_urls c.self.inside.policy.now c.self.inside.listed.rules.items c.self.inside.listed.lists c.self.inside.starts.items c.self.invariant.0 c.args.verb.now c.args.target.now c.in_ok-allowed_by.field-0
     c.if-is_url.ensures c.in_ok-allowed_by.ensures.ascending (rw (← c.as_slice-rules.ensures.value, ← c.as_slice-starts.ensures.value, ← c.as_slice-places.ensures) c.in_ok-allowed_by.ensures.exact))
 
 pub returns-in_ok-allowed_by-2 : goal.returns-in_ok-allowed_by-2
 returns-in_ok-allowed_by-2 c =
-    rw (← c.self.view_is) (candidates_listed c.self.inside.policy.now c.self.inside.rules.items c.self.inside.lists c.self.inside.starts.items c.self.invariant.0 c.args.verb.now c.args.target.now c.in_ok-places.places.items c.in_ok-allowed_by-2.field-0
+    rw (← c.self.view_is) (candidates_listed c.self.inside.policy.now c.self.inside.listed.rules.items c.self.inside.listed.lists c.self.inside.starts.items c.self.invariant.0 c.args.verb.now c.args.target.now c.in_ok-places.places.items c.in_ok-allowed_by-2.field-0
     c.if-is_url.ensures (rw (← c.text.ensures.text) c.in_ok-places.ensures) c.in_ok-allowed_by-2.ensures.ascending (rw (← c.as_slice-rules.ensures.value, ← c.as_slice-starts.ensures.value, ← c.as_slice.ensures.value) c.in_ok-allowed_by-2.ensures.exact))

@@ -1,4 +1,4 @@
 use Rattle.rbac_index.proofs.index.Index.len.Goals as goal
 
 pub returns : goal.returns
-returns c = cc
+returns c = rw (← c.self.view_is) c.len.ensures.len
