@@ -74,8 +74,8 @@ fn seek_items(reader: &mut Reader<'_>) -> Result<bool, Invalid>
     Ok(false)
 }
 
-// Puts the members of an object other than `items` into an empty map; false if it hasn't exactly one
-// member of that name.
+// Puts the members of an object other than `items` into an empty map; false if it hasn't exactly
+// one member of that name.
 fn read_others(
     alloc: Global,
     reader: &mut Reader<'_>,

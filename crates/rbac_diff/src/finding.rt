@@ -4,7 +4,8 @@ ghost use Rattle.std.specs.Prelude.{◌≡◌, ◌<◌, [], OnOk, Some, Contains
 ghost use Rattle.rbac_terms.specs.Principals.{given_of};
 ghost use Rattle.std.specs.Option.{option_copied};
 ghost use Rattle.rbac_diff.specs.Finding.{Finds, FindsGained, IsByGrants, IsByRule, IsGainedAt};
-ghost use Rattle.rbac_diff.specs.Finding.{IsOnResource, IsOnTarget, IsOnUrl, IsUncovered, SearchFinds};
+ghost use Rattle.rbac_diff.specs.Finding.{IsOnResource, IsOnTarget, IsOnUrl, IsUncovered};
+ghost use Rattle.rbac_diff.specs.Finding.{SearchFinds};
 ghost use Rattle.rbac_diff.specs.Shown.{permitted_of};
 ghost use Rattle.rbac_diff.specs.Unchanged.{AreFlags};
 

@@ -1,6 +1,7 @@
 //! The bindings of a policy by whom they name.
 
-ghost use Rattle.std.specs.Prelude.{◌≡◌, ◌≤◌, ◌↔◌, ℕ, length, IsTrue, IfOk, MatchOption, true, false};
+ghost use Rattle.std.specs.Prelude.{◌≡◌, ◌≤◌, ◌↔◌, ℕ, length, IsTrue, IfOk, MatchOption};
+ghost use Rattle.std.specs.Prelude.{true, false};
 ghost use Rattle.rbac_model.specs.Policies.{IsPolicy};
 ghost use Rattle.rbac_index.specs.Bound.{AreRunsFrom, HasRoleBindings, IsBoundTo, IsNamedBy};
 ghost use Rattle.rbac_index.specs.Bound.{IsNextRun};
