@@ -1,6 +1,6 @@
 //! The permissions that one policy has and another one doesn't allow.
 
-ghost use Rattle.std.specs.Prelude.{◌≡◌, ◌<◌, [], OnOk, Some, Contains, Any, length, slice_get};
+ghost use Rattle.std.specs.Prelude.{◌≡◌, ◌<◌, [], OnOk, Some, Any, length, slice_get};
 ghost use Rattle.rbac_terms.specs.Principals.{given_of};
 ghost use Rattle.std.specs.Option.{option_copied};
 ghost use Rattle.rbac_diff.specs.Finding.{Finds, FindsGained, IsByGrants, IsByRule, IsGainedAt};

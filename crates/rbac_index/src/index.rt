@@ -1,18 +1,15 @@
 //! The index of a policy.
 
-ghost use Rattle.std.specs.Prelude.{◌≡◌, ◌<◌, ◌≤◌, ◌↔◌, ℕ, length, IsTrue, slice_get, Some, All};
-ghost use Rattle.std.specs.Prelude.{Any, Contains, IfOk, IfSome, MatchOption, true, false};
+ghost use Rattle.std.specs.Prelude.{◌≡◌, ◌<◌, ◌↔◌, ℕ, length, slice_get, Some, All};
+ghost use Rattle.std.specs.Prelude.{Any, Contains, IfOk, IfSome, MatchOption};
 ghost use Rattle.std.specs.List.Sorted.{IsStrictlyIncreasing};
 ghost use Rattle.rbac_model.specs.Sources.{grant_of};
-ghost use Rattle.rbac_model.specs.Policies.{Allows, IsFirst, IsOfBinding, IsPolicy};
+ghost use Rattle.rbac_model.specs.Policies.{Allows, IsFirst, IsOfBinding};
 ghost use Rattle.rbac_model.specs.Holders.{AreHolders};
 ghost use Rattle.rbac_index.specs.Indexed.{AreCandidates, HaveNumbers, IsAllowedBy};
-ghost use Rattle.rbac_index.specs.Bound.{HasRoleBindings, IsNamedBy, IsBoundTo, IsNextRun};
-ghost use Rattle.rbac_index.specs.Bound.{AreRunsFrom};
 ghost use Rattle.rbac_index.specs.Deciding.{IsWhyShown};
 ghost use Rattle.rbac_index.specs.HolderViews.{where_of};
 ghost use Rattle.rbac_index.specs.Holding.{AllowsByHolders};
-ghost use Rattle.rbac_index.specs.Least.{most_kept};
 ghost use Rattle.rbac_index.specs.Reaches.{AreAlike};
 ghost use Rattle.rbac_index.specs.WhoCan.{AreListedHolders};
 
