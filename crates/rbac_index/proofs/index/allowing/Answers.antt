@@ -11,6 +11,9 @@ use Rattle.rbac_index.proofs.IndexLemmas.{skipped, added, shifted_up}
 use Rattle.rbac_index.proofs.index.allowing.Goals as goal
 use Rattle.rbac_index.proofs.index.allowing.Goals.{then-rule_allows+in_ok-push, else-rule_allows}
 
+pub bounds-rules-at : goal.bounds-rules-at
+bounds-rules-at c = All-get_or (λ k. k < length c.args.rules.now) c.args.places.now c.loop-at.at-index 0 c.loop-at-test.true c.requires.rules
+
 pub loop-at-preserved : goal.loop-at-preserved
 loop-at-preserved c =
     let rules = c.args.rules.now in
