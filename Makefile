@@ -29,8 +29,8 @@ test:
 fuzz:
 	python3 tests/fuzz.py "$(SEED)" "$(COUNT)"
 
-# Single public calls: every allocation in them fails in turn. The libraries are proved first, but for those of which `rt check` left its
-# proof in out/, and then the program that makes the calls, which takes some 20 processor minutes.
+# Single public calls: every allocation in them fails in turn. The libraries are proved first, but for those that an `rt check` of a crate
+# above them left built in out/, and then the program that makes the calls, which takes some 20 processor minutes.
 calls:
 	python3 tests/calls.py
 

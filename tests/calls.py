@@ -8,7 +8,7 @@ calls after it. Calls that allocate nothing meet no failure where every allocati
 
 The last group makes the calls that answer three worked examples of tests/rows.json: what they print has to be the examples' lines.
 
-`rt run` proves and builds the program above copies of the libraries; what `rt check` left of a library in its out/ and is unchanged
+`rt run` proves and builds the program above copies of the libraries; a library that was built for a crate above it, and is unchanged,
 isn't proved again. (`rt ci` takes no program that may stop by itself, as this one does where what a call needs can't be made.) With
 --once, as in the gate, the program isn't proved, and each call is made with memory alone: so it can't rot unseen. The last line is
 `N passed, M failed`.
@@ -99,7 +99,7 @@ def lay_out(folder, *parts):
 
 
 def build(folder):
-    crate = lay_out(folder, *SOURCE, 'out')
+    crate = lay_out(folder, *SOURCE, 'out/rlib')
     words = ['rt', 'run', '--', 'requests', EXPORT]
     return subprocess.run(words, cwd=crate, stdout=subprocess.PIPE, stderr=subprocess.STDOUT)
 
