@@ -11,7 +11,7 @@ use Rattle.rbac_terms.specs.declared.granting.Binding.{Binding}
 use Rattle.rbac_terms.specs.declared.granting.Subject.{Subject}
 use Rattle.rbac_terms.proofs.Reading.{contains_read}
 use Rattle.rbac_model.proofs.Stairs.{take_read}
-use Rattle.rbac_diff.specs.Unchanged.{AreAmong, HasSameGrants, HaveSameRules}
+use Rattle.rbac_diff.specs.Unchanged.{AreAmong, HasSameGrants, HaveSameRules, IsSameGrant}
 
 -- rules of the same five lists are the same
 pub same_lists : (a b : Rule) → a.verbs ≡ b.verbs → a.urls ≡ b.urls → a.groups ≡ b.groups → a.resources ≡ b.resources → a.resource_names ≡ b.resource_names → a ≡ b
@@ -23,30 +23,18 @@ same_lists a b verbs urls groups resources names =
     let with_urls : List Text → Rule = λ l. record { verbs = b.verbs; groups = b.groups; resources = b.resources; resource_names = b.resource_names; urls = l } in
     ap with_verbs verbs ∙ ap with_groups groups ∙ ap with_resources resources ∙ ap with_names names ∙ ap with_urls urls
 
--- the second policy's grant with that number has the rule of the first one's
-pub record IsSameAt (own : PolicyView) (n : ℕ) (other : PolicyView) (m : ℕ) : Type 0 where
-  pub mine : GrantView
-  pub theirs : GrantView
-  pub read : slice_get own.grants n ≡ Some mine
-  pub at : slice_get other.grants m ≡ Some theirs
-  pub rule : mine.rule.rule ≡ theirs.rule.rule
-  pub own_place : ℕ
-  pub own_of : IsOfBinding own n own_place
-  pub place : ℕ
-  pub of : IsOfBinding other m place
-
--- so have those from `other_from` on, one for each from `from` up to `next`
+-- grants from `other_from` on have the rules of those, one for each from `from` up to `next`
 abbrev pub AreSameUpTo : PolicyView → ℕ → PolicyView → ℕ → ℕ → Type 0
-AreSameUpTo own from other other_from next = (n : ℕ) → from ≤ n → n < next → IsSameAt own n other (other_from + (n - from))
+AreSameUpTo own from other other_from next = (n : ℕ) → from ≤ n → n < next → IsSameGrant own n other (other_from + (n - from))
 
 pub same_none : (own other : PolicyView) (from other_from : ℕ) → AreSameUpTo own from other other_from from
 same_none own other from other_from n le lt = absurd (omega (arith, le, lt))
 
-pub same_more : (own other : PolicyView) (from other_from next : ℕ) → AreSameUpTo own from other other_from next → IsSameAt own next other (other_from + (next - from)) → AreSameUpTo own from other other_from (next + 1)
+pub same_more : (own other : PolicyView) (from other_from next : ℕ) → AreSameUpTo own from other other_from next → IsSameGrant own next other (other_from + (next - from)) → AreSameUpTo own from other other_from (next + 1)
 same_more own other from other_from next upto here n le lt =
     elim (cases_lt n next) [
       | inl l ↦ upto n le l
-      | inr ge ↦ (let e : next ≡ n = omega (arith, lt, ge) in subst (λ k. IsSameAt own k other (other_from + (k - from))) e here)
+      | inr ge ↦ (let e : next ≡ n = omega (arith, lt, ge) in subst (λ k. IsSameGrant own k other (other_from + (k - from))) e here)
     ]
 
 -- the grants of the binding at a place are numbered from `from` up to `end`
@@ -90,9 +78,6 @@ grants_too own other place at b h mine theirs namespace among rules number g rea
     )
 
 -- subjects found one after the other among others
-pub among_none : (xs ys : List Subject) → AreAmong (take 0 xs) ys
-among_none xs ys s is = absurd (omega (arith, is.1))
-
 pub among_more : (xs ys : List Subject) (i at : ℕ) (x y : Subject) → i < length xs → x ≡ get_or xs i x → AreAmong (take i xs) ys → slice_get ys at ≡ Some y → y ≡ x → AreAmong (take (i + 1) xs) ys
 among_more xs ys i at x y low is before there same =
     subst (λ (zs : List Subject). AreAmong zs ys) (sym (take_read xs i x low is))

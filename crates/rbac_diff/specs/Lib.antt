@@ -5,6 +5,7 @@ pub mod Lines
 pub mod Listed
 pub mod Permissions
 pub mod Requests
+pub mod SameRoles
 pub mod Shown
 pub mod StandIns
 pub mod Texts

@@ -11,6 +11,18 @@ HaveSameRules own place other at = (no : ℕ) (g : GrantView) → slice_get own.
     → (m : ℕ) × (h : GrantView) × (slice_get other.grants m ≡ Some h) × IsOfBinding other m at
     × (h.rule.rule ≡ g.rule.rule)
 
+-- the grants with these numbers are by the same rule, each of some binding
+pub record IsSameGrant (own : PolicyView) (n : ℕ) (other : PolicyView) (m : ℕ) : Type 0 where
+  pub mine : GrantView
+  pub theirs : GrantView
+  pub read : slice_get own.grants n ≡ Some mine
+  pub at : slice_get other.grants m ≡ Some theirs
+  pub rule : mine.rule.rule ≡ theirs.rule.rule
+  pub own_place : ℕ
+  pub own_of : IsOfBinding own n own_place
+  pub place : ℕ
+  pub of : IsOfBinding other m place
+
 -- each of these subjects is one of those
 abbrev pub AreAmong : List Subject → List Subject → Type 0
 AreAmong subjects those = (s : Subject) → Contains subjects s → Contains those s

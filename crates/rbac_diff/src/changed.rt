@@ -5,7 +5,9 @@ ghost use Rattle.rbac_model.specs.Policies.{IsPolicy};
 ghost use Rattle.rbac_diff.specs.Unchanged.{AreFlags, HasSameGrants};
 
 use crate::alike::Alike;
-use crate::unchanged::{of_bindings, of_namesakes, place_from};
+use crate::named::place_from;
+use crate::same_roles::SameRoles;
+use crate::unchanged::{of_bindings, of_namesakes};
 use rbac_model::Policy;
 use std::alloc::{AllocError, Global};
 
@@ -47,12 +49,13 @@ impl Changed {
     {
         let others = before.bindings();
         let bindings = after.bindings();
+        let same = SameRoles::between(alloc, after, before)?;
         let mut gone = vec![in alloc; true; others.len()]?;
         let mut new = Vec::new(alloc);
         let mut at = 0;
         for (place, binding) in bindings.iter().enumerate() {
             at = place_from(others, at, binding);
-            let no_more = of_namesakes(after, place, before, at);
+            let no_more = of_namesakes(after, place, before, at, &same);
             if no_more.other {
                 gone[at] = false;
             }
@@ -103,7 +106,10 @@ fn stays_flagged(
         return Ok(false);
     }
     match alike.place_of(alloc, &own.bindings()[place])? {
-        Some(at) => Ok(!of_bindings(own, place, other, at).own),
+        Some(at) => {
+            let same = SameRoles::none(alloc);
+            Ok(!of_bindings(own, place, other, at, &same).own)
+        }
         None => Ok(true),
     }
 }

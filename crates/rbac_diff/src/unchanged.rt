@@ -1,31 +1,13 @@
 //! Bindings that grant nothing that the other policy doesn't.
 
 ghost use Rattle.std.specs.Prelude.{◌≡◌, ◌<◌, ◌↔◌, IsTrue, length};
-ghost use Rattle.rbac_diff.specs.Unchanged.{AreAmong, HasSameGrants, HaveSameRules};
+ghost use Rattle.rbac_diff.specs.SameRoles.{AreSameRoles};
+ghost use Rattle.rbac_diff.specs.Unchanged.{AreAmong, HasSameGrants, HaveSameRules, IsSameGrant};
 
+use crate::named::Named;
+use crate::same_roles::SameRoles;
 use rbac_model::Policy;
 use rbac_terms::{Binding, Rule, Subject, Words};
-use std::cmp::Ordering;
-
-// The first place, from this one on, of a binding whose name isn't less than this one's: its own
-// place, if bindings are looked for in order.
-pub(crate) fn place_from(bindings: &[Binding], from: usize, binding: &Binding) -> usize {
-    let mut at = from;
-    while at < bindings.len() && cmp_names(&bindings[at], binding).is_lt() {
-        at += 1;
-    }
-    at
-}
-
-// The order of bindings: ClusterRoleBindings by name, then RoleBindings by namespace and name.
-fn cmp_names(a: &Binding, b: &Binding) -> Ordering {
-    match (&a.namespace, &b.namespace) {
-        (None, None) => a.name.cmp(&b.name),
-        (None, Some(_)) => Ordering::Less,
-        (Some(_), None) => Ordering::Greater,
-        (Some(mine), Some(theirs)) => mine.cmp(theirs).then(a.name.cmp(&b.name)),
-    }
-}
 
 /// Which of two bindings of different policies, this one and the other's, grants nothing that the
 /// other doesn't: both or neither, unless one has subjects more.
@@ -42,14 +24,21 @@ const BOTH_MORE: GrantsNoMore = GrantsNoMore {
 
 // Which of two bindings grants no more, this one or the other policy's at that place, if they have
 // the same name.
-pub(crate) fn of_namesakes(own: &Policy, place: usize, other: &Policy, at: usize) -> GrantsNoMore
-    requires { place < length own.now.held.bindings }
+pub(crate) fn of_namesakes(
+    own: &Policy,
+    place: usize,
+    other: &Policy,
+    at: usize,
+    same: &SameRoles,
+) -> GrantsNoMore
+    requires within { place < length own.now.held.bindings }
+    requires same { AreSameRoles own.now.held same.now other.now.held }
     ensures own { IsTrue result.own → HasSameGrants own.now place other.now }
     ensures other { IsTrue result.other → HasSameGrants other.now at own.now }
     ensures within { IsTrue result.other → at < length other.now.held.bindings }
 {
     if is_namesake(&own.bindings()[place], other.bindings(), at) {
-        of_bindings(own, place, other, at)
+        of_bindings(own, place, other, at, same)
     } else {
         BOTH_MORE
     }
@@ -59,13 +48,20 @@ pub(crate) fn of_namesakes(own: &Policy, place: usize, other: &Policy, at: usize
 fn is_namesake(binding: &Binding, others: &[Binding], at: usize) -> bool {
     others
         .get(at)
-        .is_some_and(|held| cmp_names(held, binding).is_eq())
+        .is_some_and(|held| held.cmp_name(binding).is_eq())
 }
 
 // Which of two bindings grants no more, this one or the other policy's at that place. They have to
 // be in the same namespace, or in none, and to have the same rules.
-pub(crate) fn of_bindings(own: &Policy, place: usize, other: &Policy, at: usize) -> GrantsNoMore
-    requires { place < length own.now.held.bindings }
+pub(crate) fn of_bindings(
+    own: &Policy,
+    place: usize,
+    other: &Policy,
+    at: usize,
+    same: &SameRoles,
+) -> GrantsNoMore
+    requires within { place < length own.now.held.bindings }
+    requires same { AreSameRoles own.now.held same.now other.now.held }
     ensures own { IsTrue result.own → HasSameGrants own.now place other.now }
     ensures other { IsTrue result.other → HasSameGrants other.now at own.now }
     ensures within { IsTrue result.other → at < length other.now.held.bindings }
@@ -74,7 +70,7 @@ pub(crate) fn of_bindings(own: &Policy, place: usize, other: &Policy, at: usize)
     let Some(held) = other.bindings().get(at) else {
         return BOTH_MORE;
     };
-    if binding.namespace != held.namespace || !same_rules(own, place, other, at) {
+    if binding.namespace != held.namespace || !same_rules(own, place, other, at, same) {
         return BOTH_MORE;
     }
     let subjects = binding.subjects.as_slice();
@@ -120,7 +116,8 @@ fn same_subject(a: &Subject, b: &Subject) -> bool
 }
 
 // Whether the bindings at these places have the same rules, in the same order.
-fn same_rules(own: &Policy, place: usize, other: &Policy, at: usize) -> bool
+fn same_rules(own: &Policy, place: usize, other: &Policy, at: usize, same: &SameRoles) -> bool
+    requires { AreSameRoles own.now.held same.now other.now.held }
     ensures own { IsTrue result → HaveSameRules own.now place other.now at }
     ensures other { IsTrue result → HaveSameRules other.now at own.now place }
 {
@@ -130,14 +127,22 @@ fn same_rules(own: &Policy, place: usize, other: &Policy, at: usize) -> bool
         return false;
     }
     for no in from..end {
-        if !same_rule(
-            own.grant(no).rule,
-            other.grant(other_from + (no - from)).rule,
-        ) {
+        if !is_same_grant(own, no, other, other_from + (no - from), same) {
             return false;
         }
     }
     true
+}
+
+// Whether the grants with these numbers are by the same rule, word for word.
+fn is_same_grant(own: &Policy, no: u32, other: &Policy, other_no: u32, same: &SameRoles) -> bool
+    requires own { no < length own.now.grants }
+    requires other { other_no < length other.now.grants }
+    requires same { AreSameRoles own.now.held same.now other.now.held }
+    ensures { IsTrue result → IsSameGrant own.now no other.now other_no }
+{
+    same.have_rule(own.place(no), other.place(other_no))
+        || same_rule(own.grant(no).rule, other.grant(other_no).rule)
 }
 
 // Whether the rules are the same, word for word.

@@ -1,5 +1,4 @@
 use Rattle.std.proofs.Common.{rules}
-use Rattle.rbac_model.specs.Sources.{grant_of}
 use Rattle.rbac_diff.proofs.SameGrants.{same_none, same_more, have_same, have_same_back}
 use Rattle.rbac_diff.proofs.unchanged.same_rules.Goals as goal
 
@@ -7,17 +6,7 @@ pub loop-no-init : goal.loop-no-init
 loop-no-init c = same_none c.args.own.now c.args.other.now c.grants_of-from.result.0 c.grants_of-other_from.result.0
 
 pub loop-no-preserved : goal.loop-no-preserved
-loop-no-preserved c = same_more c.args.own.now c.args.other.now c.grants_of-from.result.0 c.grants_of-other_from.result.0 c.loop-no.no c.loop-no.invariant (record {
-  mine = grant_of c.grant.result;
-  theirs = grant_of c.grant-in-loop-no.result;
-  read = c.grant.ensures.grant;
-  at = c.grant-in-loop-no.ensures.grant;
-  rule = c.same_rule.ensures c.if-not-same_rule.false;
-  own_place = c.grant.result.binding_place;
-  own_of = c.grant.ensures.binding;
-  place = c.grant-in-loop-no.result.binding_place;
-  of = c.grant-in-loop-no.ensures.binding;
-})
+loop-no-preserved c = same_more c.args.own.now c.args.other.now c.grants_of-from.result.0 c.grants_of-other_from.result.0 c.loop-no.no c.loop-no.invariant (c.is_same_grant.ensures c.if-not-is_same_grant.false)
 
 pub returns : goal.returns
 returns c =
