@@ -1,6 +1,5 @@
 -- What the tokens ahead read as, a token or a turn at a time.
-use Rattle.std.specs.declared.alloc.Global.{Global}
-use Rattle.std.proofs.Common.{◌⊎◌, inl, inr, rules, String, string_bytes, Bool, Result, Ok, Err, IfOk, OnOk, ◌≡◌, ℕ, ◌-◌, ◌<◌, ◌≤◌, List, [], ◌∷◌, ◌++◌, length, Option, Some, None, option_map, option_and_then, refl, sym, ap, ◌∙◌, arith}
+use Rattle.std.proofs.Common.{◌⊎◌, inl, inr, rules, Bool, Result, Ok, Err, IfOk, OnOk, ◌≡◌, ℕ, ◌-◌, ◌<◌, ◌≤◌, List, [], ◌∷◌, ◌++◌, length, Option, Some, None, option_map, option_and_then, refl, sym, ap, ◌∙◌, arith}
 use Rattle.json.specs.Token.{Token}
 use Rattle.json.specs.Reads.{token_of}
 use Rattle.json.specs.declared.token.Token.{Token as Began}
@@ -12,7 +11,7 @@ use Rattle.serde_json.specs.Data.{Num, Data, null, boolean, number, string, arra
 use Rattle.serde_json.specs.Read.{converted, number_of, of_json, of_items, of_members}
 use Rattle.serde_json.specs.View.{view, items_of}
 use Rattle.serde_json.specs.declared.value.Value.{Value, the_lemmas}
-use Rattle.serde_json.specs.declared.value.Value.TheVariants.{Null as ANull, Bool as ABool, String as AString}
+use Rattle.serde_json.specs.declared.value.Value.TheVariants.{Null as ANull, Bool as ABool}
 use Rattle.json_list.specs.declared.fault.ReadFault.{ReadFault}
 use Rattle.json_list.specs.Lean.{lean}
 use Rattle.json_list.specs.Places.{IsPutIn}
@@ -211,9 +210,6 @@ seen_null = search (rules, the_lemmas)
 
 pub seen_boolean : (b : Bool) → view (ABool b) ≡ boolean b
 seen_boolean b = search (rules, the_lemmas)
-
-pub seen_string : (s : String Global) → view (AString s) ≡ string (string_bytes s)
-seen_string s = search (rules, the_lemmas)
 
 module _ (depth : ℕ) (old ts : List Token) where
   pub no_array_read : depth ≡ 0 → old ≡ Token.begin_array ∷ ts → value_read depth old ≡ None

@@ -18,23 +18,6 @@ use Rattle.rbac_cli.specs.declared.outcome.RunFault.{RunFault}
 use Rattle.rbac_cli.specs.declared.outcome.RunFault.TheVariants.{Load, Universe, Memory, Write}
 use Rattle.rbac_cli.specs.declared.outcome.Status.{Status}
 
--- every action but `diff` is answered over all inputs together
-pub single_loaded : (a : Action) (inputs : List (List ℕ)) (l : LoadedView) → ((n : ℕ) → a ≢ Diff n) → IsLoaded inputs l → AreLoaded a inputs (Single l)
-single_loaded (CanI who quiet why q) inputs l other h = h
-single_loaded (WhoCan why every anywhere q) inputs l other h = h
-single_loaded (Rules who scope) inputs l other h = h
-single_loaded (Matrix every after limit) inputs l other h = h
-single_loaded Lint inputs l other h = h
-single_loaded (Diff n) inputs l other h = absurd (other n refl)
-
-pub single_refused : (a : Action) (inputs : List (List ℕ)) (f : LoadFault) → ((n : ℕ) → a ≢ Diff n) → HasFault inputs f → AreRefused a inputs f
-single_refused (CanI who quiet why q) inputs f other h = h
-single_refused (WhoCan why every anywhere q) inputs f other h = h
-single_refused (Rules who scope) inputs f other h = h
-single_refused (Matrix every after limit) inputs f other h = h
-single_refused Lint inputs f other h = h
-single_refused (Diff n) inputs f other h = absurd (other n refl)
-
 -- what is loaded for an action is what it is answered over
 pub over : (a : Action) (inputs : List (List ℕ)) (e : Exports) → AreLoaded a inputs e → IsOver a e
 over (CanI who quiet why q) inputs (Single l) h = tt

@@ -150,14 +150,3 @@ module _ (before after : PolicyView) (place : ℕ) (b : Binding) (x : Found) (th
           (h.asked, h.missing),
         )),
   )
-
-  -- nothing is asked for in the empty namespace
-  nothing_asked : (r : Rule) (t : Permitted) → Permits (Some []) r t → IsAskedFor t → ⊥
-  nothing_asked r (OnResource namespace group resource name) h asked = asked.0 h.0
-  nothing_asked r (OnUrl url) h asked = let both : Some [] ≡ None = h.0 in cc
-
-  pub none_in_empty : b.namespace ≡ Some [] → (m : Findings) → Finds (IsGainedAt before after place) x m m
-  none_in_empty empty m = finds_none (IsGainedAt before after place) x m
-      (λ p h. (let g = h.grant in
-      let own : g.1.binding ≡ b = binding_is g.0 g.1 g.2 g.3 in
-      nothing_asked g.1.rule.rule p.target (subst (λ (n : Option Text). Permits n g.1.rule.rule p.target) (ap (λ (c : Binding). c.namespace) own ∙ empty) g.4.target) h.asked))

@@ -82,14 +82,6 @@ finds_put q x a b t same none reads = record {
       (λ h. inl (sym (reads k ∙ ap (λ (c : Bool). cond c (Some x) (get text_cmp a k)) h) ∙ e));
 }
 
--- what has something under its text
-pub finds_there : (q : PermissionView) (x : Found) (m : Findings) → IsSome (get text_cmp m (permission_text q)) → Finds (λ p. p ≡ q) x m m
-finds_there q x m is = record {
-  kept = λ t y e. e;
-  has = λ p e. subst (λ (w : PermissionView). IsSome (get text_cmp m (permission_text w))) (sym e) is;
-  only = λ t y e. inl e;
-}
-
 -- one permission that is missing
 pub exactly_one : (rules : List (Bor Rule)) (q : PermissionView) → IsMissing rules q → (p : PermissionView) → (p ≡ q) ↔ ((p.principal ≡ q.principal) × ((p.verb ≡ q.verb) × (p.target ≡ q.target)) × IsMissing rules p)
 exactly_one rules q m p = (

@@ -153,15 +153,6 @@ pub record AreFirstsUpTo {S : Type 0} (every : Bool) (seen : List Sighting) (ran
   pub firsts : AreFirsts every (take n (sighted seen)) (sighted (values m))
   pub ranked : (r : ℕ) → Contains (keys m) r ↔ ((k : ℕ) × (k < n) × (slice_index ranks k ≡ r))
 
-pub up_to_none : {S : Type 0} (every : Bool) (seen : List Sighting) (ranks : List ℕ) (m : IndexMap ℕ Sighting S) → m.entries ≡ [] → AreFirstsUpTo every seen ranks 0 m
-up_to_none every seen ranks m empty = record {
-  firsts = rw empty record {
-    ordered = λ i j d less within. absurd (omega arith);
-    exact = λ x. (λ w. absurd (omega (arith, w.1)), λ f. absurd (omega (arith, f.0.1)));
-  };
-  ranked = λ r. (λ w. absurd (omega (arith, w.1, ap (λ (es : List (ℕ × Sighting)). length (keys_of es)) empty)), λ k. absurd (omega (arith, k.1)));
-}
-
 first_of : Text → ℕ
 first_of [] = 0
 first_of (b ∷ bs) = b

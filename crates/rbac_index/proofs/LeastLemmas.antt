@@ -1,7 +1,7 @@
 -- the least of the places that were taken in
 use Rattle.std.proofs.Common.{◌≡◌, ℕ, ◌+◌, ◌-◌, ◌<◌, ◌≤◌, List, [], ◌∷◌, ◌++◌, length, get_or, All, AllPairs, Contains, inl, inr, ◌⊎◌, ◌↔◌, ap, sym, ◌∙◌, refl, subst, arith, false}
 use Rattle.std.specs.List.{insert}
-use Rattle.std.specs.Prelude.{Option, Ok, Err, slice_get}
+use Rattle.std.specs.Prelude.{Option, Err, slice_get}
 use Rattle.std.specs.Option.{option_to_list}
 use Rattle.std.specs.List.Sorted.{IsBinarySearchResult}
 use Rattle.std.specs.Ordering.{nat_cmp}
@@ -79,9 +79,6 @@ module _ (xs : List ℕ) (up : AllPairs (λ a b. a < b) xs) (y : ℕ) where
     | inr ne ↦ omega (arith, up i j 0 (omega (arith, ne, le)) lt)
   ]
 
-  pub found_in : (at : ℕ) → IsBinarySearchResult (λ x. nat_cmp x y) xs (Ok at) → Contains xs y
-  found_in at is = let f = searched xs y (Ok at) is upwards in (at, f.0, get_or_default xs at y 0 f.0 ∙ f.1)
-
   module _ (at : ℕ) (is : IsBinarySearchResult (λ x. nat_cmp x y) xs (Err at)) where
     pub at_most : at ≤ length xs
     at_most = (searched xs y (Err at) is upwards).0
@@ -97,15 +94,6 @@ module _ (xs : List ℕ) (up : AllPairs (λ a b. a < b) xs) (y : ℕ) where
 
     pub found_ascends : AllPairs (λ a b. a < b) (insert xs at y)
     found_ascends = ascends xs at y at_most up below_at above_at
-
--- a place that is kept already
-pub takes_again : (l : LeastView) (place : ℕ) → Contains l.kept place → Takes (λ other. other ≡ place) l l
-takes_again l place c = record {
-  from = λ n k. inl k;
-  each = λ n k. elim k [ inl old ↦ inl old | inr e ↦ inl (subst (Contains l.kept) (sym e) c) ];
-  still = λ n past. past;
-  others = λ e. inl e;
-}
 
 -- a place for which there is room
 pub takes_one : (l : LeastView) (at place : ℕ) → at ≤ length l.kept → (l.are_all ≡ false → ⊥) → Takes (λ other. other ≡ place) l (record { kept = insert l.kept at place; are_all = l.are_all })

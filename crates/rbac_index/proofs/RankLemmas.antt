@@ -10,7 +10,7 @@ use Rattle.std.proofs.Math.ListN.{get_or-append}
 use Rattle.std.proofs.lemmas.Bool.{cases_eq, cases_lt}
 use Rattle.std.proofs.lemmas.Cmp.{nat_list_cmp_total, on_total}
 use Rattle.std.proofs.lemmas.List.{length-append, length-set, get_or_at, get_or-set_same, get_or-set_other}
-use Rattle.std.proofs.lemmas.List.Elements.{All-push, All-nil, All-get_or, Contains-append_left, Contains-push_cases, Contains-get_or}
+use Rattle.std.proofs.lemmas.List.Elements.{All-push, All-get_or, Contains-append_left, Contains-push_cases, Contains-get_or}
 use Rattle.std.proofs.lemmas.List.Quantifiers.{Any-push}
 use Rattle.std.proofs.lemmas.List.Sorted.{All-permutation, Contains-permutation, ranks_by, sorted_far}
 use Rattle.std.proofs.lemmas.Map.Keys.{sorted_from_all_adjacent}
@@ -27,12 +27,6 @@ placed_total = on_total (λ (x : Placed). (placed_label x)) nat_list_cmp_total
 pub record ArePlacedBelow (keys : List Text) (n : ℕ) (placed : List Placed) : Type 0 where
   pub each : All (λ p. slice_get keys p.place ≡ Some (placed_label p)) placed
   pub all : (i : ℕ) → i < n → Any (λ p. p.place ≡ i) placed
-
-pub placed_none : (keys : List Text) → ArePlacedBelow keys 0 []
-placed_none keys = record {
-  each = All-nil (λ p. slice_get keys p.place ≡ Some (placed_label p));
-  all = λ i lt. absurd (omega arith);
-}
 
 pub placed_more : (keys : List Text) (n : ℕ) (placed : List Placed) (p : Placed) → ArePlacedBelow keys n placed → p.place ≡ n → slice_get keys p.place ≡ Some (placed_label p) → ArePlacedBelow keys (n + 1) (placed ++ p ∷ [])
 placed_more keys n placed p are here reads = record {

@@ -7,14 +7,13 @@ use Rattle.rbac_manifest.specs.Fields.{elements}
 use Rattle.rbac_manifest.specs.Kinds.{kind_of}
 use Rattle.rbac_manifest.specs.Document.{fault, stands, first_of, bad_header, bad_body, content_in}
 use Rattle.rbac_manifest.specs.Contents.{ContentsView, with_contents}
-use Rattle.rbac_manifest.specs.Load.{refusal_in, refusal_of, contents_of_input, contents_of_value, items_refusal, contents_of_body, list_refusal, contents_of_list, whole_or, item_or, first_refusal, as_whole, in_item, contents_of_items}
+use Rattle.rbac_manifest.specs.Load.{refusal_in, refusal_of, contents_of_input, contents_of_value, items_refusal, contents_of_body, list_refusal, contents_of_list, whole_or, item_or, first_refusal, as_whole, contents_of_items}
 use Rattle.rbac_manifest.specs.ItemsAhead.{ahead_refusal, contents_ahead, IsListOf}
 use Rattle.rbac_manifest.specs.declared.kind.Kind.{Kind}
 use Rattle.rbac_manifest.specs.declared.kind.Kind.TheVariants as kinds
 use Rattle.rbac_manifest.specs.declared.kind.Implied.{Implied}
 use Rattle.rbac_manifest.specs.declared.kind.Implied.TheVariants as lists
 use Rattle.rbac_manifest.specs.declared.fault.Cause.{Cause}
-use Rattle.rbac_manifest.specs.declared.fault.Cause.TheVariants.{NotJson}
 use Rattle.rbac_manifest.specs.declared.fault.Refusal.{Refusal}
 use Rattle.rbac_manifest.proofs.Beside.{the_items, same_kind, same_fault, same_content}
 use Rattle.rbac_manifest.proofs.ContentsLemmas.{contents_none, contents_more}
@@ -114,13 +113,6 @@ passed_item : (implied : Implied) (place : ℕ) (d : Data) → fault implied d �
 passed_item implied place d sound None = refl
 passed_item implied place d sound (Some ds) = ap (λ f. item_or place f (first_refusal implied (place + 1) (elements ds))) sound
 
-pub bad_item : (implied : Implied) (place : ℕ) (d : Data) (cause : Cause) → fault implied d ≡ Some cause → (ahead : Option Items) → IsSome ahead → ahead_refusal implied place (option_map (item d) ahead) ≡ Some (in_item place cause)
-bad_item implied place d cause bad None there = absurd (true≢false (sym there))
-bad_item implied place d cause bad (Some ds) there = ap (λ f. item_or place f (first_refusal implied (place + 1) (elements ds))) bad
-
-pub unread_rest : (implied : Implied) (place : ℕ) (d : Data) (ahead : Option Items) → ahead ≡ None → ahead_refusal implied place (option_map (item d) ahead) ≡ Some (as_whole NotJson)
-unread_rest implied place d ahead e = ap (λ o. ahead_refusal implied place (option_map (item d) o)) e
-
 -- all items and what was there before them, and the items that are still to come, from a place on, and what is there now
 abbrev pub ComesTo : Implied → Option Items → ContentsView → ℕ → Option Items → ContentsView → Type 0
 ComesTo implied all first place ahead now =
@@ -136,14 +128,8 @@ module _ (implied : Implied) (all : Option Items) (first : ContentsView) (place 
     λ ds left. ap (λ g. with_contents g (contents_of_items implied (elements ds))) taken ∙ contents_more now (option_to_list (stands implied d)) (contents_of_items implied (elements ds)) ∙ so_far.1 (item d ds) (e ∙ ap (option_map (item d)) left),
   )
 
-  pub none_refused : ahead ≡ Some no_items → ahead_refusal implied 0 all ≡ None
-  none_refused e = sym so_far.0 ∙ ap (ahead_refusal implied place) e
-
   pub all_contents : ahead ≡ Some no_items → now ≡ with_contents first (contents_ahead implied all)
   all_contents e = sym (contents_none now) ∙ so_far.1 no_items e
-
-  pub not_read : ahead ≡ None → ahead_refusal implied 0 all ≡ Some (as_whole NotJson)
-  not_read e = sym so_far.0 ∙ ap (ahead_refusal implied place) e
 
 -- ---- what is said where a call is Ok
 

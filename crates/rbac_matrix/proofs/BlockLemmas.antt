@@ -47,13 +47,6 @@ others_about p l rs place end seats h k lt = elim (h.each k lt) [
 ]
 
 module _ (seats : List Seat) (start : ℕ) where
-  pub least_none : (number : ℕ) → IsLeastIn seats start start past_all number
-  least_none number = record {
-    bound = omega arith;
-    at = λ lt. absurd (omega arith);
-    least = λ k low high. absurd (omega arith);
-  }
-
   module _ (n place number : ℕ) (h : IsLeastIn seats start n place number) where
     -- over numbers without an entry
     pub least_over : (end : ℕ) → n ≤ end → AreIdle seats n end → IsLeastIn seats start end place number
@@ -103,57 +96,6 @@ pub record IsLeastBelow (bs : List Block) (count place number : ℕ) : Type 0 wh
   pub bound : place ≤ past_all
   pub found : place < past_all → (i : ℕ) × (i < count) × ((block_at bs i).place ≡ place) × ((block_at bs i).number ≡ number) × ((j : ℕ) → j < count → (block_at bs j).place ≤ place → i ≤ j)
   pub least : (i : ℕ) → i < count → place ≤ (block_at bs i).place
-
-pub below_start : (bs : List Block) (number : ℕ) → IsLeastBelow bs 0 past_all number
-below_start bs number = record {
-  bound = omega arith;
-  found = λ lt. absurd (omega arith);
-  least = λ i lt. absurd (omega arith);
-}
-
-module _ (bs : List Block) (n place number : ℕ) (h : IsLeastBelow bs n place number) where
-  pub below_new : (b : Block) → block_at bs n ≡ b → b.place < place → IsLeastBelow bs (n + 1) b.place b.number
-  below_new b is lt = record {
-    bound = omega (arith, h.bound);
-    found = λ real. (
-      n,
-      omega arith,
-      ap (λ (x : Block). x.place) is,
-      ap (λ (x : Block). x.number) is,
-      λ j few le. elim (cases_lt j n) [
-        | inl earlier ↦ absurd (omega (arith, h.least j earlier))
-        | inr ge ↦ ge
-      ],
-    );
-    least = λ i few. elim (cases_lt i n) [
-      | inl earlier ↦ omega (arith, h.least i earlier)
-      | inr ge ↦ let e : i ≡ n = omega arith in rw (e, is) (omega arith)
-    ];
-  }
-
-  pub below_old : (b : Block) → block_at bs n ≡ b → (b.place < place → ⊥) → IsLeastBelow bs (n + 1) place number
-  below_old b is ge = record {
-    bound = h.bound;
-    found = λ real. let f = h.found real in (
-      f.0,
-      omega (arith, f.1),
-      f.2,
-      f.3,
-      λ j few le. elim (cases_lt j n) [
-        | inl earlier ↦ f.4 j earlier le
-        | inr later ↦ omega (arith, f.1)
-      ],
-    );
-    least = λ i few. elim (cases_lt i n) [
-      | inl earlier ↦ h.least i earlier
-      | inr later ↦ let e : i ≡ n = omega arith in rw (e, is) (elim (cases_lt b.place place) [ inl lt ↦ absurd (ge lt) | inr le ↦ le ])
-    ];
-  }
-
-pub below_found : (bs : List Block) (place number : ℕ) → IsLeastBelow bs (length bs) place number → place < past_all → IsLeastBlock bs place number
-below_found bs place number h real =
-    let f = h.found real in
-    record { at = f.0; within = f.1; place_at = f.2; number_at = f.3; real = real; least = h.least; first = f.4 }
 
 -- ---- the least seat of a line
 

@@ -214,13 +214,6 @@ known_past p u at to l runs here bare none (inr same) = record {
   bare = λ later who there. subst (λ (w : Who). ServeBare p u w runs) (same_Some l.who who (sym here.principal ∙ subst (λ (n : ℕ). slice_get u.principals n ≡ Some who) same there)) bare;
 }
 
--- one move after another
-pub moved_twice : (at mid to : Place) (verbs : ℕ) → 0 < verbs → ((mid ≡ at) ⊎ ((mid.verb ≡ 0) × (mid.principal ≡ at.principal) × (verbs ≤ at.verb))) → ((to ≡ mid) ⊎ ((to.verb ≡ 0) × (to.namespace ≡ 0))) → IsMoved at to
-moved_twice at mid to verbs some first (inr second) = inr (second.0, inl second.1)
-moved_twice at mid to verbs some (inl e) (inl f) = inl (f ∙ e)
-moved_twice at mid to verbs some (inr moved) (inl f) =
-    inr (ap (λ (t : Place). t.verb) f ∙ moved.0, inr (ap (λ (t : Place). t.principal) f ∙ moved.1, omega (arith, some, moved.2)))
-
 pub not_both : (b : Bool) → IsTrue (not b) → IsTrue b → ⊥
 not_both true t u = cc
 not_both false t u = cc

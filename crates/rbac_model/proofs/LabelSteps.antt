@@ -1,6 +1,6 @@
 -- the row of an aggregated role: whatever its selectors select, but itself
 use Rattle.std.proofs.Common.{◌≡◌, ◌≢◌, ℕ, ◌<◌, ◌⊎◌, ◌↔◌, List, [], Any, inl, inr, sym, ap, ◌∙◌, arith, subst}
-use Rattle.std.specs.Prelude.{Option, Some, None, slice_get}
+use Rattle.std.specs.Prelude.{Option, Some, slice_get}
 use Rattle.std.proofs.lemmas.Bool.{cases_eq, cases_lt}
 use Rattle.std.proofs.lemmas.Option.{same_Some, slice_get_within, get_or_from_slice_get}
 use Rattle.rbac_terms.specs.Selecting.{Selects}
@@ -13,7 +13,7 @@ use Rattle.rbac_model.specs.Places.{IsRowOf}
 use Rattle.rbac_model.specs.Labelled.{AreWith}
 use Rattle.rbac_model.proofs.PlaceSets.{has_none}
 use Rattle.rbac_model.proofs.NamePlaces.{equal_from_name}
-use Rattle.rbac_model.proofs.Stairs.{step_read, step_same, no_step_plain}
+use Rattle.rbac_model.proofs.Stairs.{step_read, step_same}
 
 -- two roles of one name stand at one place
 one_place : (roles : List ClusterRole) → IsAscendingBy cluster_role_name roles → (i j : ℕ) (r s : ClusterRole) → slice_get roles i ≡ Some r → slice_get roles j ≡ Some s → r.name ≡ s.name → i ≡ j
@@ -52,6 +52,3 @@ row_of h held r at selectors gathered own row there is are one left k = (
         ],
       ),
 )
-
-pub no_row : (h : Held) (r : ClusterRole) → r.aggregation ≡ None → IsRowOf h r []
-no_row h r plain k = (λ m. absurd (has_none k m), λ p. absurd (no_step_plain h r k plain p))

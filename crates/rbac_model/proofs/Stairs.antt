@@ -2,15 +2,14 @@
 use Rattle.std.proofs.Common.{◌≡◌, ◌≢◌, ℕ, ◌<◌, List, [], ◌∷◌, ◌++◌, length, get_or, Contains, ◌↔◌, sym, ap, ◌∙◌, refl, arith, subst, inl, inr, zero, suc, take, ◌+◌}
 use Rattle.std.proofs.lemmas.List.{take_more, get_or_default}
 use Rattle.std.proofs.Math.ListN.{get_or-eq_default}
-use Rattle.std.specs.Prelude.{Option, Some, slice_get}
+use Rattle.std.specs.Prelude.{Some, slice_get}
 use Rattle.std.specs.List.{AllZip}
 use Rattle.std.proofs.lemmas.Option.{same_Some, slice_get_within, slice_get-get_or, slice_get_cases}
 use Rattle.rbac_model.proofs.PlaceSets.{has_none}
-use Rattle.rbac_model.specs.Policies.{Held, IsPath, Reaches, Gathers, IsPlain}
+use Rattle.rbac_model.specs.Policies.{Held, IsPath, Reaches, Gathers}
 use Rattle.rbac_model.specs.Graphs.{Graph, IsGraph, HasPlace, HasEdge, IsWay, LeadsTo}
 use Rattle.rbac_model.specs.Places.{IsStepTo, IsRowOf, AreSteps, IsReachedAt, AreReachedByEach}
 use Rattle.rbac_terms.specs.declared.granting.ClusterRole.{ClusterRole}
-use Rattle.rbac_terms.specs.declared.selecting.Selector.{Selector}
 use Rattle.rbac_terms.proofs.Reading.{contains_read}
 
 -- pairs by place
@@ -43,12 +42,6 @@ pub step_same : (h : Held) (r : ClusterRole) (k : ℕ) (s : ClusterRole) → sli
 step_same h r k s read step =
     let P : ClusterRole → Type 0 = λ t. (r.name ≢ t.name) × Gathers r.aggregation t in
     subst P (same_Some step.0 s (sym step.1 ∙ read)) (step.2.1, step.2.2)
-
-no_gathers : (r s : ClusterRole) → IsPlain r → Gathers r.aggregation s → ⊥
-no_gathers r s plain g = let P : Option (List Selector) → Type 0 = λ a. Gathers a s in subst P plain g
-
-pub no_step_plain : (h : Held) (r : ClusterRole) (k : ℕ) → IsPlain r → IsStepTo h r k → ⊥
-no_step_plain h r k plain step = no_gathers r step.0 plain step.2.2
 
 -- what is reached is held
 path_held : (h : Held) (r : ClusterRole) (between : List ClusterRole) (s : ClusterRole) → IsPath h r between s → Contains h.cluster_roles s

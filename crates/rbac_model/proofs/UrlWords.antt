@@ -1,17 +1,14 @@
 -- what the tests of URL words say
-use Rattle.std.proofs.Common.{◌≡◌, ◌≢◌, ℕ, ◌+◌, ◌≤◌, ◌⊎◌, List, [], ◌∷◌, ◌++◌, take, drop, length, replicate, inl, inr, sym, ap, ◌∙◌, refl, subst, arith, zero, suc, append_assoc, add-one, ◌↔◌, Any, All, MatchOption, Bor}
+use Rattle.std.proofs.Common.{◌≡◌, ◌≢◌, ℕ, ◌+◌, ◌⊎◌, List, [], ◌∷◌, ◌++◌, length, replicate, inl, inr, sym, ap, ◌∙◌, refl, subst, arith, zero, suc, add-one, ◌↔◌, Any, All, MatchOption, Bor}
 use Rattle.std.specs.Prelude.{codes, Option, Some, None}
-use Rattle.std.proofs.lemmas.Bool.{cases_eq}
-use Rattle.std.proofs.lemmas.List.{same_from_push, append-nil, take-append-le, take-append-drop, length-append}
+use Rattle.std.proofs.lemmas.List.{length-append}
 use Rattle.std.proofs.lemmas.List.Elements.{All-cons, All-nil}
-use Rattle.std.proofs.Math.Seq.{take-append_seam}
 use Rattle.rbac_terms.specs.Text.{Text, star, slash, BeginsWith}
 use Rattle.rbac_terms.specs.Matching.{UrlWordMatches, EndsInStar}
-use Rattle.rbac_terms.proofs.Texts.{one_more_star, same_prefix, shorter}
 use Rattle.rbac_terms.specs.declared.matching.Rule.{Rule}
 use Rattle.rbac_terms.specs.Targets.{IsPath}
 use Rattle.rbac_model.proofs.UrlSamples.{reaches_matches, matches_reaches, slash_no_star, IsPath-more, IsUrlSample-one, Unstarred, unstarred, plain_sample, starred_sample}
-use Rattle.rbac_model.specs.OwnWords.{AllowsUrlWord, GivesPath, IsStars, IsUrlSample, MatchesEachPath, sample_prefix}
+use Rattle.rbac_model.specs.OwnWords.{AllowsUrlWord, GivesPath, IsStars, IsUrlSample, MatchesEachPath}
 
 IsPath-less : (c : ℕ) (q rest : Text) → IsPath ((c ∷ q) ++ rest) → IsPath (c ∷ q)
 IsPath-less c q rest p = let same : c ≡ slash = cc (p.1) in (q, ap (λ d. d ∷ q) same)
