@@ -3,9 +3,7 @@
 ghost use Rattle.std.specs.Prelude.{◌≡◌, ◌↔◌, List};
 ghost use Rattle.rbac_model.specs.Policies.{PolicyView, IsPolicy};
 ghost use Rattle.rbac_diff.specs.Changes.{ChangeView, AreChanges, NoneGained, TellsOf};
-ghost use Rattle.rbac_diff.specs.Permissions.{PermissionView};
 ghost use Rattle.rbac_diff.specs.Requests.{AllowsNoMore, IsGainedRequest, RequestView};
-ghost use Rattle.rbac_diff.specs.Texts.{permission_text};
 
 /// The changes are one list: any two lists of them are the same, in the same order (own).
 pub fn changes_are_one()

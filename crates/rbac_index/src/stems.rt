@@ -1,7 +1,7 @@
 //! The stems of targets: targets are in order, those with the same API group and resource text
 //! together.
 
-ghost use Rattle.std.specs.Prelude.{◌≡◌, ◌+◌, ◌<◌, ◌≤◌, ◌↔◌, IfOk, IsTrue, length, option_copied};
+ghost use Rattle.std.specs.Prelude.{◌+◌, ◌<◌, ◌≤◌, ◌↔◌, IfOk, IsTrue, length, option_copied};
 ghost use Rattle.rbac_model.specs.Lists.{IsAscendingBy};
 ghost use Rattle.rbac_index.specs.Matched.{what_texts, AreOfStem, AreStemEnds, IsBetween};
 ghost use Rattle.rbac_index.specs.Matched.{IsLaterOfStem, IsStem};

@@ -1,7 +1,7 @@
 //! The bindings under the keys of their subjects, in a sorted list, so that the bindings that name
 //! a principal are found by its keys, and no export can make a look-up slow.
 
-ghost use Rattle.std.specs.Prelude.{◌≡◌, ◌≤◌, ◌↔◌, ◌++◌, ℕ, IfOk, OnOk, IsTrue, Some, Contains};
+ghost use Rattle.std.specs.Prelude.{◌≡◌, ◌↔◌, ◌++◌, IfOk, OnOk, IsTrue, Some, Contains};
 ghost use Rattle.std.specs.Ordering.{is_lt};
 ghost use Rattle.std.specs.List.Sorted.{IsSorted};
 ghost use Rattle.rbac_terms.specs.Text.{text_cmp};

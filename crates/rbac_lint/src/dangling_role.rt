@@ -6,7 +6,7 @@ ghost use Rattle.rbac_lint.specs.Findings.{Dangles, IsDanglingOf, IsDangling};
 
 use crate::finding::{Finding, Findings, binding_word, named_word};
 use rbac_model::{Objects, ref_place};
-use rbac_terms::{Binding, Word};
+use rbac_terms::Binding;
 use std::alloc::{AllocError, Global};
 
 // Adds the findings for all bindings.

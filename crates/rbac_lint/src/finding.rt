@@ -1,7 +1,6 @@
 //! What lint finds, line by line.
 
 ghost use Rattle.std.specs.Prelude.{◌≡◌, ◌++◌, ◌∷◌, [], decimal, IfOk, OnOk};
-ghost use Rattle.std.specs.Option.{option_copied};
 ghost use Rattle.rbac_model.specs.Sources.{source_of};
 ghost use Rattle.rbac_lint.specs.Lines.{object_text};
 ghost use Rattle.rbac_lint.specs.Roles.{source_object, binding_object, named_object, role_object};

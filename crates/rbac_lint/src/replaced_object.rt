@@ -1,6 +1,6 @@
 //! Objects for which several documents were given.
 
-ghost use Rattle.std.specs.Prelude.{◌≡◌, ◌++◌, IfOk, OnOk};
+ghost use Rattle.std.specs.Prelude.{◌≡◌, IfOk, OnOk};
 ghost use Rattle.rbac_model.specs.Lists.{IsAscendingBy};
 ghost use Rattle.rbac_manifest.specs.Replaced.{replaced_name};
 ghost use Rattle.rbac_lint.specs.Lines.{Adds, object_text};

@@ -1,6 +1,6 @@
 //! The places of a role's rules, listed under the words that they hold.
 
-ghost use Rattle.std.specs.Prelude.{◌≡◌, ◌++◌, ◌∷◌, [], Contains, IfOk, OnOk, IsTrue, MatchOption};
+ghost use Rattle.std.specs.Prelude.{◌≡◌, ◌∷◌, [], Contains, IfOk, OnOk, IsTrue, MatchOption};
 ghost use Rattle.std.specs.Prelude.{codes, length};
 ghost use Rattle.rbac_terms.specs.Text.{Text};
 ghost use Rattle.rbac_lint.specs.RulesByWord.{listed, lists_in, words_in, IsKey, IsStem};

@@ -1,7 +1,7 @@
 //! Blocks of a line's grants, each with its least seat: a row looks at the blocks, and only at the
 //! seats of those blocks that have it.
 
-ghost use Rattle.std.specs.Prelude.{◌≡◌, ◌+◌, ◌<◌, ◌≤◌, ◌⊎◌, ◌↔◌, ℕ, IsTrue, List, MatchOption};
+ghost use Rattle.std.specs.Prelude.{◌≡◌, ◌<◌, ◌≤◌, ◌⊎◌, ◌↔◌, ℕ, IsTrue, MatchOption};
 ghost use Rattle.std.specs.Prelude.{length, set};
 ghost use Rattle.rbac_matrix.specs.Shown.{line_of};
 ghost use Rattle.rbac_matrix.specs.Blocks.{AreBlocks, IsBlock, IsLeastBlock, block_at, joined};

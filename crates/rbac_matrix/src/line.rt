@@ -4,7 +4,7 @@ ghost use Rattle.std.specs.Prelude.{◌≡◌, ◌∷◌, [], ◌<◌, ◌≤◌
 ghost use Rattle.std.specs.Prelude.{MatchOption};
 ghost use Rattle.rbac_model.specs.Universes.{IsUniverse, most_words};
 ghost use Rattle.rbac_universe.specs.Sets.{IsWithinLimits};
-ghost use Rattle.rbac_matrix.specs.Lines.{LineView, IsLineAt, IsMoved, IsSettled, lines_from};
+ghost use Rattle.rbac_matrix.specs.Lines.{IsLineAt, IsMoved, IsSettled, lines_from};
 ghost use Rattle.rbac_matrix.specs.Lines.{next_verb, place};
 ghost use Rattle.rbac_matrix.specs.Shown.{line_of};
 

@@ -1,6 +1,6 @@
 //! A matrix over borrowed seats.
 
-ghost use Rattle.std.specs.Prelude.{◌≡◌, ◌≤◌, ℕ, List, length};
+ghost use Rattle.std.specs.Prelude.{◌≡◌, List, length};
 ghost use Rattle.std.specs.Option.{option_copied};
 ghost use Rattle.rbac_model.specs.Universes.{RowView, IsMatrix, rows_after};
 ghost use Rattle.rbac_matrix.specs.Enumeration.{AreLeft, IsGoing};

@@ -1,11 +1,11 @@
 //! The seats of the cursors of a line.
 
-ghost use Rattle.std.specs.Prelude.{◌≡◌, ◌+◌, ◌*◌, ◌<◌, ◌≤◌, ◌⊎◌, ℕ, length, IfSome, IfNone};
+ghost use Rattle.std.specs.Prelude.{◌≡◌, ◌+◌, ◌*◌, ◌<◌, ◌≤◌, ◌⊎◌, ℕ, length};
 ghost use Rattle.std.specs.Prelude.{IsTrue, ◌↔◌};
 ghost use Rattle.rbac_model.specs.Policies.{IsPolicy};
 ghost use Rattle.rbac_matrix.specs.Shown.{line_of};
 ghost use Rattle.rbac_matrix.specs.Cursors.{AreRuns, IsCursorAt};
-ghost use Rattle.rbac_matrix.specs.Seats.{AreSeated, AreSeatedAbout, AreEmpty, Costs, IsLeastSeat};
+ghost use Rattle.rbac_matrix.specs.Seats.{AreSeated, AreEmpty, Costs};
 ghost use Rattle.rbac_matrix.specs.Seats.{AreReal, filled, empty_seat, past_all, seat_at};
 
 use crate::bound_runs::Runs;

@@ -1,6 +1,6 @@
 //! The rows of a line, by the seats of its cursors.
 
-ghost use Rattle.std.specs.Prelude.{ℕ, ◌≡◌, ◌<◌, ◌⊎◌, ◌↔◌, ◌≤◌, [], IsTrue, MatchOption, length};
+ghost use Rattle.std.specs.Prelude.{ℕ, ◌≡◌, ◌<◌, ◌⊎◌, ◌↔◌, [], IsTrue, MatchOption, length};
 ghost use Rattle.std.specs.Prelude.{slice_index_or, true, false};
 ghost use Rattle.rbac_model.specs.Policies.{IsPolicy};
 ghost use Rattle.rbac_model.specs.Universes.{IsUniverse, UniverseView, most_words};

@@ -1,12 +1,12 @@
 //! What aggregated roles gather from.
 
-ghost use Rattle.std.specs.Prelude.{◌≡◌, ◌≢◌, ◌+◌, ◌*◌, ◌/◌, ◌<◌, ◌≤◌, ◌↔◌, IsTrue, IfOk, OnOk};
+ghost use Rattle.std.specs.Prelude.{◌≡◌, ◌+◌, ◌*◌, ◌/◌, ◌<◌, ◌≤◌, IfOk, OnOk};
 ghost use Rattle.std.specs.Prelude.{IsOkAnd, Contains, Any, Some, [], length, min, slice_get};
 ghost use Rattle.rbac_model.specs.Policies.{IsHeld, IsPlain, AreReachedNames};
 ghost use Rattle.rbac_model.specs.Graphs.{HasPlace};
 ghost use Rattle.rbac_model.specs.Lists.{IsUpTo};
 ghost use Rattle.rbac_terms.specs.declared.granting.ClusterRole.{ClusterRole};
-ghost use Rattle.rbac_model.specs.Places.{IsRowOf, AreSteps, IsReachedAt, AreReachedByEach};
+ghost use Rattle.rbac_model.specs.Places.{IsRowOf, AreSteps, AreReachedByEach};
 ghost use Rattle.rbac_model.specs.Places.{AreSourcesAt, IsPlainAt, AreNamesIn};
 
 use crate::labels::Labelled;

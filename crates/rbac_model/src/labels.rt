@@ -1,8 +1,8 @@
 //! The labels of all cluster roles, in order. What a selector selects is looked up in them, so that
 //! no export can make that slow.
 
-ghost use Rattle.std.specs.Prelude.{◌≡◌, ◌↔◌, ◌⊎◌, ◌≤◌, ◌<◌, ◌/◌, ◌++◌, ◌∷◌, [], ℕ, Any, All, IfOk};
-ghost use Rattle.std.specs.Prelude.{OnOk, IsTrue, length, slice_get, Some};
+ghost use Rattle.std.specs.Prelude.{◌≡◌, ◌↔◌, ◌⊎◌, ◌≤◌, ◌<◌, [], ℕ, Any, All, IfOk};
+ghost use Rattle.std.specs.Prelude.{OnOk, length, slice_get, Some};
 ghost use Rattle.std.specs.Option.{option_map};
 ghost use Rattle.std.specs.Cmp.Lexicographic.{slice_cmp};
 ghost use Rattle.std.specs.List.Sorted.{IsSorted};

@@ -1,6 +1,6 @@
 //! Lists.
 
-ghost use Rattle.std.specs.Prelude.{◌≡◌, ◌++◌, ◌∷◌, [], IfOk, IfErr, OnOk, OnErr, IsTrue, ◌↔◌};
+ghost use Rattle.std.specs.Prelude.{◌≡◌, ◌++◌, ◌∷◌, [], IfErr, OnOk, OnErr, IsTrue, ◌↔◌};
 
 use std::alloc::{AllocError, AllocFailed, Global};
 use std::marker::Model;

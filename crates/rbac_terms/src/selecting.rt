@@ -1,6 +1,6 @@
 //! Labels, and what selects by them.
 
-ghost use Rattle.std.specs.Prelude.{◌≡◌, IsTrue, ◌↔◌, All, List, ℕ};
+ghost use Rattle.std.specs.Prelude.{IsTrue, ◌↔◌, All};
 ghost use Rattle.rbac_terms.specs.Selecting.{Selects, Meets, HasLabel, HasKey, HasOneOf};
 
 use crate::items::Items;
