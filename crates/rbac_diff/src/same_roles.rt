@@ -4,9 +4,9 @@ ghost use Rattle.std.specs.Prelude.{◌≡◌, IsTrue, IfOk, IfSome, List, Some,
 ghost use Rattle.rbac_terms.specs.declared.matching.Rule.{Rule};
 ghost use Rattle.rbac_diff.specs.SameRoles.{AreSameAt, AreSameRoles, HasPair, HaveSameRulesAt};
 
-use crate::named::{Named, place_from};
+use crate::named::place_from;
 use crate::unchanged::same_rule;
-use rbac_model::{GrantPlace, Policy, RolePlace};
+use rbac_model::{GrantPlace, Named, Policy, RolePlace};
 use rbac_terms::{ClusterRole, Role, Rule};
 use std::alloc::{AllocError, Global};
 

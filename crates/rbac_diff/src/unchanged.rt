@@ -4,9 +4,8 @@ ghost use Rattle.std.specs.Prelude.{◌≡◌, ◌<◌, ◌↔◌, IsTrue, lengt
 ghost use Rattle.rbac_diff.specs.SameRoles.{AreSameRoles};
 ghost use Rattle.rbac_diff.specs.Unchanged.{AreAmong, HasSameGrants, HaveSameRules, IsSameGrant};
 
-use crate::named::Named;
 use crate::same_roles::SameRoles;
-use rbac_model::Policy;
+use rbac_model::{Named, Policy};
 use rbac_terms::{Binding, Rule, Subject, Words};
 
 /// Which of two bindings of different policies, this one and the other's, grants nothing that the

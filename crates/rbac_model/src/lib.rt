@@ -22,7 +22,7 @@ mod visit_order;
 pub use fault::ResolveFault;
 pub use laws::{grants_are_one_list, kept_objects_are_one, words_match_themselves};
 pub use live::is_live;
-pub use objects::{Object, Objects};
+pub use objects::{Named, Object, Objects};
 pub use own_words::{allows_url_word, gives_path};
 pub use places::{GrantPlace, RolePlace};
 pub use policy::Policy;

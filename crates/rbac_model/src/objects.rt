@@ -131,10 +131,13 @@ impl Objects {
     }
 }
 
-/// An item that has a name among those of its kind.
-pub(crate) trait Named {
+/// An object that has a name among those of its kind. A role and a RoleBinding have their namespace
+/// in it; cluster roles and ClusterRoleBindings have none (Using RBAC Authorization, API objects).
+pub trait Named {
     ghost name: { Self → List Text };
 
+    /// Compares the names of two objects. `Objects` holds its own in this order: by namespace, then
+    /// by name, and ClusterRoleBindings before RoleBindings.
     fn cmp_name(&self, other: &Self) -> Ordering
         ensures { result ≡ by_name name self.now other.now };
 }
