@@ -14,21 +14,22 @@ use Rattle.rbac_model.specs.Policies.{PolicyView, IsPolicy, GrantView, IsOfBindi
 use Rattle.rbac_model.specs.Sources.{source_of}
 use Rattle.rbac_model.proofs.GrantNumbers.{some_grant, first_grant}
 use Rattle.rbac_model.proofs.BindingPlaces.{places_rise, of_some_binding}
+use Rattle.rbac_index.specs.Requested.{ThisTarget}
 use Rattle.rbac_index.specs.Living.{IsLiveRoleBinding}
 use Rattle.rbac_index.specs.Deciding.{IsWhyShown, AllowsOf, NoneAllowing, IsFirstAllowing, GrantsOf, NoneAmong, IsFirstAmong}
 use Rattle.rbac_index.specs.declared.deciding.Why.{Why}
 
 module _ (p : PolicyView) (who : Who) (verb : Text) (t : What) where
-  allows_of : (at n : ℕ) → GrantsOf p who verb t at n → AllowsOf p verb t at n
+  allows_of : (at n : ℕ) → GrantsOf p who verb t at n → AllowsOf p verb (ThisTarget t) at n
   allows_of at n g = ((g.0, g.1, g.2), (g.0, g.1, g.4))
 
-  pub none_allowed : (place : ℕ) → NoneAllowing p verb t place → NoneAmong p who verb t place (place + 1)
+  pub none_allowed : (place : ℕ) → NoneAllowing p verb (ThisTarget t) place → NoneAmong p who verb t place (place + 1)
   none_allowed place none at n from to g =
       let e : at ≡ place = omega arith in
       none n (rw e at (allows_of at n g))
 
   -- why the one binding grants
-  pub one_first : (place n subject : ℕ) (b : Binding) (g : GrantView) (why : Why) → slice_get p.held.bindings place ≡ Some b → IsFirstAllowing p verb t place n → slice_get p.grants n ≡ Some g
+  pub one_first : (place n subject : ℕ) (b : Binding) (g : GrantView) (why : Why) → slice_get p.held.bindings place ≡ Some b → IsFirstAllowing p verb (ThisTarget t) place n → slice_get p.grants n ≡ Some g
       → ((s : Subject) × IsFirstAt (λ s. Names s b.namespace who) b.subjects subject s) → why.binding.now ≡ b → why.subject_place ≡ subject
       → source_of why.source ≡ g.rule.source → why.rule_place ≡ g.rule.place → IsFirstAmong p who verb t place (place + 1) why
   one_first place n subject b g why there first at named is subject_is source rule =

@@ -12,7 +12,7 @@ use Rattle.std.proofs.lemmas.Map.Keys.{Less-from_sorted}
 use Rattle.std.proofs.lemmas.Option.{gets, same_Some, slice_get-get_or, slice_get-map, slice_get_within, get_or_from_slice_get}
 use Rattle.indexmap.specs.IndexMap.{IndexMap, keys, values}
 use Rattle.rbac_terms.specs.Text.{Text, text_cmp}
-use Rattle.rbac_terms.specs.Targets.{What}
+use Rattle.rbac_index.specs.Requested.{RequestedView}
 use Rattle.rbac_model.specs.Policies.{Held}
 use Rattle.rbac_model.specs.Holders.{HolderView, IsBefore}
 use Rattle.rbac_index.specs.declared.sightings.Sighting.{Sighting}
@@ -32,7 +32,7 @@ lex_itself : (i j : ℕ) → ¬ IsBefore i j i j
 lex_itself i j a = lex_asym i j i j a a
 
 -- where all that holds was seen
-module _ (h : Held) (asked : WhereView) (verb : Text) (t : What) (xs : List HolderView) (seen : AreAllSeen h asked verb t xs) where
+module _ (h : Held) (asked : WhereView) (verb : Text) (t : RequestedView) (xs : List HolderView) (seen : AreAllSeen h asked verb t xs) where
   inside : (key : Text) (i j : ℕ) → (a : HoldsAt h asked verb t key i j) → Contains xs (holder_by key a.0 i j)
   inside key i j a = (seen.exact (holder_by key a.0 i j)).1 (a.2, a)
 

@@ -6,13 +6,13 @@ use Rattle.std.proofs.lemmas.List.Elements.{All-weaker, All-contains_itself, Con
 use Rattle.std.proofs.lemmas.List.Kept.{AllPairs-from_increasing}
 use Rattle.std.proofs.lemmas.Option.{slice_get_within}
 use Rattle.rbac_terms.specs.Text.{Text}
-use Rattle.rbac_terms.specs.Targets.{What}
 use Rattle.rbac_model.specs.Policies.{PolicyView, IsPolicy, IsOfBinding}
 use Rattle.rbac_model.specs.Holders.{HolderView}
 use Rattle.rbac_model.proofs.GrantNumbers.{grant_by}
 use Rattle.rbac_model.proofs.BindingPlaces.{places_rise, one_binding_place, rule_of_binding, grant_of_rule}
 use Rattle.rbac_index.specs.Indexed.{AreCandidates}
 use Rattle.rbac_index.specs.Holding.{BringsAt, BringsRuleAt, AreSeen, AreAllSeen}
+use Rattle.rbac_index.specs.Requested.{RequestedView}
 use Rattle.rbac_index.specs.WhoCan.{WhereView}
 use Rattle.rbac_index.proofs.SeenLemmas.{brings, seen_entered}
 
@@ -21,10 +21,10 @@ pub record ArePassed (p : PolicyView) (ns : List ℕ) (count place : ℕ) : Type
   pub behind : (k i : ℕ) → k < count → IsOfBinding p (get_or ns k 0) i → i < place
   pub ahead : (k i : ℕ) → count ≤ k → k < length ns → IsOfBinding p (get_or ns k 0) i → place ≤ i + 1
 
-pub candidates_within : (p : PolicyView) (verb : Text) (t : What) (ns : List ℕ) → AreCandidates p verb t ns → All (λ n. n < length p.grants) ns
+pub candidates_within : (p : PolicyView) (verb : Text) (t : RequestedView) (ns : List ℕ) → AreCandidates p verb t ns → All (λ n. n < length p.grants) ns
 candidates_within p verb t ns are = All-weaker (Contains ns) (λ n. n < length p.grants) (λ n w. let a = (are.exact n).0 w in slice_get_within p.grants n a.0 a.1) ns (All-contains_itself ns)
 
-module _ (p : PolicyView) (ok : IsPolicy p) (asked : WhereView) (verb : Text) (t : What) (ns : List ℕ) (are : AreCandidates p verb t ns) where
+module _ (p : PolicyView) (ok : IsPolicy p) (asked : WhereView) (verb : Text) (t : RequestedView) (ns : List ℕ) (are : AreCandidates p verb t ns) where
   -- a candidate's binding brings a rule that allows
   pub candidate_brings : (k place : ℕ) → k < length ns → IsOfBinding p (get_or ns k 0) place → BringsRuleAt p.held verb t place
   candidate_brings k place lt of =

@@ -15,12 +15,13 @@ use Rattle.rbac_index.specs.declared.rule_lists.RuleLists.{RuleLists}
 use Rattle.rbac_index.specs.declared.rule_rows.Written.{Written}
 use Rattle.rbac_index.specs.RuleLists.{listed}
 use Rattle.rbac_index.specs.Written.{written_rules, bare_rules}
+use Rattle.rbac_index.specs.Requested.{RequestedView, ThisTarget, AnyName, AllowsRequested, target_given, with_name}
 use Rattle.rbac_index.specs.Indexed.{AreCandidates, IsIndexOf, HaveNumbers, numbers_by, IsAllowedBy}
 use Rattle.rbac_index.proofs.WrittenLemmas.{written_at, rule_read}
 
--- the rule with that number allows the verb on the target
-abbrev AllowsRule : List Rule → Text → What → ℕ → Type 0
-AllowsRule rules verb t at = (r : Rule) × (slice_get rules at ≡ Some r) × RuleAllows r verb t
+-- the rule with that number allows the verb on what is requested
+abbrev AllowsRule : List Rule → Text → RequestedView → ℕ → Type 0
+AllowsRule rules verb t at = (r : Rule) × (slice_get rules at ≡ Some r) × AllowsRequested r verb t
 
 all_from : {X : Type 0} {P : X → Type 0} (xs : List X) → ((x : X) → Contains xs x → P x) → All P xs
 all_from {X} {P} xs h = All-weaker (Contains xs) P h xs (All-contains_itself xs)
@@ -59,7 +60,7 @@ module _ (p : PolicyView) (ws : List Written) (l : RuleLists) (starts : List (Li
       ))
 
   module _ (verb : Text) where
-    candidates_by : (t : What) (places ns : List ℕ) → ((at : ℕ) → AllowsRule (bare_rules ws) verb t at → Contains places at) → IsStrictlyIncreasing ns → ((n : ℕ) → Contains ns n ↔ IsAllowedBy ws starts places verb t n) → AreCandidates p verb t ns
+    candidates_by : (t : RequestedView) (places ns : List ℕ) → ((at : ℕ) → AllowsRule (bare_rules ws) verb t at → Contains places at) → IsStrictlyIncreasing ns → ((n : ℕ) → Contains ns n ↔ IsAllowedBy ws starts places verb t n) → AreCandidates p verb t ns
     candidates_by t places ns all up exact = record {
       ascending = up;
       exact = λ n. (
@@ -69,7 +70,7 @@ module _ (p : PolicyView) (ws : List Written) (l : RuleLists) (starts : List (Li
             let at = written_at (written_rules p.held) ws by.0 w index.written by.2.1 in
             let start = shifted_from (get_or starts w.row []) w.place n by.2.3 in
             let of = (index.granted.sound w.row start.0 at.0 at.1 start.1).1 w.place w.rule.now at.2 in
-            let P : Rule → Type 0 = λ r. RuleAllows r verb t in
+            let P : Rule → Type 0 = λ r. AllowsRequested r verb t in
             (of.0, ap (slice_get p.grants) start.2 ∙ of.1, subst P (sym of.2) by.2.2),
         λ a.
             let found = index.granted.complete n (slice_get_within p.grants n a.0 a.1) in
@@ -80,7 +81,7 @@ module _ (p : PolicyView) (ws : List Written) (l : RuleLists) (starts : List (Li
             let of = (index.granted.sound found.0 start at.0 at.1 found.5).1 found.2 found.3 at.2 in
             let same : a.0 ≡ of.0 = same_Some a.0 of.0 (sym a.1 ∙ ap (slice_get p.grants) found.6 ∙ of.1) in
             let rule : a.0.rule.rule ≡ w.rule.now = ap (λ (g : GrantView). g.rule.rule) same ∙ of.2 ∙ sym told.4.2 in
-            let P : Rule → Type 0 = λ r. RuleAllows r verb t in
+            let P : Rule → Type 0 = λ r. AllowsRequested r verb t in
             let allows = subst P rule a.2 in
             let read : slice_get ws told.0 ≡ Some w = slice_get-get_or ws told.0 w told.2 ∙ ap (λ (v : Written). Some v) told.3 in
             let Q : ℕ → Type 0 = λ row. Contains (get_or starts row []) start in
@@ -96,33 +97,40 @@ module _ (p : PolicyView) (ws : List Written) (l : RuleLists) (starts : List (Li
     pub found_within : (text : Text) (found : List ℕ) → ((n : ℕ) → Contains found n ↔ ((w : Text) × ResourceWordMatches w text × Contains (listed l.by_word w) n)) → All (λ at. at < length ws) found
     found_within text found are = all_from found (λ n c. let f = (are n).0 c in ((index.listed.words f.0 n).0 f.2).0)
 
-    within : (t : What) (at : ℕ) → AllowsRule (bare_rules ws) verb t at → at < length ws
+    within : (t : RequestedView) (at : ℕ) → AllowsRule (bare_rules ws) verb t at → at < length ws
     within t at allows = omega (arith, slice_get_within (bare_rules ws) at allows.0 allows.1, length-map {A = Written} {B = Rule} ws (λ w. w.rule.now))
 
-    url_listed : (path : Text) (at : ℕ) → AllowsRule (bare_rules ws) verb (Url path) at → Contains l.with_urls at
-    url_listed path at allows =
-        let some : allows.0.urls ≢ [] = λ e. omega (arith, allows.2.1.2, ap length e) in
-        (index.listed.urls at).1 (within (Url path) at allows, (allows.0, allows.1, some))
+    -- a rule that allows a URL that is requested has a word for it
+    url_requested : (r : Rule) (t : RequestedView) → IsUrl (target_given t) → AllowsRequested r verb t → RuleAllows r verb (Url (text_of (target_given t)))
+    url_requested r (ThisTarget t) is allows = subst (RuleAllows r verb) is allows
+    url_requested r (AnyName t) is allows = let P : What → Type 0 = λ u. RuleAllows r verb (with_name allows.0 u) in subst P is allows.1
 
-    pub candidates_urls : (t : What) (ns : List ℕ) → IsUrl t → IsStrictlyIncreasing ns → ((n : ℕ) → Contains ns n ↔ IsAllowedBy ws starts l.with_urls verb t n) → AreCandidates p verb t ns
-    candidates_urls t ns is up exact =
-        let P : What → Type 0 = λ x. (at : ℕ) → AllowsRule (bare_rules ws) verb x at → Contains l.with_urls at in
-        candidates_by t l.with_urls ns (subst P (sym is) (url_listed (text_of t))) up exact
+    url_listed : (t : RequestedView) → IsUrl (target_given t) → (at : ℕ) → AllowsRule (bare_rules ws) verb t at → Contains l.with_urls at
+    url_listed t is at allows =
+        let by = url_requested allows.0 t is allows.2 in
+        let some : allows.0.urls ≢ [] = λ e. omega (arith, by.1.2, ap length e) in
+        (index.listed.urls at).1 (within t at allows, (allows.0, allows.1, some))
 
-    resource_listed : (group text name : Text) (found : List ℕ) → ((n : ℕ) → Contains found n ↔ ((w : Text) × ResourceWordMatches w text × Contains (listed l.by_word w) n)) → (at : ℕ) → AllowsRule (bare_rules ws) verb (Resource group text name) at → Contains found at
-    resource_listed group text name found are at allows =
-        let word = allows.2.1.1 in
-        (are at).1 (word.1, word.4, (index.listed.words word.1 at).1 (within (Resource group text name) at allows, (allows.0, allows.1, (word.0, word.2, word.3))))
+    pub candidates_urls : (t : RequestedView) (ns : List ℕ) → IsUrl (target_given t) → IsStrictlyIncreasing ns → ((n : ℕ) → Contains ns n ↔ IsAllowedBy ws starts l.with_urls verb t n) → AreCandidates p verb t ns
+    candidates_urls t ns is up exact = candidates_by t l.with_urls ns (url_listed t is) up exact
 
-    pub candidates_listed : (t : What) (found ns : List ℕ) → IsResource t → ((n : ℕ) → Contains found n ↔ ((w : Text) × ResourceWordMatches w (text_of t) × Contains (listed l.by_word w) n)) → IsStrictlyIncreasing ns → ((n : ℕ) → Contains ns n ↔ IsAllowedBy ws starts found verb t n) → AreCandidates p verb t ns
-    candidates_listed t found ns is are up exact =
-        let P : What → Type 0 = λ x. (at : ℕ) → AllowsRule (bare_rules ws) verb x at → Contains found at in
-        candidates_by t found ns (subst P (sym is) (resource_listed (group_of t) (text_of t) (name_of t) found are)) up exact
+    -- a rule that allows a resource that is requested allows it with some object name
+    resource_requested : (r : Rule) (t : RequestedView) → IsResource (target_given t) → AllowsRequested r verb t → (name : Text) × RuleAllows r verb (Resource (group_of (target_given t)) (text_of (target_given t)) name)
+    resource_requested r (ThisTarget t) is allows = (name_of t, subst (RuleAllows r verb) is allows)
+    resource_requested r (AnyName t) is allows = let P : What → Type 0 = λ u. RuleAllows r verb (with_name allows.0 u) in (allows.0, subst P is allows.1)
+
+    resource_listed : (t : RequestedView) (found : List ℕ) → IsResource (target_given t) → ((n : ℕ) → Contains found n ↔ ((w : Text) × ResourceWordMatches w (text_of (target_given t)) × Contains (listed l.by_word w) n)) → (at : ℕ) → AllowsRule (bare_rules ws) verb t at → Contains found at
+    resource_listed t found is are at allows =
+        let word = (resource_requested allows.0 t is allows.2).1.1.1 in
+        (are at).1 (word.1, word.4, (index.listed.words word.1 at).1 (within t at allows, (allows.0, allows.1, (word.0, word.2, word.3))))
+
+    pub candidates_listed : (t : RequestedView) (found ns : List ℕ) → IsResource (target_given t) → ((n : ℕ) → Contains found n ↔ ((w : Text) × ResourceWordMatches w (text_of (target_given t)) × Contains (listed l.by_word w) n)) → IsStrictlyIncreasing ns → ((n : ℕ) → Contains ns n ↔ IsAllowedBy ws starts found verb t n) → AreCandidates p verb t ns
+    candidates_listed t found ns is are up exact = candidates_by t found ns (resource_listed t found is are) up exact
 
 -- one place more of a rule, which allows or doesn't
-module _ (ws : List Written) (starts : List (List ℕ)) (places : List ℕ) (verb : Text) (t : What) (i : ℕ) (lt : i < length places) (lists : List (List ℕ)) (n : ℕ) (w : Written) (at : slice_get ws (get_or places i 0) ≡ Some w)
+module _ (ws : List Written) (starts : List (List ℕ)) (places : List ℕ) (verb : Text) (t : RequestedView) (i : ℕ) (lt : i < length places) (lists : List (List ℕ)) (n : ℕ) (w : Written) (at : slice_get ws (get_or places i 0) ≡ Some w)
     (are : Any (λ x. Contains x n) lists ↔ IsAllowedBy ws starts (take i places) verb t n) where
-  pub skipped : ¬ RuleAllows w.rule.now verb t → Any (λ x. Contains x n) lists ↔ IsAllowedBy ws starts (take (i + 1) places) verb t n
+  pub skipped : ¬ AllowsRequested w.rule.now verb t → Any (λ x. Contains x n) lists ↔ IsAllowedBy ws starts (take (i + 1) places) verb t n
   skipped denied =
       let more : take (i + 1) places ≡ take i places ++ get_or places i 0 ∷ [] = take_more places i 0 lt in (
         λ a. let b = are.0 a in (b.0, rw more (Contains-append_left (take i places) (get_or places i 0 ∷ []) b.0 b.1), b.2),
@@ -130,12 +138,12 @@ module _ (ws : List Written) (starts : List (List ℕ)) (places : List ℕ) (ver
           | inl c ↦ are.1 (b.0, c, b.2)
           | inr e ↦
               let same : b.2.0 ≡ w = same_Some b.2.0 w (sym b.2.1 ∙ ap (slice_get ws) (sym e) ∙ at) in
-              let P : Written → Type 0 = λ x. RuleAllows x.rule.now verb t in
+              let P : Written → Type 0 = λ x. AllowsRequested x.rule.now verb t in
               absurd (denied (subst P same b.2.2))
         ],
       )
 
-  pub added : RuleAllows w.rule.now verb t → (x : List ℕ) → x ≡ numbers_by starts w → Any (λ x. Contains x n) (lists ++ x ∷ []) ↔ IsAllowedBy ws starts (take (i + 1) places) verb t n
+  pub added : AllowsRequested w.rule.now verb t → (x : List ℕ) → x ≡ numbers_by starts w → Any (λ x. Contains x n) (lists ++ x ∷ []) ↔ IsAllowedBy ws starts (take (i + 1) places) verb t n
   added allows x is =
       let more : take (i + 1) places ≡ take i places ++ get_or places i 0 ∷ [] = take_more places i 0 lt in (
         λ a. elim (Contains-push_cases lists x a.1 (a.0, a.2, a.3)) [

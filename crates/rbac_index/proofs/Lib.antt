@@ -15,6 +15,7 @@ pub mod LeastLemmas
 pub mod LivingLemmas
 pub mod TakingLemmas
 pub mod MergeLemmas
+pub mod NameLemmas
 pub mod NextRunLemmas
 pub mod OneHolders
 pub mod RankLemmas

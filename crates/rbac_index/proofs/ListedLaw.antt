@@ -6,7 +6,7 @@ use Rattle.std.proofs.lemmas.Bool.{cases_eq, cases_lt, both_ways}
 use Rattle.std.proofs.lemmas.Option.{same_Some, slice_get-get_or, slice_get_within, get_or_from_slice_get}
 use Rattle.std.proofs.lemmas.Slice.Eq.{bytes_eq-Decides}
 use Rattle.rbac_terms.specs.Text.{Text}
-use Rattle.rbac_terms.specs.Targets.{What}
+use Rattle.rbac_index.specs.Requested.{RequestedView}
 use Rattle.rbac_terms.specs.declared.granting.Binding.{Binding}
 use Rattle.rbac_terms.proofs.Cases.{by_bool}
 use Rattle.rbac_model.specs.Policies.{Held}
@@ -45,7 +45,7 @@ is_with key i x = elim (cases_eq x.binding_place i) [
   | inr ne ↦ inr (λ p. ne p.0)
 ]
 
-module _ (h : Held) (asked : WhereView) (verb : Text) (t : What) (xs : List HolderView) (are : AreListedHolders h asked true verb t xs) where
+module _ (h : Held) (asked : WhereView) (verb : Text) (t : RequestedView) (xs : List HolderView) (are : AreListedHolders h asked true verb t xs) where
   module _ (key : Text) (i : ℕ) (none : ¬ Any (IsWith key i) xs) where
     -- where nothing holds before, nothing holds here
     first_fails : (j : ℕ) → ((l : ℕ) → l < j → ¬ HoldsAt h asked verb t key i l) → ¬ HoldsAt h asked verb t key i j

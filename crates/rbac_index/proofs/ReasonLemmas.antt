@@ -17,12 +17,13 @@ use Rattle.rbac_model.proofs.BindingPlaces.{places_rise, of_some_binding, rule_o
 use Rattle.rbac_model.proofs.GrantNumbers.{grant_by}
 use Rattle.rbac_index.specs.Deciding.{IsFirstAllowing, NoneAllowing}
 use Rattle.rbac_index.specs.Holding.{IsKeyFor}
+use Rattle.rbac_index.specs.Requested.{RequestedView, ThisTarget}
 use Rattle.rbac_index.specs.WhoCan.{WhereView, HoldsAt}
 use Rattle.rbac_index.specs.WhyHeld.{HasKey, AllowsKey, IsWhyHeld}
 use Rattle.rbac_index.proofs.HolderLaw.{naming_key, key_names}
 
 -- some grant of a binding by which a key holds the permission allows the request
-pub some_allows : (p : PolicyView) → IsPolicy p → (asked : WhereView) (verb : Text) (t : What) (key : Text) (i j : ℕ) → HoldsAt p.held asked verb t key i j → ¬ NoneAllowing p verb t i
+pub some_allows : (p : PolicyView) → IsPolicy p → (asked : WhereView) (verb : Text) (t : RequestedView) (key : Text) (i j : ℕ) → HoldsAt p.held asked verb t key i j → ¬ NoneAllowing p verb t i
 some_allows p ok asked verb t key i j a none =
     let brings = a.4.1 in
     let any = brings.2 in
@@ -43,7 +44,7 @@ module _ (p : PolicyView) (ok : IsPolicy p) (namespace verb : Text) (t : What) (
       let at : slice_get y.binding.subjects allows.1.0 ≡ Some s = slice_get-get_or y.binding.subjects allows.1.0 s allows.1.2 ∙ ap (λ (v : Subject). Some v) allows.1.3 in
       (y.binding, s, there, at, (allows.0, brings, allows.1.4))
 
-  module _ (n : ℕ) (g : GrantView) (first : IsFirstAllowing p verb t x.binding_place n) (read : slice_get p.grants n ≡ Some g) where
+  module _ (n : ℕ) (g : GrantView) (first : IsFirstAllowing p verb (ThisTarget t) x.binding_place n) (read : slice_get p.grants n ≡ Some g) where
     none_earlier : (k : ℕ) (y : GrantView) → k < n → slice_get p.grants k ≡ Some y → ¬ AllowsKey x.key namespace verb t y
     none_earlier k y lt there allows =
         let of = of_some_binding p ok k (slice_get_within p.grants k y there) in
@@ -164,7 +165,7 @@ module _ (p : PolicyView) (namespace verb : Text) (t : What) where
       }
 
 -- the binding at a place is that of its grants
-pub shown_binding : (p : PolicyView) (verb : Text) (t : What) (at n : ℕ) (b : Binding) (g : GrantView) → slice_get p.held.bindings at ≡ Some b → IsFirstAllowing p verb t at n → slice_get p.grants n ≡ Some g → b ≡ g.binding
+pub shown_binding : (p : PolicyView) (verb : Text) (t : RequestedView) (at n : ℕ) (b : Binding) (g : GrantView) → slice_get p.held.bindings at ≡ Some b → IsFirstAllowing p verb t at n → slice_get p.grants n ≡ Some g → b ≡ g.binding
 shown_binding p verb t at n b g there first read =
     let of = first.0.0 in
     let same : of.0 ≡ g = same_Some of.0 g (sym of.1 ∙ read) in

@@ -7,15 +7,14 @@ use Rattle.std.proofs.Math.ListN.{get_or-append}
 use Rattle.std.proofs.lemmas.List.Elements.{Contains-append_left, Contains-push, Contains-push_cases, Contains-get_or}
 use Rattle.std.proofs.lemmas.Option.{slice_get_within}
 use Rattle.rbac_terms.specs.Text.{Text}
-use Rattle.rbac_terms.specs.Targets.{What}
 use Rattle.rbac_model.specs.Policies.{Held, AreRulesFor, SourcedRule}
-use Rattle.rbac_terms.specs.Matching.{RuleAllows}
 use Rattle.std.proofs.lemmas.Option.{same_Some}
 use Rattle.rbac_terms.specs.Granting.{IsSubjectKey}
 use Rattle.rbac_model.specs.Holders.{HolderView, IsBefore}
 use Rattle.rbac_terms.specs.declared.granting.Binding.{Binding}
 use Rattle.rbac_terms.specs.declared.granting.Subject.{Subject}
 use Rattle.rbac_index.specs.Holding.{BringsAt, BringsRuleAt, HoldsThere, IsEarlier, AreSeen}
+use Rattle.rbac_index.specs.Requested.{RequestedView, AllowsRequested, target_given}
 use Rattle.rbac_index.specs.WhoCan.{WhereView, CountsIn, HoldsAt}
 
 AllPairs-push : {X : Type 0} (R : X → X → Type 0) (xs : List X) (y : X) → AllPairs R xs → ((x : X) → Contains xs x → R x y) → AllPairs R (xs ++ y ∷ [])
@@ -52,7 +51,7 @@ same_holder : (key : Text) (b : Binding) (i j : ℕ) (x : HolderView) → key �
 same_holder key b i j x e f g k =
     ap (λ (u : Text). holder_by u b i j) e ∙ ap (λ (u : Binding). holder_by x.key u i j) f ∙ ap (λ (u : ℕ). holder_by x.key x.binding u j) g ∙ ap (λ (u : ℕ). holder_by x.key x.binding x.binding_place u) k
 
-module _ (h : Held) (asked : WhereView) (verb : Text) (t : What) where
+module _ (h : Held) (asked : WhereView) (verb : Text) (t : RequestedView) where
   pub brings : (key : Text) (i j : ℕ) → HoldsAt h asked verb t key i j → BringsAt h asked verb t i
   brings key i j (b, s, at, there, by) = (b, at, by.0, by.1)
 
@@ -94,7 +93,7 @@ module _ (h : Held) (asked : WhereView) (verb : Text) (t : What) where
         );
       }
 
-module _ (h : Held) (asked : WhereView) (verb : Text) (t : What) (i j : ℕ) (b : Binding) (s : Subject) (at : slice_get h.bindings i ≡ Some b) (there : slice_get b.subjects j ≡ Some s) where
+module _ (h : Held) (asked : WhereView) (verb : Text) (t : RequestedView) (i j : ℕ) (b : Binding) (s : Subject) (at : slice_get h.bindings i ≡ Some b) (there : slice_get b.subjects j ≡ Some s) where
   -- what holds at a pair of places is a key of the subject there
   key_at : (key : Text) → HoldsAt h asked verb t key i j → IsSubjectKey s b.namespace key
   key_at key (c, u, read, reads, by) =
@@ -122,15 +121,15 @@ module _ (h : Held) (asked : WhereView) (verb : Text) (t : What) (i j : ℕ) (b 
         at,
         there,
         (
-          subst (λ (x : Binding). CountsIn asked x.namespace t) same brings.2,
-          subst (λ (x : Binding). (rules : List SourcedRule) × AreRulesFor h x rules × Any (λ r. RuleAllows r.rule verb t) rules) same brings.3,
+          subst (λ (x : Binding). CountsIn asked x.namespace (target_given t)) same brings.2,
+          subst (λ (x : Binding). (rules : List SourcedRule) × AreRulesFor h x rules × Any (λ r. AllowsRequested r.rule verb t) rules) same brings.3,
           (is key).1 refl,
         ),
       ) in
       let only : (other : Text) → HoldsAt h asked verb t other i j → other ≡ key = λ other a. (is other).0 (key_at other a) in
       seen_added h asked verb t i j xs key b at holds only seen
 
-module _ (h : Held) (asked : WhereView) (verb : Text) (t : What) where
+module _ (h : Held) (asked : WhereView) (verb : Text) (t : RequestedView) where
   -- from the end of a binding's subjects to the next place
   pub seen_left : (i n : ℕ) (b : Binding) (xs : List HolderView) → slice_get h.bindings i ≡ Some b → length b.subjects ≤ n → AreSeen h asked verb t i n xs → AreSeen h asked verb t (i + 1) 0 xs
   seen_left i n b xs at most seen =
@@ -149,14 +148,14 @@ module _ (h : Held) (asked : WhereView) (verb : Text) (t : What) where
       seen
 
   -- nothing holds by a binding that isn't live
-  pub seen_dead : (i : ℕ) (b : Binding) (xs : List HolderView) → slice_get h.bindings i ≡ Some b → ¬ CountsIn asked b.namespace t → AreSeen h asked verb t i 0 xs → AreSeen h asked verb t (i + 1) 0 xs
+  pub seen_dead : (i : ℕ) (b : Binding) (xs : List HolderView) → slice_get h.bindings i ≡ Some b → ¬ CountsIn asked b.namespace (target_given t) → AreSeen h asked verb t i 0 xs → AreSeen h asked verb t (i + 1) 0 xs
   seen_dead i b xs at dead seen =
       seen_moved h asked verb t i 0 (i + 1) 0 xs
       (λ m k l. elim l [ inl a ↦ inl (omega arith) | inr a ↦ absurd (omega (arith, a.1)) ])
       (λ key m k a l. elim (cases_order m i) [
         | inl e ↦
             let same : a.0 ≡ b = same_Some a.0 b (sym a.2 ∙ ap (slice_get h.bindings) e ∙ at) in
-            let P : Binding → Type 0 = λ x. CountsIn asked x.namespace t in
+            let P : Binding → Type 0 = λ x. CountsIn asked x.namespace (target_given t) in
             absurd (dead (subst P same a.4.0))
         | inr d ↦ elim d [
           | inl c ↦ inl c
@@ -179,8 +178,8 @@ module _ (h : Held) (asked : WhereView) (verb : Text) (t : What) where
       seen
 
   -- a live binding that brings such a rule
-  pub brings_live : (i : ℕ) (b : Binding) → slice_get h.bindings i ≡ Some b → CountsIn asked b.namespace t → BringsRuleAt h verb t i → BringsAt h asked verb t i
+  pub brings_live : (i : ℕ) (b : Binding) → slice_get h.bindings i ≡ Some b → CountsIn asked b.namespace (target_given t) → BringsRuleAt h verb t i → BringsAt h asked verb t i
   brings_live i b at live brings =
       let same : b ≡ brings.0 = same_Some b brings.0 (sym at ∙ brings.1) in
-      let P : Binding → Type 0 = λ x. CountsIn asked x.namespace t in
+      let P : Binding → Type 0 = λ x. CountsIn asked x.namespace (target_given t) in
       (brings.0, brings.1, subst P same live, brings.2)

@@ -9,6 +9,7 @@ use Rattle.rbac_model.specs.Lists.{IsFirstAt}
 use Rattle.rbac_model.specs.Policies.{PolicyView, GrantView, IsOfBinding, BindingNames, IsWhy}
 use Rattle.rbac_model.specs.Sources.{source_of}
 use Rattle.rbac_index.specs.Indexed.{AllowsAt}
+use Rattle.rbac_index.specs.Requested.{RequestedView}
 use Rattle.rbac_index.specs.declared.deciding.Why.{Why}
 
 -- the answer shows the grant's binding, the role where its rule is written, and the rule's place
@@ -23,16 +24,16 @@ IsWhyShown p who namespace verb t why = (g : GrantView)
     × IsWhy p who namespace verb t g why.subject_place × ShowsGrant why g
 
 -- the grant with that number belongs to the binding at that place, and its rule allows the verb on
--- the target
-abbrev pub AllowsOf : PolicyView → Text → What → ℕ → ℕ → Type 0
+-- what is requested
+abbrev pub AllowsOf : PolicyView → Text → RequestedView → ℕ → ℕ → Type 0
 AllowsOf p verb t at n = IsOfBinding p n at × AllowsAt p verb t n
 
--- no grant of the binding at that place allows the verb on the target
-abbrev pub NoneAllowing : PolicyView → Text → What → ℕ → Type 0
+-- no grant of the binding at that place allows the verb on what is requested
+abbrev pub NoneAllowing : PolicyView → Text → RequestedView → ℕ → Type 0
 NoneAllowing p verb t at = (n : ℕ) → ¬ AllowsOf p verb t at n
 
--- the first grant of the binding at that place that allows the verb on the target
-abbrev pub IsFirstAllowing : PolicyView → Text → What → ℕ → ℕ → Type 0
+-- the first grant of the binding at that place that allows the verb on what is requested
+abbrev pub IsFirstAllowing : PolicyView → Text → RequestedView → ℕ → ℕ → Type 0
 IsFirstAllowing p verb t at n = AllowsOf p verb t at n
     × ((m : ℕ) → m < n → ¬ AllowsOf p verb t at m)
 

@@ -7,12 +7,21 @@ use Rattle.rbac_index.specs.declared.holders.Holder.{Holder}
 use Rattle.rbac_index.specs.declared.asked.Where.{Where}
 use Rattle.rbac_index.specs.declared.asked.Where.TheVariants.{Namespace}
 use Rattle.rbac_index.specs.declared.asked.Where.TheVariants.{Anywhere as AskedAnywhere}
+use Rattle.rbac_index.specs.declared.requested.Requested.{Requested}
+use Rattle.rbac_index.specs.declared.requested.Requested.TheVariants.{ThisTarget as This}
+use Rattle.rbac_index.specs.declared.requested.Requested.TheVariants.{AnyName as OfAnyName}
+use Rattle.rbac_index.specs.Requested.{RequestedView, ThisTarget, AnyName}
 use Rattle.rbac_index.specs.WhoCan.{WhereView, InNamespace, Anywhere}
 
 -- where it is asked
 abbrev pub where_of : Where → WhereView
 where_of (Namespace namespace) = InNamespace namespace.now
 where_of AskedAnywhere = Anywhere
+
+-- what is requested
+abbrev pub requested_of : Requested → RequestedView
+requested_of (This target) = ThisTarget target.now
+requested_of (OfAnyName target) = AnyName target.now
 
 -- the holder that was seen
 abbrev pub holder_of : Sighting → HolderView

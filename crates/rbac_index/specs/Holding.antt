@@ -4,24 +4,25 @@ use Rattle.rbac_terms.specs.Text.{Text}
 use Rattle.rbac_terms.specs.Targets.{What}
 use Rattle.rbac_terms.specs.Principals.{Who, AsMember, who_key, IsInGroup}
 use Rattle.rbac_terms.specs.declared.granting.Binding.{Binding}
-use Rattle.rbac_model.specs.Policies.{Held, Allows, BindingNames, Brings}
+use Rattle.rbac_model.specs.Policies.{Held, Allows, BindingNames}
 use Rattle.rbac_model.specs.Holders.{IsBefore, HolderView}
 use Rattle.rbac_index.specs.HolderViews.{once_in}
-use Rattle.rbac_index.specs.WhoCan.{WhereView, CountsIn, HoldsAt}
+use Rattle.rbac_index.specs.Requested.{RequestedView, target_given}
+use Rattle.rbac_index.specs.WhoCan.{WhereView, BringsRequested, CountsIn, HoldsAt}
 
--- the binding at that place brings a rule that allows the verb on the target
-abbrev pub BringsRuleAt : Held → Text → What → ℕ → Type 0
+-- the binding at that place brings a rule that allows the verb on what is requested
+abbrev pub BringsRuleAt : Held → Text → RequestedView → ℕ → Type 0
 BringsRuleAt h verb t i =
-    (b : Binding) × (slice_get h.bindings i ≡ Some b) × Brings h b verb t
+    (b : Binding) × (slice_get h.bindings i ≡ Some b) × BringsRequested h b verb t
 
--- the binding at that place counts there and brings a rule that allows the verb on the target
-abbrev pub BringsAt : Held → WhereView → Text → What → ℕ → Type 0
+-- the binding at that place counts there and brings a rule that allows the verb on what is requested
+abbrev pub BringsAt : Held → WhereView → Text → RequestedView → ℕ → Type 0
 BringsAt h asked verb t i =
-    (b : Binding) × (slice_get h.bindings i ≡ Some b) × CountsIn asked b.namespace t
-    × Brings h b verb t
+    (b : Binding) × (slice_get h.bindings i ≡ Some b) × CountsIn asked b.namespace (target_given t)
+    × BringsRequested h b verb t
 
 -- x's key holds the permission by x's pair of places
-abbrev pub HoldsThere : Held → WhereView → Text → What → HolderView → Type 0
+abbrev pub HoldsThere : Held → WhereView → Text → RequestedView → HolderView → Type 0
 HoldsThere h asked verb t x = (slice_get h.bindings x.binding_place ≡ Some x.binding)
     × HoldsAt h asked verb t x.key x.binding_place x.subject_place
 
@@ -31,14 +32,14 @@ IsEarlier x y = IsBefore x.binding_place x.subject_place y.binding_place y.subje
 
 -- what holds the permission by a pair of places before this one, of a binding and of a subject in
 -- it, in order
-pub record AreSeen (h : Held) (asked : WhereView) (verb : Text) (t : What) (i j : ℕ)
+pub record AreSeen (h : Held) (asked : WhereView) (verb : Text) (t : RequestedView) (i j : ℕ)
     (xs : List HolderView) : Type 0 where
   pub ordered : AllPairs IsEarlier xs
   pub exact : (x : HolderView) → Contains xs x
       ↔ (HoldsThere h asked verb t x × IsBefore x.binding_place x.subject_place i j)
 
 -- all that holds the permission by a pair of places, in order
-pub record AreAllSeen (h : Held) (asked : WhereView) (verb : Text) (t : What)
+pub record AreAllSeen (h : Held) (asked : WhereView) (verb : Text) (t : RequestedView)
     (xs : List HolderView) : Type 0 where
   pub ordered : AllPairs IsEarlier xs
   pub exact : (x : HolderView) → Contains xs x ↔ HoldsThere h asked verb t x
@@ -66,13 +67,13 @@ AllowsByHolders h namespace verb t xs = (who : Who) → Allows h who namespace v
 
 -- a binding grants the request where it is asked: it counts there, names who asks, and brings a rule
 -- that allows it (Using RBAC Authorization)
-abbrev pub GrantsIn : Held → WhereView → Binding → Who → Text → What → Type 0
-GrantsIn h asked b who verb t = CountsIn asked b.namespace t × BindingNames b who
-    × Brings h b verb t
+abbrev pub GrantsIn : Held → WhereView → Binding → Who → Text → RequestedView → Type 0
+GrantsIn h asked b who verb t = CountsIn asked b.namespace (target_given t) × BindingNames b who
+    × BringsRequested h b verb t
 
 -- the binding at a place grants a request exactly if a holder is listed with it whose key is that
 -- of who asks, or of one of its groups
-abbrev pub GrantsByHolders : Held → WhereView → Text → What → List HolderView → Type 0
+abbrev pub GrantsByHolders : Held → WhereView → Text → RequestedView → List HolderView → Type 0
 GrantsByHolders h asked verb t xs = (who : Who) (i : ℕ) (b : Binding)
     → slice_get h.bindings i ≡ Some b
     → GrantsIn h asked b who verb t ↔ Any (λ x. (x.binding_place ≡ i) × IsKeyFor who x.key) xs

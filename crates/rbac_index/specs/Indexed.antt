@@ -2,22 +2,22 @@ use Rattle.std.specs.Prelude.{◌≡◌, ℕ, ◌+◌, ◌<◌, ◌≤◌, ◌^�
 use Rattle.std.specs.Prelude.{slice_get, slice_index_or, Some, length}
 use Rattle.std.specs.List.Sorted.{IsStrictlyIncreasing}
 use Rattle.rbac_terms.specs.Text.{Text}
-use Rattle.rbac_terms.specs.Targets.{What}
-use Rattle.rbac_terms.specs.Matching.{RuleAllows}
 use Rattle.rbac_terms.specs.declared.matching.Rule.{Rule}
 use Rattle.rbac_model.specs.Policies.{PolicyView, GrantView}
 use Rattle.rbac_index.specs.declared.rule_lists.RuleLists.{RuleLists}
 use Rattle.rbac_index.specs.declared.rule_rows.Written.{Written}
+use Rattle.rbac_index.specs.Requested.{RequestedView, AllowsRequested}
 use Rattle.rbac_index.specs.RuleLists.{AreListed}
 use Rattle.rbac_index.specs.Written.{written_rules, IsRuleAt, AreWritten, bare_rules}
 
--- the rule of the grant with that number allows the verb on the target
-abbrev pub AllowsAt : PolicyView → Text → What → ℕ → Type 0
+-- the rule of the grant with that number allows the verb on what is requested
+abbrev pub AllowsAt : PolicyView → Text → RequestedView → ℕ → Type 0
 AllowsAt p verb t n = (g : GrantView) × (slice_get p.grants n ≡ Some g)
-    × RuleAllows g.rule.rule verb t
+    × AllowsRequested g.rule.rule verb t
 
--- the numbers, ascending, of exactly the grants whose rule allows the verb on the target
-pub record AreCandidates (p : PolicyView) (verb : Text) (t : What) (ns : List ℕ) : Type 0 where
+-- the numbers, ascending, of exactly the grants whose rule allows the verb on what is requested
+pub record AreCandidates (p : PolicyView) (verb : Text) (t : RequestedView) (ns : List ℕ)
+    : Type 0 where
   pub ascending : IsStrictlyIncreasing ns
   pub exact : (n : ℕ) → Contains ns n ↔ AllowsAt p verb t n
 
@@ -57,9 +57,9 @@ abbrev pub HaveNumbers : List (List ℕ) → Written → Type 0
 HaveNumbers starts w = (w.row < length starts)
     × All (λ start. start + w.place < 2 ^ 32) (slice_index_or starts w.row [])
 
--- the number is that of a grant by a rule, at one of these places, that allows the verb on the
--- target
-abbrev pub IsAllowedBy : List Written → List (List ℕ) → List ℕ → Text → What → ℕ → Type 0
+-- the number is that of a grant by a rule, at one of these places, that allows the verb on what is
+-- requested
+abbrev pub IsAllowedBy : List Written → List (List ℕ) → List ℕ → Text → RequestedView → ℕ → Type 0
 IsAllowedBy ws starts places verb t n = (at : ℕ) × Contains places at
-    × ((w : Written) × (slice_get ws at ≡ Some w) × RuleAllows w.rule.now verb t
+    × ((w : Written) × (slice_get ws at ≡ Some w) × AllowsRequested w.rule.now verb t
     × Contains (numbers_by starts w) n)

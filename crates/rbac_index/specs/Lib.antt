@@ -10,6 +10,7 @@ pub mod Living
 pub mod Matched
 pub mod Ranks
 pub mod Reaches
+pub mod Requested
 pub mod Spans
 pub mod WhoCan
 pub mod WhyHeld

@@ -10,6 +10,7 @@ use Rattle.rbac_model.specs.Lists.{IsFirstAt}
 use Rattle.rbac_model.specs.Policies.{PolicyView, GrantView, Live}
 use Rattle.rbac_model.specs.Holders.{HolderView}
 use Rattle.rbac_index.specs.Deciding.{IsFirstAllowing, ShowsGrant}
+use Rattle.rbac_index.specs.Requested.{RequestedView}
 use Rattle.rbac_index.specs.declared.deciding.Why.{Why}
 
 -- some subject of the binding has the key
@@ -36,20 +37,20 @@ IsHeldShown p key namespace verb t why = (g : GrantView)
     × IsWhyHeld p key namespace verb t g why.subject_place × ShowsGrant why g
 
 -- why a holder's key holds the permission by the holder's binding: the first grant of that binding
--- whose rule allows the verb on the target (own)
-abbrev pub IsWhyBy : PolicyView → Text → What → HolderView → GrantView → Type 0
+-- whose rule allows the verb on what is requested (own)
+abbrev pub IsWhyBy : PolicyView → Text → RequestedView → HolderView → GrantView → Type 0
 IsWhyBy p verb t x g = (no : ℕ) × IsFirstAllowing p verb t x.binding_place no
     × (slice_get p.grants no ≡ Some g)
 
 -- the answer shows why a holder's key holds the permission by the holder's binding, and the
 -- holder's subject
-abbrev pub IsShownBy : PolicyView → Text → What → HolderView → Why → Type 0
+abbrev pub IsShownBy : PolicyView → Text → RequestedView → HolderView → Why → Type 0
 IsShownBy p verb t x why = (g : GrantView) × IsWhyBy p verb t x g × ShowsGrant why g
     × (why.subject_place ≡ x.subject_place)
 
--- the answer shows the first grant of the binding at that place that allows the verb on the target,
--- and that subject
-pub record IsFirstShown (p : PolicyView) (verb : Text) (t : What) (at subject_place : ℕ)
+-- the answer shows the first grant of the binding at that place that allows the verb on what is
+-- requested, and that subject
+pub record IsFirstShown (p : PolicyView) (verb : Text) (t : RequestedView) (at subject_place : ℕ)
     (why : Why) : Type 0 where
   pub number : ℕ
   pub grant : GrantView

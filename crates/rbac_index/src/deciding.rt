@@ -8,10 +8,12 @@ ghost use Rattle.rbac_model.specs.Lists.{IsFirstAt};
 ghost use Rattle.rbac_model.specs.Policies.{Allows, BindingNames, IsFirst, IsPolicy};
 ghost use Rattle.rbac_index.specs.Deciding.{IsWhyShown, NoneAmong, IsFirstAmong, IsFirstAllowing};
 ghost use Rattle.rbac_index.specs.Deciding.{NoneAllowing};
+ghost use Rattle.rbac_index.specs.HolderViews.{requested_of};
 
 use crate::live_bindings::{cluster_wide, live_role_bindings};
+use crate::requested::{Requested, allows_requested};
 use rbac_model::{Policy, SourceRole};
-use rbac_terms::{Binding, Principal, Target, Word, names, rule_allows};
+use rbac_terms::{Binding, Principal, Target, Word, names};
 
 /// Why a request is allowed: the first grant that allows it, as its binding and where its rule is
 /// written, and the first subject of the binding that names who asks.
@@ -51,21 +53,21 @@ pub(crate) fn binding_at<'p>(policy: &'p Policy, place: usize) -> &'p Binding
     &bindings[place]
 }
 
-// The number of the first grant of the binding at this place whose rule allows the verb on the
-// target.
+// The number of the first grant of the binding at this place whose rule allows the verb on what is
+// requested.
 pub(crate) fn first_allowing(
     policy: &Policy,
     place: usize,
     verb: &Word,
-    target: &Target,
+    requested: Requested<'_>,
 ) -> Option<u32>
     ensures { MatchOption result
-        (NoneAllowing policy.now verb.now target.now place)
-        (IsFirstAllowing policy.now verb.now target.now place) }
+        (NoneAllowing policy.now verb.now (requested_of requested.entry) place)
+        (IsFirstAllowing policy.now verb.now (requested_of requested.entry) place) }
 {
     let (from, to) = policy.grants_of(place);
     for no in from..to {
-        if rule_allows(policy.grant(no).rule, verb, target) {
+        if allows_requested(policy.grant(no).rule, verb, requested) {
             return Some(no);
         }
     }
@@ -90,7 +92,8 @@ fn by_binding<'p>(
     let Some(subject_place) = naming_place(binding, principal) else {
         return None;
     };
-    let Some(no) = first_allowing(policy, place, verb, target) else {
+    let requested = Requested::ThisTarget(target);
+    let Some(no) = first_allowing(policy, place, verb, requested) else {
         return None;
     };
     let grant = policy.grant(no);

@@ -8,9 +8,10 @@ ghost use Rattle.rbac_model.specs.Policies.{Allows, IsFirst, IsOfBinding};
 ghost use Rattle.rbac_model.specs.Holders.{AreHolders};
 ghost use Rattle.rbac_index.specs.Indexed.{AreCandidates, HaveNumbers, IsAllowedBy};
 ghost use Rattle.rbac_index.specs.Deciding.{IsWhyShown};
-ghost use Rattle.rbac_index.specs.HolderViews.{where_of};
+ghost use Rattle.rbac_index.specs.HolderViews.{requested_of, where_of};
 ghost use Rattle.rbac_index.specs.Holding.{AllowsByHolders};
 ghost use Rattle.rbac_index.specs.Reaches.{AreAlike};
+ghost use Rattle.rbac_index.specs.Requested.{ThisTarget};
 ghost use Rattle.rbac_index.specs.WhoCan.{AreListedHolders};
 
 use crate::alike::earlier_alike;
@@ -20,13 +21,14 @@ use crate::fault::IndexFault;
 use crate::holders::Holders;
 use crate::merge::{Numbers, merged};
 use crate::numbers::GrantNos;
+use crate::requested::{Requested, allows_requested};
 use crate::rule_lists::{ListedRules, listed_rules, matching};
 use crate::rule_rows::{Written, rows_of};
 use crate::sightings::sightings_of;
 use crate::starts::starts_by_row;
 use crate::subject_index::SubjectIndex;
 use rbac_model::{Grant, Policy};
-use rbac_terms::{Principal, Target, Word, rule_allows};
+use rbac_terms::{Principal, Target, Word};
 use std::alloc::{AllocError, Global};
 use std::marker::Model;
 
@@ -119,16 +121,30 @@ impl<'p> Index<'p> {
         verb: &Word,
         target: &Target,
     ) -> Result<GrantNos, IndexFault>
-        ensures { IfOk result (λ ns. AreCandidates self.now verb.now target.now ns) }
+        ensures { IfOk result (λ ns. AreCandidates self.now verb.now (ThisTarget target.now) ns) }
+    {
+        self.candidates_for(alloc, verb, Requested::ThisTarget(target))
+    }
+
+    // The numbers, ascending, of the grants whose rule allows the verb on what is requested.
+    fn candidates_for(
+        &self,
+        alloc: Global,
+        verb: &Word,
+        requested: Requested<'_>,
+    ) -> Result<GrantNos, IndexFault>
+        ensures { IfOk result
+            (λ ns. AreCandidates self.now verb.now (requested_of requested.entry) ns) }
     {
         let rules = self.listed.rules.as_slice();
         let starts = self.starts.as_slice();
+        let target = requested.target();
         if target.is_url() {
             let places = self.listed.lists.with_urls.as_slice();
-            Ok(allowed_by(alloc, rules, starts, places, verb, target)?)
+            Ok(allowed_by(alloc, rules, starts, places, verb, requested)?)
         } else {
             let places = matching(alloc, &self.listed.lists.by_word, target.text())?;
-            Ok(allowed_by(alloc, rules, starts, places.as_slice(), verb, target)?)
+            Ok(allowed_by(alloc, rules, starts, places.as_slice(), verb, requested)?)
         }
     }
 
@@ -167,10 +183,11 @@ impl<'p> Index<'p> {
         ensures law { IfOk result
             (AllowsByHolders self.now.held namespace.now verb.now target.now) }
     {
-        self.holders(alloc, Where::Namespace(namespace), false, verb, target)
+        let requested = Requested::ThisTarget(target);
+        self.holders(alloc, Where::Namespace(namespace), false, verb, requested)
     }
 
-    /// Who may use the verb on the target where it is asked: each holder once, with the first
+    /// Who may use the verb on what is requested, where it is asked: each holder once, with the first
     /// binding through which it holds the permission, or with `every` once with each such binding,
     /// in order of bindings and subjects (own). X1 NoMemory if it runs out of memory.
     pub fn holders(
@@ -179,59 +196,60 @@ impl<'p> Index<'p> {
         asked: Where<'_>,
         every: bool,
         verb: &Word,
-        target: &Target,
+        requested: Requested<'_>,
     ) -> Result<Holders<'p>, IndexFault>
         ensures { IfOk result
-            (AreListedHolders self.now.held (where_of asked.entry) every verb.now target.now) }
+            (AreListedHolders self.now.held (where_of asked.entry) every verb.now
+            (requested_of requested.entry)) }
     {
         let policy: &'p Policy = self.policy;
-        let numbers = self.candidates(alloc, verb, target)?;
-        let seen = sightings_of(alloc, policy, numbers.as_slice(), asked, target)?;
+        let numbers = self.candidates_for(alloc, verb, requested)?;
+        let seen = sightings_of(alloc, policy, numbers.as_slice(), asked, requested)?;
         Ok(Holders::first_of(alloc, every, seen)?)
     }
 }
 
-// The numbers of the grants by those rules at these places that allow the verb on the target.
+// The numbers of the grants by those rules at these places that allow the verb on what is requested.
 fn allowed_by(
     alloc: Global,
     rules: &[Written<'_>],
     starts: &[GrantNos],
     places: &[usize],
     verb: &Word,
-    target: &Target,
+    requested: Requested<'_>,
 ) -> Result<GrantNos, AllocError>
     requires rules { All (λ at. at < length rules.now) places.now }
     requires numbers { All (HaveNumbers starts.now) rules.now }
     ensures ascending { IfOk result (λ ns. IsStrictlyIncreasing ns) }
     ensures exact { IfOk result
         (λ ns. (n : ℕ) → Contains ns n
-        ↔ IsAllowedBy rules.now starts.now places.now verb.now target.now n) }
+        ↔ IsAllowedBy rules.now starts.now places.now verb.now (requested_of requested.entry) n) }
 {
-    let lists = allowing(alloc, rules, starts, places, verb, target)?;
+    let lists = allowing(alloc, rules, starts, places, verb, requested)?;
     Ok(merged(alloc, lists)?)
 }
 
-// The numbers of the grants by each rule at these places that allows the verb on the target, rule
-// by rule.
+// The numbers of the grants by each rule at these places that allows the verb on what is requested,
+// rule by rule.
 fn allowing<'a>(
     alloc: Global,
     rules: &[Written<'_>],
     starts: &'a [GrantNos],
     places: &[usize],
     verb: &Word,
-    target: &Target,
+    requested: Requested<'_>,
 ) -> Result<Vec<Numbers<'a>>, AllocError>
     requires rules { All (λ at. at < length rules.now) places.now }
     requires numbers { All (HaveNumbers starts.now) rules.now }
     ensures ascending { IfOk result (λ v. All IsStrictlyIncreasing v.items) }
     ensures exact { IfOk result
         (λ v. (n : ℕ) → Any (λ l. Contains l n) v.items
-        ↔ IsAllowedBy rules.now starts.now places.now verb.now target.now n) }
+        ↔ IsAllowedBy rules.now starts.now places.now verb.now (requested_of requested.entry) n) }
 {
     let mut lists = Vec::new(alloc);
     for at in places {
         let written = rules[*at];
-        if rule_allows(written.rule, verb, target) {
+        if allows_requested(written.rule, verb, requested) {
             lists.push(Numbers {
                 starts: starts[written.row].as_slice(),
                 place: written.place,

@@ -21,6 +21,7 @@ mod ordered_rule;
 mod ranks;
 mod reach;
 mod reason;
+mod requested;
 mod rule_lists;
 mod rule_rows;
 mod sightings;
@@ -37,11 +38,13 @@ pub use first_runs::{FirstRuns, Run};
 pub use holders::{Holder, Holders};
 pub use index::Index;
 pub use laws::{
-    holders_are_one, holders_decide, keys_explain, listed_holders_are_one, listed_holders_decide,
+    any_name_is_some_name, holders_are_one, holders_decide, keys_explain, listed_holders_are_one,
+    listed_holders_decide,
 };
 pub use least_places::MOST_KEPT as MOST_RUNS;
 pub use meter::Meter;
 pub use numbers::GrantNos;
 pub use reach::{Reach, reaches_of};
 pub use reason::why_held;
+pub use requested::Requested;
 pub use subject_index::SubjectIndex;

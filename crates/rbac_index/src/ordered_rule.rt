@@ -11,6 +11,13 @@ use rbac_terms::{
 use std::alloc::AllocError;
 use std::marker::Model;
 
+// Whether words of the rule match the target's group and resource text.
+pub(crate) fn matches_stem(rule: &Rule, target: &Target) -> bool
+    ensures { IsTrue result ↔ StemOk rule.now target.now }
+{
+    group_matches(rule, target.group()) && resource_matches(rule, target.text())
+}
+
 // A rule, and its object names in byte order, so that one of them is found by halving.
 #[derive(Drop)]
 pub(crate) struct OrderedRule<'a> {
@@ -50,7 +57,7 @@ impl<'a> OrderedRule<'a> {
     pub(crate) fn matches_stem(&self, target: &Target) -> bool
         ensures { IsTrue result ↔ StemOk self.now target.now }
     {
-        group_matches(self.rule, target.group()) && resource_matches(self.rule, target.text())
+        matches_stem(self.rule, target)
     }
 
     // Whether the rule has no object names, and so applies to all objects.

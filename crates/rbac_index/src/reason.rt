@@ -1,45 +1,52 @@
 //! Why a holder has a permission.
 
-ghost use Rattle.std.specs.Prelude.{IsSomeAnd, MatchOption};
+ghost use Rattle.std.specs.Prelude.{◌≡◌, IsSomeAnd, MatchOption};
 ghost use Rattle.rbac_terms.specs.Text.{Text};
+ghost use Rattle.rbac_terms.specs.Targets.{What};
 ghost use Rattle.rbac_model.specs.Holders.{IsHolder};
 ghost use Rattle.rbac_index.specs.Deciding.{NoneAllowing};
-ghost use Rattle.rbac_index.specs.HolderViews.{holder_shown};
+ghost use Rattle.rbac_index.specs.HolderViews.{holder_shown, requested_of};
+ghost use Rattle.rbac_index.specs.Requested.{ThisTarget};
 ghost use Rattle.rbac_index.specs.WhoCan.{WhereView, IsHolderBy};
 ghost use Rattle.rbac_index.specs.WhyHeld.{IsFirstShown, IsHeldShown, IsShownBy};
 
 use crate::deciding::{Why, first_allowing};
 use crate::holders::Holder;
+use crate::requested::Requested;
 use rbac_model::Policy;
-use rbac_terms::{Binding, Target, Word};
+use rbac_terms::{Binding, Word};
 
-/// Why a holder may use the verb on the target (own): the first grant of the holder's binding that
-/// allows it, and the first subject there with the holder's key. Where that binding is the first
-/// through which it holds the permission, it is the first grant of all that allows it to the key. A
-/// user that has the key may be allowed by an earlier grant, as a member of a group. `None` if no
-/// grant of that binding allows it. Doesn't allocate.
+/// Why a holder may use the verb on what is requested (own): the first grant of the holder's binding
+/// that allows it, and the first subject there with the holder's key. Where that binding is the
+/// first through which it holds the permission, it is the first grant of all that allows it to the
+/// key. A user that has the key may be allowed by an earlier grant, as a member of a group. `None`
+/// if no grant of that binding allows it. Doesn't allocate.
 pub fn why_held<'p>(
     policy: &'p Policy,
     holder: Holder<'_>,
     verb: &Word,
-    target: &Target,
+    requested: Requested<'_>,
 ) -> Option<Why<'p>>
     ensures first { MatchOption result
-        (NoneAllowing policy.now verb.now target.now holder.entry.binding_place)
-        (IsFirstShown policy.now verb.now target.now
+        (NoneAllowing policy.now verb.now (requested_of requested.entry)
+        holder.entry.binding_place)
+        (IsFirstShown policy.now verb.now (requested_of requested.entry)
         holder.entry.binding_place holder.entry.subject_place) }
-    ensures held { (namespace : Text)
-        → IsHolder policy.now.held namespace verb.now target.now (holder_shown holder.entry)
+    ensures held { (namespace : Text) (target : What)
+        → requested_of requested.entry ≡ ThisTarget target
+        → IsHolder policy.now.held namespace verb.now target (holder_shown holder.entry)
         → IsSomeAnd result
-        (IsHeldShown policy.now holder.entry.principal.now namespace verb.now target.now) }
+        (IsHeldShown policy.now holder.entry.principal.now namespace verb.now target) }
     ensures listed { (asked : WhereView)
-        → IsHolderBy policy.now.held asked verb.now target.now (holder_shown holder.entry)
+        → IsHolderBy policy.now.held asked verb.now (requested_of requested.entry)
+        (holder_shown holder.entry)
         → IsSomeAnd result
-        (IsShownBy policy.now verb.now target.now (holder_shown holder.entry)) }
+        (IsShownBy policy.now verb.now (requested_of requested.entry)
+        (holder_shown holder.entry)) }
 {
     let bindings: &'p [Binding] = policy.bindings();
     let binding = bindings.get(holder.binding_place)?;
-    let no = first_allowing(policy, holder.binding_place, verb, target)?;
+    let no = first_allowing(policy, holder.binding_place, verb, requested)?;
     let grant = policy.grant(no);
     Some(Why {
         binding,

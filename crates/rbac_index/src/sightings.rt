@@ -1,17 +1,18 @@
-//! Where the holders of a verb on a target are seen: the subjects that it is granted to.
+//! Where the holders of a verb on what is requested are seen: the subjects that it is granted to.
 
 ghost use Rattle.std.specs.Prelude.{◌≡◌, ◌+◌, ◌<◌, All, IfOk, OnOk, length, slice_get, Some};
 ghost use Rattle.rbac_terms.specs.Text.{Text};
-ghost use Rattle.rbac_terms.specs.Targets.{What};
 ghost use Rattle.rbac_model.specs.Policies.{Held};
-ghost use Rattle.rbac_index.specs.HolderViews.{sighted, where_of};
+ghost use Rattle.rbac_index.specs.HolderViews.{requested_of, sighted, where_of};
 ghost use Rattle.rbac_index.specs.Holding.{AreAllSeen, AreSeen, BringsAt, BringsRuleAt};
 ghost use Rattle.rbac_index.specs.Indexed.{AreCandidates};
+ghost use Rattle.rbac_index.specs.Requested.{RequestedView};
 ghost use Rattle.rbac_index.specs.WhoCan.{WhereView};
 
 use crate::asked::{Where, counts_in};
+use crate::requested::Requested;
 use rbac_model::Policy;
-use rbac_terms::{Binding, Target, Word, subject_key};
+use rbac_terms::{Binding, Word, subject_key};
 use std::alloc::{AllocError, Global};
 
 // A holder's key, and a place where it was seen: a binding through which it holds the permission,
@@ -31,12 +32,13 @@ pub(crate) fn sightings_of<'p>(
     policy: &'p Policy,
     numbers: &[u32],
     asked: Where<'_>,
-    target: &Target,
+    requested: Requested<'_>,
 ) -> Result<Vec<Sighting<'p>>, AllocError>
     requires { All (λ no. no < length policy.now.grants) numbers.now }
-    ensures { (verb : Text) → AreCandidates policy.now verb target.now numbers.now
+    ensures { (verb : Text)
+        → AreCandidates policy.now verb (requested_of requested.entry) numbers.now
         → IfOk result
-        (λ v. AreAllSeen policy.now.held (where_of asked.entry) verb target.now
+        (λ v. AreAllSeen policy.now.held (where_of asked.entry) verb (requested_of requested.entry)
         (sighted v.items)) }
 {
     let bindings: &'p [Binding] = policy.bindings();
@@ -46,7 +48,7 @@ pub(crate) fn sightings_of<'p>(
     for no in numbers {
         let place = policy.place(*no).binding;
         if next <= place {
-            see_binding(alloc, &bindings[place], place, asked, target, &mut seen)?;
+            see_binding(alloc, &bindings[place], place, asked, requested, &mut seen)?;
             next = place + 1;
         }
     }
@@ -60,17 +62,18 @@ fn see_binding<'p>(
     binding: &'p Binding,
     place: usize,
     asked: Where<'_>,
-    target: &Target,
+    requested: Requested<'_>,
     seen: &mut Vec<Sighting<'p>>,
 ) -> Result<(), AllocError>
     ensures { (held : Held) (verb : Text) → slice_get held.bindings place ≡ Some binding.now
-        → BringsRuleAt held verb target.now place
-        → AreSeen held (where_of asked.entry) verb target.now place 0 (sighted seen.old.items)
+        → BringsRuleAt held verb (requested_of requested.entry) place
+        → AreSeen held (where_of asked.entry) verb (requested_of requested.entry) place 0
+        (sighted seen.old.items)
         → OnOk result
-        (AreSeen held (where_of asked.entry) verb target.now (place + 1) 0
+        (AreSeen held (where_of asked.entry) verb (requested_of requested.entry) (place + 1) 0
         (sighted seen.new.items)) }
 {
-    if counts_in(asked, binding, target) {
+    if counts_in(asked, binding, requested.target()) {
         see_subjects(alloc, binding, place, seen)?;
     }
     Ok(())
@@ -83,7 +86,7 @@ fn see_subjects<'p>(
     binding_place: usize,
     seen: &mut Vec<Sighting<'p>>,
 ) -> Result<(), AllocError>
-    ensures { (held : Held) (there : WhereView) (verb : Text) (t : What)
+    ensures { (held : Held) (there : WhereView) (verb : Text) (t : RequestedView)
         → slice_get held.bindings binding_place ≡ Some binding.now
         → BringsAt held there verb t binding_place
         → AreSeen held there verb t binding_place 0 (sighted seen.old.items)

@@ -1,5 +1,6 @@
+use Rattle.rbac_index.specs.HolderViews.{requested_of}
 use Rattle.rbac_index.proofs.IndexLemmas.{have_numbers, urls_within, found_within, candidates_urls, candidates_listed}
-use Rattle.rbac_index.proofs.index.Index.candidates.Goals as goal
+use Rattle.rbac_index.proofs.index.Index.candidates_for.Goals as goal
 
 pub allowed_by-requires-clause-rules : goal.allowed_by-requires-clause-rules
 allowed_by-requires-clause-rules c =
@@ -19,10 +20,10 @@ allowed_by-requires-else-is_url-clause-numbers c =
 
 pub returns-in_ok-allowed_by : goal.returns-in_ok-allowed_by
 returns-in_ok-allowed_by c =
-    rw (← c.self.view_is) (candidates_urls c.self.inside.policy.now c.self.inside.listed.rules.items c.self.inside.listed.lists c.self.inside.starts.items c.self.invariant.0 c.args.verb.now c.args.target.now c.in_ok-allowed_by.field-0
-    c.if-is_url.ensures c.in_ok-allowed_by.ensures.ascending (rw (← c.as_slice-rules.ensures.value, ← c.as_slice-starts.ensures.value, ← c.as_slice-places.ensures) c.in_ok-allowed_by.ensures.exact))
+    rw (← c.self.view_is) (candidates_urls c.self.inside.policy.now c.self.inside.listed.rules.items c.self.inside.listed.lists c.self.inside.starts.items c.self.invariant.0 c.args.verb.now (requested_of c.args.requested) c.in_ok-allowed_by.field-0
+    (rw c.target-target.ensures at c.if-is_url.ensures) c.in_ok-allowed_by.ensures.ascending (rw (← c.as_slice-rules.ensures.value, ← c.as_slice-starts.ensures.value, ← c.as_slice-places.ensures) c.in_ok-allowed_by.ensures.exact))
 
 pub returns-in_ok-allowed_by-2 : goal.returns-in_ok-allowed_by-2
 returns-in_ok-allowed_by-2 c =
-    rw (← c.self.view_is) (candidates_listed c.self.inside.policy.now c.self.inside.listed.rules.items c.self.inside.listed.lists c.self.inside.starts.items c.self.invariant.0 c.args.verb.now c.args.target.now c.in_ok-places.places.items c.in_ok-allowed_by-2.field-0
-    c.if-is_url.ensures (rw (← c.text.ensures.text) c.in_ok-places.ensures) c.in_ok-allowed_by-2.ensures.ascending (rw (← c.as_slice-rules.ensures.value, ← c.as_slice-starts.ensures.value, ← c.as_slice.ensures.value) c.in_ok-allowed_by-2.ensures.exact))
+    rw (← c.self.view_is) (candidates_listed c.self.inside.policy.now c.self.inside.listed.rules.items c.self.inside.listed.lists c.self.inside.starts.items c.self.invariant.0 c.args.verb.now (requested_of c.args.requested) c.in_ok-places.places.items c.in_ok-allowed_by-2.field-0
+    (rw c.target-target.ensures at c.if-is_url.ensures) (rw (← c.target-target.ensures, ← c.text.ensures.text) c.in_ok-places.ensures) c.in_ok-allowed_by-2.ensures.ascending (rw (← c.as_slice-rules.ensures.value, ← c.as_slice-starts.ensures.value, ← c.as_slice.ensures.value) c.in_ok-allowed_by-2.ensures.exact))

@@ -1,0 +1,50 @@
+//! What is requested, and which rules allow it.
+
+ghost use Rattle.std.specs.Prelude.{◌≡◌, ◌↔◌, IsTrue};
+ghost use Rattle.rbac_index.specs.HolderViews.{requested_of};
+ghost use Rattle.rbac_index.specs.Requested.{AllowsRequested, AnyName, target_given};
+
+use crate::ordered_rule::matches_stem;
+use rbac_terms::{Rule, Target, Word, rule_allows, verb_matches};
+
+/// What holders are asked for (own).
+#[derive(Clone, Copy)]
+pub enum Requested<'a> {
+    /// This target as it is.
+    ThisTarget(&'a Target),
+    /// This target whatever its object name, which isn't looked at: a rule counts whatever its names
+    /// are. A URL has no name.
+    AnyName(&'a Target),
+}
+
+impl<'a> Requested<'a> {
+    // The target that is given.
+    pub(crate) fn target(self) -> &'a Target
+        ensures { result.now ≡ target_given (requested_of self.entry) }
+    {
+        match self {
+            Requested::ThisTarget(target) | Requested::AnyName(target) => target,
+        }
+    }
+}
+
+// Whether the rule allows the verb on what is requested.
+pub(crate) fn allows_requested(rule: &Rule, verb: &Word, requested: Requested<'_>) -> bool
+    ensures { IsTrue result ↔ AllowsRequested rule.now verb.now (requested_of requested.entry) }
+{
+    match requested {
+        Requested::ThisTarget(target) => rule_allows(rule, verb, target),
+        Requested::AnyName(target) => allows_any_name(rule, verb, target),
+    }
+}
+
+// Whether the rule allows the verb on the target with some object name. Each name of a rule is one
+// that it allows, and a rule without names allows all.
+fn allows_any_name(rule: &Rule, verb: &Word, target: &Target) -> bool
+    ensures { IsTrue result ↔ AllowsRequested rule.now verb.now (AnyName target.now) }
+{
+    if target.is_url() {
+        return rule_allows(rule, verb, target);
+    }
+    verb_matches(rule, verb) && matches_stem(rule, target)
+}
