@@ -20,7 +20,9 @@ use Rattle.rbac_model.proofs.GrantNumbers.{grant_by}
 use Rattle.rbac_model.proofs.OneList.{one_rules_for}
 use Rattle.rbac_index.specs.Deciding.{AllowsOf, IsFirstAllowing}
 use Rattle.rbac_index.specs.WhoCan.{WhereView, InNamespace, HoldsAt, IsHolderBy, IsListedHolder, AreListedHolders}
+use Rattle.rbac_index.specs.Requested.{RequestedView, ThisTarget, AnyName, AllowsRequested, with_name}
 use Rattle.rbac_index.specs.WhyHeld.{IsFirstShown}
+use Rattle.rbac_index.proofs.NameLemmas.{chosen_name}
 use Rattle.rbac_index.specs.declared.deciding.Why.{Why}
 use Rattle.rbac_matrix.proofs.Decided.{Decided, grants}
 use Rattle.rbac_text.specs.Row.{holder_text}
@@ -31,14 +33,14 @@ use Rattle.rbac_manifest.specs.Load.{LoadedView}
 use Rattle.rbac_question.specs.declared.command.Action.TheVariants.{WhoCan}
 use Rattle.rbac_question.specs.declared.command.Question.{Question}
 use Rattle.rbac_cli.specs.HolderLines.{IsHolderLine, AreHolderLines, joined}
-use Rattle.rbac_cli.specs.Meant.{IsMeant, IsTargetMeant, IsNamespaceMeant, IsOutside, IsWhereMeant, where_given}
+use Rattle.rbac_cli.specs.Meant.{IsMeant, IsTargetMeant, IsNamespaceMeant, IsOutside, IsWhereMeant, requested_meant, where_given}
 use Rattle.rbac_cli.specs.Out.{Answers}
 use Rattle.rbac_cli.specs.declared.exports.Exports.TheVariants.{Single}
 use Rattle.rbac_cli.specs.declared.outcome.Status.TheVariants.{Zero}
 use Rattle.rbac_cli.proofs.OneHolderLines.{one_why_by}
 
 -- what is found to explain a holder makes its line
-pub shown_text : (p : PolicyView) (verb : Text) (t : What) (x : HolderView) (why : Why) (text : Text) → IsFirstShown p verb t x.binding_place x.subject_place why → IsHolderLine p true verb t x text
+pub shown_text : (p : PolicyView) (verb : Text) (t : RequestedView) (x : HolderView) (why : Why) (text : Text) → IsFirstShown p verb t x.binding_place x.subject_place why → IsHolderLine p true verb t x text
     → holder_why_text x.key why.binding.now (source_of why.source) why.rule_place why.subject_place ≡ text
 shown_text p verb t x why text found (k, by, e) =
     let g = found.grant in
@@ -89,6 +91,16 @@ module _ (r : Rule) (verb : Text) (t : What) where
     | inr refused ↦ inr (λ allows. refused (tt, (0, User [], omega arith, refl, refl), (lone_rule ∷ [], lone_rules, (0, lone_rule, omega arith, refl, allows))))
   ]
 
+-- so whether it allows what is requested is decided: by one object name, if it may be any
+requested_decided : (r : Rule) (verb : Text) (t : RequestedView) → Decided (AllowsRequested r verb t)
+requested_decided r verb (ThisTarget t) = rule_decided r verb t
+requested_decided r verb (AnyName t) =
+    let chosen = chosen_name r verb t in
+    elim (rule_decided r verb (with_name chosen.0 t)) [
+      | inl allows ↦ inl (chosen.0, allows)
+      | inr refused ↦ inr (λ some. refused (chosen.1 some))
+    ]
+
 -- ---- the first number that has a decided property
 
 module _ (P : ℕ → Type 0) (len : ℕ) (decide : (n : ℕ) → n < len → Decided (P n)) where
@@ -119,15 +131,15 @@ module _ (P : ℕ → Type 0) (len : ℕ) (decide : (n : ℕ) → n < len → De
 
 -- ---- each holder has a line
 
-module _ (p : PolicyView) (ok : IsPolicy p) (verb : Text) (t : What) where
+module _ (p : PolicyView) (ok : IsPolicy p) (verb : Text) (t : RequestedView) where
   allows_decided : (at n : ℕ) → n < length p.grants → Decided (AllowsOf p verb t at n)
   allows_decided at n lt =
       let of = of_some_binding p ok n lt in
       let g = of.1.0 in
       elim (cases_eq of.0 at) [
-        | inl e ↦ elim (rule_decided g.rule.rule verb t) [
+        | inl e ↦ elim (requested_decided g.rule.rule verb t) [
           | inl allows ↦ inl (subst (IsOfBinding p n) e of.1, (g, of.1.1, allows))
-          | inr denies ↦ inr (λ w. denies (subst (λ (v : GrantView). RuleAllows v.rule.rule verb t) (same_Some w.1.0 g (sym w.1.1 ∙ of.1.1)) w.1.2))
+          | inr denies ↦ inr (λ w. denies (subst (λ (v : GrantView). AllowsRequested v.rule.rule verb t) (same_Some w.1.0 g (sym w.1.1 ∙ of.1.1)) w.1.2))
         ]
         | inr ne ↦ inr (λ w. ne (one_binding_place p ok n of.0 at of.1 w.0))
       ]
@@ -157,7 +169,7 @@ module _ (p : PolicyView) (ok : IsPolicy p) (verb : Text) (t : What) where
 
 -- ---- the line at a place
 
-pub line_at : (p : PolicyView) (why : Bool) (verb : Text) (t : What) (xs : List HolderView) (i : ℕ) (x : HolderView) (lines : List Text) → slice_get xs i ≡ Some x
+pub line_at : (p : PolicyView) (why : Bool) (verb : Text) (t : RequestedView) (xs : List HolderView) (i : ℕ) (x : HolderView) (lines : List Text) → slice_get xs i ≡ Some x
     → AreHolderLines p why verb t (drop i xs) lines
     → (line : Text) × (rest : List Text) × IsHolderLine p why verb t x line × AreHolderLines p why verb t (drop (i + 1) xs) rest × (lines ≡ line ∷ rest)
 line_at p why verb t xs i x lines at are =
@@ -167,7 +179,7 @@ line_at p why verb t xs i x lines at are =
     subst (λ (ys : List HolderView). AreHolderLines p why verb t ys lines) here are
 
 -- who is listed is a holder by its binding
-by_binding : (h : Held) (asked : WhereView) (every : Bool) (verb : Text) (t : What) (x : HolderView) → IsListedHolder h asked every verb t x → IsHolderBy h asked verb t x
+by_binding : (h : Held) (asked : WhereView) (every : Bool) (verb : Text) (t : RequestedView) (x : HolderView) → IsListedHolder h asked every verb t x → IsHolderBy h asked verb t x
 by_binding h asked true verb t x listed = listed
 by_binding h asked false verb t x listed = listed.0
 
@@ -181,22 +193,29 @@ place_meant entries q anywhere false target namespace asked (inl a) is out given
 place_meant entries q anywhere false target namespace asked (inr a) is out given = inr (a.0, given refl ∙ ap (where_given anywhere) a.1)
 
 -- the holders of what is asked have lines, which answer it
-pub answered : (l : LoadedView) (why every anywhere : Bool) (q : Question) (target : What) (namespace : Text) (outside : Bool) (asked : WhereView) (xs : List HolderView) (listed : CatalogueView) (held shown : PolicyView)
+pub answered : (l : LoadedView) (why every anywhere any_name : Bool) (q : Question) (target : What) (namespace : Text) (outside : Bool) (asked : WhereView) (requested : RequestedView) (xs : List HolderView) (listed : CatalogueView) (held shown : PolicyView)
     → listed ≡ l.catalogue → held ≡ l.policy → shown ≡ l.policy → IsMeant listed.entries q target namespace → (IsTrue outside ↔ IsOutside listed.entries q target)
     → (outside ≡ true → asked ≡ InNamespace namespace) → (outside ≡ false → asked ≡ where_given anywhere namespace)
-    → IsPolicy held → AreListedHolders held.held asked every q.verb target xs
-    → (lines : List Text) × AreHolderLines shown why q.verb target xs lines × Answers (Single l) (WhoCan why every anywhere q) (joined lines) Zero
-answered l why every anywhere q target namespace outside asked xs listed held shown catalogue policy again meant is out given ok holders =
-    let are = subst (λ (p : PolicyView). AreListedHolders p.held asked every q.verb target xs) policy holders in
-    let lines = lines_of l.policy (subst IsPolicy policy ok) q.verb target asked why xs (λ x w. by_binding l.policy.held asked every q.verb target x ((are.exact x).0 w)) in
+    → requested ≡ requested_meant any_name target → IsPolicy held → AreListedHolders held.held asked every q.verb requested xs
+    → (lines : List Text) × AreHolderLines shown why q.verb requested xs lines × Answers (Single l) (WhoCan why every anywhere any_name q) (joined lines) Zero
+answered l why every anywhere any_name q target namespace outside asked requested xs listed held shown catalogue policy again meant is out given for ok holders =
+    let are = subst (λ (p : PolicyView). AreListedHolders p.held asked every q.verb requested xs) policy holders in
+    let lines = lines_of l.policy (subst IsPolicy policy ok) q.verb requested asked why xs (λ x w. by_binding l.policy.held asked every q.verb requested x ((are.exact x).0 w)) in
     let place = place_meant listed.entries q anywhere outside target namespace asked meant.1 is out given in (
       lines.0,
-      subst (λ (p : PolicyView). AreHolderLines p why q.verb target xs lines.0) (sym again) lines.1,
+      subst (λ (p : PolicyView). AreHolderLines p why q.verb requested xs lines.0) (sym again) lines.1,
       (
         target,
         asked,
         subst (λ (v : CatalogueView). IsTargetMeant v.entries q.asked target) catalogue meant.0,
         subst (λ (v : CatalogueView). IsWhereMeant v.entries q anywhere target asked) catalogue place,
-        (xs, lines.0, are, lines.1, refl, refl),
+        (
+          xs,
+          lines.0,
+          subst (λ (r : RequestedView). AreListedHolders l.policy.held asked every q.verb r xs) for are,
+          subst (λ (r : RequestedView). AreHolderLines l.policy why q.verb r xs lines.0) for lines.1,
+          refl,
+          refl,
+        ),
       ),
     )

@@ -21,16 +21,16 @@ use Rattle.rbac_cli.specs.declared.outcome.Status.{Status}
 -- what is loaded for an action is what it is answered over
 pub over : (a : Action) (inputs : List (List ℕ)) (e : Exports) → AreLoaded a inputs e → IsOver a e
 over (CanI who quiet why q) inputs (Single l) h = tt
-over (WhoCan why every anywhere q) inputs (Single l) h = tt
+over (WhoCan why every anywhere any_name q) inputs (Single l) h = tt
 over (Rules who scope) inputs (Single l) h = tt
 over (Matrix every after limit) inputs (Single l) h = tt
-over Lint inputs (Single l) h = tt
+over (Lint only skip) inputs (Single l) h = tt
 over (Diff n) inputs (Single l) h = h
 over (CanI who quiet why q) inputs (Pair x y) h = h
-over (WhoCan why every anywhere q) inputs (Pair x y) h = h
+over (WhoCan why every anywhere any_name q) inputs (Pair x y) h = h
 over (Rules who scope) inputs (Pair x y) h = h
 over (Matrix every after limit) inputs (Pair x y) h = h
-over Lint inputs (Pair x y) h = h
+over (Lint only skip) inputs (Pair x y) h = h
 over (Diff n) inputs (Pair x y) h = tt
 
 -- ---- the file of a fault is one of the inputs
@@ -107,7 +107,7 @@ ended took command inputs e (Err (Write n)) is h = (e, is, h)
 pub of_diff : (P : Action → Type 0) (a : Action) (before after : LoadedView) → IsOver a (Pair before after) → ((n : ℕ) → P (Diff n)) → P a
 of_diff P (Diff n) before after is h = h n
 of_diff P (CanI who quiet why q) before after is h = absurd is
-of_diff P (WhoCan why every anywhere q) before after is h = absurd is
+of_diff P (WhoCan why every anywhere any_name q) before after is h = absurd is
 of_diff P (Rules who scope) before after is h = absurd is
 of_diff P (Matrix every mark limit) before after is h = absurd is
-of_diff P Lint before after is h = absurd is
+of_diff P (Lint only skip) before after is h = absurd is

@@ -1,6 +1,6 @@
 -- What an action means is one text and one status.
 use Rattle.std.proofs.Common.{◌≡◌, ◌∙◌, ◌↔◌, ℕ, Bool, true, false, List, [], ◌∷◌, ◌++◌, map, inl, inr, Contains, Less, ap, sym, subst, refl, codes}
-use Rattle.std.specs.Prelude.{Option, Some, None}
+use Rattle.std.specs.Prelude.{Option, Some, None, option_map, vec_items}
 use Rattle.std.proofs.lemmas.List.{append_cancel_left}
 use Rattle.rbac_terms.specs.Text.{Text}
 use Rattle.rbac_terms.specs.Keys.{KeyTexts, texts}
@@ -25,15 +25,15 @@ use Rattle.rbac_universe.proofs.OneMore.{as_any}
 use Rattle.rbac_universe.proofs.OneUniverse.{one_sets}
 use Rattle.rbac_index.proofs.ListedLemmas.{one_listed}
 use Rattle.rbac_manifest.specs.Load.{LoadedView}
-use Rattle.rbac_lint.proofs.OneLines.{one_findings}
+use Rattle.rbac_lint.proofs.OneLines.{one_wanted}
 use Rattle.rbac_diff.proofs.OneChanges.{one_changes}
 use Rattle.rbac_question.specs.declared.command.Action.{Action}
 use Rattle.rbac_question.specs.declared.command.Action.TheVariants.{CanI, WhoCan, Rules, Matrix, Lint, Diff}
 use Rattle.rbac_question.specs.declared.command.Question.{Question}
 use Rattle.rbac_cli.specs.HolderLines.{AreHolderLines, joined}
-use Rattle.rbac_cli.specs.Out.{Answers, IsAllowed, IsDenied, rules_text, scope_asked, findings_text, findings_status, changes_text, changes_status, line_unless}
+use Rattle.rbac_cli.specs.Out.{Answers, IsAllowed, IsDenied, rules_text, scope_asked, findings_text, findings_status, wanted_meant, changes_text, changes_status, line_unless}
 use Rattle.rbac_cli.specs.MatrixPage.{AreListed}
-use Rattle.rbac_cli.specs.Meant.{IsWhereMeant}
+use Rattle.rbac_cli.specs.Meant.{IsWhereMeant, requested_meant}
 use Rattle.rbac_cli.specs.declared.exports.Exports.{Exports}
 use Rattle.rbac_cli.specs.declared.exports.Exports.TheVariants.{Single, Pair}
 use Rattle.rbac_cli.specs.declared.outcome.Status.{Status}
@@ -217,18 +217,19 @@ one_listed_lines true held lists u v rows others m n x y = one_every_lines held 
 
 -- ---- the holders are one list
 
-one_holders_text : (l : LoadedView) (why every anywhere : Bool) (q : Question) (text other : List ℕ) (status ending : Status)
-    → Answers (Single l) (WhoCan why every anywhere q) text status → Answers (Single l) (WhoCan why every anywhere q) other ending
+one_holders_text : (l : LoadedView) (why every anywhere any_name : Bool) (q : Question) (text other : List ℕ) (status ending : Status)
+    → Answers (Single l) (WhoCan why every anywhere any_name q) text status → Answers (Single l) (WhoCan why every anywhere any_name q) other ending
     → (text ≡ other) × (status ≡ ending)
-one_holders_text l why every anywhere q text other status ending (t, v, target, meant, (xs, lines, a, these, e, s)) (u, w, means, meaning, (ys, those, b, them, f, z)) =
+one_holders_text l why every anywhere any_name q text other status ending (t, v, target, meant, (xs, lines, a, these, e, s)) (u, w, means, meaning, (ys, those, b, them, f, z)) =
     let p = l.policy in
     let entries = l.catalogue.entries in
     let same = one_target entries q.asked t u target means in
     let place = one_where entries q anywhere u v w (subst (λ x. IsWhereMeant entries q anywhere x v) same meant) meaning in
-    let here = subst (λ x. AreListedHolders p.held x every q.verb u xs) place (subst (λ x. AreListedHolders p.held v every q.verb x xs) same a) in
-    let one = one_listed p.held w every q.verb u xs ys here b in
-    let lined = subst (λ hs. AreHolderLines p why q.verb u hs lines) one (subst (λ x. AreHolderLines p why q.verb x xs lines) same these) in
-    (e ∙ ap joined (one_holder_lines p q.verb u why ys lines those lined them) ∙ sym f, s ∙ sym z)
+    let r = requested_meant any_name u in
+    let here = subst (λ x. AreListedHolders p.held x every q.verb r xs) place (subst (λ x. AreListedHolders p.held v every q.verb (requested_meant any_name x) xs) same a) in
+    let one = one_listed p.held w every q.verb r xs ys here b in
+    let lined = subst (λ hs. AreHolderLines p why q.verb r hs lines) one (subst (λ x. AreHolderLines p why q.verb (requested_meant any_name x) xs lines) same these) in
+    (e ∙ ap joined (one_holder_lines p q.verb r why ys lines those lined them) ∙ sym f, s ∙ sym z)
 
 -- the one target and namespace that are meant aren't both allowed and denied
 not_both : (held : Held) (entries : List Entry) (who : Who) (q : Question) → IsAllowed held entries who q → IsDenied held entries who q → ⊥
@@ -245,22 +246,22 @@ one_answer (Single l) (CanI who quiet why q) text other status ending (inl (a, (
 one_answer (Single l) (CanI who quiet why q) text other status ending (inl a) (inr b) = absurd (not_both l.policy.held l.catalogue.entries who q a.0 b.0)
 one_answer (Single l) (CanI who quiet why q) text other status ending (inr a) (inl b) = absurd (not_both l.policy.held l.catalogue.entries who q b.0 a.0)
 one_answer (Single l) (CanI who quiet why q) text other status ending (inr a) (inr b) = (a.1 ∙ sym b.1, a.2 ∙ sym b.2)
-one_answer (Single l) (WhoCan why every anywhere q) text other status ending a b = one_holders_text l why every anywhere q text other status ending a b
+one_answer (Single l) (WhoCan why every anywhere any_name q) text other status ending a b = one_holders_text l why every anywhere any_name q text other status ending a b
 one_answer (Single l) (Rules who scope) text other status ending (xs, are, e, s) (ys, those, f, t) =
     (e ∙ ap rules_text (one_rules who (scope_asked scope) l.policy.grants xs ys are those) ∙ sym f, s ∙ sym t)
 one_answer (Single l) (Matrix every after limit) text other status ending (u, rows, m, x, e, s) (v, others, n, y, f, t) = (
   e ∙ one_matrix_text every after limit rows others (one_listed_lines every l.policy.held l.lists u v rows others m.sets n.sets x y) ∙ sym f,
   s ∙ sym t,
 )
-one_answer (Single l) Lint text other status ending (found, are, e, s) (others, these, f, t) =
-    let one = one_findings l.policy.held l.replaced found others are these in
+one_answer (Single l) (Lint only skip) text other status ending (found, are, e, s) (others, these, f, t) =
+    let one = one_wanted (wanted_meant (option_map vec_items only) skip) l.policy.held l.replaced found others are these in
     (e ∙ ap findings_text one ∙ sym f, s ∙ ap findings_status one ∙ sym t)
 one_answer (Single l) (Diff n) text other status ending a b = absurd a
 one_answer (Pair before after) (Diff n) text other status ending (xs, are, e, s) (ys, those, f, t) =
     let one = one_changes before.policy after.policy xs ys are those in
     (e ∙ ap changes_text one ∙ sym f, s ∙ ap changes_status one ∙ sym t)
 one_answer (Pair before after) (CanI who quiet why q) text other status ending a b = absurd a
-one_answer (Pair before after) (WhoCan why every anywhere q) text other status ending a b = absurd a
+one_answer (Pair before after) (WhoCan why every anywhere any_name q) text other status ending a b = absurd a
 one_answer (Pair before after) (Rules who scope) text other status ending a b = absurd a
 one_answer (Pair before after) (Matrix every mark limit) text other status ending a b = absurd a
-one_answer (Pair before after) Lint text other status ending a b = absurd a
+one_answer (Pair before after) (Lint only skip) text other status ending a b = absurd a

@@ -3,15 +3,15 @@ use Rattle.std.proofs.Common.{◌≡◌, ◌∙◌, ℕ, Bool, true, false, List
 use Rattle.std.proofs.lemmas.Bool.{cases_order}
 use Rattle.std.proofs.lemmas.Option.{same_Some}
 use Rattle.rbac_terms.specs.Text.{Text}
-use Rattle.rbac_terms.specs.Targets.{What}
 use Rattle.rbac_model.specs.Policies.{PolicyView, GrantView}
 use Rattle.rbac_model.specs.Holders.{HolderView}
 use Rattle.rbac_index.specs.Deciding.{IsFirstAllowing}
+use Rattle.rbac_index.specs.Requested.{RequestedView}
 use Rattle.rbac_index.specs.WhyHeld.{IsWhyBy}
 use Rattle.rbac_text.specs.Why.{holder_why_text}
 use Rattle.rbac_cli.specs.HolderLines.{AreHolderLines, IsHolderLine}
 
-module _ (p : PolicyView) (verb : Text) (t : What) where
+module _ (p : PolicyView) (verb : Text) (t : RequestedView) where
   pub one_first_allowing : (at n m : ℕ) → IsFirstAllowing p verb t at n → IsFirstAllowing p verb t at m → n ≡ m
   one_first_allowing at n m a b = elim (cases_order n m) [
     | inl e ↦ e

@@ -53,9 +53,9 @@ same_universe_fault lists f universe.NoMemory a n b m = absurd (m refl)
 
 lacks_for_one : (e : Exports) (action : Action) (f g : UniverseFault) → LacksUniverse e action f → LacksUniverse e action g → f ≡ g
 lacks_for_one (Single l) (CanI who quiet why q) f g a b = absurd a
-lacks_for_one (Single l) (WhoCan why every anywhere q) f g a b = absurd a
+lacks_for_one (Single l) (WhoCan why every anywhere any_name q) f g a b = absurd a
 lacks_for_one (Single l) (Rules who scope) f g a b = absurd a
-lacks_for_one (Single l) Lint f g a b = absurd a
+lacks_for_one (Single l) (Lint only skip) f g a b = absurd a
 lacks_for_one (Single l) (Diff n) f g a b = absurd a
 lacks_for_one (Single l) (Matrix every after limit) f g a b = same_universe_fault l.lists f g a.0 a.1 b.0 b.1
 lacks_for_one (Pair before after) action f g a b = absurd a
@@ -64,9 +64,9 @@ module _ (loads_one : LoadsOne) (no_fault : HasNoFault) (one_fault : HasOneFault
   -- what has an answer lacks no universe
   not_lacking : (e : Exports) (action : Action) (text : List ℕ) (status : Status) (f : UniverseFault) → Answers e action text status → LacksUniverse e action f → ⊥
   not_lacking (Single l) (CanI who quiet why q) text status f a b = b
-  not_lacking (Single l) (WhoCan why every anywhere q) text status f a b = b
+  not_lacking (Single l) (WhoCan why every anywhere any_name q) text status f a b = b
   not_lacking (Single l) (Rules who scope) text status f a b = b
-  not_lacking (Single l) Lint text status f a b = b
+  not_lacking (Single l) (Lint only skip) text status f a b = b
   not_lacking (Single l) (Diff n) text status f a b = b
   not_lacking (Single l) (Matrix every after limit) text status f (u, rows, is, listed, e, zero) b = no_universe_fault l.lists u f is b.1 b.0
   not_lacking (Pair before after) action text status f a b = b
@@ -81,35 +81,35 @@ module _ (loads_one : LoadsOne) (no_fault : HasNoFault) (one_fault : HasOneFault
   one_loaded (Diff n) inputs (Single l) d a b = absurd a
   one_loaded (Diff n) inputs (Pair x y) (Single m) a b = absurd b
   one_loaded (CanI who quiet why q) inputs (Single l) (Single m) a b = one_single inputs l m a b
-  one_loaded (WhoCan why every anywhere q) inputs (Single l) (Single m) a b = one_single inputs l m a b
+  one_loaded (WhoCan why every anywhere any_name q) inputs (Single l) (Single m) a b = one_single inputs l m a b
   one_loaded (Rules who scope) inputs (Single l) (Single m) a b = one_single inputs l m a b
   one_loaded (Matrix every after limit) inputs (Single l) (Single m) a b = one_single inputs l m a b
-  one_loaded Lint inputs (Single l) (Single m) a b = one_single inputs l m a b
+  one_loaded (Lint only skip) inputs (Single l) (Single m) a b = one_single inputs l m a b
   one_loaded (CanI who quiet why q) inputs (Pair x y) d a b = absurd a
-  one_loaded (WhoCan why every anywhere q) inputs (Pair x y) d a b = absurd a
+  one_loaded (WhoCan why every anywhere any_name q) inputs (Pair x y) d a b = absurd a
   one_loaded (Rules who scope) inputs (Pair x y) d a b = absurd a
   one_loaded (Matrix every after limit) inputs (Pair x y) d a b = absurd a
-  one_loaded Lint inputs (Pair x y) d a b = absurd a
+  one_loaded (Lint only skip) inputs (Pair x y) d a b = absurd a
   one_loaded (CanI who quiet why q) inputs (Single l) (Pair x y) a b = absurd b
-  one_loaded (WhoCan why every anywhere q) inputs (Single l) (Pair x y) a b = absurd b
+  one_loaded (WhoCan why every anywhere any_name q) inputs (Single l) (Pair x y) a b = absurd b
   one_loaded (Rules who scope) inputs (Single l) (Pair x y) a b = absurd b
   one_loaded (Matrix every after limit) inputs (Single l) (Pair x y) a b = absurd b
-  one_loaded Lint inputs (Single l) (Pair x y) a b = absurd b
+  one_loaded (Lint only skip) inputs (Single l) (Pair x y) a b = absurd b
 
   not_refused : (action : Action) (inputs : List (List ℕ)) (e : Exports) (f : LoadFault) → AreLoaded action inputs e → AreRefused action inputs f → ⊥
   not_refused (Diff n) inputs (Pair x y) f a (inl h) = no_fault (take n inputs) x f a.0 h
   not_refused (Diff n) inputs (Pair x y) f a (inr h) = no_fault (drop n inputs) y h.1.0 a.1 h.1.1
   not_refused (Diff n) inputs (Single l) f a h = a
   not_refused (CanI who quiet why q) inputs (Single l) f a h = no_fault inputs l f a h
-  not_refused (WhoCan why every anywhere q) inputs (Single l) f a h = no_fault inputs l f a h
+  not_refused (WhoCan why every anywhere any_name q) inputs (Single l) f a h = no_fault inputs l f a h
   not_refused (Rules who scope) inputs (Single l) f a h = no_fault inputs l f a h
   not_refused (Matrix every after limit) inputs (Single l) f a h = no_fault inputs l f a h
-  not_refused Lint inputs (Single l) f a h = no_fault inputs l f a h
+  not_refused (Lint only skip) inputs (Single l) f a h = no_fault inputs l f a h
   not_refused (CanI who quiet why q) inputs (Pair x y) f a h = a
-  not_refused (WhoCan why every anywhere q) inputs (Pair x y) f a h = a
+  not_refused (WhoCan why every anywhere any_name q) inputs (Pair x y) f a h = a
   not_refused (Rules who scope) inputs (Pair x y) f a h = a
   not_refused (Matrix every after limit) inputs (Pair x y) f a h = a
-  not_refused Lint inputs (Pair x y) f a h = a
+  not_refused (Lint only skip) inputs (Pair x y) f a h = a
 
   one_refusal : (action : Action) (inputs : List (List ℕ)) (f g : LoadFault) → AreRefused action inputs f → AreRefused action inputs g → f ≡ g
   one_refusal (Diff n) inputs f g (inl a) (inl b) = one_fault (take n inputs) f g a b
@@ -118,10 +118,10 @@ module _ (loads_one : LoadsOne) (no_fault : HasNoFault) (one_fault : HasOneFault
   one_refusal (Diff n) inputs f g (inr ((l, is), (own, has, e))) (inr ((m, are), (other, had, d))) =
       e ∙ ap (behind n) (one_fault (drop n inputs) own other has had) ∙ sym d
   one_refusal (CanI who quiet why q) inputs f g a b = one_fault inputs f g a b
-  one_refusal (WhoCan why every anywhere q) inputs f g a b = one_fault inputs f g a b
+  one_refusal (WhoCan why every anywhere any_name q) inputs f g a b = one_fault inputs f g a b
   one_refusal (Rules who scope) inputs f g a b = one_fault inputs f g a b
   one_refusal (Matrix every after limit) inputs f g a b = one_fault inputs f g a b
-  one_refusal Lint inputs f g a b = one_fault inputs f g a b
+  one_refusal (Lint only skip) inputs f g a b = one_fault inputs f g a b
 
   module _ (command : Command) (inputs : List (List ℕ)) where
     answered : (took others : List ℕ → Type 0) (status : Status) (other : Result Status RunFault) → IsUnstopped other

@@ -6,6 +6,7 @@ use Rattle.rbac_catalogue.specs.declared.entry.Entry.{Entry}
 use Rattle.rbac_catalogue.specs.declared.lookup.Found.{Found}
 use Rattle.rbac_catalogue.specs.Lookups.{IsFound}
 use Rattle.rbac_catalogue.specs.Catalogue.{IsClusterOnly}
+use Rattle.rbac_index.specs.Requested.{RequestedView, ThisTarget, AnyName}
 use Rattle.rbac_index.specs.WhoCan.{WhereView, InNamespace, Anywhere}
 use Rattle.rbac_question.specs.declared.asked.AskedFor.{AskedFor}
 use Rattle.rbac_question.specs.declared.asked.AskedFor.TheVariants.{Url as ForUrl}
@@ -42,6 +43,12 @@ IsNamespaceMeant entries q target namespace =
 abbrev pub IsMeant : List Entry → Question → What → Text → Type 0
 IsMeant entries q target namespace = IsTargetMeant entries q.asked target
     × IsNamespaceMeant entries q target namespace
+
+-- what holders are asked for: the target, or with `--any-name` the target whatever its object name
+-- (own)
+abbrev pub requested_meant : Bool → What → RequestedView
+requested_meant true target = AnyName target
+requested_meant false target = ThisTarget target
 
 -- where holders may be asked for: with `--anywhere` in any namespace, otherwise in the one given
 abbrev pub where_given : Bool → Text → WhereView

@@ -1,5 +1,6 @@
 -- What a command writes, and its status.
 use Rattle.std.specs.Prelude.{◌≡◌, ℕ, ◌⊎◌, Bool, true, false, List, [], ◌∷◌, ◌++◌, codes}
+use Rattle.std.specs.Prelude.{Option, option_map, vec_items}
 use Rattle.std.specs.List.{flat_map}
 use Rattle.rbac_terms.specs.Text.{Text}
 use Rattle.rbac_terms.specs.Targets.{What}
@@ -13,7 +14,7 @@ use Rattle.rbac_text.specs.Rule.{grant_text}
 use Rattle.rbac_text.specs.Why.{why_text}
 use Rattle.rbac_text.specs.Finding.{finding_text}
 use Rattle.rbac_lint.specs.declared.finding.Finding.{Finding}
-use Rattle.rbac_lint.specs.Findings.{AreFindings}
+use Rattle.rbac_lint.specs.Wanted.{WantedView, AreWanted}
 use Rattle.rbac_diff.specs.Changes.{ChangeView, AreChanges}
 use Rattle.rbac_diff.specs.Lines.{change_text}
 use Rattle.rbac_question.specs.declared.command.Action.{Action}
@@ -29,7 +30,7 @@ use Rattle.rbac_cli.specs.HolderLines.{AreHolderLines, joined}
 use Rattle.rbac_cli.specs.declared.exports.Exports.{Exports}
 use Rattle.rbac_cli.specs.declared.exports.Exports.TheVariants.{Single, Pair}
 use Rattle.rbac_cli.specs.MatrixPage.{AreListed, matrix_text}
-use Rattle.rbac_cli.specs.Meant.{IsMeant, IsTargetMeant, IsWhereMeant}
+use Rattle.rbac_cli.specs.Meant.{IsMeant, IsTargetMeant, IsWhereMeant, requested_meant}
 use Rattle.rbac_cli.specs.declared.outcome.Status.{Status}
 use Rattle.rbac_cli.specs.declared.outcome.Status.TheVariants.{Zero, One}
 
@@ -85,6 +86,11 @@ scope_asked question.Everywhere = Everywhere
 scope_asked (question.Namespace namespace) = InNamespace namespace
 scope_asked question.ClusterWide = ClusterWide
 
+-- which findings are asked for: those of the codes of `--only`, if it is given, and with
+-- `--skip-system` not those about Kubernetes' own objects
+abbrev pub wanted_meant : Option (List ℕ) → Bool → WantedView
+wanted_meant only skip_system = record { only = only; skip_system = skip_system }
+
 -- a line for each finding, in order
 abbrev pub findings_text : List Finding → List ℕ
 findings_text found = flat_map (λ f. finding_text f.code f.object f.place f.other) found
@@ -106,7 +112,7 @@ changes_status (x ∷ xs) = One
 -- the text and the status that an action means over what was loaded: `can-i` answers `yes` and 0,
 -- or `no` and 1 (kubectl auth can-i); `who-can` answers a line for each holder, and 0; `rules` a line
 -- for each rule that somebody has, and 0 (own); `matrix` a page of the rows that are listed over a
--- universe of the lists, and 0 (own); `lint` a line for each finding, and 1 if there is one (own);
+-- universe of the lists, and 0 (own); `lint` a line for each finding that is asked for, and 1 if there is one (own);
 -- `diff` a line for each change from the first export to the second, and 1 if there is one (own)
 abbrev pub Answers : Exports → Action → List ℕ → Status → Type 0
 Answers (Single l) (CanI who quiet why q) text status =
@@ -116,12 +122,12 @@ Answers (Single l) (CanI who quiet why q) text status =
     × (status ≡ Zero))
     ⊎ (IsDenied l.policy.held l.catalogue.entries who q × (text ≡ line_unless quiet (codes "no"))
     × (status ≡ One))
-Answers (Single l) (WhoCan why every anywhere q) text status =
+Answers (Single l) (WhoCan why every anywhere any_name q) text status =
     (target : What) × (asked : WhereView) × IsTargetMeant l.catalogue.entries q.asked target
     × IsWhereMeant l.catalogue.entries q anywhere target asked
     × ((xs : List HolderView) × (lines : List Text)
-    × AreListedHolders l.policy.held asked every q.verb target xs
-    × AreHolderLines l.policy why q.verb target xs lines
+    × AreListedHolders l.policy.held asked every q.verb (requested_meant any_name target) xs
+    × AreHolderLines l.policy why q.verb (requested_meant any_name target) xs lines
     × (text ≡ joined lines) × (status ≡ Zero))
 Answers (Single l) (Rules who scope) text status =
     (xs : List RuleView) × AreEffective l.policy who (scope_asked scope) xs
@@ -130,8 +136,9 @@ Answers (Single l) (Matrix every after limit) text status =
     (u : UniverseView) × (rows : List RowView) × IsUniverseOf l.lists u
     × AreListed every l.policy.held u rows
     × (text ≡ matrix_text every after limit rows) × (status ≡ Zero)
-Answers (Single l) Lint text status =
-    (found : List Finding) × AreFindings l.policy.held l.replaced found
+Answers (Single l) (Lint only skip_system) text status =
+    (found : List Finding)
+    × AreWanted (wanted_meant (option_map vec_items only) skip_system) l.policy.held l.replaced found
     × (text ≡ findings_text found) × (status ≡ findings_status found)
 Answers (Pair before after) (Diff n) text status =
     (xs : List ChangeView) × AreChanges before.policy after.policy xs

@@ -48,12 +48,14 @@ pub(crate) fn print_answer<W: Write + Drop>(
             why,
             every,
             anywhere,
+            any_name,
             question,
         } => {
             let options = HolderOptions {
                 why: *why,
                 every: *every,
                 anywhere: *anywhere,
+                any_name: *any_name,
             };
             print_holders(alloc, export, options, question, output)
         }
@@ -65,7 +67,9 @@ pub(crate) fn print_answer<W: Write + Drop>(
             after,
             limit,
         } => print_matrix(alloc, export, *every, after.as_ref(), *limit, output),
-        Action::Lint => print_findings(alloc, export, output),
+        Action::Lint { only, skip_system } => {
+            print_findings(alloc, export, only, *skip_system, output)
+        }
         Action::Diff { .. } => unreachable!(),
     }
 }

@@ -3,11 +3,11 @@
 ghost use Rattle.std.specs.Prelude.{◌≡◌, ◌++◌, ◌-◌, true, false, List, IfOk, OnOk, drop, length};
 ghost use Rattle.rbac_terms.specs.Text.{Text};
 ghost use Rattle.rbac_model.specs.Policies.{IsPolicy};
-ghost use Rattle.rbac_index.specs.HolderViews.{holder_shown, where_of};
+ghost use Rattle.rbac_index.specs.HolderViews.{holder_shown, requested_of, where_of};
 ghost use Rattle.rbac_index.specs.WhoCan.{AreListedHolders, InNamespace};
 ghost use Rattle.rbac_question.specs.declared.command.Action.TheVariants.{WhoCan};
 ghost use Rattle.rbac_cli.specs.HolderLines.{AreHolderLines, IsHolderLine, joined};
-ghost use Rattle.rbac_cli.specs.Meant.{where_given};
+ghost use Rattle.rbac_cli.specs.Meant.{requested_meant, where_given};
 ghost use Rattle.rbac_cli.specs.Printing.{EndsPrinting};
 ghost use Rattle.rbac_cli.specs.declared.exports.Exports.TheVariants.{Single};
 
@@ -16,7 +16,7 @@ use crate::meaning::meant_by;
 use crate::outcome::Status;
 use crate::output::Output;
 use crate::stop::Stop;
-use rbac_index::{Holder, Holders, Index, IndexFault, Where, why_held};
+use rbac_index::{Holder, Holders, Index, IndexFault, Requested, Where, why_held};
 use rbac_manifest::Export;
 use rbac_model::Policy;
 use rbac_question::Question;
@@ -34,6 +34,8 @@ pub(crate) struct HolderOptions {
     pub(crate) every: bool,
     // Whether the bindings of all namespaces count.
     pub(crate) anywhere: bool,
+    // Whether a rule counts whatever its object names are.
+    pub(crate) any_name: bool,
 }
 
 /// Prints who is allowed what the question asks, a line for each holder, or for each with every
@@ -48,17 +50,19 @@ pub(crate) fn print_holders<W: Write + Drop>(
 ) -> Result<Status, Stop>
     requires { output.old.sink.now.has_failed ≡ false }
     ensures { EndsPrinting W.contents output.old output.new (Single export.now)
-        (WhoCan options.why options.every options.anywhere question.now) result }
+        (WhoCan options.why options.every options.anywhere options.any_name question.now)
+        result }
 {
     let meant = meant_by(alloc, export.catalogue(), question)?;
     let place = where_asked(meant.is_outside, options.anywhere, &meant.namespace);
+    let requested = requested_by(options.any_name, &meant.target);
     let policy = export.policy();
     let verb = &question.verb;
-    let holders = holders_of(alloc, policy, place, options.every, verb, &meant.target)?;
+    let holders = holders_of(alloc, policy, place, options.every, verb, requested)?;
     let asked = Asked {
         policy: export.policy(),
         verb,
-        target: &meant.target,
+        requested,
         why: options.why,
     };
     let mut lines = HolderLines {
@@ -82,22 +86,34 @@ fn where_asked(is_outside: bool, anywhere: bool, namespace: &Word) -> Where<'_>
     }
 }
 
+// What holders are asked for: the target, or with `any_name` the target whatever its object name.
+fn requested_by(any_name: bool, target: &Target) -> Requested<'_>
+    ensures { requested_of result ≡ requested_meant any_name target.now }
+{
+    if any_name {
+        Requested::AnyName(target)
+    } else {
+        Requested::ThisTarget(target)
+    }
+}
+
 fn holders_of<'p>(
     alloc: Global,
     policy: &'p Policy,
     place: Where<'_>,
     every: bool,
     verb: &Word,
-    target: &Target,
+    requested: Requested<'_>,
 ) -> Result<Holders<'p>, IndexFault>
     ensures holders { IfOk result
-        (AreListedHolders policy.now.held (where_of place.entry) every verb.now target.now) }
+        (AreListedHolders policy.now.held (where_of place.entry) every verb.now
+        (requested_of requested.entry)) }
     ensures policy { IsPolicy policy.now }
 {
     // Wanted for its promise alone: what a policy is. So each holder has a line.
     let _ = policy.bindings();
     let index = Index::build(alloc, policy)?;
-    index.holders(alloc, place, every, verb, target)
+    index.holders(alloc, place, every, verb, requested)
 }
 
 // What holders are asked about, and whether to tell why they hold it.
@@ -105,7 +121,7 @@ fn holders_of<'p>(
 struct Asked<'a> {
     policy: &'a Policy,
     verb: &'a Word,
-    target: &'a Target,
+    requested: Requested<'a>,
     why: bool,
 }
 
@@ -119,8 +135,8 @@ struct HolderLines<'a, 'h, 'p> {
 
 impl Lines for HolderLines<'_, '_, '_> {
     ghost are_left = { λ it text. (lines : List Text)
-        × AreHolderLines it.asked.policy.now it.asked.why it.asked.verb.now it.asked.target.now
-        (drop it.place it.holders.now) lines
+        × AreHolderLines it.asked.policy.now it.asked.why it.asked.verb.now
+        (requested_of it.asked.requested) (drop it.place it.holders.now) lines
         × (text ≡ joined lines) };
 
     ghost most_left = { λ it. length it.holders.now - it.place };
@@ -140,13 +156,13 @@ impl Lines for HolderLines<'_, '_, '_> {
 fn put_line(line: &mut Vec<u8>, asked: Asked<'_>, holder: Holder<'_>) -> Result<(), AllocError>
     ensures { (text : Text)
         → IsHolderLine asked.entry.policy.now asked.entry.why asked.entry.verb.now
-        asked.entry.target.now (holder_shown holder.entry) text
+        (requested_of asked.entry.requested) (holder_shown holder.entry) text
         → OnOk result (line.new.items ≡ line.old.items ++ text) }
 {
     if !asked.why {
         return put_holder(line, holder.principal, holder.binding);
     }
-    match why_held(asked.policy, holder, asked.verb, asked.target) {
+    match why_held(asked.policy, holder, asked.verb, asked.requested) {
         Some(found) => put_holder_why(
             line,
             holder.principal,

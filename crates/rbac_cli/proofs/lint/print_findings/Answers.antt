@@ -7,5 +7,5 @@ use Rattle.rbac_cli.proofs.lint.print_findings.Goals as goal
 pub returns : goal.returns
 returns g c =
     let found = c.in_ok-findings.findings in
-    c.print_lines.ensures (Single c.args.export.now) Lint (findings_text found) (sym (ap findings_text (c.iter.ensures.rest ∙ c.as_slice-findings.ensures)))
+    c.print_lines.ensures (Single c.args.export.now) (Lint c.args.only.now c.args.skip_system) (findings_text found) (sym (ap findings_text (c.iter.ensures.rest ∙ c.as_slice-findings.ensures)))
     (found, c.in_ok-findings.ensures.ok, refl, c.status_of.ensures ∙ ap findings_status c.as_slice-findings.ensures)
