@@ -1,11 +1,12 @@
--- the findings of all codes, one code after the other
+-- the findings that are asked for, one code after the other
 use Rattle.std.proofs.Common.{◌≡◌, ◌<◌, ◌⊎◌, inl, inr, List, [], subst, arith}
 use Rattle.rbac_model.specs.Policies.{Held}
 use Rattle.rbac_manifest.specs.declared.replacement.Replaced.{Replaced}
 use Rattle.rbac_lint.specs.Replaced.{IsReplaced}
 use Rattle.rbac_lint.specs.declared.finding.Finding.{Finding}
 use Rattle.rbac_lint.specs.Lines.{Line, Adds}
-use Rattle.rbac_lint.specs.Findings.{IsDangling, IsUnused, IsRedundant, IsEscalation, IsAccountWithout, IsStale, IsFinding, AreFindings}
+use Rattle.rbac_lint.specs.Findings.{IsDangling, IsUnused, IsRedundant, IsEscalation, IsAccountWithout, IsStale, IsFinding}
+use Rattle.rbac_lint.specs.Wanted.{WantedView, IsWanted, AreWanted, OfWanted}
 use Rattle.rbac_lint.proofs.Exact.{Adds-code, AreShown-all}
 use Rattle.rbac_lint.proofs.Named.{dangling_names, unused_names, redundant_names, escalation_names, account_names, stale_names, replaced_names}
 
@@ -68,13 +69,14 @@ past1 : (h : Held) (rs : List Replaced) (x : Line) → After2 h rs x → 1 < x.c
 past1 h rs x (inl p) = omega (arith, unused_code h x p)
 past1 h rs x (inr p) = omega (arith, past2 h rs x p)
 
-pub all_found : (h : Held) (rs : List Replaced) (a b c d e f g k : List Finding) → a ≡ [] → Adds (IsDangling h) a b → Adds (IsUnused h) b c → Adds (IsRedundant h) c d → Adds (IsEscalation h) d e → Adds (IsAccountWithout h) e f → Adds (IsStale h) f g → Adds (IsReplaced rs) g k → AreFindings h rs k
-all_found h rs a b c d e f g k none p1 p2 p3 p4 p5 p6 p7 =
-    let q6 = Adds-code (IsStale h) (IsReplaced rs) 6 f g k (stale_code h) (past6 rs) p6 p7 in
-    let q5 = Adds-code (IsAccountWithout h) (After6 h rs) 5 e f k (account_code h) (past5 h rs) p5 q6 in
-    let q4 = Adds-code (IsEscalation h) (After5 h rs) 4 d e k (escalation_code h) (past4 h rs) p4 q5 in
-    let q3 = Adds-code (IsRedundant h) (After4 h rs) 3 c d k (redundant_code h) (past3 h rs) p3 q4 in
-    let q2 = Adds-code (IsUnused h) (After3 h rs) 2 b c k (unused_code h) (past2 h rs) p2 q3 in
-    let q1 = Adds-code (IsDangling h) (After2 h rs) 1 a b k (dangling_code h) (past1 h rs) p1 q2 in
-    let P : List Finding → Type 0 = λ fs. Adds (IsFinding h rs) fs k in
-    AreShown-all (IsFinding h rs) k (subst P none q1)
+pub all_found : (w : WantedView) (h : Held) (rs : List Replaced) (a b c d e f g k : List Finding) → a ≡ [] → Adds (OfWanted w (IsDangling h)) a b → Adds (OfWanted w (IsUnused h)) b c → Adds (OfWanted w (IsRedundant h)) c d → Adds (OfWanted w (IsEscalation h)) d e → Adds (OfWanted w (IsAccountWithout h)) e f → Adds (OfWanted w (IsStale h)) f g → Adds (OfWanted w (IsReplaced rs)) g k → AreWanted w h rs k
+all_found w h rs a b c d e f g k none p1 p2 p3 p4 p5 p6 p7 =
+    let W = IsWanted w in
+    let q6 = Adds-code W (IsStale h) (IsReplaced rs) 6 f g k (stale_code h) (past6 rs) p6 p7 in
+    let q5 = Adds-code W (IsAccountWithout h) (After6 h rs) 5 e f k (account_code h) (past5 h rs) p5 q6 in
+    let q4 = Adds-code W (IsEscalation h) (After5 h rs) 4 d e k (escalation_code h) (past4 h rs) p4 q5 in
+    let q3 = Adds-code W (IsRedundant h) (After4 h rs) 3 c d k (redundant_code h) (past3 h rs) p3 q4 in
+    let q2 = Adds-code W (IsUnused h) (After3 h rs) 2 b c k (unused_code h) (past2 h rs) p2 q3 in
+    let q1 = Adds-code W (IsDangling h) (After2 h rs) 1 a b k (dangling_code h) (past1 h rs) p1 q2 in
+    let P : List Finding → Type 0 = λ fs. Adds (OfWanted w (IsFinding h rs)) fs k in
+    AreShown-all (OfWanted w (IsFinding h rs)) k (subst P none q1)

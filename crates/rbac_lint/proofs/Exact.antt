@@ -108,14 +108,21 @@ module _ {X : Type 0} (P : ℕ → X → Line → Type 0) (xs : List X) where
         λ h. (h.0, h.1, h.3, h.4),
       ))
 
--- one code before all later ones
-pub Adds-code : (P Q : Line → Type 0) (n : ℕ) (old mid new : List Finding) → ((x : Line) → P x → x.code ≡ n) → ((x : Line) → Q x → n < x.code) → Adds P old mid → Adds Q mid new → Adds (λ x. P x ⊎ Q x) old new
-Adds-code P Q n old mid new f g p q =
-    Adds-append P Q (λ x. P x ⊎ Q x) old mid new p q (λ a b h k. inl (omega (arith, f a h, g b k))) (λ x. (λ h. h, λ h. h))
+-- one code before all later ones, under a condition on the lines
+pub Adds-code : (W P Q : Line → Type 0) (n : ℕ) (old mid new : List Finding) → ((x : Line) → P x → x.code ≡ n) → ((x : Line) → Q x → n < x.code) → Adds (λ x. P x × W x) old mid → Adds (λ x. Q x × W x) mid new → Adds (λ x. (P x ⊎ Q x) × W x) old new
+Adds-code W P Q n old mid new f g p q =
+    Adds-append (λ x. P x × W x) (λ x. Q x × W x) (λ x. (P x ⊎ Q x) × W x) old mid new p q (λ a b h k. inl (omega (arith, f a h.0, g b k.0))) (λ x. (
+      λ h. elim h.0 [ inl l ↦ inl (l, h.1) | inr r ↦ inr (r, h.1) ],
+      λ h. elim h [ inl l ↦ (inl l.0, l.1) | inr r ↦ (inr r.0, r.1) ],
+    ))
 
 pub AreShown-all : (P : Line → Type 0) (new : List Finding) → Adds P [] new → AreShown P new
 unfolding Adds AreShown
 AreShown-all P new h = h
+
+pub AreShown-same : (P Q : Line → Type 0) (found : List Finding) → AreShown P found → ((x : Line) → Q x ↔ P x) → AreShown Q found
+unfolding AreShown
+AreShown-same P Q found p same = (p.0, same_exactly P Q p.0 p.1 same, p.2)
 
 -- lines under a condition: all of them, or none
 pub Adds-nowhere : (C : Type 0) (P : Line → Type 0) (old : List Finding) → (C → ⊥) → Adds (λ x. C × P x) old old

@@ -12,3 +12,4 @@ pub mod OneLines
 pub mod Listed
 pub mod Linked
 pub mod Looked
+pub mod Kept

@@ -6,7 +6,8 @@ use Rattle.rbac_terms.specs.declared.matching.Rule.{Rule}
 use Rattle.rbac_terms.specs.declared.granting.Binding.{Binding}
 use Rattle.rbac_model.specs.Policies.{Held, Source, binding_name, cluster_role_name}
 use Rattle.rbac_manifest.specs.Replaced.{replaced_name}
-use Rattle.rbac_lint.specs.Replaced.{scope_of, IsReplacedOf}
+use Rattle.rbac_manifest.specs.declared.replacement.Replaced.{Replaced}
+use Rattle.rbac_lint.specs.Replaced.{scope_of, replaced_object, IsReplacedOf}
 use Rattle.rbac_lint.specs.declared.finding.Finding.{Finding}
 use Rattle.rbac_lint.specs.Lines.{Line, object_texts, Adds}
 use Rattle.rbac_lint.specs.Roles.{source_object, binding_object}
@@ -104,9 +105,12 @@ scope_texts : (namespace : Text) → unwrap_or (scope_of namespace) [] ≡ names
 scope_texts [] = refl
 scope_texts (c ∷ namespace) = refl
 
+pub replaced_object-name : (r : Replaced) → object_texts (replaced_object r) ≡ replaced_name r
+replaced_object-name r = ap (λ (n : Text). r.kind ∷ n ∷ r.name ∷ []) (scope_texts r.namespace)
+
 pub replaced_names : Names replaced_name IsReplacedOf 7
 unfolding IsReplacedOf
 replaced_names = record {
   code_is = λ r x p. ap (λ t. t.code) p;
-  object_is = λ r x p. ap (λ t. object_texts t.object) p ∙ ap (λ (n : Text). r.kind ∷ n ∷ r.name ∷ []) (scope_texts r.namespace);
+  object_is = λ r x p. ap (λ t. object_texts t.object) p ∙ replaced_object-name r;
 }

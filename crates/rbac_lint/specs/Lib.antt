@@ -10,3 +10,4 @@ pub mod Replaced
 pub mod Roles
 pub mod RuleSets
 pub mod RulesByWord
+pub mod Wanted

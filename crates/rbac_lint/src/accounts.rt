@@ -4,23 +4,30 @@ ghost use Rattle.std.specs.Prelude.{◌≡◌, ◌≢◌, None, OnOk, MatchOptio
 ghost use Rattle.rbac_terms.specs.Text.{Text};
 ghost use Rattle.rbac_lint.specs.Lines.{Adds};
 ghost use Rattle.rbac_lint.specs.Findings.{IsAccountAt, IsAccountOf, IsAccountWithout};
+ghost use Rattle.rbac_lint.specs.Wanted.{OfKept, OfWanted};
 
 use crate::finding::{Finding, Findings, binding_word};
+use crate::wanted::Wanted;
 use rbac_model::Objects;
 use rbac_terms::{Binding, Subject, Word};
 use std::alloc::{AllocError, Global};
 
-// Adds the findings for all bindings.
+// Adds the findings that are asked for, for all bindings.
 pub(crate) fn find_accounts(
     alloc: Global,
     found: &mut Findings,
     objects: &Objects,
+    wanted: &Wanted<'_>,
 ) -> Result<(), AllocError>
-    ensures { OnOk result (Adds (IsAccountWithout objects.now) found.old found.new) }
+    ensures { OnOk result
+        (Adds (OfWanted wanted.now (IsAccountWithout objects.now)) found.old found.new) }
 {
+    if !wanted.has_code(5) {
+        return Ok(());
+    }
     let bindings = objects.bindings();
     for binding in bindings {
-        find_accounts_of(alloc, found, binding)?;
+        find_accounts_of(alloc, found, wanted, binding)?;
     }
     Ok(())
 }
@@ -29,10 +36,15 @@ pub(crate) fn find_accounts(
 fn find_accounts_of(
     alloc: Global,
     found: &mut Findings,
+    wanted: &Wanted<'_>,
     binding: &Binding,
 ) -> Result<(), AllocError>
-    ensures { OnOk result (Adds (IsAccountOf binding.now) found.old found.new) }
+    ensures { OnOk result
+        (Adds (OfKept wanted.now (IsAccountOf binding.now)) found.old found.new) }
 {
+    if !wanted.keeps_binding(binding) {
+        return Ok(());
+    }
     if binding.namespace.is_some() {
         return Ok(());
     }

@@ -3,23 +3,30 @@
 ghost use Rattle.std.specs.Prelude.{OnOk, IsTrue, ◌↔◌};
 ghost use Rattle.rbac_lint.specs.Lines.{Adds};
 ghost use Rattle.rbac_lint.specs.Findings.{Dangles, IsDanglingOf, IsDangling};
+ghost use Rattle.rbac_lint.specs.Wanted.{OfKept, OfWanted};
 
 use crate::finding::{Finding, Findings, binding_word, named_word};
+use crate::wanted::Wanted;
 use rbac_model::{Objects, ref_place};
 use rbac_terms::Binding;
 use std::alloc::{AllocError, Global};
 
-// Adds the findings for all bindings.
+// Adds the findings that are asked for, for all bindings.
 pub(crate) fn find_dangling(
     alloc: Global,
     found: &mut Findings,
     objects: &Objects,
+    wanted: &Wanted<'_>,
 ) -> Result<(), AllocError>
-    ensures { OnOk result (Adds (IsDangling objects.now) found.old found.new) }
+    ensures { OnOk result
+        (Adds (OfWanted wanted.now (IsDangling objects.now)) found.old found.new) }
 {
+    if !wanted.has_code(1) {
+        return Ok(());
+    }
     let bindings = objects.bindings();
     for binding in bindings {
-        find_dangling_of(alloc, found, objects, binding)?;
+        find_dangling_of(alloc, found, objects, wanted, binding)?;
     }
     Ok(())
 }
@@ -29,10 +36,15 @@ fn find_dangling_of(
     alloc: Global,
     found: &mut Findings,
     objects: &Objects,
+    wanted: &Wanted<'_>,
     binding: &Binding,
 ) -> Result<(), AllocError>
-    ensures { OnOk result (Adds (IsDanglingOf objects.now binding.now) found.old found.new) }
+    ensures { OnOk result
+        (Adds (OfKept wanted.now (IsDanglingOf objects.now binding.now)) found.old found.new) }
 {
+    if !wanted.keeps_binding(binding) {
+        return Ok(());
+    }
     if !dangles(objects, binding) {
         return Ok(());
     }

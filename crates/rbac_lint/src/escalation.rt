@@ -6,9 +6,11 @@ ghost use Rattle.rbac_lint.specs.Lines.{Adds, OfEach};
 ghost use Rattle.rbac_lint.specs.Findings.{Escalates, IsEscalationBy, IsEscalationAt};
 ghost use Rattle.rbac_lint.specs.Findings.{IsEscalationOf, IsEscalation, MatchesResource};
 ghost use Rattle.rbac_lint.specs.Powers.{the_powers};
+ghost use Rattle.rbac_lint.specs.Wanted.{OfKept, OfWanted};
 
 use crate::finding::{Finding, Findings, role_word};
 use crate::roles::{plain_rules, role_at, role_count};
+use crate::wanted::Wanted;
 use rbac_model::{Objects, SourceRole};
 use rbac_terms::{Rule, Word, group_matches, resource_matches, verb_matches};
 use std::alloc::{AllocError, Global};
@@ -45,17 +47,22 @@ fn named_powers(alloc: Global) -> Result<Powers, AllocError>
     })
 }
 
-// Adds the findings for all plain roles.
+// Adds the findings that are asked for, for all plain roles.
 pub(crate) fn find_escalations(
     alloc: Global,
     found: &mut Findings,
     objects: &Objects,
+    wanted: &Wanted<'_>,
 ) -> Result<(), AllocError>
-    ensures { OnOk result (Adds (IsEscalation objects.now) found.old found.new) }
+    ensures { OnOk result
+        (Adds (OfWanted wanted.now (IsEscalation objects.now)) found.old found.new) }
 {
+    if !wanted.has_code(4) {
+        return Ok(());
+    }
     let powers = named_powers(alloc)?;
     for place in 0..role_count(objects) {
-        find_in_role(alloc, found, &powers, role_at(objects, place))?;
+        find_in_role(alloc, found, wanted, &powers, role_at(objects, place))?;
     }
     Ok(())
 }
@@ -63,12 +70,17 @@ pub(crate) fn find_escalations(
 fn find_in_role(
     alloc: Global,
     found: &mut Findings,
+    wanted: &Wanted<'_>,
     powers: &Powers,
     role: SourceRole<'_>,
 ) -> Result<(), AllocError>
     requires { powers.now ≡ the_powers }
-    ensures { OnOk result (Adds (IsEscalationOf (source_of role.entry)) found.old found.new) }
+    ensures { OnOk result
+        (Adds (OfKept wanted.now (IsEscalationOf (source_of role.entry))) found.old found.new) }
 {
+    if !wanted.keeps_role(role) {
+        return Ok(());
+    }
     match plain_rules(role) {
         Some(rules) => find_in_rules(alloc, found, powers, role, rules),
         None => Ok(()),

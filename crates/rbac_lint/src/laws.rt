@@ -1,9 +1,10 @@
 //! Laws of findings: what follows from the definitions alone. The functions do nothing; their
 //! contracts are the laws.
 
-ghost use Rattle.std.specs.Prelude.{◌≡◌, List};
+ghost use Rattle.std.specs.Prelude.{◌≡◌, ◌↔◌, List, None, false};
 ghost use Rattle.rbac_lint.specs.declared.finding.Finding.{Finding as FindingView};
 ghost use Rattle.rbac_lint.specs.Findings.{AreFindings};
+ghost use Rattle.rbac_lint.specs.Wanted.{WantedView, AreWanted};
 ghost use Rattle.rbac_manifest.specs.declared.replacement.Replaced.{Replaced};
 ghost use Rattle.rbac_model.specs.Policies.{Held};
 
@@ -11,4 +12,16 @@ ghost use Rattle.rbac_model.specs.Policies.{Held};
 pub fn findings_are_one_list()
     ensures { (held : Held) (replaced : List Replaced) (found others : List FindingView)
         → AreFindings held replaced found → AreFindings held replaced others → found ≡ others }
+{}
+
+/// The findings in given objects that are asked for are one list, and all of the findings if there
+/// is no list of codes and Kubernetes' own objects aren't left out (own).
+pub fn wanted_findings_are_one_list()
+    ensures one { (wanted : WantedView) (held : Held) (replaced : List Replaced)
+        (found others : List FindingView)
+        → AreWanted wanted held replaced found → AreWanted wanted held replaced others
+        → found ≡ others }
+    ensures all { (held : Held) (replaced : List Replaced) (found : List FindingView)
+        → AreWanted (record { only = None; skip_system = false }) held replaced found
+        ↔ AreFindings held replaced found }
 {}

@@ -18,9 +18,11 @@ mod rule_set;
 mod rules_by_word;
 mod stale_aggregate;
 mod unused_role;
+mod wanted;
 
 pub use coverage::covers;
 pub use fault::LintFault;
 pub use finding::{Finding, Findings};
-pub use laws::findings_are_one_list;
+pub use laws::{findings_are_one_list, wanted_findings_are_one_list};
 pub use linting::{lint, lint_export};
+pub use wanted::Wanted;

@@ -2,6 +2,7 @@
 
 ghost use Rattle.std.specs.Prelude.{◌≡◌, [], IfOk, IfErr, OnOk};
 ghost use Rattle.rbac_lint.specs.Findings.{AreFindings};
+ghost use Rattle.rbac_lint.specs.Wanted.{AreWanted};
 
 use crate::accounts::find_accounts;
 use crate::dangling_role::find_dangling;
@@ -12,6 +13,7 @@ use crate::redundant_rule::find_redundant;
 use crate::replaced_object::find_replaced;
 use crate::stale_aggregate::find_stale;
 use crate::unused_role::find_unused;
+use crate::wanted::Wanted;
 use rbac_manifest::{Export, Loaded};
 use std::alloc::{AllocError, Global};
 
@@ -29,33 +31,47 @@ pub fn lint(alloc: Global, loaded: &Loaded) -> Result<Findings, LintFault>
     ensures ok { IfOk result (AreFindings loaded.now.policy.held loaded.now.replaced) }
     ensures only_memory { IfErr result (λ e. e ≡ LintFault.NoMemory) }
 {
-    lint_export(alloc, loaded.export())
+    let all = Wanted {
+        only: None,
+        skip_system: false,
+    };
+    lint_export(alloc, loaded.export(), all)
 }
 
-/// What [`lint`] finds in an export, whose lists of a universe aren't asked about. N1 if it runs
-/// out of memory.
-pub fn lint_export(alloc: Global, export: &Export) -> Result<Findings, LintFault>
-    ensures ok { IfOk result (AreFindings export.now.policy.held export.now.replaced) }
+/// The findings that are asked for, of those that [`lint`] finds in an export, whose lists of a
+/// universe aren't asked about. A code that isn't asked for isn't looked for. N1 if it runs out of
+/// memory.
+pub fn lint_export(
+    alloc: Global,
+    export: &Export,
+    wanted: Wanted<'_>,
+) -> Result<Findings, LintFault>
+    ensures ok { IfOk result (AreWanted wanted.entry export.now.policy.held export.now.replaced) }
     ensures only_memory { IfErr result (λ e. e ≡ LintFault.NoMemory) }
 {
     let mut found = Findings::new(alloc);
-    find_all(alloc, &mut found, export)?;
+    find_all(alloc, &mut found, export, &wanted)?;
     Ok(found)
 }
 
-// Adds everything that deserves a second look, in order.
-fn find_all(alloc: Global, found: &mut Findings, export: &Export) -> Result<(), AllocError>
+// Adds everything that deserves a second look and is asked for, in order.
+fn find_all(
+    alloc: Global,
+    found: &mut Findings,
+    export: &Export,
+    wanted: &Wanted<'_>,
+) -> Result<(), AllocError>
     ensures { OnOk result (found.old ≡ []
-        → AreFindings export.now.policy.held export.now.replaced found.new) }
+        → AreWanted wanted.now export.now.policy.held export.now.replaced found.new) }
 {
     let policy = export.policy();
     let objects = policy.objects();
-    find_dangling(alloc, found, objects)?;
-    find_unused(alloc, found, policy)?;
-    find_redundant(alloc, found, objects)?;
-    find_escalations(alloc, found, objects)?;
-    find_accounts(alloc, found, objects)?;
-    find_stale(alloc, found, policy)?;
-    find_replaced(alloc, found, export.replaced())?;
+    find_dangling(alloc, found, objects, wanted)?;
+    find_unused(alloc, found, policy, wanted)?;
+    find_redundant(alloc, found, objects, wanted)?;
+    find_escalations(alloc, found, objects, wanted)?;
+    find_accounts(alloc, found, objects, wanted)?;
+    find_stale(alloc, found, policy, wanted)?;
+    find_replaced(alloc, found, export.replaced(), wanted)?;
     Ok(())
 }

@@ -11,12 +11,14 @@ ghost use Rattle.rbac_lint.specs.Prefixes.{ArePrefixes};
 ghost use Rattle.rbac_lint.specs.Candidates.{AreCandidates, IsLeastCoverIfAny, IsSoonest};
 ghost use Rattle.rbac_lint.specs.Findings.{CoversAll, MakesRedundantAt, MakesRedundant};
 ghost use Rattle.rbac_lint.specs.Findings.{IsRedundantAt, IsRedundantOf, IsRedundant};
+ghost use Rattle.rbac_lint.specs.Wanted.{OfKept, OfWanted};
 
 use crate::candidates::{Candidates, fewest_for};
 use crate::coverage::covers;
 use crate::finding::{Finding, Findings, number_word, role_word};
 use crate::roles::{plain_rules, role_at, role_count};
 use crate::rules_by_word::{RulesByWord, listed_by_word};
+use crate::wanted::Wanted;
 use rbac_model::{Objects, SourceRole};
 use rbac_terms::Rule;
 use std::alloc::{AllocError, Global};
@@ -24,23 +26,37 @@ use std::alloc::{AllocError, Global};
 // A role's rules are listed by their words if there are at least this many.
 const MANY: usize = 16;
 
-// Adds the findings for all plain roles.
+// Adds the findings that are asked for, for all plain roles.
 pub(crate) fn find_redundant(
     alloc: Global,
     found: &mut Findings,
     objects: &Objects,
+    wanted: &Wanted<'_>,
 ) -> Result<(), AllocError>
-    ensures { OnOk result (Adds (IsRedundant objects.now) found.old found.new) }
+    ensures { OnOk result
+        (Adds (OfWanted wanted.now (IsRedundant objects.now)) found.old found.new) }
 {
+    if !wanted.has_code(3) {
+        return Ok(());
+    }
     for place in 0..role_count(objects) {
-        find_in_role(alloc, found, role_at(objects, place))?;
+        find_in_role(alloc, found, wanted, role_at(objects, place))?;
     }
     Ok(())
 }
 
-fn find_in_role(alloc: Global, found: &mut Findings, role: SourceRole<'_>) -> Result<(), AllocError>
-    ensures { OnOk result (Adds (IsRedundantOf (source_of role.entry)) found.old found.new) }
+fn find_in_role(
+    alloc: Global,
+    found: &mut Findings,
+    wanted: &Wanted<'_>,
+    role: SourceRole<'_>,
+) -> Result<(), AllocError>
+    ensures { OnOk result
+        (Adds (OfKept wanted.now (IsRedundantOf (source_of role.entry))) found.old found.new) }
 {
+    if !wanted.keeps_role(role) {
+        return Ok(());
+    }
     match plain_rules(role) {
         Some(rules) => find_in_rules(alloc, found, role, rules),
         None => Ok(()),

@@ -5,23 +5,29 @@ ghost use Rattle.rbac_model.specs.Lists.{IsAscendingBy};
 ghost use Rattle.rbac_manifest.specs.Replaced.{replaced_name};
 ghost use Rattle.rbac_lint.specs.Lines.{Adds, object_text};
 ghost use Rattle.rbac_lint.specs.Replaced.{replaced_object, IsReplacedOf, IsReplaced};
+ghost use Rattle.rbac_lint.specs.Wanted.{OfKept, OfWanted};
 
 use crate::finding::{Finding, Findings, cluster_word, number_word, scoped_word};
+use crate::wanted::Wanted;
 use rbac_manifest::Replaced;
 use rbac_terms::Word;
 use std::alloc::{AllocError, Global};
 
-// Adds a finding for each replaced object.
+// Adds a finding for each replaced object, if it is asked for.
 pub(crate) fn find_replaced(
     alloc: Global,
     found: &mut Findings,
     replaced: &[Replaced],
+    wanted: &Wanted<'_>,
 ) -> Result<(), AllocError>
     requires { IsAscendingBy replaced_name replaced.now }
-    ensures { OnOk result (Adds (IsReplaced replaced.now) found.old found.new) }
+    ensures { OnOk result (Adds (OfWanted wanted.now (IsReplaced replaced.now)) found.old found.new) }
 {
+    if !wanted.has_code(7) {
+        return Ok(());
+    }
     for object in replaced {
-        find_replaced_of(alloc, found, object)?;
+        find_replaced_of(alloc, found, wanted, object)?;
     }
     Ok(())
 }
@@ -29,10 +35,15 @@ pub(crate) fn find_replaced(
 fn find_replaced_of(
     alloc: Global,
     found: &mut Findings,
+    wanted: &Wanted<'_>,
     replaced: &Replaced,
 ) -> Result<(), AllocError>
-    ensures { OnOk result (Adds (IsReplacedOf replaced.now) found.old found.new) }
+    ensures { OnOk result
+        (Adds (OfKept wanted.now (IsReplacedOf replaced.now)) found.old found.new) }
 {
+    if !wanted.keeps_replaced(replaced) {
+        return Ok(());
+    }
     let object = replaced_word(alloc, replaced)?;
     let other = number_word(alloc, replaced.earlier)?;
     found.push(Finding {

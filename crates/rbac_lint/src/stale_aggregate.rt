@@ -7,24 +7,31 @@ ghost use Rattle.rbac_terms.specs.declared.granting.ClusterRole.{ClusterRole as 
 ghost use Rattle.rbac_lint.specs.Lines.{Adds};
 ghost use Rattle.rbac_lint.specs.Gathering.{AreGatheredBy, rules_at};
 ghost use Rattle.rbac_lint.specs.Findings.{IsGathered, IsStaleRole, IsStaleOf, IsStale};
+ghost use Rattle.rbac_lint.specs.Wanted.{OfKept, OfWanted};
 
 use crate::finding::{Finding, Findings, role_word};
 use crate::rule_set::has_same_rules;
+use crate::wanted::Wanted;
 use rbac_model::{Policy, SourceRole};
 use rbac_terms::{ClusterRole, Rule, Word};
 use std::alloc::{AllocError, Global};
 
-// Adds the findings for all cluster roles.
+// Adds the findings that are asked for, for all cluster roles.
 pub(crate) fn find_stale(
     alloc: Global,
     found: &mut Findings,
     policy: &Policy,
+    wanted: &Wanted<'_>,
 ) -> Result<(), AllocError>
-    ensures { OnOk result (Adds (IsStale policy.now.held) found.old found.new) }
+    ensures { OnOk result
+        (Adds (OfWanted wanted.now (IsStale policy.now.held)) found.old found.new) }
 {
+    if !wanted.has_code(6) {
+        return Ok(());
+    }
     let roles = policy.objects().cluster_roles();
     for (place, role) in roles.iter().enumerate() {
-        find_stale_role(alloc, found, policy, place, role)?;
+        find_stale_role(alloc, found, policy, wanted, place, role)?;
     }
     Ok(())
 }
@@ -34,12 +41,17 @@ fn find_stale_role<'p>(
     alloc: Global,
     found: &mut Findings,
     policy: &'p Policy,
+    wanted: &Wanted<'_>,
     place: usize,
     role: &'p ClusterRole,
 ) -> Result<(), AllocError>
     requires { slice_get policy.now.held.cluster_roles place ≡ Some role.now }
-    ensures { OnOk result (Adds (IsStaleOf policy.now.held role.now) found.old found.new) }
+    ensures { OnOk result
+        (Adds (OfKept wanted.now (IsStaleOf policy.now.held role.now)) found.old found.new) }
 {
+    if !wanted.keeps_role(SourceRole::ClusterRole(role)) {
+        return Ok(());
+    }
     if !is_stale(alloc, policy, place, role)? {
         return Ok(());
     }

@@ -9,21 +9,28 @@ ghost use Rattle.rbac_lint.specs.Roles.{roles_in};
 ghost use Rattle.rbac_lint.specs.Findings.{IsUsed, IsUnusedOf, IsUnused};
 ghost use Rattle.rbac_lint.specs.NamedRoles.{AreNamed, AreGatherers, AreFlagsWith, IsReachedByNamedAt};
 ghost use Rattle.rbac_lint.specs.NamedRoles.{IsAddedAt};
+ghost use Rattle.rbac_lint.specs.Wanted.{OfKept, OfWanted};
 
 use crate::finding::{Finding, Findings, role_word};
 use crate::roles::{role_at, role_count};
+use crate::wanted::Wanted;
 use rbac_model::{Objects, Policy, RolePlace, ref_place};
 use rbac_terms::{Binding, ClusterRole, Word};
 use std::alloc::{AllocError, Global};
 
-// Adds the findings for all roles.
+// Adds the findings that are asked for, for all roles.
 pub(crate) fn find_unused(
     alloc: Global,
     found: &mut Findings,
     policy: &Policy,
+    wanted: &Wanted<'_>,
 ) -> Result<(), AllocError>
-    ensures { OnOk result (Adds (IsUnused policy.now.held) found.old found.new) }
+    ensures { OnOk result
+        (Adds (OfWanted wanted.now (IsUnused policy.now.held)) found.old found.new) }
 {
+    if !wanted.has_code(2) {
+        return Ok(());
+    }
     let objects = policy.objects();
     let named = named_roles(alloc, objects)?;
     let gatherers = named_gatherers(alloc, objects, named.as_slice())?;
@@ -32,6 +39,7 @@ pub(crate) fn find_unused(
             alloc,
             found,
             policy,
+            wanted,
             named.as_slice(),
             gatherers.as_slice(),
             place,
@@ -45,6 +53,7 @@ fn find_unused_at(
     alloc: Global,
     found: &mut Findings,
     policy: &Policy,
+    wanted: &Wanted<'_>,
     named: &[bool],
     gatherers: &[usize],
     place: usize,
@@ -53,12 +62,17 @@ fn find_unused_at(
     requires gatherers { AreGatherers policy.now.held gatherers.now }
     requires place { place < length (roles_in policy.now.held) }
     ensures { OnOk result
-        (IsAddedAt (IsUnusedOf policy.now.held) policy.now.held place found.old found.new) }
+        (IsAddedAt (λ s. OfKept wanted.now (IsUnusedOf policy.now.held s)) policy.now.held place
+        found.old found.new) }
 {
+    let role = role_at(policy.objects(), place);
+    if !wanted.keeps_role(role) {
+        return Ok(());
+    }
     if is_used(policy, named, gatherers, place) {
         return Ok(());
     }
-    let object = role_word(alloc, role_at(policy.objects(), place))?;
+    let object = role_word(alloc, role)?;
     found.push(Finding {
         code: 2,
         object,

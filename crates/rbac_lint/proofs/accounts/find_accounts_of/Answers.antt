@@ -1,14 +1,17 @@
 use Rattle.std.proofs.Common.{◌≡◌, arith, refl, subst, List}
 use Rattle.std.specs.Prelude.{None, Option, Some, Bool, true, false, is_some}
+use Rattle.std.proofs.lemmas.Bool.{both_ways}
 use Rattle.std.proofs.lemmas.Option.{slice_get_read}
 use Rattle.rbac_terms.specs.Text.{Text}
 use Rattle.rbac_terms.specs.declared.granting.Subject.{Subject}
+use Rattle.rbac_model.specs.Policies.{binding_name}
 use Rattle.rbac_lint.specs.Lines.{Adds, OfEach}
 use Rattle.rbac_lint.specs.Roles.{binding_object}
 use Rattle.rbac_lint.specs.Findings.{IsAccountAt, IsAccountOf}
 use Rattle.rbac_lint.proofs.Exact.{Adds-start, Adds-each, Adds-where, Adds-nowhere}
-use Rattle.rbac_lint.proofs.Order.{Adds-next_place}
-use Rattle.rbac_lint.proofs.Named.{account_places}
+use Rattle.rbac_lint.proofs.Order.{Adds-next_place, binding_object-name}
+use Rattle.rbac_lint.proofs.Named.{account_places, account_names}
+use Rattle.rbac_lint.proofs.Kept.{Adds-dropped, Adds-kept}
 use Rattle.rbac_lint.proofs.accounts.find_accounts_of.Goals as goal
 
 scoped_none : (o : Option Text) (r : Bool) → r ≡ is_some o → r ≡ false → o ≡ None
@@ -19,11 +22,19 @@ scoped_some : (o : Option Text) (r : Bool) → r ≡ is_some o → r ≡ true �
 scoped_some None r e f g = cc
 scoped_some (Some x) r e f g = cc
 
+pub returns-then-not-keeps_binding : goal.returns-then-not-keeps_binding
+returns-then-not-keeps_binding c =
+    let b = c.args.binding.now in
+    Adds-dropped binding_name IsAccountOf 5 account_names c.args.wanted.now b (binding_object b) c.args.found.now (binding_object-name b)
+    (λ kept. both_ways _ c.if-not-keeps_binding.true (c.keeps_binding.ensures.1 kept))
+
 pub returns-then-is_some : goal.returns-then-is_some
 unfolding IsAccountOf
 returns-then-is_some c =
     let b = c.args.binding.now in
-    Adds-nowhere (b.namespace ≡ None) (OfEach (IsAccountAt b) b.subjects) c.args.found.now (scoped_some b.namespace c.is_some.result c.is_some.ensures c.if-is_some.true)
+    let old = c.args.found.now in
+    Adds-kept binding_name IsAccountOf 5 account_names c.args.wanted.now b (binding_object b) old old (binding_object-name b) (c.keeps_binding.ensures.0 c.if-not-keeps_binding.false)
+    (Adds-nowhere (b.namespace ≡ None) (OfEach (IsAccountAt b) b.subjects) old (scoped_some b.namespace c.is_some.result c.is_some.ensures c.if-is_some.true))
 
 pub loop-place-init : goal.loop-place-init
 loop-place-init c = Adds-start (IsAccountAt c.args.binding.now) c.as_slice-subjects.result.now c.args.found.now
@@ -44,5 +55,6 @@ returns c =
     let old = c.args.found.now in
     let new = c.loop-place.found in
     let P : List Subject → Type 0 = λ ss. Adds (OfEach (IsAccountAt b) ss) old new in
-    Adds-where (b.namespace ≡ None) (OfEach (IsAccountAt b) b.subjects) old new (scoped_none b.namespace c.is_some.result c.is_some.ensures c.if-is_some.false)
-    (subst P c.as_slice-subjects.ensures (Adds-each (IsAccountAt b) c.as_slice-subjects.result.now c.loop-place.place old new (omega arith) c.loop-place.invariant))
+    Adds-kept binding_name IsAccountOf 5 account_names c.args.wanted.now b (binding_object b) old new (binding_object-name b) (c.keeps_binding.ensures.0 c.if-not-keeps_binding.false)
+    (Adds-where (b.namespace ≡ None) (OfEach (IsAccountAt b) b.subjects) old new (scoped_none b.namespace c.is_some.result c.is_some.ensures c.if-is_some.false)
+    (subst P c.as_slice-subjects.ensures (Adds-each (IsAccountAt b) c.as_slice-subjects.result.now c.loop-place.place old new (omega arith) c.loop-place.invariant)))
