@@ -22,17 +22,17 @@ _rbacaudit() {
             place=$((place + 1))
         else
             given+="$word "
-            [[ $word == --@(as|groups|group|namespace|subresource|after|limit|before) || $word == -*([!n-])n ]] && waits=yes
+            [[ $word == --@(as|groups|group|namespace|subresource|after|limit|only|before) || $word == -*([!n-])n ]] && waits=yes
         fi
     done
 
     # Two spellings of one option are joined by a comma.
     case $command in
         can-i) options='--as --groups --group -n,--namespace -A,--all-namespaces --in-namespace --subresource -q,--quiet --why -h,--help' ;;
-        who-can) options='-n,--namespace -A,--all-namespaces --in-namespace --subresource --anywhere --every --why -h,--help' ;;
+        who-can) options='-n,--namespace -A,--all-namespaces --in-namespace --subresource --anywhere --any-name --every --why -h,--help' ;;
         rules) options='--groups --group -n,--namespace -A,--all-namespaces -h,--help' ;;
         matrix) options='--every --after --limit -h,--help' ;;
-        lint) options='-h,--help' ;;
+        lint) options='--only --skip-system -h,--help' ;;
         diff) options='--before --after -h,--help' ;;
         '') options='-h,--help -V,--version' ;;
         *) return ;;

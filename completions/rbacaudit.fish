@@ -4,10 +4,10 @@
 function __rbacaudit_line
     set -l words (commandline -opc)
     # (an option that still waits for its value isn't given yet)
-    string match -qr -- '^(--(as|groups|group|namespace|subresource|after|limit|before)|-[^-n]*n)$' "$words[-1]"
+    string match -qr -- '^(--(as|groups|group|namespace|subresource|after|limit|only|before)|-[^-n]*n)$' "$words[-1]"
     and set -e words[-1]
-    argparse -i h/help V/version as= groups= group=+ n/namespace= A/all-namespaces in-namespace subresource= q/quiet why anywhere every \
-        after=+ limit= before=+ -- $words 2>/dev/null
+    argparse -i h/help V/version as= groups= group=+ n/namespace= A/all-namespaces in-namespace subresource= q/quiet why anywhere any-name every \
+        after=+ limit= only= skip-system before=+ -- $words 2>/dev/null
     or return
     echo "$argv[2]"
     count $argv[3..]
@@ -58,10 +58,13 @@ complete -c rbacaudit -n '__rbacaudit_lacks quiet can-i' -s q -l quiet -d 'Print
 complete -c rbacaudit -n '__rbacaudit_lacks why can-i' -l why -d 'After yes, print why'
 complete -c rbacaudit -n '__rbacaudit_lacks why who-can' -l why -d 'After the binding, print why'
 complete -c rbacaudit -n '__rbacaudit_lacks anywhere who-can' -l anywhere -d 'Count the bindings of all namespaces'
+complete -c rbacaudit -n '__rbacaudit_lacks any-name who-can' -l any-name -d 'Count rules limited to object names too'
 complete -c rbacaudit -n '__rbacaudit_lacks every who-can' -l every -d 'List each of them with every binding that grants it'
 complete -c rbacaudit -n '__rbacaudit_lacks every matrix' -l every -d 'List every binding that grants, not only the first'
 complete -c rbacaudit -n '__rbacaudit_lacks after matrix' -l after -x -d 'List only the rows after this TOKEN of a next line (default: from the first)'
 complete -c rbacaudit -n '__rbacaudit_lacks limit matrix' -l limit -x -d 'List at most N rows, 1 to 1000000 (default: all)'
+complete -c rbacaudit -n '__rbacaudit_lacks only lint' -l only -x -d 'List only findings of these codes (default: all)'
+complete -c rbacaudit -n '__rbacaudit_lacks skip-system lint' -l skip-system -d 'Leave out what Kubernetes brings'
 complete -c rbacaudit -n '__rbacaudit_lacks before diff' -l before -x -k -a '(__fish_complete_suffix .json)' \
     -d 'JSON of kubectl get -o json or --raw as it was before the change'
 complete -c rbacaudit -n '__rbacaudit_lacks after diff' -l after -x -k -a '(__fish_complete_suffix .json)' \

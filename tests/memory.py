@@ -70,6 +70,7 @@ WORKED = [
         {'name': 'pods', 'singularName': 'pod', 'namespaced': True, 'kind': 'Pod', 'verbs': ['get', 'delete'], 'shortNames': ['po']}]},
 ]
 HOLDERS = ['g:dev', 'u:alice']
+DELETERS = 'u:system:serviceaccount:dev:ci\tRoleBinding/dev/b\nu:bob-who-has-a-rather-long-name\tRoleBinding/dev/b\n'
 ROWS = ['%s\t%s\tget\t-\tpods\t-\tClusterRoleBinding/a\n' % row for row in itertools.product(HOLDERS, ['-', 'dev'])]
 # With the name that a rule lists, and what the RoleBinding grants.
 DERIVED = ['%s\t%s\tget\t-\tpods\t%s\tClusterRoleBinding/a\n' % row for row in itertools.product(HOLDERS, ['-', 'dev'], ['-', 'a'])]
@@ -89,6 +90,8 @@ L5\taccount-without-namespace\tClusterRoleBinding/left-behind-when-its-role-was-
 L6\tstale-aggregate\tClusterRole/admin\t-\t-
 L7\treplaced-object\tClusterRole/admin\t-\t1
 """
+# (of these, `--only L7,L6` lists the last two; `--skip-system` leaves them out, as their object is called admin)
+OTHER_FINDINGS, ADMIN_FINDINGS = FINDINGS[:FINDINGS.index('L6')], FINDINGS[FINDINGS.index('L6'):]
 ALICE = ['can-i', '--as', 'alice', '-n', 'dev']
 CI_KEY = 'u:system:serviceaccount:dev:ci'
 # What the two bindings of the worked export bring: to the group dev, and to the subject at a place.
@@ -154,8 +157,7 @@ def can_i():
 
 
 def few_holders():
-    return Case('who-can', ['who-can', '-n', 'dev', 'delete', 'pods/a'], export(*WORKED), 0,
-                'u:system:serviceaccount:dev:ci\tRoleBinding/dev/b\nu:bob-who-has-a-rather-long-name\tRoleBinding/dev/b\n')
+    return Case('who-can', ['who-can', '-n', 'dev', 'delete', 'pods/a'], export(*WORKED), 0, DELETERS)
 
 
 def few_reasons():
@@ -351,6 +353,7 @@ def answers():
     yield few_holders()
     yield few_reasons()
     yield each_binding()
+    yield Case('who-can --any-name', ['who-can', '-n', 'dev', '--any-name', 'delete', 'pods'], export(*WORKED), 0, DELETERS)
     yield Case('can-i --group', ['can-i', '--as', 'kim', '--group', 'a-group-with-a-rather-long-name,', '--group', 'dev', 'get', 'pods'],
                export(*WORKED), 0, 'yes\n')
     yield Case('can-i --in-namespace', [*ALICE, '--in-namespace', 'get', 'po'], export(*WORKED), 0, 'yes\n')
@@ -360,7 +363,10 @@ def answers():
     yield Case('rules -A', ['rules', '-A', 'g:dev'], export(*WORKED), 0, GROUP_RULES)
     yield Case('rules of nobody', ['rules', 'u:carol'], export(*WORKED), 0)
     yield findings()
+    yield Case('lint --only', ['lint', '--only', 'L7,L6,L7'], export(*WORKED, *SLIPS), 1, ADMIN_FINDINGS)
+    yield Case('lint --skip-system', ['lint', '--skip-system'], export(*WORKED, *SLIPS), 1, OTHER_FINDINGS)
     yield Case('lint, no findings', ['lint'], export(*WORKED), 0)
+    yield Case('lint, no findings left', ['lint', '--only', 'L6', '--skip-system'], export(*WORKED, *SLIPS), 0)
 
 
 def examples():
@@ -403,6 +409,7 @@ def faults(room):
     yield Case('U3', ['can-i', '--as', 'alice', '--subresource', 'log', 'get', '/healthz'], b'', 2, err='U3 subresource with a URL')
     yield Case('U4', ['matrix', '--after', 'MQ'], b'', 2, err='U4 bad token')
     yield Case('U5', ['rules', '--groups', 'ops', 'g:dev'], b'', 2, err='U5 bad principal')
+    yield Case('U6', ['lint', '--only', 'L1,'], b'', 2, err='U6 bad code')
     yield Case('a word that is not UTF-8', ['can-i', '--as', b'al\xffce', 'get', 'pods'], b'', 2, err='argument 3: not UTF-8')
     yield Case('I1', [*alice, missing], b'', 2, err='file 1: I1 read fault')
     yield Case('I2', [*alice, '/dev/zero'], b'', 2, err='file 1: I2 too long', step=7)

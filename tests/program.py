@@ -24,7 +24,7 @@ LEAST = b'{"apiVersion":"v1","kind":"List"}'
 
 # The user, the verb or the target is empty.
 EMPTY_WORDS = (['can-i', '--as', '', 'get', 'pods'], ['can-i', '--as', 'alice', '', 'pods'], ['can-i', '--as', 'alice', 'get', ''],
-               ['who-can', '', 'pods'], ['who-can', 'get', ''])
+               ['who-can', '', 'pods'], ['who-can', 'get', ''], ['who-can', '--any-name', 'get', ''])
 # WHO is no key, or groups are given to a group.
 NOBODY = (['rules', ''], ['rules', 'u:'], ['rules', 'g:'], ['rules', 'kim'], ['rules', 'u'], ['rules', ':kim'], ['rules', 'x:kim'],
           ['rules', 'U:kim'], ['rules', ' u:kim'], ['rules', '-A', 's:kim'], ['rules', '--groups', 'ops', 'g:dev'],
@@ -92,6 +92,8 @@ def streams():
     expect('a subresource of a URL has status 2',
            ['can-i', '--as', 'alice', '--subresource', 'log', 'get', '/healthz'], 2,
            err=b'rbacaudit: U3 subresource with a URL\n')
+    expect('so it has with any name', ['who-can', '--any-name', '--subresource', 'log', 'get', '/healthz'], 2,
+           err=b'rbacaudit: U3 subresource with a URL\n')
     with tempfile.TemporaryDirectory() as room:
         def put(name, text):
             path = os.path.join(room, name)
@@ -114,6 +116,8 @@ def streams():
         expect('a dash is a file as any other', ALICE_GETS_PODS + ['-'], 2, err=b'rbacaudit: file 1: I1 read fault\n',
                given=GRANTED)
         expect('a bad token before a missing file', ['matrix', '--after', 'MQ', missing], 2, err=b'rbacaudit: U4 bad token\n')
+        expect('a bad code before a missing file', ['lint', '--only', 'L8', missing], 2, err=b'rbacaudit: U6 bad code\n')
+        expect('no codes, and a file in their place', ['lint', '--only', roles], 2, err=b'rbacaudit: U6 bad code\n')
         expect('no principal before a missing file', ['rules', 'kim', missing], 2, err=b'rbacaudit: U5 bad principal\n')
         expect('rules of two files', ['rules', 'u:alice', roles, bindings], 0,
                b'RoleBinding/default/b\tRole/default/r\tRole/default/r\t1\t1\t[get]\t[-]\t[pods]\t[]\t[]\n')
@@ -174,8 +178,11 @@ def help_and_usage():
         checked('help of rules says "%s"' % said.decode(), said in run(['rules', '--help']).stdout)
     for said in (b'--before <FILE>', b'--after <FILE>', b'eight fields, joined by tabs'):
         checked('help of diff says "%s"' % said.decode(), said in run(['diff', '--help']).stdout)
-    for option in (b'--in-namespace', b'--anywhere', b'--every', b'--why'):
+    for option in (b'--in-namespace', b'--anywhere', b'--any-name', b'--every', b'--why'):
         checked('help of who-can names %s' % option.decode(), option in run(['who-can', '--help']).stdout)
+    for said in (b'--only <CODES>', b'--skip-system', b'The exit status is 1 where a finding is left', b'rbacaudit lint --only L1,L6 ',
+                 b'rbacaudit lint --skip-system '):
+        checked('help of lint says "%s"' % said.decode(), said in run(['lint', '--help']).stdout)
     no_tokens = ['', 'MQ==', 'M', 'OQ', 'MQ', 'Mg', 'Mw', 'MQlnOmEJLQktCS0JeAkt=']
     key = '\tg:a\t-\t-\t-\tx\t-'
     no_tokens += map(token_of, ['2' + key, '1' + key + '\tClusterRoleBinding\t-\tb', '3' + key + '\tClusterRoleBinding\t-\tb',
@@ -186,6 +193,7 @@ def help_and_usage():
     for text in ('1' + key, '2' + key + '\tClusterRoleBinding\t-\tb', '2' + key + '\tRoleBinding\tdev\tb', '2' + key + '\tRoleBinding\t-\t-'):
         for form in (['matrix'], ['matrix', '--every']):
             expect('%r is a token of %s' % (text, ' '.join(form)), [*form, '--after', token_of(text)], 0, b'end\n', given=export())
+    codes()
     expect('--version prints name and version', ['--version'], 0, b'rbacaudit 0.1.0\n')
     expect('-V is --version', ['-V'], 0, b'rbacaudit 0.1.0\n')
     expect('a word that is not UTF-8', ['can-i', '--as', b'al\xffce', 'get', 'pods'], 2,
@@ -195,6 +203,10 @@ def help_and_usage():
                   ['can-i', '--as', '-a', 'get', 'pods'], ['who-can', 'get'], ['who-can', '--as', 'alice', 'get', 'pods'],
                   ['who-can', '--limit', '1', 'get', 'pods'],
                   ['who-can', '--every', '--every', 'get', 'pods'], ['who-can', '--every=x', 'get', 'pods'], ['who-can', '--anywhere=x', 'get', 'pods'],
+                  ['who-can', '--any-name', '--any-name', 'get', 'pods'], ['who-can', '--any-name=x', 'get', 'pods'], ['lint', '--any-name'],
+                  ['can-i', '--as', 'a', '--any-name', 'get', 'pods'], ['rules', '--any-name', 'u:a'], ['who-can', '--only', 'L1', 'get', 'pods'],
+                  ['lint', '--only', 'L1', '--only', 'L2'], ['lint', '--only', '-L1'], ['matrix', '--only', 'L1'],
+                  ['lint', '--skip-system', '--skip-system'], ['lint', '--skip-system=x'], ['matrix', '--skip-system'],
                   ['who-can', '--anywhere', '--anywhere', 'get', 'pods'], ['who-can', '--group', 'a', 'get', 'pods'], ['can-i', '--as', 'a', '--anywhere', 'get', 'pods'],
                   ['can-i', '--as', 'a', '--every', 'get', 'pods'], ['can-i', '--as', 'a', '--in-namespace', '--in-namespace', 'get', 'pods'],
                   ['rules', '--in-namespace', 'u:a'], ['rules', '--anywhere', 'u:a'], ['matrix', '--group', 'a'], ['matrix', '--anywhere'], ['lint', '--group', 'a'],
@@ -208,12 +220,25 @@ def help_and_usage():
         ended = run(words)
         checked('refused: %s' % (' '.join(words) or 'no words'),
              ended.returncode == 2 and not ended.stdout and b'Usage' in ended.stderr, repr(ended))
-    for words in (['diff', '--before', '--after', 'a'], ['diff', '--after', 'a', '--before']):
+    for words, option in ((['diff', '--before', '--after', 'a'], b'--before <FILE>'), (['diff', '--after', 'a', '--before'], b'--before <FILE>'),
+                          (['lint', '--only'], b'--only <CODES>')):
         ended = run(words)
-        checked('refused: %s' % ' '.join(words), ended.returncode == 2 and not ended.stdout and b'--before <FILE>' in ended.stderr, repr(ended))
+        checked('refused: %s' % ' '.join(words), ended.returncode == 2 and not ended.stdout and option in ended.stderr, repr(ended))
     for limit in ('0', '1000001', '4294967297', '-1', '1.5', 'x', ''):
         ended = run(['matrix', '--limit=' + limit])
         checked('refused: matrix --limit=%s' % limit, ended.returncode == 2 and not ended.stdout and b'--limit <N>' in ended.stderr, repr(ended))
+
+
+def codes():
+    """Lists of codes that are refused, and others that differ from them by little."""
+    for text in ('', ',', ',L1', 'L1,', 'L1,,L2', 'l6', 'L1,l6', 'L0', 'L8', 'L9', 'L', 'L1L2', 'L11', 'L1,L10', 'L01', 'L+1', 'L-1', 'L1-L3',
+                 ' ', ' L1', 'L1 ', 'L1, L2', 'L1\t', 'L1\n', 'L1;L2', 'L1.', '1', '1,2', '-', '*', 'all', 'unused-role', 'L2 unused-role', 'M1',
+                 'U6', 'LL1', 'Ll', 'L\uff11', '\u216c1'):
+        for form in (['lint', '--only=' + text], ['lint', '--skip-system', '--only=' + text]):
+            expect('%r are no codes: %s' % (text, ' '.join(form)), form, 2, err=b'rbacaudit: U6 bad code\n', given=GRANTED)
+    expect('no code in a word of its own', ['lint', '--only', ''], 2, err=b'rbacaudit: U6 bad code\n', given=GRANTED)
+    for text in ('L1', 'L7', 'L7,L6,L5,L4,L3,L2,L1', 'L1,L1', ','.join(['L6'] * 1000)):
+        expect('%.30r are codes' % text, ['lint', '--only', text], 0, given=GRANTED)
 
 
 def full_disk():

@@ -4,12 +4,12 @@ use Rattle.std.specs.Prelude.{◌||◌}
 use Rattle.std.specs.Str.{bytes_eq}
 use Rattle.std.proofs.lemmas.Slice.Eq.{bytes_eq-Decides}
 use Rattle.clap.specs.Words.{Row, Text, first_of}
-use Rattle.rbac_question.specs.Lines.{CanIParts, WhoCanParts, RulesParts, MatrixParts, MeansCanI, MeansWhoCan, MeansRules, MeansMatrix, AcceptsCanI, AcceptsQuestion, RefusesCanI, RefusesQuestion, RefusesRules, RefusesMatrix, HasBadToken, IsAfter}
+use Rattle.rbac_question.specs.Lines.{CanIParts, WhoCanParts, RulesParts, MatrixParts, LintParts, MeansCanI, MeansWhoCan, MeansRules, MeansMatrix, MeansLint, AcceptsCanI, AcceptsQuestion, RefusesCanI, RefusesQuestion, RefusesRules, RefusesMatrix, RefusesLint, HasBadToken, IsAfter}
 use Rattle.rbac_question.specs.declared.command.Action.{Action}
 use Rattle.rbac_question.specs.declared.command.Action.TheVariants.{CanI, WhoCan, Rules, Matrix, Lint, Diff}
 use Rattle.rbac_question.specs.declared.fault.QuestionFault.{QuestionFault}
-use Rattle.rbac_question.specs.declared.fault.QuestionFault.TheVariants.{EmptyWord, UrlSubresource, BadToken, BadPrincipal, NoMemory}
-use Rattle.rbac_command.specs.Meaning.{question_in, parts_in, who_can_in, rules_in, has_flag, is_known, DoesAction, IsNumberAt, RefusesAction}
+use Rattle.rbac_question.specs.declared.fault.QuestionFault.TheVariants.{EmptyWord, UrlSubresource, BadToken, BadPrincipal, BadCode, NoMemory}
+use Rattle.rbac_command.specs.Meaning.{question_in, parts_in, who_can_in, rules_in, lint_in, has_flag, is_known, DoesAction, IsNumberAt, RefusesAction}
 
 first_of_six : (a b c d e f : Bool) → a || (b || (c || (d || (e || f)))) ≡ true
     → b ≡ false → c ≡ false → d ≡ false → e ≡ false → f ≡ false → a ≡ true
@@ -37,15 +37,16 @@ as_can_i : (name : Text) (rows : List Row) (r : Result Action QuestionFault) →
     → MatchResult r (λ a. AcceptsCanI (parts_in rows) × MeansCanI (parts_in rows) a) (RefusesCanI (parts_in rows))
     → MatchResult r (DoesAction name rows) (RefusesAction name rows)
 as_can_i name rows (Ok (CanI principal quiet why question)) e h = (e, h.0, h.1)
-as_can_i name rows (Ok (WhoCan why every anywhere question)) e h = absurd h.1
+as_can_i name rows (Ok (WhoCan why every anywhere any_name question)) e h = absurd h.1
 as_can_i name rows (Ok (Rules principal scope)) e h = absurd h.1
 as_can_i name rows (Ok (Matrix every after limit)) e h = absurd h.1
-as_can_i name rows (Ok Lint) e h = absurd h.1
+as_can_i name rows (Ok (Lint only skip_system)) e h = absurd h.1
 as_can_i name rows (Ok (Diff before)) e h = absurd h.1
 as_can_i name rows (Err EmptyWord) e h = inl (e, h)
 as_can_i name rows (Err UrlSubresource) e h = inl (e, h)
 as_can_i name rows (Err BadToken) e h = absurd h
 as_can_i name rows (Err BadPrincipal) e h = absurd h
+as_can_i name rows (Err BadCode) e h = absurd h
 as_can_i name rows (Err NoMemory) e h = tt
 
 pub can_i_line : (name : Text) (rows : List Row) (l : CanIParts) (r : Result Action QuestionFault) → name ≡ codes "can-i" → l ≡ parts_in rows
@@ -58,15 +59,16 @@ as_who_can : (name : Text) (rows : List Row) (r : Result Action QuestionFault) �
     → MatchResult r (λ a. AcceptsQuestion (question_in rows) × MeansWhoCan (who_can_in rows) a) (RefusesQuestion (question_in rows))
     → MatchResult r (DoesAction name rows) (RefusesAction name rows)
 as_who_can name rows (Ok (CanI principal quiet why question)) e h = absurd h.1
-as_who_can name rows (Ok (WhoCan why every anywhere question)) e h = (e, h.0, h.1)
+as_who_can name rows (Ok (WhoCan why every anywhere any_name question)) e h = (e, h.0, h.1)
 as_who_can name rows (Ok (Rules principal scope)) e h = absurd h.1
 as_who_can name rows (Ok (Matrix every after limit)) e h = absurd h.1
-as_who_can name rows (Ok Lint) e h = absurd h.1
+as_who_can name rows (Ok (Lint only skip_system)) e h = absurd h.1
 as_who_can name rows (Ok (Diff before)) e h = absurd h.1
 as_who_can name rows (Err EmptyWord) e h = inr (e, h)
 as_who_can name rows (Err UrlSubresource) e h = inr (e, h)
 as_who_can name rows (Err BadToken) e h = absurd h
 as_who_can name rows (Err BadPrincipal) e h = absurd h
+as_who_can name rows (Err BadCode) e h = absurd h
 as_who_can name rows (Err NoMemory) e h = tt
 
 pub who_can_line : (name : Text) (rows : List Row) (l : WhoCanParts) (r : Result Action QuestionFault) → name ≡ codes "who-can" → l ≡ who_can_in rows
@@ -79,15 +81,16 @@ as_rules : (name : Text) (rows : List Row) (r : Result Action QuestionFault) →
     → MatchResult r (MeansRules (rules_in rows)) (RefusesRules (rules_in rows))
     → MatchResult r (DoesAction name rows) (RefusesAction name rows)
 as_rules name rows (Ok (CanI principal quiet why question)) e h = absurd h
-as_rules name rows (Ok (WhoCan why every anywhere question)) e h = absurd h
+as_rules name rows (Ok (WhoCan why every anywhere any_name question)) e h = absurd h
 as_rules name rows (Ok (Rules principal scope)) e h = (e, h)
 as_rules name rows (Ok (Matrix every after limit)) e h = absurd h
-as_rules name rows (Ok Lint) e h = absurd h
+as_rules name rows (Ok (Lint only skip_system)) e h = absurd h
 as_rules name rows (Ok (Diff before)) e h = absurd h
 as_rules name rows (Err EmptyWord) e h = absurd h
 as_rules name rows (Err UrlSubresource) e h = absurd h
 as_rules name rows (Err BadToken) e h = absurd h
 as_rules name rows (Err BadPrincipal) e h = (e, h)
+as_rules name rows (Err BadCode) e h = absurd h
 as_rules name rows (Err NoMemory) e h = tt
 
 pub rules_line : (name : Text) (rows : List Row) (l : RulesParts) (r : Result Action QuestionFault) → name ≡ codes "rules" → l ≡ rules_in rows
@@ -96,19 +99,42 @@ pub rules_line : (name : Text) (rows : List Row) (l : RulesParts) (r : Result Ac
 rules_line name rows l r e same h =
     as_rules name rows r e (subst (λ (parts : RulesParts). MatchResult r (MeansRules parts) (RefusesRules parts)) same h)
 
+as_lint : (name : Text) (rows : List Row) (r : Result Action QuestionFault) → name ≡ codes "lint"
+    → MatchResult r (MeansLint (lint_in rows)) (RefusesLint (lint_in rows))
+    → MatchResult r (DoesAction name rows) (RefusesAction name rows)
+as_lint name rows (Ok (CanI principal quiet why question)) e h = absurd h
+as_lint name rows (Ok (WhoCan why every anywhere any_name question)) e h = absurd h
+as_lint name rows (Ok (Rules principal scope)) e h = absurd h
+as_lint name rows (Ok (Matrix every after limit)) e h = absurd h
+as_lint name rows (Ok (Lint only skip_system)) e h = (e, h)
+as_lint name rows (Ok (Diff before)) e h = absurd h
+as_lint name rows (Err EmptyWord) e h = absurd h
+as_lint name rows (Err UrlSubresource) e h = absurd h
+as_lint name rows (Err BadToken) e h = absurd h
+as_lint name rows (Err BadPrincipal) e h = absurd h
+as_lint name rows (Err BadCode) e h = (e, h)
+as_lint name rows (Err NoMemory) e h = tt
+
+pub lint_line : (name : Text) (rows : List Row) (l : LintParts) (r : Result Action QuestionFault) → name ≡ codes "lint" → l ≡ lint_in rows
+    → MatchResult r (MeansLint l) (RefusesLint l)
+    → MatchResult r (DoesAction name rows) (RefusesAction name rows)
+lint_line name rows l r e same h =
+    as_lint name rows r e (subst (λ (parts : LintParts). MatchResult r (MeansLint parts) (RefusesLint parts)) same h)
+
 -- a `matrix` line does what `--every`, its token and its number say
 pub matrix_line : (name : Text) (rows : List Row) (l : MatrixParts) (r : Result Action QuestionFault) → name ≡ codes "matrix"
     → l.every ≡ has_flag (codes "every") rows → l.after ≡ first_of (codes "after") rows → IsNumberAt (codes "limit") rows l.limit → MatchResult r (MeansMatrix l) (RefusesMatrix l)
     → MatchResult r (DoesAction name rows) (RefusesAction name rows)
 matrix_line name rows l (Ok (CanI principal quiet why question)) e v f n h = absurd h
-matrix_line name rows l (Ok (WhoCan why every anywhere question)) e v f n h = absurd h
+matrix_line name rows l (Ok (WhoCan why every anywhere any_name question)) e v f n h = absurd h
 matrix_line name rows l (Ok (Rules principal scope)) e v f n h = absurd h
 matrix_line name rows l (Ok (Matrix every after limit)) e v f n h =
     (e, h.0 ∙ v, subst (λ (t : _). IsAfter t after) f h.1, subst (λ (m : _). IsNumberAt (codes "limit") rows m) (sym h.2) n)
-matrix_line name rows l (Ok Lint) e v f n h = absurd h
+matrix_line name rows l (Ok (Lint only skip_system)) e v f n h = absurd h
 matrix_line name rows l (Ok (Diff before)) e v f n h = absurd h
 matrix_line name rows l (Err EmptyWord) e v f n h = absurd h
 matrix_line name rows l (Err UrlSubresource) e v f n h = absurd h
 matrix_line name rows l (Err BadToken) e v f n h = (e, subst HasBadToken f h)
 matrix_line name rows l (Err BadPrincipal) e v f n h = absurd h
+matrix_line name rows l (Err BadCode) e v f n h = absurd h
 matrix_line name rows l (Err NoMemory) e v f n h = tt

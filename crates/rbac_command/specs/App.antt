@@ -55,6 +55,13 @@ anywhere_rule = record (new_rule (codes "anywhere")) {
   action = Some SetTrue;
 }
 
+-- `--any-name`
+abbrev pub any_name_rule : Rule
+any_name_rule = record (new_rule (codes "any-name")) {
+  long = Some (codes "any-name");
+  action = Some SetTrue;
+}
+
 -- `--subresource S`
 abbrev pub subresource_rule : Rule
 subresource_rule = record (new_rule (codes "subresource")) {
@@ -103,6 +110,17 @@ limit_rule = record (new_rule (codes "limit")) {
   parser = Some (Signed (pos 1) (pos 1000000));
 }
 
+-- `--only CODES`
+abbrev pub only_rule : Rule
+only_rule = record (new_rule (codes "only")) { long = Some (codes "only"); value_names = 1 }
+
+-- `--skip-system`
+abbrev pub skip_system_rule : Rule
+skip_system_rule = record (new_rule (codes "skip-system")) {
+  long = Some (codes "skip-system");
+  action = Some SetTrue;
+}
+
 -- [FILE]..
 abbrev pub files_rule : Rule
 files_rule = record (new_rule (codes "files")) { value_names = 1; action = Some Append }
@@ -145,12 +163,13 @@ can_i_app =
     (with_rule (with_scope (with_groups
     (with_rule (new_app (codes "can-i")) user_rule))) quiet_rule) why_rule)
 
--- who-can [-n NS] [-A] [--in-namespace] [--subresource S] [--anywhere] [--every] [--why] VERB TARGET
--- [FILE]..
+-- who-can [-n NS] [-A] [--in-namespace] [--subresource S] [--anywhere] [--any-name] [--every] [--why]
+-- VERB TARGET [FILE]..
 abbrev pub who_can_app : App
 who_can_app =
     with_question (with_rule (with_rule
-    (with_rule (with_scope (new_app (codes "who-can"))) anywhere_rule) every_rule) why_rule)
+    (with_rule (with_rule (with_scope (new_app (codes "who-can"))) anywhere_rule) any_name_rule)
+    every_rule) why_rule)
 
 -- rules [--groups A,B] [--group G].. [-n NS] [-A] WHO [FILE]..
 abbrev pub rules_app : App
@@ -166,9 +185,11 @@ matrix_app =
     with_rule (with_rule
     (with_rule (with_rule (new_app (codes "matrix")) every_rule) after_rule) limit_rule) files_rule
 
--- lint [FILE]..
+-- lint [--only CODES] [--skip-system] [FILE]..
 abbrev pub lint_app : App
-lint_app = with_rule (new_app (codes "lint")) files_rule
+lint_app =
+    with_rule (with_rule
+    (with_rule (new_app (codes "lint")) only_rule) skip_system_rule) files_rule
 
 -- diff --before FILE.. --after FILE..
 abbrev pub diff_app : App

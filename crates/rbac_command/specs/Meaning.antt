@@ -6,10 +6,10 @@ use Rattle.std.specs.Str.{bytes_eq}
 use Rattle.std.specs.Str.Parse.{IsNumeral, without_leading_plus, digits_value}
 use Rattle.clap.specs.Words.{Row, Text, all_of, fault_of, first_of, kind_of, one_of, subcommand_of}
 use Rattle.clap.specs.Kinds.{IsAmong}
-use Rattle.rbac_question.specs.Lines.{QuestionParts, CanIParts, WhoCanParts, RulesParts, MeansCanI}
-use Rattle.rbac_question.specs.Lines.{MeansWhoCan, MeansRules, AcceptsCanI, AcceptsQuestion}
-use Rattle.rbac_question.specs.Lines.{RefusesCanI, RefusesQuestion, HasBadToken, HasBadPrincipal}
-use Rattle.rbac_question.specs.Lines.{IsAfter}
+use Rattle.rbac_question.specs.Lines.{QuestionParts, CanIParts, WhoCanParts, RulesParts, LintParts}
+use Rattle.rbac_question.specs.Lines.{MeansCanI, MeansWhoCan, MeansRules, MeansLint, AcceptsCanI}
+use Rattle.rbac_question.specs.Lines.{AcceptsQuestion, RefusesCanI, RefusesQuestion, HasBadToken}
+use Rattle.rbac_question.specs.Lines.{HasBadPrincipal, HasBadCode, IsAfter}
 use Rattle.rbac_question.specs.declared.command.Action.{Action}
 use Rattle.rbac_question.specs.declared.command.Action.TheVariants.{CanI, WhoCan, Rules, Matrix}
 use Rattle.rbac_question.specs.declared.command.Action.TheVariants.{Lint, Diff}
@@ -69,6 +69,7 @@ who_can_in rows = record {
   why = has_flag (codes "why") rows;
   every = has_flag (codes "every") rows;
   anywhere = has_flag (codes "anywhere") rows;
+  any_name = has_flag (codes "any-name") rows;
   question = question_in rows;
 }
 
@@ -80,6 +81,13 @@ rules_in rows = record {
   whole_groups = texts_at (codes "group") rows;
   namespace = text_at (codes "namespace") rows;
   all_namespaces = has_flag (codes "all") rows;
+}
+
+-- the parts of a `lint` line
+abbrev pub lint_in : List Row → LintParts
+lint_in rows = record {
+  only = first_of (codes "only") rows;
+  skip_system = has_flag (codes "skip-system") rows;
 }
 
 -- the text is a 32-bit number: decimal digits, with an optional plus sign before them
@@ -113,15 +121,16 @@ abbrev pub DoesAction : Text → List Row → Action → Type 0
 DoesAction name rows (CanI principal quiet why question) =
     (name ≡ codes "can-i") × AcceptsCanI (parts_in rows)
     × MeansCanI (parts_in rows) (CanI principal quiet why question)
-DoesAction name rows (WhoCan why every anywhere question) =
+DoesAction name rows (WhoCan why every anywhere any_name question) =
     (name ≡ codes "who-can") × AcceptsQuestion (question_in rows)
-    × MeansWhoCan (who_can_in rows) (WhoCan why every anywhere question)
+    × MeansWhoCan (who_can_in rows) (WhoCan why every anywhere any_name question)
 DoesAction name rows (Rules principal scope) =
     (name ≡ codes "rules") × MeansRules (rules_in rows) (Rules principal scope)
 DoesAction name rows (Matrix every after limit) =
     (name ≡ codes "matrix") × (every ≡ has_flag (codes "every") rows)
     × IsAfter (first_of (codes "after") rows) after × IsNumberAt (codes "limit") rows limit
-DoesAction name rows Lint = name ≡ codes "lint"
+DoesAction name rows (Lint only skip_system) =
+    (name ≡ codes "lint") × MeansLint (lint_in rows) (Lint only skip_system)
 DoesAction name rows (Diff before) =
     (name ≡ codes "diff") × (before ≡ length (texts_at (codes "before") rows))
 
@@ -138,13 +147,15 @@ Means (Some p) c = MeansRows p.0 p.1 c
 -- ---- refusals
 
 -- the refusal of a subcommand's matches: out of memory may come at any time; besides it, `matrix`
--- has only U4 and `rules` only U5, no other has these, and `lint` and `diff` have none
+-- has only U4, `rules` only U5 and `lint` only U6, no other has these, and `diff` has none
 abbrev pub RefusesAction : Text → List Row → QuestionFault → Type 0
 RefusesAction name rows question.NoMemory = Unit {0}
 RefusesAction name rows question.BadToken = (name ≡ codes "matrix")
     × HasBadToken (first_of (codes "after") rows)
 RefusesAction name rows question.BadPrincipal = (name ≡ codes "rules")
     × HasBadPrincipal (rules_in rows)
+RefusesAction name rows question.BadCode = (name ≡ codes "lint")
+    × HasBadCode (first_of (codes "only") rows)
 RefusesAction name rows e = ((name ≡ codes "can-i") × RefusesCanI (parts_in rows) e)
     ⊎ ((name ≡ codes "who-can") × RefusesQuestion (question_in rows) e)
 

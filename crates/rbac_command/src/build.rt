@@ -12,7 +12,7 @@ ghost use Rattle.rbac_command.specs.App.{group_rule, in_namespace_rule, anywhere
 ghost use Rattle.rbac_command.specs.App.{with_scope, with_question, can_i_app, who_can_app};
 ghost use Rattle.rbac_command.specs.App.{rules_app, matrix_app, lint_app, bare_app, rbac_app};
 ghost use Rattle.rbac_command.specs.App.{who_rule, before_files_rule, after_files_rule, diff_app};
-ghost use Rattle.rbac_command.specs.App.{some_files};
+ghost use Rattle.rbac_command.specs.App.{some_files, any_name_rule, only_rule, skip_system_rule};
 
 use clap::{Arg, ArgAction, Command, value_parser};
 use std::alloc::{AllocError, Global};
@@ -44,8 +44,9 @@ Examples:
 
 const WHO_CAN_MORE: &str =
     "The exit status is 0, also where nobody may; 2 is an error. Holders that are limited to object
-names are listed only where TARGET names the object. A RoleBinding counts in its namespace alone:
---anywhere counts them all, and a line's binding tells where it counts.
+names are listed only where TARGET names the object: --any-name lists them all. A RoleBinding
+counts in its namespace alone: --anywhere counts them all, and a line's binding tells where it
+counts.
 
 With --why four fields follow the binding: ROLE, SOURCE, RULE and SUBJECT, as in can-i --help. They
 are of the first rule of that binding that allows it, and of the first subject that is the holder.
@@ -54,6 +55,7 @@ Examples:
   rbacaudit who-can -n dev delete secrets cluster.json namespaced.json
   rbacaudit who-can -n dev --why delete secrets cluster.json namespaced.json
   rbacaudit who-can --anywhere --every get secrets cluster.json namespaced.json
+  rbacaudit who-can -n dev --any-name get secrets cluster.json namespaced.json
   rbacaudit who-can get /metrics cluster.json";
 
 const RULES_MORE: &str = "A line has ten fields, joined by tabs:
@@ -108,8 +110,13 @@ const LINT_MORE: &str = "A line has five fields, joined by tabs; - is an empty f
   L6  stale-aggregate            the rules written in an aggregated role are not the gathered ones
   L7  replaced-object            a later document replaced earlier ones of this object
 
-Example:
-  rbacaudit lint cluster.json namespaced.json";
+--skip-system leaves out objects whose names begin with system:, and the cluster roles admin, edit,
+view and cluster-admin. The exit status is 1 where a finding is left, else 0; 2 is an error.
+
+Examples:
+  rbacaudit lint cluster.json namespaced.json
+  rbacaudit lint --only L1,L6 cluster.json namespaced.json
+  rbacaudit lint --skip-system cluster.json namespaced.json";
 
 const DIFF_MORE: &str = "A line has eight fields, joined by tabs; - is an empty field:
   CHANGE     + for what only --after allows, - for what only --before does
@@ -282,6 +289,17 @@ fn anywhere_arg<'a>(alloc: Global) -> Arg<'a>
     )
 }
 
+fn any_name_arg<'a>(alloc: Global) -> Arg<'a>
+    ensures rule { rule_of result ≡ any_name_rule }
+    ensures local { result.global ≡ false }
+{
+    flag(
+        alloc,
+        "any-name",
+        "Count rules limited to object names too; a NAME in TARGET isn't looked at",
+    )
+}
+
 fn subresource_arg<'a>(alloc: Global) -> Arg<'a>
     ensures rule { rule_of result ≡ subresource_rule }
     ensures local { result.global ≡ false }
@@ -379,6 +397,29 @@ fn limit_arg<'a>(alloc: Global) -> Arg<'a>
         "List at most N rows, 1 to 1000000 (default: all)",
     )
     .value_parser(value_parser!(u32).range(1..=1_000_000))
+}
+
+fn only_arg<'a>(alloc: Global) -> Arg<'a>
+    ensures rule { rule_of result ≡ only_rule }
+    ensures local { result.global ≡ false }
+{
+    option(
+        alloc,
+        "only",
+        "CODES",
+        "List only findings of these codes, e.g. L1,L6 (default: all)",
+    )
+}
+
+fn skip_system_arg<'a>(alloc: Global) -> Arg<'a>
+    ensures rule { rule_of result ≡ skip_system_rule }
+    ensures local { result.global ≡ false }
+{
+    flag(
+        alloc,
+        "skip-system",
+        "Leave out what Kubernetes brings: system:*, cluster roles admin, edit, view, cluster-admin",
+    )
 }
 
 fn files_arg<'a>(alloc: Global) -> Arg<'a>
@@ -497,6 +538,7 @@ fn who_can<'a>(alloc: Global) -> Built<'a>
     );
     let command = with_scope(alloc, Ok(command));
     let command = with(command, anywhere_arg(alloc));
+    let command = with(command, any_name_arg(alloc));
     let command = with(command, every_arg(alloc, WHO_CAN_EVERY));
     let command = with(command, why_arg(alloc, WHO_CAN_WHY));
     with_question(alloc, command)
@@ -545,7 +587,9 @@ fn lint<'a>(alloc: Global) -> Built<'a>
         "List what is wrong with the roles: status 1 where something is, else 0; 2 is an error",
         LINT_MORE,
     );
-    with(Ok(command), files_arg(alloc))
+    let command = with(Ok(command), only_arg(alloc));
+    let command = with(command, skip_system_arg(alloc));
+    with(command, files_arg(alloc))
 }
 
 fn diff<'a>(alloc: Global) -> Built<'a>

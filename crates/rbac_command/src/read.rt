@@ -10,14 +10,15 @@ ghost use Rattle.rbac_command.specs.App.{rbac_app};
 ghost use Rattle.rbac_command.specs.Meaning.{text_at, has_flag, IsNumberAt, files_in, question_in};
 ghost use Rattle.rbac_command.specs.Meaning.{parts_in, is_known, DoesAction, RefusesAction, Means};
 ghost use Rattle.rbac_command.specs.Meaning.{IsCauseOf, IsRefusal, IsAnswer, who_can_in, rules_in};
-ghost use Rattle.rbac_command.specs.Meaning.{texts_at};
+ghost use Rattle.rbac_command.specs.Meaning.{texts_at, lint_in};
 
 use crate::build::program;
 use crate::fault::UsageFault;
 use clap::ArgMatches;
 use clap::error::ErrorKind;
 use rbac_question::{
-    Action, CanILine, Command, MatrixLine, QuestionFault, QuestionLine, RulesLine, WhoCanLine,
+    Action, CanILine, Command, LintLine, MatrixLine, QuestionFault, QuestionLine, RulesLine,
+    WhoCanLine,
 };
 use std::alloc::{AllocError, Global};
 
@@ -84,11 +85,13 @@ fn who_can_line_of<'a>(matches: &ArgMatches<'a>) -> WhoCanLine<'a>
     let why = flag_of(matches, "why");
     let every = flag_of(matches, "every");
     let anywhere = flag_of(matches, "anywhere");
+    let any_name = flag_of(matches, "any-name");
     let question = question_of(matches);
     WhoCanLine {
         why,
         every,
         anywhere,
+        any_name,
         question,
     }
 }
@@ -128,6 +131,16 @@ fn matrix_line_of<'a>(matches: &ArgMatches<'a>) -> MatrixLine<'a>
         every: flag_of(matches, "every"),
         after: value_of(matches, "after"),
         limit: number_of(matches, "limit"),
+    }
+}
+
+// The parts of a `lint` line.
+fn lint_line_of<'a>(matches: &ArgMatches<'a>) -> LintLine<'a>
+    ensures { result ≡ lint_in (rows_of (found_of matches.now)) }
+{
+    LintLine {
+        only: value_of(matches, "only"),
+        skip_system: flag_of(matches, "skip-system"),
     }
 }
 
@@ -207,7 +220,7 @@ fn action_of(alloc: Global, name: &str, matches: &ArgMatches<'_>) -> Result<Acti
         return Action::rules(alloc, &rules_line_of(matches));
     }
     if name == "lint" {
-        return Ok(Action::Lint);
+        return Action::lint(alloc, &lint_line_of(matches));
     }
     if name == "diff" {
         return Ok(Action::Diff {
@@ -242,7 +255,7 @@ fn meaning_of(alloc: Global, matches: &ArgMatches<'_>) -> Result<Command, Questi
 
 /// The command that the words mean; the first word is the program's name.
 ///
-/// U1 if `clap` refuses the words, or help or the version is asked for, then U2, U3, U4 and U5.
+/// U1 if `clap` refuses the words, or help or the version is asked for, then U2 to U6.
 pub fn command_of(alloc: Global, words: &[String]) -> Result<Command, UsageFault>
     ensures { IsAnswer (map string_bytes words.now) result }
 {

@@ -7,7 +7,7 @@ use Rattle.rbac_question.specs.declared.asked.AskedFor.TheVariants.{Resource as 
 use Rattle.rbac_question.specs.declared.fault.QuestionFault.{QuestionFault}
 use Rattle.rbac_question.specs.declared.fault.QuestionFault.TheVariants.{EmptyWord, UrlSubresource}
 use Rattle.rbac_question.specs.declared.fault.QuestionFault.TheVariants.{BadToken, BadPrincipal}
-use Rattle.rbac_question.specs.declared.fault.QuestionFault.TheVariants.{NoMemory}
+use Rattle.rbac_question.specs.declared.fault.QuestionFault.TheVariants.{BadCode, NoMemory}
 
 -- a type word is not empty, has something before its first dot, and has no slash
 abbrev pub IsTypeWord : Text → Type 0
@@ -43,4 +43,5 @@ RefusesTarget target subresource EmptyWord = LacksType target
 RefusesTarget target subresource UrlSubresource = HasUrlSubresource target subresource
 RefusesTarget target subresource BadToken = ⊥
 RefusesTarget target subresource BadPrincipal = ⊥
+RefusesTarget target subresource BadCode = ⊥
 RefusesTarget target subresource NoMemory = Unit {0}

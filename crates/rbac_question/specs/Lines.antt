@@ -1,5 +1,6 @@
-use Rattle.std.specs.Prelude.{◌≡◌, ◌≢◌, ◌==◌, ◌++◌, ◌⊎◌, ℕ, Bool, true, false, not, length}
-use Rattle.std.specs.Prelude.{List, [], Option, Some, None, All, filter, codes, if◌then◌else◌}
+use Rattle.std.specs.Prelude.{◌≡◌, ◌≢◌, ◌==◌, ◌++◌, ◌∷◌, ◌⊎◌, ◌+◌, ◌<◌, ℕ, Bool, true, false, not}
+use Rattle.std.specs.Prelude.{List, [], Option, Some, None, All, filter, map, length, codes}
+use Rattle.std.specs.Prelude.{if◌then◌else◌, option_map, vec_items}
 use Rattle.std.specs.List.{slice_split}
 use Rattle.rbac_terms.specs.Text.{Text}
 use Rattle.rbac_terms.specs.Principals.{Who, AsUser, AsMember}
@@ -8,6 +9,7 @@ use Rattle.rbac_token.specs.declared.mark.Mark.{Mark}
 use Rattle.rbac_question.specs.Asked.{AsksFor, LacksType, HasUrlSubresource}
 use Rattle.rbac_question.specs.declared.command.Action.{Action}
 use Rattle.rbac_question.specs.declared.command.Action.TheVariants.{CanI, WhoCan, Matrix, Rules}
+use Rattle.rbac_question.specs.declared.command.Action.TheVariants.{Lint}
 use Rattle.rbac_question.specs.declared.command.Question.{Question}
 use Rattle.rbac_question.specs.declared.command.Scope.{Scope}
 use Rattle.rbac_question.specs.declared.command.Scope.TheVariants.{Everywhere, Namespace}
@@ -15,7 +17,7 @@ use Rattle.rbac_question.specs.declared.command.Scope.TheVariants.{ClusterWide}
 use Rattle.rbac_question.specs.declared.fault.QuestionFault.{QuestionFault}
 use Rattle.rbac_question.specs.declared.fault.QuestionFault.TheVariants.{EmptyWord, UrlSubresource}
 use Rattle.rbac_question.specs.declared.fault.QuestionFault.TheVariants.{BadToken, BadPrincipal}
-use Rattle.rbac_question.specs.declared.fault.QuestionFault.TheVariants.{NoMemory}
+use Rattle.rbac_question.specs.declared.fault.QuestionFault.TheVariants.{BadCode, NoMemory}
 
 -- the parts of a line that ask a question; the text of an option that isn't given is empty
 pub record QuestionParts : Type 0 where
@@ -40,6 +42,7 @@ pub record WhoCanParts : Type 0 where
   pub why : Bool
   pub every : Bool
   pub anywhere : Bool
+  pub any_name : Bool
   pub question : QuestionParts
 
 -- the parts of a `rules` line; the text of an option that isn't given is empty, and there is a text
@@ -56,6 +59,11 @@ pub record MatrixParts : Type 0 where
   pub every : Bool
   pub after : Option Text
   pub limit : Option ℕ
+
+-- the parts of a `lint` line: what follows `--only`, and `--skip-system`
+pub record LintParts : Type 0 where
+  pub only : Option Text
+  pub skip_system : Bool
 
 -- the byte `,`
 abbrev pub comma : ℕ
@@ -107,11 +115,12 @@ anywhere_meant true given = false
 anywhere_meant false given = given
 
 -- what a `who-can` line means: it asks who is allowed what the question asks, with `--anywhere` in
--- any namespace, and with `--every` by each binding
+-- any namespace, with `--any-name` by rules of whatever object names, and with `--every` by each
+-- binding
 abbrev pub MeansWhoCan : WhoCanParts → Action → Type 0
-MeansWhoCan l (WhoCan why every anywhere question) = (why ≡ l.why) × (every ≡ l.every)
+MeansWhoCan l (WhoCan why every anywhere any_name question) = (why ≡ l.why) × (every ≡ l.every)
     × (anywhere ≡ anywhere_meant l.question.all_namespaces l.anywhere)
-    × IsQuestion l.question question
+    × (any_name ≡ l.any_name) × IsQuestion l.question question
 MeansWhoCan l action = ⊥
 
 -- WHO names the principal: `u:` and a user's name, who is given the groups of `--groups` and
@@ -148,6 +157,35 @@ MeansMatrix l (Matrix every after limit) =
     (every ≡ l.every) × IsAfter l.after after × (limit ≡ l.limit)
 MeansMatrix l action = ⊥
 
+-- the codes of findings are numbered 1 to 7 (own)
+abbrev pub IsCode : ℕ → Type 0
+IsCode n = (0 < n) × (n < 8)
+
+-- the word of a code: L, and its number as a digit (own)
+abbrev pub code_word : ℕ → Text
+code_word n = codes "L" ++ (48 + n) ∷ []
+
+-- the text is the word of a code: it is one of L1, L2, .. L7, exactly so written
+unfoldable pub IsCodeWord : Text → Type 0
+IsCodeWord word = (n : ℕ) × IsCode n × (word ≡ code_word n)
+
+-- the codes whose words stand between the commas of a text, in order (own)
+abbrev pub AreCodesIn : Text → List ℕ → Type 0
+AreCodesIn text numbers = All IsCode numbers × (parts_between comma text ≡ map code_word numbers)
+
+-- the codes to list are those of `--only`; there is no choice if it isn't given (own)
+abbrev pub IsOnly : Option Text → Option (List ℕ) → Type 0
+IsOnly None only = only ≡ None
+IsOnly (Some text) None = ⊥
+IsOnly (Some text) (Some numbers) = AreCodesIn text numbers
+
+-- what a `lint` line means: it lists the findings of these codes, with `--skip-system` without those
+-- about Kubernetes' own objects
+abbrev pub MeansLint : LintParts → Action → Type 0
+MeansLint l (Lint only skip_system) = IsOnly l.only (option_map vec_items only)
+    × (skip_system ≡ l.skip_system)
+MeansLint l action = ⊥
+
 -- U2 of a question: VERB or TARGET is empty, or the type word has nothing before its dot (own)
 abbrev pub LacksWord : QuestionParts → Type 0
 LacksWord l = (l.verb ≡ []) ⊎ LacksType l.target
@@ -162,6 +200,7 @@ RefusesQuestion l EmptyWord = LacksWord l
 RefusesQuestion l UrlSubresource = (¬ LacksWord l) × HasUrlSubresource l.target l.subresource
 RefusesQuestion l BadToken = ⊥
 RefusesQuestion l BadPrincipal = ⊥
+RefusesQuestion l BadCode = ⊥
 RefusesQuestion l NoMemory = Unit {0}
 
 -- a `can-i` line without U2 and U3; here an empty USER is U2 too (own)
@@ -174,6 +213,7 @@ RefusesCanI l EmptyWord = (l.user ≡ []) ⊎ LacksWord l.question
 RefusesCanI l UrlSubresource = (l.user ≢ []) × RefusesQuestion l.question UrlSubresource
 RefusesCanI l BadToken = ⊥
 RefusesCanI l BadPrincipal = ⊥
+RefusesCanI l BadCode = ⊥
 RefusesCanI l NoMemory = Unit {0}
 
 -- U4: a text is given that isn't the token of any mark, with or without `--every` (own)
@@ -187,6 +227,7 @@ RefusesMatrix l EmptyWord = ⊥
 RefusesMatrix l UrlSubresource = ⊥
 RefusesMatrix l BadToken = HasBadToken l.after
 RefusesMatrix l BadPrincipal = ⊥
+RefusesMatrix l BadCode = ⊥
 RefusesMatrix l NoMemory = Unit {0}
 
 -- U5: WHO, `--groups` and `--group` name no principal (own)
@@ -199,4 +240,20 @@ RefusesRules l EmptyWord = ⊥
 RefusesRules l UrlSubresource = ⊥
 RefusesRules l BadToken = ⊥
 RefusesRules l BadPrincipal = HasBadPrincipal l
+RefusesRules l BadCode = ⊥
 RefusesRules l NoMemory = Unit {0}
+
+-- U6: a text is given of which a part between commas isn't the word of a code; an empty text has one
+-- part, which is empty (own)
+abbrev pub HasBadCode : Option Text → Type 0
+HasBadCode None = ⊥
+HasBadCode (Some text) = ¬ All IsCodeWord (parts_between comma text)
+
+-- the refusal of a `lint` line; out of memory may come at any time
+abbrev pub RefusesLint : LintParts → QuestionFault → Type 0
+RefusesLint l EmptyWord = ⊥
+RefusesLint l UrlSubresource = ⊥
+RefusesLint l BadToken = ⊥
+RefusesLint l BadPrincipal = ⊥
+RefusesLint l BadCode = HasBadCode l.only
+RefusesLint l NoMemory = Unit {0}

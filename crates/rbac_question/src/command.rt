@@ -52,6 +52,9 @@ pub enum Action {
         /// Whether the bindings of all namespaces count, and not only those of the question's; never
         /// with `-A`.
         anywhere: bool,
+        /// Whether a rule counts whatever its object names, so that the name in `question` isn't
+        /// looked at. With a URL it changes nothing.
+        any_name: bool,
         /// What is asked.
         question: Question,
     },
@@ -74,7 +77,13 @@ pub enum Action {
         limit: Option<u32>,
     },
     /// Lists what is wrong with the roles.
-    Lint,
+    Lint {
+        /// The codes whose findings are listed, by their numbers 1 to 7, in the order of `--only`; a
+        /// code may be there more than once. Without `--only` there is none, and all are listed.
+        only: Option<Vec<u8>>,
+        /// Whether findings about Kubernetes' own objects are left out.
+        skip_system: bool,
+    },
     /// Lists what a change lets users do, and what it takes from them.
     Diff {
         /// How many of the files tell what was before the change: the first ones. The others tell

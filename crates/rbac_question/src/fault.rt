@@ -18,6 +18,8 @@ pub enum QuestionFault {
     BadToken,
     /// U5: WHO isn't `u:` or `g:` with a name behind it, or `--groups` gives groups to a group.
     BadPrincipal,
+    /// U6: a part of what follows `--only`, between its commas, isn't one of the words L1 to L7.
+    BadCode,
     /// Out of memory.
     NoMemory,
 }
@@ -69,6 +71,7 @@ impl fmt::Display for QuestionFault {
             QuestionFault::UrlSubresource => "U3 subresource with a URL",
             QuestionFault::BadToken => "U4 bad token",
             QuestionFault::BadPrincipal => "U5 bad principal",
+            QuestionFault::BadCode => "U6 bad code",
             QuestionFault::NoMemory => "out of memory",
         };
         f.write_str(text)

@@ -10,4 +10,4 @@ mod line;
 pub use asked::{Asked, AskedFor};
 pub use command::{Action, Command, Question, Scope};
 pub use fault::QuestionFault;
-pub use line::{CanILine, MatrixLine, QuestionLine, RulesLine, WhoCanLine};
+pub use line::{CanILine, LintLine, MatrixLine, QuestionLine, RulesLine, WhoCanLine};

@@ -12,7 +12,9 @@ ghost use Rattle.rbac_question.specs.Lines.{MeansWhoCan, MeansMatrix, LacksWord,
 ghost use Rattle.rbac_question.specs.Lines.{RefusesQuestion, AcceptsCanI, RefusesCanI};
 ghost use Rattle.rbac_question.specs.Lines.{RefusesMatrix, HasBadToken, MeansRules};
 ghost use Rattle.rbac_question.specs.Lines.{RefusesRules, HasBadPrincipal, NamesPrincipal};
-ghost use Rattle.rbac_question.specs.Lines.{scope_meant};
+ghost use Rattle.rbac_question.specs.Lines.{scope_meant, parts_between, comma, IsCode, code_word};
+ghost use Rattle.rbac_question.specs.Lines.{IsCodeWord, AreCodesIn, HasBadCode, MeansLint};
+ghost use Rattle.rbac_question.specs.Lines.{RefusesLint};
 
 use crate::asked::{Asked, check_target};
 use crate::command::{Action, Question, Scope};
@@ -98,6 +100,8 @@ pub struct WhoCanLine<'a> {
     pub every: bool,
     /// Whether `--anywhere` is given.
     pub anywhere: bool,
+    /// Whether `--any-name` is given.
+    pub any_name: bool,
     /// The parts that ask the question.
     pub question: QuestionLine<'a>,
 }
@@ -111,6 +115,7 @@ impl<'a> Model for WhoCanLine<'a> {
       why = l.why;
       every = l.every;
       anywhere = l.anywhere;
+      any_name = l.any_name;
       question = l.question;
     } };
 }
@@ -169,6 +174,27 @@ impl<'a> Model for MatrixLine<'a> {
       every = l.every;
       after = option_map (λ t. t.now) l.after;
       limit = l.limit;
+    } };
+}
+
+/// The parts of a `lint` line.
+#[derive(Drop)]
+pub struct LintLine<'a> {
+    /// The codes after `--only`, not yet split.
+    pub only: Option<&'a str>,
+    /// Whether `--skip-system` is given.
+    pub skip_system: bool,
+}
+
+impl<'a> Model for LintLine<'a> {
+    ghost use Rattle.std.specs.Prelude.{option_map};
+    ghost use Rattle.rbac_question.specs.Lines.{LintParts};
+
+    ghost Value = { LintParts };
+
+    ghost view = { λ l. record {
+      only = option_map (λ t. t.now) l.only;
+      skip_system = l.skip_system;
     } };
 }
 
@@ -354,6 +380,61 @@ fn mark_after(alloc: Global, token: &str) -> Result<Mark, QuestionFault>
     Ok(mark_of_token(alloc, &token)?)
 }
 
+// The number of the code whose word this is, if it is one.
+#[tactic(auto, unfolding(crate::specs::Lines::IsCodeWord))]
+fn code_of(word: &str) -> Option<u8>
+    ensures { MatchOption result (¬ IsCodeWord word.now)
+        (λ number. IsCode number × (word.now ≡ code_word number)) }
+{
+    match word.as_bytes() {
+        [b'L', digit @ b'1'..=b'7'] => Some(*digit - b'0'),
+        _ => None,
+    }
+}
+
+// Whether a text is the word of a code.
+#[tactic(auto, unfolding(crate::specs::Lines::IsCodeWord))]
+fn is_code_word(text: &str) -> bool
+    ensures { (result ≡ true) ↔ IsCodeWord text.now }
+{
+    code_of(text).is_some()
+}
+
+// Whether each part between commas is the word of a code.
+fn are_code_words(text: &str) -> bool
+    ensures { (result ≡ true) ↔ All IsCodeWord (parts_between comma text.now) }
+{
+    text.split(',').all(|part| is_code_word(part))
+}
+
+// The codes whose words stand between commas, in order.
+fn codes_between(alloc: Global, text: &str) -> Result<Vec<u8>, AllocError>
+    requires { All IsCodeWord (parts_between comma text.now) }
+    ensures { IfOk result (λ numbers. AreCodesIn text.now numbers.items) }
+{
+    let mut numbers = Vec::new(alloc);
+    for part in text.split(',') {
+        match code_of(part) {
+            Some(number) => numbers.push(number)?,
+            None => unreachable!(),
+        }
+    }
+    Ok(numbers)
+}
+
+// The codes that `--only` lists, in order: U6 if a part between commas isn't the word of a code.
+fn codes_of(alloc: Global, text: &str) -> Result<Vec<u8>, QuestionFault>
+    ensures answer { MatchResult result (λ numbers. AreCodesIn text.now numbers.items)
+        (λ e. (e ≡ QuestionFault.NoMemory)
+        ⊎ ((e ≡ QuestionFault.BadCode) × HasBadCode (Some text.now))) }
+    ensures miscoded { HasBadCode (Some text.now) → result ≡ Err QuestionFault.BadCode }
+{
+    if !are_code_words(text) {
+        return Err(QuestionFault::BadCode);
+    }
+    Ok(codes_between(alloc, text)?)
+}
+
 // Why a line asks no question: U2 if VERB or TARGET is empty, or TARGET begins with `.`; otherwise
 // U3 if a URL has a subresource.
 fn check_question(line: &QuestionLine<'_>) -> Result<(), QuestionFault>
@@ -449,6 +530,7 @@ impl Action {
             why: line.why,
             every,
             anywhere,
+            any_name: line.any_name,
             question: question_of(alloc, &line.question)?,
         })
     }
@@ -482,6 +564,24 @@ impl Action {
             every: line.every,
             after,
             limit: line.limit,
+        })
+    }
+
+    /// What a `lint` line means.
+    ///
+    /// U6 if a part of what follows `--only`, between its commas, isn't exactly one of the words L1 to
+    /// L7, such as an empty part, or the empty text. It is refused before anything is allocated.
+    pub fn lint(alloc: Global, line: &LintLine<'_>) -> Result<Self, QuestionFault>
+        ensures answer { MatchResult result (MeansLint line.now) (RefusesLint line.now) }
+        ensures miscoded { HasBadCode line.now.only → result ≡ Err QuestionFault.BadCode }
+    {
+        let only = match line.only {
+            Some(text) => Some(codes_of(alloc, text)?),
+            None => None,
+        };
+        Ok(Action::Lint {
+            only,
+            skip_system: line.skip_system,
         })
     }
 }

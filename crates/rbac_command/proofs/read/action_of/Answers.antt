@@ -2,7 +2,7 @@ use Rattle.std.proofs.Common.{◌∙◌, sym}
 use Rattle.std.specs.Prelude.{codes}
 use Rattle.std.proofs.lemmas.Slice.Eq.{bytes_eq-Decides}
 use Rattle.clap.specs.Words.{found_of, rows_of}
-use Rattle.rbac_command.proofs.Actions.{the_other, can_i_line, matrix_line, rules_line, who_can_line}
+use Rattle.rbac_command.proofs.Actions.{the_other, can_i_line, lint_line, matrix_line, rules_line, who_can_line}
 use Rattle.rbac_command.proofs.read.action_of.Goals as goal
 
 pub returns-then-eq : goal.returns-then-eq
@@ -20,6 +20,11 @@ pub returns-then-eq-3 : goal.returns-then-eq-3
 returns-then-eq-3 c =
     rules_line c.args.name.now (rows_of (found_of c.args.matches.now)) _ c.rules.result
     ((bytes_eq-Decides c.args.name.now (codes "rules")).0 (sym c.eq-3.ensures ∙ c.if-eq-3.true)) c.rules_line_of.ensures c.rules.ensures.answer
+
+pub returns-then-eq-4 : goal.returns-then-eq-4
+returns-then-eq-4 c =
+    lint_line c.args.name.now (rows_of (found_of c.args.matches.now)) _ c.lint.result
+    ((bytes_eq-Decides c.args.name.now (codes "lint")).0 (sym c.eq-4.ensures ∙ c.if-eq-4.true)) c.lint_line_of.ensures c.lint.ensures.answer
 
 pub returns : goal.returns
 returns c =
