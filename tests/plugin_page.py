@@ -60,8 +60,9 @@ NAMED = [line.replace(' ', '\t') for line in (
     'get - secrets u:bob RoleBinding/shop-staging/one-secret',
     'impersonate - users g:helpers ClusterRoleBinding/one-user',
     'impersonate authentication.k8s.io userextras/scopes g:helpers ClusterRoleBinding/one-user')]
-UNASKED = ("kubectl-rbacaudit: who may impersonate userextras/a\\\\b only by name isn't counted: "
-           'that name has a backslash\n')
+UNASKED = ("kubectl-rbacaudit: the page doesn't count who may impersonate userextras/a\\\\b only by "
+           'object names, since that resource has a backslash or a control byte; kubectl rbacaudit '
+           'rules WHO shows it\n')
 # The program, but for a who-can.
 NO_HOLDERS = """#!/bin/sh
 [ "$1" != who-can ] || exit 2

@@ -294,6 +294,13 @@ def by_name(it, room):
     page.go('#find?q=zoe')
     same('by name: is found', page.texts('main h3'), ['Who 1'])
     page.is_quiet()
+    row, other = rows_of('u:ann dev get - secrets a RoleBinding/dev/a\n'
+                         'u:bob dev get - secrets - RoleBinding/dev/b')
+    with file_of([NAMED[0].replace('g:devs', who) for who in ('u:ann', 'u:bob', 'u:cy')]) as named:
+        page = Shown(it, room, 'names', made([row, other], '--named', named)[1])
+    page.go('#watch')
+    same('by name: a row with a name counts as before', it.do(COUNTS)[0],
+         ['2 · 1 by name', 'Reads secrets', 'in namespaces alone'])
 
 
 def watch_heads(it, room):

@@ -135,7 +135,8 @@ list_pairs() {
 ask_pair() {
     case $resource in
         *\\*)
-            report "who may $verb $resource only by name isn't counted: that name has a backslash"
+            report "the page doesn't count who may $verb $resource only by object names, since that \
+resource has a backslash or a control byte; kubectl rbacaudit rules WHO shows it"
             return
             ;;
         */*) below=--subresource=${resource#*/} ;;
@@ -167,7 +168,8 @@ Write everything about the export as one HTML file, which any current browser op
 
 The rows are those of matrix, over the universe that kubectl rbacaudit universe writes: without
 object names. A FILE may be a Universe document of your own; each of its fields replaces one of
-that universe. The findings of lint are shown beside.
+that universe. The findings of lint are shown beside. The watch list counts apart who may do
+something on it only to objects of certain names, whatever a Universe document says.
 
 --export, --partial, --context, --kubeconfig and --request-timeout mean what
 kubectl rbacaudit --help says.
