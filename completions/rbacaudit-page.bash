@@ -3,10 +3,10 @@
 _rbacaudit_page() {
     COMPREPLY=()
     case ${COMP_WORDS[COMP_CWORD - 1]} in
-        --lint | --diff) compopt -o default ;; # a FILE, which readline knows best
+        --lint | --diff | --named) compopt -o default ;; # a FILE, which readline knows best
         --title) ;;
         *)
-            mapfile -t COMPREPLY < <(compgen -W '--lint --diff --title -h --help' \
+            mapfile -t COMPREPLY < <(compgen -W '--lint --diff --named --title --watched -h --help' \
                 -- "${COMP_WORDS[COMP_CWORD]}")
             ;;
     esac

@@ -1,46 +1,22 @@
 // What follows from the rows: who has how much, and who has what is worth watching.
 
-const RBAC_ROLES = ['roles.rbac.authorization.k8s.io', 'clusterroles.rbac.authorization.k8s.io'];
+const PAGE = JSON.parse(document.getElementById('data').textContent);
 
 // What to watch: pairs of verbs and types. A type with /* stands for all its subresources. The last
 // one has no pairs: it is about all that the page lists.
-const WATCHED = [
-    {id: 'secrets', short: 'secrets', title: 'Reads secrets',
-        pairs: [[['get', 'list', 'watch'], ['secrets']]],
-        why: 'Secrets hold passwords, keys and tokens. Listing or watching shows their contents '
-            + 'as much as getting one does.'},
-    {id: 'exec', short: 'exec', title: 'Execs into pods',
-        pairs: [[['get', 'create'], ['pods/exec', 'pods/attach', 'nodes/proxy']],
-            [['patch', 'update'], ['pods/ephemeralcontainers']]],
-        why: 'Runs commands inside running pods, with all that the pods may do: by exec or '
-            + 'attach, through a node’s proxy, or in an ephemeral container.'},
-    {id: 'workloads', short: 'workloads', title: 'Creates pods or workloads',
-        pairs: [[['create'], ['pods', 'replicationcontrollers', 'deployments.apps',
-            'daemonsets.apps', 'statefulsets.apps', 'replicasets.apps', 'jobs.batch',
-            'cronjobs.batch']]],
-        why: 'A new pod may use any service account of its namespace, and mount its secrets.'},
-    {id: 'impersonate', short: 'impersonate', title: 'Impersonates',
-        pairs: [[['impersonate'], ['users', 'groups', 'serviceaccounts',
-            'uids.authentication.k8s.io', 'userextras/*.authentication.k8s.io']]],
-        why: 'Acts as another user, group or service account, with all that those may do.'},
-    {id: 'bind', short: 'bind', title: 'Binds roles', pairs: [[['bind'], RBAC_ROLES]],
-        why: 'May give somebody a role whose permissions the giver doesn’t have.'},
-    {id: 'escalate', short: 'escalate', title: 'Escalates roles',
-        pairs: [[['escalate'], RBAC_ROLES]],
-        why: 'May write permissions into a role that the writer doesn’t have.'},
-    {id: 'tokens', short: 'tokens', title: 'Creates tokens',
-        pairs: [[['create'], ['serviceaccounts/token']]],
-        why: 'A token of a service account lets its holder act as that account, from anywhere.'},
-    {id: 'everything', short: 'everything', title: 'Has everything (*)', pairs: [],
-        why: 'May use every verb on every type that this page lists for the whole cluster or for '
-            + 'a namespace, as a rule with * allows; or has a row for * itself.'},
-];
+const WATCHED = PAGE.watched;
 const EVERYTHING = 1 << (WATCHED.length - 1);
 
 function isType(word, wanted) {
     const [before, after] = wanted.split('/*');
     return after === undefined ? word === wanted
         : word.startsWith(before + '/') && word.endsWith(after);
+}
+
+// Which categories a verb on a type belongs to, as bits.
+function bitsOf(verb, type) {
+    return places(WATCHED, ({pairs}) => pairs.some(([verbs, types]) => verbs.includes(verb)
+        && types.some(wanted => isType(type, wanted))));
 }
 
 // A category may have several pairs, and a verb of one goes with no type of another: so each pair
@@ -120,11 +96,15 @@ function places(list, test) {
     return list.reduce((bits, item, at) => test(item) ? bits | 1 << at : bits, 0);
 }
 
-// Each principal that has a row: its rows' places and counts. Namespaces and bindings are sets of
-// places in their words.
+// A principal without rows yet. Namespaces and bindings are sets of places in their words.
+function principal(word) {
+    return {word, rows: [], permissions: 0, cluster: 0, watched: 0, namespaces: new Set(),
+        bindings: new Set(), watchedAt: new Map(), named: [], onlyNamed: 0};
+}
+
+// Each principal that has a row: its rows' places and counts.
 function principalsOf(rows, watch) {
-    const found = rows.words.who.map((word, who) => ({who, word, rows: [], permissions: 0,
-        cluster: 0, watched: 0, namespaces: new Set(), bindings: new Set(), watchedAt: new Map()}));
+    const found = rows.words.who.map(word => principal(word));
     const cluster = rows.words.namespace.indexOf('-');
     for (let row = 0; row < rows.length; row++) {
         const it = found[rows.columns.who[row]];
@@ -143,6 +123,38 @@ function principalsOf(rows, watch) {
         it.watchedAt.set(namespace, it.watchedAt.get(namespace) | bits);
     }
     return found;
+}
+
+// ---- holders by name
+
+// Where the lines of a binding count: in the whole cluster, or in its namespace. A name with a
+// slash, which no cluster has, doesn't tell.
+function placeOf(binding) {
+    const [kind, namespace, ...name] = binding.split('/');
+    return kind === 'ClusterRoleBinding' ? '-' : name.length !== 1 ? undefined
+        : namespace === '-' ? '\\x2d' : namespace;
+}
+
+// Gives principals what they may do only to objects of certain names, by the lines of --named: not
+// what they have a row for there, or in the whole cluster. Who has no row at all is added.
+function addNamed(principals, rows, named) {
+    const known = new Map(principals.map(it => [it.word, it]));
+    const cluster = rows.words.namespace.indexOf('-');
+    for (let at = 0; at < named.length; at++) {
+        const [verb, group, resource, who, binding] = NAMED_FIELDS.map(field =>
+            named.word(at, field));
+        const it = known.get(who) || principal(who);
+        const place = placeOf(binding);
+        const held = it.watchedAt.get(cluster)
+            | it.watchedAt.get(rows.words.namespace.indexOf(place));
+        const bits = bitsOf(textOf(verb), typeOf(group, resource)) & ~held;
+        if (bits) {
+            it.named.push({bits, place, verb, group, resource, binding});
+            it.onlyNamed |= bits;
+            known.set(who, it);
+        }
+    }
+    return [...known.values()];
 }
 
 // ---- orders and groups
@@ -188,8 +200,10 @@ function classOf(verb) {
     return ['read', 'read', 'read', 'write', 'write', 'write', 'write', 'other'][letterAt(verb)];
 }
 
-const PAGE = JSON.parse(document.getElementById('data').textContent);
 const ROWS = new Rows(PAGE.rows, FIELDS);
 const DIFF = PAGE.changes && new Rows(PAGE.changes, ['change', ...FIELDS]);
 const WATCH = new Watch(ROWS);
-const PRINCIPALS = principalsOf(ROWS, WATCH);
+const NAMED_FIELDS = ['verb', 'group', 'resource', 'who', 'binding'];
+const PRINCIPALS = PAGE.named
+    ? addNamed(principalsOf(ROWS, WATCH), ROWS, new Rows(PAGE.named, NAMED_FIELDS))
+    : principalsOf(ROWS, WATCH);

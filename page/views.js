@@ -38,16 +38,20 @@ function fill(element, params) {
     }
 }
 
-// What of the watch list a principal has; everything comes first.
-function badges(bits, principal) {
-    const held = WATCHED.filter((_, at) => bits >> at & 1);
-    if (bits & EVERYTHING) {
+// What of the watch list a principal has; everything comes first, and what they have only by name
+// comes last.
+function badges({watched, onlyNamed, word}) {
+    const held = WATCHED.filter((_, at) => watched >> at & 1);
+    if (watched & EVERYTHING) {
         held.unshift(held.pop());
     }
-    return held.map(({id, short, title}) => {
-        const href = link('rows', {who: '=' + principal, watch: id});
+    const named = WATCHED.filter((_, at) => onlyNamed >> at & 1);
+    return [held.map(({id, short, title}) => {
+        const href = link('rows', {who: '=' + word, watch: id});
         return [make('a', {href, class: 'badge', title}, short), ' '];
-    });
+    }), named.map(({id, short, title}) => [make('a', {href: link('watch', {at: id}),
+        class: 'badge part', title: title + ', only objects of certain names'},
+    short + ' by name'), ' '])].flat();
 }
 
 function bindingLinks(places_) {
@@ -115,7 +119,7 @@ class WhoView {
             .map(({value}) => cell('number', value(it) ? figure(value(it)) : muted('–')));
         const name = make('th', {scope: 'row', title: lineOf(textOf(it.word))},
             anchor('who', {who: it.word}, principalNodes(it.word)));
-        return [name, ...numbers, cell('', badges(it.watched, it.word))];
+        return [name, ...numbers, cell('', badges(it))];
     }
 }
 
@@ -143,8 +147,12 @@ class PrincipalView {
         fill(this.element, params);
         const it = PRINCIPALS.find(({word}) => word === params.who);
         this.title.replaceChildren(...principalNodes(params.who));
-        if (!it) {
-            this.summary.textContent = 'This page has no row for them.';
+        this.watched.replaceChildren(...it ? badges(it).flat() : []);
+        if (!it?.rows.length) {
+            this.summary.textContent = 'This page has no row for them'
+                + (it ? '; the watch list has what they may do only by name.' : '.');
+            this.hidden.hidden = true;
+            this.links.replaceChildren();
             this.shown = [];
             this.sheet.show(0);
             return;
@@ -154,7 +162,6 @@ class PrincipalView {
             figure(it.permissions - it.cluster) + ' in '
             + counted(it.namespaces.size, 'namespace'),
             'from ' + counted(it.bindings.size, 'binding')].join(', ') + '.';
-        this.watched.replaceChildren(...badges(it.watched, it.word).flat());
         this.links.replaceChildren(anchor('rows', {who: '=' + it.word}, 'All rows'));
         it.lines ||= linesOf(it.rows);
         this.show(it.lines, params);
@@ -211,30 +218,49 @@ function typeNodes(group, resource) {
 class WatchView {
     constructor() {
         const held = WATCHED.map((_, at) => holdersOf(at));
-        this.element = make('div', {class: 'text'}, make('h2', {}, 'Watch list'),
+        const named = WATCHED.map((_, at) => namedHolders(at));
+        this.element = make('div', {class: 'text'}, make('h2', {}, 'Watch list'), this.about(),
             make('ul', {class: 'tiles'},
-                WATCHED.map((watched, at) => this.tile(watched, held[at]))),
-            WATCHED.map((watched, at) => this.section(watched, held[at])));
+                WATCHED.map((watched, at) => this.tile(watched, held[at], named[at]))),
+            WATCHED.map((watched, at) => this.section(watched, held[at], named[at])));
     }
 
-    tile({id, title}, held) {
+    // Whether those count who may do something only to objects of certain names. Rows with names
+    // tell of these names at least.
+    about() {
+        const said = PAGE.named ? 'Whoever may do it only to objects of certain names is counted '
+            + 'apart: by name.'
+            : ROWS.words.name.some(word => word !== '-') ? ''
+                : 'Whoever may do it only to objects of certain names isn’t counted.';
+        return said ? make('p', {class: 'why'}, said) : [];
+    }
+
+    tile({id, title}, held, named) {
         const whole = held.filter(isClusterWide).length;
         const where = whole ? `${figure(whole)} in the whole cluster`
-            : held.length ? 'in namespaces alone' : 'nobody';
+            : held.length ? 'in namespaces alone' : named.length ? 'only by name' : 'nobody';
         return make('li', {}, make('a', {href: link('watch', {at: id}), click: () => this.jump(id)},
-            make('b', {}, figure(held.length)), make('span', {}, title),
+            make('b', {}, this.counts(held, named)), make('span', {}, title),
             make('small', {class: 'muted'}, where)));
     }
 
-    section({id, title, why}, held) {
+    counts(held, named) {
+        return [figure(held.length),
+            named.length ? muted(` · ${figure(named.length)} by name`) : []];
+    }
+
+    section({id, title, why}, held, named) {
         const heads = ['Principal', 'Where', 'Verbs and types', 'Bindings'];
         const parts = held.length ? plainTable(title, heads, held, it => this.line(it, id))
             : make('p', {}, 'Nobody, by the rows of this page.');
+        const byName = named.length ? [make('p', {class: 'why'}, 'Only by name: the rule has the '
+            + 'names of the objects. rbacaudit rules WHO prints it.'),
+        plainTable(title + ', only by name', heads, named, it => this.namedLine(it))] : [];
         return make('section', {id: 'watch-' + id, 'aria-labelledby': 'title-' + id},
             make('h3', {id: 'title-' + id}, title, ' ',
-                muted(figure(held.length))),
-            make('p', {class: 'why'}, why, ' ',
-                held.length ? anchor('rows', {watch: id}, 'All rows') : ''), parts);
+                muted(this.counts(held, named))),
+            make('p', {class: 'why'}, why.join(' '), ' ',
+                held.length ? anchor('rows', {watch: id}, 'All rows') : ''), parts, byName);
     }
 
     line({it, rows, places: where}, id) {
@@ -248,6 +274,21 @@ class WatchView {
             bindingLinks(new Set(rows.map(row => ROWS.columns.binding[row])))];
     }
 
+    namedLine({it, lines, places: where}) {
+        const uses = grouped(lines, line => line.group + '\t' + line.resource);
+        const verbs = found => [...new Set(found.map(({verb}) => lineOf(textOf(verb))))].join(', ');
+        const inside = new Set(where.filter(place => place !== '-' && place !== undefined));
+        const bindings = [...new Set(lines.map(({binding}) => binding))];
+        return [anchor('who', {who: it.word}, principalNodes(it.word)),
+            [where.includes('-') ? make('b', {class: 'whole'}, 'whole cluster ') : [],
+                this.namespaces([...inside].sort(byText)),
+                where.includes(undefined) ? muted('as the binding says') : []],
+            [...uses.values()].map(found => make('div', {}, muted(verbs(found), ' '),
+                typeNodes(found[0].group, found[0].resource), muted(', some objects only'))),
+            [bindings.slice(0, 20).map(binding => make('div', {}, fieldNodes(binding, 'binding'))),
+                bindings.length > 20 ? muted(`and ${bindings.length - 20} more`) : []]];
+    }
+
     // The verbs that somebody has on a type, by the lines about it.
     use(lines) {
         const verbs = [...new Set(lines.flatMap(line => [...line.verbs]))].map(textOf).map(lineOf);
@@ -258,8 +299,11 @@ class WatchView {
     }
 
     namespaces(words) {
-        const shown = words.slice(0, 4).map(word => [anchor('what', {ns: word},
-            fieldNodes(word, 'namespace')), ' ']);
+        const shown = words.slice(0, 4).map(word => {
+            const nodes = fieldNodes(word, 'namespace');
+            return [ROWS.words.namespace.includes(word) ? anchor('what', {ns: word}, nodes) : nodes,
+                ' '];
+        });
         return words.length > 4 ? [shown,
             muted(`and ${words.length - 4} more`)] : shown;
     }
@@ -285,6 +329,16 @@ function holdersOf(at) {
         const rows = it.rows.filter(row => WATCH.of(row) >> at & 1
             && (!isWhole || ROWS.word(row, 'namespace') === '-'));
         return {it, rows, places: places_};
+    });
+    return [...held.filter(isClusterWide), ...held.filter(holder => !isClusterWide(holder))];
+}
+
+// Who is in a category only by name, with the lines that tell; those in the whole cluster come
+// first.
+function namedHolders(at) {
+    const held = PRINCIPALS.filter(it => it.onlyNamed >> at & 1).map(it => {
+        const lines = it.named.filter(({bits}) => bits >> at & 1);
+        return {it, lines, places: lines.map(({place}) => place)};
     });
     return [...held.filter(isClusterWide), ...held.filter(holder => !isClusterWide(holder))];
 }
@@ -418,15 +472,16 @@ class FindView {
     }
 
     update({q = ''}) {
-        const search = (field, view, params) => {
+        const search = (field, view, params, all = ROWS.words[field]) => {
             const wants = wantedBy(q);
-            const words = ROWS.words[field].filter(word => wants(word, field));
+            const words = all.filter(word => wants(word, field));
             return words.length ? [make('h3', {}, HEADS[field], ' ',
                 muted(figure(words.length))),
                 plainTable(HEADS[field], [HEADS[field]], words,
                     word => [anchor(view, params(word), fieldNodes(word, field))], 25)] : [];
         };
-        const found = q === '' ? [] : [search('who', 'who', word => ({who: word})),
+        const found = q === '' ? [] : [search('who', 'who', word => ({who: word}),
+            PRINCIPALS.map(({word}) => word)),
             search('namespace', 'what', word => ({ns: word})),
             search('resource', 'rows', word => ({resource: '=' + word})),
             search('name', 'rows', word => ({name: '=' + word})),

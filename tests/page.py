@@ -16,15 +16,15 @@ import sys
 import tempfile
 
 from common import TOP, checked, skipped, tested
-from plugin_page import plugin_pages, plugin_refusals
+from plugin_page import plugin_names, plugin_pages, plugin_refusals
 from shown import in_browser
-from written import (CHANGES, FILTER, FINDINGS, SMALL, Parts, contents, file_of, lines_in, made,
-                     rows_of, same, strangers)
+from written import (CHANGES, FILTER, FINDINGS, NAMED, SMALL, Parts, contents, file_of, lines_in,
+                     made, named_strangers, rows_of, same, strangers)
 
 
 def written():
-    """Pages hold exactly the rows, findings and changes that were given, and the same ones give the
-    same page."""
+    """Pages hold exactly the rows, findings, changes and holders by name that were given, and the
+    same ones give the same page."""
     many = rows_of('\n'.join('u:%d - get - pods - ClusterRoleBinding/b%d' % (at, at % 256)
                              for at in range(70000)))
     for name, rows in (('a few rows', SMALL), ('no rows', []),
@@ -34,8 +34,9 @@ def written():
         data = Parts(text).data()
         checked('%s: the page has them all' % name, lines_in(data['rows']) == rows
                 and data['rows']['count'] == len(rows))
-        same('%s: nothing else' % name, (data['whole'], data['findings'], data['changes']),
-             (True, None, None))
+        same('%s: nothing else' % name, [data[part] for part in ('whole', 'findings', 'changes',
+                                                                 'named')],
+             [True, None, None, None])
     checked('the same rows give the same page', made(SMALL)[1] == made(SMALL)[1])
     same('a part of a matrix is said to be one',
          Parts(made(SMALL, last='next\tMQ')[1]).data()['whole'], False)
@@ -45,16 +46,23 @@ def written():
         same('changes', lines_in(data['changes']), CHANGES)
         data = Parts(made(SMALL, '--lint', none, '--diff', none)[1]).data()
         same('no findings and no changes', (data['findings'], data['changes']['count']), ([], 0))
+        data = Parts(made(SMALL, '--named', none)[1]).data()
+        same('no holders by name', data['named']['count'], 0)
+    with file_of(NAMED) as named:
+        same('holders by name', lines_in(Parts(made(SMALL, '--named', named)[1]).data()['named']),
+             NAMED)
 
 
 def no_markup():
     """No name becomes markup: a page has the elements and attributes of one without names, and is
     ASCII beside the template."""
-    plain, hostile = made(SMALL)[1], made(strangers(), '--title',
-                                          '</title><script>alert(5)</script>\u202e')[1]
+    with file_of(named_strangers()) as named:
+        plain, hostile = made(SMALL)[1], made(strangers(), '--named', named, '--title',
+                                              '</title><script>alert(5)</script>\u202e')[1]
     same('the elements are the same', Parts(hostile).elements, Parts(plain).elements)
     parts = Parts(hostile)
     same('all names are there', sorted(lines_in(parts.data()['rows'])), sorted(strangers()))
+    same('those of holders by name too', lines_in(parts.data()['named']), [*named_strangers()])
     data = parts.texts['script', 'application/json']
     checked('the data are ASCII without markup', data.isascii() and not re.search('[<>&]', data),
             data[:1000])
@@ -110,15 +118,62 @@ def refusals():
          (2, b'rbacaudit-page: standard input line 1: not UTF-8\n'))
     with file_of(SMALL) as rows:
         for option, said in (('--lint', 'no line of rbacaudit lint'),
-                             ('--diff', 'no line of changes')):
+                             ('--diff', 'no line of changes'),
+                             ('--named', 'no line of holders by name')):
             same('refused: rows after %s' % option, made(SMALL, option, rows),
                  (2, '', 'rbacaudit-page: %s line 1: %s\n' % (rows, said)))
             same('refused: no file after %s' % option, made(SMALL, option, rows + 'x')[::2],
                  (2, 'rbacaudit-page: %sx: No such file or directory\n' % rows))
+    named_refusals()
     for words in (['--lnt', 'x'], ['x'], ['--title'], ['--lin', 'x']):
         status, out, err = got = made(SMALL, *words)
         checked('refused: %s' % ' '.join(words), (status, out) == (2, '')
                 and 'usage: rbacaudit-page' in err, repr(got))
+
+
+def named_refusals():
+    """Lines of --named that rbacaudit doesn't print, or that the watch list isn't about."""
+    unlike = 'no line of holders by name'
+    unwatched = ('the watch list lacks this verb and resource: rbacaudit-page --watched prints all '
+                 'that it has')
+    for name, line, said in (
+            ('a holder alone', 'u:ann RoleBinding/dev/b', unlike),
+            ('a field more', 'get - secrets u:ann RoleBinding/dev/b -', unlike),
+            ('an empty field', 'get  secrets u:ann RoleBinding/dev/b', unlike),
+            ('a bad escape', 'get - secrets u:a\\q RoleBinding/dev/b', unlike),
+            ('no principal', 'get - secrets ann RoleBinding/dev/b', unlike),
+            ('a binding without its namespace', 'get - secrets u:ann RoleBinding/b', unlike),
+            ('no binding', 'get - secrets u:ann Role/dev/b', unlike),
+            ('a verb that is watched for another type', 'bind - secrets u:ann RoleBinding/dev/b',
+             unwatched),
+            ('a type of another group', 'get apps secrets u:ann RoleBinding/dev/b', unwatched),
+            ('another subresource', 'create - pods/log u:ann RoleBinding/dev/b', unwatched),
+            ('no subresource', 'impersonate authentication.k8s.io userextras/ u:ann '
+             'RoleBinding/dev/b', unwatched)):
+        with file_of([NAMED[0], line.replace(' ', '\t')]) as path:
+            same('refused: %s' % name, made(SMALL, '--named', path),
+                 (2, '', 'rbacaudit-page: %s line 2: %s\n' % (path, said)))
+
+
+def watch_list():
+    """--watched prints the pairs of docs/FORMATS.md, and needs no rows."""
+    part = contents('docs', 'FORMATS.md').partition('| Category |')[2].partition('\n\n')[0]
+    wanted = []
+    for line in part.splitlines()[2:]:
+        verbs, types = (re.findall(r'`(.*?)`', cell) for cell in line.split('|')[2:4])
+        wanted += [[verb, it.partition('.')[2] or '-', it.partition('.')[0]] for it in types
+                   for verb in verbs]
+    ended = subprocess.run([sys.executable, FILTER, '--watched'], stdin=subprocess.DEVNULL,
+                           stdout=subprocess.PIPE, stderr=subprocess.PIPE, timeout=60)
+    lines = [line.split('\t') for line in ended.stdout.decode().splitlines()]
+    same('--watched: status', (ended.returncode, ended.stderr), (0, b''))
+    same('--watched: the pairs', [line[1:] for line in lines], wanted)
+    same('--watched: a category has one id', len({line[0] for line in lines}), 7)
+    with open('/dev/full', 'wb') as full:
+        ended = subprocess.run([sys.executable, FILTER, '--watched'], stdout=full,
+                               stderr=subprocess.PIPE, timeout=60)
+    same('--watched: a full disk', (ended.returncode, ended.stderr), (
+        2, b"rbacaudit-page: the watch list can't be written: No space left on device\n"))
 
 
 def limits():
@@ -164,7 +219,8 @@ def helped():
     """Help, the man page and the completions have the same options, in the same words."""
     told_ = told(sys.executable, FILTER, '--help', env=dict(os.environ, COLUMNS='100'))
     options = dict(re.findall(r'^  (?:-h, )?--(\w+)(?: [A-Z]+)?  +(.*)$', told_, re.M))
-    same('help: the options', [*options], ['help', 'lint', 'diff', 'title'])
+    same('help: the options', [*options],
+         ['help', 'lint', 'diff', 'named', 'title', 'watched'])
     man = contents('man', 'rbacaudit-page.1')
     same('man: the options', re.findall(r'^\.TP\n.*\\-\\-(\w+)\\fR', man, re.M), [*options])
     checked('man: the default of --title', 'Default: Who can do what.' in man)
@@ -174,8 +230,9 @@ def helped():
     zsh = contents('completions', '_rbacaudit-page')
     same('zsh: the options', dict(re.findall(r"--(\w+)=?\}?'?\[(.*?)\]", zsh)), options)
     path = os.path.join(TOP, 'completions', 'rbacaudit-page.bash')
-    for line, wanted in (('rbacaudit-page --', '--lint --diff --title --help'),
+    for line, wanted in (('rbacaudit-page --', '--lint --diff --named --title --watched --help'),
                          ('rbacaudit-page --lint x --t', '--title'),
+                         ('rbacaudit-page --named -', ''),
                          ('rbacaudit-page --title -', '')):
         script = ('compopt() { :; }; . "$0"; COMP_WORDS=(%s); COMP_CWORD=%d; _rbacaudit_page; '
                   'echo ${COMPREPLY[*]}' % (line, line.count(' ')))
@@ -242,5 +299,5 @@ def colours():
 
 
 if __name__ == '__main__':
-    sys.exit(tested(written, no_markup, policy, refusals, limits, terminals, helped, installed,
-                    plugin_pages, plugin_refusals, colours, in_browser))
+    sys.exit(tested(written, no_markup, policy, refusals, watch_list, limits, terminals, helped,
+                    installed, plugin_pages, plugin_names, plugin_refusals, colours, in_browser))

@@ -9,8 +9,8 @@ import os
 import pty
 import subprocess
 
-from common import V1
-from plugin_room import CAUTION, PLUGIN, REFUSAL, in_each_shell
+from common import PROGRAM, V1
+from plugin_room import CAUTION, PLUGIN, RBAC, REFUSAL, in_each_shell, served
 from written import FILTER, Parts, lines_in
 
 TITLE = 'Who can do what'
@@ -21,14 +21,64 @@ AGAIN = {'apiVersion': V1, 'kind': 'ClusterRoleBinding', 'metadata': {'name': 'a
 GETS = {'apiVersion': 'rbacaudit/v1', 'kind': 'Universe', 'verbs': ['get']}
 
 
+def role(name, *rules, **where):
+    """A role whose rules are a verb, a group, resources and names."""
+    parts = [{'verbs': [verb], 'apiGroups': [group], 'resources': resources, 'resourceNames': names}
+             for verb, group, resources, names in rules]
+    return {'apiVersion': V1, 'kind': 'Role' if where else 'ClusterRole',
+            'metadata': {'name': name, **where}, 'rules': parts}
+
+
+def binding(name, kind, *subjects, **where):
+    """A binding of the role of the same name."""
+    return {'apiVersion': V1, 'kind': 'RoleBinding' if where else 'ClusterRoleBinding',
+            'metadata': {'name': name, **where},
+            'roleRef': {'apiGroup': RBAC, 'kind': kind, 'name': name},
+            'subjects': [{'apiGroup': RBAC, 'kind': kind, 'name': name}
+                         for kind, name in subjects]}
+
+
+# Rules with names beside those of the example, by which dana may do all, and the developers all in
+# shop-staging, where ann lists all secrets.
+ANN, BOB, DANA = ('User', 'ann'), ('User', 'bob'), ('User', 'dana@example.com')
+DEVELOPERS = ('Group', 'shop-developers')
+BY_NAME = {'cluster': [
+    role('one-secret', ('get', '', ['secrets'], ['db-password'])),
+    role('one-user', ('impersonate', '', ['users'], ['kim@example.com']),
+         ('impersonate', 'authentication.k8s.io', ['userextras/scopes', 'userextras/a\\b'], ['x'])),
+    binding('one-user', 'ClusterRole', ('Group', 'helpers'), DANA)],
+    'namespaced': [
+        binding('one-secret', 'ClusterRole', ANN, ('User', 'tab\t"bed"'), DEVELOPERS, DANA,
+                namespace='shop'),
+        binding('one-secret', 'ClusterRole', BOB, ANN, DEVELOPERS, namespace='shop-staging'),
+        role('lists', ('list', '', ['secrets'], []), namespace='shop-staging'),
+        binding('lists', 'Role', ANN, namespace='shop-staging')]}
+NAMED = [line.replace(' ', '\t') for line in (
+    'get - secrets u:ann RoleBinding/shop/one-secret',
+    'get - secrets u:tab\\x09"bed" RoleBinding/shop/one-secret',
+    'get - secrets g:shop-developers RoleBinding/shop/one-secret',
+    'get - secrets u:bob RoleBinding/shop-staging/one-secret',
+    'impersonate - users g:helpers ClusterRoleBinding/one-user',
+    'impersonate authentication.k8s.io userextras/scopes g:helpers ClusterRoleBinding/one-user')]
+UNASKED = ("kubectl-rbacaudit: the page doesn't count who may impersonate userextras/a\\\\b only by "
+           'object names, since that resource has a backslash or a control byte; kubectl rbacaudit '
+           'rules WHO shows it\n')
+# The program, but for a who-can.
+NO_HOLDERS = """#!/bin/sh
+[ "$1" != who-can ] || exit 2
+exec '%s' "$@"
+"""
+
+
 def on_page(text):
-    """The title of a page, and its rows, findings and changes as lines, without the last line of
-    the matrix."""
+    """The title of a page, and its rows, findings, changes and holders by name as lines, without
+    the last line of the matrix."""
     parts = Parts(text)
     data = parts.data()
     findings = ['\t'.join(finding) for finding in data['findings']]
     changes = data['changes'] and lines_in(data['changes'])
-    return parts.texts['title', None], lines_in(data['rows']), findings, changes
+    return (parts.texts['title', None], lines_in(data['rows']), findings, changes,
+            lines_in(data['named']))
 
 
 def lines_of(it, *words):
@@ -61,13 +111,14 @@ def plugin_pages(it):
     gets = [row for row in rows if row.split('\t')[2] == 'get']
     gained = ['+\t' + rows[0]]
     for line, wanted in (
-            (['--export', 'prod'], (TITLE, rows, findings, None)),
-            ([], (TITLE, rows, findings, None)),
+            (['--export', 'prod'], (TITLE, rows, findings, None, [])),
+            ([], (TITLE, rows, findings, None, [])),
             (['--every', '--export=prod', 'again.json', '--title', "it's <b>"],
-             ("it's <b>", every, findings, None)),
+             ("it's <b>", every, findings, None, [])),
             (['my verbs.json', '--export', 'prod', '--title=-x', '--diff', 'chan ges'],
-             ('-x', gets, findings, gained)),
-            (['--diff=chan ges', '--', 'my verbs.json'], (TITLE, gets, findings, gained))):
+             ('-x', gets, findings, gained, [])),
+            (['--diff=chan ges', '--', 'my verbs.json'],
+             (TITLE, gets, findings, gained, []))):
         status, out, err = got = it.run('page', *line)
         it.checked('page %s' % ' '.join(line),
                    (status, err) == (0, '') and on_page(out) == wanted, repr(got)[:2000])
@@ -76,6 +127,39 @@ def plugin_pages(it):
     status, out, err = got = it.run('page', '--partial', trouble=['forbid accounts'])
     it.checked('a part is missing, --partial',
                status == 0 and err.endswith(CAUTION) and on_page(out)[1] == rows, repr(got)[:2000])
+
+
+@in_each_shell
+def plugin_names(it):
+    """Whoever may do something watched only to objects of certain names is on the page, but not who
+    may do the like to all objects there; without such rules nothing is asked for it."""
+    os.symlink(FILTER, os.path.join(it.bin, 'rbacaudit-page'))
+    plain = served()
+    it.serve({name: {**plain[name], 'items': plain[name]['items'] + items}
+              for name, items in BY_NAME.items()})
+    it.run('export', 'prod')
+    for name, line in (('an export', ['--export', 'prod']), ('a cluster', []),
+                       ('another universe', ['--export', 'prod', 'my verbs.json'])):
+        it.write(json.dumps({**GETS, 'verbs': ['watch']}), 'my verbs.json')
+        status, out, err = got = it.run('page', *line)
+        it.checked('by name, of %s' % name,
+                   (status, err) == (0, UNASKED) and on_page(out)[-1] == NAMED, repr(got)[-4000:])
+    for name in ('cluster.json', 'namespaced.json'):
+        text = it.read('prod', name)
+        it.write(text.replace('"resourceNames"', '"resource\\u004eames"'), 'prod', name)
+    status, out, err = got = it.run('page', '--export', 'prod')
+    it.checked('by name, spelled with an escape', on_page(out)[-1] == NAMED, repr(got)[-4000:])
+    os.remove(os.path.join(it.bin, 'rbacaudit'))
+    it.write(NO_HOLDERS % PROGRAM, it.at('bin'), 'rbacaudit')
+    os.chmod(os.path.join(it.bin, 'rbacaudit'), 0o755)
+    it.checked('no page if they can\'t be asked for', it.run('page', '--export', 'prod')[:2]
+               == (2, ''), 'a page')
+    plain['namespaced']['items'] = [item for item in plain['namespaced']['items']
+                                    if 'resourceNames' not in json.dumps(item)]
+    it.serve(plain)
+    status, out, err = got = it.run('page')
+    it.checked('without resourceNames nothing is asked',
+               (status, err) == (0, '') and on_page(out)[-1] == [], repr(got)[-4000:])
 
 
 @in_each_shell

@@ -12,10 +12,12 @@ import time
 
 import browser
 from common import PROGRAM, TOP, checked, skipped
-from written import (CHANGES, FINDINGS, NAMES, SMALL, contents, file_of, made, rows_of, same,
-                     strangers)
+from written import (CHANGES, FINDINGS, NAMED, NAMES, SMALL, contents, file_of, made,
+                     named_strangers, rows_of, same, strangers)
 
 CLUSTER = os.path.join(TOP, 'examples', 'cluster')
+COUNTS = ('[...document.querySelectorAll(".tiles li")].map(it => '
+          '[...it.firstChild.children].map(part => part.textContent))')
 
 
 class Shown:
@@ -157,9 +159,7 @@ def seen_what(page):
 def seen_watch(page):
     """The watch list: counted, the whole cluster first."""
     page.go('#watch')
-    same('watch: the counts',
-         page.it.do('[...document.querySelectorAll(".tiles li")].map(it => '
-                    '[...it.firstChild.children].map(part => part.textContent))'), [
+    same('watch: the counts', page.it.do(COUNTS), [
         ['2', 'Reads secrets', '1 in the whole cluster'],
              ['1', 'Execs into pods', '1 in the whole cluster'],
         ['1', 'Creates pods or workloads', 'in namespaces alone'], ['0', 'Impersonates', 'nobody'],
@@ -250,6 +250,74 @@ def watched(it, room):
                                  '[title, ...pair]))'), lines)
 
 
+def by_name(it, room):
+    """Holders by name: counted apart, unless they have the like outright in that namespace or in
+    the whole cluster, and told who, where and by which binding."""
+    with file_of(NAMED) as named:
+        page = Shown(it, room, 'names', made(SMALL, '--named', named)[1])
+    same('by name: who', [row[:2] + row[-1:] for row in page.cells()], [
+        ['group devs', '5',
+         'secrets workloads secrets by name exec by name workloads by name '],
+        ['user ann', '5', 'secrets exec '], ['account dev:ci', '2', 'impersonate by name '],
+        ['user zoe', '–', 'secrets by name tokens by name ']])
+    checked('by name: such a badge looks different', it.do(
+        '[...document.querySelectorAll(".badge")].every(it => '
+        'it.classList.contains("part") === it.textContent.endsWith("by name"))'))
+    page.click('[...document.querySelectorAll(".badge")].at(-1)')
+    same('by name: it leads to the watch list', page.hash(), '#watch?at=tokens')
+    same('by name: the counts', it.do(COUNTS), [
+        ['2 · 2 by name', 'Reads secrets', '1 in the whole cluster'],
+        ['1 · 1 by name', 'Execs into pods', '1 in the whole cluster'],
+        ['1 · 1 by name', 'Creates pods or workloads', 'in namespaces alone'],
+        ['0 · 1 by name', 'Impersonates', 'only by name'], ['0', 'Binds roles', 'nobody'],
+        ['0', 'Escalates roles', 'nobody'], ['0 · 1 by name', 'Creates tokens', 'only by name'],
+        ['0', 'Has everything (*)', 'nobody']])
+    ann, devs = page.cells('#watch-secrets')[:2]
+    same('by name: whoever reads all secrets comes first', (ann[0], devs[:2]),
+         ('user ann', ['group devs', 'dev ']))
+    same('by name: who, where and by which binding', page.cells('#watch-secrets')[2:], [
+        ['user zoe', 'whole cluster dev ', 'get, list secrets, some objects only',
+         'RoleBinding/dev/oneRoleBinding/dev/twoClusterRoleBinding/all'],
+        ['group devs', 'prod ', 'get secrets, some objects only', 'RoleBinding/prod/one']])
+    same('by name: pods in the whole cluster', page.cells('#watch-workloads')[1:], [
+        ['group devs', 'whole cluster ', 'create pods, some objects only',
+         'ClusterRoleBinding/pods']])
+    same('by name: a subresource for a star', page.cells('#watch-impersonate'), [
+        ['account dev:ci', 'whole cluster ', 'impersonate userextras/scopes.authentication.k8s.io, '
+         'some objects only', 'ClusterRoleBinding/scopes']])
+    same('by name: a namespace that the binding doesn’t tell', page.cells('#watch-tokens'), [
+        ['user zoe', 'as the binding says', 'create serviceaccounts/token, some objects only',
+         'RoleBinding/a/b/c']])
+    page.go('#who?who=u:zoe')
+    same('by name: somebody without rows', page.text('main .muted'),
+         'This page has no row for them; the watch list has what they may do only by name.')
+    page.go('#find?q=zoe')
+    same('by name: is found', page.texts('main h3'), ['Who 1'])
+    page.is_quiet()
+    row, other = rows_of('u:ann dev get - secrets a RoleBinding/dev/a\n'
+                         'u:bob dev get - secrets - RoleBinding/dev/b')
+    with file_of([NAMED[0].replace('g:devs', who) for who in ('u:ann', 'u:bob', 'u:cy')]) as named:
+        page = Shown(it, room, 'names', made([row, other], '--named', named)[1])
+    page.go('#watch')
+    same('by name: a row with a name counts as before', it.do(COUNTS)[0],
+         ['2 · 1 by name', 'Reads secrets', 'in namespaces alone'])
+
+
+def watch_heads(it, room):
+    """The watch list says whether holders by name count."""
+    plain = [row for row in SMALL if row.split('\t')[5] == '-']
+    uncounted = 'Whoever may do it only to objects of certain names isn’t counted.'
+    apart = 'Whoever may do it only to objects of certain names is counted apart: by name.'
+    with file_of([]) as none:
+        for name, rows, words, wanted in (
+                ('rows without names', plain, [], [uncounted]), ('no rows', [], [], [uncounted]),
+                ('rows with names', SMALL, [], []),
+                ('no holder by name', plain, ['--named', none], [apart])):
+            page = Shown(it, room, 'heads', made(rows, *words)[1])
+            page.go('#watch')
+            same('%s: the head' % name, page.texts('main h2 + p'), wanted)
+
+
 def stars(it, room):
     """Who has everything: every verb on every type of a scope, or a star; and what is told of a
     part of a matrix."""
@@ -315,7 +383,8 @@ def widths(it, room):
 
 def hostile_page(it, room):
     """Names of strangers are texts in every view, and what can't be seen of them is shown."""
-    page = Shown(it, room, 'hostile', made(strangers())[1])
+    with file_of(named_strangers()) as named:
+        page = Shown(it, room, 'hostile', made(strangers(), '--named', named)[1])
     page.go('#rows?who=g:')
     got = page.cells()
     wanted = [['group ' + shown, *[shown] * 5, 'RoleBinding/' + shown] for shown in NAMES.values()]
@@ -335,10 +404,11 @@ def hostile_page(it, room):
         same('%.60s: no element of a stranger' % view, strange, [0, 2, 0, 0])
     hidden = (r'[\u0000-\u0008\u007f-\u00a0\u00ad\u200b-\u200f\u2028-\u202e\u2060-\u2069\u3000'
               r'\ufeff]|[\u{e0000}-\u{e0fff}]')
-    page.go('#rows')
-    same('no such character is left in a text or title', it.do(
-        '[...document.querySelectorAll("#main, #main [title]")].filter(it => '
-        '/%s/u.test(it.textContent + it.title)).length' % hidden), 0)
+    for view in ('#rows', '#watch'):
+        page.go(view)
+        same('%s: no such character is left in a text or title' % view, it.do(
+            '[...document.querySelectorAll("#main, #main [title]")].filter(it => '
+            '/%s/u.test(it.textContent + it.title)).length' % hidden), 0)
     page.go('#rows?resource=%3D/%3C/script%3E%3Cscript%3Ealert(1)%3C/script%3E')
     same('a saved row is the line that was given', page.saved(), [list(strangers())[1]])
     page.is_quiet()
@@ -493,8 +563,8 @@ def in_browser():
     try:
         with browser.browser() as it, tempfile.TemporaryDirectory() as room:
             it.ask('Browser.setDownloadBehavior', behavior='allow', downloadPath=room)
-            for part in (small_page, watched, stars, empty, widths, hostile_page, cluster_page,
-                         themes, large):
+            for part in (small_page, watched, by_name, watch_heads, stars, empty, widths,
+                         hostile_page, cluster_page, themes, large):
                 try:
                     part(it, room)
                 except faults as fault:

@@ -41,6 +41,16 @@ FINDINGS = ['L2\tunused-role\tRole/dev/old\t-\t-', 'L3\tredundant-rule\tRole/dev
             'L99\tnew-code\tRole/dev/web\t1\t\\x2d']
 CHANGES = ['+\tu:ann\tdev\tget\t-\tpods\t-\tRoleBinding/dev/ann',
            '-\tu:bob\t*\t*\tapps\t*\t\\x2a\tClusterRoleBinding/bobs']
+# Of those who may do something only to objects of certain names: beside SMALL, ann and devs have
+# some of it outright. The last binding doesn't tell its namespace.
+NAMED = [line.replace(' ', '\t') for line in (
+    'get - secrets g:devs RoleBinding/dev/one', 'get - secrets g:devs RoleBinding/prod/one',
+    'get - secrets u:ann RoleBinding/dev/one', 'get - secrets u:zoe RoleBinding/dev/one',
+    'list - secrets u:zoe RoleBinding/dev/two', 'list - secrets u:zoe ClusterRoleBinding/all',
+    'create - pods/exec g:devs RoleBinding/dev/one', 'create - pods g:devs ClusterRoleBinding/pods',
+    'impersonate authentication.k8s.io userextras/scopes u:system:serviceaccount:dev:ci '
+    'ClusterRoleBinding/scopes',
+    'create - serviceaccounts/token u:zoe RoleBinding/a/b/c')]
 # Names of strangers as a field prints them, and what is seen of them.
 NAMES = {
     '</script><script>alert(1)</script>': '</script><script>alert(1)</script>',
@@ -89,6 +99,14 @@ def strangers():
     for name in NAMES:
         yield '\t'.join(['g:' + name, name, name, name, name, name, 'RoleBinding/' + name])
         yield '\t'.join(['u:ann', '-', 'get', '-', '/' + name, '-', 'ClusterRoleBinding/' + name])
+
+
+def named_strangers():
+    """Lines of --named in which each name stands in each field that may have it."""
+    for name in NAMES:
+        yield '\t'.join(['impersonate', 'authentication.k8s.io', 'userextras/' + name, 'g:' + name,
+                         'RoleBinding/%s/%s' % (name, name)])
+        yield '\t'.join(['get', '-', 'secrets', 'u:' + name, 'ClusterRoleBinding/' + name])
 
 
 class Parts(html.parser.HTMLParser):

@@ -70,10 +70,90 @@ write_page() {
     reads='cluster.json namespaced.json'
     with_files ask lint -- "$@" >"$scratch/findings"
     [ "$answered" -le 1 ] || exit "$answered"
+    write_named "$@"
     # (run gives a command what is open as 3)
-    run rbacaudit-page --lint "$scratch/findings" ${diff:+"--diff=$diff"} \
+    run rbacaudit-page --lint "$scratch/findings" --named "$scratch/named" ${diff:+"--diff=$diff"} \
         ${title:+"--title=$title"} 3<"$scratch/matrix"
     exit
+}
+
+# Writes to $scratch/named who may do what is on the watch list only to objects of certain names:
+# holders by rules whatever their resourceNames, but for those who have something of the same
+# category outright, in that namespace or in the whole cluster. Without resourceNames there are none.
+write_named() {
+    : >"$scratch/named"
+    reads='cluster.json namespaced.json'
+    with_files has_names "$@" || return 0
+    rbacaudit-page --watched >"$scratch/watched" || exit
+    list_pairs
+    : >"$scratch/outright"
+    : >"$scratch/any"
+    reads='cluster.json namespaced.json api'
+    while IFS=$(printf '\t') read -r category verb group resource <&4; do
+        with_files ask_pair "$@"
+    done 4<"$scratch/pairs"
+    LC_ALL=C awk -F '\t' '
+        function place(binding,    parts) {
+            return binding ~ /^Cluster/ ? "" : split(binding, parts, "/") == 3 ? parts[2] : binding
+        }
+        outright { held[$1, $5, place($6)] = 1; next }
+        !(($1, $5, "") in held) && !(($1, $5, place($6)) in held) { sub(/^[^\t]*\t/, ""); print }
+    ' outright=1 "$scratch/outright" outright=0 "$scratch/any" >"$scratch/named"
+}
+
+# Whether one of the files may have a rule with resourceNames, perhaps with a letter as an escape.
+has_names() {
+    for file do
+        LC_ALL=C awk '
+            BEGIN { RS = "\"" }
+            $0 == "resourceNames" || /\\u00([46][0-9A-Fa-f]|[57][0-9Aa])/ { found = 1; exit }
+            END { exit !found }' <"$file" && return 0
+    done
+    return 1
+}
+
+# Writes to $scratch/pairs the pairs of the watch list whose types make_universe has listed. A type
+# with a star stands for its subresources.
+list_pairs() {
+    LC_ALL=C awk -F '\t' '
+        NF == 7 && $2 == "-" && !(($4, $5) in seen) {
+            seen[$4, $5] = 1
+            groups[++count] = $4
+            types[count] = $5
+        }
+        NF != 4 { next }
+        {
+            star = $4 ~ /\/\*$/ ? substr($4, 1, length($4) - 1) : ""
+            for (at = 1; at <= count; at++)
+                if (groups[at] == $3 && (types[at] == $4 || star && index(types[at], star) == 1))
+                    print $1 FS $2 FS $3 FS types[at]
+        }' "$scratch/listed" "$scratch/rows" "$scratch/watched" >"$scratch/pairs"
+}
+
+# Asks who has a pair whatever the names, for $scratch/any, and who has it outright, for
+# $scratch/outright. (A type with a dot and no group is of the core group.)
+ask_pair() {
+    case $resource in
+        *\\*)
+            report "the page doesn't count who may $verb $resource only by object names, since that \
+resource has a backslash or a control byte; kubectl rbacaudit rules WHO shows it"
+            return
+            ;;
+        */*) below=--subresource=${resource#*/} ;;
+        *) below= ;;
+    esac
+    set -- --anywhere --every ${below:+"$below"} -- "$verb" "${resource%%/*}.${group#-}" "$@"
+    ask_holders any --any-name "$@"
+    [ ! -s "$scratch/holders" ] || ask_holders outright "$@"
+}
+
+# Adds the holders to the file of this name in $scratch, each behind the pair.
+ask_holders() {
+    into=$1
+    shift
+    ask who-can "$@" >"$scratch/holders" || exit "$answered"
+    pair=$(printf '%s\t' "$category" "$verb" "$group" "$resource") \
+        LC_ALL=C awk '{ print ENVIRON["pair"] $0 }' "$scratch/holders" >>"$scratch/$into"
 }
 
 page_usage() {
@@ -88,7 +168,8 @@ Write everything about the export as one HTML file, which any current browser op
 
 The rows are those of matrix, over the universe that kubectl rbacaudit universe writes: without
 object names. A FILE may be a Universe document of your own; each of its fields replaces one of
-that universe. The findings of lint are shown beside.
+that universe. The findings of lint are shown beside. The watch list counts apart who may do
+something on it only to objects of certain names, whatever a Universe document says.
 
 --export, --partial, --context, --kubeconfig and --request-timeout mean what
 kubectl rbacaudit --help says.
