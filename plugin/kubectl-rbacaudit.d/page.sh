@@ -113,7 +113,8 @@ has_names() {
 }
 
 # Writes to $scratch/pairs the pairs of the watch list whose types make_universe has listed. A type
-# with a star stands for its subresources.
+# with a star stands for its subresources. A server asks without a name whether somebody may create a
+# new object, so a rule with names never lets them, and such a pair is left out.
 list_pairs() {
     LC_ALL=C awk -F '\t' '
         NF == 7 && $2 == "-" && !(($4, $5) in seen) {
@@ -121,7 +122,7 @@ list_pairs() {
             groups[++count] = $4
             types[count] = $5
         }
-        NF != 4 { next }
+        NF != 4 || $2 == "create" && $4 !~ /\// { next }
         {
             star = $4 ~ /\/\*$/ ? substr($4, 1, length($4) - 1) : ""
             for (at = 1; at <= count; at++)
