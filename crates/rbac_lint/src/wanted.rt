@@ -1,7 +1,7 @@
 //! Which findings are asked for.
 
-ghost use Rattle.std.specs.Prelude.{◌≡◌, ◌↔◌, ◌⊎◌, IsTrue, Option as OptionView, codes};
-ghost use Rattle.rbac_terms.specs.Text.{Text, BeginsWith};
+ghost use Rattle.std.specs.Prelude.{◌≡◌, ◌↔◌, IsTrue, codes};
+ghost use Rattle.rbac_terms.specs.Text.{BeginsWith};
 ghost use Rattle.rbac_model.specs.Sources.{source_of};
 ghost use Rattle.rbac_lint.specs.Lines.{ObjectName};
 ghost use Rattle.rbac_lint.specs.Replaced.{replaced_object};
