@@ -70,6 +70,7 @@ write_page() {
     reads='cluster.json namespaced.json'
     with_files ask lint -- "$@" >"$scratch/findings"
     [ "$answered" -le 1 ] || exit "$answered"
+    remark_on_page
     # (run gives a command what is open as 3)
     run rbacaudit-page --lint "$scratch/findings" ${diff:+"--diff=$diff"} \
         ${title:+"--title=$title"} 3<"$scratch/matrix"
