@@ -16,7 +16,7 @@ import sys
 import tempfile
 
 from common import TOP, checked, skipped, tested
-from plugin_page import plugin_pages, plugin_refusals
+from plugin_page import plugin_pages, plugin_refusals, plugin_stale
 from shown import in_browser
 from written import (CHANGES, FILTER, FINDINGS, SMALL, Parts, contents, file_of, lines_in, made,
                      rows_of, same, strangers)
@@ -243,4 +243,4 @@ def colours():
 
 if __name__ == '__main__':
     sys.exit(tested(written, no_markup, policy, refusals, limits, terminals, helped, installed,
-                    plugin_pages, plugin_refusals, colours, in_browser))
+                    plugin_pages, plugin_refusals, plugin_stale, colours, in_browser))

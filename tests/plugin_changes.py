@@ -2,11 +2,13 @@
 
 import json
 import os
+import re
+import shutil
 import subprocess
 
-from common import V1, V1BETA1, bare
+from common import V1, V1BETA1, bare, skipped
 from plugin_questions import stale_roles
-from plugin_room import CAUTION, REFUSAL, in_each_shell, of_kinds, served
+from plugin_room import CAUTION, REFUSAL, STAND_IN, in_each_shell, of_kinds, served
 
 SECRETS = {'verbs': ['list'], 'apiGroups': [''], 'resources': ['secrets']}
 # Its label lets developers list the secrets of the shop.
@@ -181,6 +183,43 @@ def unread(it):
     refused(it, 'a link to nothing', 'change', "kubectl-rbacaudit: can't read change/a.json\n")
 
 
+MANIFESTS = """kind: ClusterRole
+apiVersion: %s
+metadata: {name: shop-view-secrets, labels: {shop.example.com/aggregate-to-view: "true", x: "}"}}
+rules:
+- {verbs: [list], apiGroups: [""], resources: [secrets]}
+---
+kind: Namespace
+apiVersion: v1
+metadata: {name: x}
+"""
+
+
+@in_each_shell
+def from_yaml(it):
+    """The command that help shows turns YAML into JSON, without a cluster; it makes no file of a part of it."""
+    os.remove(os.path.join(it.bin, 'kubectl'))
+    if not shutil.which('kubectl'):
+        skipped('kubectl', 'YAML as JSON')
+        return
+    help_ = it.run('diff', '--help')[1]
+    command = re.search(r'^  kubectl patch .*\n.*> change\.json$', help_, re.M)[0]
+    environment = {**it.environment(), 'HOME': it.path, 'KUBECONFIG': it.at('none')}
+    os.mkdir(os.path.join(it.work, 'change.yaml'))
+    it.write(MANIFESTS % V1, 'change.yaml', 'a.yaml')
+    it.write(MANIFESTS.partition('---\n')[2], 'change.yaml', 'b.yml')
+    it.write('{kind: Role}', 'change.yaml', 'c.yml')
+    for made in (False, True):
+        ended = subprocess.run([it.shell, '-c', command], cwd=it.work, env=environment, stderr=subprocess.PIPE, timeout=60)
+        it.checked('it makes a file: %s' % made, (ended.returncode == 0, 'change.json' in it.files('.')) == (made, made), ended)
+        it.write('', 'change.yaml', 'c.yml')
+    with open(os.path.join(it.bin, 'kubectl'), 'w', encoding='utf-8') as file:
+        file.write(STAND_IN)
+    os.chmod(os.path.join(it.bin, 'kubectl'), 0o755)
+    it.expect('YAML as JSON', ['diff', '--with', 'change.json'], 1, GAINED,
+              read('change.json', '1 role, 0 bindings, 2 other objects') + OVER % 'change.json')
+
+
 KIND = ("kubectl-rbacaudit: %s has the kind %s, which rbac.authorization.k8s.io doesn't have: "
         'check the spelling\n')
 LIST = "kubectl-rbacaudit: item %d of c.json is a %s, and a list in a list isn't read: give it a file of its own\n"
@@ -239,7 +278,8 @@ def binding(kind, name, **fields):
 # What a change has, and how it is counted.
 COUNTED = [
     ([POD], '0 roles, 0 bindings, 1 other object'), ([a_list('List', 'v1')], '0 roles, 0 bindings, 0 other objects'),
-    ([a_list('RoleList', V1)], '0 roles, 0 bindings, 0 other objects'), ([{'kind': 'List', 'apiVersion': 'v1'}], '0 roles, 0 bindings, 0 other objects'),
+    ([a_list('RoleList', V1)], '0 roles, 0 bindings, 0 other objects'),
+    ([{'kind': 'List', 'apiVersion': 'v1'}], '0 roles, 0 bindings, 0 other objects'),
     ([a_list('PodList', 'v1', ROLE, ROLE)], '0 roles, 0 bindings, 1 other object'),
     ([{**ROLE, 'apiVersion': 'v1'}, POD], '0 roles, 0 bindings, 2 other objects'),
     ([binding('ClusterRoleBinding', 'a')], '0 roles, 1 binding, 0 other objects'),
@@ -406,4 +446,4 @@ def made_stale(it):
         it.expect(name, ['diff', '--export', 'settled', '--with', 'c.json'], int(bool(out)), out, read('c.json', counts_) + OVER % 'c.json' + said)
 
 
-CHECKS = [sides, reviews, refusals, parts, unread, kinds, counts, namespaces, placed, stale, made_stale]
+CHECKS = [sides, reviews, refusals, parts, unread, from_yaml, kinds, counts, namespaces, placed, stale, made_stale]

@@ -57,7 +57,8 @@ take_change_in() {
     change_in=$only_in
     only_in=
     [ -n "$change_in" ] || return 0
-    [ -n "$with" ] || refuse "-n is the namespace of a change's objects that have none, so it needs --with PATH"
+    [ -n "$with" ] ||
+        refuse "-n is the namespace of a change's objects that have none, so it needs --with PATH"
     case $change_in in
         *[!abcdefghijklmnopqrstuvwxyz0123456789.-]*)
             refuse "there is no namespace $change_in: \
@@ -132,8 +133,8 @@ List what a change lets users do, and what it takes from them.
 Standard error says how many roles and bindings were read from the change. It is refused if it has
 none, a kind that RBAC doesn't have, YAML files, or folders. kubectl makes JSON of YAML, also of a
 folder of it, without a cluster:
-  kubectl patch --local --type merge -p '{}' -o json -f change.yaml |
-    sed '1s/^/{"apiVersion":"v1","kind":"List","items":[/; $!s/^}$/},/; $s/$/]}/' > change.json
+  kubectl patch --local --type merge -p '{}' -o json -f change.yaml > parts &&
+  sed '1s/^/{"apiVersion":"v1","kind":"List","items":[/; $!s/^}$/},/; $s/$/]}/' parts > change.json
 
 A line begins with + for what is gained, or with - for what is lost; rbacaudit diff --help has its
 fields. All requests of all users are compared, whether an export names them or not.
