@@ -246,6 +246,9 @@ MISTYPED = [
 # Texts that say the same as WRONG or ROLE, spelled in other ways.
 ESCAPED = json.dumps(WRONG).replace('/', '\\/').replace('kind', 'k\\u0069nd').replace('terrole', 't\\u0065rrole')
 TWICE = json.dumps(ROLE)[:-1] + ', "kind": "Clusterrole"}'
+# The last of several lists counts, and the last kind.
+LAST_COUNTS = '{"kind": "List", "apiVersion": "v1", "items": [%s], "items": [%s, "kind": "ClusterRole"}]}' % (
+    json.dumps(WRONG), json.dumps(WRONG)[:-1])
 
 
 @in_each_shell
@@ -267,6 +270,8 @@ def kinds(it):
                              (a_list('List', 'v1', ROLE, a_list('PodList', 'v1', WRONG)), '1 role, 0 bindings, 1 other object')):
         it.write(json.dumps(document), 'c.json')
         it.expect(json.dumps(document), ['diff', '--export', 'prod', '--with', 'c.json'], 1, GAINED, read('c.json', counts) + OVER % 'c.json')
+    it.write(LAST_COUNTS, 'c.json')
+    it.expect('the last counts', ['diff', '--export', 'prod', '--with', 'c.json'], 1, GAINED, read('c.json') + OVER % 'c.json')
     it.write(json.dumps({'apiVersion': V1, 'kind': None}), 'c.json')
     refused(it, 'no kind', 'c.json', 'rbacaudit: file 1: M2 not an object\nkubectl-rbacaudit: file 1 is c.json\n')
 
