@@ -272,7 +272,7 @@ def kinds(it):
         it.expect(json.dumps(document), ['diff', '--export', 'prod', '--with', 'c.json'], 1, GAINED, read('c.json', counts) + OVER % 'c.json')
     it.write(LAST_COUNTS, 'c.json')
     it.expect('the last counts', ['diff', '--export', 'prod', '--with', 'c.json'], 1, GAINED, read('c.json') + OVER % 'c.json')
-    it.write(json.dumps({'apiVersion': V1, 'kind': None}), 'c.json')
+    it.write('{"apiVersion": "%s", "kind": "Clusterrole", "kind": null}' % V1, 'c.json')
     refused(it, 'no kind', 'c.json', 'rbacaudit: file 1: M2 not an object\nkubectl-rbacaudit: file 1 is c.json\n')
 
 
@@ -291,7 +291,7 @@ COUNTED = [
     ([a_list('ClusterRoleBindingList', V1BETA1, bare(binding('', 'a')), bare(binding('', 'b')))], '0 roles, 2 bindings, 0 other objects'),
     ([a_list('NamespaceList', 'v1', {'metadata': {'name': 'n'}}, binding('ClusterRoleBinding', 'a'))], '0 roles, 1 binding, 1 other object'),
     ([ROLE, a_list('List', 'v1', POD, ROLE, POD), binding('RoleBinding', 'x', namespace='shop')], '2 roles, 1 binding, 2 other objects'),
-    ([a_list('RoleList', V1, ROLE, {'metadata': {'name': 'r', 'namespace': 'shop'}}, POD)], '2 roles, 0 bindings, 1 other object'),
+    ([a_list('RoleList', V1, POD, {'metadata': {'name': 'r', 'namespace': 'shop'}}, ROLE)], '2 roles, 0 bindings, 1 other object'),
     ([{'items': [5], **ROLE}], ONE_ROLE)]
 
 
@@ -317,11 +317,12 @@ def counts(it):
 
 # Names that a walk over JSON could trip over, and how a line of diff has each.
 NAMES = {'plain': 'plain', 'a "b" {c} }': 'a "b" {c} }', 'back\\': 'back\\\\', '"namespace": "no"}': '"namespace": "no"}', '{': '{',
-         '\\"': '\\\\"', 'two,  and 9 more': 'two,  and 9 more'}
+         '\\"': '\\\\"', 'two,  and 9 more': 'two,  and 9 more', '}': '}'}
 # The ways to have no namespace, around a name in JSON.
 METADATA = ['{"name": %s}', '{"name":%s,"namespace":""}', '{"namespace": null, "name": %s}', '{\n"namespace" : "" ,"name": %s\n}',
             '{"labels": {"namespace": "no", "a": "}"}, "name": %s, "annotations": {"x": "\\"metadata\\": {"}, "ownerReferences": [{"name": "no"}]}',
-            '{"namesp\\u0061ce": "", "name": %s}', '{"namespace": "no", "name": %s, "namespace": ""}']
+            '{"namesp\\u0061ce": "", "name": %s}', '{"namespace": "no", "name": %s, "namespace": ""}',
+            '{"namespace": "no", "name": %s, "namespace": null}']
 RULES = '[{"verbs": ["get"], "apiGroups": [""], "resources": ["pods"]}]'
 LAST = '"roleRef": {"kind": "Role", "name": %s}, "subjects": [{"kind": "User", "name": "u%d"}, {"kind": "ServiceAccount", "name": "a%d"}]'
 BARE = 'kubectl-rbacaudit: without a namespace, so taken for objects of %s: %s'
@@ -360,8 +361,8 @@ def namespaces(it):
         for part, text in enumerate(texts):
             it.write(text, 'c', '%d%d.json' % (number, part))
     it.write(json.dumps({**ROLE, 'metadata': {**ROLE['metadata'], 'namespace': ''}}), 'c', 'role.json')
-    counted = read('c', '8 roles, 7 bindings, 2 other objects')
-    first = 'Role/plain, RoleBinding/plain, RoleBinding/a \\"b\\" {c} } and 11 more'
+    counted = read('c', '9 roles, 8 bindings, 3 other objects')
+    first = 'Role/plain, RoleBinding/plain, RoleBinding/a \\"b\\" {c} } and 13 more'
     for options, namespace, said in (([], 'default', BARE % ('default', first) + OFFER), (['-n', 'shop'], 'shop', BARE % ('shop', first) + '\n'),
                                      (['-nx.y-1'], 'x.y-1', BARE % ('x.y-1', first) + '\n')):
         wanted = ''.join(sorted([line % ((namespace,) * line.count('%s')) for line in granted] + [GAINED]))

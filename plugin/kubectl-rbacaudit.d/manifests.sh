@@ -49,9 +49,7 @@ function on_end(    top) {
     item_name[count] = name[3]; item_space[count] = space[3]
     kind[3] = version[3] = name[3] = space[3] = ""
 }
-function is_metadata(top) {
-    return depth == top + 1 && field[top] == "metadata" && !is_list[depth]
-}
+function is_metadata(top) { return depth == top + 1 && field[top] == "metadata" }
 # A text without escapes of ASCII, if it can be a word that matters here.
 function plain(text,    out, at, next_two, code) {
     if (length(text) > 250) return text
