@@ -381,6 +381,10 @@ def placed(it):
     said = BARE % ('shop', 'Role/plain, RoleBinding/plain') + '\n'
     for option in (['-n', 'shop'], ['-nshop'], ['-n=shop'], ['--namespace', 'shop'], ['--namespace=shop']):
         it.expect('diff %s' % option, ['diff', '--export', 'prod', *option, '--with', 'c.json'], 1, out, both % 'c.json' + said + OVER % 'c.json')
+    it.lines('calls')
+    it.expect('-n, and the cluster as it is now', ['diff', '-n', 'shop', '--with', 'c.json'], 1, out, both % 'c.json' + said + OVER % 'c.json')
+    calls = it.lines('calls')
+    it.checked('the cluster is read whole', len(calls) == 2 and not any('|-n|' in call for call in calls), calls)
     for options, more in ((['-n', 'shop'], said), ([], BARE % ('default', 'Role/plain, RoleBinding/plain') + OFFER)):
         it.expect('a pipe %s' % options, ['diff', '--export', 'prod', '--with', '/dev/stdin', *options], 1,
                   out if options else out.replace('shop', 'default'), both % '/dev/stdin' + more + OVER % '/dev/stdin',
