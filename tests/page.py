@@ -16,7 +16,7 @@ import sys
 import tempfile
 
 from common import TOP, checked, skipped, tested
-from plugin_page import plugin_names, plugin_pages, plugin_refusals
+from plugin_page import plugin_names, plugin_pages, plugin_refusals, plugin_stale
 from shown import in_browser
 from written import (CHANGES, FILTER, FINDINGS, NAMED, SMALL, Parts, contents, file_of, lines_in,
                      made, named_strangers, rows_of, same, strangers)
@@ -300,4 +300,5 @@ def colours():
 
 if __name__ == '__main__':
     sys.exit(tested(written, no_markup, policy, refusals, watch_list, limits, terminals, helped,
-                    installed, plugin_pages, plugin_names, plugin_refusals, colours, in_browser))
+                    installed, plugin_pages, plugin_names, plugin_refusals, plugin_stale, colours,
+                    in_browser))

@@ -52,7 +52,7 @@ def tools(it):
     for line, said in ((['--help'], 'kubectl rbacaudit who-can'), (['-h'], '--partial'), (['export', '--help'], 'incomplete.txt'),
                        (['universe', '-h'], 'Universe document'), (['can-i', '--help'], '--why'),
                        (['who-can', '-Ah'], 'with kubectl rbacaudit who-can'), (['rules', '-h'], 'u:USER or g:GROUP'), (['matrix', '-h'], '--after'), (['lint', '--help'], 'dangling-role'),
-                       (['diff', '--help'], 'objects that the change deletes')):
+                       (['diff', '--help'], 'objects that the change deletes'), (['diff', '-h'], 'kubectl patch --local')):
         status, out, err = got = it.run(*line)
         it.checked('help: %s' % ' '.join(line), (status, err) == (0, '') and said.lower() in out.lower(), got)
     for line, options in ((['--help'],
@@ -110,7 +110,7 @@ OWN = {('--export',): 'DIR', ('--partial',): '', ('--context',): 'NAME', ('--kub
        ('--request-timeout',): 'TIME'}
 HELP = ('-h', '--help')
 OF_PAGE = {('--every',): '', ('--title',): 'TEXT', ('--diff',): 'FILE'}
-OF_DIFF = {('--with',): 'PATH'}
+OF_DIFF = {('--with',): 'PATH', ('-n', '--namespace'): 'NS'}
 OF_EXPORT = {('--force',): '', ('-n', '--namespace'): 'NS', ('--context',): 'NAME',
              ('--kubeconfig',): 'FILE',
              ('--request-timeout',): 'TIME', ('--as',): 'USER', ('--as-group',): 'GROUP'}
@@ -138,6 +138,7 @@ COMPLETED = [
     (['page', '--title', ''], [], NOTHING), (['page', '--diff', ''], [], FILES),
     (['page', ''], [], FILES),
     (['diff', ''], [], NOTHING), (['diff', '--with', ''], [], FILES),
+    (['diff', '-n', ''], [], NOTHING), (['diff', '-nx', '--w'], ['--with'], NOTHING),
     (['diff', '--export', 'x', '--export', ''], [], FOLDERS),
     (['diff', '--export', 'x', '--e'], ['--export'], NOTHING),
     (['universe', ''], [], NOTHING), (['can-i', '-qAn', 'x', '--as=y', '--g'], ['--groups', '--group'],

@@ -2,10 +2,13 @@
 
 import json
 import os
+import re
+import shutil
+import subprocess
 
-from common import V1
+from common import V1, V1BETA1, bare, skipped
 from plugin_questions import stale_roles
-from plugin_room import CAUTION, REFUSAL, in_each_shell, of_kinds, served
+from plugin_room import CAUTION, REFUSAL, STAND_IN, in_each_shell, of_kinds, served
 
 SECRETS = {'verbs': ['list'], 'apiGroups': [''], 'resources': ['secrets']}
 # Its label lets developers list the secrets of the shop.
@@ -18,6 +21,13 @@ ALONE = 'kubectl-rbacaudit: the export has the namespace shop alone, and this an
 OF_ONE = ('kubectl-rbacaudit: only one of the exports is of the namespace shop alone, '
           'so what it lacks counts as gained or lost\n')
 NOTHING = 'kubectl-rbacaudit: nothing is answered; --partial answers from what is there\n'
+ONE_ROLE = '1 role, 0 bindings, 0 other objects'
+EMPTY = ('kubectl-rbacaudit: %s has neither a role nor a binding, so nothing is compared: '
+         'check each kind and apiVersion in it\n')
+
+
+def read(path, counts=ONE_ROLE):
+    return 'kubectl-rbacaudit: read from %s: %s\n' % (path, counts)
 
 
 def with_role():
@@ -55,16 +65,16 @@ def reviews(it):
     it.write('not JSON', 'change', 'notes.txt')
     for place in (['--export', 'prod'], []):
         for given in ('change', 'change/', './change', 'change/role.json'):
-            it.expect('with %s %s' % (given, place), ['diff', *place, '--with', given], 1, GAINED, OVER % given)
-    it.write(json.dumps(of_kinds([])), 'nothing.json')
-    it.expect('with nothing', ['diff', '--export', 'prod', '--with=nothing.json'], 0, '', OVER % 'nothing.json')
+            it.expect('with %s %s' % (given, place), ['diff', *place, '--with', given], 1, GAINED, read(given) + OVER % given)
+    it.write(json.dumps(ROLE), 'a=b')
+    it.expect('with a file of another name', ['diff', '--export', 'prod', '--with=a=b'], 1, GAINED, read('./a=b') + OVER % './a=b')
     it.write(json.dumps(of_kinds([ROLE, {**ROLE, 'rules': [{}]}], 'ClusterRole')), 'change', 'z=bad.json')
     it.expect('a bad object of the change', ['diff', '--export', 'prod', '--with', 'change'], 2, '',
-              OVER % 'change' + 'rbacaudit: file 6 item 2: M5 bad rule 1\n'
+              read('change', '3 roles, 0 bindings, 0 other objects') + OVER % 'change' + 'rbacaudit: file 6 item 2: M5 bad rule 1\n'
               'kubectl-rbacaudit: file 6 is change/z=bad.json; item 2 of it is ClusterRole shop-view-secrets\n')
     it.write('[]', 'prod', 'namespaced.json')
-    it.expect('a bad file of the export', ['diff', '--export', 'prod', '--with', 'nothing.json'], 2, '',
-              OVER % 'nothing.json' + 'rbacaudit: file 2: M2 not an object\nkubectl-rbacaudit: file 2 is prod/namespaced.json\n')
+    it.expect('a bad file of the export', ['diff', '--export', 'prod', '--with', 'a=b'], 2, '',
+              read('./a=b') + OVER % './a=b' + 'rbacaudit: file 2: M2 not an object\nkubectl-rbacaudit: file 2 is prod/namespaced.json\n')
     status, out, err = got = it.run('diff', '--with', 'change')
     it.checked('a bad change of the cluster', (status, out) == (2, '') and err.endswith(
         'kubectl-rbacaudit: file 6 is change/z=bad.json; item 2 of it is ClusterRole shop-view-secrets\n'), got)
@@ -87,7 +97,11 @@ def refusals(it):
                        (['--export', 'prod', '--export', 'gone'], 'there is no folder gone'),
                        (['--export', 'prod', '--export', 'prod', '--context', 'x'], 'give no option of kubectl'),
                        (['--export', 'prod', 'file.json'], 'diff has no file.json'), (['--before', 'prod'], 'diff has no --before'),
-                       (['--export', 'prod', '-n', 'shop'], 'diff has no -n')):
+                       (['--export', 'prod', '-n', 'shop'], 'so it needs --with PATH'),
+                       (['--with', 'prod', '-n'], '-n needs a value'), (['--with', 'prod', '-n='], '-n needs a value'),
+                       (['--with', 'prod', '-n', 'a', '-nb'], '-n is given twice'),
+                       (['--with', 'prod', '--namespace=Shop'], 'there is no namespace Shop'),
+                       (['--with', 'prod', '-n', 'a"b'], 'there is no namespace a"b')):
         status, out, err = got = it.run('diff', *line)
         it.checked('diff %s: %s' % (line, said), (status, out) == (2, '') and said in err, got)
     it.checked('no call is made', not it.lines('calls'), 'calls')
@@ -114,7 +128,282 @@ def parts(it):
     it.checked('one namespace, and all, --partial', status == 1 and err == ALONE + OF_ONE and lines
                and all(line.startswith('-') and '\tRoleBinding/' in line for line in lines), got)
     it.write(json.dumps(ROLE), 'role.json')
-    it.expect('a change of one namespace', ['diff', '--export', 'own', '--with', 'role.json'], 1, GAINED, ALONE + OVER % 'role.json')
+    it.expect('a change of one namespace', ['diff', '--export', 'own', '--with', 'role.json'], 1, GAINED,
+              read('role.json') + ALONE + OVER % 'role.json')
+
+
+def refused(it, name, given, err, *options):
+    """One check of a change that nothing is compared with, before any call to the cluster."""
+    for place in ([], ['--export', 'prod']):
+        it.expect('%s %s' % (name, place), ['diff', *place, '--with', given, *options], 2, '', err)
+    it.checked('%s: no call' % name, not it.lines('calls'), 'a call')
+
+
+YAML = ('kubectl-rbacaudit: %s is YAML, and a change is read as JSON: '
+        'turn it into JSON first, as kubectl rbacaudit diff --help shows\n')
+WITHIN = "kubectl-rbacaudit: %s is a folder, and its files wouldn't be read: put them into %s itself\n"
+NOT_JSON = ('rbacaudit: file %d: M1 not JSON\nkubectl-rbacaudit: file %d is %s\nkubectl-rbacaudit: each file of a change has '
+            'one JSON value: kubectl rbacaudit diff --help shows how to make one of YAML\n')
+
+
+@in_each_shell
+def unread(it):
+    """What of a change wouldn't be read is refused: YAML, folders in a folder, what is no JSON value."""
+    it.run('export', 'prod')
+    it.lines('calls')
+    os.mkdir(os.path.join(it.work, 'change'))
+    it.write('kind: Role', 'change', 'role.yaml')
+    refused(it, 'YAML alone', 'change', YAML % 'change/role.yaml')
+    it.write(json.dumps(ROLE), 'change', 'role.json')
+    refused(it, 'YAML beside JSON', 'change/', YAML % 'change/role.yaml')
+    refused(it, 'a YAML file', 'change/role.yaml', YAML % 'change/role.yaml')
+    os.rename(os.path.join(it.work, 'change', 'role.yaml'), os.path.join(it.work, 'change', 'a b.yml'))
+    refused(it, 'another YAML file', './change/a b.yml', YAML % './change/a b.yml')
+    refused(it, 'other YAML beside JSON', './change', YAML % './change/a b.yml')
+    os.remove(os.path.join(it.work, 'change', 'a b.yml'))
+    for name in ('within', 'x.json'):
+        os.mkdir(os.path.join(it.work, 'change', name))
+        refused(it, 'a folder %s in a folder' % name, 'change/', WITHIN % ('change/' + name, 'change/'))
+        os.rmdir(os.path.join(it.work, 'change', name))
+    os.mkdir(os.path.join(it.work, 'change', '.git'))
+    it.write('kind: Role', 'change', '.role.yaml')
+    it.write('kind: Role', 'change', 'yaml')
+    it.expect('what is hidden, or no manifest', ['diff', '--export', 'prod', '--with', 'change'], 1, GAINED,
+              read('change') + OVER % 'change')
+    for text in ('kind: ClusterRole\nmetadata: {"name": "x"}\n', '', json.dumps(ROLE) * 2):
+        it.write(text, 'change', 'role.json')
+        status, out, err = got = it.run('diff', '--with', 'change/role.json')
+        named = err.replace('role.json, ClusterRole shop-view-secrets\n', 'role.json\n')
+        it.checked('no JSON value: %r' % text, (status, out, named) == (2, '', NOT_JSON % (1, 1, 'change/role.json')), got)
+    it.write(json.dumps([ROLE]), 'change', 'role.json')
+    refused(it, 'no object', 'change', 'rbacaudit: file 1: M2 not an object\nkubectl-rbacaudit: file 1 is change/role.json\n')
+    os.remove(os.path.join(it.work, 'change', 'role.json'))
+    os.symlink('nowhere', os.path.join(it.work, 'change', 'a.json'))
+    it.write(json.dumps(ROLE), 'change', 'role.json')
+    refused(it, 'a link to nothing', 'change', "kubectl-rbacaudit: can't read change/a.json\n")
+
+
+MANIFESTS = """kind: ClusterRole
+apiVersion: %s
+metadata: {name: shop-view-secrets, labels: {shop.example.com/aggregate-to-view: "true", x: "}"}}
+rules:
+- {verbs: [list], apiGroups: [""], resources: [secrets]}
+---
+kind: Namespace
+apiVersion: v1
+metadata: {name: x}
+"""
+
+
+@in_each_shell
+def from_yaml(it):
+    """The command that help shows turns YAML into JSON, without a cluster; it makes no file of a part of it."""
+    os.remove(os.path.join(it.bin, 'kubectl'))
+    if not shutil.which('kubectl'):
+        skipped('kubectl', 'YAML as JSON')
+        return
+    help_ = it.run('diff', '--help')[1]
+    command = re.search(r'^  kubectl patch .*\n.*> change\.json$', help_, re.M)[0]
+    environment = {**it.environment(), 'HOME': it.path, 'KUBECONFIG': it.at('none')}
+    os.mkdir(os.path.join(it.work, 'change.yaml'))
+    it.write(MANIFESTS % V1, 'change.yaml', 'a.yaml')
+    it.write(MANIFESTS.partition('---\n')[2], 'change.yaml', 'b.yml')
+    it.write('{kind: Role}', 'change.yaml', 'c.yml')
+    for made in (False, True):
+        ended = subprocess.run([it.shell, '-c', command], cwd=it.work, env=environment, stderr=subprocess.PIPE, timeout=60)
+        it.checked('it makes a file: %s' % made, (ended.returncode == 0, 'change.json' in it.files('.')) == (made, made), ended)
+        it.write('', 'change.yaml', 'c.yml')
+    with open(os.path.join(it.bin, 'kubectl'), 'w', encoding='utf-8') as file:
+        file.write(STAND_IN)
+    os.chmod(os.path.join(it.bin, 'kubectl'), 0o755)
+    it.expect('YAML as JSON', ['diff', '--with', 'change.json'], 1, GAINED,
+              read('change.json', '1 role, 0 bindings, 2 other objects') + OVER % 'change.json')
+
+
+KIND = ("kubectl-rbacaudit: %s has the kind %s, which rbac.authorization.k8s.io doesn't have: "
+        'check the spelling\n')
+LIST = "kubectl-rbacaudit: item %d of c.json is a %s, and a list in a list isn't read: give it a file of its own\n"
+WRONG = {**ROLE, 'kind': 'Clusterrole'}
+POD = {'apiVersion': 'v1', 'kind': 'Pod', 'metadata': {'name': 'x'}}
+
+
+def a_list(kind, version, *items):
+    return {'items': items, 'kind': kind, 'apiVersion': version}
+
+
+# Documents of which rbacaudit would ignore one that looks like a role, and what is said.
+MISTYPED = [
+    (WRONG, KIND % ('c.json', 'Clusterrole')), (dict(reversed(WRONG.items())), KIND % ('c.json', 'Clusterrole')),
+    (a_list('List', 'v1', ROLE, WRONG), KIND % ('item 2 of c.json', 'Clusterrole')),
+    (a_list('ClusterRoleList', V1, bare(ROLE), {**bare(ROLE), 'kind': 'clusterRole'}), KIND % ('item 2 of c.json', 'clusterRole')),
+    (a_list('RolebindingList', V1, ROLE), KIND % ('c.json', 'RolebindingList')),
+    (a_list('List', V1BETA1, ROLE), KIND % ('c.json', 'List')),
+    (a_list('List', 'v1', ROLE, POD, {**ROLE, 'kind': 'Role ClusterRole'}), KIND % ('item 3 of c.json', 'Role ClusterRole')),
+    (a_list('List', 'v1', {**ROLE, 'kind': 'a\x1b\t"'}), KIND % ('item 1 of c.json', 'a\\u001b\\t\\"')),
+    (a_list('List', 'v1', {**ROLE, 'kind': ''}, ROLE), KIND % ('item 1 of c.json', '""')),
+    (a_list('List', 'v1', ROLE, a_list('List', 'v1', ROLE)), LIST % (2, 'List')),
+    (a_list('List', 'v1', a_list('ClusterRoleList', V1, ROLE)), LIST % (1, 'ClusterRoleList'))]
+# Texts that say the same as WRONG or ROLE, spelled in other ways.
+ESCAPED = json.dumps(WRONG).replace('/', '\\/').replace('kind', 'k\\u0069nd').replace('terrole', 't\\u0065rrole')
+TWICE = json.dumps(ROLE)[:-1] + ', "kind": "Clusterrole"}'
+# The last of several lists counts, and the last kind.
+LAST_COUNTS = '{"kind": "List", "apiVersion": "v1", "items": [%s], "items": [%s, "kind": "ClusterRole"}]}' % (
+    json.dumps(WRONG), json.dumps(WRONG)[:-1])
+
+
+@in_each_shell
+def kinds(it):
+    """A kind that RBAC doesn't have is refused, wherever it stands; what only looks like one isn't."""
+    it.run('export', 'prod')
+    it.lines('calls')
+    for document, said in MISTYPED:
+        it.write(json.dumps(document), 'c.json')
+        refused(it, json.dumps(document), 'c.json', said)
+    for text in (ESCAPED, TWICE):
+        it.write(text, 'c.json')
+        refused(it, text, 'c.json', KIND % ('c.json', 'Clusterrole'))
+    looks = {**ROLE, 'kind': 'ClusterRole', 'metadata': {
+        'name': '"kind": "Clusterrole"', 'labels': {'kind': 'Clusterrole', **ROLE['metadata']['labels']}}}
+    other = {**WRONG, 'apiVersion': 'example.com/v1'}
+    for document, counts in ((looks, ONE_ROLE), ({**looks, 'metadata': {**looks['metadata'], 'name': 'Clusterrole'}}, ONE_ROLE),
+                             (a_list('List', 'v1', ROLE, other), '1 role, 0 bindings, 1 other object'),
+                             (a_list('List', 'v1', ROLE, a_list('PodList', 'v1', WRONG)), '1 role, 0 bindings, 1 other object')):
+        it.write(json.dumps(document), 'c.json')
+        it.expect(json.dumps(document), ['diff', '--export', 'prod', '--with', 'c.json'], 1, GAINED, read('c.json', counts) + OVER % 'c.json')
+    it.write(LAST_COUNTS, 'c.json')
+    it.expect('the last counts', ['diff', '--export', 'prod', '--with', 'c.json'], 1, GAINED, read('c.json') + OVER % 'c.json')
+    it.write('{"apiVersion": "%s", "kind": "Clusterrole", "kind": null}' % V1, 'c.json')
+    refused(it, 'no kind', 'c.json', 'rbacaudit: file 1: M2 not an object\nkubectl-rbacaudit: file 1 is c.json\n')
+
+
+def binding(kind, name, **fields):
+    return {'apiVersion': V1, 'kind': kind, 'metadata': {'name': name, **fields}, 'roleRef': {'kind': 'ClusterRole', 'name': 'no'}}
+
+
+# What a change has, and how it is counted.
+COUNTED = [
+    ([POD], '0 roles, 0 bindings, 1 other object'), ([a_list('List', 'v1')], '0 roles, 0 bindings, 0 other objects'),
+    ([a_list('RoleList', V1)], '0 roles, 0 bindings, 0 other objects'),
+    ([{'kind': 'List', 'apiVersion': 'v1'}], '0 roles, 0 bindings, 0 other objects'),
+    ([a_list('PodList', 'v1', ROLE, ROLE)], '0 roles, 0 bindings, 1 other object'),
+    ([{**ROLE, 'apiVersion': 'v1'}, POD], '0 roles, 0 bindings, 2 other objects'),
+    ([binding('ClusterRoleBinding', 'a')], '0 roles, 1 binding, 0 other objects'),
+    ([a_list('ClusterRoleBindingList', V1BETA1, bare(binding('', 'a')), bare(binding('', 'b')))], '0 roles, 2 bindings, 0 other objects'),
+    ([a_list('NamespaceList', 'v1', {'metadata': {'name': 'n'}}, binding('ClusterRoleBinding', 'a'))], '0 roles, 1 binding, 1 other object'),
+    ([ROLE, a_list('List', 'v1', POD, ROLE, POD), binding('RoleBinding', 'x', namespace='shop')], '2 roles, 1 binding, 2 other objects'),
+    ([a_list('RoleList', V1, POD, {'metadata': {'name': 'r', 'namespace': 'shop'}}, ROLE)], '2 roles, 0 bindings, 1 other object'),
+    ([{'items': [5], **ROLE}], ONE_ROLE)]
+
+
+@in_each_shell
+def counts(it):
+    """How many roles, bindings and others are read, of each kind of list; a change without roles and bindings is refused."""
+    it.run('export', 'prod')
+    os.mkdir(os.path.join(it.work, 'c'))
+    for documents, counted in COUNTED:
+        for name in it.files('c'):
+            os.remove(os.path.join(it.work, 'c', name))
+        for number, document in enumerate(documents):
+            it.write(json.dumps(document, indent=number), 'c', '%d.json' % number)
+        status, out, err = got = it.run('diff', '--export', 'prod', '--with', 'c')
+        nothing = counted.startswith('0 roles, 0 bindings')
+        wanted = read('c', counted) + (EMPTY % 'c' if nothing else OVER % 'c')
+        it.checked('counted: %s' % json.dumps(documents), (status == 2, err) == (nothing, wanted) and not (nothing and out), got)
+    it.write(json.dumps({**ROLE, 'apiVersion': V1 + 'alpha1'}), 'c', '0.json')
+    it.expect('a bad version', ['diff', '--export', 'prod', '--with', 'c/0.json'], 2, '',
+              read('c/0.json') + OVER % 'c/0.json' + 'rbacaudit: file 5: M3 bad version\nkubectl-rbacaudit: file 5 is c/0.json, '
+              'ClusterRole shop-view-secrets\n')
+
+
+# Names that a walk over JSON could trip over, and how a line of diff has each.
+NAMES = {'plain': 'plain', 'a "b" {c} }': 'a "b" {c} }', 'back\\': 'back\\\\', '"namespace": "no"}': '"namespace": "no"}', '{': '{',
+         '\\"': '\\\\"', 'two,  and 9 more': 'two,  and 9 more', '}': '}'}
+# The ways to have no namespace, around a name in JSON.
+METADATA = ['{"name": %s}', '{"name":%s,"namespace":""}', '{"namespace": null, "name": %s}', '{\n"namespace" : "" ,"name": %s\n}',
+            '{"labels": {"namespace": "no", "a": "}"}, "name": %s, "annotations": {"x": "\\"metadata\\": {"}, "ownerReferences": [{"name": "no"}]}',
+            '{"namesp\\u0061ce": "", "name": %s}', '{"namespace": "no", "name": %s, "namespace": ""}',
+            '{"namespace": "no", "name": %s, "namespace": null}']
+RULES = '[{"verbs": ["get"], "apiGroups": [""], "resources": ["pods"]}]'
+LAST = '"roleRef": {"kind": "Role", "name": %s}, "subjects": [{"kind": "User", "name": "u%d"}, {"kind": "ServiceAccount", "name": "a%d"}]'
+BARE = 'kubectl-rbacaudit: without a namespace, so taken for objects of %s: %s'
+OFFER = '; -n NS takes them for objects of NS\n'
+
+
+def without_namespaces():
+    """The texts of files with a role and a binding for each name, all without a namespace; and the lines of what they grant,
+    which lack the namespace, three times in that of an account."""
+    for number, (name, printed) in enumerate(NAMES.items()):
+        name = json.dumps(name)
+        metadata = '"metadata": ' + METADATA[number] % name
+        role, bound = ['"rules": ' + RULES, metadata], [metadata, LAST % (name, number, number)]
+        if number % 2:
+            role.reverse()
+            bound.insert(0, '"metadata": {"name": "no", "namespace": "no"}')
+        version = '"apiVersion": "%s"' % V1
+        role, bound = ', '.join(role), ', '.join(bound)
+        kinds_ = ['{"kind": "Role", %s, %s}' % (version, role), '{%s, "kind": "RoleBinding", %s}' % (bound, version)]
+        others = '{"apiVersion": "v1", "kind": "Pod", "metadata": {}, "items": [{"metadata": {}}]}'
+        texts = [kinds_, ['{"items": [%s, %s, %s], "kind": "List", "apiVersion": "v1", "metadata": {}}' % (kinds_[1], others, kinds_[0])],
+                 ['{"items": [{%s}], "kind": "RoleList", %s}' % (role, version),
+                  '{%s, "kind": "RoleBindingList", "metadata": {}, "items": [ {%s} ]}\n' % (version, bound)]][number % 3]
+        line = '\t%s\tget\t-\tpods\t*\tRoleBinding/%s/' + printed.replace('%', '%%') + '\n'
+        yield texts, ['+\tu:u%d' % number + line, '+\tu:system:serviceaccount:%s:a{}'.format(number) + line]
+
+
+@in_each_shell
+def namespaces(it):
+    """Objects without a namespace count in default, and with -n in another; the plugin says which they are."""
+    it.run('export', 'prod')
+    os.mkdir(os.path.join(it.work, 'c'))
+    granted = []
+    for number, (texts, lines) in enumerate(without_namespaces()):
+        granted += lines
+        for part, text in enumerate(texts):
+            it.write(text, 'c', '%d%d.json' % (number, part))
+    it.write(json.dumps({**ROLE, 'metadata': {**ROLE['metadata'], 'namespace': ''}}), 'c', 'role.json')
+    counted = read('c', '9 roles, 8 bindings, 3 other objects')
+    first = 'Role/plain, RoleBinding/plain, RoleBinding/a \\"b\\" {c} } and 13 more'
+    for options, namespace, said in (([], 'default', BARE % ('default', first) + OFFER), (['-n', 'shop'], 'shop', BARE % ('shop', first) + '\n'),
+                                     (['-nx.y-1'], 'x.y-1', BARE % ('x.y-1', first) + '\n')):
+        wanted = ''.join(sorted([line % ((namespace,) * line.count('%s')) for line in granted] + [GAINED]))
+        it.expect('without a namespace: %s' % options, ['diff', '--export', 'prod', '--with', 'c', *options], 1, wanted,
+                  counted + said + OVER % 'c')
+
+
+@in_each_shell
+def placed(it):
+    """-n of diff in each spelling, for a pipe, for what it doesn't change, and where the change is bad."""
+    it.run('export', 'prod')
+    texts, lines = next(without_namespaces())
+    it.write('{"kind": "List", "apiVersion": "v1", "items": [%s]}' % ', '.join(texts), 'c.json')
+    out = ''.join(sorted(line % (('shop',) * line.count('%s')) for line in lines))
+    both = read('%s', '1 role, 1 binding, 0 other objects')
+    said = BARE % ('shop', 'Role/plain, RoleBinding/plain') + '\n'
+    for option in (['-n', 'shop'], ['-nshop'], ['-n=shop'], ['--namespace', 'shop'], ['--namespace=shop']):
+        it.expect('diff %s' % option, ['diff', '--export', 'prod', *option, '--with', 'c.json'], 1, out, both % 'c.json' + said + OVER % 'c.json')
+    it.lines('calls')
+    it.expect('-n, and the cluster as it is now', ['diff', '-n', 'shop', '--with', 'c.json'], 1, out, both % 'c.json' + said + OVER % 'c.json')
+    calls = it.lines('calls')
+    it.checked('the cluster is read whole', len(calls) == 2 and not any('|-n|' in call for call in calls), calls)
+    for options, more in ((['-n', 'shop'], said), ([], BARE % ('default', 'Role/plain, RoleBinding/plain') + OFFER)):
+        it.expect('a pipe %s' % options, ['diff', '--export', 'prod', '--with', '/dev/stdin', *options], 1,
+                  out if options else out.replace('shop', 'default'), both % '/dev/stdin' + more + OVER % '/dev/stdin',
+                  stdin=None, input=it.read('c.json').encode())
+    it.write(json.dumps(ROLE), 'role.json')
+    it.expect('nothing to place', ['diff', '--export', 'prod', '-n', 'shop', '--with', 'role.json'], 1, GAINED, read('role.json')
+              + 'kubectl-rbacaudit: no object of role.json lacks a namespace, so -n shop changes nothing\n' + OVER % 'role.json')
+    it.write('{"kind": "Role", "apiVersion": "%s", "metadata": {"name": "r", "namespace": 5}}' % V1, 'c.json')
+    it.lines('calls')
+    refused(it, 'a bad namespace', 'c.json', 'rbacaudit: file 1: M4 bad metadata\nkubectl-rbacaudit: file 1 is c.json, Role r\n', '-n', 'shop')
+    it.write('{"kind": "Role", "apiVersion": "%s", "metadata": {"name": "r"}, "rules": [{}]}' % V1, 'c.json')
+    status, _, err = got = it.run('diff', '--export', 'prod', '--with', '/dev/stdin', stdin=None, input=it.read('c.json').encode())
+    it.checked('a bad pipe', status == 2 and err.endswith('rbacaudit: file 5: M5 bad rule 1\nkubectl-rbacaudit: file 5 is /dev/stdin, Role r\n'), got)
+    os.mkdir(os.path.join(it.work, 'c'))
+    os.mkfifo(os.path.join(it.work, 'c', 'a.json'))
+    it.write(json.dumps(ROLE), 'c', 'b.json')
+    with subprocess.Popen(['sh', '-c', 'cat c.json > c/a.json'], cwd=it.work):
+        status, _, err = got = it.run('diff', '--export', 'prod', '--with', 'c/')
+    it.checked('a bad pipe in a folder', status == 2 and err.endswith('kubectl-rbacaudit: file 5 is c/a.json, Role r\n'), got)
 
 
 STALE = ('kubectl-rbacaudit: stale aggregates (L6 of lint) in %s: ClusterRole/a, ClusterRole/b, ClusterRole/late; '
@@ -127,9 +416,44 @@ def stale(it):
     it.serve({'cluster': stale_roles()})
     it.run('export', 'prod')
     it.expect('stale aggregates', ['diff', '--export', 'prod'], 0, '', STALE % 'prod' + STALE % 'the fresh export')
-    it.write(json.dumps(of_kinds([])), 'nothing.json')
-    it.expect('stale aggregates, and a change', ['diff', '--export', 'prod', '--with', 'nothing.json'], 0, '',
-              STALE % 'prod' + OVER % 'nothing.json')
+    it.write(json.dumps(ROLE), 'role.json')
+    it.expect('stale aggregates, and a change', ['diff', '--export', 'prod', '--with', 'role.json'], 0, '',
+              read('role.json') + STALE % 'prod' + OVER % 'role.json')
 
 
-CHECKS = [sides, reviews, refusals, parts, stale]
+MADE = ('kubectl-rbacaudit: this change makes stale aggregates (L6 of lint): %s; a cluster grants what is written in them, '
+        'for ever if they select each other, and these lines have what they gather\n')
+
+
+@in_each_shell
+def made_stale(it):
+    """Aggregates that a change makes stale are reported apart: a ring of roles with written rules, a rule that is gone,
+    and a stale role that nobody used."""
+    it.run('export', 'prod')
+    ring = stale_roles()
+    it.write(json.dumps(ring), 'ring.json')
+    in_ring = read('ring.json', '6 roles, 3 bindings, 0 other objects') + OVER % 'ring.json'
+    lee = '+\tu:lee\t*\tlist\t-\tpods\t*\tClusterRoleBinding/plain\n'
+    late = '+\tu:max\t*\twatch\t-\tpods\t*\tClusterRoleBinding/late\n'
+    for place in ([], ['--export', 'prod']):
+        it.expect('a ring %s' % place, ['diff', *place, '--with', 'ring.json'], 1, lee + late,
+                  in_ring + MADE % 'ClusterRole/a, ClusterRole/b, ClusterRole/late')
+    empty = [item if 'aggregationRule' not in item else {**item, 'rules': []} for item in ring['items']]
+    it.write(json.dumps({**ring, 'items': empty}), 'ring.json')
+    it.expect('the same without written rules', ['diff', '--export', 'prod', '--with', 'ring.json'], 1, lee + late, in_ring)
+    # (in a settled cluster an aggregated role has what it gathers)
+    roles = {item['metadata']['name']: item for item in ring['items'] if item['kind'] == 'ClusterRole'}
+    bound = [item for item in ring['items'] if item['metadata']['name'] == 'late' and 'roleRef' in item]
+    it.serve({'cluster': {**ring, 'items': [*bound, roles['new'], roles['unused'], {**roles['late'], 'rules': roles['new']['rules']}]}})
+    it.run('export', 'settled')
+    gone = [{**roles['new'], 'rules': []}]
+    used = {**binding('ClusterRoleBinding', 'u'), 'roleRef': {'kind': 'ClusterRole', 'name': 'unused'}}
+    for name, items, counts_, out, said in (
+            ('a rule is gone', gone, ONE_ROLE, late.replace('+', '-'), MADE % 'ClusterRole/late'),
+            ('a stale role is used', [used], '0 roles, 1 binding, 0 other objects', '', MADE % 'ClusterRole/unused'),
+            ('nothing is stale', [ROLE], ONE_ROLE, '', '')):
+        it.write(json.dumps(a_list('List', 'v1', *items)), 'c.json')
+        it.expect(name, ['diff', '--export', 'settled', '--with', 'c.json'], int(bool(out)), out, read('c.json', counts_) + OVER % 'c.json' + said)
+
+
+CHECKS = [sides, reviews, refusals, parts, unread, from_yaml, kinds, counts, namespaces, placed, stale, made_stale]

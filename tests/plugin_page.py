@@ -10,6 +10,7 @@ import pty
 import subprocess
 
 from common import PROGRAM, V1
+from plugin_questions import stale_roles
 from plugin_room import CAUTION, PLUGIN, RBAC, REFUSAL, in_each_shell, served
 from written import FILTER, Parts, lines_in
 
@@ -201,3 +202,21 @@ def plugin_refusals(it):
     status, out, err = got = it.run('page', '--export', 'prod')
     it.checked('without rbacaudit-page',
                (status, out) == (2, '') and 'there is no rbacaudit-page on the PATH' in err, got)
+
+
+@in_each_shell
+def plugin_stale(it):
+    """Stale aggregates are reported, of a fresh export too; those of a FILE are among them."""
+    os.symlink(FILTER, os.path.join(it.bin, 'rbacaudit-page'))
+    it.write(json.dumps(stale_roles()), 'ring.json')
+    said = ('kubectl-rbacaudit: stale aggregates (L6 of lint): ClusterRole/a, ClusterRole/b, '
+            'ClusterRole/late; the cluster grants what is written in them, and this page has what they gather\n')
+    status, out, err = got = it.run('page', 'ring.json')
+    it.checked('a page with stale aggregates of a FILE', (status, err) == (0, said) and out,
+               repr(got)[:2000])
+    it.serve({'cluster': stale_roles()})
+    it.run('export', 'prod')
+    for line in ([], ['--export', 'prod']):
+        status, out, err = got = it.run('page', *line)
+        it.checked('a page with stale aggregates %s' % line, (status, err) == (0, said) and out,
+                   repr(got)[:2000])

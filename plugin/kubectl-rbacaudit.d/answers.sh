@@ -165,6 +165,7 @@ name_file() {
     [ -z "$item" ] || between="; item $item of it is "
     culprit=${culprit:+$between$culprit}
     case $found in
+        "$scratch"/change/*) find_original ;;
         "$scratch"/*)
             found="${found##*/} of the fresh export"
             culprit="$culprit; kubectl rbacaudit export DIR would keep it"

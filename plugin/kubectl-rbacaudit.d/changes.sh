@@ -5,8 +5,10 @@
 # word is.
 take_diff() {
     case $1 in
-        --with) option=$1 ;;
-        --with=*) set_option "${1%%=*}" "${1#*=}" ;;
+        --with | -n | --namespace) option=$1 ;;
+        --with=* | --namespace=*) set_option "${1%%=*}" "${1#*=}" ;;
+        -n=*) set_option -n "${1#-n=}" ;;
+        -n*) set_option -n "${1#-n}" ;;
         *) take_own "$1" ;;
     esac
 }
@@ -34,6 +36,7 @@ diff_command() {
     need_rbacaudit
     check_sides
     check_options
+    read_change
     compare_sides
     exit "$answered"
 }
@@ -45,16 +48,23 @@ check_sides() {
         refuse 'diff needs --export DIR or --with PATH; kubectl rbacaudit diff --help says more'
     [ -z "$later_dir" ] || [ -z "$with" ] ||
         refuse 'diff compares two exports, or one with a change: --with goes with one --export'
-    [ -n "$with" ] || return 0
-    [ -e "$with" ] || refuse "there is no $with"
-    [ ! -d "$with" ] || has_json "$with" || refuse "there is no .json file in $with"
+    take_change_in
+    [ -z "$with" ] || check_change
 }
 
-has_json() {
-    for file in "${1%/}"/*.json; do
-        [ ! -f "$file" ] || return 0
-    done
-    return 1
+# Takes what stands after -n, which is about a change alone: it is put into JSON as it is.
+take_change_in() {
+    change_in=$only_in
+    only_in=
+    [ -n "$change_in" ] || return 0
+    [ -n "$with" ] ||
+        refuse "-n is the namespace of a change's objects that have none, so it needs --with PATH"
+    case $change_in in
+        *[!abcdefghijklmnopqrstuvwxyz0123456789.-]*)
+            refuse "there is no namespace $change_in: \
+its name would have lower-case letters, digits and dashes alone"
+            ;;
+    esac
 }
 
 # Opens both sides, and asks about them. A fresh one is of the namespace that the other is of.
@@ -66,6 +76,7 @@ compare_sides() {
     earlier=$export_dir
     if [ -n "$with" ]; then
         report "$with is put over the export: objects that the change deletes still count"
+        remark_on_change
     else
         only_in=$only
         export_dir=$later_dir
@@ -102,14 +113,7 @@ add_later() {
 }
 
 add_change() {
-    if [ -d "$with" ]; then
-        for file in "${with%/}"/*.json; do
-            set -- "$@" "$file"
-        done
-    elif [ -n "$with" ]; then
-        set -- "$@" "$with"
-    fi
-    ask "$@"
+    with_change ask "$@"
 }
 
 diff_usage() {
@@ -124,6 +128,13 @@ List what a change lets users do, and what it takes from them.
   --with PATH   the change: a JSON file, or a folder of which each .json file is read. An object of
                 the change takes the place of the export's. Objects that the change deletes still
                 count, since it doesn't name them.
+  -n NS         the namespace of the change's roles and bindings that have none; without it, default
+
+Standard error says how many roles and bindings were read from the change. It is refused if it has
+none, a kind that RBAC doesn't have, YAML files, or folders. kubectl makes JSON of YAML, also of a
+folder of it, without a cluster:
+  kubectl patch --local --type merge -p '{}' -o json -f change.yaml > parts &&
+  sed '1s/^/{"apiVersion":"v1","kind":"List","items":[/; $!s/^}$/},/; $s/$/]}/' parts > change.json
 
 A line begins with + for what is gained, or with - for what is lost; rbacaudit diff --help has its
 fields. All requests of all users are compared, whether an export names them or not.

@@ -71,6 +71,7 @@ write_page() {
     with_files ask lint -- "$@" >"$scratch/findings"
     [ "$answered" -le 1 ] || exit "$answered"
     write_named "$@"
+    remark_on_page
     # (run gives a command what is open as 3)
     run rbacaudit-page --lint "$scratch/findings" --named "$scratch/named" ${diff:+"--diff=$diff"} \
         ${title:+"--title=$title"} 3<"$scratch/matrix"

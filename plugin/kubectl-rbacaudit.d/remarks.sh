@@ -159,12 +159,43 @@ find_stale() {
     stale=
     [ "$command" != lint ] && [ -f "$export_dir/cluster.json" ] || return 0
     reads='cluster.json namespaced.json'
-    with_files rbacaudit lint >"$scratch/findings" 2>/dev/null
+    with_files rbacaudit lint --only=L2,L6 >"$scratch/findings" 2>/dev/null
     reads=$needed
+    take_stale
+}
+
+# The same by the findings in $scratch/findings.
+take_stale() {
     stale=$(LC_ALL=C awk -F '\t' '
         $1 == "L2" { unused[$3] = 1 }
         $1 == "L6" && !($3 in unused) { said = said (said == "" ? "" : ", ") $3 }
         END { print said }' "$scratch/findings")
+}
+
+# Reports the stale aggregates of a page, whose findings are there.
+remark_on_page() {
+    take_stale
+    [ -z "$stale" ] || report "stale aggregates (L6 of lint): $stale; \
+the cluster grants what is written in them, and this page has what they gather"
+}
+
+# Reports the aggregated roles that a change makes stale, or takes into use. The findings of the
+# export without it are there, if it has cluster roles.
+remark_on_change() {
+    : >>"$scratch/findings"
+    mv -f "$scratch/findings" "$scratch/findings.before"
+    reads='cluster.json namespaced.json'
+    with_files with_change rbacaudit lint --only=L2,L6 >"$scratch/findings" 2>/dev/null
+    reads=$needed
+    newly_stale=$(LC_ALL=C awk -F '\t' '
+        $1 == "L2" { unused[begun, $3] }
+        $1 != "L6" || (begun, $3) in unused { next }
+        !begun { was[$3] }
+        begun && !($3 in was) { said = said (said == "" ? "" : ", ") $3 }
+        END { print said }' "$scratch/findings.before" begun=1 "$scratch/findings")
+    [ -z "$newly_stale" ] || report "this change makes stale aggregates (L6 of lint): $newly_stale; \
+a cluster grants what is written in them, for ever if they select each other, \
+and these lines have what they gather"
 }
 
 # Asks again, and counts the rules that are written in aggregated roles, as a cluster does: a later
