@@ -5,7 +5,7 @@ import json
 import os
 
 from common import V1
-from plugin_room import (CI, DANA, DEVELOPERS, IMPLIED, KIM, NO_ACCOUNT, NO_GROUP, NO_GROUPS, NO_SPACE,
+from plugin_room import (DANA, DEVELOPERS, IMPLIED, KIM, NO_ACCOUNT, NO_GROUP, NO_GROUPS, NO_SPACE,
                          NO_USER, NO_VERB, RBAC, SCOPED, UNLISTED, URL_SCOPED, in_each_shell,
                          of_kinds, served)
 
@@ -168,8 +168,8 @@ def verbs(it):
         asked(verb, type_, said)
     it.expect('can-i', ['can-i', '--export', 'prod', *KIM, 'gett', 'po'], 1, 'no\n', NO_VERB % ('gett', 'po', 'delete, get, list'))
     it.expect('of a fresh export', ['can-i', *KIM, 'gett', 'po'], 1, 'no\n', NO_VERB % ('gett', 'po', 'delete, get, list'))
-    second['resources'][0]['verbs'].append('a"b')
-    it.write(json.dumps(second), 'prod', 'api-b.json')
+    odd = {**second, 'resources': [{'name': 'odd', 'namespaced': True, 'verbs': ['a"b']}]}
+    it.write(json.dumps(odd), 'prod', 'api-b.json')
     asked('gett', 'widgets')
     url = 'kubectl-rbacaudit: a URL has no verb %s, but get, put, post, head, options, delete, patch: check the spelling\n'
     for verb, said in (('list', url % 'list'), ('GET', url % 'GET'), ('bind', url % 'bind'), ('post', ''), ('*', ''), ('head', '')):
@@ -305,7 +305,6 @@ def named_in_files(it):
         os._exit(0)
     it.expect('with a pipe', [*ask, 'pipe'], 1, 'no\n')
     os.waitpid(pid, 0)
-    it.expect('an export of one namespace', ['can-i', '--export', 'prod', *CI, 'update', 'deploy'], 0, 'yes\n')
 
 
 CHECKS = [places, scopes, bound_types, verbs, users, accounts, groups, named_in_files]
