@@ -17,6 +17,8 @@ GIVEN = '-A asks about the whole cluster'
 NOT_GIVEN = '-n NS asks about another, and -A about the whole cluster'
 ANYWHERE = ('kubectl-rbacaudit: a server asks about %s in the namespace of the %s, so the '
             'RoleBindings of all namespaces count\n')
+EVERYWHERE = ('kubectl-rbacaudit: no API resource list has %s, and a server asks about %s there in the whole '
+              'cluster: -A does so\n')
 NO_ANYWHERE = ('kubectl-rbacaudit: a server asks about %s in the namespace shop: RoleBindings there '
                'count without --anywhere\n')
 PAT = 'u:pat\tRoleBinding/shop/team\n'
@@ -115,6 +117,21 @@ def scopes(it):
         it.expect('who-can %s' % words, [*who, *words], 0, out, said)
     it.expect('can-i', ['can-i', '--export', 'prod', '--as', 'pat', '-n', 'shop', 'get', 'nodes'], 1, 'no\n', SCOPED % ('nodes', ''))
     it.expect('of a fresh export', ['who-can', '-n', 'shop', 'get', 'nodes'], 0, DANA, SCOPED % ('nodes', ''))
+
+
+@in_each_shell
+def unlisted(it):
+    """What no API resource list has, and a server asks about in the whole cluster, isn't taken for a mistake."""
+    it.run('export', 'prod')
+    who = ['who-can', '--export', 'prod']
+    extras, uids, signers = 'userextras.authentication.k8s.io', 'uids.authentication.k8s.io', 'signers.certificates.k8s.io'
+    for verb, type_, words in (('impersonate', 'users', []), ('impersonate', 'groups.', []), ('impersonate', uids, []),
+                               ('impersonate', extras, ['--subresource', 'scopes']), ('sign', signers, []), ('attest', signers, [])):
+        it.expect('%s %s' % (verb, type_), [*who, '-n', 'monitoring', *words, verb, type_ + '/a'], 0, DANA, EVERYWHERE % (type_, verb))
+        it.expect('%s %s with -A' % (verb, type_), [*who, '-A', *words, verb, type_], 0, DANA)
+    for verb, type_ in (('get', 'users'), ('impersonate', 'user'), ('approve', 'users'), ('impersonate', extras), ('impersonate', signers)):
+        it.expect('%s %s' % (verb, type_), [*who, '-n', 'monitoring', verb, type_], 0, DANA, UNLISTED % ('type ' + type_))
+    it.expect('without -n', [*who, 'approve', signers], 0, DANA, EVERYWHERE % (signers, 'approve') + IMPLIED % 'default')
 
 
 @in_each_shell
@@ -220,11 +237,11 @@ def users(it):
     export_more(it)
     for name in ('lee', HOSTILE, 'system:anonymous', 'system:serviceaccount:shop:ci', 'system:serviceaccount:shop:twin'):
         asks(it, name, NO_ACCOUNT % ('twin', 'shop') if name.endswith('twin') else '')
-    for name, shown in (('kim', 'kim'), ('le', 'le'), ('lee ', 'lee '), ('system:node:a', 'system:node:a'), (SHOWN, SHOWN.replace('\\', '\\\\')),
-                        ('"', '"'), ('x"roleRef":', 'x"roleRef":'), ('empty', 'empty'), ('User', 'User'), ('oidc:kim', 'oidc:kim'), ('a:b/c', 'a:b/c')):
-        asks(it, name, NO_USER % (shown, NO_GROUPS))
-    for groups in (['--groups', 'shop-developers'], ['--group=idle'], ['--groups=x,idle'], ['--groups', 'system:masters'], ['--group', 'Mixed, Case']):
-        asks(it, 'kim', NO_GROUP % ' x: check the spelling' if 'x,' in groups[0] else '', *groups)
+    for name in ('kim', 'le', 'lee ', 'system:node:a', SHOWN, '"', 'x"roleRef":', 'empty', 'User', 'oidc:kim', 'a:b/c'):
+        asks(it, name, NO_USER % (name.replace('\\', '\\\\'), NO_GROUPS))
+    for words in (['--groups', 'shop-developers'], ['--group=idle'], ['--groups', 'system:masters'], ['--group', 'Mixed, Case']):
+        asks(it, 'kim', '', *words)
+    asks(it, 'kim', NO_GROUP % ' x: check the spelling', '--groups=x,idle')
     asks(it, 'kim', NO_USER % ('kim', ''), '--groups', 'system:authenticated')
     asks(it, 'kim', NO_USER % ('kim', NO_GROUPS), '--groups', ',', '--group=')
     for name, said in (
@@ -271,16 +288,17 @@ def groups(it):
             (['--groups', 'a,b'], 's a, b: check the spelling'), (['--groups', 'a,b,c,d,e'], 's a, b, c and 2 more: check the spelling'),
             (['--groups', 'a,IDLE'], 's a, IDLE, but the group idle: check the spelling'), (['--groups', 'g:idle'], ' g:idle: write --groups idle'),
             (['--group', 'mixed, case'], ' mixed, case, but the group Mixed, Case: check the spelling'),
-            (['--group', 'a,b'], " a,b: --groups splits at commas, and --group doesn't"), (['--group', 'a\tb"\\'], ' a\\x09b"\\\\: check the spelling'),
+            (['--group', 'a,b'], " a,b: --groups splits at commas, and --group doesn't"),
+            (['--group', 'a\tb"\\'], ' a\\x09b"\\\\: check the spelling'),
             (['--groups', 'lee'], ' lee, but a user of that name: write --as lee')):
         asks(it, 'lee', said and NO_GROUP % said, *words)
         if '--groups' in words:
             asks(it, 'lee', said and NO_GROUP % said, '='.join(words))
     asks(it, 'kim', NO_USER % ('kim', '') + NO_GROUP % ' typo: check the spelling', '--groups', 'typo')
     asks(it, 'kim', '', '--group', 'a\nb', '--group', 'idle')
-    for who, said in (('idle', ''), ('typo', ' typo: check the spelling'), ('lee', ' lee, but a user of that name: write u:lee'),
+    for who, said in (('a\nb', ''), ('idle', ''), ('typo', ' typo: check the spelling'), ('lee', ' lee, but a user of that name: write u:lee'),
                       ('g:idle', ' g:idle: write g:idle'), ('a,b', ' a,b: check the spelling'), ('system:x', '')):
-        it.expect('rules g:' + who, ['rules', '--export', 'prod', 'g:' + who], 0, '', said and NO_GROUP % said)
+        it.expect('rules g:%r' % who, ['rules', '--export', 'prod', 'g:' + who], 0, '', said and NO_GROUP % said)
 
 
 @in_each_shell
@@ -307,4 +325,4 @@ def named_in_files(it):
     os.waitpid(pid, 0)
 
 
-CHECKS = [places, scopes, bound_types, verbs, users, accounts, groups, named_in_files]
+CHECKS = [places, scopes, unlisted, bound_types, verbs, users, accounts, groups, named_in_files]

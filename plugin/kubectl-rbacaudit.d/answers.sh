@@ -275,7 +275,10 @@ find_target() {
         rules)
             case $found in
                 u:*) asker=${found#u:} ;;
-                g:*) members=${found#g:}$NEWLINE ;;
+                g:*)
+                    take_groups --group "${found#g:}"
+                    members=$groups
+                    ;;
             esac
             return
             ;;

@@ -29,6 +29,18 @@ is_bound() {
     ask_probe -q --as=binder -- get "$type" "$@"
 }
 
+# Whether the question is one that a server asks about in the whole cluster, though no list has the
+# type.
+is_everywhere() {
+    case $verb,$type${subresource:+/x} in
+        impersonate,users | impersonate,users. | impersonate,groups | impersonate,groups.) ;;
+        impersonate,uids.authentication.k8s.io | impersonate,userextras.authentication.k8s.io/x) ;;
+        approve,signers.certificates.k8s.io | sign,signers.certificates.k8s.io) ;;
+        attest,signers.certificates.k8s.io) ;;
+        *) return 1 ;;
+    esac
+}
+
 # Reports that the namespace in the words doesn't count.
 remark_on_scope() {
     if [ "$has_namespace" = yes ]; then

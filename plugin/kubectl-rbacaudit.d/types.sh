@@ -57,6 +57,11 @@ check_type() {
         check_object
         return
     fi
+    if is_everywhere; then
+        [ "$everywhere" = yes ] || report "no API resource list has $type, and a server asks about \
+$verb there in the whole cluster: -A does so"
+        return
+    fi
     report "the API resource lists of the export don't have the $unknown: check the spelling"
 }
 

@@ -36,7 +36,7 @@ END { if (!is_there) print texts }
 # of those which no list has.
 check_verb() {
     case $verb in
-        '*' | bind | escalate | impersonate | use | approve | sign | attest) return ;;
+        '*' | bind | escalate | impersonate* | use | approve | sign | attest) return ;;
     esac
     LC_ALL=C awk -F '\t' '
         NR == FNR { if (FNR == 2) rule = $4; next }

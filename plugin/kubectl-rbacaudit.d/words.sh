@@ -78,6 +78,7 @@ find_groups() {
         read_word "$word"
     done
     members=$groups
+    groups=
 }
 
 # Reads the letters of a word such as -qA, -n or -nshop.
