@@ -6,8 +6,8 @@ import subprocess
 
 from common import PROGRAM, TOP, V1, V1BETA1
 from plugin_room import (CAUTION, CI, CI_KEY, DANA, DEVELOPERS, FINDINGS, IMPLIED, KIM, NO_ACCOUNT,
-                         NO_SPACE, ODD, RBAC, READ, REFUSAL, UNLISTED, document, in_each_shell,
-                         of_kinds, served)
+                         NO_GROUP, NO_GROUPS, NO_SPACE, NO_USER, NO_VERB, ODD, RBAC, READ, REFUSAL,
+                         SCOPED, UNLISTED, URL_SCOPED, document, in_each_shell, of_kinds, served)
 from shells import commands, options
 
 
@@ -77,7 +77,7 @@ def namespaces(it):
         it.expect('a name is no number: ' + name, ['who-can', '-n', name, 'list', 'pods'], 0, DANA,
                   said)
     it.expect('it doesn\'t matter to nodes', ['who-can', '--export', 'prod', '-n', 'shpo', 'list',
-                                              'nodes'], 0, DANA)
+                                              'nodes'], 0, DANA, SCOPED % ('nodes', ''))
     it.expect('namespaces may be unknown', ['who-can', '-n', 'shpo', 'list', 'pods'], 0, DANA,
               trouble=['forbid namespaces'])
 
@@ -105,15 +105,17 @@ def own_objects(it):
         it.expect('the object ' + target, [*can_i, 'patch', target, 'own.json'], 0, 'yes\n', OWN % 'shop')
         it.expect('the object %s with -n' % target, [*can_i, '-n', 'shop', 'patch', target, 'own.json'], 0, 'yes\n', OWN % 'shop')
         it.expect('the object %s with -A' % target, [*can_i, '-A', 'patch', target, 'own.json'], 1, 'no\n')
-    it.expect('the object of another namespace', [*can_i, '-n', 'shop', 'patch', 'ns/monitoring', 'own.json'], 1, 'no\n')
+    it.expect('the object of another namespace', [*can_i, '-n', 'shop', 'patch', 'ns/monitoring', 'own.json'], 1, 'no\n',
+              SCOPED % ('ns', '; without -n it is about the namespace monitoring, where a server asks'))
     it.expect('the object of a namespace that isn\'t there', [*can_i, 'patch', 'ns/shpo', 'own.json'], 1, 'no\n', OWN % 'shpo' + NO_SPACE % 'shpo')
-    it.expect('all namespaces', [*can_i, '-n', 'shop', 'patch', 'namespaces', 'own.json'], 1, 'no\n')
-    it.expect('another type in a namespace', [*can_i, '-n', 'shop', '--in-namespace', 'patch', 'nodes', 'own.json'], 0, 'yes\n')
+    it.expect('all namespaces', [*can_i, '-n', 'shop', 'patch', 'namespaces', 'own.json'], 1, 'no\n', SCOPED % ('namespaces', ''))
+    it.expect('another type in a namespace', [*can_i, '-n', 'shop', '--in-namespace', 'patch', 'nodes', 'own.json'], 0, 'yes\n',
+              NO_VERB % ('patch', 'nodes', 'delete, get, list'))
     it.expect('who can change it', ['who-can', '--export', 'prod', 'patch', 'ns/shop', 'own.json'], 0,
               DANA + 'u:pat\tRoleBinding/shop/own\n', OWN % 'shop')
     it.expect('who can, anywhere', ['who-can', '--export', 'prod', '--anywhere', 'list', 'pods'], 0, DANA + DEVELOPERS)
     it.expect('groups with commas', ['can-i', '--export', 'prod', '--as', 'x', '--group', 'shop-developers', '--group', 'a,b', '-n', 'shop', 'list', 'pods'],
-              0, 'yes\n')
+              0, 'yes\n', NO_GROUP % " a,b: --groups splits at commas, and --group doesn't")
 
 
 @in_each_shell
@@ -133,12 +135,12 @@ def accounts(it):
                                        '/metrics'], 1, 'no\n', NO_ACCOUNT % ('b', 'a'))
     it.expect('accounts may be unknown', ['can-i', '--as', 'system:serviceaccount:shop:cii', '-n',
                                           'shop', 'delete', 'pods'], 1, 'no\n',
-              trouble=['forbid accounts'])
+              NO_USER % ('system:serviceaccount:shop:cii', ''), trouble=['forbid accounts'])
     it.run('export', '-n', 'shop', 'own')
     own = ['can-i', '--export', 'own', '--as', 'system:serviceaccount:monitoring:b', 'delete',
            'pods']
     it.expect('an export of another namespace knows no accounts of it', own, 1, 'no\n',
-              IMPLIED % 'shop')
+              IMPLIED % 'shop' + NO_USER % ('system:serviceaccount:monitoring:b', ''))
 
 
 CI_RULES = ''.join('RoleBinding/shop/ci-deploys\tRole/shop/deployer\tRole/shop/deployer\t%s\n' % rule
@@ -169,7 +171,7 @@ def rules(it):
                 ([CI_KEY + 'i', '-n', 'shop'], '', NO_ACCOUNT % ('cii', 'shop')),
                 ([developers], VIEW_RULES + OWNER_RULE, ''),
                 ([developers, '-n', 'shop'], VIEW_RULES, ''), ([developers, '-A'], '', ''),
-                (['u:kim@example.com'], '', ''),
+                (['u:kim@example.com'], '', NO_USER % ('kim@example.com', NO_GROUPS)),
                 (['--groups', 'shop-developers', 'u:kim@example.com'], VIEW_RULES + OWNER_RULE, ''),
                 (['--groups', 'shop-developers', '-n', 'shop', '--', 'u:kim@example.com'],
                  VIEW_RULES, '')):
@@ -227,7 +229,7 @@ def idle_groups(it):
     metrics, core = 'down api-metrics.k8s.io-v1beta1', 'down api-v1'
     for number, (trouble, words_, answers) in enumerate([
             (metrics, ['list', 'pods'], True), (metrics, ['list', 'po/x'], True),
-        (metrics, ['list', 'pods', '--subresource', 'log'], True),
+        (metrics, ['get', 'pods', '--subresource', 'log'], True),
             (metrics, ['list', 'deployments.apps'], True), (metrics, ['get', '/metrics'], True),
         (metrics, ['list', 'pods.'], True),
             (metrics, ['list', 'deploy'], False), (metrics, ['list', 'pods.metrics.k8s.io'], False),
@@ -243,7 +245,7 @@ def idle_groups(it):
             it.checked('%s: %s %s' % (trouble, words_, place),
                        (status, DANA in out, REFUSAL in err) == wanted, got)
         it.checked('an export of it says nothing', not answers
-                   or err in ('', UNLISTED % ('type ' + words_[1])), err)
+                   or err in (URL_SCOPED if words_[1] == '/metrics' else '', UNLISTED % ('type ' + words_[1])), err)
         for line in (['matrix', 'u.json'], ['universe']):
             it.write(json.dumps({'apiVersion': 'rbacaudit/v1', 'kind': 'Universe', 'names': ['']}),
                      'u.json')
@@ -293,7 +295,7 @@ def stale_aggregates(it):
         it.expect('the cluster says no %s' % place,
                   ['can-i', *place, '--as', 'max', '-A', '--why', 'watch', 'pods'], 0,
                   'yes\nClusterRoleBinding/late\tClusterRole/late\tClusterRole/new\t1\t1\n',
-                  STALE % 'answers no')
+                  NO_VERB % ('watch', 'pods', 'delete, get, list') + STALE % 'answers no')
         it.expect('both say no %s' % place, ['can-i', *place, '--as', 'lee', '-n', 'shop', 'delete',
                                              'pods'], 1, 'no\n')
         it.expect('both say yes %s' % place, ['can-i', *place, '--as', 'lee', '-n', 'shop', 'list',
@@ -302,7 +304,7 @@ def stale_aggregates(it):
                   STALE % 'has other holders')
         it.expect('fewer holders %s' % place, ['who-can', *place, '-A', 'watch', 'pods'], 0,
                   'u:max\tClusterRoleBinding/late\n',
-                  STALE % 'has other holders')
+                  NO_VERB % ('watch', 'pods', 'delete, get, list') + STALE % 'has other holders')
         it.expect('the same holders %s' % place, ['who-can', *place, '-A', 'list', 'pods'], 0,
                   'u:lee\tClusterRoleBinding/plain\n')
         it.expect('more rules %s' % place, ['rules', *place, 'u:kim'], 0, '', STALE % 'has other rules')
@@ -353,12 +355,12 @@ def words(it):
                                     % (value, name, name, value)), got)
     it.run('export', 'prod')
     it.expect('a value with a dash', ['can-i', '--as=-kim', '-n=-x', '--export', 'prod', 'get',
-                                      'pods'], 1, 'no\n', NO_SPACE % '-x')
+                                      'pods'], 1, 'no\n', NO_SPACE % '-x' + NO_USER % ('-kim', NO_GROUPS))
     it.run('export', './-x')
     it.expect('a folder that looks like an option', ['can-i', '--export=-x', *KIM, 'list', 'pods'], 0, 'yes\n')
     it.expect('a user that looks like a command',
               ['can-i', '--export', 'prod', '--as', 'export', 'list', 'pods'], 1, 'no\n',
-              IMPLIED % 'default')
+              IMPLIED % 'default' + NO_USER % ('export', NO_GROUPS))
     it.expect('an option after -- is a word', ['can-i', '--export', 'prod', *KIM, '--', 'list', 'pods', '--export'], 2, '',
               'rbacaudit: file 1: I1 read fault\nkubectl-rbacaudit: file 1 is --export\n')
 
@@ -550,12 +552,13 @@ def types(it):
     core['resources'].append({'name': 'services', 'singularName': 'fooled', 'namespaced': True, 'verbs': ['"widgets"'], 'shortNames': ['svc', '']})
     it.serve({'api-v1': core})
     it.run('export', 'prod')
-    for type_ in ('pods', 'pod', 'po', 'po/web', 'deployments', 'deploy', 'deploy.apps', 'deployment.apps/web', 'nodes.metrics.k8s.io',
-                  'role', 'svc', 'fooled', 'pods.', '/metrics'):
-        dana_alone(it, 'known: ' + type_, ['drain', type_])
+    for type_ in ('pods', 'pod', 'po', 'po/web', 'deployments', 'deploy', 'deploy.apps', 'deployment.apps/web', 'role', 'svc', 'fooled', 'pods.'):
+        dana_alone(it, 'known: ' + type_, ['*', type_])
+    dana_alone(it, 'known in the cluster', ['*', 'nodes.metrics.k8s.io'], SCOPED % ('nodes.metrics.k8s.io', ''))
+    dana_alone(it, 'a URL', ['*', '/metrics'], URL_SCOPED)
     for type_ in ('secert', 'Pods', 'widgets', '"widgets"', 'deployments.app', 'pods.apps', 'po.apps', 'apps', 'v1', 'pod*', '*',
                   'deployments.v1.apps', 'a\\x2d', 'list', '-'):
-        dana_alone(it, 'unknown: ' + type_, ['drain', type_], UNLISTED % ('type ' + type_))
+        dana_alone(it, 'unknown: ' + type_, ['*', type_], UNLISTED % ('type ' + type_))
     it.expect('unknown: secert/x, of a fresh export', ['can-i', *KIM, 'get', 'secert/x'], 1, 'no\n', UNLISTED % 'type secert')
     it.expect('unknown: a word with a dash before it', ['can-i', '--export', 'prod', *KIM, 'get', '--', '-q'], 1, 'no\n', UNLISTED % 'type -q')
 
@@ -573,24 +576,25 @@ def subresources(it):
     for type_, subresource in (('pods', 'log'), ('pod', 'log'), ('po/web', 'log'), ('pods', ''), ('po/web', ''),
                                ('machines.consoles.example.com', 'console')):
         for given in (['--subresource', subresource], ['--subresource=' + subresource]):
-            dana_alone(it, 'known: %s %s' % (type_, given), [*given, 'drain', type_])
+            dana_alone(it, 'known: %s %s' % (type_, given), [*given, '*', type_])
     for type_, subresource, said in (
             ('pods', 'exce', 'subresource pods/exce'), ('po/web', 'exce', 'subresource po/exce'), ('pods', 'Log', 'subresource pods/Log'),
             ('pods', 'log/x', 'subresource pods/log/x'), ('pods', 'pods/log', 'subresource pods/pods/log'), ('pods', '*', 'subresource pods/*'),
             ('pods', 'odd', 'subresource pods/odd'), ('no', 'log', 'subresource no/log'), ('deploy.apps', 'log', 'subresource deploy.apps/log'),
             ('pods.metrics.k8s.io', 'log', 'subresource pods.metrics.k8s.io/log'), ('secert', 'log', 'type secert'),
             ('machines', 'console', 'type machines'), ('machines.consoles.example.com', 'log', 'type machines.consoles.example.com')):
-        for given in (['--subresource', subresource, 'drain', type_], ['drain', type_, '--subresource=' + subresource]):
-            dana_alone(it, 'unknown: %s' % ' '.join(given), given, UNLISTED % said)
+        for given in (['--subresource', subresource, '*', type_], ['*', type_, '--subresource=' + subresource]):
+            dana_alone(it, 'unknown: %s' % ' '.join(given), given, (SCOPED % ('no', '') if type_ == 'no' else '') + UNLISTED % said)
     it.expect('unknown: pods/exce of a fresh export', ['can-i', *KIM, '--subresource', 'exce', 'get', 'pods'], 1, 'no\n',
               UNLISTED % 'subresource pods/exce')
     it.expect('a name is no subresource', ['can-i', '--export', 'prod', *KIM, 'get', 'pods/exce'], 0, 'yes\n')
     named = 'kubectl-rbacaudit: %s/log is taken for an object named log: to ask about the subresource, write %s --subresource log\n'
     for type_ in ('pods', 'po'):
-        dana_alone(it, 'a name that is one: %s/log' % type_, ['drain', type_ + '/log'], named % (type_, type_))
-    for given in (['pods/log', '--subresource', 'log'], ['pods/'], ['pods/log/x'], ['pods/x/log'], ['no/log'], ['pods.metrics.k8s.io/log']):
-        dana_alone(it, 'a name that is none: %s' % ' '.join(given), ['drain', *given])
-    dana_alone(it, 'nor is a name of an unknown type', ['drain', 'machines.consoles.example.com/console'],
+        dana_alone(it, 'a name that is one: %s/log' % type_, ['*', type_ + '/log'], named % (type_, type_))
+    for given in (['pods/log', '--subresource', 'log'], ['pods/'], ['pods/log/x'], ['pods/x/log'], ['pods.metrics.k8s.io/log']):
+        dana_alone(it, 'a name that is none: %s' % ' '.join(given), ['*', *given])
+    dana_alone(it, 'a name that is none in the cluster', ['*', 'no/log'], SCOPED % ('no', ''))
+    dana_alone(it, 'nor is a name of an unknown type', ['*', 'machines.consoles.example.com/console'],
                UNLISTED % 'type machines.consoles.example.com')
     it.expect('a subresource of a URL ends before', ['who-can', '--export', 'prod', '--subresource', 'exce', 'get', '/metrics'], 2, '',
               'rbacaudit: U3 subresource with a URL\n')

@@ -96,6 +96,12 @@ DEVELOPERS = 'g:shop-developers\tRoleBinding/shop/developers-view\n'
 REFUSAL = 'kubectl-rbacaudit: a part of the export is missing, so nothing is answered; --partial answers from what is there\n'
 CAUTION = 'kubectl-rbacaudit: a part of the export is missing: this answer knows only what is there\n'
 UNLISTED = "kubectl-rbacaudit: the API resource lists of the export don't have the %s: check the spelling\n"
+NO_VERB = "kubectl-rbacaudit: the API resource lists of the export don't have the verb %s of %s, but %s: check the spelling\n"
+SCOPED = "kubectl-rbacaudit: the type %s is cluster-scoped, so -n doesn't count: the question is about the whole cluster%s\n"
+URL_SCOPED = "kubectl-rbacaudit: a URL has no namespace, so -n doesn't count\n"
+NO_USER = 'kubectl-rbacaudit: no binding of the export names the user %s, so only what its groups have counts%s\n'
+NO_GROUPS = '; --groups A,B says which these are'
+NO_GROUP = 'kubectl-rbacaudit: no binding of the export names the group%s\n'
 
 
 # ---- what the stand-in serves

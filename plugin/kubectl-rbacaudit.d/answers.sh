@@ -241,6 +241,7 @@ question_command() {
     [ "$help" = no ] || question_help
     check_options
     accept_words "$@"
+    find_groups "$@"
     find_target "$@"
     look_at_about
     choose_namespace
@@ -248,28 +249,38 @@ question_command() {
     parts_of "$command"
     open_export
     case $command in
-        can-i | who-can | rules) remark_on_question ;;
+        can-i | who-can | rules) remark_on_question "$@" ;;
     esac
-    if [ -n "$implied$own" ]; then
+    if [ -n "$implied$own$place_of" ]; then
         shift
-        [ -z "$own" ] || set -- --in-namespace "$@"
-        [ "$has_namespace" = yes ] || set -- "--namespace=$asked_in" "$@"
+        [ -z "$own$place_of" ] || set -- --in-namespace "$@"
+        [ "$has_namespace$anywhere" != nono ] || set -- "--namespace=$asked_in" "$@"
         set -- "$command" "$@"
     fi
     answer "$@"
     exit "$answered"
 }
 
-# Leaves in `type` and `object` what a question is about: nothing if that is a URL. For rules, leaves
-# in `asker` the user whose key WHO is.
+# Leaves in `verb`, `type` and `object` what a question is about: no type if that is a URL. For rules,
+# leaves in `asker` or `members` the user or the group whose key WHO is.
 find_target() {
+    verb=
     type=
     object=
+    find_place 2 "$@"
     case $command in
-        can-i | who-can) find_place 3 "$@" ;;
+        can-i | who-can)
+            verb=$found
+            find_place 3 "$@"
+            ;;
         rules)
-            find_place 2 "$@"
-            asker=${found#u:}
+            case $found in
+                u:*) asker=${found#u:} ;;
+                g:*)
+                    take_groups --group "${found#g:}"
+                    members=$groups
+                    ;;
+            esac
             return
             ;;
         *) return ;;
@@ -301,6 +312,7 @@ choose_namespace() {
     asked_in=
     implied=
     own=
+    place_of=
     if [ "$command" = rules ]; then
         [ "$everywhere" = yes ] || asked_in=$namespace
         return
@@ -320,11 +332,7 @@ choose_namespace() {
 
 # Whether the target is the object of a namespace, and the words name no other namespace.
 is_own_object() {
-    case ${type%.} in
-        namespaces | namespace | ns) ;;
-        *) return 1 ;;
-    esac
-    [ -n "$object" ] || return 1
+    names_namespace || return 1
     [ "$has_namespace" = no ] || [ "$namespace" = "$object" ]
 }
 

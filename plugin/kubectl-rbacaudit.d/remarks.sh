@@ -107,36 +107,46 @@ find_culprit() {
     fi
 }
 
-# What is said before an answer: the type, and then the namespace and the account.
+# What is said before an answer to the question in the words: the type, the namespace, and whoever
+# asks.
 remark_on_question() {
     [ -z "$type" ] || check_type
+    case $command,$type in
+        can-i, | who-can,) check_url ;;
+    esac
     [ -z "$own" ] || report "the question is about the object of the namespace $own, so it is asked \
 in that namespace, as a server does; -A asks about the whole cluster"
+    [ -z "$place_of" ] || remark_on_place
     if [ -n "$asked_in" ]; then
-        [ -z "$implied" ] || report "the question is about the namespace $implied; \
+        [ -z "$implied" ] || [ -n "$place_of" ] ||
+            report "the question is about the namespace $implied; \
 -n NS asks about another, and -A about the whole cluster"
         is_there namespaces.json 2 "$asked_in" '"principals": [{"user": "probe"}]' ||
             report "the export has no namespace $asked_in: check the spelling"
     fi
-    case $asker in
-        system:serviceaccount:*:*) check_account ;;
-    esac
+    [ "$command" = who-can ] || remark_on_asker "$@"
 }
 
+# Reports a service account that isn't there. Fails if the export doesn't tell.
 check_account() {
     account=${asker#system:serviceaccount:}
     home=${account%%:*}
-    [ -z "$only" ] || [ "$only" = "$home" ] || return 0
-    is_there accounts.json 1 "u:$asker" '"namespaces": [""]' ||
-        report "the export has no service account ${account#*:} in the namespace $home: \
-check the spelling"
+    [ -z "$only" ] || [ "$only" = "$home" ] || return 1
+    list_there accounts.json '"namespaces": [""]' || return 1
+    has_there 1 "u:$asker" || report "the export has no service account ${account#*:} in the \
+namespace $home: check the spelling"
 }
 
-# Whether an object has a name, by what rbacaudit derives from a file of the export: this field of a
-# row of a matrix in which everybody may do the one thing that is asked about. The last word is a
-# member of its universe. A file that the export doesn't have or rbacaudit refuses tells nothing.
+# Whether an object has a name, by this field of what list_there writes, with the same words. A file
+# that the export doesn't have or rbacaudit refuses tells nothing.
 is_there() {
-    [ -f "$export_dir/$1" ] || return 0
+    ! list_there "$1" "$4" || has_there "$2" "$3"
+}
+
+# Writes to $scratch/there what rbacaudit derives from a file of the export: a matrix in which
+# everybody may do the one thing that is asked about. The last word is a member of its universe.
+list_there() {
+    [ -f "$export_dir/$1" ] || return 1
     cat >"$scratch/everybody.json" <<EOF
 {"apiVersion": "v1", "kind": "List", "items": [
   {"apiVersion": "rbac.authorization.k8s.io/v1", "kind": "ClusterRole", "metadata": {"name": "/"},
@@ -145,12 +155,16 @@ is_there() {
    "metadata": {"name": "/"}, "roleRef": {"kind": "ClusterRole", "name": "/"},
    "subjects": [{"kind": "Group", "name": "system:authenticated"}]},
   {"apiVersion": "rbacaudit/v1", "kind": "Universe", "verbs": ["get"],
-   "resources": [{"resource": "x"}], "names": [""], "urls": [], $4}]}
+   "resources": [{"resource": "x"}], "names": [""], "urls": [], $2}]}
 EOF
-    rbacaudit matrix "$export_dir/$1" "$scratch/everybody.json" >"$scratch/there" 2>/dev/null ||
-        return 0
-    LC_ALL=C WANTED=$3 awk -F '\t' -v at="$2" '
-        $at "" == ENVIRON["WANTED"] { found = 1; exit }
+    rbacaudit matrix "$export_dir/$1" "$scratch/everybody.json" >"$scratch/there" 2>/dev/null
+}
+
+# Whether a line of $scratch/there has this text in this field.
+has_there() {
+    LC_ALL=C WANTED=$2 awk -F '\t' -v at="$1" "$FIELD"'
+        BEGIN { wanted = printed(ENVIRON["WANTED"]) }
+        $at "" == wanted { found = 1; exit }
         END { exit !found }' "$scratch/there"
 }
 

@@ -34,8 +34,7 @@ EOF
 }
 
 # Reports a type that the API resource lists don't have, or a subresource that they don't have of a
-# type that they have. A question about a type that they have as cluster-scoped is about no
-# namespace: that leaves `asked_in` empty.
+# type that they have; or else a verb that they don't have of it.
 check_type() {
     if ! has_lists; then
         report "the export has no API resource lists, so the type $type is taken as written"
@@ -44,16 +43,25 @@ check_type() {
     reads=api
     with_files list_types
     grant_listed
-    has_type=no
-    ! with_files is_listed '' || has_type=yes
-    [ "$has_type$in_namespace$own" != yesno ] || with_files is_inside || asked_in=
-    if [ "$has_type$subresource" = yes ] ||
-        { [ -n "$subresource" ] && with_files is_listed "$subresource"; }; then
+    unknown=
+    with_files is_listed '' || unknown="type $type"
+    if [ -n "$subresource" ] && with_files is_listed "$subresource"; then
+        unknown=
+        choose_scope "$subresource"
+    elif [ -z "$unknown" ]; then
+        choose_scope ''
+        [ -z "$subresource" ] || unknown="subresource $type/$subresource"
+    fi
+    if [ -z "$unknown" ]; then
+        check_verb
         check_object
         return
     fi
-    unknown="type $type"
-    [ "$has_type" = no ] || unknown="subresource $type/$subresource"
+    if is_everywhere; then
+        [ "$everywhere" = yes ] || report "no API resource list has $type, and a server asks about \
+$verb there in the whole cluster: -A does so"
+        return
+    fi
     report "the API resource lists of the export don't have the $unknown: check the spelling"
 }
 
@@ -65,45 +73,47 @@ check_object() {
     fi
 }
 
-# Writes to $scratch/known.json a user who may get each type of $scratch/rows, and another who may
-# do it in the namespace n.
+# Writes to $scratch/known.json a user who may get each type of $scratch/rows, by a rule for each in
+# their order; another who may do it in the namespace n; and one who may get cluster roles.
 grant_listed() {
     LC_ALL=C awk -F '\t' "$JSON_TEXT"'
+        function of_kind(kind, metadata) {
+            printf "%s{\"apiVersion\": \"rbac.authorization.k8s.io/v1\", \"kind\": \"%s\", \"metadata\": {%s}", \
+                begun++ ? ",\n" : "", kind, metadata
+        }
+        function bound(kind, metadata, role, user) {
+            of_kind(kind, metadata)
+            print ", \"roleRef\": {\"kind\": \"ClusterRole\", \"name\": \"" role "\"},"
+            print " \"subjects\": [{\"kind\": \"User\", \"name\": \"" user "\"}]}"
+        }
+        function rule(group, type) {
+            return "{\"verbs\": [\"get\"], \"apiGroups\": [" group "], \"resources\": [" type "]}"
+        }
         BEGIN {
-            version = "\"apiVersion\": \"rbac.authorization.k8s.io/v1\""
             print "{\"apiVersion\": \"v1\", \"kind\": \"List\", \"items\": ["
-            print "{" version ", \"kind\": \"ClusterRoleBinding\", \"metadata\": {\"name\": \"/\"},"
-            role = "\"roleRef\": {\"kind\": \"ClusterRole\", \"name\": \"/\"}"
-            print " " role ", \"subjects\": [{\"kind\": \"User\", \"name\": \"probe\"}]},"
-            print "{" version ", \"kind\": \"RoleBinding\","
-            print " \"metadata\": {\"name\": \"/\", \"namespace\": \"n\"},"
-            print " " role ", \"subjects\": [{\"kind\": \"User\", \"name\": \"inside\"}]},"
-            print "{" version ", \"kind\": \"ClusterRole\", \"metadata\": {\"name\": \"/\"}, \"rules\": ["
+            bound("ClusterRoleBinding", "\"name\": \"/\"", "/", "probe")
+            bound("RoleBinding", "\"name\": \"/\", \"namespace\": \"n\"", "/", "inside")
+            bound("ClusterRoleBinding", "\"name\": \"/roles\"", "/roles", "binder")
+            of_kind("ClusterRole", "\"name\": \"/roles\"")
+            print ", \"rules\": [" rule("\"rbac.authorization.k8s.io\"", "\"clusterroles\"") "]}"
+            of_kind("ClusterRole", "\"name\": \"/\"")
+            print ", \"rules\": ["
         }
-        NF == 7 && $2 == "-" {
-            print comma "{\"verbs\": [\"get\"], \"apiGroups\": [" json_text($4) "], \"resources\": [" json_text($5) "]}"
-            comma = ","
-        }
+        NF == 7 && $2 == "-" { print comma rule(json_text($4), json_text($5)); comma = "," }
         END { print "]}]}" }' "$scratch/rows" >"$scratch/known.json"
 }
 
 # Whether the API resource lists have the type, or its subresource of this name if that isn't empty.
 # rbacaudit looks the type up, over the same lists and a user who may get exactly what they have:
-# its no means that it took the word as written.
+# its no means that it took the word as written. Writes to $scratch/why which rule allows it.
 is_listed() {
     below=$1
     shift
-    ask_probe --as=probe "--subresource=$below" -- get "$type" "$@"
-}
-
-# Whether a RoleBinding can grant the type: rbacaudit asks about a cluster-scoped type in no
-# namespace.
-is_inside() {
-    ask_probe --as=inside --namespace=n -- get "$type" "$@"
+    ask_probe --why --as=probe "--subresource=$below" -- get "$type" "$@" >"$scratch/why"
 }
 
 ask_probe() {
-    ask can-i -q "$@" "$scratch/known.json"
+    ask can-i "$@" "$scratch/known.json"
     [ "$answered" -le 1 ] || exit "$answered"
     return "$answered"
 }
@@ -150,7 +160,7 @@ make_universe() {
 
 # Prints the types of the API resource lists, and then those that only rules name. Such a
 # subresource is namespaced if its resource is, as rbacaudit takes it; any other such type is
-# namespaced.
+# namespaced. So are cluster roles, since a server asks about bind in the namespace of a RoleBinding.
 write_universe() {
     LC_ALL=C awk -F '\t' "$JSON_TEXT"'
         NF != 7 { next }
@@ -158,6 +168,7 @@ write_universe() {
         { listed[part, $4, $5] = 1 }
         !(($4, $5) in seen) { seen[$4, $5] = 1; group[++count] = $4; name[count] = $5 }
         function namespaced(of, type) {
+            if (of == "rbac.authorization.k8s.io" && type == "clusterroles") return 1
             if (!(("api", of, type) in listed)) sub(/\/.*/, "", type)
             return !(("api", of, type) in listed) || (("api", of, type) in inside)
         }

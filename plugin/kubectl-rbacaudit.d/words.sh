@@ -26,7 +26,9 @@ read_word() {
             --help) help=yes ;;
             --as | --groups | --group | --namespace | --subresource | --limit) awaits=$1 ;;
             --after) [ "$command" = diff ] || awaits=$1 ;;
-            --as=* | --namespace=* | --subresource=*) take_value "${1%%=*}" "${1#*=}" ;;
+            --as=* | --groups=* | --group=* | --namespace=* | --subresource=*)
+                take_value "${1%%=*}" "${1#*=}"
+                ;;
             --all-namespaces) everywhere=yes ;;
             --anywhere) anywhere=yes ;;
             --in-namespace) in_namespace=yes ;;
@@ -42,12 +44,41 @@ read_word() {
 take_value() {
     case $1 in
         --as) asker=$2 ;;
+        --group | --groups) take_groups "$1" "$2" ;;
         -n | --namespace)
             namespace=$2
             has_namespace=yes
             ;;
         --subresource) subresource=$2 ;;
     esac
+}
+
+# Adds groups to `groups`, a line each: a name with a line break is left out.
+take_groups() {
+    case $2 in
+        *"$NEWLINE"*) return ;;
+    esac
+    split=$2
+    while [ "$1" = --groups ]; do
+        case $split in
+            *,*) ;;
+            *) break ;;
+        esac
+        groups=$groups${split%%,*}$NEWLINE
+        split=${split#*,}
+    done
+    groups=$groups$split$NEWLINE
+}
+
+# Leaves in `members` the groups that the words put the user in, a line each.
+find_groups() {
+    groups=
+    begin_words
+    for word do
+        read_word "$word"
+    done
+    members=$groups
+    groups=
 }
 
 # Reads the letters of a word such as -qA, -n or -nshop.
