@@ -145,7 +145,7 @@ with_files() {
 # Runs rbacaudit and gives its status. After a fault that gives a file by its number, reports the
 # file's name, and the object.
 ask() {
-    run rbacaudit "$@" 2>"$scratch/said"
+    run_shown rbacaudit "$@" 2>"$scratch/said"
     answered=$?
     cat "$scratch/said" >&2
     number=$(sed -n 's/^rbacaudit: file \([0-9][0-9]*\)[: ].*/\1/p' "$scratch/said")
@@ -334,7 +334,7 @@ answer() {
     case ${stale:+$command} in
         who-can | rules)
             with_files ask "$@" >"$scratch/answer"
-            cat "$scratch/answer"
+            show <"$scratch/answer"
             ;;
         *) with_files ask "$@" ;;
     esac

@@ -58,7 +58,7 @@ write_export() {
         exit 1
     fi
     printf 'The export in %s is whole%s: %s files.\n' \
-        "$dir" "${only_in:+ for the namespace $only_in}" "$fetched"
+        "$dir" "${only_in:+ for the namespace $only_in}" "$fetched" | show
 }
 
 # What was read, for whoever finds the export later. A question without -n asks in the namespace;

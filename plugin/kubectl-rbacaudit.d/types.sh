@@ -103,7 +103,7 @@ is_inside() {
 }
 
 ask_probe() {
-    ask can-i -q "$@" "$scratch/known.json"
+    ask can-i -q "$@" "$scratch/known.json" >"$scratch/nothing"
     [ "$answered" -le 1 ] || exit "$answered"
     return "$answered"
 }
@@ -132,7 +132,8 @@ universe_command() {
     choose_namespace
     parts_of universe
     open_export
-    make_universe
+    make_universe >"$scratch/universe.json"
+    show 1 <"$scratch/universe.json"
 }
 
 # Prints a Universe document for the export that is open.
