@@ -15,6 +15,7 @@ import subprocess
 import sys
 import tempfile
 
+import plugin_advice
 import plugin_changes
 import plugin_exports
 import plugin_questions
@@ -254,5 +255,5 @@ def told(words_, folder, tools_=os.path.dirname(PROGRAM)):
 
 
 if __name__ == '__main__':
-    sys.exit(tested(*plugin_exports.CHECKS, *plugin_questions.CHECKS, *plugin_changes.CHECKS, *plugin_server.CHECKS, *plugin_terminal.CHECKS, tools,
-                    script, make_run, completions, in_kubectl, man_page))
+    sys.exit(tested(*plugin_exports.CHECKS, *plugin_questions.CHECKS, *plugin_changes.CHECKS, *plugin_advice.CHECKS,
+                    *plugin_server.CHECKS, *plugin_terminal.CHECKS, tools, script, make_run, completions, in_kubectl, man_page))
