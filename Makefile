@@ -45,7 +45,9 @@ build:
 # The completions and the man page go where each shell and man look; the files of the page where rbacaudit-page looks.
 SHARE = $(DESTDIR)$(PREFIX)/share
 
-install: build
+# (what is built isn't built again, so that `sudo make install` after `make build` neither needs rt nor proves all of it for root,
+# for whom the kit keeps nothing of what it has proved for another user)
+install: $(shell $(IS_BUILT) || echo build)
 	install -d $(DESTDIR)$(PREFIX)/bin $(SHARE)/bash-completion/completions $(SHARE)/zsh/site-functions \
 	    $(SHARE)/fish/vendor_completions.d $(SHARE)/man/man1 $(DESTDIR)$(PREFIX)/lib/kubectl-rbacaudit \
 	    $(SHARE)/rbacaudit/page

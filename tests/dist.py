@@ -20,6 +20,7 @@ import tarfile
 import tempfile
 
 from common import PROGRAM, TOP, checked, results, skipped, tested
+from plugin_exports import nobody
 from transcripts import contents, steps, text_of
 
 ROOT = 'rbacaudit-0.1.0-x86_64-linux'
@@ -234,6 +235,34 @@ def refusals(room):
     os.utime(program, (os.stat(os.path.join(room.repository, 'crates.txt')).st_mtime + 2,) * 2)
     got = room.make()
     holds('after these, make dist', got[0] == 0, got)
+
+
+# ---- make install
+
+# In the place of the kit: it only says that it was called.
+KIT = '#!/bin/sh\necho called >> "$PLACE/called"\nexit 1\n'
+
+
+def instant(room):
+    """make install builds nothing where the program is newer than its sources, and another user's make install neither; where a
+    source is newer it builds first, and installs nothing if that fails."""
+    os.mkdir(room.at('kit'))
+    write(KIT, room.at('kit', 'rt'))
+    os.chmod(room.at('kit', 'rt'), 0o755)
+    os.chmod(room.path, 0o755)
+    program = os.path.join(room.repository, os.path.relpath(PROGRAM, TOP))
+    for name, who in (('', {}), (' as another user', nobody())):
+        to = tempfile.mkdtemp(dir=room.path)
+        os.chmod(to, 0o777)
+        environment = dict(os.environ, PATH=room.at('kit') + os.pathsep + os.environ['PATH'], PLACE=to)
+        got = run(['make', '-s', 'install', 'PREFIX=' + to], room.repository, environment, **who)
+        well = got == (0, '') and bytes_of(to, 'bin', 'rbacaudit') == bytes_of(program)
+        holds('make install' + name, well and not os.path.exists(to + '/called'), got)
+    os.utime(os.path.join(room.repository, 'crates.txt'), (os.stat(program).st_mtime + 1,) * 2)
+    to = tempfile.mkdtemp(dir=room.path)
+    got = run(['make', '-s', 'install', 'PREFIX=' + to], room.repository, {**environment, 'PLACE': to})
+    holds('make install with a newer source', got[0] != 0 and os.listdir(to) == ['called'], (got, os.listdir(to)))
+    os.utime(program, (os.stat(os.path.join(room.repository, 'crates.txt')).st_mtime + 2,) * 2)
 
 
 # ---- installed without the kit
@@ -510,7 +539,7 @@ def all_of_it():
     with tempfile.TemporaryDirectory() as path:
         room = Room(path)
         packed(room)
-        parts = entries, proved, refusals, installed, as_told, containerfile, krew, jobs
+        parts = entries, proved, refusals, instant, installed, as_told, containerfile, krew, jobs
         for part in parts if all(results) else ():
             part(room)
 

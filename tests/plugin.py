@@ -1,7 +1,8 @@
 """The kubectl plugin, under dash and under bash, with a stand-in for kubectl and the built program.
 
 plugin_room.py has the stand-in, plugin_exports.py the exports, plugin_questions.py the questions,
-plugin_remarks.py what is said beside answers, and plugin_server.py both once more with kubectl itself.
+plugin_remarks.py what is said beside answers, plugin_advice.py what is said behind errors,
+plugin_server.py both once more with kubectl itself, and plugin_terminal.py what a terminal shows.
 Here are the tools that the plugin needs, its texts, completions and man page, and make. What is
 skipped, since this machine lacks a tool, stands in the last line but one. The last line is
 `N passed, M failed`.
@@ -15,11 +16,13 @@ import subprocess
 import sys
 import tempfile
 
+import plugin_advice
 import plugin_changes
 import plugin_exports
 import plugin_questions
 import plugin_remarks
 import plugin_server
+import plugin_terminal
 from common import PROGRAM, TOP, checked, skipped, tested
 from plugin_room import KIM, PLUGIN, SHELLS, in_each_shell
 from shells import VERBS, commands, contents, options, options_in, renders
@@ -255,5 +258,5 @@ def told(words_, folder, tools_=os.path.dirname(PROGRAM)):
 
 
 if __name__ == '__main__':
-    sys.exit(tested(*plugin_exports.CHECKS, *plugin_questions.CHECKS, *plugin_remarks.CHECKS, *plugin_changes.CHECKS, *plugin_server.CHECKS, tools,
-                    script, make_run, completions, in_kubectl, man_page))
+    sys.exit(tested(*plugin_exports.CHECKS, *plugin_questions.CHECKS, *plugin_remarks.CHECKS, *plugin_changes.CHECKS, *plugin_advice.CHECKS,
+                    *plugin_server.CHECKS, *plugin_terminal.CHECKS, tools, script, make_run, completions, in_kubectl, man_page))

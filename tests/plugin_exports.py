@@ -13,8 +13,8 @@ import textwrap
 import time
 
 from common import TOP
-from plugin_room import (CI, METRICS, PLUGIN, READ, STAND_IN, WHOLE, api_groups, document,
-                         in_each_shell, served)
+from plugin_room import (CAUTION, CI, METRICS, PLUGIN, RBAC, READ, REFUSAL, STAND_IN, UNLISTED, WHOLE, api_groups,
+                         document, in_each_shell, served)
 
 
 @in_each_shell
@@ -51,6 +51,16 @@ def about(it):
     wanted = ('context: far away\nserver: https://10.0.0.1:6443\nversion: v1.32.4\n'
               'namespace: %s\n%stime: ')
     time_ = r'\d{4}-\d\d-\d\dT\d\d:\d\d:\d\dZ\n'
+
+    def files(of_all, of_one):
+        return ''.join('file: %s: kubectl get %s\n' % line for line in (
+            ('cluster.json', 'clusterroles.{0},clusterrolebindings.{0} -o json'.format(RBAC)),
+            ('namespaced.json', 'roles.{0},rolebindings.{0} {1} -o json'.format(RBAC, of_all)),
+            ('namespaces.json', 'namespaces%s -o json' % of_one), ('accounts.json', 'serviceaccounts %s -o json' % of_all),
+            ('api-v1.json', '--raw /api/v1'), ('api-apps-v1.json', '--raw /apis/apps/v1'),
+            ('api-%s-v1.json' % RBAC, '--raw /apis/%s/v1' % RBAC),
+            ('api-metrics.k8s.io-v1beta1.json', '--raw /apis/metrics.k8s.io/v1beta1')))
+
     for namespace, words_, told_, trouble in (
             ('', [], wanted % ('default', ''), []), ('dev', [], wanted % ('dev', ''), []),
             ('dev', ['-n', 'shop'], wanted % ('shop', 'only: shop\n'), []),
@@ -58,9 +68,14 @@ def about(it):
         it.at_context(namespace)
         status, _, err = got = it.run('export', '--force', 'prod', *words_, trouble=trouble)
         said = it.read('prod', 'about.txt')
+        listed = files('-n shop', ' shop') if words_ else files('--all-namespaces', '')
         it.checked('about an export: %s %s %s' % (namespace, words_, trouble),
-                   (status, err) == (0, '') and re.fullmatch(re.escape(told_) + time_, said),
+                   (status, err) == (0, '') and re.fullmatch(re.escape(told_) + time_ + re.escape(listed), said),
                    (got, said))
+    it.run('export', '--force', 'prod', trouble=['forbid accounts', 'down api-apps-v1'])
+    listed = [line for line in files('--all-namespaces', '').splitlines(True) if 'accounts' not in line and '/apps/' not in line]
+    it.checked('about an export that lacks files', it.read('prod', 'about.txt').endswith('Z\n' + ''.join(listed)),
+               it.read('prod', 'about.txt'))
     it.write('', it.at('context'))
     it.run('export', '--force', 'prod')
     said = it.read('prod', 'about.txt')
@@ -380,5 +395,71 @@ def publishing(it):
     it.checked('it says so', (status, out) == (2, '') and 'it was interrupted while its files were put in place' in err, got)
 
 
-CHECKS = [whole_export, about, one_namespace, side_by_side, progress, exporter, export_faults,
+LOCKED = ('kubectl-rbacaudit: another export into prod goes on; if none does, one was killed: '
+          'remove prod/.rbacaudit-lock, and try again\n')
+
+
+@in_each_shell
+def two_at_a_time(it):
+    """While an export goes on, another into its folder is refused; a lock that was left keeps exports out, and no question."""
+    it.run('export', 'prod')
+    for number in (signal.SIGTERM, signal.SIGKILL):
+        it.lines('calls')
+        process = subprocess.Popen([it.shell, PLUGIN, 'export', '--force', 'prod'], cwd=it.work,
+                                   env=it.environment(['hang namespaced']), stdin=subprocess.DEVNULL, stdout=subprocess.PIPE, stderr=subprocess.PIPE)
+        until = time.monotonic() + 60
+        while not it.read(it.at('hangs')) and time.monotonic() < until:
+            time.sleep(0.02)
+        it.expect('while another goes on', ['export', '--force', 'prod'], 2, '', LOCKED)
+        calls = it.lines('calls')
+        it.checked('nothing is read for it', calls.count('|get|--raw|/apis') == 1, calls)
+        it.expect('another folder', ['export', '--force', 'other'], 0, 'The export in other is whole: 8 files.\n')
+        it.checked('the first still has its lock', os.path.isdir(os.path.join(it.work, 'prod', '.rbacaudit-lock')), it.files('prod'))
+        process.send_signal(number)
+        process.communicate(timeout=60)
+        with contextlib.suppress(ProcessLookupError):
+            os.kill(int(it.lines('hangs')[0]), signal.SIGKILL)
+        if number == signal.SIGTERM:
+            it.expect('once it has ended', ['export', '--force', 'prod'], 0, 'The export in prod is whole: 8 files.\n')
+    it.expect('once it was killed', ['export', '--force', 'prod'], 2, '', LOCKED)
+    it.expect('a question', ['can-i', '--export', 'prod', *CI, 'update', 'deployments.apps'], 0, 'yes\n')
+    os.rmdir(os.path.join(it.work, 'prod', '.rbacaudit-lock'))
+    it.expect('without the lock', ['export', '--force', 'prod'], 0, 'The export in prod is whole: 8 files.\n')
+    for name in it.files('prod'):
+        if name.startswith('.rbacaudit.'):
+            shutil.rmtree(os.path.join(it.work, 'prod', name))
+    it.write('', 'prod', '.rbacaudit-lock')
+    it.expect('a file in the place of the lock', ['export', '--force', 'prod'], 2, '', LOCKED)
+    os.remove(os.path.join(it.work, 'prod', '.rbacaudit-lock'))
+
+
+GONE = 'kubectl-rbacaudit: there is no api-apps-v1.json in %s, and about.txt lists it\n'
+
+
+@in_each_shell
+def files_gone(it):
+    """A file that an export lists and no longer has is a gap; an export without a list is taken as it is."""
+    update = ['can-i', *CI, 'update', 'deployments.apps']
+    for folder, words_ in (('prod', []), ('own', ['-n', 'shop'])):
+        it.run('export', *words_, folder)
+        os.remove(os.path.join(it.work, folder, 'api-apps-v1.json'))
+        it.expect('a list is gone', [*update, '--export', folder], 2, '', GONE % folder + REFUSAL)
+        it.expect('a list is gone, --partial', [*update, '--export', folder, '--partial'], 0, 'yes\n',
+                  GONE % folder + CAUTION + UNLISTED % 'type deployments.apps')
+        it.expect('a type that it may have', ['can-i', *CI, 'list', 'deploy', '--export', folder], 2, '', GONE % folder + REFUSAL)
+        it.expect('a type that it can\'t have', ['can-i', *CI, 'list', 'pods', '--export', folder], 1, 'no\n')
+        it.expect('a URL', ['can-i', *CI, 'get', '/metrics', '--export', folder], 1, 'no\n')
+        status, out, err = got = it.run('universe', '--export', folder)
+        it.checked('a universe', (status, out) == (2, '') and err.startswith(GONE % folder) and err.endswith(REFUSAL), got)
+        it.checked('lint reads none', 'about.txt' not in it.run('lint', '--export', folder)[2], 'a gap')
+        os.remove(os.path.join(it.work, folder, 'accounts.json'))
+        alone = words_ and 'kubectl-rbacaudit: the export has the namespace shop alone, and this answer knows no other\n'
+        it.expect('a matrix', ['matrix', '--export', folder], 2, '',
+                  'kubectl-rbacaudit: there is no accounts.json in %s\n' % folder + GONE % folder + (alone or '') + REFUSAL)
+        lines = it.read(folder, 'about.txt').splitlines(True)
+        it.write(''.join(line for line in lines if not line.startswith('file: ')), folder, 'about.txt')
+        it.expect('no list of files', [*update, '--export', folder], 0, 'yes\n', UNLISTED % 'type deployments.apps')
+
+
+CHECKS = [whole_export, about, two_at_a_time, files_gone, one_namespace, side_by_side, progress, exporter, export_faults,
           no_export, closed_folder, old_exports, interruptions, publishing]

@@ -41,7 +41,13 @@ open_export() {
 look_for_gaps() {
     for part in $needed; do
         case $part in
-            api) has_lists || "$1" "there is no api-*.json in $export_dir" ;;
+            api)
+                if has_lists; then
+                    look_for_listed "$1"
+                else
+                    "$1" "there is no api-*.json in $export_dir"
+                fi
+                ;;
             *)
                 [ -f "$export_dir/$part" ] ||
                     "$1" "there is no $part in $export_dir$(reason_for "$part")"
@@ -61,6 +67,17 @@ look_for_gaps() {
                 ;;
         esac
     done 4<"$export_dir/incomplete.txt" || refuse "can't read $export_dir/incomplete.txt"
+}
+
+# The same for an API resource list that is gone since the export was made: about.txt has its name and
+# the call that it is from.
+look_for_listed() {
+    [ -f "$export_dir/about.txt" ] || return 0
+    sed -n 's/^file: \(api-.*\)/\1/p' "$export_dir/about.txt" >"$scratch/noted"
+    while IFS= read -r line <&4; do
+        [ -f "$export_dir/${line%%: *}" ] || is_idle "$line" ||
+            "$1" "there is no ${line%%: *} in $export_dir, and about.txt lists it"
+    done 4<"$scratch/noted"
 }
 
 # Prints a colon and why the export has no such part, as far as its incomplete.txt says that.
@@ -145,7 +162,7 @@ with_files() {
 # Runs rbacaudit and gives its status. After a fault that gives a file by its number, reports the
 # file's name, and the object.
 ask() {
-    run rbacaudit "$@" 2>"$scratch/said"
+    run_shown rbacaudit "$@" 2>"$scratch/said"
     answered=$?
     cat "$scratch/said" >&2
     number=$(sed -n 's/^rbacaudit: file \([0-9][0-9]*\)[: ].*/\1/p' "$scratch/said")
@@ -160,7 +177,13 @@ name_file() {
     number=$1
     shift
     find_place $((most + number)) "$@"
-    find_culprit "$found" "${item:-0}"
+    path=$found
+    fault=$(sed -n 's/^rbacaudit: file [^:]*: //p' "$scratch/said")
+    culprit=
+    case $fault in
+        M1\ * | I*) ;;
+        *) find_culprit "$found" "${item:-0}" ;;
+    esac
     between=', '
     [ -z "$item" ] || between="; item $item of it is "
     culprit=${culprit:+$between$culprit}
@@ -172,6 +195,10 @@ name_file() {
             ;;
     esac
     report "file $number is $found$culprit"
+    case $path in
+        "$scratch"/*) ;;
+        *) advise "$path" "$fault" ;;
+    esac
 }
 
 # Leaves in `most` how many places of a command stand before its FILEs.
@@ -217,6 +244,7 @@ EOF
     [ "$answered" -gt 1 ] || return 0
     cat "$scratch/said" >&2
     [ -z "$dashed" ] || report "if ${dashed#*=} is the value of ${dashed%%=*}, write $dashed"
+    advise_on_who "$@"
     exit "$answered"
 }
 
@@ -343,7 +371,7 @@ answer() {
     case ${stale:+$command} in
         who-can | rules)
             with_files ask "$@" >"$scratch/answer"
-            cat "$scratch/answer"
+            show <"$scratch/answer"
             ;;
         *) with_files ask "$@" ;;
     esac

@@ -44,6 +44,7 @@ take_export_word() {
 write_export() {
     make_room
     make_scratch "$dir/.rbacaudit.XXXXXX"
+    keep_others_out
     stage=$scratch/stage
     mkdir "$stage" || refuse "can't write into $dir"
     needed='cluster.json namespaced.json namespaces.json accounts.json api'
@@ -58,11 +59,19 @@ write_export() {
         exit 1
     fi
     printf 'The export in %s is whole%s: %s files.\n' \
-        "$dir" "${only_in:+ for the namespace $only_in}" "$fetched"
+        "$dir" "${only_in:+ for the namespace $only_in}" "$fetched" | show
+}
+
+# Two exports into one folder would put their files among each other's. An export that was killed
+# leaves its lock, and only the user knows that it doesn't go on: maybe on another machine.
+keep_others_out() {
+    mkdir "$dir/.rbacaudit-lock" 2>/dev/null ||
+        refuse "another export into $dir goes on; if none does, one was killed: remove $dir/.rbacaudit-lock, and try again"
+    lock=$dir/.rbacaudit-lock
 }
 
 # What was read, for whoever finds the export later. A question without -n asks in the namespace;
-# only says that no other was read.
+# only says that no other was read; a file that is missing later is known by its line.
 write_about() {
     look_at_context
     version=
@@ -74,6 +83,7 @@ write_about() {
             "version: $version" "namespace: $namespace"
         [ -z "$only_in" ] || printf 'only: %s\n' "$only_in"
         date -u '+time: %Y-%m-%dT%H:%M:%SZ'
+        sed 's/^/file: /' "$scratch/kept"
     } | printable >"$stage/about.txt" || refuse "can't write about.txt"
 }
 

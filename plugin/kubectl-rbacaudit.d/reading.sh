@@ -63,13 +63,19 @@ settle() {
     if [ "$failed" -eq 0 ] && [ -s "$got" ]; then
         show_said
         mv -f "$got" "$stage/$name" || refuse "can't write $name"
-        [ "$is_wanted" = yes ] || fetched=$((fetched + 1))
+        [ "$is_wanted" = yes ] || note_kept
     elif [ "$is_wanted" = no ]; then
         show_said
         note_missing
     fi
     rm -f "$got" "$said" "$scratch/call.$settled"
     show_progress
+}
+
+# Notes a file that was read, by its call.
+note_kept() {
+    fetched=$((fetched + 1))
+    printf '%s\n' "$name: $asked" >>"$scratch/kept" || refuse "can't write into $scratch"
 }
 
 # Shows what kubectl said, now that its call has ended. A call that got what it asked for also logs

@@ -8,53 +8,88 @@
 # end of an object. They find in `depth` how many objects and lists are open, and for each depth in
 # `is_list` whether it is a list, in `place` which item of it is read, and in `field` the last name.
 # base() is the depth of the document that is read: that of an item of a list, or 1.
+# walk calls such a program with lines that aren't long, and of a text MOST bytes are kept, with two
+# dots for the rest: so the time grows as what is read, whatever stands in it.
 JSON_WALK='
-BEGIN { RS = "\"" }
-inside {
-    text = text $0
-    match($0, /\\*$/)
-    if (RLENGTH % 2) { text = text "\""; next }
+BEGIN { MOST = 500 }
+{
+    count_of_parts = split($0, parts, "\"")
+    for (part = 1; part <= count_of_parts; part++) {
+        if (part > 1) take_quote()
+        if (inside) take_text(parts[part])
+        else take_marks(parts[part])
+    }
+}
+# A quote begins a text, ends it, or is in it, where the backslashes before it are an odd number.
+function take_quote() {
+    if (!inside) { inside = 1; text = ""; is_odd = 0; return }
+    if (is_odd) { take_text("\""); return }
     inside = 0
+    if (length(text) > MOST) text = cut(text)
     if (is_list[depth] || is_named) on_text(text)
     else { field[depth] = text; on_field() }
-    next
 }
-{ pass($0); inside = 1; text = "" }
-function pass(between,    mark) {
-    while (match(between, /[][{},:]/)) {
-        mark = substr(between, RSTART, 1)
-        between = substr(between, RSTART + 1)
-        if (mark == "{" || mark == "[") {
-            is_list[++depth] = mark == "["
-            place[depth] = 1
-            field[depth] = ""
-        }
-        if (mark == "}") on_end()
-        if (mark == "}" || mark == "]") depth--
-        if (mark == ",") place[depth]++
-        is_named = mark == ":"
+function take_text(more,    at) {
+    if (length(text) <= MOST) text = text substr(more, 1, MOST + 1)
+    for (at = length(more); at > 0 && substr(more, at, 1) == "\\"; at--) continue
+    is_odd = (length(more) - at + (at == 0 ? is_odd : 0)) % 2
+}
+# (a character that is cut in two is dropped)
+function cut(text) {
+    text = substr(text, 1, MOST)
+    sub(/[\300-\377][\200-\277]*$/, "", text)
+    return text ".."
+}
+function take_marks(marks,    at) {
+    gsub(/[^][{},:]/, "", marks)
+    for (at = 1; at <= length(marks); at++) take_mark(substr(marks, at, 1))
+}
+function take_mark(mark) {
+    if (mark == "{" || mark == "[") {
+        is_list[++depth] = mark == "["
+        place[depth] = 1
+        field[depth] = ""
     }
+    if (mark == "}") on_end()
+    if (mark == "}" || mark == "]") depth--
+    if (mark == ",") place[depth]++
+    is_named = mark == ":"
 }
 function base() { return depth > 2 && field[1] == "items" && is_list[2] ? 3 : 1 }
 '
 
+# Runs such a program over a file; more words are options of awk. A line is cut where it is long,
+# since an awk may take the more time for each byte the longer its lines are.
+walk() {
+    walked=$1
+    program=$2
+    shift 2
+    fold -b -w 2000 <"$walked" | LC_ALL=C awk "$@" "$program"
+}
+
 # Prints kind, namespace and name of an item of standard input, or of the document itself for item
-# 0.
+# 0. It reads to the end, since of members with one name the last counts; where a member's name has
+# an escape, and so may be another's, it prints nothing.
 OBJECT_AT=$JSON_WALK'
-function on_field() {}
+function is_asked() { return base() == (item ? 3 : 1) && (!item || place[2] == item) }
+function on_field() {
+    if (item && depth == 1 && field[1] == "items") kind = name = namespace = ""
+    if (is_asked() && depth == base() && field[depth] == "metadata") name = namespace = ""
+    if (field[depth] ~ /\\/ && (depth == 1 || is_asked() && (depth == base() || is_metadata()))) is_unsure = 1
+}
+function is_metadata() { return depth == base() + 1 && field[base()] == "metadata" }
 function on_end() {}
 function on_text(text) {
     if (depth == 1 && field[1] == "kind") listed = text
-    if (base() != (item ? 3 : 1) || item && place[2] != item) return
+    if (!is_asked()) return
     if (depth == base() && field[depth] == "kind") kind = text
-    if (depth != base() + 1 || field[base()] != "metadata") return
-    if (field[depth] == "name") name = text
-    if (field[depth] == "namespace") namespace = text "/"
+    if (is_metadata() && field[depth] == "name") name = text
+    if (is_metadata() && field[depth] == "namespace") namespace = text "/"
 }
 END {
     sub(/List$/, "", listed)
     if (namespace == "/") namespace = ""
-    if (name != "") print (kind == "" ? listed : kind) " " namespace name
+    if (name != "" && !is_unsure) print (kind == "" ? listed : kind) " " namespace name
 }'
 
 # Prints a line for each document of standard input that is meant to be a Universe document and is
@@ -91,8 +126,8 @@ function tell(line) { if (!told[line]++) print line }
 # rbacaudit has to read it.
 look_for_universe() {
     [ -f "$1" ] && [ -r "$1" ] || return 0
-    LC_ALL=C awk '/rbacaudit|"Universe"/ { found = 1; exit } END { exit !found }' <"$1" || return 0
-    LC_ALL=C awk "$UNIVERSE_FAULTS" <"$1" >"$scratch/remarks"
+    LC_ALL=C grep -q -e rbacaudit -e '"Universe"' <"$1" || return 0
+    walk "$1" "$UNIVERSE_FAULTS" >"$scratch/remarks"
     while IFS= read -r line; do
         report "$1: $line"
     done <"$scratch/remarks"
@@ -103,7 +138,7 @@ look_for_universe() {
 find_culprit() {
     culprit=
     if [ -f "$1" ] && [ -r "$1" ]; then
-        culprit=$(LC_ALL=C awk -v item="$2" "$OBJECT_AT" <"$1")
+        culprit=$(walk "$1" "$OBJECT_AT" -v item="$2")
     fi
 }
 

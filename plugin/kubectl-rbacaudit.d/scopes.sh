@@ -21,12 +21,12 @@ choose_scope() {
 is_inside() {
     below=$1
     shift
-    ask_probe -q --as=inside --namespace=n "--subresource=$below" -- get "$type" "$@"
+    ask_probe -q --as=inside --namespace=n "--subresource=$below" -- get "$type" "$@" >"$scratch/nothing"
 }
 
 # Whether the type means cluster roles.
 is_bound() {
-    ask_probe -q --as=binder -- get "$type" "$@"
+    ask_probe -q --as=binder -- get "$type" "$@" >"$scratch/nothing"
 }
 
 # Whether the question is one that a server asks about in the whole cluster, though no list has the

@@ -142,7 +142,8 @@ universe_command() {
     choose_namespace
     parts_of universe
     open_export
-    make_universe
+    make_universe >"$scratch/universe.json"
+    show 1 <"$scratch/universe.json"
 }
 
 # Prints a Universe document for the export that is open.
