@@ -62,7 +62,8 @@ pub(crate) fn print_holders<W: Write + Drop>(
     let asked = Asked {
         policy: export.policy(),
         verb,
-        requested,
+        target: &meant.target,
+        any_name: options.any_name,
         why: options.why,
     };
     let mut lines = HolderLines {
@@ -121,7 +122,8 @@ fn holders_of<'p>(
 struct Asked<'a> {
     policy: &'a Policy,
     verb: &'a Word,
-    requested: Requested<'a>,
+    target: &'a Target,
+    any_name: bool,
     why: bool,
 }
 
@@ -136,7 +138,7 @@ struct HolderLines<'a, 'h, 'p> {
 impl Lines for HolderLines<'_, '_, '_> {
     ghost are_left = { λ it text. (lines : List Text)
         × AreHolderLines it.asked.policy.now it.asked.why it.asked.verb.now
-        (requested_of it.asked.requested) (drop it.place it.holders.now) lines
+        (requested_meant it.asked.any_name it.asked.target.now) (drop it.place it.holders.now) lines
         × (text ≡ joined lines) };
 
     ghost most_left = { λ it. length it.holders.now - it.place };
@@ -156,13 +158,14 @@ impl Lines for HolderLines<'_, '_, '_> {
 fn put_line(line: &mut Vec<u8>, asked: Asked<'_>, holder: Holder<'_>) -> Result<(), AllocError>
     ensures { (text : Text)
         → IsHolderLine asked.entry.policy.now asked.entry.why asked.entry.verb.now
-        (requested_of asked.entry.requested) (holder_shown holder.entry) text
+        (requested_meant asked.entry.any_name asked.entry.target.now) (holder_shown holder.entry) text
         → OnOk result (line.new.items ≡ line.old.items ++ text) }
 {
     if !asked.why {
         return put_holder(line, holder.principal, holder.binding);
     }
-    match why_held(asked.policy, holder, asked.verb, asked.requested) {
+    let requested = requested_by(asked.any_name, asked.target);
+    match why_held(asked.policy, holder, asked.verb, requested) {
         Some(found) => put_holder_why(
             line,
             holder.principal,

@@ -1,7 +1,8 @@
 use Rattle.std.proofs.Common.{◌≡◌, ◌∙◌, ◌++◌, ap, arith, refl}
 use Rattle.rbac_terms.specs.Text.{Text}
-use Rattle.rbac_index.specs.HolderViews.{holder_shown, requested_of}
+use Rattle.rbac_index.specs.HolderViews.{holder_shown}
 use Rattle.rbac_cli.specs.HolderLines.{joined}
+use Rattle.rbac_cli.specs.Meant.{requested_meant}
 use Rattle.rbac_cli.proofs.HolderLineLemmas.{line_at}
 use Rattle.rbac_cli.proofs.who_can.HolderLinesLines.put_next.Goals as goal
 
@@ -13,7 +14,7 @@ returns c =
       tt,
       omega (arith, c.if-place-len.false, c.len.ensures),
       λ text (lines, are, e).
-          let next = line_at asked.policy.now asked.why asked.verb.now (requested_of asked.requested) it.holders.now it.place x lines c.get.ensures are in
+          let next = line_at asked.policy.now asked.why asked.verb.now (requested_meant asked.any_name asked.target.now) it.holders.now it.place x lines c.get.ensures are in
           let line : c.put_line.new.line.items ≡ next.0 = c.in_ok-put_line.ensures next.0 next.2 ∙ ap (λ (t : Text). t ++ next.0) c.requires.empty in
           rw line (joined next.1, e ∙ ap joined next.4, (next.1, next.3, refl)),
     )
