@@ -7,8 +7,12 @@ use Rattle.std.specs.Cmp.{IsTotalOrder}
 use Rattle.std.specs.Cmp.Lexicographic.{slice_cmp}
 use Rattle.std.proofs.lemmas.Cmp.{nat_list_cmp_total, lists_total, tied_itself}
 use Rattle.rbac_terms.specs.Text.{text_cmp}
+use Rattle.rbac_model.specs.Policies.{Held}
+use Rattle.rbac_manifest.specs.declared.replacement.Replaced.{Replaced}
 use Rattle.rbac_lint.specs.declared.finding.Finding.{Finding}
 use Rattle.rbac_lint.specs.Lines.{Line, object_texts, place_key, IsBefore, AreShown, shown}
+use Rattle.rbac_lint.specs.Findings.{IsFinding, AreFindings}
+use Rattle.rbac_lint.specs.Wanted.{WantedView, AreWanted, OfWanted}
 
 never_less : {X : Type 0} (R : X → X → Ordering) → IsTotalOrder R → (x y : X) → x ≡ y → R x y ≡ Less → ⊥
 never_less R total x y e l =
@@ -80,8 +84,14 @@ one_list (x ∷ xs) (y ∷ ys) up vp f g =
     ]) in
     ap₂ (λ (h : Line) (t : List Line). h ∷ t) heads rest
 
-pub one_shown : (P : Line → Type 0) (found others : List Finding) → AreShown P found → AreShown P others → found ≡ others
+one_shown : (P : Line → Type 0) (found others : List Finding) → AreShown P found → AreShown P others → found ≡ others
 unfolding AreShown
 one_shown P found others p q =
     let same : p.0 ≡ q.0 = one_list p.0 q.0 p.1.ordered q.1.ordered (λ x w. (q.1.exact x).1 ((p.1.exact x).0 w)) (λ x w. (p.1.exact x).1 ((q.1.exact x).0 w)) in
     p.2 ∙ ap (map shown) same ∙ sym q.2
+
+pub one_findings : (h : Held) (rs : List Replaced) (found others : List Finding) → AreFindings h rs found → AreFindings h rs others → found ≡ others
+one_findings h rs found others p q = one_shown (IsFinding h rs) found others p q
+
+pub one_wanted : (w : WantedView) (h : Held) (rs : List Replaced) (found others : List Finding) → AreWanted w h rs found → AreWanted w h rs others → found ≡ others
+one_wanted w h rs found others p q = one_shown (OfWanted w (IsFinding h rs)) found others p q
