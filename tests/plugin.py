@@ -134,6 +134,7 @@ COMPLETED = [
     (['rules', '--groups', 'x', 'u:kim', 'y', ''], [], FILES),
     (['matrix', '--limit', ''], [], NOTHING),
     (['matrix', '--limit=3', 'a'], [], FILES), (['lint', '--export', ''], [], FOLDERS),
+    (['lint', '--only', ''], [], NOTHING), (['lint', '--only', 'L6', 'a'], [], FILES),
     (['lint', '--kubeconfig', 'x'], [], FILES),
     (['lint', '--context', ''], ['far away', 'near'], NOTHING),
     (['export', '--context', 'n'], ['near'], NOTHING),

@@ -29,6 +29,8 @@ def questions(it):
     it.expect('a part that the command doesn\'t read', ['can-i', *KIM, '--export', 'my export', 'delete', 'pods'], 1, 'no\n')
     it.lines('calls')
     it.expect('lint of a fresh export', ['lint'], 1, FINDINGS)
+    it.expect('lint of some codes', ['lint', '--only', 'L7,L2', '--skip-system', '--export', 'my export'], 1, FINDINGS.partition('L4')[0])
+    it.expect('lint of others', ['lint', '--export', 'my export', '--only=L1,L7'], 0)
     it.checked('lint reads roles and bindings alone', len(it.lines('calls')) == 2, 'other calls')
     it.run('who-can', 'get', 'pods', '--context', 'far')
     it.checked('a question passes its context on', set(it.lines('targets')) == {'|--context=far'},
@@ -114,6 +116,8 @@ def own_objects(it):
     it.expect('who can change it', ['who-can', '--export', 'prod', 'patch', 'ns/shop', 'own.json'], 0,
               DANA + 'u:pat\tRoleBinding/shop/own\n', OWN % 'shop')
     it.expect('who can, anywhere', ['who-can', '--export', 'prod', '--anywhere', 'list', 'pods'], 0, DANA + DEVELOPERS)
+    it.expect('who can, whatever the name', ['who-can', '--export', 'prod', '-n', 'shop', '--any-name', 'update', 'configmaps'], 0,
+              DANA + CI_KEY + '\tRoleBinding/shop/ci-deploys\n', UNLISTED % 'type configmaps')
     it.expect('groups with commas', ['can-i', '--export', 'prod', '--as', 'x', '--group', 'shop-developers', '--group', 'a,b', '-n', 'shop', 'list', 'pods'],
               0, 'yes\n', NO_GROUP % " a,b: --groups splits at commas, and --group doesn't")
 
@@ -331,6 +335,7 @@ def words(it):
                        (['rules'], '<WHO>'), (['rules', 'kim'], 'U5 bad principal'), (['rules', 'u:'], 'U5 bad principal'),
                        (['rules', 'g:dev', '--groups', 'x'], 'U5 bad principal'), (['rules', '-q', 'u:kim'], '-q'),
                        (['matrix', '--after', 'x'], 'U4 bad token'), (['can-i', '--as', '', 'get', 'pods'], 'U2 empty word'),
+                       (['lint', '--only', ''], 'U6 bad code'), (['lint', '--only', 'L6,', 'a.json'], 'U6 bad code'), (['lint', '--only'], '--only'),
                        (['can-i', '--as', '--partial', 'get', 'pods'], '--as'), (['lint', '--limit', '1'], '--limit'),
                        (['lint', '--export'], '--export needs a value'), (['lint', '--export='], '--export needs a value'),
                        (['lint', '--export', ''], '--export needs a value'), (['lint', '--context', ''], '--context needs a value'),
