@@ -43,10 +43,8 @@ function on_end(    top) {
     if (marks && is_metadata(top) && space[top] == "") print "at", ends, filled ? "," : ""
     if (depth == 1) values++
     if (depth != 3 || top != 3) return
-    count++
-    item[count] = place[2]
-    item_kind[count] = kind[3]; item_version[count] = version[3]
-    item_name[count] = name[3]; item_space[count] = space[3]
+    # (no text of JSON has the byte of SUBSEP)
+    item[++count] = place[2] SUBSEP kind[3] SUBSEP version[3] SUBSEP name[3] SUBSEP space[3]
     kind[3] = version[3] = name[3] = space[3] = ""
 }
 function is_metadata(top) { return depth == top + 1 && field[top] == "metadata" }
@@ -91,9 +89,10 @@ END {
     if (values != 1) print "values", values + 0
     if (holds || kind[1] version[1] == "=List=v1")
         for (at = 1; at <= count; at++) {
-            if (holds && item_kind[at] == "") item_kind[at] = "=" word
-            if (holds && item_version[at] == "") item_version[at] = version[1]
-            take(item[at], item_kind[at], item_version[at], item_name[at], item_space[at])
+            split(item[at], part, SUBSEP)
+            if (holds && part[2] == "") part[2] = "=" word
+            if (holds && part[3] == "") part[3] = version[1]
+            take(part[1], part[2], part[3], part[4], part[5])
         }
     else if (values) take(0, kind[1], version[1], name[1], space[1])
     print "read", roles + 0, bindings + 0, others + 0, bare + 0
