@@ -325,8 +325,8 @@ METADATA = ['{"name": %s}', '{"name":%s,"namespace":""}', '{"namespace": null, "
             '{"namespace": "no", "name": %s, "namespace": null}']
 RULES = '[{"verbs": ["get"], "apiGroups": [""], "resources": ["pods"]}]'
 LAST = '"roleRef": {"kind": "Role", "name": %s}, "subjects": [{"kind": "User", "name": "u%d"}, {"kind": "ServiceAccount", "name": "a%d"}]'
-BARE = 'kubectl-rbacaudit: without a namespace, so taken for objects of %s: %s'
-OFFER = '; -n NS takes them for objects of NS\n'
+BARE = 'kubectl-rbacaudit: these have no namespace, and count in %s: %s'
+OFFER = '; -n NS counts them in NS\n'
 
 
 def without_namespaces():

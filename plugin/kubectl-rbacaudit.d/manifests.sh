@@ -273,11 +273,10 @@ place_change() {
     fi
     [ "$bare" -le "$shown" ] || bare_names="$bare_names and $((bare - shown)) more"
     if [ -z "$change_in" ]; then
-        report "without a namespace, so taken for objects of default: $bare_names; \
--n NS takes them for objects of NS"
+        report "these have no namespace, and count in default: $bare_names; -n NS counts them in NS"
         return
     fi
-    report "without a namespace, so taken for objects of $change_in: $bare_names"
+    report "these have no namespace, and count in $change_in: $bare_names"
     with_change each_file place_file
 }
 
