@@ -13,15 +13,15 @@
 # its depth, 1, and what is found in an item under 3.
 CHANGE_WALK='
 BEGIN {
-    group = "^=rbac[.]authorization[.]k8s[.]io/"
-    split("Role ClusterRole RoleBinding ClusterRoleBinding", all, " ")
-    for (at in all) { known[all[at]]; listing[all[at] "List"] }
+    rbac_group = "^=rbac[.]authorization[.]k8s[.]io/"
+    split("Role ClusterRole RoleBinding ClusterRoleBinding", rbac_kinds, " ")
+    for (at in rbac_kinds) { known[rbac_kinds[at]]; listing[rbac_kinds[at] "List"] }
     marks = ENVIRON["MARK"] == "yes"
 }
 function on_field(    top) {
     field[depth] = plain(field[depth])
     top = base()
-    if (depth == 1 && field[1] == "items") count = 0
+    if (depth == 1 && field[1] == "items") items = 0
     if (depth == top && field[top] == "kind") kind[top] = ""
     if (depth == top && field[top] == "apiVersion") version[top] = ""
     if (depth == top && field[top] == "metadata") { name[top] = space[top] = ""; filled = 0 }
@@ -44,7 +44,7 @@ function on_end(    top) {
     if (depth == 1) values++
     if (depth != 3 || top != 3) return
     # (no text of JSON has the byte of SUBSEP)
-    item[++count] = place[2] SUBSEP kind[3] SUBSEP version[3] SUBSEP name[3] SUBSEP space[3]
+    item[++items] = place[2] SUBSEP kind[3] SUBSEP version[3] SUBSEP name[3] SUBSEP space[3]
     kind[3] = version[3] = name[3] = space[3] = ""
 }
 function is_metadata(top) { return depth == top + 1 && field[top] == "metadata" }
@@ -68,7 +68,7 @@ function digit(one) { return index("0123456789abcdef", tolower(one)) - 1 }
 function clean(text) { gsub(/[\001-\037\177]/, "?", text); return text == "" ? "\"\"" : text }
 function take(at, of_kind, of_version, of_name, of_space,    word) {
     word = substr(of_kind, 2)
-    if (of_version ~ group && (word in known)) {
+    if (of_version ~ rbac_group && (word in known)) {
         if (word ~ /Binding$/) bindings++
         else roles++
         if (word ~ /^Role/ && of_space == "" && ++bare <= 3)
@@ -76,23 +76,23 @@ function take(at, of_kind, of_version, of_name, of_space,    word) {
         return
     }
     others++
-    if (at && (of_version ~ group && (word in listing) || of_version == "=v1" && word == "List"))
+    if (at && (of_version ~ rbac_group && (word in listing) || of_version == "=v1" && word == "List"))
         print "list", at, word
-    else if (of_version ~ group && of_kind != "" && !(word in listing))
+    else if (of_version ~ rbac_group && of_kind != "" && !(word in listing))
         print "fault", at, clean(word)
 }
 END {
     word = substr(kind[1], 2)
-    holds = version[1] ~ (group "v1(beta1)?$") && (word in listing)
+    holds = version[1] ~ (rbac_group "v1(beta1)?$") && (word in listing)
     if (version[1] == "=v1" && word ~ /^(Namespace|ServiceAccount)List$/) holds = 1
     sub(/List$/, "", word)
     if (values != 1) print "values", values + 0
     if (holds || kind[1] version[1] == "=List=v1")
-        for (at = 1; at <= count; at++) {
-            split(item[at], part, SUBSEP)
-            if (holds && part[2] == "") part[2] = "=" word
-            if (holds && part[3] == "") part[3] = version[1]
-            take(part[1], part[2], part[3], part[4], part[5])
+        for (at = 1; at <= items; at++) {
+            split(item[at], kept, SUBSEP)
+            if (holds && kept[2] == "") kept[2] = "=" word
+            if (holds && kept[3] == "") kept[3] = version[1]
+            take(kept[1], kept[2], kept[3], kept[4], kept[5])
         }
     else if (values) take(0, kind[1], version[1], name[1], space[1])
     print "read", roles + 0, bindings + 0, others + 0, bare + 0
@@ -190,6 +190,7 @@ read_change() {
     bare_names=
     shown=0
     odd=no
+    marks=no
     with_change each_file look_at_file
     has="$(count "$roles" role), $(count "$bindings" binding), $(count "$others" 'other object')"
     case $odd,$roles,$bindings,$change_in in
@@ -199,6 +200,10 @@ read_change() {
     [ "$roles,$bindings" != 0,0 ] || refuse "$with has neither a role nor a binding, \
 so nothing is compared: check each kind and apiVersion in it"
     place_change
+}
+
+walk_change() {
+    MARK=$marks LC_ALL=C awk "$JSON_WALK$CHANGE_WALK" <"$1"
 }
 
 each_file() {
@@ -226,7 +231,7 @@ look_at_file() {
         *) [ -f "$file" ] || text=$scratch/change/${file##*/} ;;
     esac
     [ "$text" = "$file" ] || cat "$file" >"$text" || refuse "can't read $file"
-    LC_ALL=C awk "$JSON_WALK$CHANGE_WALK" <"$text" >"$scratch/walked" || refuse "can't read $file"
+    walk_change "$text" >"$scratch/walked" || refuse "can't read $file"
     while IFS= read -r line; do
         take_walked "${line%% *}" "${line#* }"
     done <"$scratch/walked"
@@ -282,7 +287,8 @@ place_change() {
 
 # Puts a copy of the file into $scratch/change.
 place_file() {
-    MARK=yes LC_ALL=C awk "$JSON_WALK$CHANGE_WALK" <"$file" >"$scratch/walked" &&
+    marks=yes
+    walk_change "$file" >"$scratch/walked" &&
         PLACED_IN=$change_in LC_ALL=C awk "$PUT_NAMESPACE" "$scratch/walked" RS='"' begun=1 - \
             <"$file" >"$scratch/placed" || refuse "can't read $file"
     mv -f "$scratch/placed" "$scratch/change/${file##*/}" || refuse "can't write into $scratch"
