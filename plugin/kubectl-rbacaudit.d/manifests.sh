@@ -13,15 +13,15 @@
 # its depth, 1, and what is found in an item under 3.
 CHANGE_WALK='
 BEGIN {
-    group = "^=rbac[.]authorization[.]k8s[.]io/"
-    split("Role ClusterRole RoleBinding ClusterRoleBinding", all, " ")
-    for (at in all) { known[all[at]]; listing[all[at] "List"] }
+    rbac_group = "^=rbac[.]authorization[.]k8s[.]io/"
+    split("Role ClusterRole RoleBinding ClusterRoleBinding", rbac_kinds, " ")
+    for (at in rbac_kinds) { known[rbac_kinds[at]]; listing[rbac_kinds[at] "List"] }
     marks = ENVIRON["MARK"] == "yes"
 }
 function on_field(    top) {
     field[depth] = plain(field[depth])
     top = base()
-    if (depth == 1 && field[1] == "items") count = 0
+    if (depth == 1 && field[1] == "items") items = 0
     if (depth == top && field[top] == "kind") kind[top] = ""
     if (depth == top && field[top] == "apiVersion") version[top] = ""
     if (depth == top && field[top] == "metadata") { name[top] = space[top] = ""; filled = 0 }
@@ -43,10 +43,8 @@ function on_end(    top) {
     if (marks && is_metadata(top) && space[top] == "") print "at", ends, filled ? "," : ""
     if (depth == 1) values++
     if (depth != 3 || top != 3) return
-    count++
-    item[count] = place[2]
-    item_kind[count] = kind[3]; item_version[count] = version[3]
-    item_name[count] = name[3]; item_space[count] = space[3]
+    # (no text of JSON has the byte of SUBSEP)
+    item[++items] = place[2] SUBSEP kind[3] SUBSEP version[3] SUBSEP name[3] SUBSEP space[3]
     kind[3] = version[3] = name[3] = space[3] = ""
 }
 function is_metadata(top) { return depth == top + 1 && field[top] == "metadata" }
@@ -70,7 +68,7 @@ function digit(one) { return index("0123456789abcdef", tolower(one)) - 1 }
 function clean(text) { gsub(/[\001-\037\177]/, "?", text); return text == "" ? "\"\"" : text }
 function take(at, of_kind, of_version, of_name, of_space,    word) {
     word = substr(of_kind, 2)
-    if (of_version ~ group && (word in known)) {
+    if (of_version ~ rbac_group && (word in known)) {
         if (word ~ /Binding$/) bindings++
         else roles++
         if (word ~ /^Role/ && of_space == "" && ++bare <= 3)
@@ -78,22 +76,23 @@ function take(at, of_kind, of_version, of_name, of_space,    word) {
         return
     }
     others++
-    if (at && (of_version ~ group && (word in listing) || of_version == "=v1" && word == "List"))
+    if (at && (of_version ~ rbac_group && (word in listing) || of_version == "=v1" && word == "List"))
         print "list", at, word
-    else if (of_version ~ group && of_kind != "" && !(word in listing))
+    else if (of_version ~ rbac_group && of_kind != "" && !(word in listing))
         print "fault", at, clean(word)
 }
 END {
     word = substr(kind[1], 2)
-    holds = version[1] ~ (group "v1(beta1)?$") && (word in listing)
+    holds = version[1] ~ (rbac_group "v1(beta1)?$") && (word in listing)
     if (version[1] == "=v1" && word ~ /^(Namespace|ServiceAccount)List$/) holds = 1
     sub(/List$/, "", word)
     if (values != 1) print "values", values + 0
     if (holds || kind[1] version[1] == "=List=v1")
-        for (at = 1; at <= count; at++) {
-            if (holds && item_kind[at] == "") item_kind[at] = "=" word
-            if (holds && item_version[at] == "") item_version[at] = version[1]
-            take(item[at], item_kind[at], item_version[at], item_name[at], item_space[at])
+        for (at = 1; at <= items; at++) {
+            split(item[at], kept, SUBSEP)
+            if (holds && kept[2] == "") kept[2] = "=" word
+            if (holds && kept[3] == "") kept[3] = version[1]
+            take(kept[1], kept[2], kept[3], kept[4], kept[5])
         }
     else if (values) take(0, kind[1], version[1], name[1], space[1])
     print "read", roles + 0, bindings + 0, others + 0, bare + 0
@@ -191,6 +190,7 @@ read_change() {
     bare_names=
     shown=0
     odd=no
+    marks=no
     with_change each_file look_at_file
     has="$(count "$roles" role), $(count "$bindings" binding), $(count "$others" 'other object')"
     case $odd,$roles,$bindings,$change_in in
@@ -200,6 +200,10 @@ read_change() {
     [ "$roles,$bindings" != 0,0 ] || refuse "$with has neither a role nor a binding, \
 so nothing is compared: check each kind and apiVersion in it"
     place_change
+}
+
+walk_change() {
+    MARK=$marks LC_ALL=C awk "$JSON_WALK$CHANGE_WALK" <"$1"
 }
 
 each_file() {
@@ -227,7 +231,7 @@ look_at_file() {
         *) [ -f "$file" ] || text=$scratch/change/${file##*/} ;;
     esac
     [ "$text" = "$file" ] || cat "$file" >"$text" || refuse "can't read $file"
-    LC_ALL=C awk "$JSON_WALK$CHANGE_WALK" <"$text" >"$scratch/walked" || refuse "can't read $file"
+    walk_change "$text" >"$scratch/walked" || refuse "can't read $file"
     while IFS= read -r line; do
         take_walked "${line%% *}" "${line#* }"
     done <"$scratch/walked"
@@ -274,17 +278,17 @@ place_change() {
     fi
     [ "$bare" -le "$shown" ] || bare_names="$bare_names and $((bare - shown)) more"
     if [ -z "$change_in" ]; then
-        report "without a namespace, so taken for objects of default: $bare_names; \
--n NS takes them for objects of NS"
+        report "these have no namespace, and count in default: $bare_names; -n NS counts them in NS"
         return
     fi
-    report "without a namespace, so taken for objects of $change_in: $bare_names"
+    report "these have no namespace, and count in $change_in: $bare_names"
     with_change each_file place_file
 }
 
 # Puts a copy of the file into $scratch/change.
 place_file() {
-    MARK=yes LC_ALL=C awk "$JSON_WALK$CHANGE_WALK" <"$file" >"$scratch/walked" &&
+    marks=yes
+    walk_change "$file" >"$scratch/walked" &&
         PLACED_IN=$change_in LC_ALL=C awk "$PUT_NAMESPACE" "$scratch/walked" RS='"' begun=1 - \
             <"$file" >"$scratch/placed" || refuse "can't read $file"
     mv -f "$scratch/placed" "$scratch/change/${file##*/}" || refuse "can't write into $scratch"
@@ -293,12 +297,5 @@ place_file() {
 # Lets rbacaudit read the change alone. What it refuses ends here.
 accept_change() {
     with_change ask lint --only=L6 >/dev/null
-    [ "$answered" -gt 1 ] || return 0
-    case $(cat "$scratch/said") in
-        *'M1 not JSON'*)
-            report "each file of a change has one JSON value: \
-kubectl rbacaudit diff --help shows how to make one of YAML"
-            ;;
-    esac
-    exit "$answered"
+    [ "$answered" -le 1 ] || exit "$answered"
 }
