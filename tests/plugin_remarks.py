@@ -104,6 +104,7 @@ def scopes(it):
             (['-n', 'shop', 'get', 'nodes'], DANA, SCOPED % ('nodes', '')), (['-nshop', 'get', 'no/a'], DANA, SCOPED % ('no', '')),
             (['-n', '', 'get', 'node'], DANA, SCOPED % ('node', '')), (['-n', 'shpo', 'get', 'nodes.'], DANA, SCOPED % ('nodes.', '')),
             (['get', 'nodes'], DANA, ''), (['-A', '-n', 'shop', 'get', 'nodes'], DANA, ''), (['--anywhere', 'get', 'nodes'], DANA, ''),
+            (['-n=-', 'get', 'roles'], DANA, NO_SPACE % '-'), (['-n', 'a\\b', 'get', 'roles'], DANA, NO_SPACE % 'a\\b'),
             (['-n', 'shop', '--in-namespace', 'get', 'nodes'], DANA + PAT, ''), (['-n', 'shop', 'get', 'roles'], DANA + PAT, ''),
             (['-n', 'shop', '--subresource', 'x', 'get', 'nodes'], DANA, SCOPED % ('nodes', '') + UNLISTED % 'subresource nodes/x'),
             (['-n', 'shop', 'get', 'namespaces'], DANA, SCOPED % ('namespaces', '')),

@@ -279,13 +279,11 @@ question_command() {
     case $command in
         can-i | who-can | rules) remark_on_question "$@" ;;
     esac
-    if [ -n "$implied$own$place_of" ]; then
-        shift
-        [ -z "$own$place_of" ] || set -- --in-namespace "$@"
-        [ "$has_namespace$anywhere" != nono ] || set -- "--namespace=$asked_in" "$@"
-        set -- "$command" "$@"
-    fi
-    answer "$@"
+    shift
+    [ -z "$own$place_of" ] || set -- --in-namespace "$@"
+    # (the whole cluster, or a type that has no namespace, needs none)
+    [ "$has_namespace" = yes ] || [ -z "$implied$own" ] || set -- "--namespace=$asked_in" "$@"
+    answer "$command" "$@"
     exit "$answered"
 }
 

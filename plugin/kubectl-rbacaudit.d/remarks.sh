@@ -198,7 +198,10 @@ EOF
 # Whether a line of $scratch/there has this text in this field.
 has_there() {
     LC_ALL=C WANTED=$2 awk -F '\t' -v at="$1" "$FIELD"'
-        BEGIN { wanted = printed(ENVIRON["WANTED"]) }
+        BEGIN {
+            wanted = printed(ENVIRON["WANTED"])
+            if (wanted == "-") wanted = "\\x2d"
+        }
         $at "" == wanted { found = 1; exit }
         END { exit !found }' "$scratch/there"
 }
