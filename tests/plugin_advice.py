@@ -128,4 +128,15 @@ def culprits(it):
     fault('many marks', '{"x": [%s0], %s' % ('[],{},' * 50_000, listed(role('a'), role('b', rules=5))[1:]), '; item 2 of it is Role s/b')
 
 
-CHECKS = [texts, paths, principals, culprits]
+@in_each_shell
+def long_universes(it):
+    """A Universe document with many fields that such documents don't have, and with a long name of one."""
+    it.run('export', 'prod')
+    no_field = 'kubectl-rbacaudit: u.json: a Universe document has no field %s, so it is ignored\n'
+    names = ['x%d' % number for number in range(3000)] + ['y' * 501]
+    it.write(json.dumps({'apiVersion': 'rbacaudit/v1', 'kind': 'Universe', **dict.fromkeys(names, []), 'verbs': []}), 'u.json')
+    it.expect('many fields', ['matrix', '--export', 'prod', 'u.json'], 0, 'end\n',
+              ''.join(no_field % name for name in names[:-1]) + no_field % ('y' * 500 + '..'))
+
+
+CHECKS = [texts, paths, principals, culprits, long_universes]

@@ -367,7 +367,7 @@ def words(it):
               ['can-i', '--export', 'prod', '--as', 'export', 'list', 'pods'], 1, 'no\n',
               IMPLIED % 'default' + NO_USER % ('export', NO_GROUPS))
     it.expect('an option after -- is a word', ['can-i', '--export', 'prod', *KIM, '--', 'list', 'pods', '--export'], 2, '',
-              'rbacaudit: file 1: I1 read fault\nkubectl-rbacaudit: file 1 is --export\n')
+              'rbacaudit: file 1: I1 read fault\nkubectl-rbacaudit: file 1 is --export\nkubectl-rbacaudit: there is no --export\n')
 
 
 def a_role(name, **fields):

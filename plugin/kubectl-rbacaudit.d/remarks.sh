@@ -129,8 +129,8 @@ look_for_universe() {
     LC_ALL=C grep -q -e rbacaudit -e '"Universe"' <"$1" || return 0
     walk "$1" "$UNIVERSE_FAULTS" >"$scratch/remarks"
     while IFS= read -r line; do
-        report "$1: $line"
-    done <"$scratch/remarks"
+        printf 'kubectl-rbacaudit: %s: %s\n' "$1" "$line"
+    done <"$scratch/remarks" | printable >&2
 }
 
 # Leaves in `culprit` the object that a fault of rbacaudit is about, an item of this file or the
