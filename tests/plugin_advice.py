@@ -7,7 +7,7 @@ from common import V1
 from plugin_room import in_each_shell
 
 YAML = ('kubectl-rbacaudit: %s looks like YAML, and rbacaudit reads JSON: '
-        'kubectl create --dry-run=client -o json -f FILE > NEW.json writes it as JSON\n')
+        'kubectl rbacaudit diff --help shows how kubectl makes JSON of it\n')
 SEVERAL = ('kubectl-rbacaudit: %s has several JSON documents, one behind the other: put their objects into one List, '
            'or each document into a file of its own, as jq -c . FILE | split -l 1 - part- does\n')
 NO_JSON = 'rbacaudit: file 1: M1 not JSON\nkubectl-rbacaudit: file 1 is %s\n'
