@@ -1,6 +1,6 @@
 -- What an action means is one text and one status.
 use Rattle.std.proofs.Common.{◌≡◌, ◌∙◌, ◌↔◌, ℕ, Bool, true, false, List, [], ◌∷◌, ◌++◌, map, inl, inr, Contains, Less, ap, sym, subst, refl, codes}
-use Rattle.std.specs.Prelude.{Option, Some, None}
+use Rattle.std.specs.Prelude.{Option, Some, None, option_map, vec_items}
 use Rattle.std.proofs.lemmas.List.{append_cancel_left}
 use Rattle.rbac_terms.specs.Text.{Text}
 use Rattle.rbac_terms.specs.Keys.{KeyTexts, texts}
@@ -25,13 +25,13 @@ use Rattle.rbac_universe.proofs.OneMore.{as_any}
 use Rattle.rbac_universe.proofs.OneUniverse.{one_sets}
 use Rattle.rbac_index.proofs.ListedLemmas.{one_listed}
 use Rattle.rbac_manifest.specs.Load.{LoadedView}
-use Rattle.rbac_lint.proofs.OneLines.{one_shown}
+use Rattle.rbac_lint.proofs.OneLines.{one_wanted}
 use Rattle.rbac_diff.proofs.OneChanges.{one_changes}
 use Rattle.rbac_question.specs.declared.command.Action.{Action}
 use Rattle.rbac_question.specs.declared.command.Action.TheVariants.{CanI, WhoCan, Rules, Matrix, Lint, Diff}
 use Rattle.rbac_question.specs.declared.command.Question.{Question}
 use Rattle.rbac_cli.specs.HolderLines.{AreHolderLines, joined}
-use Rattle.rbac_cli.specs.Out.{Answers, IsAllowed, IsDenied, rules_text, scope_asked, findings_text, findings_status, changes_text, changes_status, line_unless}
+use Rattle.rbac_cli.specs.Out.{Answers, IsAllowed, IsDenied, rules_text, scope_asked, findings_text, findings_status, wanted_meant, changes_text, changes_status, line_unless}
 use Rattle.rbac_cli.specs.MatrixPage.{AreListed}
 use Rattle.rbac_cli.specs.Meant.{IsWhereMeant, requested_meant}
 use Rattle.rbac_cli.specs.declared.exports.Exports.{Exports}
@@ -254,7 +254,7 @@ one_answer (Single l) (Matrix every after limit) text other status ending (u, ro
   s ∙ sym t,
 )
 one_answer (Single l) (Lint only skip) text other status ending (found, are, e, s) (others, these, f, t) =
-    let one = one_shown _ found others are these in
+    let one = one_wanted (wanted_meant (option_map vec_items only) skip) l.policy.held l.replaced found others are these in
     (e ∙ ap findings_text one ∙ sym f, s ∙ ap findings_status one ∙ sym t)
 one_answer (Single l) (Diff n) text other status ending a b = absurd a
 one_answer (Pair before after) (Diff n) text other status ending (xs, are, e, s) (ys, those, f, t) =
