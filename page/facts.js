@@ -1,9 +1,12 @@
 // What follows from the rows: who has how much, and who has what is worth watching.
 
-const RBAC_ROLES = ['roles.rbac.authorization.k8s.io', 'clusterroles.rbac.authorization.k8s.io'];
+const ROLES = 'roles.rbac.authorization.k8s.io';
+const CLUSTER_ROLES = 'clusterroles.rbac.authorization.k8s.io';
+const WHOLE_CLUSTER = 'whole cluster';
 
-// What to watch: pairs of verbs and types. A type with /* stands for all its subresources. The last
-// one has no pairs: it is about all that the page lists.
+// What to watch: pairs of verbs and types, some in the whole cluster alone, since no server asks
+// about them in a namespace. A type with /* stands for all its subresources. The last one has no
+// pairs: it is about all that the page lists.
 const WATCHED = [
     {id: 'secrets', short: 'secrets', title: 'Reads secrets',
         pairs: [[['get', 'list', 'watch'], ['secrets']]],
@@ -20,13 +23,14 @@ const WATCHED = [
             'cronjobs.batch']]],
         why: 'A new pod may use any service account of its namespace, and mount its secrets.'},
     {id: 'impersonate', short: 'impersonate', title: 'Impersonates',
-        pairs: [[['impersonate'], ['users', 'groups', 'serviceaccounts',
-            'uids.authentication.k8s.io', 'userextras/*.authentication.k8s.io']]],
+        pairs: [[['impersonate'], ['serviceaccounts']],
+            [['impersonate'], ['users', 'groups', 'uids.authentication.k8s.io',
+                'userextras/*.authentication.k8s.io'], WHOLE_CLUSTER]],
         why: 'Acts as another user, group or service account, with all that those may do.'},
-    {id: 'bind', short: 'bind', title: 'Binds roles', pairs: [[['bind'], RBAC_ROLES]],
+    {id: 'bind', short: 'bind', title: 'Binds roles', pairs: [[['bind'], [ROLES, CLUSTER_ROLES]]],
         why: 'May give somebody a role whose permissions the giver doesn’t have.'},
     {id: 'escalate', short: 'escalate', title: 'Escalates roles',
-        pairs: [[['escalate'], RBAC_ROLES]],
+        pairs: [[['escalate'], [ROLES]], [['escalate'], [CLUSTER_ROLES], WHOLE_CLUSTER]],
         why: 'May write permissions into a role that the writer doesn’t have.'},
     {id: 'tokens', short: 'tokens', title: 'Creates tokens',
         pairs: [[['create'], ['serviceaccounts/token']]],
@@ -49,7 +53,8 @@ class Watch {
     constructor(rows) {
         this.rows = rows;
         this.pairs = WATCHED.flatMap((watched, at) =>
-            watched.pairs.map(([verbs, types]) => ({bit: 1 << at, verbs, types})));
+            watched.pairs.map(([verbs, types, where]) => ({bit: 1 << at, verbs, types, where})));
+        this.cluster = rows.words.namespace.indexOf('-');
         this.verbs = rows.words.verb.map(word =>
             places(this.pairs, pair => pair.verbs.includes(textOf(word))));
         this.targets = new Map();
@@ -72,9 +77,11 @@ class Watch {
     of(row) {
         const {who, namespace, verb} = this.rows.columns;
         const held = this.verbs[verb[row]] & this.typePairs(row);
+        const isInCluster = namespace[row] === this.cluster;
         let found = 0;
         for (let at = 0; held >> at; at++) {
-            found |= held >> at & 1 ? this.pairs[at].bit : 0;
+            const {bit, where} = this.pairs[at];
+            found |= held >> at & 1 && (isInCluster || !where) ? bit : 0;
         }
         const isStar = this.stars[verb[row]] || this.rows.word(row, 'resource') === '*'
             || this.rows.word(row, 'group') === '*';
