@@ -2,8 +2,9 @@
 
 const PAGE = JSON.parse(document.getElementById('data').textContent);
 
-// What to watch: pairs of verbs and types. A type with /* stands for all its subresources. The last
-// one has no pairs: it is about all that the page lists.
+// What to watch: pairs of verbs and types, some in the whole cluster alone, since no server asks
+// about them in a namespace. A type with /* stands for all its subresources. The last one has no
+// pairs: it is about all that the page lists.
 const WATCHED = PAGE.watched;
 const EVERYTHING = 1 << (WATCHED.length - 1);
 
@@ -13,9 +14,10 @@ function isType(word, wanted) {
         : word.startsWith(before + '/') && word.endsWith(after);
 }
 
-// Which categories a verb on a type belongs to, as bits.
-function bitsOf(verb, type) {
-    return places(WATCHED, ({pairs}) => pairs.some(([verbs, types]) => verbs.includes(verb)
+// Which categories a verb on a type belongs to, in the whole cluster or in a namespace, as bits.
+function bitsOf(verb, type, isInCluster) {
+    return places(WATCHED, ({pairs}) => pairs.some(([verbs, types, where]) =>
+        (isInCluster || !where) && verbs.includes(verb)
         && types.some(wanted => isType(type, wanted))));
 }
 
@@ -25,7 +27,8 @@ class Watch {
     constructor(rows) {
         this.rows = rows;
         this.pairs = WATCHED.flatMap((watched, at) =>
-            watched.pairs.map(([verbs, types]) => ({bit: 1 << at, verbs, types})));
+            watched.pairs.map(([verbs, types, where]) => ({bit: 1 << at, verbs, types, where})));
+        this.cluster = rows.words.namespace.indexOf('-');
         this.verbs = rows.words.verb.map(word =>
             places(this.pairs, pair => pair.verbs.includes(textOf(word))));
         this.targets = new Map();
@@ -48,9 +51,11 @@ class Watch {
     of(row) {
         const {who, namespace, verb} = this.rows.columns;
         const held = this.verbs[verb[row]] & this.typePairs(row);
+        const isInCluster = namespace[row] === this.cluster;
         let found = 0;
         for (let at = 0; held >> at; at++) {
-            found |= held >> at & 1 ? this.pairs[at].bit : 0;
+            const {bit, where} = this.pairs[at];
+            found |= held >> at & 1 && (isInCluster || !where) ? bit : 0;
         }
         const isStar = this.stars[verb[row]] || this.rows.word(row, 'resource') === '*'
             || this.rows.word(row, 'group') === '*';
@@ -147,7 +152,7 @@ function addNamed(principals, rows, named) {
         const place = placeOf(binding);
         const held = it.watchedAt.get(cluster)
             | it.watchedAt.get(rows.words.namespace.indexOf(place));
-        const bits = bitsOf(textOf(verb), typeOf(group, resource)) & ~held;
+        const bits = bitsOf(textOf(verb), typeOf(group, resource), place === '-') & ~held;
         if (bits) {
             it.named.push({bits, place, verb, group, resource, binding});
             it.onlyNamed |= bits;

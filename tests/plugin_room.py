@@ -99,8 +99,8 @@ UNLISTED = "kubectl-rbacaudit: the API resource lists of the export don't have t
 NO_VERB = "kubectl-rbacaudit: the API resource lists of the export don't have the verb %s of %s, but %s: check the spelling\n"
 SCOPED = "kubectl-rbacaudit: the type %s is cluster-scoped, so -n doesn't count: the question is about the whole cluster%s\n"
 URL_SCOPED = "kubectl-rbacaudit: a URL has no namespace, so -n doesn't count\n"
-NO_USER = 'kubectl-rbacaudit: no binding of the export names the user %s, so only what its groups have counts%s\n'
-NO_GROUPS = '; --groups A,B says which these are'
+NO_USER = 'kubectl-rbacaudit: no binding of the export names the user %s, so it has only what its groups have%s\n'
+NO_GROUPS = '; --groups A,B names them'
 NO_GROUP = 'kubectl-rbacaudit: no binding of the export names the group%s\n'
 
 

@@ -247,7 +247,19 @@ def watched(it, room):
              for line in part.splitlines()[2:]]
     Shown(it, room, 'watched', made(SMALL)[1])
     same('the watch list', it.do('WATCHED.flatMap(({title, pairs}) => pairs.map(pair => '
-                                 '[title, ...pair]))'), lines)
+                                 '[title, ...pair, ...pair[2] ? [] : [""]]))'), lines)
+    rows = rows_of('\n'.join('u:%s %s %s %s %s - ClusterRoleBinding/a' % (who, place, verb, *type_)
+                             for who, place in (('ann', '-'), ('bob', 'dev'))
+                             for verb, *type_ in (
+                                 ('bind', 'rbac.authorization.k8s.io', 'clusterroles'),
+                                 ('escalate', 'rbac.authorization.k8s.io', 'clusterroles'),
+                                 ('impersonate', '-', 'users'))))
+    page = Shown(it, room, 'places', made(rows)[1])
+    page.go('#watch')
+    same('what is asked in the whole cluster alone counts there',
+         [[row[0] for row in page.cells('#watch-' + category)]
+          for category in ('bind', 'escalate', 'impersonate')],
+         [['user ann', 'user bob'], ['user ann'], ['user ann']])
 
 
 def by_name(it, room):

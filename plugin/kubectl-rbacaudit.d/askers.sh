@@ -42,8 +42,8 @@ function of_user(name,    meant) {
     if (meant != "" && meant != name) return ": to ask about the service account, write " user(meant)
     if (("g:" printed(name)) in named) return ", but a group of that name: write " group(name)
     if (is_alike("u:" name)) return ", but the user " other ": check the spelling"
-    return ", so only what its groups have counts" \
-        (given || meant != "" ? "" : "; --groups A,B says which these are")
+    return ", so it has only what its groups have" \
+        (given || meant != "" ? "" : "; --groups A,B names them")
 }
 function of_groups(    at, said, hint) {
     for (at = 1; at <= unknown && at <= 3; at++) said = said (at > 1 ? ", " : "") printed(unnamed[at])
