@@ -448,7 +448,7 @@ def files_gone(it):
                   GONE % folder + CAUTION + UNLISTED % 'type deployments.apps')
         it.expect('a type that it may have', ['can-i', *CI, 'list', 'deploy', '--export', folder], 2, '', GONE % folder + REFUSAL)
         it.expect('a type that it can\'t have', ['can-i', *CI, 'list', 'pods', '--export', folder], 1, 'no\n')
-        it.expect('a URL', ['can-i', *CI, 'get', '/metrics', '--export', folder], 1, 'no\n')
+        it.expect('a URL', ['can-i', *CI[:2], 'get', '/metrics', '--export', folder], 1, 'no\n')
         status, out, err = got = it.run('universe', '--export', folder)
         it.checked('a universe', (status, out) == (2, '') and err.startswith(GONE % folder) and err.endswith(REFUSAL), got)
         it.checked('lint reads none', 'about.txt' not in it.run('lint', '--export', folder)[2], 'a gap')

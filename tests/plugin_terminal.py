@@ -247,6 +247,9 @@ def signals(it):
     os.remove(os.path.join(it.bin, 'rbacaudit'))
     it.write(LONG, it.bin, 'rbacaudit')
     os.chmod(os.path.join(it.bin, 'rbacaudit'), 0o755)
+    # (a signal that comes before a process has begun can be lost, so the escapes have to end without one)
+    it.write("#!/bin/sh\ntrap '' TERM\nexec %s \"$@\"\n" % shutil.which('awk'), it.bin, 'awk')
+    os.chmod(os.path.join(it.bin, 'awk'), 0o755)
     for name, number, send in (('Ctrl-C', signal.SIGINT, lambda ours, _: os.write(ours, b'\x03')),
                                ('TERM', signal.SIGTERM, lambda _, process: process.terminate()),
                                ('HUP', signal.SIGHUP, lambda _, process: process.send_signal(signal.SIGHUP))):

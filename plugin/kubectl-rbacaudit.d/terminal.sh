@@ -70,7 +70,8 @@ show() {
 }
 
 # Runs a command as `run` does, and gives its status. On a terminal, what it prints goes by way of a
-# pipe with a name: a pipe of the shell's would hide the status, and the process from signals.
+# pipe with a name: a pipe of the shell's would hide the status, and the process from signals. Only
+# the command may write into it, so that the escapes end with it, whatever ends it.
 run_shown() {
     if [ ! -t 1 ]; then
         run "$@"
@@ -84,9 +85,13 @@ run_shown() {
     noted=$!
     children="$children$filter "
     exec 6<&-
-    run "$@" >&7 7>&-
-    ended_with=$?
+    "$@" <&3 >&7 3<&- 4<&- 7>&- &
+    child=$!
+    noted=$!
     exec 7>&-
+    wait "$child"
+    ended_with=$?
+    child=
     wait "$filter"
     children=${children%"$filter "}
     return "$ended_with"
