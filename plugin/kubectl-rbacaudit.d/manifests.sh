@@ -7,7 +7,7 @@
 #   list ITEM KIND     an item of a list is itself a list, so nothing of it is read
 #   bare KIND/NAME     an object has no namespace, and its kind has one; only the first three
 #   read ROLES BINDINGS OTHERS BARE    how many there are
-# ITEM is 0 for the document itself. With MARK=yes, `at N ,` says that the Nth } of the file ends a
+# ITEM is 0 for the document itself. With marks=yes, `at N ,` says that the Nth } of the file ends a
 # metadata without a namespace; the comma is missing if it is empty. A kind and a version have a =
 # before them, and are empty if they are missing. What is found in the document itself stands under
 # its depth, 1, and what is found in an item under 3.
@@ -16,7 +16,6 @@ BEGIN {
     rbac_group = "^=rbac[.]authorization[.]k8s[.]io/"
     split("Role ClusterRole RoleBinding ClusterRoleBinding", rbac_kinds, " ")
     for (at in rbac_kinds) { known[rbac_kinds[at]]; listing[rbac_kinds[at] "List"] }
-    marks = ENVIRON["MARK"] == "yes"
 }
 function on_field(    top) {
     field[depth] = plain(field[depth])
@@ -40,7 +39,7 @@ function on_text(text,    top) {
 function on_end(    top) {
     top = base()
     ends++
-    if (marks && is_metadata(top) && space[top] == "") print "at", ends, filled ? "," : ""
+    if (marks == "yes" && is_metadata(top) && space[top] == "") print "at", ends, filled ? "," : ""
     if (depth == 1) values++
     if (depth != 3 || top != 3) return
     # (no text of JSON has the byte of SUBSEP)
@@ -203,7 +202,7 @@ so nothing is compared: check each kind and apiVersion in it"
 }
 
 walk_change() {
-    MARK=$marks LC_ALL=C awk "$JSON_WALK$CHANGE_WALK" <"$1"
+    walk "$1" "$JSON_WALK$CHANGE_WALK" -v "marks=$marks"
 }
 
 each_file() {
