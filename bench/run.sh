@@ -96,10 +96,11 @@ measure_shapes() {
     done
 }
 
-# One line for lint on a role of many rules, beside can-i.
+# One line for lint on a role of many rules, and for its aggregated roles alone, beside can-i.
 measure_lint() {
     local name=$1 file=$2
-    printf '%-44s can-i %5d ms  lint %5d ms\n' "$name" "$(ask "$file")" "$(least "$audit" lint "$file")"
+    printf '%-44s can-i %5d ms  lint %5d ms  --only L6 %5d ms\n' "$name" "$(ask "$file")" "$(least "$audit" lint "$file")" \
+        "$(least "$audit" lint --only L6 "$file")"
 }
 
 for size in "1000 4000 100" "5000 20000 300" "10000 40000 500"; do
