@@ -34,9 +34,10 @@ fuzz:
 calls:
 	python3 tests/calls.py
 
-# Each wrong body that the gate leaves out has to be refused; `make wrong-bodies CRATE=NAME` tries those of a crate, or of several.
+# Each wrong body that the gate leaves out has to be refused; `make wrong-bodies CRATE=NAME` tries those of a crate, or of several, and
+# `make wrong-bodies CHANGED=COMMIT` those that a change since that commit can touch.
 wrong-bodies:
-	python3 tools/wrong_bodies.py $(CRATE)
+	python3 tools/wrong_bodies.py $(if $(CHANGED),--changed "$(CHANGED)") $(CRATE)
 
 # The program, proved and compiled: from nothing 20 to 40 minutes of four cores; what was proved before on this machine and is unchanged is kept.
 build:

@@ -1,8 +1,9 @@
 #!/usr/bin/env bash
-# The whole gate: each edit still fits, every proof, must-fail edit and test by `rt ci`, then what only a process can show, the
-# kubectl plugin, completions and man page, the page in a browser, what make dist packs, random matrices, rules and changes, bad
-# documents, refused memory, reads and writes, and each public call by itself. The last line counts all of it, as `N passed, M
-# failed`; if a test skipped something that this machine lacks, the last line but one says what.
+# The whole gate: each edit still fits, every proof, must-fail edit and test by `rt ci`, which wrong bodies a change wants
+# tried, what only a process can show, the kubectl plugin, completions and man page, the page in a browser, what make dist
+# packs, random matrices, rules and changes, bad documents, refused memory, reads and writes, and each public call by itself.
+# The last line counts all of it, as `N passed, M failed`; if a test skipped something that this machine lacks, the last line
+# but one says what.
 set -u
 cd "$(dirname "$0")/.."
 log=$(mktemp)
@@ -35,6 +36,7 @@ fi
 
 counted python3 tests/edits.py
 counted rt ci
+counted python3 tests/chosen_edits.py
 counted python3 tests/program.py
 counted python3 tests/plugin.py
 counted python3 tests/shells.py
