@@ -3,7 +3,7 @@
 PREFIX ?= /usr/local
 PROGRAM = crates/rbacaudit/out/rbacaudit
 
-.PHONY: run test fuzz calls wrong-bodies build install dist
+.PHONY: run test fuzz calls wrong-bodies build words install dist
 
 # One question on the example export: may the CI account of the shop update deployments there, and why? The proved program
 # answers if it is built and no source has changed since; otherwise the sources answer, unproved. What the kit says of such a try
@@ -42,6 +42,12 @@ wrong-bodies:
 # The program, proved and compiled: from nothing 20 to 40 minutes of four cores; what was proved before on this machine and is unchanged is kept.
 build:
 	@python3 tools/build.py
+
+# What the completions and the man page say of options, arguments and commands, from the built program's help; `make words WITH=PROGRAM`
+# takes the help of another build, such as one that isn't proved yet.
+words:
+	@$(if $(WITH),,$(IS_BUILT) || { echo 'make words: the program isn'\''t built, or a source has changed since: make build first' >&2; exit 1; };) \
+	    python3 tools/words.py $(WITH)
 
 # The completions and the man page go where each shell and man look; the files of the page where rbacaudit-page looks.
 SHARE = $(DESTDIR)$(PREFIX)/share

@@ -21,6 +21,10 @@ import termios
 
 from common import PROGRAM, TOP, checked, skipped, tested
 
+sys.dont_write_bytecode = True
+sys.path.append(os.path.join(TOP, 'tools'))
+from words import written  # noqa: E402
+
 COMPLETIONS = os.path.join(TOP, 'completions')
 MAN = os.path.join(TOP, 'man', 'rbacaudit.1')
 VERBS = 'get list watch create update patch delete deletecollection use bind escalate impersonate'.split()
@@ -82,6 +86,13 @@ def is_short_for(short, text):
 
 # ---- what the files say
 
+def generated():
+    """Each file has what `make words` writes into it."""
+    for name, text, wanted in written():
+        checked('%s is as make words writes it' % name, text == wanted, 'run make words')
+
+
+
 def agrees(name, said, wanted, same=None):
     """One check: these are the keys that are wanted, and what stands under each is the same."""
     wrong = sorted(set(said) ^ set(wanted)) or [key for key in wanted if same and not same(said[key], wanted[key])]
@@ -93,15 +104,15 @@ def is_described(said, wanted):
 
 
 def bash_file():
+    """In its table an option with a value has = and the kind of it, and one that may be repeated has +."""
     text = contents(os.path.join(COMPLETIONS, 'rbacaudit.bash'))
-    with_value = re.search(r'--@\((.*?)\)', text)[1].split('|')
-    tables = dict(re.findall(r"^ +([\w-]+|'')\) options='(.*)' ;;$", text, re.M))
-    agrees('bash: the commands', ' '.join(re.findall(r"compgen -W '([\w -]+)'", text)).split(), commands())
+    tables = dict(re.findall(r"^ +([\w-]+|'')\)\n +options='([^']*)'\n", text, re.M))
+    agrees('bash: the commands', re.search(r"\[command\]='(.*)'", text)[1].split(), commands())
     agrees('bash: the commands that have options', tables, ["''", *commands()])
     for command in ('', *commands()):
-        said = {tuple(group.split(',')): group.split('--')[-1] in with_value for group in tables[command or "''"].split()}
+        said = {tuple(re.split(r'[+=]', group)[0].split(',')): ('=' in group, '+' in group) for group in tables[command or "''"].split()}
         agrees('bash: the options of %s' % (command or 'the program'), said, options(*command.split()),
-               lambda has_value, wanted: has_value == bool(wanted[0]))
+               lambda said, wanted: said == (bool(wanted[0]), may_be_repeated(wanted[1])))
 
 
 def fish_file():
@@ -435,4 +446,4 @@ def installed():
 
 
 if __name__ == '__main__':
-    sys.exit(tested(bash_file, fish_file, zsh_file, man_file, man_facts, rendered, examples, shells, installed))
+    sys.exit(tested(generated, bash_file, fish_file, zsh_file, man_file, man_facts, rendered, examples, shells, installed))
