@@ -47,7 +47,7 @@ build:
 # takes the help of another build, such as one that isn't proved yet.
 words:
 	@$(if $(WITH),,$(IS_BUILT) || { echo 'make words: the program isn'\''t built, or a source has changed since: make build first' >&2; exit 1; };) \
-	    python3 tools/words.py $(WITH)
+	    python3 tools/words.py $(if $(WITH),"$(WITH)")
 
 # The completions and the man page go where each shell and man look; the files of the page where rbacaudit-page looks.
 SHARE = $(DESTDIR)$(PREFIX)/share

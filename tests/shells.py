@@ -138,9 +138,10 @@ def zsh_file():
     agrees('zsh: the commands at work', [command for command, _ in calls], ['', *commands()])
     for command, call in calls:
         specs = re.sub(r'\$(\w+)', lambda name: arrays[name[1]], call)
-        found = re.findall(r"(?:'\([^)]*\)'\{(.*?)\}'|'\*?(--[\w-]+=?))\[(.*?)\](?::([^\s:]+):(?: |_files[^']*))?'", specs)
-        said = {tuple(re.findall(r'--?[\w-]+', names + name)): (value, text) for names, name, text, value in found}
-        agrees('zsh: the options of %s' % (command or 'the program'), said, options(*command.split()), is_described)
+        found = re.findall(r"(?:'(\([^)]*\)|\*)'\{(.*?)\}'|'(\*?)(--[\w-]+=?))\[(.*?)\](?::([^\s:]+):[^']*)?'", specs)
+        said = {tuple(re.findall(r'--?[\w-]+', names + name)): (value, text, '*' in (first, star)) for first, names, star, name, text, value in found}
+        agrees('zsh: the options of %s' % (command or 'the program'), said, options(*command.split()),
+               lambda said, wanted: is_described(said, wanted) and said[2] == may_be_repeated(wanted[1]))
 
 
 # ---- the man page

@@ -66,8 +66,7 @@ class Command:
         self.is_required = {word: '<%s>' % word in usage for word, _ in self.arguments}
 
     def places(self):
-        """What stands in the places of its arguments, and what in all that come after them. Where an option has several values,
-        they stand there."""
+        """The kinds of its arguments, and the kind of any number of words after them."""
         once = [kind_of(word) for word, several in self.arguments if not several]
         rest = [kind_of(word) for word, several in self.arguments if several]
         return once, ''.join(rest[:1])
@@ -139,10 +138,58 @@ def bash_tables(program, commands):
     return [*lines, '    *) return ;;', 'esac']
 
 
+# ---- zsh
+
+def in_quotes(text):
+    return "'%s'" % text.replace("'", "'\\''")
+
+
+def action(kind):
+    """What zsh does to complete a word of this kind."""
+    return '_files -g "*.json(-.)"' if kind == 'file' else '(%s)' % WORDS[kind] if kind in WORDS else ' '
+
+
+def in_zsh(option):
+    """An option as _arguments takes it."""
+    names = [option.short + '+', option.long + '='] if option.short and option.value else [option.long + '=' * bool(option.value)]
+    names = [option.short, option.long] if option.short and not option.value else names
+    without = '(- : *)' if option.long in LAST else '*' if option.again else '(%s)' % ' '.join(option.names) if option.short else ''
+    text = '[%s]' % re.sub(r'([]\\[])', r'\\\1', shortened(option.text))
+    text += ':%s:%s' % (option.value, action(option.kind())) if option.value else ''
+    return "%s{%s}%s" % (in_quotes(without), ','.join(names), in_quotes(text)) if option.short else in_quotes(without + names[0] + text)
+
+
+def words_in_zsh(command):
+    """The other words of a command as _arguments takes them; where an option has several values, they are such words."""
+    several = [(option.value, True) for option in command.options if option.several][:1]
+    for place, (word, rest) in enumerate(command.arguments or several):
+        where = '*' if rest else '%d' % (place + 1) if command.is_required[word] else '%d:' % (place + 1)
+        yield in_quotes('%s:%s:%s' % (where, word, action(kind_of(word))))
+
+
+def zsh_specs(program, commands):
+    names = [in_quotes('%s:%s' % (it.name, shortened(it.about))) for it in commands]
+    arrays = {'commands': names, 'of_program': list(map(in_zsh, program.options)),
+              **{zsh_array(it): [*map(in_zsh, it.options), *words_in_zsh(it)] for it in commands}}
+    lines = ['local -a ' + ' '.join(arrays)]
+    for array, specs in arrays.items():
+        lines += [array + '=(', *('  ' + it for it in specs), ')']
+    return lines
+
+
+def zsh_array(command):
+    return 'of_' + re.sub(r'\W', '_', command.name)
+
+
+def zsh_calls(_, commands):
+    return ['case $words[1] in', *('  %s) _arguments -s -S $%s && ret=0 ;;' % (it.name, zsh_array(it)) for it in commands), 'esac']
+
+
 # ---- the files
 
 PARTS = {
     'completions/rbacaudit.bash': {'tables': bash_tables},
+    'completions/_rbacaudit': {'specs': zsh_specs, 'calls': zsh_calls},
 }
 
 
