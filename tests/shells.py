@@ -119,15 +119,16 @@ def fish_file():
     text = contents(os.path.join(COMPLETIONS, 'rbacaudit.fish'))
     said = dict(re.findall(r"""^complete .* -a (\S+) -d '(.*)'$""", text, re.M))
     agrees('fish: the commands', said, commands(), is_short_for)
-    text = text.replace(' \\\n    ', ' ').replace("-k -a '(__fish_complete_suffix .json)' ", '')
-    found = re.findall(r"^complete -c rbacaudit -n '__rbacaudit_lacks (\S+) (.*)' (?:-s (\w) )?-l (\S+) (-x )?-d '(.*)'$", text, re.M)
+    text = re.sub(r"-k -a '[^']*' ", '', text.replace(' \\\n    ', ' '))
+    found = re.findall(r"^complete -c rbacaudit -n '__rbacaudit_(?:lacks (\S+)|words -ge 0) (.*)' (?:-s (\w) )?-l (\S+) (-x )?-d '(.*)'$", text, re.M)
     checked('fish: all options are told apart', len(found) == len(re.findall(r'^complete .*-l ', text, re.M)), repr(found))
     for command in ('', *commands()):
         wanted = options(*command.split())
-        said = {spellings(short and '-' + short, '--' + long): (value, text) for asked, where, short, long, value, text in found
-                if (command or '""') in where.split() and asked == long}
-        agrees('fish: the options of %s' % (command or 'the program'), said, wanted,
-               lambda said, wanted: bool(said[0]) == bool(wanted[0]) and is_short_for(said[1], wanted[1]))
+        # (one that may be repeated is offered whether the line has it or not)
+        said = {spellings(short and '-' + short, '--' + long): (value, text, not asked) for asked, where, short, long, value, text in found
+                if (command or '""') in where.split() and asked in ('', long)}
+        agrees('fish: the options of %s' % (command or 'the program'), said, wanted, lambda said, wanted: bool(said[0]) == bool(wanted[0]) and
+               is_short_for(said[1], wanted[1]) and said[2] == may_be_repeated(wanted[1]))
 
 
 def zsh_file():

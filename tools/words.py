@@ -61,8 +61,9 @@ class Command:
         self.options = [Option(*it) for it in found]
         for option in self.options:
             option.required = ' %s ' % option.long in usage.replace(']', ' ') and option.value != ''
-        self.arguments = [(word, bool(several)) for word, several, _ in
-                          entries(text, 'Arguments', r'  [<\[](\w+)[>\]](\.\.\.)? {2,}(\S.*)')]
+        found = entries(text, 'Arguments', r'  [<\[](\w+)[>\]](\.\.\.)? {2,}(\S.*)')
+        self.arguments = [(word, bool(several)) for word, several, _ in found]
+        self.texts = {word: text for word, _, text in found}
         self.is_required = {word: '<%s>' % word in usage for word, _ in self.arguments}
 
     def places(self):
@@ -185,11 +186,81 @@ def zsh_calls(_, commands):
     return ['case $words[1] in', *('  %s) _arguments -s -S $%s && ret=0 ;;' % (it.name, zsh_array(it)) for it in commands), 'esac']
 
 
+# ---- fish
+
+# What completes a file, the exports first.
+SUFFIX = '(__fish_complete_suffix .json)'
+
+
+def in_fish(text):
+    return "'%s'" % re.sub(r"([\\'])", r'\\\1', text)
+
+
+def offered_in_fish(kind):
+    """What offers a value or a word of this kind, in the order of the list."""
+    return ['-k', '-a ' + in_fish(SUFFIX if kind == 'file' else WORDS[kind])] if kind in ('file', *WORDS) else []
+
+
+def fish_options(program, commands):
+    lines = ['function __rbacaudit_options', '    switch "$argv[1]"']
+    for it in (*commands, program):
+        valued = [option for option in it.options if option.value]
+        letters = ''.join(option.short[1:] for option in valued)
+        waiting = ['--(%s)' % '|'.join(option.long[2:] for option in valued)] * bool(valued) + ['-[^-%s]*[%s]' % (letters, letters)] * bool(letters)
+        specs = ['%s%s%s' % (option.short[1:] + '/' * bool(option.short), option.long[2:], '=' * bool(option.value)) for option in it.options]
+        lines += ['        case %s' % (it.name or "'*'"), '            echo ' + in_fish('^(%s)$' % '|'.join(waiting) if waiting else '(?!)'),
+                  "            string split ' ' '%s'" % ' '.join(specs)]
+    return [*lines, '    end', 'end']
+
+
+def complete(condition, *parts):
+    """One call of fish's complete, over several lines if it is long."""
+    lines = ['complete -c rbacaudit -n ' + in_fish(condition)]
+    for part in parts:
+        if len(lines[-1] + part) > 147:
+            lines[-1] += ' \\'
+            lines.append('   ')
+        lines[-1] += ' ' + part
+    return '\n'.join(lines)
+
+
+def fish_offers(program, commands):
+    """Options and words that several commands have in common are said once."""
+    said = {}
+    for it in commands:
+        yield complete('__rbacaudit_words -eq 0 ""', '-a ' + it.name, '-d ' + in_fish(shortened(it.about)))
+    for it in (program, *commands):
+        for condition, parts in (*options_in_fish(it), *words_in_fish(it)):
+            said.setdefault((condition, parts), []).append(it.name or '""')
+    for (condition, parts), names in sorted(said.items(), key=lambda it: '-l' not in ' '.join(it[0][1])):
+        yield complete(condition % ' '.join(names), *parts)
+
+
+def options_in_fish(command):
+    for it in command.options:
+        condition = '__rbacaudit_words -ge 0' if it.again else '__rbacaudit_lacks ' + it.long[2:]
+        spelled = (['-s ' + it.short[1:]] if it.short else []) + ['-l ' + it.long[2:]] + (['-x'] if it.value else [])
+        yield condition + ' %s', (*spelled, *offered_in_fish(it.kind()), '-d ' + in_fish(shortened(it.text)))
+
+
+def words_in_fish(command):
+    """What is offered in the places of a command's words, and where an option has several values, behind it."""
+    for place, (word, rest) in enumerate(command.arguments):
+        offered = offered_in_fish(kind_of(word))
+        if offered:
+            said = [] if rest else ['-d ' + in_fish(shortened(command.texts[word]))]
+            yield '__rbacaudit_words %s %d %%s' % ('-ge' if rest else '-eq', place), (offered[0], *said, offered[1])
+    for option in command.options:
+        if option.several and offered_in_fish(option.kind()):
+            yield '__rbacaudit_has %s %%s' % option.long[2:], tuple(offered_in_fish(option.kind()))
+
+
 # ---- the files
 
 PARTS = {
     'completions/rbacaudit.bash': {'tables': bash_tables},
     'completions/_rbacaudit': {'specs': zsh_specs, 'calls': zsh_calls},
+    'completions/rbacaudit.fish': {'options': fish_options, 'offers': fish_offers},
 }
 
 
@@ -213,7 +284,7 @@ def written(program=PROGRAM):
     for name, parts in PARTS.items():
         with open(os.path.join(TOP, name), encoding='utf-8') as file:
             text = file.read()
-        yield name, text, filled(name, text, {part: lines(whole, commands) for part, lines in parts.items()})
+        yield name, text, filled(name, text, {part: list(lines(whole, commands)) for part, lines in parts.items()})
 
 
 def main(program=PROGRAM):
