@@ -280,11 +280,11 @@ end
 class Terminal:
     """A shell with a terminal of its own."""
 
-    def __init__(self, words, home, folder):
+    def __init__(self, words, home, folder, completions):
         self.process, self.terminal = pty.fork()
         if not self.process:
             os.chdir(folder)
-            os.execvpe(words[0], words, {**clean(home), 'TERM': 'dumb'})
+            os.execvpe(words[0], words, {**clean(home, completions), 'TERM': 'dumb'})
         # (wide enough for every line)
         fcntl.ioctl(self.terminal, termios.TIOCSWINSZ, struct.pack('HHHH', 50, 2000, 0, 0))
         self.read(rb'\x1c')
@@ -312,24 +312,35 @@ class Terminal:
         os.close(self.terminal)
 
 
-def clean(home):
+def clean(home, completions):
     """An environment without anybody's settings, but with rbacaudit on the PATH: fish completes no command that isn't there."""
     return {'PATH': path_with_program(), 'LC_ALL': 'C.UTF-8', 'HOME': home, 'ZDOTDIR': home, 'XDG_CONFIG_HOME': home,
-            'XDG_DATA_HOME': home, 'COMPLETIONS': COMPLETIONS, 'INPUTRC': '/dev/null', 'HISTFILE': ''}
+            'XDG_DATA_HOME': home, 'COMPLETIONS': completions, 'INPUTRC': '/dev/null', 'HISTFILE': ''}
 
 
-def in_terminal(words, lines, home, folder):
-    terminal = Terminal(words, home, folder)
+def in_terminal(words, lines, home, folder, completions):
+    terminal = Terminal(words, home, folder, completions)
     try:
         return [terminal.offered(line) for line in lines]
     finally:
         terminal.end()
 
 
-def in_fish(lines, home, folder):
-    ended = subprocess.run(['fish', '-c', FISH, *lines], cwd=folder, env=clean(home), stdin=subprocess.DEVNULL,
+def in_bash(lines, home, folder, completions):
+    return in_terminal(['bash', '--rcfile', home + '/.bashrc', '-i'], lines, home, folder, completions)
+
+
+def in_zsh(lines, home, folder, completions):
+    return in_terminal(['zsh', '-d', '-i'], lines, home, folder, completions)
+
+
+def in_fish(lines, home, folder, completions):
+    ended = subprocess.run(['fish', '-c', FISH, *lines], cwd=folder, env=clean(home, completions), stdin=subprocess.DEVNULL,
                            stdout=subprocess.PIPE, stderr=subprocess.STDOUT, timeout=PATIENCE)
     return [[found.partition('\t')[0] for found in lines.splitlines()] for lines in ended.stdout.decode().split('\x1d')[:-1]]
+
+
+SHELLS = {'bash': in_bash, 'zsh': in_zsh, 'fish': in_fish}
 
 
 def may_be_repeated(text):
@@ -407,30 +418,122 @@ def write(folder, files):
             file.write(text)
 
 
-def at_work(shell, offered):
-    """What the shell offers, by a function of lines, a home and a folder."""
+def at_work(shell, wanted, of_files, completions=COMPLETIONS):
+    """What the shell offers for lines that end in words, and for lines that end in a FILE."""
     if not shutil.which(shell):
         skipped(shell, 'completed lines')
         return
-    wanted = {**dict(of_options()), **dict(of_words())}
     with tempfile.TemporaryDirectory() as home, tempfile.TemporaryDirectory() as folder:
         write(home, {'.bashrc': BASH, '.zshrc': ZSH})
         write(folder, dict.fromkeys(FILES, '{}'))
+        lines = [*wanted, *of_files]
         try:
-            got = dict(zip([*wanted, *OF_FILES], offered([*wanted, *OF_FILES], home, folder)))
+            got = dict(zip(lines, SHELLS[shell](lines, home, folder, completions)))
         except OSError as fault:
             checked('%s completes lines' % shell, False, repr(fault))
             return
     for line, words in wanted.items():
         checked('%s: %s' % (shell, line), sorted(got[line]) == sorted(words), 'got %r' % got[line])
-    for line, names in OF_FILES.items():
+    for line, names in of_files.items():
         checked('%s: %s' % (shell, line), names <= {name.rstrip('/') for name in got[line]} <= names | {'notes.txt'}, 'got %r' % got[line])
 
 
 def shells():
-    at_work('bash', lambda lines, home, folder: in_terminal(['bash', '--rcfile', home + '/.bashrc', '-i'], lines, home, folder))
-    at_work('zsh', lambda lines, home, folder: in_terminal(['zsh', '-d', '-i'], lines, home, folder))
-    at_work('fish', in_fish)
+    for shell in SHELLS:
+        at_work(shell, {**dict(of_options()), **dict(of_words())}, OF_FILES)
+
+
+# ---- help that has more
+
+# Options that help could have, by their command, with signs that a shell or troff takes for its own.
+MORE = {
+    'can-i': '''  -f, --file <FILE>  It's [a] file: C:\\x, -n or 'get' of USER (default: "none")\n''',
+    'lint': '  -x, --of-verb <VERB>  Verb to look at; may be repeated (default: any)\n      --plain  Plain\n',
+}
+OF_MORE = {
+    'rbacaudit can-i --file a.json ': VERBS,
+    'rbacaudit can-i -qf a.json get pods --w': ['--why'],
+    'rbacaudit can-i --f': ['--file'],
+    'rbacaudit can-i -qf a.json --f': [],
+    'rbacaudit lint --of-verb ': VERBS,
+    'rbacaudit lint -x delete': ['delete', 'deletecollection'],
+    'rbacaudit lint --of-verb get --': ['--only', '--skip-system', '--of-verb', '--plain', '--help'],
+    'rbacaudit lint --plain -x get --': ['--only', '--skip-system', '--of-verb', '--help'],
+    'rbacaudit who-can -n shop --of': [],
+}
+FILES_OF_MORE = {
+    'rbacaudit can-i -qf ': {'a.json', 'b.json', 'sub'},
+    'rbacaudit can-i --file a.json get pods a': {'a.json'},
+    'rbacaudit lint --plain --of-verb get ': {'a.json', 'b.json', 'sub'},
+}
+MAN_OF_MORE = r"""
+.\" generated by tools/words.py: --file
+.TP
+\fB\-f\fR \fIFILE\fR, \fB\-\-file\fR \fIFILE\fR
+It's [a] file: C:\ex, \fB\-n\fR or 'get' of \fIUSER\fR.
+Default: "none".
+.\" end
+.SS who\-can
+""", r"""
+.\" generated by tools/words.py: --of-verb
+.TP
+\fB\-x\fR \fIVERB\fR, \fB\-\-of\-verb\fR \fIVERB\fR
+Verb to look at; may be repeated.
+Default: any.
+.\" end
+.\" generated by tools/words.py: --plain
+.TP
+\fB\-\-plain\fR
+Plain.
+.\" end
+.TP
+.B L1 dangling\-role
+"""
+
+
+def help_printed(folder, change):
+    """A program that prints help as it would be after a change of each text: of the program's, and of each command's."""
+    for command in ('', *commands()):
+        write(folder, {'of ' + command: change(command, help_of(*command.split()))})
+    path = os.path.join(folder, 'rbacaudit')
+    write(folder, {'rbacaudit': '#!/bin/sh\n[ $# -eq 2 ] || set -- "" "$@"\ncat "${0%/*}/of $1"\n'})
+    os.chmod(path, 0o755)
+    return path
+
+
+def more_options():
+    """`make words` writes an option that help has, and no file knew, so that each shell completes it and the man page has it."""
+    with tempfile.TemporaryDirectory() as folder:
+        program = help_printed(folder, lambda command, text: text.replace('  -h, --help', MORE.get(command, '') + '  -h, --help'))
+        texts = {os.path.basename(name): wanted for name, _, wanted in written(program)}
+        write(folder, texts)
+        for shell in SHELLS:
+            at_work(shell, OF_MORE, FILES_OF_MORE, folder)
+        for part in MAN_OF_MORE:
+            checked('man: an option more: %s' % part.split()[5], part in texts['rbacaudit.1'], texts['rbacaudit.1'])
+        renders(os.path.join(folder, 'rbacaudit.1'), {'--file', '-f', '--of-verb', '--plain'})
+
+
+def other_help():
+    """What `make words` can't do it says, before it writes anything."""
+    changes = {
+        "man/rbacaudit.1 describes --only below '.SS lint', and help doesn't: take it out":
+            lambda _, text: re.sub(r'(?m)^ +--only .*\n', '', text),
+        "man/rbacaudit.1 has no line '.SS seen': write one, and what is to be said below it":
+            lambda command, text: text if command else text.replace('  diff  ', '  seen  '),
+        "not understood in the Options of help: '      --only CODES  Some of them'":
+            lambda _, text: re.sub(r'(?m)^ +--only .*$', '      --only CODES  Some of them', text),
+    }
+    for wanted, change in changes.items():
+        with tempfile.TemporaryDirectory() as folder:
+            program = help_printed(folder, change)
+            write(folder, {'of seen': help_of('matrix')})
+            try:
+                list(written(program))
+                said = ''
+            except SystemExit as fault:
+                said = str(fault)
+        checked('make words: %s' % wanted, said == 'make words: ' + wanted, 'got %r' % said)
 
 
 def installed():
@@ -448,4 +551,4 @@ def installed():
 
 
 if __name__ == '__main__':
-    sys.exit(tested(generated, bash_file, fish_file, zsh_file, man_file, man_facts, rendered, examples, shells, installed))
+    sys.exit(tested(generated, bash_file, fish_file, zsh_file, man_file, man_facts, rendered, examples, shells, more_options, other_help, installed))
