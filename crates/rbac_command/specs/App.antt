@@ -1,9 +1,12 @@
 -- The command line of `rbacaudit`, as `clap` sees it.
 use Rattle.std.specs.Prelude.{Some, codes, pos, true}
 use Rattle.clap.specs.Lexer.{usize_max}
-use Rattle.clap.specs.Words.{App, Rule, new_app, new_rule, with_rule, with_subcommand}
+use Rattle.clap.specs.Words.{App, Rule, Text, new_app, new_rule, with_rule, with_subcommand}
 use Rattle.clap.specs.declared.builder.ArgAction.TheVariants.{SetTrue, Append}
 use Rattle.clap.specs.declared.builder.value_parser.ValueParser.TheVariants.{Signed}
+use Rattle.rbac_command.specs.Flags.{flag_rule, why_rule}
+use Rattle.rbac_command.specs.HolderOptions.{with_holder_options}
+use Rattle.rbac_command.specs.MatrixOptions.{with_matrix_options}
 
 -- `--as USER`, which must be given
 abbrev pub user_rule : Rule
@@ -43,24 +46,7 @@ all_rule = record (new_rule (codes "all")) {
 
 -- `--in-namespace`
 abbrev pub in_namespace_rule : Rule
-in_namespace_rule = record (new_rule (codes "in-namespace")) {
-  long = Some (codes "in-namespace");
-  action = Some SetTrue;
-}
-
--- `--anywhere`
-abbrev pub anywhere_rule : Rule
-anywhere_rule = record (new_rule (codes "anywhere")) {
-  long = Some (codes "anywhere");
-  action = Some SetTrue;
-}
-
--- `--any-name`
-abbrev pub any_name_rule : Rule
-any_name_rule = record (new_rule (codes "any-name")) {
-  long = Some (codes "any-name");
-  action = Some SetTrue;
-}
+in_namespace_rule = flag_rule (codes "in-namespace")
 
 -- `--subresource S`
 abbrev pub subresource_rule : Rule
@@ -77,10 +63,6 @@ quiet_rule = record (new_rule (codes "quiet")) {
   action = Some SetTrue;
 }
 
--- `--why`
-abbrev pub why_rule : Rule
-why_rule = record (new_rule (codes "why")) { long = Some (codes "why"); action = Some SetTrue }
-
 -- WHO, which must be given
 abbrev pub who_rule : Rule
 who_rule = record (new_rule (codes "who")) { value_names = 1; required = true }
@@ -92,11 +74,6 @@ verb_rule = record (new_rule (codes "verb")) { value_names = 1; required = true 
 -- TARGET, which must be given
 abbrev pub target_rule : Rule
 target_rule = record (new_rule (codes "target")) { value_names = 1; required = true }
-
--- `--every`
-abbrev pub every_rule : Rule
-every_rule =
-    record (new_rule (codes "every")) { long = Some (codes "every"); action = Some SetTrue }
 
 -- `--after TOKEN`
 abbrev pub after_rule : Rule
@@ -116,30 +93,36 @@ only_rule = record (new_rule (codes "only")) { long = Some (codes "only"); value
 
 -- `--skip-system`
 abbrev pub skip_system_rule : Rule
-skip_system_rule = record (new_rule (codes "skip-system")) {
-  long = Some (codes "skip-system");
-  action = Some SetTrue;
-}
+skip_system_rule = flag_rule (codes "skip-system")
 
 -- [FILE]..
 abbrev pub files_rule : Rule
 files_rule = record (new_rule (codes "files")) { value_names = 1; action = Some Append }
 
--- one file or more
-abbrev pub some_files : Rule → Rule
-some_files r = record r {
+-- an option with this long form and one file or more
+abbrev pub some_files_rule : Text → Rule
+some_files_rule name = record (new_rule name) {
+  long = Some name;
   action = Some Append;
   range = Some (record { start_inclusive = 1; end_inclusive = usize_max });
   value_names = 1;
-  required = true;
 }
 
--- `--before FILE..` and `--after FILE..`, which must be given
+-- `--before FILE..`, which must be given
 abbrev pub before_files_rule : Rule
-before_files_rule = some_files (record (new_rule (codes "before")) { long = Some (codes "before") })
+before_files_rule = record (some_files_rule (codes "before")) { required = true }
 
+-- `--after FILE..`
 abbrev pub after_files_rule : Rule
-after_files_rule = some_files (record (new_rule (codes "after")) { long = Some (codes "after") })
+after_files_rule = some_files_rule (codes "after")
+
+-- `--without FILE..`
+abbrev pub without_files_rule : Rule
+without_files_rule = some_files_rule (codes "without")
+
+-- `--with FILE..`
+abbrev pub with_files_rule : Rule
+with_files_rule = some_files_rule (codes "with")
 
 -- the options that say in which groups a user is
 abbrev pub with_groups : App → App
@@ -166,10 +149,7 @@ can_i_app =
 -- who-can [-n NS] [-A] [--in-namespace] [--subresource S] [--anywhere] [--any-name] [--every] [--why]
 -- VERB TARGET [FILE]..
 abbrev pub who_can_app : App
-who_can_app =
-    with_question (with_rule (with_rule
-    (with_rule (with_rule (with_scope (new_app (codes "who-can"))) anywhere_rule) any_name_rule)
-    every_rule) why_rule)
+who_can_app = with_question (with_holder_options (with_scope (new_app (codes "who-can"))))
 
 -- rules [--groups A,B] [--group G].. [-n NS] [-A] WHO [FILE]..
 abbrev pub rules_app : App
@@ -179,11 +159,16 @@ rules_app =
     (with_groups (new_app (codes "rules"))) namespace_rule) all_rule) who_rule)
     files_rule
 
--- matrix [--every] [--after TOKEN] [--limit N] [FILE]..
+-- matrix [--every] [--once] [--after TOKEN] [--limit N] [FILE]..
 abbrev pub matrix_app : App
 matrix_app =
     with_rule (with_rule
-    (with_rule (with_rule (new_app (codes "matrix")) every_rule) after_rule) limit_rule) files_rule
+    (with_rule (with_matrix_options (new_app (codes "matrix"))) after_rule) limit_rule)
+    files_rule
+
+-- universe [FILE]..
+abbrev pub universe_app : App
+universe_app = with_rule (new_app (codes "universe")) files_rule
 
 -- lint [--only CODES] [--skip-system] [FILE]..
 abbrev pub lint_app : App
@@ -191,9 +176,12 @@ lint_app =
     with_rule (with_rule
     (with_rule (new_app (codes "lint")) only_rule) skip_system_rule) files_rule
 
--- diff --before FILE.. --after FILE..
+-- diff --before FILE.. [--after FILE..] [--without FILE..] [--with FILE..]
 abbrev pub diff_app : App
-diff_app = with_rule (with_rule (new_app (codes "diff")) before_files_rule) after_files_rule
+diff_app =
+    with_rule (with_rule
+    (with_rule (with_rule (new_app (codes "diff")) before_files_rule) after_files_rule)
+    without_files_rule) with_files_rule
 
 -- the program: it has a version, a subcommand is required, and there is no subcommand `help`
 abbrev pub as_program : App → App
@@ -212,7 +200,7 @@ bare_app = as_program (new_app (codes "rbacaudit"))
 -- the whole command line
 unfoldable pub rbac_app : App
 rbac_app =
-    with_subcommand (with_subcommand
+    with_subcommand (with_subcommand (with_subcommand
     (with_subcommand (with_subcommand
     (with_subcommand (with_subcommand bare_app can_i_app.top) who_can_app.top) rules_app.top)
-    matrix_app.top) lint_app.top) diff_app.top
+    matrix_app.top) universe_app.top) lint_app.top) diff_app.top

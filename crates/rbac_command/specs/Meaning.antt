@@ -1,44 +1,41 @@
 -- What the words of a command line mean, according to `clap`'s matches.
 use Rattle.std.specs.Prelude.{◌≡◌, ◌||◌, ◌⊎◌, ◌<◌, ◌^◌, ◌++◌, ℕ, Bool, List, [], length, Option}
-use Rattle.std.specs.Prelude.{Some, None, Result, map, codes, unwrap_or, MatchResult, string_bytes}
+use Rattle.std.specs.Prelude.{Some, None, Result, map, codes, MatchResult, string_bytes}
 use Rattle.std.specs.Prelude.{if◌then◌else◌}
 use Rattle.std.specs.Str.{bytes_eq}
 use Rattle.std.specs.Str.Parse.{IsNumeral, without_leading_plus, digits_value}
-use Rattle.clap.specs.Words.{Row, Text, all_of, fault_of, first_of, kind_of, one_of, subcommand_of}
+use Rattle.clap.specs.Words.{Row, Text, fault_of, first_of, kind_of, one_of, subcommand_of}
 use Rattle.clap.specs.Kinds.{IsAmong}
 use Rattle.rbac_question.specs.Lines.{QuestionParts, CanIParts, WhoCanParts, RulesParts, LintParts}
 use Rattle.rbac_question.specs.Lines.{MeansCanI, MeansWhoCan, MeansRules, MeansLint, AcceptsCanI}
 use Rattle.rbac_question.specs.Lines.{AcceptsQuestion, RefusesCanI, RefusesQuestion, HasBadToken}
-use Rattle.rbac_question.specs.Lines.{HasBadPrincipal, HasBadCode, IsAfter}
+use Rattle.rbac_question.specs.Lines.{HasBadPrincipal, HasBadCode, HasBadChange, IsAfter, MeansDiff}
 use Rattle.rbac_question.specs.declared.command.Action.{Action}
 use Rattle.rbac_question.specs.declared.command.Action.TheVariants.{CanI, WhoCan, Rules, Matrix}
-use Rattle.rbac_question.specs.declared.command.Action.TheVariants.{Lint, Diff}
+use Rattle.rbac_question.specs.declared.command.Action.TheVariants.{Universe, Lint, Diff}
 use Rattle.rbac_question.specs.declared.command.Command.{Command}
 use Rattle.rbac_question.specs.declared.fault.QuestionFault.{QuestionFault}
 use Rattle.rbac_question.specs.declared.fault.QuestionFault.TheVariants as question
+use Rattle.rbac_question.specs.declared.line.DiffLine.{DiffLine}
 use Rattle.rbac_command.specs.App.{rbac_app}
+use Rattle.rbac_command.specs.Values.{text_at, has_flag, texts_at}
+use Rattle.rbac_command.specs.HolderOptions.{holder_options_in}
+use Rattle.rbac_command.specs.MatrixOptions.{matrix_options_in}
 use Rattle.rbac_command.specs.declared.fault.UsageFault.{UsageFault}
 use Rattle.rbac_command.specs.declared.fault.UsageFault.TheVariants.{Refused, Question as Asked}
 
--- ---- what is under an id
+-- ---- the parts of a line
 
--- the first value of an id, or the empty text
-abbrev pub text_at : Text → List Row → Text
-text_at id rows = unwrap_or (first_of id rows) []
+-- the files of a `diff` line, in order: those before the change, those after it, those whose objects
+-- are taken away, and those that are put over
+abbrev pub diff_files_in : List Row → List Text
+diff_files_in rows = texts_at (codes "before") rows ++ (texts_at (codes "after") rows
+    ++ (texts_at (codes "without") rows ++ texts_at (codes "with") rows))
 
--- whether the flag is given
-abbrev pub has_flag : Text → List Row → Bool
-has_flag id rows = bytes_eq (text_at id rows) (codes "true")
-
--- all values of an id, in order
-abbrev pub texts_at : Text → List Row → List Text
-texts_at id rows = unwrap_or (all_of id rows) []
-
--- the files of the subcommand of that name, in order: of `diff` those before the change, and then
--- those after it
+-- the files of the subcommand of that name, in order
 abbrev pub files_in : Text → List Row → List Text
 files_in name rows = if bytes_eq name (codes "diff")
-    then texts_at (codes "before") rows ++ texts_at (codes "after") rows
+    then diff_files_in rows
     else texts_at (codes "files") rows
 
 -- the parts that ask a question
@@ -65,13 +62,7 @@ parts_in rows = record {
 
 -- the parts of a `who-can` line
 abbrev pub who_can_in : List Row → WhoCanParts
-who_can_in rows = record {
-  why = has_flag (codes "why") rows;
-  every = has_flag (codes "every") rows;
-  anywhere = has_flag (codes "anywhere") rows;
-  any_name = has_flag (codes "any-name") rows;
-  question = question_in rows;
-}
+who_can_in rows = record { options = holder_options_in rows; question = question_in rows }
 
 -- the parts of a `rules` line
 abbrev pub rules_in : List Row → RulesParts
@@ -88,6 +79,15 @@ abbrev pub lint_in : List Row → LintParts
 lint_in rows = record {
   only = first_of (codes "only") rows;
   skip_system = has_flag (codes "skip-system") rows;
+}
+
+-- how many files each option of a `diff` line gives
+abbrev pub diff_in : List Row → DiffLine
+diff_in rows = record {
+  before_files = length (texts_at (codes "before") rows);
+  after_files = length (texts_at (codes "after") rows);
+  without_files = length (texts_at (codes "without") rows);
+  with_files = length (texts_at (codes "with") rows);
 }
 
 -- the text is a 32-bit number: decimal digits, with an optional plus sign before them
@@ -114,25 +114,27 @@ is_known name = bytes_eq name (codes "can-i")
     || (bytes_eq name (codes "who-can")
     || (bytes_eq name (codes "rules")
     || (bytes_eq name (codes "matrix")
-    || (bytes_eq name (codes "lint") || bytes_eq name (codes "diff")))))
+    || (bytes_eq name (codes "universe")
+    || (bytes_eq name (codes "lint") || bytes_eq name (codes "diff"))))))
 
 -- what the subcommand of that name does, according to its matches
 abbrev pub DoesAction : Text → List Row → Action → Type 0
 DoesAction name rows (CanI principal quiet why question) =
     (name ≡ codes "can-i") × AcceptsCanI (parts_in rows)
     × MeansCanI (parts_in rows) (CanI principal quiet why question)
-DoesAction name rows (WhoCan why every anywhere any_name question) =
+DoesAction name rows (WhoCan options question) =
     (name ≡ codes "who-can") × AcceptsQuestion (question_in rows)
-    × MeansWhoCan (who_can_in rows) (WhoCan why every anywhere any_name question)
+    × MeansWhoCan (who_can_in rows) (WhoCan options question)
 DoesAction name rows (Rules principal scope) =
     (name ≡ codes "rules") × MeansRules (rules_in rows) (Rules principal scope)
-DoesAction name rows (Matrix every after limit) =
-    (name ≡ codes "matrix") × (every ≡ has_flag (codes "every") rows)
+DoesAction name rows (Matrix options after limit) =
+    (name ≡ codes "matrix") × (options ≡ matrix_options_in rows)
     × IsAfter (first_of (codes "after") rows) after × IsNumberAt (codes "limit") rows limit
+DoesAction name rows Universe = name ≡ codes "universe"
 DoesAction name rows (Lint only skip_system) =
     (name ≡ codes "lint") × MeansLint (lint_in rows) (Lint only skip_system)
-DoesAction name rows (Diff before) =
-    (name ≡ codes "diff") × (before ≡ length (texts_at (codes "before") rows))
+DoesAction name rows (Diff before change) =
+    (name ≡ codes "diff") × MeansDiff (diff_in rows) (Diff before change)
 
 -- the command is what the matches of the subcommand of that name mean
 pub record MeansRows (name : Text) (rows : List Row) (c : Command) : Type 0 where
@@ -147,7 +149,8 @@ Means (Some p) c = MeansRows p.0 p.1 c
 -- ---- refusals
 
 -- the refusal of a subcommand's matches: out of memory may come at any time; besides it, `matrix`
--- has only U4, `rules` only U5 and `lint` only U6, no other has these, and `diff` has none
+-- has only U4, `rules` only U5, `lint` only U6 and `diff` only U7, no other has these, and `universe`
+-- has none
 abbrev pub RefusesAction : Text → List Row → QuestionFault → Type 0
 RefusesAction name rows question.NoMemory = Unit {0}
 RefusesAction name rows question.BadToken = (name ≡ codes "matrix")
@@ -156,6 +159,7 @@ RefusesAction name rows question.BadPrincipal = (name ≡ codes "rules")
     × HasBadPrincipal (rules_in rows)
 RefusesAction name rows question.BadCode = (name ≡ codes "lint")
     × HasBadCode (first_of (codes "only") rows)
+RefusesAction name rows question.BadChange = (name ≡ codes "diff") × HasBadChange (diff_in rows)
 RefusesAction name rows e = ((name ≡ codes "can-i") × RefusesCanI (parts_in rows) e)
     ⊎ ((name ≡ codes "who-can") × RefusesQuestion (question_in rows) e)
 

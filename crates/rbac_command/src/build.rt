@@ -3,17 +3,19 @@
 ghost use Rattle.std.specs.Prelude.{◌≡◌, IfOk, IsOkAnd, Some, false, true};
 ghost use Rattle.clap.specs.Words.{app_of, new_app, new_rule, rule_of, with_rule};
 ghost use Rattle.clap.specs.Words.{with_subcommand};
-ghost use Rattle.clap.specs.declared.builder.ArgAction.TheVariants.{SetTrue};
 ghost use Rattle.clap.specs.declared.builder.command.Command.TheViews.{out-Command as fields_of};
-ghost use Rattle.rbac_command.specs.App.{every_rule, after_rule, limit_rule, user_rule};
+ghost use Rattle.rbac_command.specs.App.{after_rule, limit_rule, user_rule, some_files_rule};
 ghost use Rattle.rbac_command.specs.App.{groups_rule, namespace_rule, all_rule, subresource_rule};
-ghost use Rattle.rbac_command.specs.App.{quiet_rule, why_rule, verb_rule, target_rule, files_rule};
-ghost use Rattle.rbac_command.specs.App.{group_rule, in_namespace_rule, anywhere_rule, with_groups};
+ghost use Rattle.rbac_command.specs.App.{quiet_rule, verb_rule, target_rule, files_rule, who_rule};
+ghost use Rattle.rbac_command.specs.App.{group_rule, in_namespace_rule, only_rule, with_groups};
 ghost use Rattle.rbac_command.specs.App.{with_scope, with_question, can_i_app, who_can_app};
-ghost use Rattle.rbac_command.specs.App.{rules_app, matrix_app, lint_app, bare_app, rbac_app};
-ghost use Rattle.rbac_command.specs.App.{who_rule, before_files_rule, after_files_rule, diff_app};
-ghost use Rattle.rbac_command.specs.App.{some_files, any_name_rule, only_rule, skip_system_rule};
+ghost use Rattle.rbac_command.specs.App.{rules_app, matrix_app, universe_app, lint_app, bare_app};
+ghost use Rattle.rbac_command.specs.App.{rbac_app, before_files_rule, after_files_rule, diff_app};
+ghost use Rattle.rbac_command.specs.App.{without_files_rule, with_files_rule, skip_system_rule};
+ghost use Rattle.rbac_command.specs.Flags.{flag_rule};
 
+use crate::holder_options::with_holder_options;
+use crate::matrix_options::with_matrix_options;
 use clap::{Arg, ArgAction, Command, value_parser};
 use std::alloc::{AllocError, Global};
 
@@ -95,6 +97,16 @@ Examples:
   rbacaudit matrix --every cluster.json namespaced.json universe.json
   rbacaudit matrix --limit 1000 --after TOKEN cluster.json namespaced.json";
 
+const UNIVERSE_MORE: &str =
+    "matrix over the same files and this document lists the same rows. So keep it, take out of it
+what isn't to be asked about, and give it to matrix as one more FILE. A list that FILEs give stays
+as they give it; the others are made from the files, as matrix --help says. The exit status is 0; 2
+is an error.
+
+Examples:
+  rbacaudit universe cluster.json namespaced.json > universe.json
+  rbacaudit matrix cluster.json namespaced.json universe.json";
+
 const LINT_MORE: &str = "A line has five fields, joined by tabs; - is an empty field:
   CODE    L1 to L7
   NAME    what the code stands for, as below
@@ -119,7 +131,7 @@ Examples:
   rbacaudit lint --skip-system cluster.json namespaced.json";
 
 const DIFF_MORE: &str = "A line has eight fields, joined by tabs; - is an empty field:
-  CHANGE     + for what only --after allows, - for what only --before does
+  CHANGE     + for what the change allows, - for what it takes away
   WHO        u:USER, with any groups, or g:GROUP, for everybody in it
   NAMESPACE  * is every namespace, and requests without one
   VERB       * is any verb
@@ -128,12 +140,17 @@ const DIFF_MORE: &str = "A line has eight fields, joined by tabs; - is an empty 
   NAME       * is any object name, and none
   BINDING    the first binding that has it, on the side that has it
 
-It compares all requests that any user can make, in any namespace. So no + line means that nobody
-may do anything new. Files are numbered in errors from the first of --before to the last of --after.
-The exit status is 0 without a line and 1 with one; 2 is an error.
+What is after the change is in the files of --after; or it is what those of --before have, less the
+objects that --without names by kind, namespace and name, with those of --with put over.
 
-Example:
-  rbacaudit diff --before monday/*.json --after friday/*.json";
+It compares all requests that any user can make, in any namespace, but for users who are given the
+group system:unauthenticated, and system:anonymous with given groups. So no + line means that nobody
+may do anything new. Files are numbered in errors in the order of --before, --after, --without and
+--with. The exit status is 0 without a line and 1 with one; 2 is an error.
+
+Examples:
+  rbacaudit diff --before monday/*.json --after friday/*.json
+  rbacaudit diff --before prod/*.json --without old.json --with new.json";
 
 // The help texts of options that several commands have.
 const NAMESPACE: &str = "Namespace to check (default: default)";
@@ -142,14 +159,6 @@ const ALL: &str = "Check all namespaces at once: only ClusterRoleBindings grant 
 
 const WHY: &str = "After yes, print why: BINDING, its ROLE, the SOURCE role, its RULE, the SUBJECT";
 
-const WHO_CAN_WHY: &str =
-    "After the binding, print why: its ROLE, the SOURCE role, its RULE, the SUBJECT";
-
-const EVERY: &str = "List every binding that grants, not only the first";
-
-const WHO_CAN_EVERY: &str =
-    "List each of them with every binding that grants it, not only the first";
-
 const RULES_NAMESPACE: &str =
     "Namespace whose RoleBindings count, with all ClusterRoleBindings (default: any)";
 
@@ -157,11 +166,8 @@ const RULES_ALL: &str =
     "Only what holds in all namespaces at once: ClusterRoleBindings; overrides -n";
 
 // A flag, named by its long form.
-fn flag<'a>(alloc: Global, name: &'a str, help: &'a str) -> Arg<'a>
-    ensures rule { rule_of result ≡ record (new_rule name.entry.now) {
-      long = Some name.entry.now;
-      action = Some SetTrue;
-    } }
+pub(crate) fn flag<'a>(alloc: Global, name: &'a str, help: &'a str) -> Arg<'a>
+    ensures rule { rule_of result ≡ flag_rule name.entry.now }
     ensures local { result.global ≡ false }
 {
     Arg::new(alloc, name)
@@ -198,15 +204,12 @@ fn word<'a>(alloc: Global, name: &'a str, value: &'a str, help: &'a str) -> Arg<
         .help(help)
 }
 
-// An option with one file or more that must be given, named by its long form.
+// An option with one file or more, named by its long form.
 fn files_option<'a>(alloc: Global, name: &'a str, help: &'a str) -> Arg<'a>
-    ensures rule { rule_of result ≡ some_files (record (new_rule name.entry.now) {
-      long = Some name.entry.now;
-    }) }
+    ensures rule { rule_of result ≡ some_files_rule name.entry.now }
     ensures local { result.global ≡ false }
 {
     option(alloc, name, "FILE", help)
-        .required(true)
         .num_args(1..)
         .action(ArgAction::Append)
 }
@@ -278,28 +281,6 @@ fn in_namespace_arg<'a>(alloc: Global) -> Arg<'a>
     )
 }
 
-fn anywhere_arg<'a>(alloc: Global) -> Arg<'a>
-    ensures rule { rule_of result ≡ anywhere_rule }
-    ensures local { result.global ≡ false }
-{
-    flag(
-        alloc,
-        "anywhere",
-        "Count the bindings of all namespaces, not only of -n; -A overrides this",
-    )
-}
-
-fn any_name_arg<'a>(alloc: Global) -> Arg<'a>
-    ensures rule { rule_of result ≡ any_name_rule }
-    ensures local { result.global ≡ false }
-{
-    flag(
-        alloc,
-        "any-name",
-        "Count rules limited to object names too; a NAME in TARGET isn't looked at",
-    )
-}
-
 fn subresource_arg<'a>(alloc: Global) -> Arg<'a>
     ensures rule { rule_of result ≡ subresource_rule }
     ensures local { result.global ≡ false }
@@ -322,13 +303,6 @@ fn quiet_arg<'a>(alloc: Global) -> Arg<'a>
         "Print nothing: the exit status is the answer",
     )
     .short('q')
-}
-
-fn why_arg<'a>(alloc: Global, help: &'a str) -> Arg<'a>
-    ensures rule { rule_of result ≡ why_rule }
-    ensures local { result.global ≡ false }
-{
-    flag(alloc, "why", help)
 }
 
 fn who_arg<'a>(alloc: Global) -> Arg<'a>
@@ -365,13 +339,6 @@ fn target_arg<'a>(alloc: Global) -> Arg<'a>
         "TARGET",
         "TYPE, TYPE/NAME or a URL path, e.g. pods, deployments.apps/web or /healthz",
     )
-}
-
-fn every_arg<'a>(alloc: Global, help: &'a str) -> Arg<'a>
-    ensures rule { rule_of result ≡ every_rule }
-    ensures local { result.global ≡ false }
-{
-    flag(alloc, "every", help)
 }
 
 fn after_arg<'a>(alloc: Global) -> Arg<'a>
@@ -441,6 +408,7 @@ fn before_files_arg<'a>(alloc: Global) -> Arg<'a>
         "before",
         "JSON of kubectl get -o json or --raw as it was before the change, one file or more",
     )
+    .required(true)
 }
 
 fn after_files_arg<'a>(alloc: Global) -> Arg<'a>
@@ -454,11 +422,33 @@ fn after_files_arg<'a>(alloc: Global) -> Arg<'a>
     )
 }
 
+fn without_files_arg<'a>(alloc: Global) -> Arg<'a>
+    ensures rule { rule_of result ≡ without_files_rule }
+    ensures local { result.global ≡ false }
+{
+    files_option(
+        alloc,
+        "without",
+        "JSON of objects that the change deletes from those of --before, one file or more",
+    )
+}
+
+fn with_files_arg<'a>(alloc: Global) -> Arg<'a>
+    ensures rule { rule_of result ≡ with_files_rule }
+    ensures local { result.global ≡ false }
+{
+    files_option(
+        alloc,
+        "with",
+        "JSON of objects that the change adds or replaces, one file or more",
+    )
+}
+
 // A command, if there was the memory to build it.
-type Built<'a> = Result<Command<'a>, AllocError>;
+pub(crate) type Built<'a> = Result<Command<'a>, AllocError>;
 
 // Adds an argument that isn't global.
-fn with<'a>(command: Built<'a>, arg: Arg<'a>) -> Built<'a>
+pub(crate) fn with<'a>(command: Built<'a>, arg: Arg<'a>) -> Built<'a>
     requires arg { arg.global ≡ false }
     requires alone { IfOk command (λ c. (fields_of c).has_globals ≡ false) }
     ensures app { IfOk result (λ r. IsOkAnd command.entry (λ c.
@@ -522,7 +512,7 @@ fn can_i<'a>(alloc: Global) -> Built<'a>
     let command = with_groups(alloc, command);
     let command = with_scope(alloc, command);
     let command = with(command, quiet_arg(alloc));
-    let command = with(command, why_arg(alloc, WHY));
+    let command = with(command, flag(alloc, "why", WHY));
     with_question(alloc, command)
 }
 
@@ -537,10 +527,7 @@ fn who_can<'a>(alloc: Global) -> Built<'a>
         WHO_CAN_MORE,
     );
     let command = with_scope(alloc, Ok(command));
-    let command = with(command, anywhere_arg(alloc));
-    let command = with(command, any_name_arg(alloc));
-    let command = with(command, every_arg(alloc, WHO_CAN_EVERY));
-    let command = with(command, why_arg(alloc, WHO_CAN_WHY));
+    let command = with_holder_options(alloc, command);
     with_question(alloc, command)
 }
 
@@ -571,10 +558,23 @@ fn matrix<'a>(alloc: Global) -> Built<'a>
         "List everything that anyone may do: a line for each request that is allowed, then end",
         MATRIX_MORE,
     );
-    let command = with(Ok(command), every_arg(alloc, EVERY));
+    let command = with_matrix_options(alloc, Ok(command));
     let command = with(command, after_arg(alloc));
     let command = with(command, limit_arg(alloc));
     with(command, files_arg(alloc))
+}
+
+fn universe<'a>(alloc: Global) -> Built<'a>
+    ensures app { IfOk result (λ r. app_of r ≡ universe_app) }
+    ensures local { IfOk result (λ r. (fields_of r).has_globals ≡ false) }
+{
+    let command = named(
+        alloc,
+        "universe",
+        "Print the Universe that matrix makes of the files, as JSON to narrow and to give it back",
+        UNIVERSE_MORE,
+    );
+    with(Ok(command), files_arg(alloc))
 }
 
 fn lint<'a>(alloc: Global) -> Built<'a>
@@ -603,7 +603,9 @@ fn diff<'a>(alloc: Global) -> Built<'a>
         DIFF_MORE,
     );
     let command = with(Ok(command), before_files_arg(alloc));
-    with(command, after_files_arg(alloc))
+    let command = with(command, after_files_arg(alloc));
+    let command = with(command, without_files_arg(alloc));
+    with(command, with_files_arg(alloc))
 }
 
 // Adds a subcommand with no global argument, if it could be built.
@@ -649,6 +651,7 @@ pub(crate) fn program<'a>(alloc: Global) -> Result<Command<'a>, AllocError>
 {
     let command = asking(alloc)?;
     let command = with_sub(command, matrix(alloc))?;
+    let command = with_sub(command, universe(alloc))?;
     let command = with_sub(command, lint(alloc))?;
     with_sub(command, diff(alloc))
 }

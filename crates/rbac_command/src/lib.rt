@@ -3,8 +3,13 @@
 
 mod build;
 mod fault;
+mod holder_options;
+mod matrix_options;
 mod read;
 
 pub use fault::UsageFault;
-pub use rbac_question::{Action, Asked, AskedFor, Command, Question, QuestionFault, Scope};
+pub use rbac_question::{
+    Action, Asked, AskedFor, Change, Command, HolderOptions, MatrixOptions, Question,
+    QuestionFault, Scope,
+};
 pub use read::command_of;

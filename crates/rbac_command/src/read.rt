@@ -7,18 +7,22 @@ ghost use Rattle.std.specs.Option.{option_map_or};
 ghost use Rattle.clap.specs.Words.{found_of, all_of, rows_of, first_of, subcommand_rows_of};
 ghost use Rattle.clap.specs.Words.{subcommand_of, fault_of};
 ghost use Rattle.rbac_command.specs.App.{rbac_app};
-ghost use Rattle.rbac_command.specs.Meaning.{text_at, has_flag, IsNumberAt, files_in, question_in};
+ghost use Rattle.rbac_command.specs.MatrixOptions.{matrix_options_in};
+ghost use Rattle.rbac_command.specs.Meaning.{IsNumberAt, files_in, diff_files_in, question_in};
 ghost use Rattle.rbac_command.specs.Meaning.{parts_in, is_known, DoesAction, RefusesAction, Means};
 ghost use Rattle.rbac_command.specs.Meaning.{IsCauseOf, IsRefusal, IsAnswer, who_can_in, rules_in};
-ghost use Rattle.rbac_command.specs.Meaning.{texts_at, lint_in};
+ghost use Rattle.rbac_command.specs.Meaning.{lint_in, diff_in};
+ghost use Rattle.rbac_command.specs.Values.{text_at, has_flag, texts_at};
 
 use crate::build::program;
 use crate::fault::UsageFault;
+use crate::holder_options::holder_options_of;
+use crate::matrix_options::matrix_options_of;
 use clap::ArgMatches;
 use clap::error::ErrorKind;
 use rbac_question::{
-    Action, CanILine, Command, LintLine, MatrixLine, QuestionFault, QuestionLine, RulesLine,
-    WhoCanLine,
+    Action, CanILine, Command, DiffLine, LintLine, MatrixLine, QuestionFault, QuestionLine,
+    RulesLine, WhoCanLine,
 };
 use std::alloc::{AllocError, Global};
 
@@ -44,7 +48,7 @@ fn text_of<'a>(matches: &ArgMatches<'a>, id: &str) -> &'a str
     value_of(matches, id).unwrap_or("")
 }
 
-fn flag_of(matches: &ArgMatches<'_>, id: &str) -> bool
+pub(crate) fn flag_of(matches: &ArgMatches<'_>, id: &str) -> bool
     ensures { result ≡ has_flag id.now (rows_of (found_of matches.now)) }
 {
     text_of(matches, id) == "true"
@@ -82,17 +86,9 @@ fn line_of<'m, 'a>(matches: &'m ArgMatches<'a>) -> CanILine<'m, 'a>
 fn who_can_line_of<'a>(matches: &ArgMatches<'a>) -> WhoCanLine<'a>
     ensures { result ≡ who_can_in (rows_of (found_of matches.now)) }
 {
-    let why = flag_of(matches, "why");
-    let every = flag_of(matches, "every");
-    let anywhere = flag_of(matches, "anywhere");
-    let any_name = flag_of(matches, "any-name");
-    let question = question_of(matches);
     WhoCanLine {
-        why,
-        every,
-        anywhere,
-        any_name,
-        question,
+        options: holder_options_of(matches),
+        question: question_of(matches),
     }
 }
 
@@ -123,12 +119,12 @@ fn number_of(matches: &ArgMatches<'_>, id: &str) -> Option<u32>
 
 // The parts of a `matrix` line.
 fn matrix_line_of<'a>(matches: &ArgMatches<'a>) -> MatrixLine<'a>
-    ensures every { result.every ≡ has_flag (codes "every") (rows_of (found_of matches.now)) }
+    ensures options { result.options ≡ matrix_options_in (rows_of (found_of matches.now)) }
     ensures after { result.after ≡ first_of (codes "after") (rows_of (found_of matches.now)) }
     ensures limit { IsNumberAt (codes "limit") (rows_of (found_of matches.now)) result.limit }
 {
     MatrixLine {
-        every: flag_of(matches, "every"),
+        options: matrix_options_of(matches),
         after: value_of(matches, "after"),
         limit: number_of(matches, "limit"),
     }
@@ -154,16 +150,41 @@ fn count_of(matches: &ArgMatches<'_>, id: &str) -> usize
     }
 }
 
-// The files of the subcommand of that name: of `diff` those before the change, and then those
-// after it.
+// The parts of a `diff` line.
+fn diff_line_of(matches: &ArgMatches<'_>) -> DiffLine
+    ensures { result ≡ diff_in (rows_of (found_of matches.now)) }
+{
+    DiffLine {
+        before_files: count_of(matches, "before"),
+        after_files: count_of(matches, "after"),
+        without_files: count_of(matches, "without"),
+        with_files: count_of(matches, "with"),
+    }
+}
+
+// Adds the files of a `diff` line: those of each option, in this order.
+fn add_diff_files(
+    alloc: Global,
+    matches: &ArgMatches<'_>,
+    files: &mut Vec<String>,
+) -> Result<(), AllocError>
+    ensures { OnOk result (map string_bytes files.new.items
+        ≡ map string_bytes files.old.items ++ diff_files_in (rows_of (found_of matches.now))) }
+{
+    add_texts(alloc, matches, "before", files)?;
+    add_texts(alloc, matches, "after", files)?;
+    add_texts(alloc, matches, "without", files)?;
+    add_texts(alloc, matches, "with", files)
+}
+
+// The files of the subcommand of that name.
 fn files_of(alloc: Global, name: &str, matches: &ArgMatches<'_>) -> Result<Vec<String>, AllocError>
     ensures { IfOk result
         (λ v. map string_bytes v.items ≡ files_in name.now (rows_of (found_of matches.now))) }
 {
     let mut files = Vec::new(alloc);
     if name == "diff" {
-        add_texts(alloc, matches, "before", &mut files)?;
-        add_texts(alloc, matches, "after", &mut files)?;
+        add_diff_files(alloc, matches, &mut files)?;
     } else {
         add_texts(alloc, matches, "files", &mut files)?;
     }
@@ -219,13 +240,14 @@ fn action_of(alloc: Global, name: &str, matches: &ArgMatches<'_>) -> Result<Acti
     if name == "rules" {
         return Action::rules(alloc, &rules_line_of(matches));
     }
+    if name == "universe" {
+        return Ok(Action::Universe);
+    }
     if name == "lint" {
         return Action::lint(alloc, &lint_line_of(matches));
     }
     if name == "diff" {
-        return Ok(Action::Diff {
-            before: count_of(matches, "before"),
-        });
+        return Action::diff(&diff_line_of(matches));
     }
     Action::can_i(alloc, &line_of(matches))
 }
@@ -255,7 +277,7 @@ fn meaning_of(alloc: Global, matches: &ArgMatches<'_>) -> Result<Command, Questi
 
 /// The command that the words mean; the first word is the program's name.
 ///
-/// U1 if `clap` refuses the words, or help or the version is asked for, then U2 to U6.
+/// U1 if `clap` refuses the words, or help or the version is asked for, then U2 to U7.
 pub fn command_of(alloc: Global, words: &[String]) -> Result<Command, UsageFault>
     ensures { IsAnswer (map string_bytes words.now) result }
 {

@@ -2,7 +2,8 @@ use Rattle.std.specs.Prelude.{List, ℕ, codes}
 use Rattle.rbac_question.specs.declared.fault.QuestionFault.{QuestionFault}
 use Rattle.rbac_question.specs.declared.fault.QuestionFault.TheVariants.{EmptyWord, UrlSubresource}
 use Rattle.rbac_question.specs.declared.fault.QuestionFault.TheVariants.{BadToken, BadPrincipal}
-use Rattle.rbac_question.specs.declared.fault.QuestionFault.TheVariants.{BadCode, NoMemory}
+use Rattle.rbac_question.specs.declared.fault.QuestionFault.TheVariants.{BadCode, BadChange}
+use Rattle.rbac_question.specs.declared.fault.QuestionFault.TheVariants.{NoMemory}
 use Rattle.rbac_token.specs.declared.fault.TokenFault.{TokenFault}
 use Rattle.rbac_token.specs.declared.fault.TokenFault.TheVariants as token
 
@@ -13,6 +14,7 @@ fault_text UrlSubresource = codes "U3 subresource with a URL"
 fault_text BadToken = codes "U4 bad token"
 fault_text BadPrincipal = codes "U5 bad principal"
 fault_text BadCode = codes "U6 bad code"
+fault_text BadChange = codes "U7 give either --after, or --with or --without"
 fault_text NoMemory = codes "out of memory"
 
 -- why a text is no token, as the refusal of the line that contains it

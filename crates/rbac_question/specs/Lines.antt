@@ -9,7 +9,11 @@ use Rattle.rbac_token.specs.declared.mark.Mark.{Mark}
 use Rattle.rbac_question.specs.Asked.{AsksFor, LacksType, HasUrlSubresource}
 use Rattle.rbac_question.specs.declared.command.Action.{Action}
 use Rattle.rbac_question.specs.declared.command.Action.TheVariants.{CanI, WhoCan, Matrix, Rules}
-use Rattle.rbac_question.specs.declared.command.Action.TheVariants.{Lint}
+use Rattle.rbac_question.specs.declared.command.Action.TheVariants.{Lint, Diff}
+use Rattle.rbac_question.specs.declared.command.Change.{Change}
+use Rattle.rbac_question.specs.declared.command.Change.TheVariants.{After, Over}
+use Rattle.rbac_question.specs.declared.command.HolderOptions.{HolderOptions}
+use Rattle.rbac_question.specs.declared.command.MatrixOptions.{MatrixOptions}
 use Rattle.rbac_question.specs.declared.command.Question.{Question}
 use Rattle.rbac_question.specs.declared.command.Scope.{Scope}
 use Rattle.rbac_question.specs.declared.command.Scope.TheVariants.{Everywhere, Namespace}
@@ -17,7 +21,9 @@ use Rattle.rbac_question.specs.declared.command.Scope.TheVariants.{ClusterWide}
 use Rattle.rbac_question.specs.declared.fault.QuestionFault.{QuestionFault}
 use Rattle.rbac_question.specs.declared.fault.QuestionFault.TheVariants.{EmptyWord, UrlSubresource}
 use Rattle.rbac_question.specs.declared.fault.QuestionFault.TheVariants.{BadToken, BadPrincipal}
-use Rattle.rbac_question.specs.declared.fault.QuestionFault.TheVariants.{BadCode, NoMemory}
+use Rattle.rbac_question.specs.declared.fault.QuestionFault.TheVariants.{BadCode, BadChange}
+use Rattle.rbac_question.specs.declared.fault.QuestionFault.TheVariants.{NoMemory}
+use Rattle.rbac_question.specs.declared.line.DiffLine.{DiffLine}
 
 -- the parts of a line that ask a question; the text of an option that isn't given is empty
 pub record QuestionParts : Type 0 where
@@ -39,10 +45,7 @@ pub record CanIParts : Type 0 where
 
 -- the parts of a `who-can` line
 pub record WhoCanParts : Type 0 where
-  pub why : Bool
-  pub every : Bool
-  pub anywhere : Bool
-  pub any_name : Bool
+  pub options : HolderOptions
   pub question : QuestionParts
 
 -- the parts of a `rules` line; the text of an option that isn't given is empty, and there is a text
@@ -54,9 +57,9 @@ pub record RulesParts : Type 0 where
   pub namespace : Text
   pub all_namespaces : Bool
 
--- the parts of a `matrix` line: `--every`, the token of `--after` and the number of `--limit`
+-- the parts of a `matrix` line: its flags, the token of `--after` and the number of `--limit`
 pub record MatrixParts : Type 0 where
-  pub every : Bool
+  pub options : MatrixOptions
   pub after : Option Text
   pub limit : Option ℕ
 
@@ -110,17 +113,14 @@ MeansCanI l (CanI principal quiet why question) =
 MeansCanI l action = ⊥
 
 -- `-A` wins over `--anywhere` too (own)
-abbrev pub anywhere_meant : Bool → Bool → Bool
-anywhere_meant true given = false
-anywhere_meant false given = given
+abbrev pub options_meant : Bool → HolderOptions → HolderOptions
+options_meant true given = record given { anywhere = false }
+options_meant false given = given
 
--- what a `who-can` line means: it asks who is allowed what the question asks, with `--anywhere` in
--- any namespace, with `--any-name` by rules of whatever object names, and with `--every` by each
--- binding
+-- what a `who-can` line means: it asks who is allowed what the question asks, with these options
 abbrev pub MeansWhoCan : WhoCanParts → Action → Type 0
-MeansWhoCan l (WhoCan why every anywhere any_name question) = (why ≡ l.why) × (every ≡ l.every)
-    × (anywhere ≡ anywhere_meant l.question.all_namespaces l.anywhere)
-    × (any_name ≡ l.any_name) × IsQuestion l.question question
+MeansWhoCan l (WhoCan options question) =
+    (options ≡ options_meant l.question.all_namespaces l.options) × IsQuestion l.question question
 MeansWhoCan l action = ⊥
 
 -- WHO names the principal: `u:` and a user's name, who is given the groups of `--groups` and
@@ -151,10 +151,10 @@ IsAfter (Some token) None = ⊥
 IsAfter (Some token) (Some m) = IsTokenOfMark token m
 
 -- what a `matrix` line means: it lists what comes after the token's mark, at most as many rows as
--- the limit says, and with `--every` every binding that grants
+-- the limit says, with these options
 abbrev pub MeansMatrix : MatrixParts → Action → Type 0
-MeansMatrix l (Matrix every after limit) =
-    (every ≡ l.every) × IsAfter l.after after × (limit ≡ l.limit)
+MeansMatrix l (Matrix options after limit) =
+    (options ≡ l.options) × IsAfter l.after after × (limit ≡ l.limit)
 MeansMatrix l action = ⊥
 
 -- the codes of findings are numbered 1 to 7 (own)
@@ -186,6 +186,18 @@ MeansLint l (Lint only skip_system) = IsOnly l.only (option_map vec_items only)
     × (skip_system ≡ l.skip_system)
 MeansLint l action = ⊥
 
+-- what the files that aren't those of `--before` tell: `--after` stands alone, and so does either or
+-- both of `--without` and `--with` (own)
+abbrev pub IsChange : DiffLine → Change → Type 0
+IsChange l After = (0 < l.after_files) × (l.without_files ≡ 0) × (l.with_files ≡ 0)
+IsChange l (Over without) = (l.after_files ≡ 0) × (0 < l.without_files + l.with_files)
+    × (without ≡ l.without_files)
+
+-- what a `diff` line means: it compares the files of `--before` with what is after this change
+abbrev pub MeansDiff : DiffLine → Action → Type 0
+MeansDiff l (Diff before change) = (before ≡ l.before_files) × IsChange l change
+MeansDiff l action = ⊥
+
 -- U2 of a question: VERB or TARGET is empty, or the type word has nothing before its dot (own)
 abbrev pub LacksWord : QuestionParts → Type 0
 LacksWord l = (l.verb ≡ []) ⊎ LacksType l.target
@@ -201,6 +213,7 @@ RefusesQuestion l UrlSubresource = (¬ LacksWord l) × HasUrlSubresource l.targe
 RefusesQuestion l BadToken = ⊥
 RefusesQuestion l BadPrincipal = ⊥
 RefusesQuestion l BadCode = ⊥
+RefusesQuestion l BadChange = ⊥
 RefusesQuestion l NoMemory = Unit {0}
 
 -- a `can-i` line without U2 and U3; here an empty USER is U2 too (own)
@@ -214,6 +227,7 @@ RefusesCanI l UrlSubresource = (l.user ≢ []) × RefusesQuestion l.question Url
 RefusesCanI l BadToken = ⊥
 RefusesCanI l BadPrincipal = ⊥
 RefusesCanI l BadCode = ⊥
+RefusesCanI l BadChange = ⊥
 RefusesCanI l NoMemory = Unit {0}
 
 -- U4: a text is given that isn't the token of any mark, with or without `--every` (own)
@@ -228,6 +242,7 @@ RefusesMatrix l UrlSubresource = ⊥
 RefusesMatrix l BadToken = HasBadToken l.after
 RefusesMatrix l BadPrincipal = ⊥
 RefusesMatrix l BadCode = ⊥
+RefusesMatrix l BadChange = ⊥
 RefusesMatrix l NoMemory = Unit {0}
 
 -- U5: WHO, `--groups` and `--group` name no principal (own)
@@ -241,6 +256,7 @@ RefusesRules l UrlSubresource = ⊥
 RefusesRules l BadToken = ⊥
 RefusesRules l BadPrincipal = HasBadPrincipal l
 RefusesRules l BadCode = ⊥
+RefusesRules l BadChange = ⊥
 RefusesRules l NoMemory = Unit {0}
 
 -- U6: a text is given of which a part between commas isn't the word of a code; an empty text has one
@@ -256,4 +272,14 @@ RefusesLint l UrlSubresource = ⊥
 RefusesLint l BadToken = ⊥
 RefusesLint l BadPrincipal = ⊥
 RefusesLint l BadCode = HasBadCode l.only
+RefusesLint l BadChange = ⊥
 RefusesLint l NoMemory = Unit {0}
+
+-- U7: the files tell of no change, or of more than one (own)
+abbrev pub HasBadChange : DiffLine → Type 0
+HasBadChange l = (change : Change) → ¬ IsChange l change
+
+-- the refusal of a `diff` line, which allocates nothing
+abbrev pub RefusesDiff : DiffLine → QuestionFault → Type 0
+RefusesDiff l BadChange = HasBadChange l
+RefusesDiff l e = ⊥

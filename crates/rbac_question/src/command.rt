@@ -29,6 +29,40 @@ pub enum Scope {
     ClusterWide,
 }
 
+/// Which holders `who-can` lists, and what of each.
+#[derive(Drop, Clone, Copy)]
+pub struct HolderOptions {
+    /// Whether each line goes on with why: the role, its source, the rule and the subject.
+    pub why: bool,
+    /// Whether a holder has a line for each binding that makes it one, and not only the first.
+    pub every: bool,
+    /// Whether the bindings of all namespaces count, and not only those of the question's; with `-A`
+    /// it means nothing, so an action never has both.
+    pub anywhere: bool,
+    /// Whether a rule counts whatever its object names, so that the name in the question isn't looked
+    /// at. With a URL it changes nothing.
+    pub any_name: bool,
+}
+
+/// Which rows `matrix` lists.
+#[derive(Drop, Clone, Copy)]
+pub struct MatrixOptions {
+    /// Whether each binding that grants has a row of its own, and not only the first.
+    pub every: bool,
+    /// Whether rows that have a namespace and a ClusterRoleBinding are left out.
+    pub once: bool,
+}
+
+/// What the files of a `diff` that aren't those of `--before` say of the time after the change.
+#[derive(Drop, Clone, Copy)]
+pub enum Change {
+    /// All that there is then: they are those of `--after`.
+    After,
+    /// What becomes of the files before: this many, those of `--without`, name objects that are taken
+    /// away, and then the others, those of `--with`, are put over what is left.
+    Over(usize),
+}
+
 /// What to do.
 #[derive(Drop)]
 pub enum Action {
@@ -45,16 +79,8 @@ pub enum Action {
     },
     /// Lists who is allowed what is asked.
     WhoCan {
-        /// Whether each line goes on with why: the role, its source, the rule and the subject.
-        why: bool,
-        /// Whether a holder has a line for each binding that makes it one, and not only the first.
-        every: bool,
-        /// Whether the bindings of all namespaces count, and not only those of the question's; never
-        /// with `-A`.
-        anywhere: bool,
-        /// Whether a rule counts whatever its object names, so that the name in `question` isn't
-        /// looked at. With a URL it changes nothing.
-        any_name: bool,
+        /// Which holders count, and what is said of each.
+        options: HolderOptions,
         /// What is asked.
         question: Question,
     },
@@ -68,14 +94,16 @@ pub enum Action {
     },
     /// Lists everything that anyone may do.
     Matrix {
-        /// Whether each binding that grants has a row of its own, and not only the first.
-        every: bool,
-        /// The mark of `--after`: only what comes after it is listed. Without `every`, what comes
+        /// Which rows are listed.
+        options: MatrixOptions,
+        /// The mark of `--after`: only what comes after it is listed. Without `--every`, what comes
         /// after its key.
         after: Option<Mark>,
         /// The most rows to list, from `--limit`.
         limit: Option<u32>,
     },
+    /// Prints the universe that a matrix of the same files is about.
+    Universe,
     /// Lists what is wrong with the roles.
     Lint {
         /// The codes whose findings are listed, by their numbers 1 to 7, in the order of `--only`; a
@@ -86,9 +114,10 @@ pub enum Action {
     },
     /// Lists what a change lets users do, and what it takes from them.
     Diff {
-        /// How many of the files tell what was before the change: the first ones. The others tell
-        /// what is after it.
+        /// How many of the files tell what was before the change: the first ones.
         before: usize,
+        /// What the others tell.
+        change: Change,
     },
 }
 

@@ -20,6 +20,8 @@ pub enum QuestionFault {
     BadPrincipal,
     /// U6: a part of what follows `--only`, between its commas, isn't one of the words L1 to L7.
     BadCode,
+    /// U7: a `diff` has neither `--after` nor `--with` or `--without`, or it has both.
+    BadChange,
     /// Out of memory.
     NoMemory,
 }
@@ -72,6 +74,7 @@ impl fmt::Display for QuestionFault {
             QuestionFault::BadToken => "U4 bad token",
             QuestionFault::BadPrincipal => "U5 bad principal",
             QuestionFault::BadCode => "U6 bad code",
+            QuestionFault::BadChange => "U7 give either --after, or --with or --without",
             QuestionFault::NoMemory => "out of memory",
         };
         f.write_str(text)

@@ -8,6 +8,6 @@ mod fault;
 mod line;
 
 pub use asked::{Asked, AskedFor};
-pub use command::{Action, Command, Question, Scope};
+pub use command::{Action, Change, Command, HolderOptions, MatrixOptions, Question, Scope};
 pub use fault::QuestionFault;
-pub use line::{CanILine, LintLine, MatrixLine, QuestionLine, RulesLine, WhoCanLine};
+pub use line::{CanILine, DiffLine, LintLine, MatrixLine, QuestionLine, RulesLine, WhoCanLine};

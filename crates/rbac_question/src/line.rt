@@ -6,7 +6,7 @@ ghost use Rattle.rbac_terms.specs.Text.{Text};
 ghost use Rattle.rbac_terms.specs.Principals.{AsUser, AsMember};
 ghost use Rattle.rbac_token.specs.Marks.{IsTokenOfMark};
 ghost use Rattle.rbac_question.specs.Lines.{groups_given, is_not_empty, names_in};
-ghost use Rattle.rbac_question.specs.Lines.{namespace_meant};
+ghost use Rattle.rbac_question.specs.Lines.{namespace_meant, options_meant};
 ghost use Rattle.rbac_question.specs.Lines.{IsQuestion, MeansCanI};
 ghost use Rattle.rbac_question.specs.Lines.{MeansWhoCan, MeansMatrix, LacksWord, AcceptsQuestion};
 ghost use Rattle.rbac_question.specs.Lines.{RefusesQuestion, AcceptsCanI, RefusesCanI};
@@ -14,10 +14,10 @@ ghost use Rattle.rbac_question.specs.Lines.{RefusesMatrix, HasBadToken, MeansRul
 ghost use Rattle.rbac_question.specs.Lines.{RefusesRules, HasBadPrincipal, NamesPrincipal};
 ghost use Rattle.rbac_question.specs.Lines.{scope_meant, parts_between, comma, IsCode, code_word};
 ghost use Rattle.rbac_question.specs.Lines.{IsCodeWord, AreCodesIn, HasBadCode, MeansLint};
-ghost use Rattle.rbac_question.specs.Lines.{RefusesLint};
+ghost use Rattle.rbac_question.specs.Lines.{RefusesLint, MeansDiff, RefusesDiff};
 
 use crate::asked::{Asked, check_target};
-use crate::command::{Action, Question, Scope};
+use crate::command::{Action, Change, HolderOptions, MatrixOptions, Question, Scope};
 use crate::fault::QuestionFault;
 use rbac_terms::{ModelFault, Principal, Word, Words};
 use rbac_token::{Mark, mark_of_token};
@@ -94,14 +94,8 @@ impl<'m, 'a> Model for CanILine<'m, 'a> {
 /// The parts of a `who-can` line.
 #[derive(Drop)]
 pub struct WhoCanLine<'a> {
-    /// Whether `--why` is given.
-    pub why: bool,
-    /// Whether `--every` is given.
-    pub every: bool,
-    /// Whether `--anywhere` is given.
-    pub anywhere: bool,
-    /// Whether `--any-name` is given.
-    pub any_name: bool,
+    /// Which of the options with these names are given.
+    pub options: HolderOptions,
     /// The parts that ask the question.
     pub question: QuestionLine<'a>,
 }
@@ -112,10 +106,7 @@ impl<'a> Model for WhoCanLine<'a> {
     ghost Value = { WhoCanParts };
 
     ghost view = { λ l. record {
-      why = l.why;
-      every = l.every;
-      anywhere = l.anywhere;
-      any_name = l.any_name;
+      options = l.options;
       question = l.question;
     } };
 }
@@ -156,8 +147,8 @@ impl<'m, 'a> Model for RulesLine<'m, 'a> {
 /// The parts of a `matrix` line.
 #[derive(Drop)]
 pub struct MatrixLine<'a> {
-    /// Whether `--every` is given.
-    pub every: bool,
+    /// Which of the options with these names are given.
+    pub options: MatrixOptions,
     /// The token after `--after`.
     pub after: Option<&'a str>,
     /// The number after `--limit`.
@@ -171,7 +162,7 @@ impl<'a> Model for MatrixLine<'a> {
     ghost Value = { MatrixParts };
 
     ghost view = { λ l. record {
-      every = l.every;
+      options = l.options;
       after = option_map (λ t. t.now) l.after;
       limit = l.limit;
     } };
@@ -196,6 +187,19 @@ impl<'a> Model for LintLine<'a> {
       only = option_map (λ t. t.now) l.only;
       skip_system = l.skip_system;
     } };
+}
+
+/// The parts of a `diff` line: how many files each of its options gives.
+#[derive(Drop, Clone, Copy)]
+pub struct DiffLine {
+    /// Those of `--before`.
+    pub before_files: usize,
+    /// Those of `--after`.
+    pub after_files: usize,
+    /// Those of `--without`.
+    pub without_files: usize,
+    /// Those of `--with`.
+    pub with_files: usize,
 }
 
 // The mark of a user's key.
@@ -476,6 +480,16 @@ fn question_of(alloc: Global, line: &QuestionLine<'_>) -> Result<Question, Alloc
     })
 }
 
+// The options of `who-can` that are meant: `-A` wins over `--anywhere` too (own).
+fn options_from(all: bool, given: HolderOptions) -> HolderOptions
+    ensures { result ≡ options_meant all given }
+{
+    HolderOptions {
+        anywhere: given.anywhere && !all,
+        ..given
+    }
+}
+
 // What a `can-i` line means that isn't refused.
 fn can_i_from(alloc: Global, line: &CanILine<'_, '_>) -> Result<Action, QuestionFault>
     requires { AcceptsCanI line.now }
@@ -523,14 +537,8 @@ impl Action {
             → result ≡ Err QuestionFault.UrlSubresource }
     {
         check_question(&line.question)?;
-        let every = line.every;
-        // `-A` wins (own).
-        let anywhere = line.anywhere && !line.question.all_namespaces;
         Ok(Action::WhoCan {
-            why: line.why,
-            every,
-            anywhere,
-            any_name: line.any_name,
+            options: options_from(line.question.all_namespaces, line.options),
             question: question_of(alloc, &line.question)?,
         })
     }
@@ -561,7 +569,7 @@ impl Action {
             None => None,
         };
         Ok(Action::Matrix {
-            every: line.every,
+            options: line.options,
             after,
             limit: line.limit,
         })
@@ -582,6 +590,25 @@ impl Action {
         Ok(Action::Lint {
             only,
             skip_system: line.skip_system,
+        })
+    }
+
+    /// What a `diff` line means.
+    ///
+    /// U7 if it has neither `--after` nor `--with` or `--without`, or if it has `--after` and one of
+    /// these.
+    pub fn diff(line: &DiffLine) -> Result<Self, QuestionFault>
+        ensures { MatchResult result (MeansDiff line.now) (RefusesDiff line.now) }
+    {
+        let is_over = line.without_files > 0 || line.with_files > 0;
+        let change = match (line.after_files > 0, is_over) {
+            (true, false) => Change::After,
+            (false, true) => Change::Over(line.without_files),
+            _ => return Err(QuestionFault::BadChange),
+        };
+        Ok(Action::Diff {
+            before: line.before_files,
+            change,
         })
     }
 }

@@ -2,13 +2,13 @@ use Rattle.std.proofs.Common.{◌∙◌, sym}
 use Rattle.std.specs.Prelude.{codes}
 use Rattle.std.proofs.lemmas.Slice.Eq.{bytes_eq-Decides}
 use Rattle.clap.specs.Words.{found_of, rows_of}
-use Rattle.rbac_command.proofs.Actions.{the_other, can_i_line, lint_line, matrix_line, rules_line, who_can_line}
+use Rattle.rbac_command.proofs.Actions.{the_other, can_i_line, diff_line, lint_line, matrix_line, rules_line, who_can_line}
 use Rattle.rbac_command.proofs.read.action_of.Goals as goal
 
 pub returns-then-eq : goal.returns-then-eq
 returns-then-eq c =
     matrix_line c.args.name.now (rows_of (found_of c.args.matches.now)) _ c.matrix.result
-    ((bytes_eq-Decides c.args.name.now (codes "matrix")).0 (sym c.eq.ensures ∙ c.if-eq.true)) c.matrix_line_of.ensures.every
+    ((bytes_eq-Decides c.args.name.now (codes "matrix")).0 (sym c.eq.ensures ∙ c.if-eq.true)) c.matrix_line_of.ensures.options
     c.matrix_line_of.ensures.after c.matrix_line_of.ensures.limit c.matrix.ensures
 
 pub returns-then-eq-2 : goal.returns-then-eq-2
@@ -22,13 +22,21 @@ returns-then-eq-3 c =
     ((bytes_eq-Decides c.args.name.now (codes "rules")).0 (sym c.eq-3.ensures ∙ c.if-eq-3.true)) c.rules_line_of.ensures c.rules.ensures.answer
 
 pub returns-then-eq-4 : goal.returns-then-eq-4
-returns-then-eq-4 c =
+returns-then-eq-4 c = (bytes_eq-Decides c.args.name.now (codes "universe")).0 (sym c.eq-4.ensures ∙ c.if-eq-4.true)
+
+pub returns-then-eq-5 : goal.returns-then-eq-5
+returns-then-eq-5 c =
     lint_line c.args.name.now (rows_of (found_of c.args.matches.now)) _ c.lint.result
-    ((bytes_eq-Decides c.args.name.now (codes "lint")).0 (sym c.eq-4.ensures ∙ c.if-eq-4.true)) c.lint_line_of.ensures c.lint.ensures.answer
+    ((bytes_eq-Decides c.args.name.now (codes "lint")).0 (sym c.eq-5.ensures ∙ c.if-eq-5.true)) c.lint_line_of.ensures c.lint.ensures.answer
+
+pub returns-then-eq-6 : goal.returns-then-eq-6
+returns-then-eq-6 c =
+    diff_line c.args.name.now (rows_of (found_of c.args.matches.now)) _ c.diff.result
+    ((bytes_eq-Decides c.args.name.now (codes "diff")).0 (sym c.eq-6.ensures ∙ c.if-eq-6.true)) c.diff_line_of.ensures c.diff.ensures
 
 pub returns : goal.returns
 returns c =
     can_i_line c.args.name.now (rows_of (found_of c.args.matches.now)) _ c.can_i.result
-    (the_other c.args.name.now c.eq.result c.eq-2.result c.eq-3.result c.eq-4.result c.eq-5.result c.requires c.eq.ensures c.if-eq.false c.eq-2.ensures c.if-eq-2.false
-    c.eq-3.ensures c.if-eq-3.false c.eq-4.ensures c.if-eq-4.false c.eq-5.ensures c.if-eq-5.false)
+    (the_other c.args.name.now c.eq.result c.eq-2.result c.eq-3.result c.eq-4.result c.eq-5.result c.eq-6.result c.requires c.eq.ensures c.if-eq.false
+    c.eq-2.ensures c.if-eq-2.false c.eq-3.ensures c.if-eq-3.false c.eq-4.ensures c.if-eq-4.false c.eq-5.ensures c.if-eq-5.false c.eq-6.ensures c.if-eq-6.false)
     c.line_of.ensures c.can_i.ensures.answer
