@@ -53,7 +53,7 @@ file_within k n (x ∷ xs) f le e = elim (none_or (file_refusal x)) [
 -- so its number among all inputs is below theirs
 pub fault_within : (inputs : List (List ℕ)) (f : LoadFault) → HasFault inputs f → IfSome f.at (λ at. at.file < length inputs)
 fault_within inputs f (inl h) = file_within 0 (length inputs) inputs f (omega arith) h
-fault_within inputs f (inr (none, e, kept)) = subst (IsWithin (length inputs)) (sym e) tt
+fault_within inputs f (inr (none, (e, kept))) = subst (IsWithin (length inputs)) (sym e) tt
 
 -- ---- a fault of those after a change
 

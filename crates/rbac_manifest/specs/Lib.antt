@@ -1,5 +1,6 @@
 pub mod ApiList
 pub mod Binding
+pub mod Changed
 pub mod Document
 pub mod FaultTexts
 pub mod Fields

@@ -16,6 +16,7 @@ use Rattle.rbac_manifest.specs.Contents.{documents_in}
 use Rattle.rbac_catalogue.specs.Catalogue.{CatalogueView}
 use Rattle.rbac_universe.specs.declared.lists.UniverseLists.{UniverseLists}
 use Rattle.rbac_lists.specs.Meant.{lists_meant}
+use Rattle.rbac_model.specs.declared.objects.Object.{Object}
 use Rattle.rbac_model.specs.Kept.{AreKept}
 use Rattle.rbac_model.specs.Policies.{Held, PolicyView, IsPolicy, HasTooMany, most_grants}
 use Rattle.rbac_manifest.specs.Names.{names_given}
@@ -173,10 +174,14 @@ pub record IsLoaded (inputs : List (List ℕ)) (l : LoadedView) : Type 0 where
 abbrev pub too_many : LoadFault
 too_many = record { at = None; cause = TooMany }
 
+-- the fault is that what is kept of these objects gives too many grants
+abbrev pub HasTooManyGrants : List Object → LoadFault → Type 0
+HasTooManyGrants objects f = (f ≡ too_many)
+    × ((held : Held) × AreKept objects held × HasTooMany held)
+
 -- the fault is that of the first document that has one, or, if none has, that what is kept gives
 -- too many grants
 abbrev pub HasFault : List (List ℕ) → LoadFault → Type 0
 HasFault inputs f =
     (document_fault inputs ≡ Some f)
-    ⊎ ((document_fault inputs ≡ None) × (f ≡ too_many)
-    × ((held : Held) × AreKept (objects_in (all_contents inputs)) held × HasTooMany held))
+    ⊎ ((document_fault inputs ≡ None) × HasTooManyGrants (objects_in (all_contents inputs)) f)

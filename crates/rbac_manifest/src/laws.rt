@@ -7,7 +7,10 @@ ghost use Rattle.rbac_manifest.specs.Document.{fault, stands};
 ghost use Rattle.rbac_manifest.specs.Part.{read_of};
 ghost use Rattle.rbac_manifest.specs.declared.kind.Implied.{Implied};
 ghost use Rattle.rbac_manifest.specs.declared.fault.LoadFault.{LoadFault};
-ghost use Rattle.rbac_manifest.specs.Load.{LoadedView, IsLoaded, HasFault};
+ghost use Rattle.rbac_manifest.specs.Load.{LoadedView, IsLoaded, HasFault, HasTooManyGrants};
+ghost use Rattle.rbac_manifest.specs.Changed.{IsResolved};
+ghost use Rattle.rbac_model.specs.Policies.{PolicyView};
+ghost use Rattle.rbac_model.specs.declared.objects.Object.{Object};
 
 use rbac_model::{grants_are_one_list, kept_objects_are_one};
 
@@ -37,6 +40,26 @@ pub fn load_faults_are_one()
     ensures { (inputs : List (List ℕ)) (f g : LoadFault) → HasFault inputs f → HasFault inputs g
         → f ≡ g }
 {}
+
+/// Objects determine their policy, so everyone who has the same objects answers over the same one
+/// (own).
+pub fn resolved_policies_are_one()
+    ensures { (objects : List Object) (p q : PolicyView) → IsResolved objects p
+        → IsResolved objects q → p ≡ q }
+{
+    kept_objects_are_one();
+    grants_are_one_list();
+}
+
+/// Objects that have a policy don't have too many grants. So the objects alone decide whether
+/// `load_policy` accepts them, unless it runs out of memory (own).
+pub fn resolved_policies_have_no_fault()
+    ensures { (objects : List Object) (p : PolicyView) (f : LoadFault) → IsResolved objects p
+        → HasTooManyGrants objects f → ⊥ }
+{
+    kept_objects_are_one();
+    grants_are_one_list();
+}
 
 /// The members of a document that aren't read say nothing: without them the document has the same
 /// fault, and gives the same (own).

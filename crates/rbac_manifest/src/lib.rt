@@ -30,10 +30,10 @@ mod whole;
 pub use fault::{At, Cause, LoadFault};
 pub use laws::{
     load_faults_are_one, loaded_inputs_are_one, loaded_inputs_have_no_fault,
-    unread_members_say_nothing,
+    resolved_policies_are_one, resolved_policies_have_no_fault, unread_members_say_nothing,
 };
 pub use loaded::{Loaded, load};
-pub use loading::{Export, load_export};
+pub use loading::{Export, load_export, load_objects, load_policy};
 pub use rbac_catalogue::{Catalogue, Found};
 pub use rbac_streams::Input;
 pub use rbac_universe::{

@@ -1,6 +1,6 @@
 //! Reads inputs into what they give and the policy that follows from it.
 
-ghost use Rattle.std.specs.Prelude.{◌≡◌, ◌≢◌, ◌≤◌, length, OnOk, IfOk, IfErr, IsTrue, None, Some};
+ghost use Rattle.std.specs.Prelude.{◌≡◌, ◌≢◌, OnOk, IfOk, IfErr, IsTrue, None, Some};
 ghost use Rattle.std.specs.Prelude.{false, if◌then◌else◌};
 ghost use Rattle.std.specs.Str.{IsUtf8};
 ghost use Rattle.json_list.specs.List.{IsList};
@@ -8,13 +8,12 @@ ghost use Rattle.serde_json.specs.View.{view};
 ghost use Rattle.rbac_manifest.specs.declared.fault.Cause.TheVariants.{NotJson, NoMemory};
 ghost use Rattle.rbac_manifest.specs.Load.{json_in, in_file, file_refusal, contents_of_file};
 ghost use Rattle.rbac_manifest.specs.Load.{document_fault, all_contents, too_many, IsLoaded};
-ghost use Rattle.rbac_manifest.specs.Load.{HasFault};
-ghost use Rattle.rbac_manifest.specs.Contents.{sorted_contents, with_contents};
+ghost use Rattle.rbac_manifest.specs.Load.{HasFault, HasTooManyGrants};
+ghost use Rattle.rbac_manifest.specs.Contents.{sorted_contents, with_contents, objects_in};
+ghost use Rattle.rbac_manifest.specs.Changed.{IsResolved};
 ghost use Rattle.rbac_manifest.specs.Names.{names_given};
 ghost use Rattle.rbac_manifest.specs.Replaced.{AreReplaced, replaced_name};
 ghost use Rattle.rbac_model.specs.Lists.{IsAscendingBy};
-ghost use Rattle.rbac_model.specs.Kept.{AreKept};
-ghost use Rattle.rbac_model.specs.Policies.{Held, IsPolicy, HasTooMany, most_grants};
 
 use crate::at_once::{Halt, list_at_once};
 use crate::contents::Contents;
@@ -247,14 +246,14 @@ fn replaced_among(
     }
 }
 
-// The policy of these objects, keeping only the last one of each kind, namespace and name.
-fn policy_of(alloc: Global, objects: Vec<Object>) -> Result<Policy, LoadFault>
-    ensures kept { IfOk result (λ p. AreKept objects.items p.held) }
-    ensures policy { IfOk result (λ p. IsPolicy p) }
-    ensures few { IfOk result (λ p. length p.grants ≤ most_grants) }
-    ensures many { IfErr result
-        (λ e. e.cause ≢ NoMemory
-        → (e ≡ too_many) × ((held : Held) × AreKept objects.items held × HasTooMany held)) }
+/// The policy of these objects, keeping only the last one of each kind, namespace and name (own).
+///
+/// # Errors
+///
+/// M11 if there are over 1,000,000 grants. M12 if it runs out of memory.
+pub fn load_policy(alloc: Global, objects: Vec<Object>) -> Result<Policy, LoadFault>
+    ensures ok { IfOk result (IsResolved objects.items) }
+    ensures fault { IfErr result (λ e. e.cause ≢ NoMemory → HasTooManyGrants objects.items e) }
     ensures memory { IfErr result (λ e. e.cause ≡ NoMemory → e.at ≡ None) }
 {
     let Ok(held) = Objects::from_given(alloc, objects) else {
@@ -278,6 +277,23 @@ fn unresolved(fault: ResolveFault) -> LoadFault
     }
 }
 
+/// Reads inputs as [`load`](crate::load) does, into the objects that they give, in order, with
+/// those that later ones replace.
+///
+/// # Errors
+///
+/// Those of `load`, but M11: no policy is made.
+#[tactic(auto, unfolding(crate::specs::Contents::sorted_contents))]
+pub fn load_objects(alloc: Global, inputs: &[Input]) -> Result<Vec<Object>, LoadFault>
+    ensures ok { IfOk result (λ v. (document_fault inputs.now ≡ None)
+        × (v.items ≡ objects_in (all_contents inputs.now))) }
+    ensures fault { IfErr result (λ e. e.cause ≢ NoMemory → document_fault inputs.now ≡ Some e) }
+    ensures memory { IfErr result (λ e. e.cause ≡ NoMemory → e.at ≡ None) }
+{
+    let contents = contents_of(alloc, inputs)?;
+    Ok(contents.objects)
+}
+
 /// Reads inputs as [`load`](crate::load) does, with the same errors, but doesn't derive the lists
 /// of a universe.
 pub fn load_export(alloc: Global, inputs: &[Input]) -> Result<Export, LoadFault>
@@ -298,7 +314,7 @@ pub fn load_export(alloc: Global, inputs: &[Input]) -> Result<Export, LoadFault>
         namespaces.as_slice(),
         accounts.as_slice(),
     )?;
-    let policy = policy_of(alloc, objects)?;
+    let policy = load_policy(alloc, objects)?;
     Ok(Export {
         policy,
         catalogue,

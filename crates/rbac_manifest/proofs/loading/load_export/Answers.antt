@@ -16,7 +16,7 @@ returns-in_err-policy-clause-fault c =
     let g : ContentsView = record { objects = i.objects.items; namespaces = i.namespaces.items; accounts = i.accounts.items; catalogue = i.catalogue; documents = i.documents.items } in
     let e : g ≡ sorted_contents (all_contents c.args.inputs.now) = c.objects.view_is ∙ c.in_ok-objects.ensures.contents in
     let f = c.in_err-policy.field-0.0 in
-    let told : f.cause ≢ NoMemory → HasFault c.args.inputs.now f = λ h. refused c.args.inputs.now g e c.in_ok-objects.ensures.sound f (c.in_err-policy.ensures.many h) in
+    let told : f.cause ≢ NoMemory → HasFault c.args.inputs.now f = λ h. refused c.args.inputs.now g e c.in_ok-objects.ensures.sound f (c.in_err-policy.ensures.fault h) in
     search (rules, told)
 
 pub returns-clause-ok : goal.returns-clause-ok
@@ -30,4 +30,4 @@ returns-clause-ok c =
     ∙ ap (λ (accounts : List Account). names_given i.objects.items i.namespaces.items accounts) c.as_slice-3.ensures.value in
     let P : List (List Text) → Type 0 = λ ns. AreReplaced ns rs in
     let several : AreReplaced (names_given i.objects.items i.namespaces.items i.accounts.items) rs = subst P names c.in_ok-replaced.ensures.replaced in
-    loaded c.args.inputs.now g c.in_ok-policy.policy c.in_ok-replaced.replaced.items e c.in_ok-objects.ensures.sound c.in_ok-policy.ensures.kept c.in_ok-policy.ensures.policy c.in_ok-policy.ensures.few several
+    loaded c.args.inputs.now g c.in_ok-policy.policy c.in_ok-replaced.replaced.items e c.in_ok-objects.ensures.sound c.in_ok-policy.ensures.ok several
