@@ -4,6 +4,7 @@ pub mod Elements
 pub mod Conditions
 pub mod ContentsLemmas
 pub mod GroupVersions
+pub mod Halved
 pub mod ItemsAhead
 pub mod Json
 pub mod Members
@@ -11,5 +12,6 @@ pub mod OneLoad
 pub mod Outcomes
 pub mod Texts
 pub mod Replacing
+pub mod Unnamed
 pub mod Unread
 pub mod AtOnce

@@ -1,10 +1,21 @@
--- The policy of objects.
-use Rattle.std.specs.Prelude.{◌≡◌, ◌≤◌, ℕ, List, length, None}
+-- What a change makes of objects, and the policy of objects.
+use Rattle.std.specs.Prelude.{◌≡◌, ◌≤◌, ℕ, Bool, not, List, ◌++◌, length, map, None}
+use Rattle.std.specs.List.{filter}
 use Rattle.rbac_model.specs.declared.objects.Object.{Object}
 use Rattle.rbac_model.specs.Kept.{AreKept}
 use Rattle.rbac_model.specs.Policies.{PolicyView, IsPolicy, most_grants}
 use Rattle.rbac_manifest.specs.Contents.{objects_in}
 use Rattle.rbac_manifest.specs.Load.{document_fault, all_contents}
+use Rattle.rbac_manifest.specs.Names.{object_name, has_name}
+
+-- whether one of these objects has the same kind, namespace and name
+abbrev pub is_named : List Object → Object → Bool
+is_named objects o = has_name (map object_name objects) (object_name o)
+
+-- the objects after a change: those of which none that it takes away has the name, and behind them
+-- those that it puts over, which replace earlier ones of their names (own)
+abbrev pub changed_objects : List Object → List Object → List Object → List Object
+changed_objects objects without over = filter (λ o. not (is_named without o)) objects ++ over
 
 -- a policy of these objects: of each kind, namespace and name the last object is kept (own), the
 -- grants follow from what is kept, and there are no more than there may be

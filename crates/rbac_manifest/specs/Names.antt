@@ -1,5 +1,7 @@
 -- The names of the objects that documents give: kind, namespace (empty if cluster-scoped) and name.
-use Rattle.std.specs.Prelude.{List, [], ◌∷◌, ◌++◌, codes, map}
+use Rattle.std.specs.Prelude.{Bool, List, [], ◌∷◌, ◌++◌, codes, map}
+use Rattle.std.specs.List.{list_any}
+use Rattle.std.specs.Ordering.{is_eq}
 use Rattle.std.specs.declared.cmp.Ordering.{Ordering}
 use Rattle.std.specs.Cmp.Lexicographic.{slice_cmp}
 use Rattle.rbac_terms.specs.Text.{Text, text_cmp}
@@ -9,16 +11,20 @@ use Rattle.rbac_model.specs.declared.objects.Object.TheVariants.{Role as ARole}
 use Rattle.rbac_model.specs.declared.objects.Object.TheVariants.{ClusterRole as AClusterRole}
 use Rattle.rbac_model.specs.declared.objects.Object.TheVariants.{Binding as ABinding}
 use Rattle.rbac_lists.specs.declared.given_lists.Account.{Account}
-use Rattle.rbac_manifest.specs.declared.replacement.ObjectKind.{ObjectKind}
-use Rattle.rbac_manifest.specs.declared.replacement.ObjectKind.TheVariants.{ClusterRole}
-use Rattle.rbac_manifest.specs.declared.replacement.ObjectKind.TheVariants.{ClusterRoleBinding}
-use Rattle.rbac_manifest.specs.declared.replacement.ObjectKind.TheVariants.{Namespace, Role}
-use Rattle.rbac_manifest.specs.declared.replacement.ObjectKind.TheVariants.{RoleBinding}
-use Rattle.rbac_manifest.specs.declared.replacement.ObjectKind.TheVariants.{ServiceAccount}
+use Rattle.rbac_manifest.specs.declared.names.ObjectKind.{ObjectKind}
+use Rattle.rbac_manifest.specs.declared.names.ObjectKind.TheVariants.{ClusterRole}
+use Rattle.rbac_manifest.specs.declared.names.ObjectKind.TheVariants.{ClusterRoleBinding}
+use Rattle.rbac_manifest.specs.declared.names.ObjectKind.TheVariants.{Namespace, Role}
+use Rattle.rbac_manifest.specs.declared.names.ObjectKind.TheVariants.{RoleBinding}
+use Rattle.rbac_manifest.specs.declared.names.ObjectKind.TheVariants.{ServiceAccount}
 
 -- the order of names: text by text, each by its bytes
 abbrev pub name_cmp : List Text → List Text → Ordering
 name_cmp = slice_cmp text_cmp
+
+-- whether one of these names is this one
+abbrev pub has_name : List (List Text) → List Text → Bool
+has_name names name = list_any (λ n. is_eq (name_cmp n name)) names
 
 -- the kind as documents give it
 abbrev pub kind_word : ObjectKind → Text

@@ -6,8 +6,10 @@
 mod api_list;
 mod at_once;
 mod binding;
+mod change;
 mod content;
 mod contents;
+mod copies;
 mod document;
 mod fault;
 mod fields;
@@ -19,6 +21,7 @@ mod listed;
 mod loaded;
 mod loading;
 mod metadata;
+mod names;
 mod part;
 mod replacement;
 mod rule;
@@ -27,6 +30,7 @@ mod subject;
 mod universe_document;
 mod whole;
 
+pub use change::changed;
 pub use fault::{At, Cause, LoadFault};
 pub use laws::{
     load_faults_are_one, loaded_inputs_are_one, loaded_inputs_have_no_fault,

@@ -2,21 +2,14 @@
 
 ghost use Rattle.std.specs.Prelude.{◌≡◌, ◌++◌, IfOk, OnOk, map};
 ghost use Rattle.std.specs.List.Sorted.{IsSorted};
-ghost use Rattle.rbac_model.specs.Policies.{binding_name};
-ghost use Rattle.rbac_terms.specs.Text.{text_cmp};
-ghost use Rattle.rbac_manifest.specs.Names.{kind_word, object_name, namespace_name, account_name};
-ghost use Rattle.rbac_manifest.specs.Names.{names_given, name_cmp};
+ghost use Rattle.rbac_manifest.specs.Names.{namespace_name, account_name, names_given, name_cmp};
 ghost use Rattle.rbac_manifest.specs.Replaced.{replaced_by, AreReplaced};
 
+use crate::names::{ObjectName, push_objects, sort_names};
 use rbac_lists::Account;
 use rbac_model::Object;
-use rbac_terms::{
-    Binding, CLUSTER_ROLE, CLUSTER_ROLE_BINDING, NAMESPACE, ROLE, ROLE_BINDING, SERVICE_ACCOUNT,
-    Word,
-};
+use rbac_terms::Word;
 use std::alloc::{AllocError, Global};
-use std::cmp::Ordering;
-use std::marker::Model;
 
 /// An object given by several documents; the last of them is kept (own).
 #[derive(Debug, Drop)]
@@ -29,124 +22,6 @@ pub struct Replaced {
     pub name: Word,
     /// How many earlier documents were replaced: at least one.
     pub earlier: usize,
-}
-
-// The kind of an object that has a name, with the variants in the order of their words.
-#[derive(Clone, Copy, PartialEq, Eq, PartialOrd, Ord, Drop)]
-enum ObjectKind {
-    ClusterRole,
-    ClusterRoleBinding,
-    Namespace,
-    Role,
-    RoleBinding,
-    ServiceAccount,
-}
-
-impl ObjectKind {
-    fn as_bytes(self) -> &'static [u8]
-        ensures { result.now ≡ kind_word self }
-    {
-        match self {
-            ObjectKind::ClusterRole => CLUSTER_ROLE.as_bytes(),
-            ObjectKind::ClusterRoleBinding => CLUSTER_ROLE_BINDING.as_bytes(),
-            ObjectKind::Namespace => NAMESPACE.as_bytes(),
-            ObjectKind::Role => ROLE.as_bytes(),
-            ObjectKind::RoleBinding => ROLE_BINDING.as_bytes(),
-            ObjectKind::ServiceAccount => SERVICE_ACCOUNT.as_bytes(),
-        }
-    }
-
-    fn cmp_word(self, other: Self) -> Ordering
-        ensures { result ≡ text_cmp (kind_word self) (kind_word other) }
-    {
-        self.cmp(&other)
-    }
-}
-
-// The kind, namespace and name of an object, borrowed from it.
-#[derive(Drop)]
-struct ObjectName<'a> {
-    kind: ObjectKind,
-    namespace: &'a [u8],
-    name: &'a [u8],
-}
-
-impl<'a> Model for ObjectName<'a> {
-    ghost use Rattle.std.specs.Prelude.{ℕ, List, ◌∷◌, []};
-    ghost use Rattle.rbac_manifest.specs.Names.{kind_word};
-
-    ghost Value = { List (List ℕ) };
-
-    ghost view = { λ n. kind_word n.kind ∷ n.namespace.now ∷ n.name.now ∷ [] };
-}
-
-const NOWHERE: &[u8] = b"";
-
-impl<'a> ObjectName<'a> {
-    fn of_object(object: &'a Object) -> Self
-        ensures { result ≡ object_name object.now }
-    {
-        match object {
-            Object::Role(role) => ObjectName {
-                kind: ObjectKind::Role,
-                namespace: role.namespace.as_bytes(),
-                name: role.name.as_bytes(),
-            },
-            Object::ClusterRole(role) => ObjectName {
-                kind: ObjectKind::ClusterRole,
-                namespace: NOWHERE,
-                name: role.name.as_bytes(),
-            },
-            Object::Binding(binding) => ObjectName::of_binding(binding),
-        }
-    }
-
-    fn of_binding(binding: &'a Binding) -> Self
-        ensures { result ≡ binding_name binding.now }
-    {
-        let name = binding.name.as_bytes();
-        match &binding.namespace {
-            Some(namespace) => ObjectName {
-                kind: ObjectKind::RoleBinding,
-                namespace: namespace.as_bytes(),
-                name,
-            },
-            None => ObjectName {
-                kind: ObjectKind::ClusterRoleBinding,
-                namespace: NOWHERE,
-                name,
-            },
-        }
-    }
-
-    fn of_namespace(namespace: &'a Word) -> Self
-        ensures { result ≡ namespace_name namespace.now }
-    {
-        ObjectName {
-            kind: ObjectKind::Namespace,
-            namespace: NOWHERE,
-            name: namespace.as_bytes(),
-        }
-    }
-
-    fn of_account(account: &'a Account) -> Self
-        ensures { result ≡ account_name account.now }
-    {
-        ObjectName {
-            kind: ObjectKind::ServiceAccount,
-            namespace: account.namespace.as_bytes(),
-            name: account.name.as_bytes(),
-        }
-    }
-
-    fn cmp_name(&self, other: &Self) -> Ordering
-        ensures { result ≡ name_cmp self.now other.now }
-    {
-        match self.kind.cmp_word(other.kind) {
-            Ordering::Equal => (self.namespace, self.name).cmp(&(other.namespace, other.name)),
-            unlike => unlike,
-        }
-    }
 }
 
 // The objects that several of these documents give, each with how many documents were replaced.
@@ -162,7 +37,7 @@ pub(crate) fn replaced_of(
         (λ v. AreReplaced (names_given objects.now namespaces.now accounts.now) v.items) }
 {
     let mut names = names_of(alloc, objects, namespaces, accounts)?;
-    names.sort_by(|a, b| a.cmp_name(b))?;
+    sort_names(&mut names)?;
     several(alloc, names.as_slice())
 }
 
@@ -180,18 +55,6 @@ fn names_of<'a>(
     push_namespaces(namespaces, &mut names)?;
     push_accounts(accounts, &mut names)?;
     Ok(names)
-}
-
-fn push_objects<'a>(
-    objects: &'a [Object],
-    names: &mut Vec<ObjectName<'a>>,
-) -> Result<(), AllocError>
-    ensures { OnOk result (names.new.items ≡ names.old.items ++ map object_name objects.now) }
-{
-    for object in objects {
-        names.push(ObjectName::of_object(object))?;
-    }
-    Ok(())
 }
 
 fn push_namespaces<'a>(

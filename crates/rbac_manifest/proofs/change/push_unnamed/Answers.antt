@@ -1,7 +1,7 @@
 use Rattle.std.proofs.Common.{arith, refl, sym}
 use Rattle.std.proofs.lemmas.Grind.{common_steps}
 use Rattle.std.proofs.lemmas.List.{append-nil, take_all}
-use Rattle.rbac_manifest.proofs.replacement.push_objects.Goals as goal
+use Rattle.rbac_manifest.proofs.change.push_unnamed.Goals as goal
 
 pub loop-object-init : goal.loop-object-init
 loop-object-init c = sym (append-nil _)
