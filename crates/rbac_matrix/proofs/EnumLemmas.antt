@@ -17,7 +17,7 @@ use Rattle.rbac_matrix.specs.declared.seat.Seat.{Seat}
 use Rattle.rbac_matrix.specs.Seats.{AreEmpty, AreReal, AreSeated, Costs, empty_seat, filled, past_all, reach_at, seat_at, stand_of}
 use Rattle.rbac_matrix.proofs.IdleLemmas.{rowless_both}
 use Rattle.rbac_matrix.proofs.RowLemmas.{rows_append}
-use Rattle.rbac_matrix.proofs.HitLemmas.{next_passes, none_passes, rowless}
+use Rattle.rbac_matrix.proofs.HitLemmas.{next_before, next_row, none_passes, rowless}
 use Rattle.rbac_matrix.proofs.PassLemmas.{no_head, passes_more, passes_none, passes_then}
 use Rattle.rbac_matrix.proofs.LineLemmas.{ends_line}
 use Rattle.rbac_matrix.proofs.LoopLemmas.{cursor_within}
@@ -146,12 +146,22 @@ module _ (p : PolicyView) (u : UniverseView) (rs : List (List ℕ)) where
         (skips_pass p.held u later.2.next to later.2.skips)),
   )
 
-  -- the next one of a line gives the next row of what is left
-  pub cell_passes : (policy : IsPolicy p) (at : Place) (from : ℕ) (to : Place) (seats : List Seat) (place number : ℕ) (f : FindsCell p u rs at from 0 to seats place number) → Passes p.held (cells_left u at from) (cells_left u to (place + 1)) (row_on p u f.line place number f.found.next.hit ∷ [])
-  cell_passes policy at from to seats place number f =
-      let way = leads_pass policy at from to f.begin f.low f.leads in
-      passes_then p.held (cells_left u at from) (cells_left u to f.begin) (cells_left u to (place + 1)) [] _ way.1
-      (line_passes p.held u to f.begin (place + 1) f.line f.others _ f.line_at (next_passes p u f.line policy f.begin f.low place number f.found.next way.0))
+  module _ (policy : IsPolicy p) (at : Place) (from : ℕ) (to : Place) (seats : List Seat) (place number : ℕ) (f : FindsCell p u rs at from 0 to seats place number) where
+    -- up to the next one of a line no row is left out
+    pub comes_passes : Passes p.held (cells_left u at from) (cells_left u to place) []
+    comes_passes =
+        let way = leads_pass policy at from to f.begin f.low f.leads in
+        passes_then p.held (cells_left u at from) (cells_left u to f.begin) (cells_left u to place) [] [] way.1
+        (line_passes p.held u to f.begin place f.line f.others [] f.line_at (next_before p u f.line policy f.begin f.low place number f.found.next way.0))
+
+    pub here_passes : Passes p.held (cells_left u to place) (cells_left u to (place + 1)) (row_on p u f.line place number f.found.next.hit ∷ [])
+    here_passes =
+        let way = leads_pass policy at from to f.begin f.low f.leads in
+        line_passes p.held u to place (place + 1) f.line f.others _ f.line_at (next_row p u f.line policy f.begin f.low place number f.found.next way.0)
+
+    -- the next one gives the next row of what is left
+    pub cell_passes : Passes p.held (cells_left u at from) (cells_left u to (place + 1)) (row_on p u f.line place number f.found.next.hit ∷ [])
+    cell_passes = passes_then p.held (cells_left u at from) (cells_left u to place) (cells_left u to (place + 1)) [] _ comes_passes here_passes
 
   -- the end of all of them
   pub all_passes : (policy : IsPolicy p) (at : Place) (from : ℕ) (to : Place) (seats : List Seat) → EndsAll p u rs at from 0 to seats → Passes p.held (cells_left u at from) [] []

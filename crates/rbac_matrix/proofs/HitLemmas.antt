@@ -95,15 +95,18 @@ module _ (p : PolicyView) (u : UniverseView) (l : LineView) (policy : IsPolicy p
     pub next_first : (q k : ℕ) → IsHit p u l q k → IsFrom q k from upto → q < place → ⊥
     next_first q k h f lt = elim (next.first q k h f) [ inl above ↦ omega arith | inr same ↦ omega (arith, same.0) ]
 
-  -- the next one gives the next row
-  pub next_passes : (from upto place number : ℕ) (next : IsNextHit p u l from upto place number) → upto ≡ 0 → Passes p.held (line_cells_from u from l) (line_cells_from u (place + 1) l) (row_on p u l place number next.hit ∷ [])
-  next_passes from upto place number next e =
-      let onward = next_onward from upto place number next in
-      let before = passes_to from place onward (let w = next_within from upto place number next in omega arith)
-      (λ q k h ge lt. next_first from upto place number next q k h (from_zero q k from upto e ge) lt) in
-      let row = hit_row place number next.hit (λ k lt h. elim (next.first place k h (from_zero place k from upto e onward)) [
-        | inl above ↦ omega arith
-        | inr same ↦ omega (arith, same.1)
-      ]) in
-      passes_then p.held (line_cells_from u from l) (line_cells_from u place l) (line_cells_from u (place + 1) l) [] _ before
-      (row_passes u l p.held place next.hit.target next.hit.grant.binding next.hit.target_at row)
+  module _ (from upto place number : ℕ) (next : IsNextHit p u l from upto place number) (zero : upto ≡ 0) where
+    -- before the next one there is no row
+    pub next_before : Passes p.held (line_cells_from u from l) (line_cells_from u place l) []
+    next_before =
+        passes_to from place (next_onward from upto place number next) (let w = next_within from upto place number next in omega arith)
+        (λ q k h ge lt. next_first from upto place number next q k h (from_zero q k from upto zero ge) lt)
+
+    -- and it gives a row
+    pub next_row : Passes p.held (line_cells_from u place l) (line_cells_from u (place + 1) l) (row_on p u l place number next.hit ∷ [])
+    next_row =
+        row_passes u l p.held place next.hit.target next.hit.grant.binding next.hit.target_at
+        (hit_row place number next.hit (λ k lt h. elim (next.first place k h (from_zero place k from upto zero (next_onward from upto place number next))) [
+          | inl above ↦ omega arith
+          | inr same ↦ omega (arith, same.1)
+        ]))

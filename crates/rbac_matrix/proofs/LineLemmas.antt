@@ -22,7 +22,7 @@ use Rattle.rbac_matrix.specs.Seats.{AreReal, AreSeated, AreSeatedAbout, ComesFir
 use Rattle.rbac_matrix.proofs.SeekLemmas.{ascends}
 use Rattle.rbac_matrix.proofs.SeatLemmas.{stands_within}
 use Rattle.rbac_matrix.proofs.LoopLemmas.{cursor_within}
-use Rattle.rbac_matrix.proofs.HitLemmas.{from_next, from_then, next_from, rowless}
+use Rattle.rbac_matrix.proofs.HitLemmas.{from_next, from_then, from_zero, next_from, rowless}
 
 -- ---- where a binding lives, for requests that fit
 
@@ -236,9 +236,36 @@ module _ (p : PolicyView) (u : UniverseView) (rs : List (List ℕ)) (l : LineVie
         ];
       }
 
+      -- they are past it for the grants that come before, if these have passed it or have no entry there
+      here_each : (low k : ℕ) → low ≤ number → IsFrom place low from upto → ComesFirst place number (seat_at seats k).place k → IsSeated (reach_at rs k) (start_at from upto k) (seat_at seats k)
+          → IsSeated (reach_at rs k) (start_at place low k) (seat_at seats k)
+      here_each low k le onward order s = record {
+        within = s.within;
+        place = s.place;
+        passed = λ j before. let h = s.passed j before in elim onward [ inl lt ↦ omega arith | inr same ↦ omega (arith, same.0, same.1) ];
+        ahead = elim (cases_lt place (seat_at seats k).place) [
+          | inl past ↦ omega arith
+          | inr near ↦ let late = order.first near least.real in omega (arith, order.least)
+        ];
+      }
+
+      pub seats_here : (low : ℕ) → low ≤ number → IsFrom place low from upto → AreSeated p l rs place low seats
+      seats_here low le onward = record {
+        count = seated.count;
+        each = λ k within. elim (seated.each k within) [
+          | inl s ↦ inl (s.0, here_each low k le onward (least.least k s.0) s.1)
+          | inr e ↦ inr e
+        ];
+      }
+
+      -- a place that isn't past the first one isn't past a later one
+      from_here : (low first last : ℕ) → ((from ≡ first) × (upto ≡ last)) ⊎ (upto ≡ 0) → IsFrom place low first last → IsFrom place low from upto
+      from_here low first last (inl same) onward = rw (same.0, same.1) onward
+      from_here low first last (inr none) onward = from_zero place low from upto none least_onward
+
       module _ (first last : ℕ) (onward : IsFrom from upto first last) (before : (q k : ℕ) → IsHit p u l q k → IsFrom q k first last → IsFrom q k from upto) (b : Bool) (flag : slice_get (map (λ (x : Listed). x.1) u.targets) place ≡ Some b) where
-        pub finds_row : (IsTrue b ⊎ (l.namespace ≡ [])) → FindsRow p u rs l first last seats place number
-        finds_row fits =
+        pub finds_row : ((from ≡ first) × (upto ≡ last)) ⊎ (upto ≡ 0) → (IsTrue b ⊎ (l.namespace ≡ [])) → FindsRow p u rs l first last seats place number
+        finds_row moved fits =
             let t = read_some u.targets place least_within in
             let fit : Fits (cell_of l t.0) = subst (λ (x : Bool). (IsTrue x) ⊎ (l.namespace ≡ [])) (sym (flag_at u.targets place t.0 b t.1 flag)) fits in
             record {
@@ -250,6 +277,7 @@ module _ (p : PolicyView) (u : UniverseView) (rs : List (List ℕ)) (l : LineVie
               cursor = least.cursor;
               stands = least.at;
               about = least_about;
+              here = λ low le later. seats_here low le (from_here low first last moved later);
             }
 
         -- the request doesn't fit, and what is allowed comes after it

@@ -8,6 +8,7 @@ pub mod EveryStart
 pub mod Lent
 pub mod Lines
 pub mod Metering
+pub mod Once
 pub mod Paging
 pub mod Pairs
 pub mod Passing

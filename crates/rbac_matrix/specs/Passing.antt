@@ -51,13 +51,15 @@ pub record IsNextHit (p : PolicyView) (u : UniverseView) (l : LineView)
 abbrev pub HasNoHit : PolicyView → UniverseView → LineView → ℕ → ℕ → Type 0
 HasNoHit p u l from upto = (q k : ℕ) → IsHit p u l q k → IsFrom q k from upto → ⊥
 
--- the next hit of a line, with the seat of its grant at its place
+-- the next hit of a line, with the seat of its grant at its place; the seats are where they are if
+-- the rows from that place on are left, past it for grants that come before the hit's
 pub record FindsRow (p : PolicyView) (u : UniverseView) (rs : List (List ℕ)) (l : LineView)
     (from upto : ℕ) (seats : List Seat) (place number : ℕ) : Type 0 where
   pub next : IsNextHit p u l from upto place number
   pub cursor : IsCursorAt p l number
   pub stands : (seat_at seats number).place ≡ place
   pub about : (end : ℕ) → number < end → AreSeatedAbout p l rs place end seats
+  pub here : (low : ℕ) → low ≤ number → IsFrom place low from upto → AreSeated p l rs place low seats
 
 -- the line has no further hit
 pub record EndsLine (p : PolicyView) (u : UniverseView) (rs : List (List ℕ)) (l : LineView)

@@ -14,6 +14,7 @@ mod kept;
 mod laws;
 mod line;
 mod matrix;
+mod repeats;
 mod row;
 mod seat;
 mod seats;

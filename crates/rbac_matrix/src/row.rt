@@ -2,6 +2,7 @@
 
 ghost use Rattle.std.specs.Prelude.{◌≡◌, IfOk, IfErr};
 ghost use Rattle.rbac_terms.specs.Keys.{key_of, namespace_at};
+ghost use Rattle.rbac_matrix.specs.Once.{repeats_at};
 ghost use Rattle.rbac_matrix.specs.RowTexts.{texts_shown};
 
 use crate::fault::MatrixFault;
@@ -44,6 +45,21 @@ impl Row<'_> {
             self.name,
         )?)
     }
+
+    /// Whether the row has a namespace and its binding is a ClusterRoleBinding. Then its principal
+    /// may do the same in the whole cluster. Doesn't allocate.
+    pub fn is_repeat(&self) -> bool
+        ensures { result ≡ repeats_at self.now.namespace.now self.now.binding.now.namespace }
+    {
+        is_repeat_in(self.namespace, self.binding)
+    }
+}
+
+// Whether a request in this namespace, which isn't empty, is granted by a ClusterRoleBinding.
+pub(crate) fn is_repeat_in(namespace: &Word, binding: &Binding) -> bool
+    ensures { result ≡ repeats_at namespace.now binding.now.namespace }
+{
+    !namespace.is_empty() && binding.namespace.is_none()
 }
 
 // The row of a line's request.

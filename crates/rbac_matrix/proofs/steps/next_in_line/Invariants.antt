@@ -1,4 +1,4 @@
-use Rattle.std.proofs.Common.{◌≡◌, ◌-◌, ℕ, length}
+use Rattle.std.proofs.Common.{◌≡◌, ◌-◌, ◌⊎◌, ℕ, length}
 use Rattle.rbac_matrix.specs.Shown.{line_of}
 use Rattle.rbac_matrix.specs.Blocks.{AreBlocks}
 use Rattle.rbac_matrix.specs.Passing.{IsFrom, IsHit}
@@ -10,6 +10,7 @@ invariant-loop-place l = record {
   seated : AreSeated l.basis.index.now (line_of l.line) l.basis.reaches.now l.from l.upto l.seats;
   blocks : AreBlocks l.basis.index.now (line_of l.line) l.kept.runs l.seats l.kept.blocks.kept.items;
   runs : l.kept.runs ≡ l.fn.kept.runs;
+  moved : ((l.from ≡ l.fn.from) × (l.upto ≡ l.fn.upto)) ⊎ (l.upto ≡ 0);
   onward : IsFrom l.from l.upto l.fn.from l.fn.upto;
   before : (q k : ℕ) → IsHit l.basis.index.now l.basis.universe.now (line_of l.line) q k → IsFrom q k l.fn.from l.fn.upto → IsFrom q k l.from l.upto;
   costs : Costs 0 0 l.fn.seats l.seats l.fn.meter l.meter;

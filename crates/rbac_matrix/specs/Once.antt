@@ -1,0 +1,37 @@
+-- Rows that repeat in a namespace what is allowed in the whole cluster, and the rows without them.
+use Rattle.std.specs.Prelude.{◌≡◌, ◌↔◌, Bool, true, false, not, Option, None, List, ◌∷◌, ◌++◌, All}
+use Rattle.std.specs.Prelude.{filter}
+use Rattle.rbac_terms.specs.Text.{Text}
+use Rattle.rbac_model.specs.Universes.{RowView, cell_key}
+
+-- a request has a namespace, and a binding is a ClusterRoleBinding, which has none
+abbrev pub repeats_at : Text → Option Text → Bool
+repeats_at (c ∷ namespace) None = true
+repeats_at _ _ = false
+
+-- a row is a repeat: it has a namespace, and its binding is a ClusterRoleBinding. So its principal
+-- may do the same in the whole cluster (own)
+abbrev pub is_repeat : RowView → Bool
+is_repeat row = repeats_at (cell_key row.cell).namespace row.binding.namespace
+
+-- the rows that are no repeats
+abbrev pub without_repeats : List RowView → List RowView
+without_repeats rows = filter (λ row. not (is_repeat row)) rows
+
+-- the rows left before are some repeats, and then the rows left after
+pub record PassesSome (before after : List RowView → Type 0) : Type 0 where
+  pub passed : List RowView
+  pub repeats : All (λ row. is_repeat row ≡ true) passed
+  pub left : (all : List RowView) → before all
+      ↔ ((others : List RowView) × (all ≡ passed ++ others) × after others)
+
+-- the first row that is left, if there is one, is no repeat
+abbrev pub StaysFirst : (List RowView → Type 0) → Type 0
+StaysFirst left = (row : RowView) (others : List RowView) → left (row ∷ others)
+    → is_repeat row ≡ false
+
+-- repeats were passed: those that came before the first row that is none, or all rows if there is
+-- none
+pub record PassesRepeats (before after : List RowView → Type 0) : Type 0 where
+  pub some : PassesSome before after
+  pub first : StaysFirst after

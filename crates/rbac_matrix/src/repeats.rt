@@ -1,0 +1,123 @@
+//! Passing rows that repeat in a namespace what is allowed in the whole cluster.
+
+ghost use Rattle.std.specs.Prelude.{◌≡◌, ◌<◌, ◌≤◌, ◌∷◌, ◌+◌, ℕ, List, IsTrue, MatchOption, false};
+ghost use Rattle.std.specs.Prelude.{Some, length, slice_get};
+ghost use Rattle.rbac_model.specs.Policies.{GrantView};
+ghost use Rattle.rbac_model.specs.Universes.{most_targets};
+ghost use Rattle.rbac_universe.specs.Sets.{IsWithinLimits};
+ghost use Rattle.rbac_matrix.specs.Enumeration.{AreLeft, GoesOn, IsGoing, IsUnderWay};
+ghost use Rattle.rbac_matrix.specs.Enumeration.{requests_left};
+ghost use Rattle.rbac_matrix.specs.Lines.{IsSettled, LineView, lines_from};
+ghost use Rattle.rbac_matrix.specs.Metering.{IsReady};
+ghost use Rattle.rbac_matrix.specs.Once.{PassesRepeats, PassesSome, StaysFirst, repeats_at};
+ghost use Rattle.rbac_matrix.specs.Passing.{EndsAll, FindsCell};
+
+use crate::basis::Basis;
+use crate::enumeration::Rows;
+use crate::line::line_at;
+use crate::row::is_repeat_in;
+use crate::steps::next_cell;
+
+impl Rows<'_, '_> {
+    // Comes to the next row, past the place for the grants below `upto`, and doesn't pass it: the
+    // place of its target, and the first grant that allows it.
+    pub(crate) fn come(&mut self, upto: u32) -> Option<(u32, u32)>
+        requires way { IsUnderWay self.old upto }
+        ensures found { MatchOption result
+            (EndsAll self.old.index.now self.old.universe.now self.old.reaches.now
+            self.old.at self.old.from upto self.new.at self.new.seats.now)
+            (λ found. FindsCell self.old.index.now self.old.universe.now self.old.reaches.now
+            self.old.at self.old.from upto self.new.at self.new.seats.now found.0 found.1) }
+        ensures place { MatchOption result
+            (self.new.from ≡ self.old.from) (λ found. self.new.from ≡ found.0) }
+        ensures way { (low : ℕ) → IsReady self.old.index.now self.old.universe.now
+            self.old.reaches.now self.new.at self.new.from low self.new.seats.now
+            → IsUnderWay self.new low }
+        ensures returned { self.new.returned ≡ self.old.returned }
+        ensures reaches { self.new.reaches.now ≡ self.old.reaches.now }
+        ensures same { GoesOn self.old self.new }
+    {
+        let basis = Basis {
+            index: self.index,
+            universe: self.universe,
+            reaches: self.reaches,
+        };
+        let kept = &mut self.kept;
+        let (at, found) = next_cell(
+            basis,
+            self.at,
+            self.from,
+            upto,
+            kept,
+            self.seats,
+            &mut self.meter,
+        );
+        self.at = at;
+        let (place, no) = found?;
+        self.from = place;
+        Some((place, no))
+    }
+
+    /// Passes rows that are repeats, up to the next row that is none; all rows, if there is none.
+    /// Doesn't allocate.
+    pub fn pass_repeats(&mut self)
+        requires { IsGoing self.old }
+        ensures passes { PassesRepeats (AreLeft self.old) (AreLeft self.new) }
+        ensures going { IsGoing self.new }
+        ensures few { requests_left self.new ≤ requests_left self.old }
+        ensures returned { self.new.returned ≡ self.old.returned }
+        ensures same { GoesOn self.old self.new }
+    {
+        while self.pass_repeat() {}
+    }
+
+    // Passes the next row if it is a repeat, and answers whether it is.
+    fn pass_repeat(&mut self) -> bool
+        requires { IsGoing self.old }
+        ensures some { PassesSome (AreLeft self.old) (AreLeft self.new) }
+        ensures first { result ≡ false → StaysFirst (AreLeft self.new) }
+        ensures going { IsGoing self.new }
+        ensures few { requests_left self.new ≤ requests_left self.old }
+        ensures fewer { IsTrue result → requests_left self.new < requests_left self.old }
+        ensures returned { self.new.returned ≡ self.old.returned }
+        ensures same { GoesOn self.old self.new }
+    {
+        let Some((_, no)) = self.come(0) else {
+            return false;
+        };
+        if !self.repeats_by(no) {
+            return false;
+        }
+        self.pass_place();
+        true
+    }
+
+    // Whether a row of the line that this grant allows is a repeat.
+    pub(crate) fn repeats_by(&self, no: u32) -> bool
+        requires settled { IsSettled self.now.universe.now self.now.at }
+        requires few { no < length self.now.index.now.grants }
+        ensures limits { IsWithinLimits self.now.universe.now }
+        ensures repeats { (l : LineView) (ls : List LineView) (g : GrantView)
+            → lines_from self.now.universe.now self.now.at ≡ l ∷ ls
+            → slice_get self.now.index.now.grants no ≡ Some g
+            → result ≡ repeats_at l.namespace g.binding.namespace }
+    {
+        let Some(line) = line_at(self.universe, self.at) else {
+            return false;
+        };
+        is_repeat_in(line.namespace, self.index.grant(no).binding)
+    }
+
+    // Passes the place from which rows are left.
+    fn pass_place(&mut self)
+        requires going { IsGoing self.old }
+        requires few { self.old.from < most_targets }
+        ensures going { IsGoing self.new }
+        ensures place { (self.new.at ≡ self.old.at) × (self.new.from ≡ self.old.from + 1)
+            × (self.new.returned ≡ self.old.returned) }
+        ensures same { GoesOn self.old self.new }
+    {
+        self.pass(self.index.len());
+        self.from += 1;
+    }
+}
