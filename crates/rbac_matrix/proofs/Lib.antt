@@ -14,6 +14,7 @@ pub mod LoopLemmas
 pub mod OneEvery
 pub mod OneMatrix
 pub mod NoneLeft
+pub mod OnceEveryLemmas
 pub mod OnceLemmas
 pub mod Orders
 pub mod PairLemmas

@@ -30,7 +30,7 @@ module _ {X : Type 0} (P : X → Type 0) where
         λ h. inr (none x (here x xs), rest.1 h),
       )
 
-  those_first : (x : X) (ys all : List X) → P x → AreThose P (x ∷ ys) all ↔ ((others : List X) × (all ≡ x ∷ others) × AreThose P ys others)
+  pub those_first : (x : X) (ys all : List X) → P x → AreThose P (x ∷ ys) all ↔ ((others : List X) × (all ≡ x ∷ others) × AreThose P ys others)
   those_first x ys all p = (
     λ h. elim h [ inl q ↦ (q.1.0, q.1.2, q.1.1) | inr q ↦ absurd (q.0 p) ],
     λ w. inl (p, (w.0, w.2, w.1)),

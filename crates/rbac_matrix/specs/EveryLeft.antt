@@ -63,6 +63,13 @@ pub record PassesBinding (p : PolicyView) (number place end : ℕ) : Type 0 wher
   pub ends : (n i : ℕ) → IsOfBinding p n i → (n < end) ↔ (i ≤ at)
   pub is : place ≡ at + 1
 
+-- `place` is that of the grant's binding, and `start` is where the grants of that binding begin
+pub record BeginsBinding (p : PolicyView) (number place start : ℕ) : Type 0 where
+  pub end : ℕ
+  pub of : IsOfBinding p number place
+  pub own : (n i : ℕ) → IsOfBinding p n i → ((start ≤ n) × (n < end)) ↔ (i ≡ place)
+  pub ends : (n i : ℕ) → IsOfBinding p n i → (n < end) ↔ (i ≤ place)
+
 -- what holds between two calls
 pub record IsGoingEvery (s : EveryRows) : Type 0 where
   pub way : IsUnderWay s.rows s.upto

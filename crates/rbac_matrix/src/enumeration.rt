@@ -90,7 +90,7 @@ pub(crate) fn rows_from<'r, 'm>(
 impl Rows<'_, '_> {
     // Moves the seats of the grants below `upto` past the place from which rows are left.
     pub(crate) fn pass(&mut self, upto: u32)
-        requires going { IsGoing self.old }
+        requires going { (low : ℕ) × (low ≤ upto) × IsUnderWay self.old low }
         requires few { self.old.from ≤ most_targets }
         ensures way { IsUnderWay self.new upto }
         ensures place { (self.new.at ≡ self.old.at) × (self.new.from ≡ self.old.from)

@@ -32,7 +32,7 @@ pub struct EveryRows<'r, 'm> {
 }
 
 // The place after that of a grant's binding, and where the grants of that binding end.
-fn after_binding(index: &Index<'_>, no: u32) -> (usize, u32)
+pub(crate) fn after_binding(index: &Index<'_>, no: u32) -> (usize, u32)
     requires { no < length index.now.grants }
     ensures { PassesBinding index.now no result.0 result.1 }
 {
