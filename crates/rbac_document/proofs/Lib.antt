@@ -1,0 +1,5 @@
+mod Escapes
+mod Groups
+mod Once
+mod OneDocument
+mod Pieces
