@@ -31,6 +31,7 @@ use Rattle.rbac_catalogue.specs.Catalogue.{CatalogueView}
 use Rattle.rbac_catalogue.specs.declared.entry.Entry.{Entry}
 use Rattle.rbac_manifest.specs.Load.{LoadedView}
 use Rattle.rbac_question.specs.declared.command.Action.TheVariants.{WhoCan}
+use Rattle.rbac_question.specs.declared.command.HolderOptions.{HolderOptions}
 use Rattle.rbac_question.specs.declared.command.Question.{Question}
 use Rattle.rbac_cli.specs.HolderLines.{IsHolderLine, AreHolderLines, joined}
 use Rattle.rbac_cli.specs.Meant.{IsMeant, IsTargetMeant, IsNamespaceMeant, IsOutside, IsWhereMeant, requested_meant, where_given}
@@ -193,23 +194,23 @@ place_meant entries q anywhere false target namespace asked (inl a) is out given
 place_meant entries q anywhere false target namespace asked (inr a) is out given = inr (a.0, given refl ∙ ap (where_given anywhere) a.1)
 
 -- the holders of what is asked have lines, which answer it
-pub answered : (l : LoadedView) (why every anywhere any_name : Bool) (q : Question) (target : What) (namespace : Text) (outside : Bool) (asked : WhereView) (xs : List HolderView) (listed : CatalogueView) (held shown : PolicyView)
+pub answered : (l : LoadedView) (options : HolderOptions) (q : Question) (target : What) (namespace : Text) (outside : Bool) (asked : WhereView) (xs : List HolderView) (listed : CatalogueView) (held shown : PolicyView)
     → listed ≡ l.catalogue → held ≡ l.policy → shown ≡ l.policy → IsMeant listed.entries q target namespace → (IsTrue outside ↔ IsOutside listed.entries q target)
-    → (outside ≡ true → asked ≡ InNamespace namespace) → (outside ≡ false → asked ≡ where_given anywhere namespace)
-    → IsPolicy held → AreListedHolders held.held asked every q.verb (requested_meant any_name target) xs
-    → (lines : List Text) × AreHolderLines shown why q.verb (requested_meant any_name target) xs lines × Answers (Single l) (WhoCan why every anywhere any_name q) (joined lines) Zero
-answered l why every anywhere any_name q target namespace outside asked xs listed held shown catalogue policy again meant is out given ok holders =
-    let requested = requested_meant any_name target in
-    let are = subst (λ (p : PolicyView). AreListedHolders p.held asked every q.verb requested xs) policy holders in
-    let lines = lines_of l.policy (subst IsPolicy policy ok) q.verb requested asked why xs (λ x w. by_binding l.policy.held asked every q.verb requested x ((are.exact x).0 w)) in
-    let place = place_meant listed.entries q anywhere outside target namespace asked meant.1 is out given in (
+    → (outside ≡ true → asked ≡ InNamespace namespace) → (outside ≡ false → asked ≡ where_given options.anywhere namespace)
+    → IsPolicy held → AreListedHolders held.held asked options.every q.verb (requested_meant options.any_name target) xs
+    → (lines : List Text) × AreHolderLines shown options.why q.verb (requested_meant options.any_name target) xs lines × Answers (Single l) (WhoCan options q) (joined lines) Zero
+answered l options q target namespace outside asked xs listed held shown catalogue policy again meant is out given ok holders =
+    let requested = requested_meant options.any_name target in
+    let are = subst (λ (p : PolicyView). AreListedHolders p.held asked options.every q.verb requested xs) policy holders in
+    let lines = lines_of l.policy (subst IsPolicy policy ok) q.verb requested asked options.why xs (λ x w. by_binding l.policy.held asked options.every q.verb requested x ((are.exact x).0 w)) in
+    let place = place_meant listed.entries q options.anywhere outside target namespace asked meant.1 is out given in (
       lines.0,
-      subst (λ (p : PolicyView). AreHolderLines p why q.verb requested xs lines.0) (sym again) lines.1,
+      subst (λ (p : PolicyView). AreHolderLines p options.why q.verb requested xs lines.0) (sym again) lines.1,
       (
         target,
         asked,
         subst (λ (v : CatalogueView). IsTargetMeant v.entries q.asked target) catalogue meant.0,
-        subst (λ (v : CatalogueView). IsWhereMeant v.entries q anywhere target asked) catalogue place,
+        subst (λ (v : CatalogueView). IsWhereMeant v.entries q options.anywhere target asked) catalogue place,
         (xs, lines.0, are, lines.1, refl, refl),
       ),
     )

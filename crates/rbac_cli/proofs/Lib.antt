@@ -1,5 +1,6 @@
 pub mod HolderLineLemmas
 pub mod Loads
+pub mod MatrixRowsLemmas
 pub mod Named
 pub mod OneAnswer
 pub mod OneHolderLines

@@ -27,12 +27,15 @@ use Rattle.rbac_index.proofs.ListedLemmas.{one_listed}
 use Rattle.rbac_manifest.specs.Load.{LoadedView}
 use Rattle.rbac_lint.proofs.OneLines.{one_wanted}
 use Rattle.rbac_diff.proofs.OneChanges.{one_changes}
+use Rattle.rbac_document.proofs.OneDocument.{one_document}
 use Rattle.rbac_question.specs.declared.command.Action.{Action}
-use Rattle.rbac_question.specs.declared.command.Action.TheVariants.{CanI, WhoCan, Rules, Matrix, Lint, Diff}
+use Rattle.rbac_question.specs.declared.command.Action.TheVariants.{CanI, WhoCan, Rules, Matrix, Universe, Lint, Diff}
+use Rattle.rbac_question.specs.declared.command.HolderOptions.{HolderOptions}
+use Rattle.rbac_question.specs.declared.command.MatrixOptions.{MatrixOptions}
 use Rattle.rbac_question.specs.declared.command.Question.{Question}
 use Rattle.rbac_cli.specs.HolderLines.{AreHolderLines, joined}
 use Rattle.rbac_cli.specs.Out.{Answers, IsAllowed, IsDenied, rules_text, scope_asked, findings_text, findings_status, wanted_meant, changes_text, changes_status, line_unless}
-use Rattle.rbac_cli.specs.MatrixPage.{AreListed}
+use Rattle.rbac_cli.specs.MatrixPage.{AreRows, AreListed}
 use Rattle.rbac_cli.specs.Meant.{IsWhereMeant, requested_meant}
 use Rattle.rbac_cli.specs.declared.exports.Exports.{Exports}
 use Rattle.rbac_cli.specs.declared.exports.Exports.TheVariants.{Single, Pair}
@@ -41,7 +44,7 @@ use Rattle.rbac_matrix.specs.Every.{IsEvery, IsEveryRow, every_name}
 use Rattle.rbac_matrix.proofs.OneMatrix.{key_name, by_keys}
 use Rattle.rbac_rules.proofs.RuleLists.{one_list as one_rules}
 use Rattle.rbac_cli.proofs.OneHolderLines.{one_holder_lines}
-use Rattle.rbac_cli.proofs.OneMatrixText.{Line, line_of, one_matrix_text}
+use Rattle.rbac_cli.proofs.OneMatrixText.{Line, line_of, listed_alike, one_matrix_text}
 use Rattle.rbac_cli.proofs.OneMeant.{one_meant, one_target, one_where}
 use Rattle.rbac_cli.proofs.OneReason.{one_reason}
 
@@ -210,26 +213,32 @@ one_every_lines held lists u v rows others m n x y =
 
 -- ---- so whichever rows are listed print alike
 
-one_listed_lines : (every : Bool) (held : Held) (lists : UniverseLists) (u v : UniverseView) (rows others : List RowView) → AreSets lists u → AreSets lists v
-    → AreListed every held u rows → AreListed every held v others → map line_of rows ≡ map line_of others
-one_listed_lines false held lists u v rows others m n x y = one_lines held lists u v rows others m n x y
-one_listed_lines true held lists u v rows others m n x y = one_every_lines held lists u v rows others m n x y
+one_row_lines : (every : Bool) (held : Held) (lists : UniverseLists) (u v : UniverseView) (rows others : List RowView) → AreSets lists u → AreSets lists v
+    → AreRows every held u rows → AreRows every held v others → map line_of rows ≡ map line_of others
+one_row_lines false held lists u v rows others m n x y = one_lines held lists u v rows others m n x y
+one_row_lines true held lists u v rows others m n x y = one_every_lines held lists u v rows others m n x y
+
+one_listed_lines : (options : MatrixOptions) (held : Held) (lists : UniverseLists) (u v : UniverseView) (all others : List RowView) → AreSets lists u → AreSets lists v
+    → AreListed options held u all → AreListed options held v others → map line_of all ≡ map line_of others
+one_listed_lines options held lists u v all others m n (rows, x, e) (those, y, f) =
+    ap (map line_of) e ∙ listed_alike options.once rows those (one_row_lines options.every held lists u v rows those m n x y) ∙ sym (ap (map line_of) f)
 
 -- ---- the holders are one list
 
-one_holders_text : (l : LoadedView) (why every anywhere any_name : Bool) (q : Question) (text other : List ℕ) (status ending : Status)
-    → Answers (Single l) (WhoCan why every anywhere any_name q) text status → Answers (Single l) (WhoCan why every anywhere any_name q) other ending
-    → (text ≡ other) × (status ≡ ending)
-one_holders_text l why every anywhere any_name q text other status ending (t, v, target, meant, (xs, lines, a, these, e, s)) (u, w, means, meaning, (ys, those, b, them, f, z)) =
+one_holders_text : (l : LoadedView) (options : HolderOptions) (q : Question) (text other : List ℕ) (status ending : Status)
+    → Answers (Single l) (WhoCan options q) text status → Answers (Single l) (WhoCan options q) other ending → (text ≡ other) × (status ≡ ending)
+one_holders_text l options q text other status ending (t, v, target, meant, (xs, lines, a, these, e, s)) (u, w, means, meaning, (ys, those, b, them, f, z)) =
     let p = l.policy in
+    let every = options.every in
+    let any_name = options.any_name in
     let entries = l.catalogue.entries in
     let same = one_target entries q.asked t u target means in
-    let place = one_where entries q anywhere u v w (subst (λ x. IsWhereMeant entries q anywhere x v) same meant) meaning in
+    let place = one_where entries q options.anywhere u v w (subst (λ x. IsWhereMeant entries q options.anywhere x v) same meant) meaning in
     let r = requested_meant any_name u in
     let here = subst (λ x. AreListedHolders p.held x every q.verb r xs) place (subst (λ x. AreListedHolders p.held v every q.verb (requested_meant any_name x) xs) same a) in
     let one = one_listed p.held w every q.verb r xs ys here b in
-    let lined = subst (λ hs. AreHolderLines p why q.verb r hs lines) one (subst (λ x. AreHolderLines p why q.verb (requested_meant any_name x) xs lines) same these) in
-    (e ∙ ap joined (one_holder_lines p q.verb r why ys lines those lined them) ∙ sym f, s ∙ sym z)
+    let lined = subst (λ hs. AreHolderLines p options.why q.verb r hs lines) one (subst (λ x. AreHolderLines p options.why q.verb (requested_meant any_name x) xs lines) same these) in
+    (e ∙ ap joined (one_holder_lines p q.verb r options.why ys lines those lined them) ∙ sym f, s ∙ sym z)
 
 -- the one target and namespace that are meant aren't both allowed and denied
 not_both : (held : Held) (entries : List Entry) (who : Who) (q : Question) → IsAllowed held entries who q → IsDenied held entries who q → ⊥
@@ -246,22 +255,24 @@ one_answer (Single l) (CanI who quiet why q) text other status ending (inl (a, (
 one_answer (Single l) (CanI who quiet why q) text other status ending (inl a) (inr b) = absurd (not_both l.policy.held l.catalogue.entries who q a.0 b.0)
 one_answer (Single l) (CanI who quiet why q) text other status ending (inr a) (inl b) = absurd (not_both l.policy.held l.catalogue.entries who q b.0 a.0)
 one_answer (Single l) (CanI who quiet why q) text other status ending (inr a) (inr b) = (a.1 ∙ sym b.1, a.2 ∙ sym b.2)
-one_answer (Single l) (WhoCan why every anywhere any_name q) text other status ending a b = one_holders_text l why every anywhere any_name q text other status ending a b
+one_answer (Single l) (WhoCan options q) text other status ending a b = one_holders_text l options q text other status ending a b
 one_answer (Single l) (Rules who scope) text other status ending (xs, are, e, s) (ys, those, f, t) =
     (e ∙ ap rules_text (one_rules who (scope_asked scope) l.policy.grants xs ys are those) ∙ sym f, s ∙ sym t)
-one_answer (Single l) (Matrix every after limit) text other status ending (u, rows, m, x, e, s) (v, others, n, y, f, t) = (
-  e ∙ one_matrix_text every after limit rows others (one_listed_lines every l.policy.held l.lists u v rows others m.sets n.sets x y) ∙ sym f,
+one_answer (Single l) (Matrix options after limit) text other status ending (u, rows, m, x, e, s) (v, others, n, y, f, t) = (
+  e ∙ one_matrix_text options.every after limit rows others (one_listed_lines options l.policy.held l.lists u v rows others m.sets n.sets x y) ∙ sym f,
   s ∙ sym t,
 )
 one_answer (Single l) (Lint only skip) text other status ending (found, are, e, s) (others, these, f, t) =
     let one = one_wanted (wanted_meant (option_map vec_items only) skip) l.policy.held l.replaced found others are these in
     (e ∙ ap findings_text one ∙ sym f, s ∙ ap findings_status one ∙ sym t)
-one_answer (Single l) (Diff n) text other status ending a b = absurd a
-one_answer (Pair before after) (Diff n) text other status ending (xs, are, e, s) (ys, those, f, t) =
-    let one = one_changes before.policy after.policy xs ys are those in
+one_answer (Single l) Universe text other status ending (is, s) (are, t) = (one_document l.lists text other is are, s ∙ sym t)
+one_answer (Single l) (Diff n change) text other status ending a b = absurd a
+one_answer (Pair before after) (Diff n change) text other status ending (xs, are, e, s) (ys, those, f, t) =
+    let one = one_changes before after xs ys are those in
     (e ∙ ap changes_text one ∙ sym f, s ∙ ap changes_status one ∙ sym t)
 one_answer (Pair before after) (CanI who quiet why q) text other status ending a b = absurd a
-one_answer (Pair before after) (WhoCan why every anywhere any_name q) text other status ending a b = absurd a
+one_answer (Pair before after) (WhoCan options q) text other status ending a b = absurd a
 one_answer (Pair before after) (Rules who scope) text other status ending a b = absurd a
-one_answer (Pair before after) (Matrix every mark limit) text other status ending a b = absurd a
+one_answer (Pair before after) (Matrix options mark limit) text other status ending a b = absurd a
+one_answer (Pair before after) Universe text other status ending a b = absurd a
 one_answer (Pair before after) (Lint only skip) text other status ending a b = absurd a

@@ -1,6 +1,6 @@
 -- What is printed of a page follows from the keys and bindings of its rows alone.
 use Rattle.std.proofs.Common.{◌≡◌, ◌∙◌, ℕ, Bool, true, false, List, [], ◌∷◌, ◌++◌, map, take, length, inl, inr, ap, sym, refl, codes}
-use Rattle.std.specs.Prelude.{Option, Some, None, filter, nat_lt}
+use Rattle.std.specs.Prelude.{Option, Some, None, filter, nat_lt, not}
 use Rattle.std.specs.List.{flat_map, last_or}
 use Rattle.std.specs.Option.{option_map}
 use Rattle.std.specs.Ordering.{is_gt}
@@ -17,7 +17,8 @@ use Rattle.rbac_token.specs.Marks.{mark_text, name_texts}
 use Rattle.rbac_token.specs.declared.mark.BindingName.{BindingName}
 use Rattle.rbac_token.specs.declared.mark.Mark.{Mark}
 use Rattle.rbac_matrix.specs.Every.{comes_after, name_of}
-use Rattle.rbac_cli.specs.MatrixPage.{cut_at, last_words, matrix_text, page_text, rows_past, rows_text}
+use Rattle.rbac_matrix.specs.Once.{repeats_at, without_repeats}
+use Rattle.rbac_cli.specs.MatrixPage.{cut_at, last_words, listed, matrix_text, page_text, rows_past, rows_text}
 
 abbrev pub Line : Type 0
 Line = KeyTexts × Binding
@@ -107,3 +108,19 @@ pub one_matrix_text : (every : Bool) (m : Option Mark) (limit : Option ℕ) (row
     → matrix_text every m limit rows ≡ matrix_text every m limit others
 one_matrix_text every m limit rows others e =
     as_matrix_text every m limit rows ∙ ap (λ (ls : List Line). lines_cut every limit (lines_past every m ls)) e ∙ sym (as_matrix_text every m limit others)
+
+-- ---- whether a row is a repeat follows from its key and binding
+
+repeat_of : Line → Bool
+repeat_of l = repeats_at l.0.namespace l.1.namespace
+
+unrepeated : (rows : List RowView) → map line_of (without_repeats rows) ≡ filter (λ l. not (repeat_of l)) (map line_of rows)
+unrepeated [] = refl
+unrepeated (row ∷ rows) = elim (cases_Bool (not (repeat_of (line_of row)))) [
+  | inl kept ↦ rw kept (ap (λ (ls : List Line). line_of row ∷ ls) (unrepeated rows))
+  | inr left ↦ rw left (unrepeated rows)
+]
+
+pub listed_alike : (once : Bool) (rows others : List RowView) → map line_of rows ≡ map line_of others → map line_of (listed once rows) ≡ map line_of (listed once others)
+listed_alike false rows others e = e
+listed_alike true rows others e = unrepeated rows ∙ ap (filter (λ l. not (repeat_of l))) e ∙ sym (unrepeated others)

@@ -1,16 +1,22 @@
 -- Two runs that nothing stopped end alike.
-use Rattle.std.proofs.Common.{◌≡◌, ◌≢◌, ◌∙◌, ℕ, List, [], Result, Ok, Err, ap, subst, sym, refl, inl, inr, take, drop}
+use Rattle.std.proofs.Common.{◌≡◌, ◌≢◌, ◌∙◌, ℕ, List, [], Result, Ok, Err, ap, subst, sym, refl, inl, inr, length, take, drop}
 use Rattle.rbac_universe.specs.declared.lists.UniverseLists.{UniverseLists}
 use Rattle.rbac_universe.specs.declared.fault.UniverseFault.{UniverseFault}
 use Rattle.rbac_universe.specs.declared.fault.UniverseFault.TheVariants as universe
 use Rattle.rbac_universe.specs.Sets.{IsUniverseOf, HasUniverseFault}
 use Rattle.rbac_model.specs.Universes.{UniverseView}
 use Rattle.rbac_manifest.specs.declared.fault.LoadFault.{LoadFault}
-use Rattle.rbac_manifest.specs.Load.{LoadedView, IsLoaded, HasFault}
+use Rattle.rbac_manifest.specs.Load.{LoadedView, IsLoaded, HasFault, HasTooManyGrants, document_fault}
+use Rattle.rbac_manifest.specs.Changed.{IsResolved}
+use Rattle.rbac_model.specs.Policies.{PolicyView}
+use Rattle.rbac_model.specs.declared.objects.Object.{Object}
+use Rattle.std.specs.Prelude.{Option, Some, None}
+use Rattle.std.proofs.lemmas.Option.{same_Some}
 use Rattle.rbac_question.specs.declared.command.Action.{Action}
 use Rattle.rbac_question.specs.declared.command.Action.TheVariants.{CanI, WhoCan, Rules, Matrix, Lint, Diff}
+use Rattle.rbac_question.specs.declared.command.Action.TheVariants as action
 use Rattle.rbac_question.specs.declared.command.Command.{Command}
-use Rattle.rbac_cli.specs.Exports.{AreLoaded, AreRefused, behind}
+use Rattle.rbac_cli.specs.Exports.{AreLoaded, AreRefused, IsSide, IsSideRefused, behind}
 use Rattle.rbac_cli.specs.Out.{Answers}
 use Rattle.rbac_cli.specs.declared.exports.Exports.{Exports}
 use Rattle.rbac_cli.specs.declared.exports.Exports.TheVariants.{Single, Pair}
@@ -29,6 +35,12 @@ HasNoFault = (inputs : List (List ℕ)) (l : LoadedView) (f : LoadFault) → IsL
 
 abbrev pub HasOneFault : Type 0
 HasOneFault = (inputs : List (List ℕ)) (f g : LoadFault) → HasFault inputs f → HasFault inputs g → f ≡ g
+
+abbrev pub ResolvesOne : Type 0
+ResolvesOne = (objects : List Object) (p q : PolicyView) → IsResolved objects p → IsResolved objects q → p ≡ q
+
+abbrev pub HasNoTooMany : Type 0
+HasNoTooMany = (objects : List Object) (p : PolicyView) (f : LoadFault) → IsResolved objects p → HasTooManyGrants objects f → ⊥
 
 abbrev pub HasNoUniverseFault : Type 0
 HasNoUniverseFault =
@@ -53,74 +65,96 @@ same_universe_fault lists f universe.NoMemory a n b m = absurd (m refl)
 
 lacks_for_one : (e : Exports) (action : Action) (f g : UniverseFault) → LacksUniverse e action f → LacksUniverse e action g → f ≡ g
 lacks_for_one (Single l) (CanI who quiet why q) f g a b = absurd a
-lacks_for_one (Single l) (WhoCan why every anywhere any_name q) f g a b = absurd a
+lacks_for_one (Single l) (WhoCan options q) f g a b = absurd a
 lacks_for_one (Single l) (Rules who scope) f g a b = absurd a
+lacks_for_one (Single l) action.Universe f g a b = absurd a
 lacks_for_one (Single l) (Lint only skip) f g a b = absurd a
-lacks_for_one (Single l) (Diff n) f g a b = absurd a
-lacks_for_one (Single l) (Matrix every after limit) f g a b = same_universe_fault l.lists f g a.0 a.1 b.0 b.1
+lacks_for_one (Single l) (Diff n change) f g a b = absurd a
+lacks_for_one (Single l) (Matrix options after limit) f g a b = same_universe_fault l.lists f g a.0 a.1 b.0 b.1
 lacks_for_one (Pair before after) action f g a b = absurd a
 
-module _ (loads_one : LoadsOne) (no_fault : HasNoFault) (one_fault : HasOneFault) (no_universe_fault : HasNoUniverseFault) where
+none_and_some : {T : Type 0} (o : Option T) (x : T) → o ≡ None → o ≡ Some x → ⊥
+none_and_some o x none some = cc
+
+module _ (loads_one : LoadsOne) (no_fault : HasNoFault) (one_fault : HasOneFault) (resolves_one : ResolvesOne) (few_enough : HasNoTooMany) (no_universe_fault : HasNoUniverseFault) where
   -- what has an answer lacks no universe
   not_lacking : (e : Exports) (action : Action) (text : List ℕ) (status : Status) (f : UniverseFault) → Answers e action text status → LacksUniverse e action f → ⊥
   not_lacking (Single l) (CanI who quiet why q) text status f a b = b
-  not_lacking (Single l) (WhoCan why every anywhere any_name q) text status f a b = b
+  not_lacking (Single l) (WhoCan options q) text status f a b = b
   not_lacking (Single l) (Rules who scope) text status f a b = b
+  not_lacking (Single l) action.Universe text status f a b = b
   not_lacking (Single l) (Lint only skip) text status f a b = b
-  not_lacking (Single l) (Diff n) text status f a b = b
-  not_lacking (Single l) (Matrix every after limit) text status f (u, rows, is, listed, e, zero) b = no_universe_fault l.lists u f is b.1 b.0
+  not_lacking (Single l) (Diff n change) text status f a b = b
+  not_lacking (Single l) (Matrix options after limit) text status f (u, rows, is, listed, e, zero) b = no_universe_fault l.lists u f is b.1 b.0
   not_lacking (Pair before after) action text status f a b = b
+
+  -- a side of a change that is loaded isn't refused, and one that is refused has one fault
+  side_not_refused : (inputs : List (List ℕ)) (objects : List Object) (p : PolicyView) (f : LoadFault) → IsSide inputs objects p → IsSideRefused inputs objects f → ⊥
+  side_not_refused inputs objects p f a (inl h) = none_and_some (document_fault inputs) f a.0 h
+  side_not_refused inputs objects p f a (inr h) = few_enough objects p f a.1 h.1
+
+  one_side_refusal : (inputs : List (List ℕ)) (objects : List Object) (f g : LoadFault) → IsSideRefused inputs objects f → IsSideRefused inputs objects g → f ≡ g
+  one_side_refusal inputs objects f g (inl a) (inl b) = same_Some f g (sym a ∙ b)
+  one_side_refusal inputs objects f g (inl a) (inr b) = absurd (none_and_some (document_fault inputs) f b.0 a)
+  one_side_refusal inputs objects f g (inr a) (inl b) = absurd (none_and_some (document_fault inputs) g a.0 b)
+  one_side_refusal inputs objects f g (inr a) (inr b) = a.1.0 ∙ sym b.1.0
 
   -- inputs give one thing, and have no fault if they do
   one_single : (inputs : List (List ℕ)) (l m : LoadedView) → IsLoaded inputs l → IsLoaded inputs m → Single l ≡ Single m
   one_single inputs l m a b = ap Single (loads_one inputs l m a b)
 
   one_loaded : (action : Action) (inputs : List (List ℕ)) (e d : Exports) → AreLoaded action inputs e → AreLoaded action inputs d → e ≡ d
-  one_loaded (Diff n) inputs (Pair x y) (Pair v w) a b =
-      rw (loads_one (take n inputs) x v a.0 b.0, loads_one (drop n inputs) y w a.1 b.1) refl
-  one_loaded (Diff n) inputs (Single l) d a b = absurd a
-  one_loaded (Diff n) inputs (Pair x y) (Single m) a b = absurd b
+  one_loaded (Diff n change) inputs (Pair x y) (Pair v w) a b =
+      rw (resolves_one _ x v a.0.1 b.0.1, resolves_one _ y w a.1.1 b.1.1) refl
+  one_loaded (Diff n change) inputs (Single l) d a b = absurd a
+  one_loaded (Diff n change) inputs (Pair x y) (Single m) a b = absurd b
   one_loaded (CanI who quiet why q) inputs (Single l) (Single m) a b = one_single inputs l m a b
-  one_loaded (WhoCan why every anywhere any_name q) inputs (Single l) (Single m) a b = one_single inputs l m a b
+  one_loaded (WhoCan options q) inputs (Single l) (Single m) a b = one_single inputs l m a b
   one_loaded (Rules who scope) inputs (Single l) (Single m) a b = one_single inputs l m a b
-  one_loaded (Matrix every after limit) inputs (Single l) (Single m) a b = one_single inputs l m a b
+  one_loaded (Matrix options after limit) inputs (Single l) (Single m) a b = one_single inputs l m a b
+  one_loaded action.Universe inputs (Single l) (Single m) a b = one_single inputs l m a b
   one_loaded (Lint only skip) inputs (Single l) (Single m) a b = one_single inputs l m a b
   one_loaded (CanI who quiet why q) inputs (Pair x y) d a b = absurd a
-  one_loaded (WhoCan why every anywhere any_name q) inputs (Pair x y) d a b = absurd a
+  one_loaded (WhoCan options q) inputs (Pair x y) d a b = absurd a
   one_loaded (Rules who scope) inputs (Pair x y) d a b = absurd a
-  one_loaded (Matrix every after limit) inputs (Pair x y) d a b = absurd a
+  one_loaded (Matrix options after limit) inputs (Pair x y) d a b = absurd a
+  one_loaded action.Universe inputs (Pair x y) d a b = absurd a
   one_loaded (Lint only skip) inputs (Pair x y) d a b = absurd a
   one_loaded (CanI who quiet why q) inputs (Single l) (Pair x y) a b = absurd b
-  one_loaded (WhoCan why every anywhere any_name q) inputs (Single l) (Pair x y) a b = absurd b
+  one_loaded (WhoCan options q) inputs (Single l) (Pair x y) a b = absurd b
   one_loaded (Rules who scope) inputs (Single l) (Pair x y) a b = absurd b
-  one_loaded (Matrix every after limit) inputs (Single l) (Pair x y) a b = absurd b
+  one_loaded (Matrix options after limit) inputs (Single l) (Pair x y) a b = absurd b
+  one_loaded action.Universe inputs (Single l) (Pair x y) a b = absurd b
   one_loaded (Lint only skip) inputs (Single l) (Pair x y) a b = absurd b
 
   not_refused : (action : Action) (inputs : List (List ℕ)) (e : Exports) (f : LoadFault) → AreLoaded action inputs e → AreRefused action inputs f → ⊥
-  not_refused (Diff n) inputs (Pair x y) f a (inl h) = no_fault (take n inputs) x f a.0 h
-  not_refused (Diff n) inputs (Pair x y) f a (inr h) = no_fault (drop n inputs) y h.1.0 a.1 h.1.1
-  not_refused (Diff n) inputs (Single l) f a h = a
+  not_refused (Diff n change) inputs (Pair x y) f a (inl h) = side_not_refused _ _ x f a.0 h
+  not_refused (Diff n change) inputs (Pair x y) f a (inr h) = side_not_refused _ _ y h.1.0 a.1 h.1.1
+  not_refused (Diff n change) inputs (Single l) f a h = a
   not_refused (CanI who quiet why q) inputs (Single l) f a h = no_fault inputs l f a h
-  not_refused (WhoCan why every anywhere any_name q) inputs (Single l) f a h = no_fault inputs l f a h
+  not_refused (WhoCan options q) inputs (Single l) f a h = no_fault inputs l f a h
   not_refused (Rules who scope) inputs (Single l) f a h = no_fault inputs l f a h
-  not_refused (Matrix every after limit) inputs (Single l) f a h = no_fault inputs l f a h
+  not_refused (Matrix options after limit) inputs (Single l) f a h = no_fault inputs l f a h
+  not_refused action.Universe inputs (Single l) f a h = no_fault inputs l f a h
   not_refused (Lint only skip) inputs (Single l) f a h = no_fault inputs l f a h
   not_refused (CanI who quiet why q) inputs (Pair x y) f a h = a
-  not_refused (WhoCan why every anywhere any_name q) inputs (Pair x y) f a h = a
+  not_refused (WhoCan options q) inputs (Pair x y) f a h = a
   not_refused (Rules who scope) inputs (Pair x y) f a h = a
-  not_refused (Matrix every after limit) inputs (Pair x y) f a h = a
+  not_refused (Matrix options after limit) inputs (Pair x y) f a h = a
+  not_refused action.Universe inputs (Pair x y) f a h = a
   not_refused (Lint only skip) inputs (Pair x y) f a h = a
 
   one_refusal : (action : Action) (inputs : List (List ℕ)) (f g : LoadFault) → AreRefused action inputs f → AreRefused action inputs g → f ≡ g
-  one_refusal (Diff n) inputs f g (inl a) (inl b) = one_fault (take n inputs) f g a b
-  one_refusal (Diff n) inputs f g (inl a) (inr b) = absurd (no_fault (take n inputs) b.0.0 f b.0.1 a)
-  one_refusal (Diff n) inputs f g (inr a) (inl b) = absurd (no_fault (take n inputs) a.0.0 g a.0.1 b)
-  one_refusal (Diff n) inputs f g (inr ((l, is), (own, has, e))) (inr ((m, are), (other, had, d))) =
-      e ∙ ap (behind n) (one_fault (drop n inputs) own other has had) ∙ sym d
+  one_refusal (Diff n change) inputs f g (inl a) (inl b) = one_side_refusal _ _ f g a b
+  one_refusal (Diff n change) inputs f g (inl a) (inr b) = absurd (side_not_refused _ _ b.0.0 f b.0.1 a)
+  one_refusal (Diff n change) inputs f g (inr a) (inl b) = absurd (side_not_refused _ _ a.0.0 g a.0.1 b)
+  one_refusal (Diff n change) inputs f g (inr ((l, is), (own, has, e))) (inr ((m, are), (other, had, d))) =
+      e ∙ ap (behind (length (take n inputs))) (one_side_refusal _ _ own other has had) ∙ sym d
   one_refusal (CanI who quiet why q) inputs f g a b = one_fault inputs f g a b
-  one_refusal (WhoCan why every anywhere any_name q) inputs f g a b = one_fault inputs f g a b
+  one_refusal (WhoCan options q) inputs f g a b = one_fault inputs f g a b
   one_refusal (Rules who scope) inputs f g a b = one_fault inputs f g a b
-  one_refusal (Matrix every after limit) inputs f g a b = one_fault inputs f g a b
+  one_refusal (Matrix options after limit) inputs f g a b = one_fault inputs f g a b
+  one_refusal action.Universe inputs f g a b = one_fault inputs f g a b
   one_refusal (Lint only skip) inputs f g a b = one_fault inputs f g a b
 
   module _ (command : Command) (inputs : List (List ℕ)) where

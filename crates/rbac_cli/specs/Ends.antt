@@ -34,7 +34,7 @@ WritesNothing took n = took [] × (n ≡ 0)
 -- the action is `matrix`, and the lists make no universe because of this fault; out of memory is a
 -- fault of its own
 abbrev pub LacksUniverse : Exports → Action → UniverseFault → Type 0
-LacksUniverse (Single l) (Matrix every after limit) fault = HasUniverseFault l.lists fault
+LacksUniverse (Single l) (Matrix options after limit) fault = HasUniverseFault l.lists fault
     × (fault ≢ universe.NoMemory)
 LacksUniverse e action fault = ⊥
 

@@ -1,39 +1,87 @@
 -- What the inputs of a command give, and why they give nothing.
-use Rattle.std.specs.Prelude.{◌≡◌, ◌+◌, ◌⊎◌, ℕ, List, take, drop}
+use Rattle.std.specs.Prelude.{◌≡◌, ◌+◌, ◌⊎◌, ℕ, List, Some, None, length, take, drop}
 use Rattle.std.specs.Option.{option_map}
-use Rattle.rbac_manifest.specs.Load.{LoadedView, IsLoaded, HasFault}
+use Rattle.rbac_model.specs.Policies.{PolicyView}
+use Rattle.rbac_model.specs.declared.objects.Object.{Object}
+use Rattle.rbac_manifest.specs.Changed.{IsResolved, changed_objects}
+use Rattle.rbac_manifest.specs.Contents.{objects_in}
+use Rattle.rbac_manifest.specs.Load.{IsLoaded, HasFault, HasTooManyGrants}
+use Rattle.rbac_manifest.specs.Load.{all_contents, document_fault}
 use Rattle.rbac_manifest.specs.declared.fault.At.{At}
 use Rattle.rbac_manifest.specs.declared.fault.LoadFault.{LoadFault}
 use Rattle.rbac_question.specs.declared.command.Action.{Action}
 use Rattle.rbac_question.specs.declared.command.Action.TheVariants.{Diff}
+use Rattle.rbac_question.specs.declared.command.Change.{Change}
+use Rattle.rbac_question.specs.declared.command.Change.TheVariants.{After, Over}
 use Rattle.rbac_cli.specs.declared.exports.Exports.{Exports}
 use Rattle.rbac_cli.specs.declared.exports.Exports.TheVariants.{Single, Pair}
 
--- the inputs are loaded: for `diff` the first ones, which tell what was before a change, by
--- themselves, and the others, which tell what is after it, by themselves; otherwise all together
-abbrev pub AreLoaded : Action → List (List ℕ) → Exports → Type 0
-AreLoaded (Diff n) inputs (Pair before after) =
-    IsLoaded (take n inputs) before × IsLoaded (drop n inputs) after
-AreLoaded (Diff n) inputs (Single l) = ⊥
-AreLoaded action inputs (Single l) = IsLoaded inputs l
-AreLoaded action inputs (Pair before after) = ⊥
+-- the objects that documents give, in order
+abbrev pub objects_of : List (List ℕ) → List Object
+objects_of inputs = objects_in (all_contents inputs)
+
+-- the objects after a change of these, told by the other inputs: their own; or those that are left
+-- without the objects that the first of them name, with the objects of the others put over
+abbrev pub objects_after : Change → List Object → List (List ℕ) → List Object
+objects_after After objects others = objects_of others
+objects_after (Over n) objects others =
+    changed_objects objects (objects_of (take n others)) (objects_of (drop n others))
+
+-- a side of a change: its documents are accepted, and its objects have this policy
+abbrev pub IsSide : List (List ℕ) → List Object → PolicyView → Type 0
+IsSide inputs objects p = (document_fault inputs ≡ None) × IsResolved objects p
+
+-- a side of a change is refused for this fault: that of the first document that has one, or, if none
+-- has, that its objects have too many grants
+abbrev pub IsSideRefused : List (List ℕ) → List Object → LoadFault → Type 0
+IsSideRefused inputs objects fault = (document_fault inputs ≡ Some fault)
+    ⊎ ((document_fault inputs ≡ None) × HasTooManyGrants objects fault)
+
+-- the side before a change, and the side after it
+abbrev pub IsBefore : List (List ℕ) → PolicyView → Type 0
+IsBefore first p = IsSide first (objects_of first) p
+
+abbrev pub IsAfter : Change → List (List ℕ) → List (List ℕ) → PolicyView → Type 0
+IsAfter change first others p = IsSide others (objects_after change (objects_of first) others) p
 
 -- a fault of inputs that stand behind so many others, with its file counted among all of them
 abbrev pub behind : ℕ → LoadFault → LoadFault
 behind n fault =
     record fault { at = option_map (λ (at : At). record at { file = n + at.file }) fault.at }
 
--- the inputs are refused for this fault: for `diff` that of those before the change, or, if they
--- are loaded, that of those after it
+-- a document of these inputs, which stand one behind the other, has this fault, and none before it has
+-- one
+abbrev pub IsFaultOfBoth : List (List ℕ) → List (List ℕ) → LoadFault → Type 0
+IsFaultOfBoth first others fault = (document_fault first ≡ Some fault)
+    ⊎ ((document_fault first ≡ None) × ((own : LoadFault) × (document_fault others ≡ Some own)
+    × (fault ≡ behind (length first) own)))
+
+-- a change is refused for this fault: that of the side before it, or, if that is loaded, that of
+-- the side after it, with files counted among all
+abbrev pub IsChangeRefused : Change → List (List ℕ) → List (List ℕ) → LoadFault → Type 0
+IsChangeRefused change first others fault = IsSideRefused first (objects_of first) fault
+    ⊎ (((before : PolicyView) × IsBefore first before) × ((own : LoadFault)
+    × IsSideRefused others (objects_after change (objects_of first) others) own
+    × (fault ≡ behind (length first) own)))
+
+-- the inputs are loaded: for `diff` the first n give the policy before a change, and the others the
+-- one after it; otherwise all together give an export
+abbrev pub AreLoaded : Action → List (List ℕ) → Exports → Type 0
+AreLoaded (Diff n change) inputs (Pair before after) =
+    IsBefore (take n inputs) before × IsAfter change (take n inputs) (drop n inputs) after
+AreLoaded (Diff n change) inputs (Single l) = ⊥
+AreLoaded action inputs (Single l) = IsLoaded inputs l
+AreLoaded action inputs (Pair before after) = ⊥
+
+-- the inputs are refused for this fault
 abbrev pub AreRefused : Action → List (List ℕ) → LoadFault → Type 0
-AreRefused (Diff n) inputs fault = HasFault (take n inputs) fault
-    ⊎ (((before : LoadedView) × IsLoaded (take n inputs) before)
-    × ((own : LoadFault) × HasFault (drop n inputs) own × (fault ≡ behind n own)))
+AreRefused (Diff n change) inputs fault =
+    IsChangeRefused change (take n inputs) (drop n inputs) fault
 AreRefused action inputs fault = HasFault inputs fault
 
--- what the action is answered over: `diff` over two exports, everything else over one
+-- what the action is answered over: `diff` over two policies, everything else over one export
 abbrev pub IsOver : Action → Exports → Type 0
-IsOver (Diff n) (Pair before after) = Unit {0}
-IsOver (Diff n) (Single l) = ⊥
+IsOver (Diff n change) (Pair before after) = Unit {0}
+IsOver (Diff n change) (Single l) = ⊥
 IsOver action (Single l) = Unit {0}
 IsOver action (Pair before after) = ⊥

@@ -2,6 +2,7 @@ pub mod Ends
 pub mod Exports
 pub mod HolderLines
 pub mod MatrixPage
+pub mod MatrixRows
 pub mod Meant
 pub mod Out
 pub mod PageLeft

@@ -1,5 +1,5 @@
 -- The rows that a `matrix` command lists, and the page of them that it prints.
-use Rattle.std.specs.Prelude.{ℕ, Bool, true, false, List, [], ◌∷◌, ◌++◌, codes, Option, Some, None}
+use Rattle.std.specs.Prelude.{◌≡◌, ℕ, Bool, true, false, List, [], ◌∷◌, ◌++◌, codes, Option, Some, None}
 use Rattle.std.specs.List.{flat_map, last_or}
 use Rattle.std.specs.Option.{option_map}
 use Rattle.rbac_terms.specs.Text.{Text}
@@ -8,12 +8,25 @@ use Rattle.rbac_model.specs.Universes.{UniverseView, RowView, IsMatrix, cell_key
 use Rattle.rbac_text.specs.Row.{row_text, tab, newline}
 use Rattle.rbac_token.specs.Marks.{mark_text}
 use Rattle.rbac_token.specs.declared.mark.Mark.{Mark}
+use Rattle.rbac_question.specs.declared.command.MatrixOptions.{MatrixOptions}
 use Rattle.rbac_matrix.specs.Every.{IsEvery, every_after, mark_of}
+use Rattle.rbac_matrix.specs.Once.{without_repeats}
 
--- the rows that are listed: the matrix, or with `--every` a row for each binding that grants (own)
-abbrev pub AreListed : Bool → Held → UniverseView → List RowView → Type 0
-AreListed false held u rows = IsMatrix held u rows
-AreListed true held u rows = IsEvery held u rows
+-- the matrix, or with `--every` a row for each binding that grants (own)
+abbrev pub AreRows : Bool → Held → UniverseView → List RowView → Type 0
+AreRows false held u rows = IsMatrix held u rows
+AreRows true held u rows = IsEvery held u rows
+
+-- those of these rows that are listed: all, or with `--once` those that don't repeat what holds in
+-- the whole cluster (own)
+abbrev pub listed : Bool → List RowView → List RowView
+listed false rows = rows
+listed true rows = without_repeats rows
+
+-- the rows that these options list (own)
+abbrev pub AreListed : MatrixOptions → Held → UniverseView → List RowView → Type 0
+AreListed options held u all = (rows : List RowView) × AreRows options.every held u rows
+    × (all ≡ listed options.once rows)
 
 -- those that come after the mark: without `--every`, whose key is greater than the mark's (own)
 abbrev pub rows_past : Bool → Option Mark → List RowView → List RowView

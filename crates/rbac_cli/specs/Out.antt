@@ -10,6 +10,7 @@ use Rattle.rbac_model.specs.Universes.{UniverseView, RowView}
 use Rattle.rbac_model.specs.Holders.{HolderView}
 use Rattle.rbac_catalogue.specs.declared.entry.Entry.{Entry}
 use Rattle.rbac_universe.specs.Sets.{IsUniverseOf}
+use Rattle.rbac_document.specs.Document.{IsDocument}
 use Rattle.rbac_text.specs.Rule.{grant_text}
 use Rattle.rbac_text.specs.Why.{why_text}
 use Rattle.rbac_text.specs.Finding.{finding_text}
@@ -19,7 +20,7 @@ use Rattle.rbac_diff.specs.Changes.{ChangeView, AreChanges}
 use Rattle.rbac_diff.specs.Lines.{change_text}
 use Rattle.rbac_question.specs.declared.command.Action.{Action}
 use Rattle.rbac_question.specs.declared.command.Action.TheVariants.{CanI, WhoCan, Rules, Matrix}
-use Rattle.rbac_question.specs.declared.command.Action.TheVariants.{Lint, Diff}
+use Rattle.rbac_question.specs.declared.command.Action.TheVariants.{Universe, Lint, Diff}
 use Rattle.rbac_question.specs.declared.command.Scope.{Scope}
 use Rattle.rbac_question.specs.declared.command.Scope.TheVariants as question
 use Rattle.rbac_question.specs.declared.command.Question.{Question}
@@ -112,8 +113,9 @@ changes_status (x ∷ xs) = One
 -- the text and the status that an action means over what was loaded: `can-i` answers `yes` and 0,
 -- or `no` and 1 (kubectl auth can-i); `who-can` answers a line for each holder, and 0; `rules` a line
 -- for each rule that somebody has, and 0 (own); `matrix` a page of the rows that are listed over a
--- universe of the lists, and 0 (own); `lint` a line for each finding that is asked for, and 1 if there is one (own);
--- `diff` a line for each change from the first export to the second, and 1 if there is one (own)
+-- universe of the lists, and 0 (own); `universe` the Universe document of the lists, and 0 (own);
+-- `lint` a line for each finding that is asked for, and 1 if there is one (own); `diff` a line for
+-- each change from the first policy to the second, and 1 if there is one (own)
 abbrev pub Answers : Exports → Action → List ℕ → Status → Type 0
 Answers (Single l) (CanI who quiet why q) text status =
     (IsAllowed l.policy.held l.catalogue.entries who q
@@ -122,25 +124,27 @@ Answers (Single l) (CanI who quiet why q) text status =
     × (status ≡ Zero))
     ⊎ (IsDenied l.policy.held l.catalogue.entries who q × (text ≡ line_unless quiet (codes "no"))
     × (status ≡ One))
-Answers (Single l) (WhoCan why every anywhere any_name q) text status =
+Answers (Single l) (WhoCan options q) text status =
     (target : What) × (asked : WhereView) × IsTargetMeant l.catalogue.entries q.asked target
-    × IsWhereMeant l.catalogue.entries q anywhere target asked
+    × IsWhereMeant l.catalogue.entries q options.anywhere target asked
     × ((xs : List HolderView) × (lines : List Text)
-    × AreListedHolders l.policy.held asked every q.verb (requested_meant any_name target) xs
-    × AreHolderLines l.policy why q.verb (requested_meant any_name target) xs lines
+    × AreListedHolders l.policy.held asked options.every q.verb
+    (requested_meant options.any_name target) xs
+    × AreHolderLines l.policy options.why q.verb (requested_meant options.any_name target) xs lines
     × (text ≡ joined lines) × (status ≡ Zero))
 Answers (Single l) (Rules who scope) text status =
     (xs : List RuleView) × AreEffective l.policy who (scope_asked scope) xs
     × (text ≡ rules_text xs) × (status ≡ Zero)
-Answers (Single l) (Matrix every after limit) text status =
+Answers (Single l) (Matrix options after limit) text status =
     (u : UniverseView) × (rows : List RowView) × IsUniverseOf l.lists u
-    × AreListed every l.policy.held u rows
-    × (text ≡ matrix_text every after limit rows) × (status ≡ Zero)
+    × AreListed options l.policy.held u rows
+    × (text ≡ matrix_text options.every after limit rows) × (status ≡ Zero)
+Answers (Single l) Universe text status = IsDocument l.lists text × (status ≡ Zero)
 Answers (Single l) (Lint only skip_system) text status =
     (found : List Finding)
     × AreWanted (wanted_meant (option_map vec_items only) skip_system) l.policy.held l.replaced found
     × (text ≡ findings_text found) × (status ≡ findings_status found)
-Answers (Pair before after) (Diff n) text status =
-    (xs : List ChangeView) × AreChanges before.policy after.policy xs
+Answers (Pair before after) (Diff n change) text status =
+    (xs : List ChangeView) × AreChanges before after xs
     × (text ≡ changes_text xs) × (status ≡ changes_status xs)
 Answers e action text status = ⊥

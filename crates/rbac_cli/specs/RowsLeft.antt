@@ -1,33 +1,29 @@
 -- The rows of a matrix that are left to list.
-use Rattle.std.specs.Prelude.{◌≡◌, ℕ, Bool, true, false, List, [], ◌∷◌, Option, MatchOption}
+use Rattle.std.specs.Prelude.{◌≡◌, ℕ, Bool, List, [], ◌∷◌, Option, MatchOption}
 use Rattle.std.specs.Iterator.{Count, at_most}
 use Rattle.rbac_model.specs.Universes.{RowView}
-use Rattle.rbac_matrix.specs.Enumeration.{AreLeft, IsGoing, requests_left}
-use Rattle.rbac_matrix.specs.EveryLeft.{AreEveryLeft, IsGoingEvery, pairs_left}
 use Rattle.rbac_matrix.specs.RowTexts.{Shows}
 use Rattle.rbac_matrix.specs.declared.row.Row.{Row}
+use Rattle.rbac_cli.specs.MatrixPage.{listed}
+use Rattle.rbac_cli.specs.MatrixRows.{AreRowsLeft, IsOpenAt, is_every_of, most_rows}
 use Rattle.rbac_cli.specs.declared.rows_left.RowsLeft.{RowsLeft}
-use Rattle.rbac_cli.specs.declared.rows_left.RowsLeft.TheVariants.{First, Every}
 
 -- it lists every binding that grants a request, and not the first alone
 abbrev pub is_every : RowsLeft → Bool
-is_every (First rows) = false
-is_every (Every rows) = true
+is_every left = is_every_of left.rows
 
--- these rows are left
+-- these rows are left: those of the matrix, with `--once` without repeats
 abbrev pub AreLeftIn : RowsLeft → List RowView → Type 0
-AreLeftIn (First rows) all = AreLeft rows all
-AreLeftIn (Every rows) all = AreEveryLeft rows all
+AreLeftIn left all = (rows : List RowView) × AreRowsLeft left.rows rows
+    × (all ≡ listed left.once rows)
 
 -- what holds between two calls
 abbrev pub IsOpen : RowsLeft → Type 0
-IsOpen (First rows) = IsGoing rows
-IsOpen (Every rows) = IsGoingEvery rows
+IsOpen left = IsOpenAt left.rows
 
 -- at most as many rows are left
 abbrev pub most_left : RowsLeft → ℕ
-most_left (First rows) = requests_left rows
-most_left (Every rows) = pairs_left rows
+most_left left = most_rows left.rows
 
 abbrev pub left_at_most : RowsLeft → Count
 left_at_most left = at_most (most_left left)

@@ -13,7 +13,8 @@ use crate::outcome::Status;
 use crate::output::Output;
 use crate::rules::print_rules;
 use crate::stop::Stop;
-use crate::who_can::{HolderOptions, print_holders};
+use crate::universe::print_universe;
+use crate::who_can::print_holders;
 use rbac_question::Action;
 use std::alloc::Global;
 use std::io::Write;
@@ -44,29 +45,18 @@ pub(crate) fn print_answer<W: Write + Drop>(
             output.print(verdict.text.as_slice())?;
             Ok(verdict.status)
         }
-        Action::WhoCan {
-            why,
-            every,
-            anywhere,
-            any_name,
-            question,
-        } => {
-            let options = HolderOptions {
-                why: *why,
-                every: *every,
-                anywhere: *anywhere,
-                any_name: *any_name,
-            };
-            print_holders(alloc, export, options, question, output)
+        Action::WhoCan { options, question } => {
+            print_holders(alloc, export, *options, question, output)
         }
         Action::Rules { principal, scope } => {
             print_rules(alloc, export, principal, scope, output)
         }
         Action::Matrix {
-            every,
+            options,
             after,
             limit,
-        } => print_matrix(alloc, export, *every, after.as_ref(), *limit, output),
+        } => print_matrix(alloc, export, *options, after.as_ref(), *limit, output),
+        Action::Universe => print_universe(alloc, export, output),
         Action::Lint { only, skip_system } => {
             print_findings(alloc, export, only, *skip_system, output)
         }

@@ -3,6 +3,7 @@
 ghost use Rattle.std.specs.Prelude.{◌≡◌, ℕ, false, map};
 ghost use Rattle.rbac_diff.specs.Listed.{change_of};
 ghost use Rattle.rbac_question.specs.declared.command.Action.TheVariants.{Diff};
+ghost use Rattle.rbac_question.specs.declared.command.Change.{Change as ChangeTold};
 ghost use Rattle.rbac_cli.specs.Out.{changes_text, changes_status};
 ghost use Rattle.rbac_cli.specs.Printing.{EndsPrinting};
 ghost use Rattle.rbac_cli.specs.declared.exports.Exports.TheVariants.{Pair};
@@ -12,23 +13,23 @@ use crate::outcome::Status;
 use crate::output::Output;
 use crate::stop::Stop;
 use rbac_diff::{Change, changes, put_change};
-use rbac_manifest::Export;
+use rbac_model::Policy;
 use std::alloc::{AllocError, Global};
 use std::io::Write;
 use std::slice::Iter;
 
-/// Prints what changes for users from one export to the other, a line for each change.
+/// Prints what changes for users from one policy to the other, a line for each change.
 pub(crate) fn print_changes<W: Write + Drop>(
     alloc: Global,
-    before: &Export,
-    after: &Export,
+    before: &Policy,
+    after: &Policy,
     output: &mut Output<'_, W>,
 ) -> Result<Status, Stop>
     requires { output.old.sink.now.has_failed ≡ false }
-    ensures { (n : ℕ) → EndsPrinting W.contents output.old output.new
-        (Pair before.now after.now) (Diff n) result }
+    ensures { (n : ℕ) (change : ChangeTold) → EndsPrinting W.contents output.old output.new
+        (Pair before.now after.now) (Diff n change) result }
 {
-    let changes = changes(alloc, before.policy(), after.policy())?;
+    let changes = changes(alloc, before, after)?;
     let changes = changes.as_slice();
     print_lines(alloc, &mut changes.iter(), status_of(changes), output)
 }

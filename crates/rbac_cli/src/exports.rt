@@ -1,14 +1,21 @@
 //! What the inputs of a command give.
 
-ghost use Rattle.std.specs.Prelude.{◌≡◌, ◌≢◌, ◌<◌, ◌^◌, ◌+◌, IfOk, IfErr, IfSome};
-ghost use Rattle.rbac_manifest.specs.Load.{IsLoaded, HasFault};
+ghost use Rattle.std.specs.Prelude.{◌≡◌, ◌≢◌, ◌<◌, ◌^◌, ◌+◌, ◌⊎◌, IfOk, IfErr, IfSome, IsOkAnd};
+ghost use Rattle.std.specs.Prelude.{None, Some, length};
+ghost use Rattle.rbac_manifest.specs.Changed.{IsResolved, changed_objects};
+ghost use Rattle.rbac_manifest.specs.Load.{IsLoaded, HasFault, HasTooManyGrants, document_fault};
+ghost use Rattle.rbac_manifest.specs.declared.fault.Cause.TheVariants.{NoMemory};
 ghost use Rattle.rbac_question.specs.declared.command.Action.TheVariants.{Diff};
-ghost use Rattle.rbac_cli.specs.Exports.{AreLoaded, AreRefused, behind};
+ghost use Rattle.rbac_cli.specs.Exports.{AreLoaded, AreRefused, IsBefore, IsAfter, IsChangeRefused};
+ghost use Rattle.rbac_cli.specs.Exports.{IsFaultOfBoth, behind, objects_after, objects_of};
 ghost use Rattle.rbac_cli.specs.Ends.{FailsToLoad};
 
 use crate::outcome::RunFault;
-use rbac_manifest::{At, Cause, Export, LoadFault, load_export};
-use rbac_question::Action;
+use rbac_manifest::{
+    At, Cause, Export, LoadFault, changed, load_export, load_objects, load_policy,
+};
+use rbac_model::{Object, Policy};
+use rbac_question::{Action, Change};
 use rbac_streams::Input;
 use std::alloc::Global;
 
@@ -17,12 +24,12 @@ use std::alloc::Global;
 pub(crate) enum Exports {
     /// One export.
     Single(Export),
-    /// What was before a change, and what is after it.
-    Pair(Export, Export),
+    /// The policy before a change, and the one after it.
+    Pair(Policy, Policy),
 }
 
-/// Loads the inputs of an action: of `diff` those before the change by themselves, and those after
-/// it by themselves, otherwise all together.
+/// Loads the inputs of an action: of `diff` those before the change by themselves, and then what is
+/// after it; otherwise all together.
 pub(crate) fn exports_from(
     alloc: Global,
     action: &Action,
@@ -32,7 +39,7 @@ pub(crate) fn exports_from(
     ensures fault { IfErr result (FailsToLoad (AreRefused action.now inputs.now)) }
 {
     match action {
-        Action::Diff { before } => pair_from(alloc, *before, inputs),
+        Action::Diff { before, change } => pair_from(alloc, *before, *change, inputs),
         _ => Ok(Exports::Single(export_from(alloc, inputs)?)),
     }
 }
@@ -45,15 +52,107 @@ fn export_from(alloc: Global, inputs: &[Input]) -> Result<Export, RunFault>
 }
 
 // Loads both sides of a change, of which the first inputs tell what was before.
-fn pair_from(alloc: Global, before: usize, inputs: &[Input]) -> Result<Exports, RunFault>
-    ensures ok { IfOk result (AreLoaded (Diff before) inputs.now) }
-    ensures fault { IfErr result (FailsToLoad (AreRefused (Diff before) inputs.now)) }
+fn pair_from(
+    alloc: Global,
+    before: usize,
+    change: Change,
+    inputs: &[Input],
+) -> Result<Exports, RunFault>
+    ensures ok { IfOk result (AreLoaded (Diff before change) inputs.now) }
+    ensures fault { IfErr result (FailsToLoad (AreRefused (Diff before change) inputs.now)) }
 {
     let (first, others) = inputs.split_at(before.min(inputs.len()));
-    let old = export_from(alloc, first)?;
-    match load_export(alloc, others) {
-        Ok(new) => Ok(Exports::Pair(old, new)),
-        Err(fault) => Err(unloaded(moved_behind(before, fault))),
+    match sides_of(alloc, change, first, others) {
+        Ok((old, new)) => Ok(Exports::Pair(old, new)),
+        Err(fault) => Err(unloaded(fault)),
+    }
+}
+
+// The policies before and after a change. What is wrong with the side before comes first.
+fn sides_of(
+    alloc: Global,
+    change: Change,
+    first: &[Input],
+    others: &[Input],
+) -> Result<(Policy, Policy), LoadFault>
+    requires { length first.now + length others.now < 2 ^ 64 }
+    ensures ok { IfOk result (λ sides. IsBefore first.now sides.0
+        × IsAfter change first.now others.now sides.1) }
+    ensures fault { IfErr result
+        (λ e. e.cause ≢ NoMemory → IsChangeRefused change first.now others.now e) }
+    ensures memory { IfErr result (λ e. e.cause ≡ NoMemory → e.at ≡ None) }
+{
+    let objects = load_objects(alloc, first)?;
+    let changed = changed_by(alloc, change, objects.as_slice(), others);
+    let old = load_policy(alloc, objects)?;
+    match policy_of(alloc, changed) {
+        Ok(new) => Ok((old, new)),
+        Err(fault) => Err(moved_behind(first.len(), fault)),
+    }
+}
+
+// The policy of objects, if they were loaded.
+fn policy_of(alloc: Global, objects: Result<Vec<Object>, LoadFault>) -> Result<Policy, LoadFault>
+    ensures ok { IfOk result (λ p. IsOkAnd objects (λ v. IsResolved v.items p)) }
+    ensures fault { IfErr result (λ e. (objects ≡ Err e)
+        ⊎ IsOkAnd objects (λ v. e.cause ≢ NoMemory → HasTooManyGrants v.items e)) }
+    ensures memory { IfErr result (λ e. (objects ≡ Err e)
+        ⊎ (e.cause ≡ NoMemory → e.at ≡ None)) }
+{
+    match objects {
+        Ok(objects) => load_policy(alloc, objects),
+        Err(fault) => Err(fault),
+    }
+}
+
+// The objects that are there after a change of these, which the other inputs tell.
+fn changed_by(
+    alloc: Global,
+    change: Change,
+    objects: &[Object],
+    others: &[Input],
+) -> Result<Vec<Object>, LoadFault>
+    ensures ok { IfOk result (λ v. (document_fault others.now ≡ None)
+        × (v.items ≡ objects_after change objects.now others.now)) }
+    ensures fault { IfErr result (λ e. e.cause ≢ NoMemory → document_fault others.now ≡ Some e) }
+    ensures memory { IfErr result (λ e. e.cause ≡ NoMemory → e.at ≡ None) }
+{
+    match change {
+        Change::After => load_objects(alloc, others),
+        Change::Over(count) => {
+            let (without, over) = others.split_at(count.min(others.len()));
+            changed_over(alloc, objects, without, over)
+        }
+    }
+}
+
+// The objects that are left of these without those that some inputs name, with those of others put
+// over.
+fn changed_over(
+    alloc: Global,
+    objects: &[Object],
+    without: &[Input],
+    over: &[Input],
+) -> Result<Vec<Object>, LoadFault>
+    requires { length without.now + length over.now < 2 ^ 64 }
+    ensures ok { IfOk result (λ v. (document_fault without.now ≡ None)
+        × (document_fault over.now ≡ None)
+        × (v.items ≡ changed_objects objects.now (objects_of without.now) (objects_of over.now))) }
+    ensures fault { IfErr result
+        (λ e. e.cause ≢ NoMemory → IsFaultOfBoth without.now over.now e) }
+    ensures memory { IfErr result (λ e. e.cause ≡ NoMemory → e.at ≡ None) }
+{
+    let named = load_objects(alloc, without)?;
+    let put = match load_objects(alloc, over) {
+        Ok(put) => put,
+        Err(fault) => return Err(moved_behind(without.len(), fault)),
+    };
+    match changed(alloc, objects, named.as_slice(), put) {
+        Ok(objects) => Ok(objects),
+        Err(_) => Err(LoadFault {
+            at: None,
+            cause: Cause::NoMemory,
+        }),
     }
 }
 

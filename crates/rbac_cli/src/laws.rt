@@ -2,11 +2,12 @@
 //! nothing; their contracts are the laws.
 
 ghost use Rattle.std.specs.Prelude.{◌≡◌, ◌↔◌, List, ℕ, Result};
-ghost use Rattle.rbac_manifest.specs.Load.{LoadedView};
+ghost use Rattle.rbac_model.specs.Policies.{PolicyView};
 ghost use Rattle.rbac_streams.specs.Streams.{SinkView};
 ghost use Rattle.rbac_streams.specs.Taken.{Took};
 ghost use Rattle.rbac_question.specs.declared.command.Action.{Action};
 ghost use Rattle.rbac_question.specs.declared.command.Action.TheVariants.{Diff};
+ghost use Rattle.rbac_question.specs.declared.command.Change.{Change};
 ghost use Rattle.rbac_diff.specs.Requests.{AllowsNoMore};
 ghost use Rattle.rbac_cli.specs.Exports.{AreLoaded};
 ghost use Rattle.rbac_cli.specs.Out.{Answers};
@@ -19,7 +20,10 @@ ghost use Rattle.rbac_cli.specs.declared.outcome.Status.{Status};
 ghost use Rattle.rbac_cli.specs.declared.outcome.RunFault.{RunFault};
 
 use rbac_diff::changes_tell_all;
-use rbac_manifest::{load_faults_are_one, loaded_inputs_are_one, loaded_inputs_have_no_fault};
+use rbac_manifest::{
+    load_faults_are_one, loaded_inputs_are_one, loaded_inputs_have_no_fault,
+    resolved_policies_are_one, resolved_policies_have_no_fault,
+};
 use rbac_universe::universes_have_no_fault;
 use std::io::Write;
 
@@ -46,16 +50,18 @@ pub fn runs_are_one<V: Write, W: Write>()
     loaded_inputs_are_one();
     loaded_inputs_have_no_fault();
     load_faults_are_one();
+    resolved_policies_are_one();
+    resolved_policies_have_no_fault();
     universes_have_no_fault();
 }
 
 /// No line of a `diff` begins with `+` exactly if every request of every user, in every namespace,
 /// with every verb, on every proper target, that after allows, before allows too (own).
 pub fn plus_lines_tell_all()
-    ensures { (n : ℕ) (inputs : List (List ℕ)) (before after : LoadedView) (text : List ℕ)
-        (status : Status) → AreLoaded (Diff n) inputs (Pair before after)
-        → Answers (Pair before after) (Diff n) text status
-        → (¬ HasPlusLine text) ↔ AllowsNoMore before.policy after.policy }
+    ensures { (n : ℕ) (change : Change) (inputs : List (List ℕ)) (before after : PolicyView)
+        (text : List ℕ) (status : Status) → AreLoaded (Diff n change) inputs (Pair before after)
+        → Answers (Pair before after) (Diff n change) text status
+        → (¬ HasPlusLine text) ↔ AllowsNoMore before after }
 {
     changes_tell_all();
 }

@@ -11,6 +11,7 @@ mod laws;
 mod lines;
 mod lint;
 mod matrix;
+mod matrix_rows;
 mod meaning;
 mod outcome;
 mod output;
@@ -19,13 +20,17 @@ mod rows_left;
 mod rules;
 mod running;
 mod stop;
+mod universe;
 mod who_can;
 
 pub use laws::{answers_are_one, plus_lines_tell_all, runs_are_one};
 pub use outcome::{RunFault, Status};
 pub use rbac_command::{UsageFault, command_of};
 pub use rbac_manifest::{At, Cause, LoadFault};
-pub use rbac_question::{Action, Asked, AskedFor, Command, Question, QuestionFault, Scope};
+pub use rbac_question::{
+    Action, Asked, AskedFor, Change, Command, HolderOptions, MatrixOptions, Question, QuestionFault,
+    Scope,
+};
 pub use rbac_streams::{
     Failed, Input, InputFault, Sink, Source, read_file, read_input, read_slice,
 };

@@ -19,35 +19,37 @@ use rbac_index::{Index, IndexFault, Reach, reaches_of};
 use rbac_manifest::Export;
 use rbac_matrix::{Matrix, Seat};
 use rbac_model::Policy;
+use rbac_question::MatrixOptions;
 use rbac_token::Mark;
 use rbac_universe::{Universe, UniverseFault};
 use std::alloc::{AllocError, Global};
 use std::io::Write;
 
 /// Prints a page of the matrix of what was loaded: a line for each row that comes after the mark,
-/// at most as many as the limit says, and a last line that says whether more follow. With `every`,
-/// each binding that grants a request has a row; otherwise the first alone.
+/// at most as many as the limit says, and a last line that says whether more follow. With
+/// `options.every` each binding that grants a request has a row, otherwise the first alone; with
+/// `options.once` rows that have a namespace and a ClusterRoleBinding are left out.
 pub(crate) fn print_matrix<W: Write + Drop>(
     alloc: Global,
     export: &Export,
-    every: bool,
+    options: MatrixOptions,
     after: Option<&Mark>,
     limit: Option<u32>,
     output: &mut Output<'_, W>,
 ) -> Result<Status, Stop>
     requires { output.old.sink.now.has_failed ≡ false }
     ensures { EndsPrinting W.contents output.old output.new (Single export.now)
-        (ListsMatrix every (option_copied after.entry) limit) result }
+        (ListsMatrix options (option_copied after.entry) limit) result }
 {
     let basis = basis_of(alloc, export)?;
-    print_rows(alloc, &basis, every, after, limit, output)
+    print_rows(alloc, &basis, options, after, limit, output)
 }
 
 // Prints a page of the rows of a matrix over this basis.
 fn print_rows<W: Write + Drop>(
     alloc: Global,
     basis: &Basis<'_>,
-    every: bool,
+    options: MatrixOptions,
     after: Option<&Mark>,
     limit: Option<u32>,
     output: &mut Output<'_, W>,
@@ -57,7 +59,7 @@ fn print_rows<W: Write + Drop>(
     ensures { (l : LoadedView) → IsUniverseOf l.lists basis.now.universe
         → basis.now.index ≡ l.policy
         → EndsPrinting W.contents output.old output.new (Single l)
-        (ListsMatrix every (option_copied after.entry) limit) result }
+        (ListsMatrix options (option_copied after.entry) limit) result }
 {
     let Ok(mut seats) = seats_for(alloc, &basis.index) else {
         return Err(Stop::NoMemory);
@@ -68,7 +70,7 @@ fn print_rows<W: Write + Drop>(
         basis.reaches.as_slice(),
         seats.as_mut_slice(),
     );
-    let left = RowsLeft::after(&mut matrix, every, after);
+    let left = RowsLeft::after(&mut matrix, options, after);
     let mut lines = PageLines {
         alloc,
         left,

@@ -8,37 +8,37 @@ ghost use Rattle.rbac_matrix.specs.Lent.{AreLent};
 ghost use Rattle.rbac_cli.specs.RowsLeft.{AreLeftIn, GivesNext, IsOpen, is_every, left_at_most};
 ghost use Rattle.rbac_cli.specs.MatrixPage.{AreListed, rows_past};
 
-use rbac_matrix::{EveryRows, Matrix, Row, Rows, a_matrix_is_there, every_rows_are_there};
+use crate::matrix_rows::MatrixRows;
+use rbac_matrix::{Matrix, Row};
+use rbac_question::MatrixOptions;
 use rbac_token::Mark;
 
-/// The rows that are left to list: for each request the first binding that grants it, or every
-/// binding that does.
+/// The rows that are left to list.
 #[derive(Drop)]
-pub(crate) enum RowsLeft<'r, 'm> {
-    First(Rows<'r, 'm>),
-    Every(EveryRows<'r, 'm>),
+pub(crate) struct RowsLeft<'r, 'm> {
+    rows: MatrixRows<'r, 'm>,
+    // Whether repeats are left out.
+    once: bool,
 }
 
 impl<'r, 'm> RowsLeft<'r, 'm> {
-    /// The rows of a matrix that come after a mark.
-    pub(crate) fn after(matrix: &'r mut Matrix<'m, '_>, every: bool, mark: Option<&Mark>) -> Self
+    /// The rows of a matrix that these options list and that come after a mark.
+    pub(crate) fn after(
+        matrix: &'r mut Matrix<'m, '_>,
+        options: MatrixOptions,
+        mark: Option<&Mark>,
+    ) -> Self
         requires { AreLent matrix.old }
         ensures going { IsOpen result }
-        ensures every { is_every result ≡ every }
+        ensures every { is_every result ≡ options.every }
         ensures left { (rows : List RowView)
-            × AreListed every matrix.old.index.now.held matrix.old.universe.now rows
-            × AreLeftIn result (rows_past every (option_copied mark.entry) rows) }
+            × AreListed options matrix.old.index.now.held matrix.old.universe.now rows
+            × AreLeftIn result (rows_past options.every (option_copied mark.entry) rows) }
     {
-        if every {
-            every_rows_are_there();
-            return RowsLeft::Every(matrix.every_after(mark));
+        RowsLeft {
+            rows: MatrixRows::after(matrix, options.every, mark),
+            once: options.once,
         }
-        a_matrix_is_there();
-        let key = match mark {
-            Some(mark) => Some(&mark.key),
-            None => None,
-        };
-        RowsLeft::First(matrix.rows_after(key))
     }
 
     /// The next row.
@@ -49,10 +49,10 @@ impl<'r, 'm> RowsLeft<'r, 'm> {
         ensures gives { GivesNext self.old result self.new }
         ensures goes { MakesProgress IsOpen left_at_most self.old result self.new }
     {
-        match self {
-            RowsLeft::First(rows) => rows.next(),
-            RowsLeft::Every(rows) => rows.next(),
+        if self.once {
+            self.rows.pass_repeats();
         }
+        self.rows.next()
     }
 
     /// Whether every binding that grants a request is listed, and not the first alone.
@@ -60,9 +60,6 @@ impl<'r, 'm> RowsLeft<'r, 'm> {
         ensures every { result ≡ is_every self.old }
         ensures same { self.new ≡ self.old }
     {
-        match self {
-            RowsLeft::First(_) => false,
-            RowsLeft::Every(_) => true,
-        }
+        self.rows.is_every()
     }
 }

@@ -19,24 +19,11 @@ use crate::stop::Stop;
 use rbac_index::{Holder, Holders, Index, IndexFault, Requested, Where, why_held};
 use rbac_manifest::Export;
 use rbac_model::Policy;
-use rbac_question::Question;
+use rbac_question::{HolderOptions, Question};
 use rbac_terms::{Target, Word};
 use rbac_text::{put_holder, put_holder_why};
 use std::alloc::{AllocError, Global};
 use std::io::Write;
-
-// Which holders are listed, and how.
-#[derive(Clone, Copy)]
-pub(crate) struct HolderOptions {
-    // Whether each line goes on with why.
-    pub(crate) why: bool,
-    // Whether each has a line for every binding, and not only for the first.
-    pub(crate) every: bool,
-    // Whether the bindings of all namespaces count.
-    pub(crate) anywhere: bool,
-    // Whether a rule counts whatever its object names are.
-    pub(crate) any_name: bool,
-}
 
 /// Prints who is allowed what the question asks, a line for each holder, or for each with every
 /// binding that makes it one; with `why`, each line goes on with why the holder's key holds the
@@ -50,8 +37,7 @@ pub(crate) fn print_holders<W: Write + Drop>(
 ) -> Result<Status, Stop>
     requires { output.old.sink.now.has_failed ≡ false }
     ensures { EndsPrinting W.contents output.old output.new (Single export.now)
-        (WhoCan options.why options.every options.anywhere options.any_name question.now)
-        result }
+        (WhoCan options question.now) result }
 {
     let meant = meant_by(alloc, export.catalogue(), question)?;
     let place = where_asked(meant.is_outside, options.anywhere, &meant.namespace);

@@ -6,8 +6,8 @@ use Rattle.rbac_cli.proofs.PlusLemmas.{plus_lines}
 use Rattle.rbac_cli.proofs.laws.plus_lines_tell_all.Goals as goal
 
 pub returns : goal.returns
-returns c = λ n inputs before after text status loaded (xs, are, e, s).
-    let lines = plus_lines before.policy after.policy xs are in
-    let tells = c.changes_tell_all.ensures.nothing before.policy after.policy xs loaded.0.policy loaded.1.policy are in
-    subst (λ (t : List ℕ). (¬ HasPlusLine t) ↔ AllowsNoMore before.policy after.policy) (sym e)
+returns c = λ n change inputs before after text status loaded (xs, are, e, s).
+    let lines = plus_lines before after xs are in
+    let tells = c.changes_tell_all.ensures.nothing before after xs loaded.0.1.policy loaded.1.1.policy are in
+    subst (λ (t : List ℕ). (¬ HasPlusLine t) ↔ AllowsNoMore before after) (sym e)
     (λ none. tells.0 (lines.0 none), λ allows. lines.1 (tells.1 allows))

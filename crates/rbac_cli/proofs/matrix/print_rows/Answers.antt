@@ -11,14 +11,15 @@ use Rattle.rbac_cli.proofs.matrix.print_rows.Goals as goal
 
 pub returns : goal.returns
 returns g c = λ l universe policy.
-    let every = c.args.every in
+    let options = c.args.options in
+    let every = options.every in
     let m = option_copied c.args.after in
     let basis = c.args.basis.now in
     let matrix = c.build-matrix in
     let left = c.after-left.ensures.left in
     let rows = rows_past every m left.0 in
-    let listed = subst (λ (p : PolicyView). AreListed every p.held basis.universe left.0) (matrix.ensures.index ∙ policy)
-    (subst (λ (u : UniverseView). AreListed every matrix.result.index.now.held u left.0) matrix.ensures.universe left.1) in
-    c.print_lines.ensures (Single l) (Matrix every m c.args.limit) (matrix_text every m c.args.limit left.0)
+    let listed = subst (λ (p : PolicyView). AreListed options p.held basis.universe left.0) (matrix.ensures.index ∙ policy)
+    (subst (λ (u : UniverseView). AreListed options matrix.result.index.now.held u left.0) matrix.ensures.universe left.1) in
+    c.print_lines.ensures (Single l) (Matrix options m c.args.limit) (matrix_text every m c.args.limit left.0)
     (None, rows, refl, left.2, ap (λ (e : Bool). text_after e None (cut_at c.args.limit rows)) (sym c.after-left.ensures.every))
     (basis.universe, left.0, universe, listed, refl, refl)
