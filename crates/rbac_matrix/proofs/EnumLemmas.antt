@@ -173,6 +173,6 @@ module _ (p : PolicyView) (u : UniverseView) (rs : List (List ℕ)) where
   pub metered_over : (start : Place) (sought given : ℕ) (at next to : Place) (l : LineView) (from upto : ℕ) (old ended empty seats : List Seat) (m m' m'' : ℕ) → IsPolicy p → IsUniverse u → AreReaches p u rs → lines_from u at ≡ l ∷ lines_from u next → EndsLine p u rs l from upto ended → AreEmpty p empty → Costs 0 0 old ended m m' → Costs 0 0 empty seats m' m'' → Skips p.held u next to → IsMetered p u start sought at old given m → IsMetered p u start sought to seats given m''
   metered_over start sought given at next to l from upto old ended empty seats m m' m'' policy is reaches e ends none costs more skips h =
       let read : IsMetered p u start sought at ended given m' = metered_on p u start sought at old ended given m m' h costs in
-      let over : IsMetered p u start sought next empty given m' = metered_end p u start sought rs at next l ends.reached ends.low ended empty given m' policy is reaches e ends.seated ends.past none read in
+      let over : IsMetered p u start sought next empty given m' = metered_end p u start sought rs at next l ends.reached ends.low ended empty given m' policy is reaches e ends.seated none read in
       let seated : IsMetered p u start sought next seats given m'' = metered_on p u start sought next empty seats given m' m'' over more in
       metered_skip p u start sought next to seats given m'' skips.between skips.whole seated

@@ -20,7 +20,7 @@ cursor_named : (p : PolicyView) (l : LineView) (k : ℕ) → IsCursorAt p l k �
 cursor_named p l k c = (c.grant, c.at, c.is.1)
 
 -- whatever the verb
-bound_alike : (p : PolicyView) (l : LineView) (verb : Text) (k : ℕ) → IsBoundOn p (line l.who l.namespace verb) k → IsBoundOn p l k
+pub bound_alike : (p : PolicyView) (l : LineView) (verb : Text) (k : ℕ) → IsBoundOn p (line l.who l.namespace verb) k → IsBoundOn p l k
 unfolding IsBoundOn
 bound_alike p l verb k b = b
 
@@ -47,7 +47,7 @@ module _ (h : Held) (u : UniverseView) where
 
 -- what is passed where the lines of a namespace, or of somebody, are skipped
 module _ (u : UniverseView) (at : Place) (l : LineView) (here : IsLineAt u at l) where
-  namespace_over : lines_from u at ≡ verb_lines u l.who at.verb l.namespace ++ lines_from u (place at.principal (at.namespace + 1) 0)
+  pub namespace_over : lines_from u at ≡ verb_lines u l.who at.verb l.namespace ++ lines_from u (place at.principal (at.namespace + 1) 0)
   namespace_over =
       lines_of_principal u at.principal at.namespace at.verb l.who here.principal
       ∙ ap (λ (ls : List LineView). ls ++ lines_from u (place (at.principal + 1) 0 0)) (namespaces_at u l.who at.namespace at.verb l.namespace here.namespace)

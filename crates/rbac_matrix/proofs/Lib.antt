@@ -1,3 +1,4 @@
+pub mod BareLemmas
 pub mod BeginLemmas
 pub mod BlockLemmas
 pub mod Decided

@@ -20,7 +20,7 @@ use Rattle.rbac_matrix.specs.declared.line.Place.{Place}
 use Rattle.rbac_matrix.specs.declared.seat.Seat.{Seat}
 use Rattle.rbac_matrix.specs.Seats.{ArePast, AreEmpty, AreSeated, Costs, IsSeated, passed, past_all, reach_at, seat_at, stand_of, standing, start_at}
 use Rattle.rbac_matrix.proofs.SeekLemmas.{ascends, raised-raised}
-use Rattle.rbac_matrix.proofs.SeatLemmas.{empty_passed, empty_standing, past_standing, stands_within}
+use Rattle.rbac_matrix.proofs.SeatLemmas.{empty_passed, empty_standing, stands_within}
 use Rattle.rbac_matrix.proofs.LineLemmas.{in_matches, place_within, reach_up}
 
 -- ---- counts
@@ -189,12 +189,11 @@ module _ (p : PolicyView) (u : UniverseView) (start : Place) (sought : ℕ) wher
         omega (arith, h.high split.0 split.2, split.4);
   }
 
-  -- a line has ended, and its seats are emptied
-  pub metered_end : (rs : List (List ℕ)) (at to : Place) (l : LineView) (from upto : ℕ) (seats empty : List Seat) (given m : ℕ) → IsPolicy p → IsUniverse u → AreReaches p u rs → lines_from u at ≡ l ∷ lines_from u to → AreSeated p l rs from upto seats → ArePast seats → AreEmpty p empty → IsMetered p u start sought at seats given m → IsMetered p u start sought to empty given m
-  metered_end rs at to l from upto seats empty given m policy is reaches e seated past none h =
+  -- a line is left, and its seats are emptied
+  pub metered_end : (rs : List (List ℕ)) (at to : Place) (l : LineView) (from upto : ℕ) (seats empty : List Seat) (given m : ℕ) → IsPolicy p → IsUniverse u → AreReaches p u rs → lines_from u at ≡ l ∷ lines_from u to → AreSeated p l rs from upto seats → AreEmpty p empty → IsMetered p u start sought at seats given m → IsMetered p u start sought to empty given m
+  metered_end rs at to l from upto seats empty given m policy is reaches e seated none h =
       let a = empty_passed p empty none in
       let b = empty_standing p empty none in
-      let c = past_standing seats past in
       record {
         total = h.total;
         meter = h.meter;

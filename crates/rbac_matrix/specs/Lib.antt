@@ -1,3 +1,4 @@
+pub mod BareLines
 pub mod Blocks
 pub mod Cells
 pub mod Cursors

@@ -43,6 +43,18 @@ impl Runs {
         }
     }
 
+    // No runs, of those that a walk looks up.
+    pub(crate) fn unknown() -> Self
+        ensures { (result.kept.items ≡ []) × (result.are_all ≡ false) }
+    {
+        Runs {
+            kept: ArrayVec::new(),
+            are_all: false,
+            is_bare: false,
+            verbs: ArrayVec::new(),
+        }
+    }
+
     // The first runs of the line, and the verbs that their grants have.
     pub(crate) fn of(index: &Index<'_>, universe: &Universe, line: Line<'_>) -> Self
         ensures runs { AreRunsOf index.now universe.now (line_of line.entry) result }
@@ -68,6 +80,13 @@ impl Runs {
             is_bare: !subjects.has_role_bindings(line.namespace),
             verbs: ArrayVec::new(),
         }
+    }
+
+    // Keeps the runs for this namespace alone.
+    pub(crate) fn keep_here(&mut self)
+        ensures { self.new ≡ record self.old { is_bare = false } }
+    {
+        self.is_bare = false;
     }
 
     // Whether these runs, of somebody in one namespace, are known to be those in this one too.

@@ -3,6 +3,7 @@
 #![tactic(auto)]
 
 mod advance;
+mod bare_lines;
 mod basis;
 mod blocks;
 mod bound_runs;

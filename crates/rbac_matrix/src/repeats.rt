@@ -5,6 +5,7 @@ ghost use Rattle.std.specs.Prelude.{IfSome, Some, length, slice_get};
 ghost use Rattle.rbac_model.specs.Policies.{GrantView};
 ghost use Rattle.rbac_model.specs.Universes.{most_targets};
 ghost use Rattle.rbac_universe.specs.Sets.{IsWithinLimits};
+ghost use Rattle.rbac_matrix.specs.BareLines.{PassesLines};
 ghost use Rattle.rbac_matrix.specs.Enumeration.{AreLeft, GoesOn, IsGoing, IsUnderWay};
 ghost use Rattle.rbac_matrix.specs.Enumeration.{requests_left};
 ghost use Rattle.rbac_matrix.specs.EveryLeft.{AreEveryLeft, BeginsBinding, IsGoingEvery, pairs_left};
@@ -13,12 +14,14 @@ ghost use Rattle.rbac_matrix.specs.Metering.{IsReady};
 ghost use Rattle.rbac_matrix.specs.Once.{PassesRepeats, PassesSome, StaysFirst, repeats_at};
 ghost use Rattle.rbac_matrix.specs.Passing.{EndsAll, FindsCell};
 
+use crate::bare_lines::{cluster_grants, has_cursor_from, past_bare};
 use crate::basis::Basis;
 use crate::enumeration::Rows;
 use crate::every_rows::{EveryRows, after_binding};
-use crate::line::line_at;
+use crate::line::{after, line_at};
 use crate::row::is_repeat_in;
-use crate::steps::next_cell;
+use crate::seats::empty_line;
+use crate::steps::{next_cell, next_line};
 use rbac_index::Index;
 
 impl Rows<'_, '_> {
@@ -109,6 +112,40 @@ impl Rows<'_, '_> {
             return false;
         };
         is_repeat_in(line.namespace, self.index.grant(no).binding)
+    }
+
+    // Passes the rows that are left on the line if no RoleBinding has a cursor on it, and lines
+    // after it of which that is known. Answers whether it did.
+    pub(crate) fn pass_lines(&mut self) -> bool
+        requires { (low : ℕ) × IsUnderWay self.old low }
+        ensures stays { result ≡ false → self.new ≡ self.old }
+        ensures going { IsTrue result → IsGoing self.new }
+        ensures passes { IsTrue result
+            → PassesLines self.old.index.now self.old.universe.now self.old.at self.new.at }
+        ensures from { IsTrue result → self.new.from ≡ 0 }
+        ensures returned { self.new.returned ≡ self.old.returned }
+        ensures same { GoesOn self.old self.new }
+    {
+        let index = self.index;
+        let basis = Basis {
+            index,
+            universe: self.universe,
+            reaches: self.reaches,
+        };
+        let Some(line) = line_at(basis.universe, self.at) else {
+            return false;
+        };
+        let cluster = cluster_grants(index);
+        if line.namespace.is_empty() || has_cursor_from(index, line, cluster) {
+            return false;
+        }
+        empty_line(index, line, &self.kept.runs, self.seats);
+        let next = past_bare(index, basis.universe, after(self.at), cluster);
+        let kept = &mut self.kept;
+        kept.runs.keep_here();
+        self.at = next_line(basis, next, kept, self.seats, &mut self.meter);
+        self.from = 0;
+        true
     }
 
     // Passes the place from which rows are left.

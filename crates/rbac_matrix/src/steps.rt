@@ -100,7 +100,7 @@ fn renew(basis: Basis<'_>, line: Line<'_>, at: Place, runs: &mut Runs)
 // Seats the cursors of the next line, from this place on, that has cursors with an entry, and
 // returns its place; if there is none, returns the place past all lines. Expects all seats to be
 // empty, and the runs to be known.
-fn next_line(
+pub(crate) fn next_line(
     basis: Basis<'_>,
     at: Place,
     kept: &mut Kept,

@@ -1,7 +1,7 @@
 //! Walks along a line's grants whose bindings name who asks and may be live.
 
 ghost use Rattle.std.specs.Prelude.{◌≡◌, ◌↔◌, IsTrue, ◌<◌, ◌≤◌};
-ghost use Rattle.std.specs.Prelude.{◌⊎◌, ℕ, IfSome, MatchOption, drop, length};
+ghost use Rattle.std.specs.Prelude.{◌⊎◌, ℕ, IfSome, MatchOption, [], drop, false, length};
 ghost use Rattle.rbac_model.specs.Policies.{PolicyView};
 ghost use Rattle.rbac_matrix.specs.Shown.{line_of};
 ghost use Rattle.rbac_matrix.specs.Lines.{LineView};
@@ -48,6 +48,21 @@ pub(crate) fn whole_walk() -> Walk
     Walk {
         next: 0,
         end: 0,
+        later: 0,
+    }
+}
+
+// A walk along the grants of a line from a number on, which looks up each run.
+pub(crate) fn walk_from(first: u32) -> Walk
+    ensures ahead { (p : PolicyView) (l : LineView) (k : ℕ) → IsCursorAt p l k → first ≤ k
+        → IsAhead p l result k }
+    ensures within { (p : PolicyView) (l : LineView) (runs : Runs) → runs.kept.items ≡ []
+        → runs.are_all ≡ false → IsWithin p l runs result }
+    ensures first { result.next ≡ first }
+{
+    Walk {
+        next: first,
+        end: first,
         later: 0,
     }
 }

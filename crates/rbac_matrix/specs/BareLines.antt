@@ -1,0 +1,35 @@
+-- Lines of which each row, of whichever granting binding, is a repeat.
+use Rattle.std.specs.Prelude.{◌≡◌, ◌≢◌, ℕ, List, [], ◌∷◌, ◌++◌, Some, None, Contains, slice_get, true}
+use Rattle.rbac_terms.specs.declared.granting.Binding.{Binding}
+use Rattle.rbac_model.specs.Policies.{PolicyView}
+use Rattle.rbac_model.specs.Universes.{UniverseView, Listed}
+use Rattle.rbac_matrix.specs.Cursors.{IsCursorAt}
+use Rattle.rbac_matrix.specs.Lines.{LineView, lines_from}
+use Rattle.rbac_matrix.specs.Once.{is_repeat}
+use Rattle.rbac_matrix.specs.Pairs.{IsGranted, pair_of}
+use Rattle.rbac_matrix.specs.Passing.{cell_of}
+use Rattle.rbac_matrix.specs.declared.line.Place.{Place}
+
+-- the line has a namespace, and no RoleBinding has a cursor on it
+pub record IsBare (p : PolicyView) (l : LineView) : Type 0 where
+  pub some : l.namespace ≢ []
+  pub cursors : (k : ℕ) (c : IsCursorAt p l k) → c.grant.binding.namespace ≡ None
+
+-- from one place up to another there are only bare lines
+pub record PassesBare (p : PolicyView) (u : UniverseView) (at to : Place) : Type 0 where
+  pub between : List LineView
+  pub whole : lines_from u at ≡ between ++ lines_from u to
+  pub bare : (l : LineView) → Contains between l → IsBare p l
+
+-- each pair of a request of the line and a binding that is granted is a repeat
+abbrev pub HasRepeats : PolicyView → UniverseView → LineView → Type 0
+HasRepeats p u l = (place at : ℕ) (t : Listed) (b : Binding) → slice_get u.targets place ≡ Some t
+    → slice_get p.held.bindings at ≡ Some b → IsGranted p.held (pair_of (cell_of l t) b)
+    → is_repeat (pair_of (cell_of l t) b) ≡ true
+
+-- from the line at one place up to another place there are only lines that have only repeats
+pub record PassesLines (p : PolicyView) (u : UniverseView) (at to : Place) : Type 0 where
+  pub line : LineView
+  pub more : List LineView
+  pub whole : lines_from u at ≡ line ∷ more ++ lines_from u to
+  pub repeats : (l : LineView) → Contains (line ∷ more) l → HasRepeats p u l

@@ -1,0 +1,67 @@
+//! Lines of a namespace on which no RoleBinding has a cursor: each of their rows is a repeat.
+
+ghost use Rattle.std.specs.Prelude.{◌≡◌, ◌<◌, ◌≤◌, ◌⊎◌, ℕ, IsTrue, None, Some, slice_get};
+ghost use Rattle.rbac_model.specs.Policies.{GrantView};
+ghost use Rattle.rbac_matrix.specs.BareLines.{PassesBare};
+ghost use Rattle.rbac_matrix.specs.Cursors.{IsBoundOn, IsCursorAt};
+ghost use Rattle.rbac_matrix.specs.Lines.{IsSettled};
+ghost use Rattle.rbac_matrix.specs.Shown.{line_of};
+
+use crate::bound_runs::Runs;
+use crate::line::{Line, Place, line_at, settled};
+use crate::walk::{next_bound, next_cursor, walk_from};
+use rbac_index::Index;
+use rbac_universe::Universe;
+
+// How many grants ClusterRoleBindings bring; they come first.
+pub(crate) fn cluster_grants(index: &Index<'_>) -> u32
+    ensures { (k : ℕ) (g : GrantView) → slice_get index.now.grants k ≡ Some g → k < result
+        → g.binding.namespace ≡ None }
+{
+    let policy = index.policy();
+    let bindings = policy.bindings();
+    let count = bindings.partition_point(|binding| binding.namespace.is_none());
+    if count == 0 {
+        return 0;
+    }
+    let (_, end) = policy.grants_of(count - 1);
+    end
+}
+
+// Whether a grant from this number on is of a binding that names who asks and may be live.
+fn has_bound_from(index: &Index<'_>, line: Line<'_>, first: u32) -> bool
+    ensures { ¬ IsTrue result → (k : ℕ) → first ≤ k → ¬ IsBoundOn index.now (line_of line.entry) k }
+{
+    let runs = Runs::unknown();
+    let mut walk = walk_from(first);
+    next_bound(index, line, &runs, &mut walk).is_some()
+}
+
+// Whether a grant from this number on is a cursor of the line.
+pub(crate) fn has_cursor_from(index: &Index<'_>, line: Line<'_>, first: u32) -> bool
+    ensures { ¬ IsTrue result
+        → (k : ℕ) → first ≤ k → ¬ IsCursorAt index.now (line_of line.entry) k }
+{
+    let runs = Runs::unknown();
+    let mut walk = walk_from(first);
+    next_cursor(index, line, &runs, &mut walk).is_some()
+}
+
+// The place of the first line, from this one on, that is in the empty namespace, or in a namespace
+// where a RoleBinding names who asks; past all lines, if there is none.
+pub(crate) fn past_bare(index: &Index<'_>, universe: &Universe, at: Place, cluster: u32) -> Place
+    requires cluster { (k : ℕ) (g : GrantView) → slice_get index.now.grants k ≡ Some g → k < cluster
+        → g.binding.namespace ≡ None }
+    ensures settled { IsSettled universe.now result }
+    ensures passes { PassesBare index.now universe.now at result }
+    ensures moved { (result ≡ at) ⊎ (result.verb ≡ 0) }
+{
+    let mut at = settled(universe, at);
+    while let Some(line) = line_at(universe, at) {
+        if line.namespace.is_empty() || has_bound_from(index, line, cluster) {
+            return at;
+        }
+        at = settled(universe, Place::of_namespace(at.principal, at.namespace + 1));
+    }
+    at
+}
