@@ -40,15 +40,9 @@ use Rattle.rbac_matrix.proofs.EveryLemmas.{cells_head}
 use Rattle.rbac_matrix.proofs.LineLemmas.{mapped_at}
 use Rattle.rbac_matrix.proofs.RowLemmas.{head_below, tail_ascends}
 use Rattle.rbac_matrix.proofs.SearchLemmas.{drop_in, gap_absent, whats_up, in_take, take_in, target_found}
-use Rattle.rbac_matrix.proofs.ThoseLemmas.{those_sound}
+use Rattle.rbac_matrix.proofs.ThoseLemmas.{those_sound, those_split}
 
 -- ---- the rows from a start on
-
-module _ {X : Type 0} (P : X → Type 0) where
-  those_split : (xs ys rows : List X) → AreThose P (xs ++ ys) rows → (rs : List X) × (ss : List X) × AreThose P xs rs × AreThose P ys ss × (rows ≡ rs ++ ss)
-  those_split [] ys rows h = ([], rows, refl, h, refl)
-  those_split (x ∷ xs) ys rows (inl h) = let r = those_split xs ys h.1.0 h.1.1 in (x ∷ r.0, r.1, inl (h.0, (r.0, r.2, refl)), r.3, h.1.2 ∙ ap (λ (l : List X). x ∷ l) r.4)
-  those_split (x ∷ xs) ys rows (inr h) = let r = those_split xs ys rows h.1 in (r.0, r.1, inr (h.0, r.2), r.3, r.4)
 
 -- of rows those after the mark, where the first ones aren't and the others are
 after_split : (m : Option Mark) (rs ss : List RowView) → ((r : RowView) → Contains rs r → ComesAfter m r → ⊥) → ((r : RowView) → Contains ss r → ComesAfter m r) → every_after m (rs ++ ss) ≡ ss

@@ -12,6 +12,7 @@ pub mod JoinLemmas
 pub mod LineLemmas
 pub mod LinesLemmas
 pub mod LoopLemmas
+pub mod OnceLines
 pub mod OneEvery
 pub mod OneMatrix
 pub mod NoneLeft

@@ -126,6 +126,9 @@ module _ (s t : EveryRows) (policy : IsPolicy s.rows.index.now) (same : GoesOn s
     binding_here : slice_get bs t.binding ≡ Some f.found.next.hit.grant.binding
     binding_here = begins.of.2 ∙ ap (λ (g : GrantView). Some g.binding) (same_Some begins.of.0 f.found.next.hit.grant (sym begins.of.1 ∙ f.found.next.hit.grant_at))
 
+    pub every_binding : t.binding < length t.rows.index.now.held.bindings
+    every_binding = rw same.index (slice_get_within bs t.binding f.found.next.hit.grant.binding binding_here)
+
     -- the row is the first of the pairs that are left
     pairs_here_are : pairs_from bs t.binding (cells_left u t.rows.at t.rows.from) ≡ row ∷ others
     pairs_here_are = rw (cells_here, drop_at bs t.binding f.found.next.hit.grant.binding binding_here) refl

@@ -17,7 +17,7 @@ use Rattle.rbac_matrix.specs.Every.{IsEvery, every_name}
 use Rattle.rbac_matrix.specs.Pairs.{AreThose, IsGranted, cell_pairs, pair_of, pairs_of}
 use Rattle.rbac_matrix.specs.Starting.{cell_name}
 use Rattle.rbac_model.proofs.Decided.{both, either, is_nil, is_true}
-use Rattle.rbac_matrix.proofs.Decided.{grants}
+use Rattle.rbac_matrix.proofs.Decided.{Decided, grants}
 use Rattle.rbac_matrix.proofs.Orders.{cmp_append, first_less, first_tied}
 use Rattle.rbac_matrix.proofs.Product.{cells_ascend, cells_in, in_cells, key_texts}
 use Rattle.rbac_matrix.proofs.ThoseLemmas.{some_those, those_ascend, those_complete, those_sound}
@@ -103,12 +103,14 @@ rules_of_each h (c ∷ bs) gs are b w = elim (in_cons c bs b w) [
   | inr v ↦ rules_of_each h bs are.1 are.3 b v
 ]
 
+pub decided_pair : (p : PolicyView) → IsPolicy p → (r : RowView) → Contains p.held.bindings r.binding → Decided (IsGranted p.held r)
+decided_pair p policy r w =
+    let rules = rules_of_each p.held p.held.bindings p.grants policy.1 r.binding w in
+    both (either (is_true r.cell.target.1) (is_nil r.cell.namespace)) (grants p.held policy.0 r.cell.who r.cell.namespace r.cell.verb r.cell.target.0 r.binding rules.0 rules.1)
+
 pub some_pairs : (p : PolicyView) → IsPolicy p → (u : UniverseView) → IsUniverse u → (rows : List RowView) × AreThose (IsGranted p.held) (pairs_of p.held.bindings (cells_of u)) rows
 some_pairs p policy u is =
-    some_those (IsGranted p.held) (pairs_of p.held.bindings (cells_of u))
-    (λ r w.
-    let rules = rules_of_each p.held p.held.bindings p.grants policy.1 r.binding (in_pairs p.held.bindings (cells_of u) r w).1 in
-    both (either (is_true r.cell.target.1) (is_nil r.cell.namespace)) (grants p.held policy.0 r.cell.who r.cell.namespace r.cell.verb r.cell.target.0 r.binding rules.0 rules.1))
+    some_those (IsGranted p.held) (pairs_of p.held.bindings (cells_of u)) (λ r w. decided_pair p policy r (in_pairs p.held.bindings (cells_of u) r w).1)
 
 pub some_every : (p : PolicyView) → IsPolicy p → (u : UniverseView) → IsUniverse u → (rows : List RowView) × IsEvery p.held u rows
 some_every p policy u is = let rows = some_pairs p policy u is in (rows.0, is_every p.held u policy.0 is rows.0 rows.1)

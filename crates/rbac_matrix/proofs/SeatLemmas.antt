@@ -128,10 +128,6 @@ sum_none f (s ∷ seats) h =
     let rest : sum_by f seats ≡ 0 = sum_none f seats (λ k lt. h (suc k) (omega arith)) in
     rw (here, rest) refl
 
-pub past_standing : (seats : List Seat) → ArePast seats → standing seats ≡ 0
-unfolding standing
-past_standing seats h = sum_none stand_of seats (λ k lt. omega (arith, h.each k lt))
-
 pub empty_standing : (p : PolicyView) (seats : List Seat) → AreEmpty p seats → standing seats ≡ 0
 unfolding standing
 empty_standing p seats h = sum_none stand_of seats (λ k lt. rw (h.each k lt) refl)

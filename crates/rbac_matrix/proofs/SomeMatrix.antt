@@ -19,7 +19,7 @@ module _ (p : PolicyView) (is : IsPolicy p) where
     | inr out ↦ inr (λ b w. out w.0)
   ]
 
-  some_rows : (cs : List Cell) → (rows : List RowView) × AreRowsOf p.held cs rows
+  pub some_rows : (cs : List Cell) → (rows : List RowView) × AreRowsOf p.held cs rows
   some_rows [] = ([], refl)
   some_rows (c ∷ cs) = let rest = some_rows cs in elim (row_or_none c) [
     | inl f ↦ (row_at c f.0 ∷ rest.0, inl (f.0, rest.0, f.1, rest.1, refl))

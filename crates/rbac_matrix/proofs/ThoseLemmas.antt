@@ -1,5 +1,5 @@
 -- those of a list that have a property, in order
-use Rattle.std.proofs.Common.{◌≡◌, List, [], ◌∷◌, Contains, inl, inr, sym, ap, refl, arith, subst, length, get_or, Less}
+use Rattle.std.proofs.Common.{◌≡◌, List, [], ◌∷◌, ◌++◌, ◌∙◌, Contains, inl, inr, sym, ap, refl, arith, subst, length, get_or, Less}
 use Rattle.std.proofs.lemmas.List.Kept.{AllPairs-cons}
 use Rattle.std.proofs.lemmas.List.Elements.{Contains-get_or}
 use Rattle.rbac_terms.specs.Text.{Text}
@@ -28,6 +28,23 @@ module _ {X : Type 0} (P : X → Type 0) where
     | inl e ↦ absurd (p.0 (subst P (sym e) has))
     | inr v ↦ those_complete xs ys p.1 y v has
   ]
+
+  pub those_split : (xs ys rows : List X) → AreThose P (xs ++ ys) rows → (rs : List X) × (ss : List X) × AreThose P xs rs × AreThose P ys ss × (rows ≡ rs ++ ss)
+  those_split [] ys rows h = ([], rows, refl, h, refl)
+  those_split (x ∷ xs) ys rows (inl h) = let r = those_split xs ys h.1.0 h.1.1 in (x ∷ r.0, r.1, inl (h.0, (r.0, r.2, refl)), r.3, h.1.2 ∙ ap (λ (l : List X). x ∷ l) r.4)
+  those_split (x ∷ xs) ys rows (inr h) = let r = those_split xs ys rows h.1 in (r.0, r.1, inr (h.0, r.2), r.3, r.4)
+
+  pub those_append : (xs ys rs ss : List X) → AreThose P xs rs → AreThose P ys ss → AreThose P (xs ++ ys) (rs ++ ss)
+  those_append [] ys rs ss p q = rw p q
+  those_append (x ∷ xs) ys rs ss (inl p) q = inl (p.0, (p.1.0 ++ ss, those_append xs ys p.1.0 ss p.1.1 q, ap (λ (l : List X). l ++ ss) p.1.2))
+  those_append (x ∷ xs) ys rs ss (inr p) q = inr (p.0, those_append xs ys rs ss p.1 q)
+
+  pub those_one : (xs rs ss : List X) → AreThose P xs rs → AreThose P xs ss → rs ≡ ss
+  those_one [] rs ss p q = p ∙ sym q
+  those_one (x ∷ xs) rs ss (inl p) (inl q) = p.1.2 ∙ ap (λ (l : List X). x ∷ l) (those_one xs p.1.0 q.1.0 p.1.1 q.1.1) ∙ sym q.1.2
+  those_one (x ∷ xs) rs ss (inl p) (inr q) = absurd (q.0 p.0)
+  those_one (x ∷ xs) rs ss (inr p) (inl q) = absurd (p.0 q.0)
+  those_one (x ∷ xs) rs ss (inr p) (inr q) = those_one xs rs ss p.1 q.1
 
   -- where it is decided of each, there are those
   pub some_those : (xs : List X) → ((x : X) → Contains xs x → Decided (P x)) → (ys : List X) × AreThose P xs ys

@@ -5,7 +5,7 @@ ghost use Rattle.std.specs.Prelude.{IfSome, Some, length, slice_get};
 ghost use Rattle.rbac_model.specs.Policies.{GrantView};
 ghost use Rattle.rbac_model.specs.Universes.{most_targets};
 ghost use Rattle.rbac_universe.specs.Sets.{IsWithinLimits};
-ghost use Rattle.rbac_matrix.specs.BareLines.{PassesLines};
+ghost use Rattle.rbac_matrix.specs.BareLines.{IsBare, PassesLines};
 ghost use Rattle.rbac_matrix.specs.Enumeration.{AreLeft, GoesOn, IsGoing, IsUnderWay};
 ghost use Rattle.rbac_matrix.specs.Enumeration.{requests_left};
 ghost use Rattle.rbac_matrix.specs.EveryLeft.{AreEveryLeft, BeginsBinding, IsGoingEvery, pairs_left};
@@ -94,6 +94,10 @@ impl Rows<'_, '_> {
         if !self.repeats_by(no) {
             return false;
         }
+        if self.is_bare() {
+            self.pass_lines();
+            return true;
+        }
         self.pass_place();
         true
     }
@@ -114,38 +118,51 @@ impl Rows<'_, '_> {
         is_repeat_in(line.namespace, self.index.grant(no).binding)
     }
 
-    // Passes the rows that are left on the line if no RoleBinding has a cursor on it, and lines
-    // after it of which that is known. Answers whether it did.
-    pub(crate) fn pass_lines(&mut self) -> bool
-        requires { (low : ℕ) × IsUnderWay self.old low }
-        ensures stays { result ≡ false → self.new ≡ self.old }
-        ensures going { IsTrue result → IsGoing self.new }
-        ensures passes { IsTrue result
-            → PassesLines self.old.index.now self.old.universe.now self.old.at self.new.at }
-        ensures from { IsTrue result → self.new.from ≡ 0 }
+    // Whether the line has a namespace, and no RoleBinding has a cursor on it. Then its rows are
+    // repeats.
+    pub(crate) fn is_bare(&self) -> bool
+        requires { IsSettled self.now.universe.now self.now.at }
+        ensures { (l : LineView) (ls : List LineView) → IsTrue result
+            → lines_from self.now.universe.now self.now.at ≡ l ∷ ls → IsBare self.now.index.now l }
+    {
+        let Some(line) = line_at(self.universe, self.at) else {
+            return false;
+        };
+        let cluster = cluster_grants(self.index);
+        !line.namespace.is_empty() && !has_cursor_from(self.index, line, cluster)
+    }
+
+    // Leaves the line, whose rows are repeats, and passes lines after it of which the index says
+    // the same.
+    pub(crate) fn pass_lines(&mut self)
+        requires way { (low : ℕ) × IsUnderWay self.old low }
+        requires bare { (l : LineView) × (ls : List LineView)
+            × (lines_from self.old.universe.now self.old.at ≡ l ∷ ls)
+            × IsBare self.old.index.now l }
+        ensures going { IsGoing self.new }
+        ensures passes { PassesLines self.old.index.now self.old.universe.now
+            self.old.at self.new.at }
+        ensures from { self.new.from ≡ 0 }
         ensures returned { self.new.returned ≡ self.old.returned }
         ensures same { GoesOn self.old self.new }
     {
         let index = self.index;
+        let universe = self.universe;
+        let Some(line) = line_at(universe, self.at) else {
+            return;
+        };
+        empty_line(index, line, &self.kept.runs, self.seats);
+        let cluster = cluster_grants(index);
+        let next = past_bare(index, universe, after(self.at), cluster);
         let basis = Basis {
             index,
-            universe: self.universe,
+            universe,
             reaches: self.reaches,
         };
-        let Some(line) = line_at(basis.universe, self.at) else {
-            return false;
-        };
-        let cluster = cluster_grants(index);
-        if line.namespace.is_empty() || has_cursor_from(index, line, cluster) {
-            return false;
-        }
-        empty_line(index, line, &self.kept.runs, self.seats);
-        let next = past_bare(index, basis.universe, after(self.at), cluster);
         let kept = &mut self.kept;
         kept.runs.keep_here();
         self.at = next_line(basis, next, kept, self.seats, &mut self.meter);
         self.from = 0;
-        true
     }
 
     // Passes the place from which rows are left.
@@ -226,8 +243,31 @@ impl EveryRows<'_, '_> {
         if !self.rows.repeats_by(no) {
             return false;
         }
+        if self.rows.is_bare() {
+            self.pass_lines();
+            return true;
+        }
         self.pass_binding(no);
         true
+    }
+
+    // Leaves the line, whose rows are repeats, and passes lines after it of which the index says
+    // the same.
+    fn pass_lines(&mut self)
+        requires going { IsGoingEvery self.old }
+        requires bare { (l : LineView) × (ls : List LineView)
+            × (lines_from self.old.rows.universe.now self.old.rows.at ≡ l ∷ ls)
+            × IsBare self.old.rows.index.now l }
+        ensures going { IsGoingEvery self.new }
+        ensures passes { PassesLines self.old.rows.index.now self.old.rows.universe.now
+            self.old.rows.at self.new.rows.at }
+        ensures from { (self.new.rows.from ≡ 0) × (self.new.binding ≡ 0) }
+        ensures returned { self.new.rows.returned ≡ self.old.rows.returned }
+        ensures same { GoesOn self.old.rows self.new.rows }
+    {
+        self.rows.pass_lines();
+        self.binding = 0;
+        self.upto = 0;
     }
 
     // Passes the binding of this grant at the place from which rows are left.

@@ -1,21 +1,21 @@
-use Rattle.std.proofs.Common.{◌≡◌, ◌∙◌, ◌∷◌, List, ap, refl, sym}
-use Rattle.std.proofs.lemmas.Bool.{both_ways}
-use Rattle.rbac_matrix.specs.Lines.{LineView, lines_from}
+use Rattle.std.proofs.Common.{◌∙◌, subst, sym}
+use Rattle.rbac_matrix.specs.BareLines.{IsBare}
 use Rattle.rbac_matrix.specs.Shown.{line_of}
-use Rattle.rbac_matrix.proofs.BareLemmas.{bare_line, known_here, metered_lines, passes_lines}
+use Rattle.rbac_matrix.proofs.BareLemmas.{known_here, metered_lines, passes_lines}
+use Rattle.rbac_matrix.proofs.PassLemmas.{same_head}
 use Rattle.rbac_matrix.proofs.enumeration.Rows.pass_lines.Goals as goal
 
 pub empty_line-requires-clause-runs : goal.empty_line-requires-clause-runs
-empty_line-requires-clause-runs c = (c.requires.1.runs (line_of c.in-Some.line) _ c.in-Some.ensures.line).0.0
+empty_line-requires-clause-runs c = (c.requires.way.1.runs (line_of c.in-Some.line) _ c.in-Some.ensures.line).0.0
 
 pub next_line-self-requires-clause-known : goal.next_line-self-requires-clause-known
 next_line-self-requires-clause-known c =
-    let runs = (c.requires.1.runs (line_of c.in-Some.line) _ c.in-Some.ensures.line).0 in
+    let runs = (c.requires.way.1.runs (line_of c.in-Some.line) _ c.in-Some.ensures.line).0 in
     known_here c.args.self.now.index.now c.args.self.now.universe.now c.args.self.now.at c.past_bare-next.result (line_of c.in-Some.line) c.args.self.now.kept.runs c.keep_here.new.self c.in-Some.ensures.place runs c.keep_here.ensures (rw (sym c.after.ensures) c.past_bare-next.ensures.moved)
 
 pub returns-clause-going : goal.returns-clause-going
-returns-clause-going c = λ yes.
-    let way = c.requires.1 in
+returns-clause-going c = 
+    let way = c.requires.way.1 in
     record {
       policy = way.policy;
       universe = way.universe;
@@ -25,12 +25,13 @@ returns-clause-going c = λ yes.
       blocks = c.next_line-self.ensures.blocks;
       rows = way.rows;
       is_returned = way.is_returned;
-      metered = metered_lines c.args.self.now.index.now c.args.self.now.universe.now c.args.self.now.reaches.now c.args.self.now.start c.args.self.now.sought way.rows c.args.self.now.at c.after.result c.past_bare-next.result c.next_line-self.result (line_of c.in-Some.line) c.args.self.now.from c.requires.0 c.args.self.now.seats.now c.empty_line.new.seats c.next_line-self.new.seats c.args.self.now.meter c.next_line-self.new.meter way.policy way.universe way.reaches
+      metered = metered_lines c.args.self.now.index.now c.args.self.now.universe.now c.args.self.now.reaches.now c.args.self.now.start c.args.self.now.sought way.rows c.args.self.now.at c.after.result c.past_bare-next.result c.next_line-self.result (line_of c.in-Some.line) c.args.self.now.from c.requires.way.0 c.args.self.now.seats.now c.empty_line.new.seats c.next_line-self.new.seats c.args.self.now.meter c.next_line-self.new.meter way.policy way.universe way.reaches
           (rw c.after.ensures c.in-Some.ensures.line) (way.ready.seated (line_of c.in-Some.line) _ c.in-Some.ensures.line) c.empty_line.ensures c.past_bare-next.ensures.passes c.next_line-self.ensures.skips c.next_line-self.ensures.costs way.metered;
     }
 
 pub returns-clause-passes : goal.returns-clause-passes
-returns-clause-passes c = λ yes.
-    let way = c.requires.1 in
-    let bare = bare_line c.args.self.now.index.now c.cluster_grants-cluster.result c.cluster_grants-cluster.ensures (line_of c.in-Some.line) (λ e. both_ways _ c.if-is_empty.false (c.is_empty.ensures.1 e)) (c.has_cursor_from.ensures (both_ways _ c.if-has_cursor_from.false)) in
+returns-clause-passes c = 
+    let way = c.requires.way.1 in
+    let line = same_head c.requires.bare.0 (line_of c.in-Some.line) c.requires.bare.1 _ (sym c.requires.bare.2 ∙ c.in-Some.ensures.line) in
+    let bare = subst (IsBare c.args.self.now.index.now) line c.requires.bare.3 in
     passes_lines c.args.self.now.index.now way.policy c.args.self.now.universe.now way.universe c.args.self.now.at c.after.result c.past_bare-next.result c.next_line-self.result (line_of c.in-Some.line) (rw c.after.ensures c.in-Some.ensures.line) bare c.past_bare-next.ensures.passes c.next_line-self.ensures.skips

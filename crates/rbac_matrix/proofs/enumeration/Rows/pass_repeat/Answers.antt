@@ -1,6 +1,7 @@
 use Rattle.std.proofs.Common.{[], ◌∙◌, arith, refl}
 use Rattle.rbac_matrix.specs.Enumeration.{AreLeft}
 use Rattle.rbac_matrix.proofs.OnceLemmas.{come_first, come_grant, come_over, come_passes, come_ready, come_repeat, come_within, ended_first, ended_passes, left_passes, no_repeats, one_repeat, passes_few, passes_fewer, some_then}
+use Rattle.rbac_matrix.proofs.OnceLines.{lines_fewer, lines_some}
 use Rattle.rbac_matrix.proofs.enumeration.Rows.pass_repeat.Goals as goal
 
 pub returns-in_default-clause-some : goal.returns-in_default-clause-some
@@ -59,3 +60,27 @@ returns-clause-fewer c =
 
 pub returns-clause-few : goal.returns-clause-few
 returns-clause-few c = let fewer = returns-clause-fewer c refl in omega (arith, fewer)
+
+pub pass_lines-requires-clause-way : goal.pass_lines-requires-clause-way
+pass_lines-requires-clause-way c = (0, c.come.ensures.way 0 (come_ready c.args.self.now c.come.new.self c.requires.policy c.come.ensures.same c.in-Some.field-0-0 c.in-Some.no c.in-Some.ensures.place c.in-Some.ensures.found))
+
+pub returns-then-is_bare-clause-some : goal.returns-then-is_bare-clause-some
+returns-then-is_bare-clause-some c =
+    let s = c.args.self.now in
+    let t = c.come.new.self in
+    let v = c.pass_lines.new.self in
+    let before = left_passes s t c.come.ensures.same [] (come_passes s t c.requires.policy c.come.ensures.same c.in-Some.field-0-0 c.in-Some.no c.in-Some.ensures.place c.in-Some.ensures.found) no_repeats in
+    some_then (AreLeft s) (AreLeft t) (AreLeft v) before (lines_some t v (rw c.come.ensures.same.index c.requires.policy) c.pass_lines.ensures.same c.pass_lines.ensures.passes c.pass_lines.ensures.from)
+
+pub returns-then-is_bare-clause-fewer : goal.returns-then-is_bare-clause-fewer
+returns-then-is_bare-clause-fewer c =
+    let s = c.args.self.now in
+    let t = c.come.new.self in
+    let v = c.pass_lines.new.self in
+    let few = passes_few s t c.come.ensures.same [] (come_passes s t c.requires.policy c.come.ensures.same c.in-Some.field-0-0 c.in-Some.no c.in-Some.ensures.place c.in-Some.ensures.found) in
+    let within = come_within s t c.requires.policy c.come.ensures.same c.in-Some.field-0-0 c.in-Some.no c.in-Some.ensures.place c.in-Some.ensures.found in
+    let fewer = lines_fewer t v (rw c.come.ensures.same.index c.requires.policy) c.pass_lines.ensures.same c.pass_lines.ensures.passes c.pass_lines.ensures.from within in
+    λ yes. omega (arith, few, fewer)
+
+pub returns-then-is_bare-clause-few : goal.returns-then-is_bare-clause-few
+returns-then-is_bare-clause-few c = let fewer = returns-then-is_bare-clause-fewer c refl in omega (arith, fewer)

@@ -1,7 +1,8 @@
 use Rattle.std.proofs.Common.{◌∙◌, arith, refl}
 use Rattle.rbac_matrix.specs.EveryLeft.{AreEveryLeft}
 use Rattle.rbac_matrix.proofs.OnceLemmas.{some_then}
-use Rattle.rbac_matrix.proofs.OnceEveryLemmas.{every_come, every_come_few, every_ended, every_ended_few, every_ended_first, every_first, every_grant, every_over, every_over_fewer, every_repeat, every_within}
+use Rattle.rbac_matrix.proofs.OnceEveryLemmas.{every_binding, every_come, every_come_few, every_ended, every_ended_few, every_ended_first, every_first, every_grant, every_over, every_over_fewer, every_repeat, every_within}
+use Rattle.rbac_matrix.proofs.OnceLines.{every_lines_fewer, every_lines_some}
 use Rattle.rbac_matrix.proofs.every_rows.EveryRows.pass_repeat.Goals as goal
 
 pub returns-in_default-clause-some : goal.returns-in_default-clause-some
@@ -52,3 +53,27 @@ returns-clause-fewer c =
 
 pub returns-clause-few : goal.returns-clause-few
 returns-clause-few c = let fewer = returns-clause-fewer c refl in omega (arith, fewer)
+
+pub returns-then-is_bare-clause-some : goal.returns-then-is_bare-clause-some
+returns-then-is_bare-clause-some c =
+    let s = c.args.self.now in
+    let t = c.come.new.self in
+    let v = c.pass_lines.new.self in
+    let within = every_within s t c.requires.way.policy c.come.ensures.same c.requires.below c.requires.within c.in-Some.no c.in-Some.ensures.found c.in-Some.ensures.binding in
+    some_then (AreEveryLeft s) (AreEveryLeft t) (AreEveryLeft v)
+    (every_come s t c.requires.way.policy c.come.ensures.same c.requires.below c.requires.within c.in-Some.no c.in-Some.ensures.found c.in-Some.ensures.binding)
+    (every_lines_some t v (rw c.come.ensures.same.index c.requires.way.policy) c.pass_lines.ensures.same c.pass_lines.ensures.passes c.pass_lines.ensures.from within)
+
+pub returns-then-is_bare-clause-fewer : goal.returns-then-is_bare-clause-fewer
+returns-then-is_bare-clause-fewer c =
+    let s = c.args.self.now in
+    let t = c.come.new.self in
+    let v = c.pass_lines.new.self in
+    let few = every_come_few s t c.requires.way.policy c.come.ensures.same c.requires.below c.requires.within c.in-Some.no c.in-Some.ensures.found c.in-Some.ensures.binding in
+    let within = every_within s t c.requires.way.policy c.come.ensures.same c.requires.below c.requires.within c.in-Some.no c.in-Some.ensures.found c.in-Some.ensures.binding in
+    let binding = every_binding s t c.requires.way.policy c.come.ensures.same c.requires.below c.requires.within c.in-Some.no c.in-Some.ensures.found c.in-Some.ensures.binding in
+    let fewer = every_lines_fewer t v (rw c.come.ensures.same.index c.requires.way.policy) c.pass_lines.ensures.same c.pass_lines.ensures.passes c.pass_lines.ensures.from within binding in
+    λ yes. omega (arith, few, fewer)
+
+pub returns-then-is_bare-clause-few : goal.returns-then-is_bare-clause-few
+returns-then-is_bare-clause-few c = let fewer = returns-then-is_bare-clause-fewer c refl in omega (arith, fewer)
