@@ -10,7 +10,7 @@ use Rattle.rbac_model.proofs.GrantNumbers.{some_grant, first_grant}
 use Rattle.rbac_matrix.specs.Cells.{AreRowsOf, HasRow}
 use Rattle.rbac_matrix.specs.Lines.{LineView, line_cells_from}
 use Rattle.rbac_matrix.specs.Passing.{HasNoHit, IsFrom, IsHit, IsNextHit, Passes, cell_of, row_on}
-use Rattle.rbac_matrix.proofs.PassLemmas.{line_over, passes_none, passes_over, passes_rows, passes_then, row_passes}
+use Rattle.rbac_matrix.proofs.PassLemmas.{line_over, passes_none, passes_over, passes_rows, row_passes}
 
 -- ---- the order of places and numbers
 

@@ -1,5 +1,5 @@
 -- rows of every granting binding that are passed, of which all are repeats
-use Rattle.std.proofs.Common.{◌≡◌, ℕ, ◌+◌, ◌<◌, ◌≤◌, ◌⊎◌, List, [], ◌∷◌, ◌++◌, Bool, true, false, length, length-append, map, refl, ap, ◌∙◌, sym, arith, subst, inl, inr}
+use Rattle.std.proofs.Common.{◌≡◌, ℕ, ◌+◌, ◌<◌, ◌≤◌, ◌⊎◌, List, [], ◌∷◌, Bool, true, false, length, refl, ap, ◌∙◌, sym, arith, subst, inl, inr}
 use Rattle.std.specs.Prelude.{◌↔◌, Some, slice_get}
 use Rattle.std.proofs.lemmas.Bool.{cases_lt}
 use Rattle.std.proofs.lemmas.Option.{same_Some, slice_get_within}
@@ -12,11 +12,9 @@ use Rattle.rbac_matrix.specs.EveryLeft.{AreBelow, AreEveryLeft, BeginsBinding, P
 use Rattle.rbac_matrix.specs.Lines.{LineView, cells_of_lines, lines_from}
 use Rattle.rbac_matrix.specs.Metering.{IsReady}
 use Rattle.rbac_matrix.specs.Once.{PassesSome, StaysFirst, is_repeat, repeats_at}
-use Rattle.rbac_matrix.specs.Pairs.{AreThose, IsGranted, pair_of, pairs_of}
+use Rattle.rbac_matrix.specs.Pairs.{AreThose, IsGranted}
 use Rattle.rbac_matrix.specs.Passing.{EndsAll, FindsCell, IsFrom, cell_of, cells_left, row_on}
 use Rattle.rbac_matrix.specs.declared.every_rows.EveryRows.{EveryRows}
-use Rattle.rbac_matrix.specs.declared.line.Place.{Place}
-use Rattle.rbac_matrix.specs.declared.seat.Seat.{Seat}
 use Rattle.rbac_matrix.proofs.BeginLemmas.{ready_line}
 use Rattle.rbac_matrix.proofs.EveryLemmas.{Splits, cells_head, none_left, passes_split, past_left, split_fewer, split_those}
 use Rattle.rbac_matrix.proofs.GoingLemmas.{fits_namespace}

@@ -1,25 +1,22 @@
 -- rows that are passed, of which all are repeats
 use Rattle.std.proofs.Common.{◌≡◌, ℕ, ◌+◌, ◌<◌, ◌≤◌, List, [], ◌∷◌, ◌++◌, Bool, true, false, All, length, length-append, refl, ap, ◌∙◌, sym, arith, append_assoc, subst}
-use Rattle.std.specs.Prelude.{◌↔◌, Some, slice_get}
+use Rattle.std.specs.Prelude.{Some, slice_get}
 use Rattle.std.proofs.lemmas.List.Elements.{All-append}
 use Rattle.std.proofs.lemmas.Option.{slice_get_within}
-use Rattle.rbac_terms.specs.Keys.{namespace_at}
-use Rattle.rbac_model.specs.Policies.{Held, PolicyView, IsPolicy, GrantView}
-use Rattle.rbac_model.specs.Universes.{UniverseView, IsUniverse, Cell, RowView}
+use Rattle.rbac_model.specs.Policies.{Held, IsPolicy, GrantView}
+use Rattle.rbac_model.specs.Universes.{IsUniverse, Cell, RowView}
 use Rattle.rbac_matrix.specs.Cells.{AreRowsOf}
 use Rattle.rbac_matrix.specs.Enumeration.{AreLeft, GoesOn, requests_left}
 use Rattle.rbac_matrix.specs.Lines.{LineView, cells_of_lines, lines_from}
 use Rattle.rbac_matrix.specs.Metering.{IsReady}
-use Rattle.rbac_matrix.specs.Once.{PassesRepeats, PassesSome, StaysFirst, is_repeat, repeats_at}
-use Rattle.rbac_matrix.specs.Passing.{EndsAll, FindsCell, Passes, cell_of, cells_left, row_on}
+use Rattle.rbac_matrix.specs.Once.{PassesSome, StaysFirst, is_repeat, repeats_at}
+use Rattle.rbac_matrix.specs.Passing.{EndsAll, FindsCell, Passes, cells_left, row_on}
 use Rattle.rbac_matrix.specs.declared.enumeration.Rows.{Rows}
-use Rattle.rbac_matrix.specs.declared.line.Place.{Place}
-use Rattle.rbac_matrix.specs.declared.seat.Seat.{Seat}
 use Rattle.rbac_matrix.proofs.BeginLemmas.{ready_line}
 use Rattle.rbac_matrix.proofs.EnumLemmas.{all_passes, comes_passes, here_passes, leads_pass}
 use Rattle.rbac_matrix.proofs.GoingLemmas.{fewer_left, fits_namespace}
 use Rattle.rbac_matrix.proofs.HitLemmas.{from_zero, next_onward}
-use Rattle.rbac_matrix.proofs.PassLemmas.{no_head, passes_left, passes_none, passes_rows, passes_then, same_head}
+use Rattle.rbac_matrix.proofs.PassLemmas.{no_head, passes_left, passes_rows, same_head}
 use Rattle.rbac_matrix.proofs.RowLemmas.{rows_one}
 
 abbrev pub Lists : Type 1

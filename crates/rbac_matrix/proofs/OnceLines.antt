@@ -1,21 +1,20 @@
 -- the rows of lines that have only repeats
-use Rattle.std.proofs.Common.{◌≡◌, ℕ, ◌+◌, ◌<◌, ◌≤◌, List, [], ◌∷◌, ◌++◌, Bool, true, All, Contains, drop, get_or, map, length, length-append, refl, ap, ◌∙◌, sym, arith, append_assoc, subst, inl, inr}
-use Rattle.std.specs.Prelude.{◌↔◌, Some, slice_get}
+use Rattle.std.proofs.Common.{◌≡◌, ℕ, ◌<◌, List, [], ◌∷◌, ◌++◌, true, Contains, drop, get_or, map, length, length-append, ap, ◌∙◌, sym, arith, append_assoc, subst, inl, inr}
+use Rattle.std.specs.Prelude.{Some}
 use Rattle.std.specs.List.{flat_map}
-use Rattle.std.proofs.lemmas.Bool.{cases_lt}
 use Rattle.std.proofs.lemmas.List.Elements.{Contains-append_cases, Contains-get_or}
 use Rattle.std.proofs.lemmas.Grind.{flat_map-append}
 use Rattle.std.proofs.lemmas.Option.{get_or_from_slice_get, slice_get-get_or, slice_get_within}
 use Rattle.rbac_terms.specs.declared.granting.Binding.{Binding}
 use Rattle.rbac_terms.proofs.Reading.{read_some}
 use Rattle.rbac_model.specs.Policies.{PolicyView, IsPolicy}
-use Rattle.rbac_model.specs.Universes.{UniverseView, Cell, RowView, Listed}
+use Rattle.rbac_model.specs.Universes.{UniverseView, Cell, RowView}
 use Rattle.rbac_universe.proofs.Flattened.{contains_flat, contains_map, here, there}
 use Rattle.rbac_matrix.specs.BareLines.{PassesLines}
 use Rattle.rbac_matrix.specs.Cells.{AreRowsOf}
 use Rattle.rbac_matrix.specs.Enumeration.{AreLeft, GoesOn, requests_left}
 use Rattle.rbac_matrix.specs.EveryLeft.{AreEveryLeft, pairs_from, pairs_left}
-use Rattle.rbac_matrix.specs.Lines.{LineView, cells_of_lines, line_cells_from, lines_from}
+use Rattle.rbac_matrix.specs.Lines.{LineView, line_cells_from, lines_from}
 use Rattle.rbac_matrix.specs.Once.{PassesSome, is_repeat}
 use Rattle.rbac_matrix.specs.Pairs.{AreThose, IsGranted, pair_of, pairs_of}
 use Rattle.rbac_matrix.specs.Passing.{Passes, cell_of, cells_left}

@@ -18,7 +18,7 @@ use Rattle.rbac_index.specs.Reaches.{AreReaches}
 use Rattle.rbac_matrix.specs.Metering.{AreTouched, IsMetered}
 use Rattle.rbac_matrix.specs.declared.line.Place.{Place}
 use Rattle.rbac_matrix.specs.declared.seat.Seat.{Seat}
-use Rattle.rbac_matrix.specs.Seats.{ArePast, AreEmpty, AreSeated, Costs, IsSeated, passed, past_all, reach_at, seat_at, stand_of, standing, start_at}
+use Rattle.rbac_matrix.specs.Seats.{AreEmpty, AreSeated, Costs, IsSeated, passed, past_all, reach_at, seat_at, stand_of, standing, start_at}
 use Rattle.rbac_matrix.proofs.SeekLemmas.{ascends, raised-raised}
 use Rattle.rbac_matrix.proofs.SeatLemmas.{empty_passed, empty_standing, stands_within}
 use Rattle.rbac_matrix.proofs.LineLemmas.{in_matches, place_within, reach_up}

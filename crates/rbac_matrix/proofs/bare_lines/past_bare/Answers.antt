@@ -1,7 +1,7 @@
-use Rattle.std.proofs.Common.{◌≡◌, ◌+◌, arith, ap, length, refl, inl, inr}
+use Rattle.std.proofs.Common.{◌≡◌, arith, ap, length, refl, inl, inr}
 use Rattle.std.proofs.lemmas.Bool.{both_ways}
 use Rattle.rbac_matrix.specs.BareLines.{PassesBare}
-use Rattle.rbac_matrix.specs.Lines.{IsMoved, lines_from, place}
+use Rattle.rbac_matrix.specs.Lines.{IsMoved, lines_from}
 use Rattle.rbac_matrix.specs.Shown.{line_of}
 use Rattle.rbac_matrix.specs.declared.line.Place.{Place}
 use Rattle.rbac_matrix.proofs.BareLemmas.{bare_namespace, bare_none, bare_then}
