@@ -3,3 +3,11 @@ mod Groups
 mod Once
 mod OneDocument
 mod Pieces
+mod SameEntries
+mod Shapes
+mod Spelled
+mod SpelledDocument
+mod SpelledEntries
+mod TakenBack
+mod Utf8
+mod Values

@@ -1,6 +1,7 @@
 -- The Universe document that is printed (own).
-use Rattle.std.specs.Prelude.{◌≡◌, Bool, true, false, List, [], ◌∷◌, ◌++◌, codes}
+use Rattle.std.specs.Prelude.{◌≡◌, ◌≢◌, All, Bool, true, false, List, [], ◌∷◌, ◌++◌, codes}
 use Rattle.std.specs.List.{join_by}
+use Rattle.std.specs.Str.{IsUtf8}
 use Rattle.json.specs.Print.{quoted}
 use Rattle.rbac_terms.specs.Text.{Text}
 use Rattle.rbac_terms.specs.Principals.{Who, AsUser, AsMember, name_of, given_of}
@@ -76,3 +77,18 @@ document_text lists =
 abbrev pub IsDocument : UniverseLists → Text → Type 0
 IsDocument lists text =
     (each : UniverseLists) × AreOnceEach lists each × (text ≡ document_text each)
+
+-- a principal that JSON can carry: its name isn't empty, and its texts are UTF-8 (RFC 8259)
+pub record IsReadable (who : Who) : Type 0 where
+  pub named : name_of who ≢ []
+  pub name : IsUtf8 (name_of who)
+  pub given : All IsUtf8 (given_of who)
+
+-- lists that JSON can carry; the words of an export come from JSON, so they are UTF-8
+pub record AreReadable (lists : UniverseLists) : Type 0 where
+  pub principals : All IsReadable lists.principals
+  pub namespaces : All IsUtf8 lists.namespaces
+  pub verbs : All IsUtf8 lists.verbs
+  pub resources : All (λ r. IsUtf8 r.group × IsUtf8 r.text) lists.resources
+  pub names : All IsUtf8 lists.names
+  pub urls : All IsUtf8 lists.urls

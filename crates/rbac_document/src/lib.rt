@@ -8,5 +8,5 @@ mod order;
 mod quoted;
 
 pub use document::put_document;
-pub use laws::documents_are_one;
+pub use laws::{documents_are_one, documents_are_taken_back, once_each_is_the_same_universe};
 pub use order::once_each;
