@@ -1,7 +1,7 @@
 """The kubectl plugin, under dash and under bash, with a stand-in for kubectl and the built program.
 
 plugin_room.py has the stand-in, plugin_exports.py the exports, plugin_questions.py the questions,
-plugin_remarks.py what is said beside answers, plugin_advice.py what is said behind errors,
+plugin_remarks.py what is said beside answers, plugin_changes.py and plugin_manifests.py changes and manifests, plugin_advice.py what is said behind errors,
 plugin_server.py both once more with kubectl itself, and plugin_terminal.py what a terminal shows.
 Here are the tools that the plugin needs, its texts, completions and man page, and make. What is
 skipped, since this machine lacks a tool, stands in the last line but one. The last line is
@@ -19,6 +19,7 @@ import tempfile
 import plugin_advice
 import plugin_changes
 import plugin_exports
+import plugin_manifests
 import plugin_questions
 import plugin_remarks
 import plugin_server
@@ -56,7 +57,7 @@ def tools(it):
     for line, said in ((['--help'], 'kubectl rbacaudit who-can'), (['-h'], '--partial'), (['export', '--help'], 'incomplete.txt'),
                        (['universe', '-h'], 'Universe document'), (['can-i', '--help'], '--why'),
                        (['who-can', '-Ah'], 'with kubectl rbacaudit who-can'), (['rules', '-h'], 'u:USER or g:GROUP'), (['matrix', '-h'], '--after'), (['lint', '--help'], 'dangling-role'),
-                       (['diff', '--help'], 'objects that the change deletes'), (['diff', '-h'], 'kubectl patch --local')):
+                       (['diff', '--help'], 'objects that the change deletes'), (['diff', '-h'], 'folder with a kustomization'), (['read', '-h'], 'refused')):
         status, out, err = got = it.run(*line)
         it.checked('help: %s' % ' '.join(line), (status, err) == (0, '') and said.lower() in out.lower(), got)
     for line, options in ((['--help'],
@@ -114,13 +115,14 @@ OWN = {('--export',): 'DIR', ('--partial',): '', ('--context',): 'NAME', ('--kub
        ('--request-timeout',): 'TIME'}
 HELP = ('-h', '--help')
 OF_PAGE = {('--every',): '', ('--title',): 'TEXT', ('--diff',): 'FILE'}
-OF_DIFF = {('--with',): 'PATH', ('-n', '--namespace'): 'NS'}
+OF_READ = {('-n', '--namespace'): 'NS'}
+OF_DIFF = {('--with',): 'PATH', ('--without',): 'PATH', ('--from',): 'PATH', ('--to',): 'PATH', **OF_READ}
 OF_EXPORT = {('--force',): '', ('-n', '--namespace'): 'NS', ('--context',): 'NAME',
              ('--kubeconfig',): 'FILE',
              ('--request-timeout',): 'TIME', ('--as',): 'USER', ('--as-group',): 'GROUP'}
 NOTHING, FILES, FOLDERS = ':4', ':0', ':16'
 COMPLETED = [
-    ([''], ['can-i', 'who-can', 'rules', 'matrix', 'lint', 'diff', 'universe', 'page', 'export'], NOTHING),
+    ([''], ['can-i', 'who-can', 'rules', 'matrix', 'lint', 'diff', 'read', 'universe', 'page', 'export'], NOTHING),
     (['m'], ['matrix'], NOTHING),
     (['-'], ['-h', '--help', '-V', '--version'], NOTHING), (['no', ''], [], NOTHING),
     (['no', '-'], [], NOTHING),
@@ -142,8 +144,9 @@ COMPLETED = [
                                     NOTHING), (['export', 'x', ''], [], NOTHING),
     (['page', '--title', ''], [], NOTHING), (['page', '--diff', ''], [], FILES),
     (['page', ''], [], FILES),
-    (['diff', ''], [], NOTHING), (['diff', '--with', ''], [], FILES),
-    (['diff', '-n', ''], [], NOTHING), (['diff', '-nx', '--w'], ['--with'], NOTHING),
+    (['diff', ''], [], NOTHING), (['diff', '--with', ''], [], FILES), (['diff', '--to', ''], [], FILES), (['diff', '--without='], [], FILES),
+    (['read', ''], [], FILES), (['read', '-n', ''], [], NOTHING),
+    (['diff', '-n', ''], [], NOTHING), (['diff', '-nx', '--w'], ['--with', '--without'], NOTHING),
     (['diff', '--export', 'x', '--export', ''], [], FOLDERS),
     (['diff', '--export', 'x', '--e'], ['--export'], NOTHING),
     (['universe', ''], [], NOTHING), (['can-i', '-qAn', 'x', '--as=y', '--g'], ['--groups', '--group'],
@@ -158,8 +161,8 @@ COMPLETED = [
 
 def options_of(command):
     """The options of a command, with their values: those of rbacaudit, and the plugin's own."""
-    if command in ('diff', 'export', 'universe', 'page'):
-        own = {'export': OF_EXPORT, 'universe': OWN, 'page': {**OWN, **OF_PAGE}, 'diff': {**OWN, **OF_DIFF}}[command]
+    if command in ('diff', 'read', 'export', 'universe', 'page'):
+        own = {'export': OF_EXPORT, 'universe': OWN, 'page': {**OWN, **OF_PAGE}, 'diff': {**OWN, **OF_DIFF}, 'read': OF_READ}[command]
         return {**own, HELP: ''}
     return {**{names: value for names, (value, _) in options(command).items()}, **OWN}
 
@@ -182,7 +185,7 @@ def completions(it):
         got = offered(words_)
         it.checked('completions of %s' % words_, (sorted(got[0]), got[1]) == (sorted(found), last),
                    got)
-    for command in (*commands(), 'universe', 'page', 'export'):
+    for command in (*commands(), 'read', 'universe', 'page', 'export'):
         here = options_of(command)
         got = offered([command, '-'])
         it.checked('the options of %s' % command,
@@ -224,7 +227,7 @@ def man_page():
     got = {names: value for names, (value, _) in options_in(text).items()}
     checked('man: the options', got == wanted, repr(got))
     checked('man: the version', '"kubectl\\-rbacaudit 0.1.0"' in text, text[:300])
-    for command in (*commands(), 'universe', 'page', 'export'):
+    for command in (*commands(), 'read', 'universe', 'page', 'export'):
         checked('man: %s' % command,
                 '.SY "kubectl rbacaudit %s"' % command.replace('-', '\\-') in text, 'no synopsis')
     renders(MAN, {name for names in wanted for name in names})
@@ -259,5 +262,5 @@ def told(words_, folder, tools_=os.path.dirname(PROGRAM)):
 
 
 if __name__ == '__main__':
-    sys.exit(tested(*plugin_exports.CHECKS, *plugin_questions.CHECKS, *plugin_remarks.CHECKS, *plugin_changes.CHECKS, *plugin_advice.CHECKS,
+    sys.exit(tested(*plugin_exports.CHECKS, *plugin_questions.CHECKS, *plugin_remarks.CHECKS, *plugin_changes.CHECKS, *plugin_manifests.CHECKS, *plugin_advice.CHECKS,
                     *plugin_server.CHECKS, *plugin_terminal.CHECKS, tools, script, make_run, completions, in_kubectl, man_page))

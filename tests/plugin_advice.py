@@ -7,7 +7,7 @@ from common import V1
 from plugin_room import in_each_shell
 
 YAML = ('kubectl-rbacaudit: %s looks like YAML, and rbacaudit reads JSON: '
-        'kubectl rbacaudit diff --help shows how kubectl makes JSON of it\n')
+        'kubectl rbacaudit read %s makes JSON of it\n')
 SEVERAL = ('kubectl-rbacaudit: %s has several JSON documents, one behind the other: put their objects into one List, '
            'or each document into a file of its own, as jq -c . FILE | split -l 1 - part- does\n')
 NO_JSON = 'rbacaudit: file 1: M1 not JSON\nkubectl-rbacaudit: file 1 is %s\n'
@@ -31,14 +31,10 @@ def texts(it):
     for text, said in TEXTS:
         it.write(text, 'my file')
         it.expect('no JSON: %r' % text[:40], ['lint', '--export', 'prod', 'my file'], 2, '',
-                  NO_JSON % 'my file' + (said and said % 'my file'))
-    os.mkdir(os.path.join(it.work, 'change'))
-    it.write('kind: Role\n', 'change', 'role.json')
-    status, out, err = got = it.run('diff', '--export', 'prod', '--with', 'change')
-    it.checked('a change', (status, out) == (2, '') and err.endswith(' is change/role.json\n' + YAML % 'change/role.json'), got)
+                  NO_JSON % 'my file' + said.replace('%s', 'my file'))
     it.write('kind: Role\n', 'prod', 'namespaced.json')
     status, out, err = got = it.run('lint', '--export', 'prod')
-    it.checked('a file of the export', (status, out) == (2, '') and err.endswith(YAML % 'prod/namespaced.json'), got)
+    it.checked('a file of the export', (status, out) == (2, '') and err.endswith(YAML.replace('%s', 'prod/namespaced.json')), got)
     status, out, err = got = it.run('matrix', '/dev/stdin', '--export', 'prod', stdin=None, input=b'kind: Role\n')
     it.checked('a pipe', (status, out) == (2, '') and err == NO_JSON % '/dev/stdin', got)
 

@@ -2,13 +2,11 @@
 
 import json
 import os
-import re
-import shutil
 import subprocess
 
-from common import V1, V1BETA1, bare, skipped
+from common import V1, V1BETA1, bare
 from plugin_questions import stale_roles
-from plugin_room import CAUTION, REFUSAL, STAND_IN, in_each_shell, of_kinds, served
+from plugin_room import CAUTION, REFUSAL, in_each_shell, of_kinds, served
 
 SECRETS = {'verbs': ['list'], 'apiGroups': [''], 'resources': ['secrets']}
 # Its label lets developers list the secrets of the shop.
@@ -26,8 +24,16 @@ EMPTY = ('kubectl-rbacaudit: %s has neither a role nor a binding, so nothing is 
          'check each kind and apiVersion in it\n')
 
 
+UNREAD = "kubectl-rbacaudit: kubectl can't read %s, so nothing is answered\n"
+
+
 def read(path, counts=ONE_ROLE):
     return 'kubectl-rbacaudit: read from %s: %s\n' % (path, counts)
+
+
+def culprit(file, path, item, name):
+    """What is said of an object that rbacaudit has refused."""
+    return 'kubectl-rbacaudit: file %d is %s as kubectl reads it; item %d of it is %s\n' % (file, path, item, name)
 
 
 def with_role():
@@ -70,14 +76,14 @@ def reviews(it):
     it.expect('with a file of another name', ['diff', '--export', 'prod', '--with=a=b'], 1, GAINED, read('./a=b') + OVER % './a=b')
     it.write(json.dumps(of_kinds([ROLE, {**ROLE, 'rules': [{}]}], 'ClusterRole')), 'change', 'z=bad.json')
     it.expect('a bad object of the change', ['diff', '--export', 'prod', '--with', 'change'], 2, '',
-              read('change', '3 roles, 0 bindings, 0 other objects') + OVER % 'change' + 'rbacaudit: file 6 item 2: M5 bad rule 1\n'
-              'kubectl-rbacaudit: file 6 is change/z=bad.json; item 2 of it is ClusterRole shop-view-secrets\n')
+              read('change', '3 roles, 0 bindings, 0 other objects') + OVER % 'change' + 'rbacaudit: file 3 item 3: M5 bad rule 1\n'
+              + culprit(3, 'change', 3, 'ClusterRole shop-view-secrets, in change/z=bad.json'))
     it.write('[]', 'prod', 'namespaced.json')
     it.expect('a bad file of the export', ['diff', '--export', 'prod', '--with', 'a=b'], 2, '',
               read('./a=b') + OVER % './a=b' + 'rbacaudit: file 2: M2 not an object\nkubectl-rbacaudit: file 2 is prod/namespaced.json\n')
     status, out, err = got = it.run('diff', '--with', 'change')
     it.checked('a bad change of the cluster', (status, out) == (2, '') and err.endswith(
-        'kubectl-rbacaudit: file 6 is change/z=bad.json; item 2 of it is ClusterRole shop-view-secrets\n'), got)
+        culprit(3, 'change', 3, 'ClusterRole shop-view-secrets, in change/z=bad.json')), got)
 
 
 @in_each_shell
@@ -92,7 +98,19 @@ def refusals(it):
                        (['--export', 'prod', '--export', 'prod', '--with', 'empty'], '--with goes with one --export'),
                        (['--export', 'prod', '--with', 'empty', '--with', 'empty'], '--with is given twice'),
                        (['--export', 'prod', '--with', 'gone'], 'there is no gone'),
-                       (['--with', 'empty'], 'there is no .json file in empty'),
+                       (['--with', 'empty'], 'there is no manifest in empty'),
+                       (['--without', 'empty'], 'there is no manifest in empty'),
+                       (['--from', 'empty'], '--from and --to go together'), (['--to', 'empty'], '--from and --to go together'),
+                       (['--export', 'prod', '--to', 'empty'], '--from and --to go together'),
+                       (['--from', 'a', '--to', 'b', '--with', 'c'], 'give neither --with nor --without beside them'),
+                       (['--from', 'a', '--to', 'b', '--without', 'c'], 'give neither --with nor --without beside them'),
+                       (['--from', 'a', '--to', 'b', '--export', 'prod', '--export', 'prod'], '--with goes with one --export'),
+                       (['--without', 'a', '--export', 'prod', '--export', 'prod'], '--with goes with one --export'),
+                       (['--from', 'a', '--to', 'b', '--context', 'x'], 'manifests are read without a cluster'),
+                       (['--from', '-', '--to', '-'], 'standard input can be read once'),
+                       (['--with', '-', '--without=-'], 'standard input can be read once'),
+                       (['--from', 'a', '--from', 'b'], '--from is given twice'), (['--without', 'a', '--without=b'], '--without is given twice'),
+                       (['--to', '-x'], '--to needs a value; if -x is the value, write --to=-x'), (['--export', '-'], '--export needs a value'),
                        (['--export', 'gone', '--export', 'prod'], 'there is no folder gone'),
                        (['--export', 'prod', '--export', 'gone'], 'there is no folder gone'),
                        (['--export', 'prod', '--export', 'prod', '--context', 'x'], 'give no option of kubectl'),
@@ -139,89 +157,33 @@ def refused(it, name, given, err, *options):
     it.checked('%s: no call' % name, not it.lines('calls'), 'a call')
 
 
-YAML = ('kubectl-rbacaudit: %s is YAML, and a change is read as JSON: '
-        'turn it into JSON first, as kubectl rbacaudit diff --help shows\n')
-WITHIN = "kubectl-rbacaudit: %s is a folder, and its files wouldn't be read: put them into %s itself\n"
-NOT_JSON = 'rbacaudit: file 1: M1 not JSON\nkubectl-rbacaudit: file 1 is change/role.json'
-
-
 @in_each_shell
 def unread(it):
-    """What of a change wouldn't be read is refused: YAML, folders in a folder, what is no JSON value."""
+    """What kubectl can't read is refused with its reason, which names the file."""
     it.run('export', 'prod')
     it.lines('calls')
     os.mkdir(os.path.join(it.work, 'change'))
-    it.write('kind: Role', 'change', 'role.yaml')
-    refused(it, 'YAML alone', 'change', YAML % 'change/role.yaml')
-    it.write(json.dumps(ROLE), 'change', 'role.json')
-    refused(it, 'YAML beside JSON', 'change/', YAML % 'change/role.yaml')
-    refused(it, 'a YAML file', 'change/role.yaml', YAML % 'change/role.yaml')
-    os.rename(os.path.join(it.work, 'change', 'role.yaml'), os.path.join(it.work, 'change', 'a b.yml'))
-    refused(it, 'another YAML file', './change/a b.yml', YAML % './change/a b.yml')
-    refused(it, 'other YAML beside JSON', './change', YAML % './change/a b.yml')
-    os.remove(os.path.join(it.work, 'change', 'a b.yml'))
-    for name in ('within', 'x.json'):
-        os.mkdir(os.path.join(it.work, 'change', name))
-        refused(it, 'a folder %s in a folder' % name, 'change/', WITHIN % ('change/' + name, 'change/'))
-        os.rmdir(os.path.join(it.work, 'change', name))
-    os.mkdir(os.path.join(it.work, 'change', '.git'))
-    it.write('kind: Role', 'change', '.role.yaml')
-    it.write('kind: Role', 'change', 'yaml')
-    it.expect('what is hidden, or no manifest', ['diff', '--export', 'prod', '--with', 'change'], 1, GAINED,
-              read('change') + OVER % 'change')
-    for text in ('kind: ClusterRole\nmetadata: {"name": "x"}\n', '', json.dumps(ROLE) * 2):
-        it.write(text, 'change', 'role.json')
-        status, out, err = got = it.run('diff', '--with', 'change/role.json')
-        it.checked('no JSON value: %r' % text, (status, out) == (2, '') and err.startswith(NOT_JSON), got)
-        it.checked('no call for %r' % text, not it.lines('calls'), 'a call')
-    it.write(json.dumps([ROLE]), 'change', 'role.json')
-    refused(it, 'no object', 'change', 'rbacaudit: file 1: M2 not an object\nkubectl-rbacaudit: file 1 is change/role.json\n')
-    os.remove(os.path.join(it.work, 'change', 'role.json'))
-    os.symlink('nowhere', os.path.join(it.work, 'change', 'a.json'))
-    it.write(json.dumps(ROLE), 'change', 'role.json')
-    refused(it, 'a link to nothing', 'change', "kubectl-rbacaudit: can't read change/a.json\n")
-
-
-MANIFESTS = """kind: ClusterRole
-apiVersion: %s
-metadata: {name: shop-view-secrets, labels: {shop.example.com/aggregate-to-view: "true", x: "}"}}
-rules:
-- {verbs: [list], apiGroups: [""], resources: [secrets]}
----
-kind: Namespace
-apiVersion: v1
-metadata: {name: x}
-"""
-
-
-@in_each_shell
-def from_yaml(it):
-    """The command that help shows turns YAML into JSON, without a cluster; it makes no file of a part of it."""
-    os.remove(os.path.join(it.bin, 'kubectl'))
-    if not shutil.which('kubectl'):
-        skipped('kubectl', 'YAML as JSON')
-        return
-    help_ = it.run('diff', '--help')[1]
-    command = re.search(r'^  kubectl patch .*\n.*> change\.json$', help_, re.M)[0]
-    environment = {**it.environment(), 'HOME': it.path, 'KUBECONFIG': it.at('none')}
-    os.mkdir(os.path.join(it.work, 'change.yaml'))
-    it.write(MANIFESTS % V1, 'change.yaml', 'a.yaml')
-    it.write(MANIFESTS.partition('---\n')[2], 'change.yaml', 'b.yml')
-    it.write('{kind: Role}', 'change.yaml', 'c.yml')
-    for made in (False, True):
-        ended = subprocess.run([it.shell, '-c', command], cwd=it.work, env=environment, stderr=subprocess.PIPE, timeout=60)
-        it.checked('it makes a file: %s' % made, (ended.returncode == 0, 'change.json' in it.files('.')) == (made, made), ended)
-        it.write('', 'change.yaml', 'c.yml')
-    with open(os.path.join(it.bin, 'kubectl'), 'w', encoding='utf-8') as file:
-        file.write(STAND_IN)
-    os.chmod(os.path.join(it.bin, 'kubectl'), 0o755)
-    it.expect('YAML as JSON', ['diff', '--with', 'change.json'], 1, GAINED,
-              read('change.json', '1 role, 0 bindings, 2 other objects') + OVER % 'change.json')
+    it.write(json.dumps(ROLE), 'change', 'a.json')
+    for text in ('{"kind": "Role"', json.dumps(ROLE) + ']', '[%s]' % json.dumps(ROLE), '5', '{"metadata": {}}', json.dumps({**ROLE, 'kind': ''}),
+                 json.dumps({'items': [5], **ROLE}), '{"apiVersion": "%s", "kind": "Clusterrole", "kind": null}' % V1,
+                 '{"kind": "Role", "apiVersion": "%s", "metadata": {"name": "r", "namespace": 5}}' % V1,
+                 json.dumps(a_list('List', 'v1', ROLE, a_list('ClusterRoleList', V1, ROLE)))):
+        it.write(text, 'change', 'b.json')
+        for given in ('change', 'change/b.json'):
+            for place in ([], ['--export', 'prod']):
+                status, out, err = got = it.run('diff', *place, '--with', given)
+                said, _, last = err.partition('kubectl-rbacaudit: ')
+                it.checked('unread: %s of %s %s' % (text, given, place), (status, out) == (2, '') and said.startswith('error: ')
+                           and 'change/b.json' in said and 'kubectl-rbacaudit: ' + last == UNREAD % given, got)
+    os.remove(os.path.join(it.work, 'change', 'b.json'))
+    os.symlink('nowhere', os.path.join(it.work, 'change', 'b.json'))
+    status, out, err = got = it.run('diff', '--with', 'change')
+    it.checked('a link to nothing', (status, out) == (2, '') and 'open change/b.json' in err, got)
+    it.checked('no call', not it.lines('calls'), 'a call')
 
 
 KIND = ("kubectl-rbacaudit: %s has the kind %s, which rbac.authorization.k8s.io doesn't have: "
         'check the spelling\n')
-LIST = "kubectl-rbacaudit: item %d of c.json is a %s, and a list in a list isn't read: give it a file of its own\n"
 WRONG = {**ROLE, 'kind': 'Clusterrole'}
 POD = {'apiVersion': 'v1', 'kind': 'Pod', 'metadata': {'name': 'x'}}
 
@@ -230,19 +192,14 @@ def a_list(kind, version, *items):
     return {'items': items, 'kind': kind, 'apiVersion': version}
 
 
-# Documents of which rbacaudit would ignore one that looks like a role, and what is said.
+# Documents of which rbacaudit would ignore one that looks like a role, and its kind.
 MISTYPED = [
-    (WRONG, KIND % ('c.json', 'Clusterrole')), (dict(reversed(WRONG.items())), KIND % ('c.json', 'Clusterrole')),
-    (a_list('List', 'v1', ROLE, WRONG), KIND % ('item 2 of c.json', 'Clusterrole')),
-    (a_list('ClusterRoleList', V1, bare(ROLE), {**bare(ROLE), 'kind': 'clusterRole'}), KIND % ('item 2 of c.json', 'clusterRole')),
-    (a_list('RolebindingList', V1, ROLE), KIND % ('c.json', 'RolebindingList')),
-    (a_list('List', V1BETA1, ROLE), KIND % ('c.json', 'List')),
-    (a_list('List', 'v1', ROLE, POD, {**ROLE, 'kind': 'Role ClusterRole'}), KIND % ('item 3 of c.json', 'Role ClusterRole')),
-    (a_list('List', 'v1', {**ROLE, 'kind': 'a\x1b\t"'}), KIND % ('item 1 of c.json', 'a\\u001b\\t\\"')),
-    (a_list('List', 'v1', {**ROLE, 'kind': ''}, ROLE), KIND % ('item 1 of c.json', '""')),
-    (a_list('List', 'v1', ROLE, a_list('List', 'v1', ROLE)), LIST % (2, 'List')),
-    (a_list('List', 'v1', a_list('ClusterRoleList', V1, ROLE)), LIST % (1, 'ClusterRoleList'))]
-# Texts that say the same as WRONG or ROLE, spelled in other ways.
+    (WRONG, 'Clusterrole'), (dict(reversed(WRONG.items())), 'Clusterrole'), (a_list('List', 'v1', ROLE, WRONG), 'Clusterrole'),
+    (a_list('ClusterRoleList', V1, bare(ROLE), {**ROLE, 'kind': 'clusterRole'}), 'clusterRole'),
+    (a_list('RolebindingList', V1, bare(ROLE)), 'Rolebinding'), (a_list('ServiceAccount', 'v1', WRONG), 'Clusterrole'),
+    ({'kind': 'List', 'apiVersion': V1}, 'List'), (a_list('List', 'v1', ROLE, POD, {**ROLE, 'kind': 'Role ClusterRole'}), 'Role ClusterRole'),
+    (a_list('List', 'v1', {**ROLE, 'kind': 'a\x1b\t"'}), 'a\\u001b\\t\\"')]
+# Texts that say the same as WRONG, spelled in other ways.
 ESCAPED = json.dumps(WRONG).replace('/', '\\/').replace('kind', 'k\\u0069nd').replace('terrole', 't\\u0065rrole')
 TWICE = json.dumps(ROLE)[:-1] + ', "kind": "Clusterrole"}'
 # The last of several lists counts, and the last kind.
@@ -255,24 +212,24 @@ def kinds(it):
     """A kind that RBAC doesn't have is refused, wherever it stands; what only looks like one isn't."""
     it.run('export', 'prod')
     it.lines('calls')
-    for document, said in MISTYPED:
+    for document, kind in MISTYPED:
         it.write(json.dumps(document), 'c.json')
-        refused(it, json.dumps(document), 'c.json', said)
+        refused(it, json.dumps(document), 'c.json', KIND % ('c.json', kind))
     for text in (ESCAPED, TWICE):
         it.write(text, 'c.json')
         refused(it, text, 'c.json', KIND % ('c.json', 'Clusterrole'))
+    it.write(json.dumps({field: value for field, value in ROLE.items() if field != 'apiVersion'}), 'c.json')
+    refused(it, 'no version', 'c.json', 'kubectl-rbacaudit: c.json has a ClusterRole without an apiVersion, so no cluster takes it\n')
     looks = {**ROLE, 'kind': 'ClusterRole', 'metadata': {
         'name': '"kind": "Clusterrole"', 'labels': {'kind': 'Clusterrole', **ROLE['metadata']['labels']}}}
     other = {**WRONG, 'apiVersion': 'example.com/v1'}
     for document, counts in ((looks, ONE_ROLE), ({**looks, 'metadata': {**looks['metadata'], 'name': 'Clusterrole'}}, ONE_ROLE),
-                             (a_list('List', 'v1', ROLE, other), '1 role, 0 bindings, 1 other object'),
-                             (a_list('List', 'v1', ROLE, a_list('PodList', 'v1', WRONG)), '1 role, 0 bindings, 1 other object')):
+                             (a_list('List', V1BETA1, ROLE), ONE_ROLE),
+                             (a_list('List', 'v1', ROLE, other), '1 role, 0 bindings, 1 other object')):
         it.write(json.dumps(document), 'c.json')
         it.expect(json.dumps(document), ['diff', '--export', 'prod', '--with', 'c.json'], 1, GAINED, read('c.json', counts) + OVER % 'c.json')
     it.write(LAST_COUNTS, 'c.json')
     it.expect('the last counts', ['diff', '--export', 'prod', '--with', 'c.json'], 1, GAINED, read('c.json') + OVER % 'c.json')
-    it.write('{"apiVersion": "%s", "kind": "Clusterrole", "kind": null}' % V1, 'c.json')
-    refused(it, 'no kind', 'c.json', 'rbacaudit: file 1: M2 not an object\nkubectl-rbacaudit: file 1 is c.json\n')
 
 
 def binding(kind, name, **fields):
@@ -283,15 +240,14 @@ def binding(kind, name, **fields):
 COUNTED = [
     ([POD], '0 roles, 0 bindings, 1 other object'), ([a_list('List', 'v1')], '0 roles, 0 bindings, 0 other objects'),
     ([a_list('RoleList', V1)], '0 roles, 0 bindings, 0 other objects'),
-    ([{'kind': 'List', 'apiVersion': 'v1'}], '0 roles, 0 bindings, 0 other objects'),
-    ([a_list('PodList', 'v1', ROLE, ROLE)], '0 roles, 0 bindings, 1 other object'),
+    ([{'kind': 'List', 'apiVersion': 'v1'}], '0 roles, 0 bindings, 1 other object'),
+    ([a_list('PodList', 'v1', ROLE, ROLE)], '2 roles, 0 bindings, 0 other objects'),
     ([{**ROLE, 'apiVersion': 'v1'}, POD], '0 roles, 0 bindings, 2 other objects'),
     ([binding('ClusterRoleBinding', 'a')], '0 roles, 1 binding, 0 other objects'),
     ([a_list('ClusterRoleBindingList', V1BETA1, bare(binding('', 'a')), bare(binding('', 'b')))], '0 roles, 2 bindings, 0 other objects'),
     ([a_list('NamespaceList', 'v1', {'metadata': {'name': 'n'}}, binding('ClusterRoleBinding', 'a'))], '0 roles, 1 binding, 1 other object'),
     ([ROLE, a_list('List', 'v1', POD, ROLE, POD), binding('RoleBinding', 'x', namespace='shop')], '2 roles, 1 binding, 2 other objects'),
-    ([a_list('RoleList', V1, POD, {'metadata': {'name': 'r', 'namespace': 'shop'}}, ROLE)], '2 roles, 0 bindings, 1 other object'),
-    ([{'items': [5], **ROLE}], ONE_ROLE)]
+    ([a_list('RoleList', V1, POD, {'metadata': {'name': 'r', 'namespace': 'shop'}}, ROLE)], '2 roles, 0 bindings, 1 other object')]
 
 
 @in_each_shell
@@ -310,8 +266,8 @@ def counts(it):
         it.checked('counted: %s' % json.dumps(documents), (status == 2, err) == (nothing, wanted) and not (nothing and out), got)
     it.write(json.dumps({**ROLE, 'apiVersion': V1 + 'alpha1'}), 'c', '0.json')
     it.expect('a bad version', ['diff', '--export', 'prod', '--with', 'c/0.json'], 2, '',
-              read('c/0.json') + OVER % 'c/0.json' + 'rbacaudit: file 5: M3 bad version\nkubectl-rbacaudit: file 5 is c/0.json, '
-              'ClusterRole shop-view-secrets\n')
+              read('c/0.json') + OVER % 'c/0.json' + 'rbacaudit: file 3 item 1: M3 bad version\n'
+              + culprit(3, 'c/0.json', 1, 'ClusterRole shop-view-secrets'))
 
 
 # Names that a walk over JSON could trip over, and how a line of diff has each.
@@ -341,7 +297,7 @@ def without_namespaces():
         version = '"apiVersion": "%s"' % V1
         role, bound = ', '.join(role), ', '.join(bound)
         kinds_ = ['{"kind": "Role", %s, %s}' % (version, role), '{%s, "kind": "RoleBinding", %s}' % (bound, version)]
-        others = '{"apiVersion": "v1", "kind": "Pod", "metadata": {}, "items": [{"metadata": {}}]}'
+        others = '{"apiVersion": "v1", "kind": "Pod", "metadata": {}}'
         texts = [kinds_, ['{"items": [%s, %s, %s], "kind": "List", "apiVersion": "v1", "metadata": {}}' % (kinds_[1], others, kinds_[0])],
                  ['{"items": [{%s}], "kind": "RoleList", %s}' % (role, version),
                   '{%s, "kind": "RoleBindingList", "metadata": {}, "items": [ {%s} ]}\n' % (version, bound)]][number % 3]
@@ -391,18 +347,16 @@ def placed(it):
     it.write(json.dumps(ROLE), 'role.json')
     it.expect('nothing to place', ['diff', '--export', 'prod', '-n', 'shop', '--with', 'role.json'], 1, GAINED, read('role.json')
               + 'kubectl-rbacaudit: no object of role.json lacks a namespace, so -n shop changes nothing\n' + OVER % 'role.json')
-    it.write('{"kind": "Role", "apiVersion": "%s", "metadata": {"name": "r", "namespace": 5}}' % V1, 'c.json')
-    it.lines('calls')
-    refused(it, 'a bad namespace', 'c.json', 'rbacaudit: file 1: M4 bad metadata\nkubectl-rbacaudit: file 1 is c.json, Role r\n', '-n', 'shop')
     it.write('{"kind": "Role", "apiVersion": "%s", "metadata": {"name": "r"}, "rules": [{}]}' % V1, 'c.json')
     status, _, err = got = it.run('diff', '--export', 'prod', '--with', '/dev/stdin', stdin=None, input=it.read('c.json').encode())
-    it.checked('a bad pipe', status == 2 and err.endswith('rbacaudit: file 5: M5 bad rule 1\nkubectl-rbacaudit: file 5 is /dev/stdin, Role r\n'), got)
+    it.checked('a bad pipe', status == 2 and err.endswith(
+        'rbacaudit: file 3 item 1: M5 bad rule 1\n' + culprit(3, '/dev/stdin', 1, 'Role r')), got)
     os.mkdir(os.path.join(it.work, 'c'))
     os.mkfifo(os.path.join(it.work, 'c', 'a.json'))
     it.write(json.dumps(ROLE), 'c', 'b.json')
     with subprocess.Popen(['sh', '-c', 'cat c.json > c/a.json'], cwd=it.work):
         status, _, err = got = it.run('diff', '--export', 'prod', '--with', 'c/')
-    it.checked('a bad pipe in a folder', status == 2 and err.endswith('kubectl-rbacaudit: file 5 is c/a.json, Role r\n'), got)
+    it.checked('a bad pipe in a folder', status == 2 and err.endswith(culprit(3, 'c/', 1, 'Role r, in c/a.json')), got)
 
 
 STALE = ('kubectl-rbacaudit: stale aggregates (L6 of lint) in %s: ClusterRole/a, ClusterRole/b, ClusterRole/late; '
@@ -455,4 +409,4 @@ def made_stale(it):
         it.expect(name, ['diff', '--export', 'settled', '--with', 'c.json'], int(bool(out)), out, read('c.json', counts_) + OVER % 'c.json' + said)
 
 
-CHECKS = [sides, reviews, refusals, parts, unread, from_yaml, kinds, counts, namespaces, placed, stale, made_stale]
+CHECKS = [sides, reviews, refusals, parts, unread, kinds, counts, namespaces, placed, stale, made_stale]

@@ -1,7 +1,8 @@
 """A room for tests of the kubectl plugin: a stand-in for kubectl, the built program, and folders.
 
 The stand-in is a script that serves files made from examples/: it writes down each call, knows no call
-but those that read, and refuses, fails, dies or hangs where a check makes it.
+but those that read, and refuses, fails, dies or hangs where a check makes it. Manifests are read by
+local_kubectl.py.
 """
 
 import contextlib
@@ -9,15 +10,17 @@ import json
 import os
 import shutil
 import subprocess
+import sys
 import tempfile
 
 from common import PROGRAM, TOP, V1, checked
 
 PLUGIN = os.path.join(TOP, 'plugin', 'kubectl-rbacaudit')
+LOCAL_KUBECTL = os.path.join(TOP, 'tests', 'local_kubectl.py')
 SHELLS = ['dash' if shutil.which('dash') else 'sh', 'bash']
 
 # A call is one line of words, each with a | before it; one that isn't a reading call of the plugin is
-# written to `strange`. The options that say who reads what go to `targets`. What kubectl says of its
+# written to `strange`, and one that reads manifests, and so no cluster, to `reads`. The options that say who reads what go to `targets`. What kubectl says of its
 # context is the file `context`. TROUBLE lists, joined by commas, kinds of trouble, each with the file
 # that it befalls; `slow` befalls all.
 STAND_IN = r'''#!/bin/sh
@@ -32,6 +35,11 @@ done
 [ -z "$targets" ] || printf '%s\n' "$targets" >> "$ROOM/targets"
 case $line in
     "|config|view|--minify|-o|jsonpath="*) exec cat "$ROOM/context" ;;
+    "|patch|--local|--type=merge|-p|{}|-o|json|"*)
+        printf '%s\n' "$line" >> "$ROOM/reads"
+        [ "$KUBECONFIG,$KUBERC" = /dev/null,off ] || { echo "$KUBECONFIG" >> "$ROOM/strange"; exit 97; }
+        shift 7
+        exec "$PYTHON" "$LOCAL_KUBECTL" "$@" ;;
 esac
 printf '%s\n' "$line" >> "$ROOM/calls"
 rbac=rbac.authorization.k8s.io
@@ -192,12 +200,12 @@ class Room:
 
     def environment(self, trouble=()):
         return dict(os.environ, PATH=self.bin + os.pathsep + os.environ['PATH'], ROOM=self.path, TMPDIR=self.temporary,
-                    TROUBLE=','.join(trouble))
+                    TROUBLE=','.join(trouble), PYTHON=sys.executable, LOCAL_KUBECTL=LOCAL_KUBECTL)
 
-    def run(self, *words, trouble=(), environment=None, **how):
-        """Status, standard output and standard error of a call of the plugin."""
+    def run(self, *words, trouble=(), environment=None, within=(), **how):
+        """Status, standard output and standard error of a call of the plugin, by way of another command."""
         how = {'stdin': subprocess.DEVNULL, 'cwd': self.work, 'timeout': 120, **how}
-        ended = subprocess.run([self.shell, PLUGIN, *words], env=environment or self.environment(trouble),
+        ended = subprocess.run([*within, self.shell, PLUGIN, *words], env=environment or self.environment(trouble),
                                stdout=subprocess.PIPE, stderr=subprocess.PIPE, **how)
         return ended.returncode, ended.stdout.decode(), ended.stderr.decode()
 

@@ -32,7 +32,7 @@ advise_on_text() {
     [ -f "$1" ] && [ -r "$1" ] || return 0
     if LC_ALL=C awk "$LOOKS_LIKE_YAML" <"$1"; then
         report "$1 looks like YAML, and rbacaudit reads JSON: \
-kubectl rbacaudit diff --help shows how kubectl makes JSON of it"
+kubectl rbacaudit read $1 makes JSON of it"
     elif walk "$1" "$HAS_SEVERAL"; then
         report "$1 has several JSON documents, one behind the other: put their objects into one List, \
 or each document into a file of its own, as jq -c . FILE | split -l 1 - part- does"

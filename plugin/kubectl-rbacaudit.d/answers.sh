@@ -188,7 +188,7 @@ name_file() {
     [ -z "$item" ] || between="; item $item of it is "
     culprit=${culprit:+$between$culprit}
     case $found in
-        "$scratch"/change/*) find_original ;;
+        "$scratch"/lists/*) name_list ;;
         "$scratch"/*)
             found="${found##*/} of the fresh export"
             culprit="$culprit; kubectl rbacaudit export DIR would keep it"
@@ -199,6 +199,14 @@ name_file() {
         "$scratch"/*) ;;
         *) advise "$path" "$fault" ;;
     esac
+}
+
+# The same for a list of manifests: with the path that it was read from, and the file that the object stands in.
+name_list() {
+    find_origin "$found" "${item:-1}"
+    read_from=$(cat "${found%.json}.paths")
+    found="$read_from as kubectl reads it"
+    [ "$origin" = "$read_from" ] || culprit="$culprit, in $origin"
 }
 
 # Leaves in `most` how many places of a command stand before its FILEs.
@@ -222,9 +230,12 @@ for_each_file() {
     done
 }
 
-# Lets rbacaudit read the words, without FILEs, over an export that grants nothing. A line that it
-# refuses ends here, before any call to a cluster.
-accept_words() {
+# Calls a function with some of the words of a command: its FILEs alone, with `files`, or with `words` all that
+# aren't FILEs.
+with_part() {
+    kept=$1
+    each=$2
+    shift 2
     set_most "$1"
     left=$#
     begin_words
@@ -233,10 +244,16 @@ accept_words() {
         shift
         left=$((left - 1))
         read_word "$word"
-        if [ "$place" = no ] || [ "$places" -le "$most" ]; then
-            set -- "$@" "$word"
-        fi
+        kind=words
+        [ "$place" = no ] || [ "$places" -le "$most" ] || kind=files
+        [ "$kind" != "$kept" ] || set -- "$@" "$word"
     done
+    "$each" "$@"
+}
+
+# Lets rbacaudit read the words, without FILEs, over an export that grants nothing. A line that it
+# refuses ends here, before any call to a cluster.
+accept_words() {
     rbacaudit "$@" >/dev/null 2>"$scratch/said" <<'EOF'
 {"apiVersion": "v1", "kind": "List"}
 EOF
@@ -267,8 +284,11 @@ question_command() {
     done
     need_rbacaudit
     [ "$help" = no ] || question_help
+    # (lint of manifests reads neither a cluster nor an export)
+    [ "$command$export_dir" != lint ] || [ "$places" -lt 2 ] || alone=yes
     check_options
-    accept_words "$@"
+    with_part words accept_words "$@"
+    [ "$alone" = no ] || lint_manifests "$@"
     find_groups "$@"
     find_target "$@"
     look_at_about
@@ -387,7 +407,9 @@ question_help() {
 check_options() {
     [ -z "$option" ] || refuse "$option needs a value"
     # (one side of diff alone is compared with a fresh one)
-    if [ -z "$export_dir" ] || [ "$command$later_dir$with" = diff ]; then
+    if [ "$alone" = yes ]; then
+        [ -z "$context$kubeconfig$timeout" ] || refuse 'manifests are read without a cluster: give no option of kubectl'
+    elif [ -z "$export_dir" ] || [ "$command$later_dir$with$without" = diff ]; then
         need_kubectl
     elif [ -n "$context$kubeconfig$timeout" ]; then
         refuse 'an export answers without a cluster: with --export, give no option of kubectl'

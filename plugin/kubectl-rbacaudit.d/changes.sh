@@ -5,11 +5,9 @@
 # word is.
 take_diff() {
     case $1 in
-        --with | -n | --namespace) option=$1 ;;
-        --with=* | --namespace=*) set_option "${1%%=*}" "${1#*=}" ;;
-        -n=*) set_option -n "${1#-n=}" ;;
-        -n*) set_option -n "${1#-n}" ;;
-        *) take_own "$1" ;;
+        --with | --without | --from | --to) option=$1 ;;
+        --with=* | --without=* | --from=* | --to=*) set_option "${1%%=*}" "${1#*=}" ;;
+        *) take_namespace "$1" || take_own "$1" ;;
     esac
 }
 
@@ -36,29 +34,47 @@ diff_command() {
     need_rbacaudit
     check_sides
     check_options
-    read_change
-    compare_sides
+    read_sides
+    if [ "$alone" = yes ]; then compare_states; else compare_sides; fi
     exit "$answered"
 }
 
-# Two exports, an export and the cluster as it is now, or one of these and a change of it.
+# Two exports, an export and the cluster as it is now, one of these and a change of it, or two states of
+# manifests, which are a change of an export where one is given.
 check_sides() {
     [ -z "$option" ] || refuse "$option needs a value"
-    [ -n "$export_dir$with" ] ||
-        refuse 'diff needs --export DIR or --with PATH; kubectl rbacaudit diff --help says more'
-    [ -z "$later_dir" ] || [ -z "$with" ] ||
+    [ -n "$export_dir$with$without$from$to" ] || refuse 'diff needs --export DIR or --with PATH, or --from PATH \
+and --to PATH; kubectl rbacaudit diff --help says more'
+    case ${from:+from}-${to:+to} in
+        from- | -to) refuse '--from and --to go together: the manifests before the change, and those after it' ;;
+        from-to)
+            [ -z "$with$without" ] ||
+                refuse '--from and --to are the whole change: give neither --with nor --without beside them'
+            [ -n "$export_dir" ] || alone=yes
+            ;;
+    esac
+    [ -z "$later_dir" ] || [ -z "$with$without$from" ] ||
         refuse 'diff compares two exports, or one with a change: --with goes with one --export'
+    check_inputs "$with" "$without" "$from" "$to"
     take_change_in
-    [ -z "$with" ] || check_change
+    [ "$alone" = yes ] || [ -z "$from" ] || { without=$from && with=$to; }
 }
 
-# Takes what stands after -n, which is about a change alone: it is put into JSON as it is.
+check_inputs() {
+    inputs=0
+    for path do
+        [ "$path" != - ] || inputs=$((inputs + 1))
+    done
+    [ "$inputs" -le 1 ] || refuse 'standard input can be read once: give - as one PATH alone'
+}
+
+# Takes what stands after -n, which is about manifests alone: it is put into JSON as it is.
 take_change_in() {
     change_in=$only_in
     only_in=
     [ -n "$change_in" ] || return 0
-    [ -n "$with" ] ||
-        refuse "-n is the namespace of a change's objects that have none, so it needs --with PATH"
+    [ "$command" != diff ] || [ -n "$with$without$from" ] || refuse "-n is the namespace of a change's objects \
+that have none, so it needs --with PATH, --without PATH, or --from PATH and --to PATH"
     case $change_in in
         *[!abcdefghijklmnopqrstuvwxyz0123456789.-]*)
             refuse "there is no namespace $change_in: \
@@ -67,25 +83,39 @@ its name would have lower-case letters, digits and dashes alone"
     esac
 }
 
+# Reads the manifests, before the cluster.
+read_sides() {
+    if [ "$alone" = yes ]; then
+        take_manifests from "$from"
+        take_manifests to "$to"
+        need_held compared "$from" "$to"
+        return
+    fi
+    [ -z "$without" ] || take_manifests without "$without"
+    [ -z "$with" ] || take_manifests with "$with"
+    [ -z "$with$without" ] || need_held compared ${without:+"$without"} ${with:+"$with"}
+}
+
 # Opens both sides, and asks about them. A fresh one is of the namespace that the other is of.
 compare_sides() {
     type=
     choose_namespace
     parts_of diff
     open_side
-    earlier=$export_dir
-    if [ -n "$with" ]; then
-        report "$with is put over the export: objects that the change deletes still count"
-        remark_on_change
-    else
-        only_in=$only
-        export_dir=$later_dir
-        open_side
-        [ "$only" = "$only_in" ] || warn_of_namespaces
+    if [ -n "$with$without" ]; then
+        announce_change
+        [ -z "$with" ] || remark_on_change
+        with_files ask_change diff --before
+        return
     fi
+    earlier=$export_dir
+    only_in=$only
+    export_dir=$later_dir
+    open_side
+    [ "$only" = "$only_in" ] || warn_of_namespaces
     later=$export_dir
     export_dir=$earlier
-    with_files add_later diff --before
+    with_files ask_later diff --before
 }
 
 # Opens the export in $export_dir, or a fresh one.
@@ -107,13 +137,46 @@ so what it lacks counts as gained or lost"
         refuse 'nothing is answered; --partial answers from what is there'
 }
 
-add_later() {
-    export_dir=$later
-    with_files add_change "$@" --after
+announce_change() {
+    taken="what $(name_path "$without") has is taken from the export"
+    put="$(name_path "$with") is put over"
+    case ${without:+without}-${with:+with} in
+        -with) report "$put the export: objects that the change deletes still count" ;;
+        without-) report "$taken" ;;
+        *) report "$taken, and $put it" ;;
+    esac
 }
 
-add_change() {
-    with_change ask "$@"
+ask_later() {
+    export_dir=$later
+    with_files ask "$@" --after
+}
+
+# (files count in this order in rbacaudit's messages)
+ask_change() {
+    [ -z "$without" ] || set -- "$@" --without "$scratch/lists/without.json"
+    [ -z "$with" ] || set -- "$@" --with "$scratch/lists/with.json"
+    ask "$@"
+}
+
+# Asks about two states of manifests.
+compare_states() {
+    remark_on_missing
+    ask diff --before "$scratch/lists/from.json" --after "$scratch/lists/to.json"
+}
+
+# Reports the roles that bindings refer to and neither state has: with the other state's roles too, a role
+# that lint still misses is in neither.
+remark_on_missing() {
+    missing=$(
+        for last in from to; do
+            rbacaudit lint --only=L1 "$scratch/lists/from.json" "$scratch/lists/to.json" "$scratch/lists/$last.json"
+        done 2>/dev/null | cut -f 5 | LC_ALL=C sort -u | LC_ALL=C awk '
+            NR <= 3 { said = said (said == "" ? "" : ", ") $0 }
+            END { print said (NR > 3 ? " and " NR - 3 " more" : "") }'
+    )
+    [ -z "$missing" ] || report "neither side has these roles, so bindings to them grant nothing here: $missing; \
+--export DIR compares with the roles of a cluster"
 }
 
 diff_usage() {
@@ -124,17 +187,19 @@ List what a change lets users do, and what it takes from them.
   kubectl rbacaudit diff --export OLD                from an export to the cluster as it is now
   kubectl rbacaudit diff --export DIR --with PATH    what a change would do that waits for review
   kubectl rbacaudit diff --with PATH                 the same, to the cluster as it is now
+  kubectl rbacaudit diff --from PATH --to PATH       from some manifests to others, without a cluster
+  kubectl rbacaudit diff --export DIR --from PATH --to PATH
+                                                     what that does to the cluster
 
-  --with PATH   the change: a JSON file, or a folder of which each .json file is read. An object of
-                the change takes the place of the export's. Objects that the change deletes still
-                count, since it doesn't name them.
-  -n NS         the namespace of the change's roles and bindings that have none; without it, default
+  --with PATH      manifests that are put over the export: an object takes the place of the export's
+  --without PATH   manifests whose objects are taken from the export first, by kind, namespace and name
+  --from PATH      the manifests before the change; with --export, what --without means
+  --to PATH        the manifests after it; with --export, what --with means
+  -n NS            the namespace of their roles and bindings that have none; without it, default
 
-Standard error says how many roles and bindings were read from the change. It is refused if it has
-none, a kind that RBAC doesn't have, YAML files, or folders. kubectl makes JSON of YAML, also of a
-folder of it, without a cluster:
-  kubectl patch --local --type merge -p '{}' -o json -f change.yaml > parts &&
-  sed '1s/^/{"apiVersion":"v1","kind":"List","items":[/; $!s/^}$/},/; $s/$/]}/' parts > change.json
+PATH is a file, a folder (.json, .yaml and .yml, folders within), a folder with a kustomization, or -
+for standard input. kubectl reads it, without a cluster (kubectl rbacaudit read --help). Standard error
+says how many roles and bindings were read. Without --without, objects that the change deletes still count.
 
 A line begins with + for what is gained, or with - for what is lost; rbacaudit diff --help has its
 fields. All requests of all users are compared, whether an export names them or not.

@@ -27,10 +27,9 @@ take_export_word() {
         -h | --help) help=yes ;;
         --context | --context=* | --kubeconfig | --kubeconfig=*) take_own "$1" ;;
         --request-timeout | --request-timeout=*) take_own "$1" ;;
-        -n | --namespace | --as | --as-group) option=$1 ;;
-        --namespace=* | --as=* | --as-group=*) set_option "${1%%=*}" "${1#*=}" ;;
-        -n=*) set_option -n "${1#-n=}" ;;
-        -n*) set_option -n "${1#-n}" ;;
+        --as | --as-group) option=$1 ;;
+        --as=* | --as-group=*) set_option "${1%%=*}" "${1#*=}" ;;
+        -n* | --namespace | --namespace=*) take_namespace "$1" ;;
         -?*) refuse "export has no $1; kubectl rbacaudit export --help lists its options" ;;
         '') refuse 'the name of the folder is empty' ;;
         *)

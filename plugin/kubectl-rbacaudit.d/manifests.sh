@@ -1,100 +1,89 @@
 # shellcheck shell=sh
-# The change after --with: what of it is read, which is said before anything is compared.
+# What manifests have: which roles and bindings are read from them is said before anything is answered.
 
-# An awk program that follows JSON_WALK, and prints lines about one file of a change:
-#   values N           it has N JSON objects, and not one
-#   fault ITEM KIND    a document of the RBAC group has a kind that the group hasn't
-#   list ITEM KIND     an item of a list is itself a list, so nothing of it is read
+# Awk functions that follow JSON_WALK over a List that kubectl has made: take(item) is called at the end of
+# each item, and finds its fields in `kind`, `version`, `name` and `space`. A program that has these defines it.
+ITEM_WALK=$JSON_WALK'
+BEGIN {
+    rbac_group = "^rbac[.]authorization[.]k8s[.]io/"
+    split("Role ClusterRole RoleBinding ClusterRoleBinding", rbac_kinds, " ")
+    for (at in rbac_kinds) known[rbac_kinds[at]]
+}
+function on_field() {
+    if (is_metadata()) filled = 1
+    if (depth == 3 && field[3] == "metadata") filled = 0
+}
+function on_text(text) {
+    if (depth == 3 && field[3] == "kind") kind = text
+    if (depth == 3 && field[3] == "apiVersion") version = text
+    if (is_metadata() && field[4] == "name") name = text
+    if (is_metadata() && field[4] == "namespace") space = text
+}
+function on_end() {
+    ends++
+    if (marks == "yes" && is_metadata() && space == "") print "at", ends, filled ? "," : ""
+    if (depth != 3) return
+    take(place[2])
+    kind = version = name = space = ""
+}
+function is_metadata() { return depth == 4 && field[3] == "metadata" }
+function is_known() { return version ~ rbac_group && (kind in known) }'
+
+# Prints lines about such a List:
+#   fault ITEM KIND    an item of the RBAC group has a kind that the group hasn't
+#   lacks ITEM KIND    a role or a binding has no apiVersion
 #   bare KIND/NAME     an object has no namespace, and its kind has one; only the first three
 #   read ROLES BINDINGS OTHERS BARE    how many there are
-# ITEM is 0 for the document itself. With marks=yes, `at N ,` says that the Nth } of the file ends a
-# metadata without a namespace; the comma is missing if it is empty. A kind and a version have a =
-# before them, and are empty if they are missing. What is found in the document itself stands under
-# its depth, 1, and what is found in an item under 3.
-CHANGE_WALK='
-BEGIN {
-    rbac_group = "^=rbac[.]authorization[.]k8s[.]io/"
-    split("Role ClusterRole RoleBinding ClusterRoleBinding", rbac_kinds, " ")
-    for (at in rbac_kinds) { known[rbac_kinds[at]]; listing[rbac_kinds[at] "List"] }
-}
-function on_field(    top) {
-    field[depth] = plain(field[depth])
-    top = base()
-    if (depth == 1 && field[1] == "items") items = 0
-    if (depth == top && field[top] == "kind") kind[top] = ""
-    if (depth == top && field[top] == "apiVersion") version[top] = ""
-    if (depth == top && field[top] == "metadata") { name[top] = space[top] = ""; filled = 0 }
-    if (!is_metadata(top)) return
-    filled = 1
-    if (field[depth] == "name") name[top] = ""
-    if (field[depth] == "namespace") space[top] = ""
-}
-function on_text(text,    top) {
-    top = base()
-    if (depth == top && field[top] == "kind") kind[top] = "=" plain(text)
-    if (depth == top && field[top] == "apiVersion") version[top] = "=" plain(text)
-    if (is_metadata(top) && field[depth] == "name") name[top] = text
-    if (is_metadata(top) && field[depth] == "namespace") space[top] = text
-}
-function on_end(    top) {
-    top = base()
-    ends++
-    if (marks == "yes" && is_metadata(top) && space[top] == "") print "at", ends, filled ? "," : ""
-    if (depth == 1) values++
-    if (depth != 3 || top != 3) return
-    # (no text of JSON has the byte of SUBSEP)
-    item[++items] = place[2] SUBSEP kind[3] SUBSEP version[3] SUBSEP name[3] SUBSEP space[3]
-    kind[3] = version[3] = name[3] = space[3] = ""
-}
-function is_metadata(top) { return depth == top + 1 && field[top] == "metadata" }
-# A text without escapes of ASCII, if it can be a word that matters here.
-function plain(text,    out, at, next_two, code) {
-    if (length(text) > 250) return text
-    while ((at = index(text, "\\")) > 0) {
-        out = out substr(text, 1, at - 1)
-        next_two = substr(text, at, 2)
-        code = substr(text, at, 6)
-        text = substr(text, at + 2)
-        if (next_two == "\\/") out = out "/"
-        else if (code ~ /^\\u00[2-7][0-9A-Fa-f]$/) {
-            out = out sprintf("%c", 16 * digit(substr(code, 5, 1)) + digit(substr(code, 6, 1)))
-            text = substr(text, 5)
-        } else out = out next_two
-    }
-    return out text
-}
-function digit(one) { return index("0123456789abcdef", tolower(one)) - 1 }
-function clean(text) { gsub(/[\001-\037\177]/, "?", text); return text == "" ? "\"\"" : text }
-function take(at, of_kind, of_version, of_name, of_space,    word) {
-    word = substr(of_kind, 2)
-    if (of_version ~ rbac_group && (word in known)) {
-        if (word ~ /Binding$/) bindings++
+# With marks=yes, `at N ,` says that the Nth } of the text ends a metadata without a namespace; the comma is
+# missing if it is empty.
+LIST_COUNTS=$ITEM_WALK'
+function take(item) {
+    if (is_known()) {
+        if (kind ~ /Binding$/) bindings++
         else roles++
-        if (word ~ /^Role/ && of_space == "" && ++bare <= 3)
-            print "bare " word "/" clean(of_name)
+        if (kind ~ /^Role/ && space == "" && ++bare <= 3)
+            print "bare " kind "/" (name == "" ? "\"\"" : name)
         return
     }
     others++
-    if (at && (of_version ~ rbac_group && (word in listing) || of_version == "=v1" && word == "List"))
-        print "list", at, word
-    else if (of_version ~ rbac_group && of_kind != "" && !(word in listing))
-        print "fault", at, clean(word)
+    if (version ~ rbac_group) print "fault", item, kind
+    else if (version == "" && (kind in known)) print "lacks", item, kind
 }
-END {
-    word = substr(kind[1], 2)
-    holds = version[1] ~ (rbac_group "v1(beta1)?$") && (word in listing)
-    if (version[1] == "=v1" && word ~ /^(Namespace|ServiceAccount)List$/) holds = 1
-    sub(/List$/, "", word)
-    if (values != 1) print "values", values + 0
-    if (holds || kind[1] version[1] == "=List=v1")
-        for (at = 1; at <= items; at++) {
-            split(item[at], kept, SUBSEP)
-            if (holds && kept[2] == "") kept[2] = "=" word
-            if (holds && kept[3] == "") kept[3] = version[1]
-            take(kept[1], kept[2], kept[3], kept[4], kept[5])
-        }
-    else if (values) take(0, kind[1], version[1], name[1], space[1])
-    print "read", roles + 0, bindings + 0, others + 0, bare + 0
+END { print "read", roles + 0, bindings + 0, others + 0, bare + 0 }'
+
+# Prints a line for each object of such a List that rbacaudit holds, as a finding of lint has it: its item, a
+# tab, and its kind, namespace and name.
+LIST_OBJECTS=$ITEM_WALK'
+function take(item) {
+    if (!is_known() && !(version == "v1" && kind ~ /^(Namespace|ServiceAccount)$/)) return
+    if (kind ~ /^(Role|ServiceAccount)/) name = (space == "" ? "default" : space) "/" name
+    print item "\t" kind "/" field_text(name)
+}
+# The text of a field of a line, from JSON: kubectl writes what JSON lets it as it is, but for < > and &.
+function field_text(json,    out, at, one, code) {
+    while ((at = index(json, "\\")) > 0) {
+        out = out substr(json, 1, at - 1)
+        one = substr(json, at + 1, 1)
+        code = one == "u" ? number(substr(json, at + 2, 4)) : index("btnvfr", one) + 7
+        json = substr(json, at + (one == "u" ? 6 : 2))
+        if (one == "\\") out = out "\\\\"
+        else if (index("\"/", one)) out = out one
+        else if (code < 32) out = out sprintf("\\x%02x", code)
+        else out = out bytes(code)
+    }
+    out = out json
+    gsub(/\177/, "\\x7f", out)
+    return out
+}
+function number(digits,    value, at) {
+    for (at = 1; at <= length(digits); at++)
+        value = value * 16 + index("0123456789abcdef", tolower(substr(digits, at, 1))) - 1
+    return value
+}
+function bytes(code) {
+    if (code < 128) return sprintf("%c", code)
+    if (code < 2048) return sprintf("%c%c", 192 + int(code / 64), 128 + code % 64)
+    return sprintf("%c%c%c", 224 + int(code / 4096), 128 + int(code / 64) % 64, 128 + code % 64)
 }'
 
 # An awk program that reads the lines `at N ,`, and then a file, which it prints with the namespace
@@ -120,97 +109,29 @@ function is_open(text,    at) {
     return (length(text) - at) % 2
 }'
 
-# Refuses a change of which a part wouldn't be read.
-check_change() {
-    [ -e "$with" ] || refuse "there is no $with"
-    if [ -d "$with" ]; then
-        set -- "${with%/}"/*.yaml "${with%/}"/*.yml
-    else
-        set -- "$with"
-    fi
-    for file do
-        case $file in
-            *.yaml | *.yml)
-                [ ! -e "$file" ] || refuse "$file is YAML, and a change is read as JSON: \
-turn it into JSON first, as kubectl rbacaudit diff --help shows"
-                ;;
-        esac
+# Reads the manifests at these paths into a list of this name, and says what it has. What would be ignored
+# is refused. Adds the roles and bindings to `held`.
+take_manifests() {
+    read_manifests "$@"
+    shift
+    named=
+    for path do
+        named="$named${named:+, }$(name_path "$path")"
     done
-    [ -d "$with" ] || return 0
-    for file in "${with%/}"/*/; do
-        [ ! -d "$file" ] || refuse "${file%/} is a folder, and its files wouldn't be read: \
-put them into $with itself"
-    done
-    has_json "$with" || refuse "there is no .json file in $with"
-}
-
-has_json() {
-    for file in "${1%/}"/*.json; do
-        [ ! -f "$file" ] || return 0
-    done
-    return 1
-}
-
-# Calls a function with the words that follow and, after them, the files of the change: a copy of
-# one, where there is one in $scratch/change.
-with_change() {
-    if [ -d "$with" ]; then
-        for file in "${with%/}"/*.json; do
-            copy=$scratch/change/${file##*/}
-            [ ! -f "$copy" ] || file=$copy
-            set -- "$@" "$file"
-        done
-    elif [ -n "$with" ]; then
-        copy=$scratch/change/${with##*/}
-        [ -f "$copy" ] || copy=$with
-        set -- "$@" "$copy"
-    fi
-    "$@"
-}
-
-# Leaves in `found` the file of the change whose copy it is.
-find_original() {
-    if [ -d "$with" ]; then
-        found=${with%/}/${found##*/}
-    else
-        found=$with
-    fi
-}
-
-# Reads the change, and says what it has. What would be ignored in part, or as a whole, is refused
-# before the cluster is read.
-read_change() {
-    [ -n "$with" ] || return 0
-    mkdir "$scratch/change" || refuse "can't write into $scratch"
+    printf '%s\n' "$named" >"$list.paths"
     roles=0
     bindings=0
     others=0
     bare=0
     bare_names=
     shown=0
-    odd=no
-    marks=no
-    with_change each_file look_at_file
-    has="$(count "$roles" role), $(count "$bindings" binding), $(count "$others" 'other object')"
-    case $odd,$roles,$bindings,$change_in in
-        no,0,0,* | yes,*,*,* | *,*,*,?*) accept_change ;;
-    esac
-    report "read from $with: $has"
-    [ "$roles,$bindings" != 0,0 ] || refuse "$with has neither a role nor a binding, \
-so nothing is compared: check each kind and apiVersion in it"
-    place_change
-}
-
-walk_change() {
-    walk "$1" "$JSON_WALK$CHANGE_WALK" -v "marks=$marks"
-}
-
-each_file() {
-    each=$1
-    shift
-    for file do
-        "$each"
-    done
+    walk "$list.json" "$LIST_COUNTS" >"$scratch/walked"
+    while IFS= read -r line; do
+        take_walked "${line%% *}" "${line#* }"
+    done <"$scratch/walked"
+    report "read from $named: $(count "$roles" role), $(count "$bindings" binding), $(count "$others" 'other object')"
+    held=$((held + roles + bindings))
+    place_manifests
 }
 
 count() {
@@ -221,80 +142,122 @@ count() {
     fi
 }
 
-# Looks at the file of the change in `file`. A pipe is copied, since it can be read only once.
-look_at_file() {
-    [ -r "$file" ] || refuse "can't read $file"
-    text=$file
-    case $file in
-        /dev/*) text=$scratch/change/${file##*/} ;;
-        *) [ -f "$file" ] || text=$scratch/change/${file##*/} ;;
-    esac
-    [ "$text" = "$file" ] || cat "$file" >"$text" || refuse "can't read $file"
-    walk_change "$text" >"$scratch/walked" || refuse "can't read $file"
-    while IFS= read -r line; do
-        take_walked "${line%% *}" "${line#* }"
-    done <"$scratch/walked"
-}
-
-# Takes a line of CHANGE_WALK: its first word, and the rest.
+# Takes a line of LIST_COUNTS: its first word, and the rest.
 take_walked() {
-    item=${2%% *}
-    where=$file
-    [ "$item" = 0 ] || where="item $item of $file"
     case $1 in
-        values) odd=yes ;;
         fault)
-            refuse "$where has the kind ${2#* }, which rbac.authorization.k8s.io doesn't have: \
+            find_origin "$list.json" "${2%% *}"
+            refuse "$origin has the kind ${2#* }, which rbac.authorization.k8s.io doesn't have: \
 check the spelling"
             ;;
-        list)
-            refuse "$where is a ${2#* }, and a list in a list isn't read: give it a file of its own"
+        lacks)
+            find_origin "$list.json" "${2%% *}"
+            refuse "$origin has a ${2#* } without an apiVersion, so no cluster takes it"
             ;;
         bare)
-            [ "$shown" -lt 3 ] || return 0
             shown=$((shown + 1))
             bare_names=$bare_names${bare_names:+, }$2
             ;;
-        read) add_counts "$2" ;;
+        read)
+            # shellcheck disable=SC2086  # four numbers
+            set -- $2
+            roles=$1
+            bindings=$2
+            others=$3
+            bare=$4
+            ;;
     esac
 }
 
-add_counts() {
-    # shellcheck disable=SC2086  # four numbers
-    set -- $1
-    roles=$((roles + $1))
-    bindings=$((bindings + $2))
-    others=$((others + $3))
-    bare=$((bare + $4))
-}
-
 # Says which objects have no namespace, and puts them into the one after -n.
-place_change() {
+place_manifests() {
     if [ "$bare" = 0 ]; then
         [ -z "$change_in" ] ||
-            report "no object of $with lacks a namespace, so -n $change_in changes nothing"
+            report "no object of $named lacks a namespace, so -n $change_in changes nothing"
         return
     fi
     [ "$bare" -le "$shown" ] || bare_names="$bare_names and $((bare - shown)) more"
     if [ -z "$change_in" ]; then
-        report "these have no namespace, and count in default: $bare_names; -n NS counts them in NS"
+        offer='; -n NS counts them in NS'
+        [ "$command" != lint ] || offer=
+        report "these have no namespace, and count in default: $bare_names$offer"
         return
     fi
     report "these have no namespace, and count in $change_in: $bare_names"
-    with_change each_file place_file
-}
-
-# Puts a copy of the file into $scratch/change.
-place_file() {
-    marks=yes
-    walk_change "$file" >"$scratch/walked" &&
+    walk "$list.json" "$LIST_COUNTS" -v marks=yes >"$scratch/walked" &&
         PLACED_IN=$change_in LC_ALL=C awk "$PUT_NAMESPACE" "$scratch/walked" RS='"' begun=1 - \
-            <"$file" >"$scratch/placed" || refuse "can't read $file"
-    mv -f "$scratch/placed" "$scratch/change/${file##*/}" || refuse "can't write into $scratch"
+            <"$list.json" >"$scratch/placed" || refuse "can't write into $scratch"
+    mv -f "$scratch/placed" "$list.json" || refuse "can't write into $scratch"
 }
 
-# Lets rbacaudit read the change alone. What it refuses ends here.
-accept_change() {
-    with_change ask lint --only=L6 >/dev/null
-    [ "$answered" -le 1 ] || exit "$answered"
+# The command read: the manifests at some paths as one List, for rbacaudit itself.
+read_command() {
+    command=read
+    option=
+    left=$#
+    while [ "$left" -gt 0 ]; do
+        word=$1
+        shift
+        left=$((left - 1))
+        if [ -n "$option" ]; then
+            set_next "$word"
+        else
+            case $word in
+                -h | --help) help=yes ;;
+                -n* | --namespace | --namespace=*) take_namespace "$word" ;;
+                -?*) refuse "read has no $word; kubectl rbacaudit read --help lists its options" ;;
+                *)
+                    set_path "$word"
+                    set -- "$@" "$dir"
+                    ;;
+            esac
+        fi
+    done
+    if [ "$help" = yes ]; then
+        read_usage
+        exit 0
+    fi
+    alone=yes
+    check_options
+    [ $# -gt 0 ] || refuse 'read needs a path: a file, a folder, or - for standard input'
+    check_inputs "$@"
+    take_change_in
+    take_manifests read "$@"
+    show 1 <"$list.json"
+}
+
+read_usage() {
+    cat <<'EOF'
+Print the manifests at some paths as one List in JSON, as kubectl reads them.
+
+  kubectl rbacaudit read [-n NS] PATH..
+
+  PATH     a file; a folder: its .json, .yaml and .yml files, and those of folders within; a folder with a
+           kustomization, which kubectl renders; or - for standard input, such as helm template prints
+  -n NS    put the roles and bindings that have no namespace into NS
+
+Lint, and the options --with, --without, --from and --to of diff, read their PATH in the same way. kubectl
+reads neither a cluster nor a kubeconfig for it. Documents of every kind pass. This is refused:
+  - a file that kubectl can't read; its reason comes before
+  - a folder without a manifest, with a Helm chart, or with a kustomization in a folder within
+  - a kind that rbac.authorization.k8s.io doesn't have, such as Clusterrole, and a role without apiVersion
+Standard error says how many roles and bindings were read, and which have no namespace.
+
+The List is for rbacaudit, as in:
+  kubectl rbacaudit read main/ > main.json
+  kubectl rbacaudit read change/ > change.json
+  rbacaudit diff --before main.json --after change.json
+EOF
+}
+
+# Refuses manifests that hold nothing to answer about: the first word says what isn't done with them, and the
+# others are their paths.
+need_held() {
+    [ "$held" -eq 0 ] || return 0
+    undone=$1
+    shift
+    [ $# -lt 2 ] || refuse "neither $(name_path "$1") nor $(name_path "$2") has a role or a binding, \
+so nothing is $undone: check each kind and apiVersion in them"
+    refuse "$(name_path "$1") has neither a role nor a binding, so nothing is $undone: \
+check each kind and apiVersion in it"
 }

@@ -231,13 +231,13 @@ remark_on_page() {
 the cluster grants what is written in them, and this page has what they gather"
 }
 
-# Reports the aggregated roles that a change makes stale, or takes into use. The findings of the
-# export without it are there, if it has cluster roles.
+# Reports the aggregated roles that what a change puts makes stale, or takes into use. The findings of
+# the export without it are there, if it has cluster roles.
 remark_on_change() {
     : >>"$scratch/findings"
     mv -f "$scratch/findings" "$scratch/findings.before"
     reads='cluster.json namespaced.json'
-    with_files with_change rbacaudit lint --only=L2,L6 >"$scratch/findings" 2>/dev/null
+    with_files lint_with --only=L2,L6 >"$scratch/findings" 2>/dev/null
     reads=$needed
     newly_stale=$(LC_ALL=C awk -F '\t' '
         $1 == "L2" { unused[begun, $3] }
@@ -248,6 +248,10 @@ remark_on_change() {
     [ -z "$newly_stale" ] || report "this change makes stale aggregates (L6 of lint): $newly_stale; \
 a cluster grants what is written in them, for ever if they select each other, \
 and these lines have what they gather"
+}
+
+lint_with() {
+    rbacaudit lint "$@" "$scratch/lists/with.json"
 }
 
 # Asks again, and counts the rules that are written in aggregated roles, as a cluster does: a later

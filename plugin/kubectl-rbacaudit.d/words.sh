@@ -129,11 +129,7 @@ set_option() {
     [ -n "$2" ] || refuse "$1 needs a value"
     case $1 in
         --export) set_export "$2" ;;
-        --with)
-            refuse_second "$1" "$with"
-            set_dir "$2"
-            with=$dir
-            ;;
+        --with | --without | --from | --to) set_manifests "$1" "$2" ;;
         --context) refuse_second "$1" "$context" && context=$2 ;;
         --kubeconfig) refuse_second "$1" "$kubeconfig" && kubeconfig=$2 ;;
         --request-timeout) refuse_second "$1" "$timeout" && timeout=$2 ;;
@@ -144,6 +140,27 @@ set_option() {
         --diff) refuse_second "$1" "$diff" && diff=$2 ;;
     esac
     option=
+}
+
+# Takes a word that is -n, in any spelling, or fails.
+take_namespace() {
+    case $1 in
+        -n | --namespace) option=$1 ;;
+        --namespace=*) set_option --namespace "${1#*=}" ;;
+        -n=*) set_option -n "${1#-n=}" ;;
+        -n*) set_option -n "${1#-n}" ;;
+        *) return 1 ;;
+    esac
+}
+
+set_manifests() {
+    set_path "$2"
+    case $1 in
+        --with) refuse_second "$1" "$with" && with=$dir ;;
+        --without) refuse_second "$1" "$without" && without=$dir ;;
+        --from) refuse_second "$1" "$from" && from=$dir ;;
+        --to) refuse_second "$1" "$to" && to=$dir ;;
+    esac
 }
 
 # diff takes two.
@@ -163,10 +180,11 @@ refuse_second() {
 }
 
 # The same for a value that is a word of its own: one that begins with a dash is an option, and the
-# value was forgotten.
+# value was forgotten. A dash alone is standard input, as a path of manifests.
 set_next() {
-    case $1 in
-        -*) refuse "$option needs a value; if $1 is the value, write $option=$1" ;;
+    case $option,$1 in
+        --with,- | --without,- | --from,- | --to,-) ;;
+        *,-*) refuse "$option needs a value; if $1 is the value, write $option=$1" ;;
     esac
     set_option "$option" "$1"
 }
@@ -178,4 +196,10 @@ set_dir() {
         -* | [!/]*=*) dir=./$1 ;;
         *) dir=$1 ;;
     esac
+}
+
+# The same for a path of manifests: - is standard input.
+set_path() {
+    dir=-
+    [ "$1" = - ] || set_dir "$1"
 }

@@ -1,0 +1,357 @@
+"""Manifests as teams keep them: what the kubectl plugin reads from files, folders, kustomizations and standard input.
+
+Each check is made with the stand-in for kubectl, and then with kubectl itself where there is one; without network, where `unshare`
+may take it away, and with a kubeconfig that can't be read.
+"""
+
+import contextlib
+import json
+import os
+import shutil
+import subprocess
+
+from common import V1, skipped
+from local_kubectl import yaml
+from plugin_changes import EMPTY, GAINED, ROLE, a_list, binding, culprit, read
+from plugin_room import SHELLS, STAND_IN, document, in_each_shell, room, served
+
+def without_network():
+    """The command that takes the network away from another, where this machine lets it."""
+    command = ['unshare', '--map-root-user', '--net']
+    with contextlib.suppress(OSError):
+        if subprocess.run([*command, 'true'], stderr=subprocess.DEVNULL, timeout=60).returncode == 0:
+            return command
+    skipped('unshare', 'manifests without a network')
+    return []
+
+
+NO_NETWORK = without_network()
+
+
+def with_manifests(check):
+    """A check with the stand-in under each shell, and once more with kubectl itself."""
+    def checks():
+        in_each_shell(check)()
+        if not shutil.which('kubectl'):
+            skipped('kubectl', 'manifests read by kubectl itself')
+            return
+        with room(SHELLS[0]) as it:
+            os.remove(os.path.join(it.bin, 'kubectl'))
+            check(it)
+            it.checked('%s leaves nothing behind' % check.__name__, not it.left(), it.left())
+    checks.__doc__ = check.__doc__
+    return checks
+
+
+def put(it, files):
+    """Writes files below the folder to work in, by their paths: a value as JSON, a text as it is."""
+    for path, value in files.items():
+        os.makedirs(os.path.join(it.work, os.path.dirname(path)), exist_ok=True)
+        it.write(value if isinstance(value, str) else json.dumps(value), path)
+
+
+def without_cluster(it, *words, **how):
+    """Runs the plugin where neither a network nor a kubeconfig is."""
+    it.write('no kubeconfig', it.at('kubeconfig'))
+    return it.run(*words, within=NO_NETWORK, environment={**it.environment(), 'HOME': it.path, 'KUBECONFIG': it.at('kubeconfig')}, **how)
+
+
+def role(name, namespace=None, *verbs):
+    """A Role that lets its holders do these verbs with pods."""
+    metadata = {'name': name, **({'namespace': namespace} if namespace else {})}
+    return {'apiVersion': V1, 'kind': 'Role', 'metadata': metadata,
+            'rules': [{'apiGroups': [''], 'resources': ['pods'], 'verbs': list(verbs or ('get',))}]}
+
+
+def bound(name, namespace, user, of='Role', role_name=None):
+    """A RoleBinding of a user to the role of its own name, or another."""
+    return {'apiVersion': V1, 'kind': 'RoleBinding', 'metadata': {'name': name, **({'namespace': namespace} if namespace else {})},
+            'roleRef': {'kind': of, 'name': role_name or name}, 'subjects': [{'kind': 'User', 'name': user}]}
+
+
+def names(text):
+    """The kinds and names of the items of a List."""
+    found = document(text)
+    return found and [item['kind'] + '/' + item['metadata']['name'] for item in found['items']]
+
+
+# ---- what is read
+
+# A folder, in kubectl's order: what stands in `a` comes before `a-b.json`.
+POD = {'apiVersion': 'v1', 'kind': 'Pod', 'metadata': {'name': 'p'}}
+FOLDER = {'m/.hidden.json': role('hidden', 'shop'), 'm/a/x.yml': role('x', 'shop'),
+          'm/a/y.json': a_list('List', 'v1', role('y', 'shop'), role('z', 'shop')),
+          'm/a-b.json': json.dumps(role('one', 'shop')) + '\n' + json.dumps(role('two', 'shop')), 'm/b.yaml': json.dumps(bound('x', 'shop', 'kim')),
+          'm/c, "d".json': role('comma', 'shop'), 'm/empty.json': '', 'm/notes.txt': 'nothing', 'm/pod.json': POD}
+IN_ORDER = ['Role/hidden', 'Role/x', 'Role/y', 'Role/z', 'Role/one', 'Role/two', 'RoleBinding/x', 'Role/comma', 'Pod/p']
+KUSTOMIZED = {'k/base/kustomization.yaml': {'resources': ['role.json']}, 'k/base/role.json': role('based'),
+              'k/prod/kustomization.yml': {'resources': ['../base'], 'namespace': 'prod'}}
+
+
+@with_manifests
+def paths(it):
+    """A file, a folder, a folder with a kustomization and standard input, as one List."""
+    put(it, {**FOLDER, **KUSTOMIZED})
+    os.symlink('m', os.path.join(it.work, 'link'))
+    os.symlink('../m/a-b.json', os.path.join(it.work, 'm', 'z.json'))
+    in_folder = [*IN_ORDER, 'Role/one', 'Role/two']
+    for given, found, said in ((['m'], in_folder, 'm'), (['m/'], in_folder, 'm/'), (['link'], in_folder, 'link'), (['m/a'], in_folder[1:4], 'm/a'),
+                               (['m/a-b.json'], ['Role/one', 'Role/two'], 'm/a-b.json'), (['m/c, "d".json'], ['Role/comma'], 'm/c, "d".json'),
+                               (['k/base'], ['Role/based'], 'k/base'), (['k/prod/', 'm/a'], ['Role/based', *in_folder[1:4]], 'k/prod/, m/a')):
+        status, out, err = got = without_cluster(it, 'read', *given)
+        it.checked('read %s' % given, (status, names(out)) == (0, found) and err.startswith('kubectl-rbacaudit: read from %s: ' % said), got)
+    text = json.dumps(role('x', 'shop')).encode()
+    for given, found in (['-'], ['Role/x']), (['m/pod.json', '-'], ['Pod/p', 'Role/x']), (['/dev/stdin'], ['Role/x']):
+        status, out, err = got = without_cluster(it, 'read', *given, stdin=None, input=text)
+        it.checked('read %s' % given, (status, names(out)) == (0, found), got)
+    [item] = document(without_cluster(it, 'read', 'k/prod')[1])['items']
+    it.checked('kustomize renders', item == role('based', 'prod'), item)
+    status, out, err = got = without_cluster(it, 'read', '-n', 'test', 'k/base')
+    it.checked('a namespace', document(out)['items'] == [role('based', 'test')]
+               and err.endswith('these have no namespace, and count in test: Role/based\n'), got)
+
+
+# The same as YAML has it: a comment, empty documents, an anchor, a list, and a custom resource.
+YAML = '''# roles of the shop
+---
+---
+apiVersion: rbac.authorization.k8s.io/v1
+kind: Role
+metadata: {name: deployer, namespace: shop}
+rules:
+- &pods
+  apiGroups: [""]
+  resources: [pods]
+  verbs: [get]   # and no more
+- *pods
+---
+apiVersion: v1
+kind: List
+items:
+- apiVersion: rbac.authorization.k8s.io/v1
+  kind: RoleBinding
+  metadata: {name: deployer, namespace: shop}
+  roleRef: {kind: Role, name: deployer}
+  subjects: [{kind: User, name: kim}]
+---
+apiVersion: example.com/v1
+kind: Certificate
+metadata: {name: c}
+'''
+
+
+@with_manifests
+def from_yaml(it):
+    """YAML, in a file, in a folder and from standard input."""
+    if yaml is None and STAND_IN in it.read(it.bin, 'kubectl'):
+        skipped('PyYAML', 'YAML read by the stand-in for kubectl')
+        return
+    put(it, {'m/roles.yaml': YAML})
+    rules = 2 * role('deployer')['rules']
+    for given in ('m', 'm/roles.yaml', '-'):
+        status, out, err = got = without_cluster(it, 'read', given, stdin=None, input=YAML.encode())
+        said = read('standard input' if given == '-' else given, '1 role, 1 binding, 1 other object')
+        items = document(out)['items']
+        it.checked('YAML of %s' % given, (status, err) == (0, said) and items[0] == {**role('deployer', 'shop'), 'rules': rules}
+                   and names(out)[1:] == ['RoleBinding/deployer', 'Certificate/c'], got)
+    put(it, {'m/bad.yaml': 'kind: Role\n\tapiVersion: v1\n'})
+    status, out, err = got = without_cluster(it, 'read', 'm')
+    it.checked('bad YAML', (status, out) == (2, '') and 'error parsing m/bad.yaml: error converting YAML to JSON: ' in err
+               and err.endswith("kubectl-rbacaudit: kubectl can't read m, so nothing is answered\n"), got)
+
+
+WITHIN = ("kubectl-rbacaudit: %s has a kustomization, so what its files have isn't what is applied: give %s itself, "
+          'or another folder that has a kustomization\n')
+CHART = 'kubectl-rbacaudit: %s is a Helm chart: render it first, as in helm template %s | kubectl rbacaudit read -\n'
+REFUSED = [
+    ('gone', {}, 'kubectl-rbacaudit: there is no gone\n'),
+    ('m', {'m/notes.txt': ''}, 'kubectl-rbacaudit: there is no manifest in m: no file within has a name that ends in .json, .yaml or .yml\n'),
+    ('m', {'m/Chart.yaml': 'name: m', 'm/templates/role.yaml': 'kind: {{ .Values.kind }}'}, CHART % ('m', 'm')),
+    ('m', {'m/charts/web/Chart.yaml': 'name: m', 'm/a.json': ROLE}, CHART % ('m/charts/web', 'm/charts/web')),
+    ('k', KUSTOMIZED, WITHIN % ('k/base', 'k/base')),
+    ('k/base/kustomization.yaml', KUSTOMIZED,
+     'kubectl-rbacaudit: k/base/kustomization.yaml says how kustomize renders its folder: give the folder\n'),
+    ('m', {'m/a\nb.json': ROLE}, 'kubectl-rbacaudit: a file or folder in m has a line break in its name: give it another\n'),
+    ('m\nb.json', {'m\nb.json': ROLE}, 'kubectl-rbacaudit: m\nb.json has a line break in its name: give it another\n')]
+
+
+@with_manifests
+def refusals(it):
+    """What isn't read as a whole isn't read at all."""
+    for given, files, said in REFUSED:
+        put(it, files)
+        for line in (['read', given], ['lint', given], ['diff', '--from', given, '--to', given]):
+            got = without_cluster(it, *line)
+            it.checked('%s %r' % (line, said), got == (2, '', said), got)
+        for name in it.files('.'):
+            shutil.rmtree(os.path.join(it.work, name), ignore_errors=True)
+    put(it, {'k/kustomization.yaml': {'resources': ['gone.json']}})
+    status, out, err = got = without_cluster(it, 'read', 'k')
+    it.checked('a bad kustomization', (status, out) == (2, '') and 'gone.json' in err and err.endswith(
+        "kubectl-rbacaudit: kubectl can't read k, so nothing is answered\n"), got)
+    for line, said in ((['read'], 'read needs a path'), (['read', '--export', 'x'], 'read has no --export'),
+                       (['read', '-', '-'], 'standard input can be read once'),
+                       (['lint', '-', '-'], 'standard input can be read once'), (['read', '-n'], '-n needs a value'),
+                       (['lint', '--context', 'x', 'k'], 'manifests are read without a cluster')):
+        status, out, err = got = without_cluster(it, *line)
+        it.checked('%s: %s' % (line, said), (status, out) == (2, '') and said in err, got)
+
+
+@in_each_shell
+def without_kubectl(it):
+    """Without kubectl no manifest is read, JSON or not: it alone says what a document means."""
+    put(it, {'role.json': ROLE})
+    for tool in ('awk', 'cat', 'env', 'mkdir', 'mktemp', 'rm', 'sed', 'tr', it.shell):
+        os.symlink(shutil.which(tool), os.path.join(it.bin, tool))
+    os.remove(os.path.join(it.bin, 'kubectl'))
+    for line in (['read', 'role.json'], ['lint', 'role.json'], ['diff', '--from', 'role.json', '--to', 'role.json']):
+        it.expect('without kubectl: %s' % line[0], line, 2, '', 'kubectl-rbacaudit: there is no kubectl on the PATH: it reads the manifests; '
+                  'install it (https://kubernetes.io/docs/tasks/tools)\n', environment={**it.environment(), 'PATH': it.bin})
+
+
+# ---- what is answered
+
+@with_manifests
+def hidden(it):
+    """What kubectl would create counts, wherever it stands: below the `items` of any document, behind another, in a hidden file."""
+    admin = binding('ClusterRoleBinding', 'hidden')
+    admin['roleRef']['name'] = 'cluster-admin'
+    admin['subjects'] = [{'kind': 'User', 'name': 'eve'}]
+    gained = ''.join('+\tu:eve\t%s\tClusterRoleBinding/hidden\n' % what for what in ('*\t*\t*\t*\t*', '-\t*\t-\t*\t-'))
+    account = {'apiVersion': 'v1', 'kind': 'ServiceAccount', 'metadata': {'name': 'x'}}
+    put(it, {'prod/%s.json' % part: served()[part] for part in ('cluster', 'namespaced')})
+    for name, value in (('a.json', {**account, 'items': [admin]}), ('b.json', {**account, 'kind': 'List', 'apiVersion': 'apps/v1', 'items': [admin]}),
+                        ('c.json', json.dumps(account) + json.dumps(admin)), ('.hidden.json', admin)):
+        put(it, {'m/a-role.json': ROLE, 'm/' + name: value})
+        status, out, err = got = without_cluster(it, 'diff', '--export', 'prod', '--with', 'm')
+        it.checked('hidden in %s' % name, (status, out) == (1, GAINED + gained) and '1 role, 1 binding, ' in err, got)
+        os.remove(os.path.join(it.work, 'm', name))
+
+
+TAKEN = 'kubectl-rbacaudit: what %s has is taken from the export\n'
+PUT = 'kubectl-rbacaudit: what %s has is taken from the export, and %s is put over it\n'
+
+
+def line(sign, user, namespace, verb, name):
+    """A line of diff about pods, by a RoleBinding."""
+    return '%s\tu:%s\t%s\t%s\t-\tpods\t*\tRoleBinding/%s/%s\n' % (sign, user, namespace, verb, namespace, name)
+
+
+def list_role(name):
+    return {'apiVersion': V1, 'kind': 'ClusterRole', 'metadata': {'name': name},
+            'rules': [{'apiGroups': [''], 'resources': ['pods'], 'verbs': ['list']}]}
+
+
+# A cluster in which many objects have one name, and the line that is lost without each.
+SAME_NAME = [(role('x', 'a'), line('-', 'ann', 'a', 'get', 'x')), (role('x', 'b'), line('-', 'bob', 'b', 'get', 'x')),
+             (role('x', 'default'), line('-', 'dan', 'default', 'get', 'x')), (list_role('x'), line('-', 'lee', 'a', 'list', 'of-cluster')),
+             (bound('x', 'a', 'ann'), line('-', 'ann', 'a', 'get', 'x')), (bound('x', 'b', 'bob'), line('-', 'bob', 'b', 'get', 'x')),
+             (bound('x', 'default', 'dan'), line('-', 'dan', 'default', 'get', 'x')),
+             (bound('of-cluster', 'a', 'lee', 'ClusterRole', 'x'), line('-', 'lee', 'a', 'list', 'of-cluster'))]
+
+
+@with_manifests
+def taken_away(it):
+    """--without takes away what it names by kind, namespace and name, before --with puts its objects."""
+    put(it, {'prod/cluster.json': a_list('List', 'v1', *(item for item, _ in SAME_NAME if item['kind'].startswith('Cluster'))),
+             'prod/namespaced.json': a_list('List', 'v1', *(item for item, _ in SAME_NAME if not item['kind'].startswith('Cluster')))})
+    for item, lost in SAME_NAME:
+        named = {'apiVersion': V1, 'kind': item['kind'], 'metadata': item['metadata']}
+        put(it, {'gone.json': named if item['kind'].endswith('Role') else {**item, 'subjects': []}, 'same.json': item})
+        name = '%s of %s' % (item['kind'], item['metadata'].get('namespace'))
+        status, out, err = got = without_cluster(it, 'diff', '--export', 'prod', '--without', 'gone.json')
+        it.checked('taken away: ' + name, (status, out) == (1, lost) and err.endswith(TAKEN % 'gone.json'), got)
+        status, out, err = got = without_cluster(it, 'diff', '--export', 'prod', '--without', 'gone.json', '--with', 'same.json')
+        it.checked('and put back: ' + name, (status, out) == (0, '') and err.endswith(PUT % ('gone.json', 'same.json')), got)
+    put(it, {'gone.json': role('x')})
+    said = 'kubectl-rbacaudit: these have no namespace, and count in %s: Role/x%s\n'
+    for options, lost, more in (([], SAME_NAME[2][1], said % ('default', '; -n NS counts them in NS')), (['-nb'], SAME_NAME[1][1], said % ('b', ''))):
+        status, out, err = got = without_cluster(it, 'diff', '--export', 'prod', *options, '--without', 'gone.json')
+        it.checked('without a namespace %s' % options, (status, out) == (1, lost) and err == read('gone.json') + more + TAKEN % 'gone.json', got)
+    put(it, {'gone.json': role('x', 'a'), 'other.json': POD})
+    status, out, err = got = without_cluster(it, 'diff', '--export', 'prod', '--without', 'gone.json', '--with', 'other.json')
+    it.checked('nothing is put', (status, out) == (1, SAME_NAME[0][1]), got)
+    status, out, err = got = without_cluster(it, 'diff', '--export', 'prod', '--without', 'other.json', '--with', 'other.json')
+    it.checked('neither has a role', (status, out) == (2, '') and err.endswith(
+        'kubectl-rbacaudit: neither other.json nor other.json has a role or a binding, so nothing is compared: '
+        'check each kind and apiVersion in them\n'), got)
+
+
+MISSING = ('kubectl-rbacaudit: neither side has these roles, so bindings to them grant nothing here: %s; '
+           '--export DIR compares with the roles of a cluster\n')
+# A branch and a change of it, which takes Bob away, lets Ann watch, and moves Kim to a role of the cluster.
+MAIN = {'main/rbac/roles.json': a_list('List', 'v1', role('r', 'a'), role('s', 'b')),
+        'main/rbac/bindings.json': a_list('List', 'v1', bound('r', 'a', 'ann'), bound('s', 'b', 'bob'), bound('kim', 'a', 'kim', 'Role', 'r'))}
+CHANGE = {'change/rbac/roles.json': role('r', 'a', 'get', 'watch'), 'change/rbac/b/ann.yaml': json.dumps(bound('r', 'a', 'ann')),
+          'change/rbac/b/kim.yaml': json.dumps(bound('kim', 'a', 'kim', 'ClusterRole', 'view'))}
+BOTH = (read('main/rbac', '2 roles, 3 bindings, 0 other objects') + read('change/rbac', '1 role, 2 bindings, 0 other objects'))
+ANN, BOB, KIM = line('+', 'ann', 'a', 'watch', 'r'), line('-', 'bob', 'b', 'get', 's'), line('-', 'kim', 'a', 'get', 'kim')
+
+
+@with_manifests
+def states(it):
+    """Two states of manifests, without a cluster, and as a change of one."""
+    put(it, {**MAIN, **CHANGE})
+    pair = ['--from', 'main/rbac', '--to', 'change/rbac']
+    got = without_cluster(it, 'diff', *pair)
+    it.checked('without a cluster', got == (1, ANN + BOB + KIM, BOTH + MISSING % 'ClusterRole/view'), got)
+    got = without_cluster(it, 'diff', '--from=main/rbac', '--to=main/rbac')
+    it.checked('the same', got == (0, '', 2 * read('main/rbac', '2 roles, 3 bindings, 0 other objects')), got)
+    put(it, {'prod/cluster.json': list_role('view'),
+             'prod/namespaced.json': a_list('List', 'v1', role('r', 'a'), role('s', 'b'), bound('r', 'a', 'ann'), bound('s', 'b', 'bob'),
+                                            bound('kim', 'a', 'kim', 'Role', 'r'), role('t', 'a'), bound('t', 'a', 'tim'))})
+    got = without_cluster(it, 'diff', '--export', 'prod', *pair)
+    it.checked('what it does to a cluster', got == (1, ANN + BOB + KIM + line('+', 'kim', 'a', 'list', 'kim'),
+                                                    BOTH + PUT % ('main/rbac', 'change/rbac')), got)
+    missing = [bound('x', 'a', 'lee', *refers) for refers in (('Role', 'x'), ('ClusterRole', 'b'), ('ClusterRole', 'c'), ('Role', 'r'))]
+    for number, item in enumerate(missing):
+        item['metadata']['name'] = 'x%d' % number
+    put(it, {'main/rbac/bindings.json': a_list('List', 'v1', *missing)})
+    status, out, err = got = without_cluster(it, 'diff', *pair)
+    it.checked('more that are missing', err.endswith(MISSING % 'ClusterRole/b, ClusterRole/c, ClusterRole/view and 1 more'), got)
+    status, out, err = got = without_cluster(it, 'diff', '--from', '-', '--to', 'change/rbac', stdin=None, input=json.dumps(role('r', 'a')).encode())
+    it.checked('from standard input', status == 1 and out == line('+', 'ann', 'a', 'get', 'r') + line('+', 'ann', 'a', 'watch', 'r')
+               and err.startswith(read('standard input')), got)
+
+
+# Names that JSON or a line of findings has to escape, and how a finding has each.
+ODD_NAMES = {'plain': 'plain', 'a "b" <c> & d': 'a "b" <c> & d', 'back\\slash': 'back\\\\slash',
+             'bell\a, tab\t, \x7f': 'bell\\x07, tab\\x09, \\x7f', 'é \u2028 \U0001f600': 'é \u2028 \U0001f600', 'line\nbreak': 'line\\x0abreak'}
+ALONE = 'kubectl-rbacaudit: a role that L1 misses may be in the cluster: these are the manifests alone\n'
+
+
+@with_manifests
+def linted(it):
+    """lint of manifests: each finding with the file that its object stands in, the last if there are several."""
+    bind = {'apiGroups': ['rbac.authorization.k8s.io'], 'resources': ['roles'], 'verbs': ['bind']}
+    files, findings = {}, []
+    for number, (name, printed) in enumerate(ODD_NAMES.items()):
+        files['m/%d.json' % number] = {**role(name, 'b'), 'rules': [bind]}
+        findings += [line % (printed, number) for line in ('L2\tunused-role\tRole/b/%s\t-\t-\tm/%d.json',
+                                                           'L4\tescalation\tRole/b/%s\t1\tbind\tm/%d.json')]
+    other = {**role('plain', 'b'), 'apiVersion': 'example.com/v1'}
+    put(it, {**files, 'm/within/pods.yaml': json.dumps(a_list('List', 'v1', POD, bound('gone', None, 'kim'), other)),
+             'm/z.json': files['m/0.json']})
+    findings = [finding.replace('m/0.json', 'm/z.json') for finding in findings]
+    findings += ['L1\tdangling-role\tRoleBinding/default/gone\t-\tRole/default/gone\tm/within/pods.yaml',
+                 'L7\treplaced-object\tRole/b/plain\t-\t1\tm/z.json']
+    said = read('m', '7 roles, 1 binding, 2 other objects') + (
+        'kubectl-rbacaudit: these have no namespace, and count in default: RoleBinding/gone\n')
+    status, out, err = got = without_cluster(it, 'lint', 'm')
+    it.checked('lint of a folder', (status, sorted(out.split('\n')), err) == (1, sorted([''] + findings), said + ALONE), got)
+    got = without_cluster(it, 'lint', '--only', 'L4,L7', '--', 'm/0.json', 'm/2.json')
+    it.checked('lint of some files', got == (1, 'L4\tescalation\tRole/b/back\\\\slash\t1\tbind\tm/2.json\n'
+                                             'L4\tescalation\tRole/b/plain\t1\tbind\tm/0.json\n',
+                                             read('m/0.json, m/2.json', '2 roles, 0 bindings, 0 other objects')), got)
+    put(it, {'bad.json': {**role('x', 'b'), 'rules': [{}]}})
+    got = without_cluster(it, 'lint', 'm/0.json', 'bad.json')
+    both = 'm/0.json, bad.json'
+    it.checked('a bad object', got == (2, '', read(both, '2 roles, 0 bindings, 0 other objects') + 'rbacaudit: file 1 item 2: M5 bad rule 1\n'
+                                       + culprit(1, both, 2, 'Role b/x, in bad.json')), got)
+    put(it, {'pod.json': POD})
+    got = without_cluster(it, 'lint', 'pod.json')
+    it.checked('no role', got == (2, '', read('pod.json', '0 roles, 0 bindings, 1 other object')
+                                  + EMPTY.replace('compared', 'checked') % 'pod.json'), got)
+
+
+CHECKS = [paths, from_yaml, refusals, without_kubectl, hidden, taken_away, states, linted]
