@@ -76,6 +76,15 @@ def tools(it):
     it.checked('with standard input closed', (status, out) == (0, 'yes\n'), got)
 
 
+def functions():
+    """No two of the plugin's parts have a function of one name: the later one would take the other's place."""
+    folder = PLUGIN + '.d'
+    paths = [PLUGIN, *(os.path.join(folder, name) for name in sorted(os.listdir(folder)))]
+    found = [name for path in paths for name in re.findall(r'^(\w+)\(\)', contents(path), re.M)]
+    twice = sorted({name for name in found if found.count(name) > 1})
+    checked('functions of the plugin, each once', len(found) > 100 and not twice, repr(twice))
+
+
 def script():
     """The script with its parts: shellcheck, and what make install installs, called by links."""
     if shutil.which('shellcheck'):
@@ -263,4 +272,4 @@ def told(words_, folder, tools_=os.path.dirname(PROGRAM)):
 
 if __name__ == '__main__':
     sys.exit(tested(*plugin_exports.CHECKS, *plugin_questions.CHECKS, *plugin_remarks.CHECKS, *plugin_changes.CHECKS, *plugin_manifests.CHECKS, *plugin_advice.CHECKS,
-                    *plugin_server.CHECKS, *plugin_terminal.CHECKS, tools, script, make_run, completions, in_kubectl, man_page))
+                    *plugin_server.CHECKS, *plugin_terminal.CHECKS, tools, functions, script, make_run, completions, in_kubectl, man_page))

@@ -230,6 +230,7 @@ def hidden(it):
 
 TAKEN = 'kubectl-rbacaudit: what %s has is taken from the export\n'
 PUT = 'kubectl-rbacaudit: what %s has is taken from the export, and %s is put over it\n'
+ABSENT = "kubectl-rbacaudit: the export doesn't have these, so nothing is taken away with them: %s\n"
 
 
 def line(sign, user, namespace, verb, name):
@@ -268,6 +269,10 @@ def taken_away(it):
     for options, lost, more in (([], SAME_NAME[2][1], said % ('default', '; -n NS counts them in NS')), (['-nb'], SAME_NAME[1][1], said % ('b', ''))):
         status, out, err = got = without_cluster(it, 'diff', '--export', 'prod', *options, '--without', 'gone.json')
         it.checked('without a namespace %s' % options, (status, out) == (1, lost) and err == read('gone.json') + more + TAKEN % 'gone.json', got)
+    put(it, {'gone.json': a_list('List', 'v1', *(role(name, 'a') for name in 'edcbx'), POD, list_role('y'))})
+    got = without_cluster(it, 'diff', '--export', 'prod', '--without', 'gone.json')
+    it.checked('not there', got == (1, SAME_NAME[0][1], read('gone.json', '6 roles, 0 bindings, 1 other object') + TAKEN % 'gone.json'
+                                    + ABSENT % 'ClusterRole/y, Role/a/b, Role/a/c and 2 more'), got)
     put(it, {'gone.json': role('x', 'a'), 'other.json': POD})
     status, out, err = got = without_cluster(it, 'diff', '--export', 'prod', '--without', 'gone.json', '--with', 'other.json')
     it.checked('nothing is put', (status, out) == (1, SAME_NAME[0][1]), got)

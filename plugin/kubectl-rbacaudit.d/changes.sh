@@ -104,6 +104,7 @@ compare_sides() {
     open_side
     if [ -n "$with$without" ]; then
         announce_change
+        [ -z "$without" ] || remark_on_absent
         [ -z "$with" ] || remark_on_change
         with_files ask_change diff --before
         return
@@ -171,9 +172,7 @@ remark_on_missing() {
     missing=$(
         for last in from to; do
             rbacaudit lint --only=L1 "$scratch/lists/from.json" "$scratch/lists/to.json" "$scratch/lists/$last.json"
-        done 2>/dev/null | cut -f 5 | LC_ALL=C sort -u | LC_ALL=C awk '
-            NR <= 3 { said = said (said == "" ? "" : ", ") $0 }
-            END { print said (NR > 3 ? " and " NR - 3 " more" : "") }'
+        done 2>/dev/null | cut -f 5 | first_three
     )
     [ -z "$missing" ] || report "neither side has these roles, so bindings to them grant nothing here: $missing; \
 --export DIR compares with the roles of a cluster"

@@ -237,7 +237,7 @@ remark_on_change() {
     : >>"$scratch/findings"
     mv -f "$scratch/findings" "$scratch/findings.before"
     reads='cluster.json namespaced.json'
-    with_files lint_with --only=L2,L6 >"$scratch/findings" 2>/dev/null
+    with_files lint_over with L2,L6 >"$scratch/findings" 2>/dev/null
     reads=$needed
     newly_stale=$(LC_ALL=C awk -F '\t' '
         $1 == "L2" { unused[begun, $3] }
@@ -250,8 +250,30 @@ a cluster grants what is written in them, for ever if they select each other, \
 and these lines have what they gather"
 }
 
-lint_with() {
-    rbacaudit lint "$@" "$scratch/lists/with.json"
+# Lints files with a list of manifests behind them: the first words are its name, and the codes.
+lint_over() {
+    over=$scratch/lists/$1.json
+    codes=$2
+    shift 2
+    rbacaudit lint "--only=$codes" "$@" "$over"
+}
+
+# Reports what of the manifests that are taken away the export doesn't have: what both have is replaced for lint.
+remark_on_absent() {
+    with_files lint_over without L7 >"$scratch/both" 2>/dev/null
+    [ $? -le 1 ] || return 0
+    walk "$scratch/lists/without.json" "$LIST_OBJECTS" | LC_ALL=C awk -F '\t' '
+        !begun { there[$3]; next }
+        $2 ~ /^(Cluster)?Role/ && !($2 in there) { print $2 }' "$scratch/both" begun=1 - >"$scratch/absent"
+    absent=$(first_three <"$scratch/absent")
+    [ -z "$absent" ] || report "the export doesn't have these, so nothing is taken away with them: $absent"
+}
+
+# Prints the first three of the lines of standard input, in order, and how many more there are.
+first_three() {
+    LC_ALL=C sort -u | LC_ALL=C awk '
+        NR <= 3 { said = said (said == "" ? "" : ", ") $0 }
+        END { print said (NR > 3 ? " and " NR - 3 " more" : "") }'
 }
 
 # Asks again, and counts the rules that are written in aggregated roles, as a cluster does: a later
