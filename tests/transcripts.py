@@ -2,7 +2,8 @@
 
 A command begins with `$ `, and lines with `> ` right below carry it on; so what is printed never begins with these. The commands
 of a document run in order, in a copy of examples/ of its own: those of docs/RECIPES.md in cluster/, all others at the top. A
-command with sqlite3 is skipped where that isn't installed, which the last line but one says.
+command with sqlite3 or git is skipped where that isn't installed, and one with kubectl is run by a stand-in where there is none, or skipped
+where that can't read YAML; the last line but one says so.
 """
 
 import os
@@ -14,9 +15,19 @@ import tempfile
 import textwrap
 
 from common import PODS, PROGRAM, TOP, V1, checked, export, skipped
+from local_kubectl import yaml
+from plugin_room import LOCAL_KUBECTL, PLUGIN
 
 EXAMPLES = os.path.join(TOP, 'examples')
 FOLDERS = {'RECIPES.md': 'cluster'}
+# kubectl as far as documents call it: the plugin, and manifests as JSON.
+KUBECTL = '''#!/bin/sh
+case $1 in
+    rbacaudit) shift; exec sh "%s" "$@" ;;
+    patch) shift 7; exec "%s" "%s" "$@" ;;
+esac
+exit 97
+''' % (PLUGIN, sys.executable, LOCAL_KUBECTL)
 
 
 def text_of(*path):
@@ -50,13 +61,32 @@ def transcripts():
 
 def shown(name, command, wanted, folder):
     """Whether the command prints in this folder what the document shows."""
-    if re.search(r'\bsqlite3\b', command) and not shutil.which('sqlite3'):
-        skipped('sqlite3', 'commands of ' + name)
-        return
-    environment = dict(os.environ, PATH=os.path.dirname(PROGRAM) + os.pathsep + os.environ['PATH'])
+    for tool in ('sqlite3', 'git'):
+        if re.search(r'\b%s\b' % tool, command) and not shutil.which(tool):
+            skipped(tool, 'commands of ' + name)
+            return
+    tools = [os.path.dirname(PROGRAM), os.path.dirname(PLUGIN), os.environ['PATH']]
+    # (a commit calls the hook, which calls kubectl)
+    if re.search(r'\b(kubectl|commit)\b', command) and not shutil.which('kubectl'):
+        skipped('kubectl', 'commands of %s, but by a stand-in' % name)
+        if yaml is None:
+            skipped('PyYAML', 'manifests of ' + name)
+            return
+        tools.insert(0, made_kubectl(folder))
+    environment = dict(os.environ, PATH=os.pathsep.join(tools), HOME=folder)
     ended = subprocess.run(['bash', '-c', command], cwd=folder, env=environment, stdout=subprocess.PIPE, stderr=subprocess.STDOUT,
                            timeout=60)
     checked('%s: %s' % (name, command), ended.stdout.decode() == wanted, 'got %r' % ended.stdout.decode())
+
+
+def made_kubectl(folder):
+    """The folder of a stand-in for kubectl, beside the examples."""
+    tools = os.path.join(folder, '.tools')
+    os.makedirs(tools, exist_ok=True)
+    with open(os.path.join(tools, 'kubectl'), 'w', encoding='utf-8') as file:
+        file.write(KUBECTL)
+    os.chmod(os.path.join(tools, 'kubectl'), 0o755)
+    return tools
 
 
 def spaced_bindings():
