@@ -20,7 +20,9 @@ import tarfile
 import tempfile
 
 from common import PROGRAM, TOP, checked, results, skipped, tested
+from local_kubectl import yaml
 from plugin_exports import nobody
+from plugin_room import LOCAL_KUBECTL
 from transcripts import contents, steps, text_of
 
 ROOT = 'rbacaudit-0.1.0-x86_64-linux'
@@ -449,14 +451,23 @@ def part_of(job, key, margin):
     return re.sub('^' + margin, '', lines, flags=re.M)
 
 
+def jobs_below(heading):
+    """The jobs for GitHub and for GitLab below a heading of docs/RECIPES.md."""
+    text = text_of('docs', 'RECIPES.md').partition('\n### %s\n' % heading)[2].partition('\n## ')[0]
+    return re.findall(r'^```yaml\n(.*?)^```', text, re.S | re.M)[:2]
+
+
+def shell_parts(github, gitlab):
+    """The shell parts of the jobs, as GitHub and GitLab run them. A line of YAML may stand between quotes."""
+    script = re.sub(r'^"(.*)"$', r'\1', part_of(gitlab, 'script', '    - '), flags=re.M)
+    return part_of(github, 'run', ' ' * 10), 'set -eo pipefail\n' + script
+
+
 def jobs_text():
-    """The shell parts of the jobs, as GitHub and GitLab run them, and the script that both call."""
-    text = text_of('docs', 'RECIPES.md')
-    github, gitlab = re.findall(r'^```yaml\n(.*?)^```', text, re.S | re.M)
-    script = next(command for command, _ in steps(text) if command.startswith('cat > review.sh '))
-    return (part_of(github, 'run', ' ' * 10),
-            'set -eo pipefail\n' + part_of(gitlab, 'script', '    - '),
-            part_of(gitlab, 'after_script', '    - '), script)
+    """The shell parts of the jobs for a folder of JSON, and the script that both call."""
+    github, gitlab = jobs_below('A job for each change')
+    script = next(command for command, _ in steps(text_of('docs', 'RECIPES.md')) if command.startswith('cat > review.sh '))
+    return (*shell_parts(github, gitlab), part_of(gitlab, 'after_script', '    - '), script)
 
 
 def origin(room, script):
@@ -466,11 +477,16 @@ def origin(room, script):
     for path in glob.glob(os.path.join(TOP, 'examples/cluster/*.json')):
         shutil.copy(path, folder + '/rbac')
     run(['bash', '-c', script], folder)
+    more = text_of('examples/cluster/change/roles.json')
+    return with_branches(folder, {'same': {'README': 'roles'}, 'bad': {'rbac/roles.json': '{'},
+                                  'more': {'rbac/roles.json': more, 'review.sh': 'exit 0'}})
+
+
+def with_branches(folder, branches):
+    """Makes a repository of a folder, with branches that have other texts in these files; its address."""
     git(folder, 'init', '-q', '-b', 'main')
     commit(folder, {})
-    more = text_of('examples/cluster/change/roles.json')
-    for branch, files in (('same', {'README': 'roles'}), ('bad', {'rbac/roles.json': '{'}),
-                          ('more', {'rbac/roles.json': more, 'review.sh': 'exit 0'})):
+    for branch, files in branches.items():
         git(folder, 'checkout', '-q', '-b', branch, 'main')
         commit(folder, files)
     return 'file://' + folder
@@ -486,13 +502,13 @@ def commit(folder, files):
 class Job:
     """A job in a checkout of one branch, as deep as GitHub's."""
 
-    def __init__(self, room, address, branch):
+    def __init__(self, room, address, branch, tools=None):
         self.folder = tempfile.mkdtemp(dir=room.path)
         git(self.folder, 'clone', '-q', '--depth', '1', '--branch', branch, address, 'work')
         self.work = os.path.join(self.folder, 'work')
         self.summary = os.path.join(self.folder, 'summary')
         self.environment = room.without_kit(
-            room.at('job-tools'), **GIT, ARCHIVE='https://downloads.example.com/' + ARCHIVE,
+            tools or room.at('job-tools'), **GIT, ARCHIVE='https://downloads.example.com/' + ARCHIVE,
             GITHUB_BASE_REF='main',
             GITHUB_STEP_SUMMARY=self.summary, CI_MERGE_REQUEST_TARGET_BRANCH_NAME='main',
             SHA256=sum_of(room.made(ARCHIVE)))
@@ -531,6 +547,46 @@ def jobs(room):
         holds(name + ': once more in the same folder', job.run(shell)[0] == 0)
 
 
+# kubectl as the jobs call it, where there is none.
+KUBECTL = '''#!/bin/sh
+case $1 in
+    rbacaudit) shift; exec kubectl-rbacaudit "$@" ;;
+    patch) shift 7; exec '%s' '%s' "$@" ;;
+esac
+''' % (sys.executable, LOCAL_KUBECTL)
+MANIFEST_TOOLS = 'bash', 'cut', 'env', 'fold', 'git', 'grep', 'wc', *PLUGIN_TOOLS
+MORE = '+\tu:system:serviceaccount:shop:ci\tshop\tget\t-\tsecrets\t*\tRoleBinding/shop/ci-deploys\n'
+LESS = ''.join('-\tg:shop-support\tshop\tget\t-\t%s\t*\tRoleBinding/shop/support\n' % type_ for type_ in ('pods', 'pods/log'))
+
+
+def manifests(room):
+    """The jobs over manifests, with kubectl or its stand-in: more is allowed, less is, and a file is bad."""
+    found = shutil.which('kubectl')
+    if not found:
+        skipped('kubectl', 'the jobs over manifests, but by a stand-in')
+        if yaml is None:
+            skipped('PyYAML', 'the jobs over manifests')
+            return
+    tools = room.linked('manifest-tools', *MANIFEST_TOOLS)
+    write(CURL % (ARCHIVE, room.made(ARCHIVE)), tools, 'curl')
+    write('#!/bin/sh\nexec "%s" "$@"\n' % found if found else KUBECTL, tools, 'kubectl')
+    for name in ('curl', 'kubectl'):
+        os.chmod(os.path.join(tools, name), 0o755)
+    folder = shutil.copytree(os.path.join(TOP, 'examples/manifests/main'), room.at('manifests') + '/rbac') + '/..'
+    less = text_of('examples/manifests/main/support.yaml').partition('---\n')[0]
+    address = with_branches(os.path.normpath(folder), {
+        'more': {'rbac/deployer.yaml': text_of('examples/manifests/change/deployer.yaml')},
+        'less': {'rbac/support.yaml': less}, 'bad': {'rbac/deployer.yaml': 'kind: ClusterRole\n\tname: x\n'}})
+    github, gitlab = shell_parts(*jobs_below('Jobs for pull requests'))
+    for branch, status, changes in (('more', 1, MORE), ('less', 0, LESS), ('bad', 1, '')):
+        for name, shell in (('GitHub', github), ('GitLab', gitlab)):
+            job = Job(room, address, branch, tools)
+            got = job.run(shell)
+            told = ''.join('    %s\n' % line for line in changes.splitlines()) if changes and name == 'GitHub' else None
+            well = got[0] == status and bytes_of(job.work, 'changes').decode() == changes and job.told() == told
+            holds('%s, manifests: %s' % (name, branch), well and ('bad' != branch or 'rbac/deployer.yaml' in got[1]), (got, job.told()))
+
+
 def all_of_it():
     for tool in ('git', 'readelf', 'strip'):
         if not shutil.which(tool):
@@ -539,7 +595,7 @@ def all_of_it():
     with tempfile.TemporaryDirectory() as path:
         room = Room(path)
         packed(room)
-        parts = entries, proved, refusals, instant, installed, as_told, containerfile, krew, jobs
+        parts = entries, proved, refusals, instant, installed, as_told, containerfile, krew, jobs, manifests
         for part in parts if all(results) else ():
             part(room)
 
