@@ -150,6 +150,16 @@ def answers(it):
     it.checked('a universe on a terminal', (status, err) == (0, '') and '"resource": "w\\u200bidgets\\udb40\\udc41"' in out
                and document(out) == document(it.run('universe', '--export', 'prod')[1]), got)
     it.checked('a universe through a pipe', '"resource": "%s"' % TYPE in it.run('universe', '--export', 'prod')[1], 'escaped')
+    name = 'm\u202e.json'
+    it.write(json.dumps(hostile()), name)
+    status, out, err = got = on_terminal(it, 'read', name)
+    it.checked('manifests on a terminal', status == 0 and SEEN_ROLE not in out and '"name": "r\u00e9\\u2028"' in out
+               and document(out) == document(it.run('read', name)[1]), got)
+    line = 'L4\tescalation\tClusterRole/%s\t2\tbind\t%s\n'
+    got = on_terminal(it, 'lint', name)
+    it.checked('their findings on a terminal', got[:2] == (1, line % (SEEN_ROLE, 'm\\xe2\\x80\\xae.json')), got)
+    got = it.run('lint', name)
+    it.checked('their findings through a pipe', got[:2] == (1, line % (ROLE, name)), got)
     it.write('[', 'bad.json')
     status, out, err = got = on_terminal(it, 'lint', '--export', 'prod', 'bad.json')
     it.checked('a fault', (status, out) == (2, '') and err.startswith('rbacaudit: file 1: M1 not JSON\n'), got)
