@@ -82,8 +82,9 @@ POD = {'apiVersion': 'v1', 'kind': 'Pod', 'metadata': {'name': 'p'}}
 FOLDER = {'m/.hidden.json': role('hidden', 'shop'), 'm/a/x.yml': role('x', 'shop'),
           'm/a/y.json': a_list('List', 'v1', role('y', 'shop'), role('z', 'shop')),
           'm/a-b.json': json.dumps(role('one', 'shop')) + '\n' + json.dumps(role('two', 'shop')), 'm/b.yaml': json.dumps(bound('x', 'shop', 'kim')),
-          'm/c, "d".json': role('comma', 'shop'), 'm/empty.json': '', 'm/notes.txt': 'nothing', 'm/pod.json': POD}
-IN_ORDER = ['Role/hidden', 'Role/x', 'Role/y', 'Role/z', 'Role/one', 'Role/two', 'RoleBinding/x', 'Role/comma', 'Pod/p']
+          'm/c, "d".json': role('comma', 'shop'), 'm/empty.json': '', 'm/notes.txt': 'nothing', 'm/pod.json': POD,
+          'm/u.json': a_list('List', 'v1', {**POD, 'apiVersion': 'rbacaudit/v1', 'kind': 'Universe'}, {**POD, 'apiVersion': 'rbacaudit/v1', 'kind': 'EndOfFile'})}
+IN_ORDER = ['Role/hidden', 'Role/x', 'Role/y', 'Role/z', 'Role/one', 'Role/two', 'RoleBinding/x', 'Role/comma', 'Pod/p', 'Universe/p', 'EndOfFile/p']
 KUSTOMIZED = {'k/base/kustomization.yaml': {'resources': ['role.json']}, 'k/base/role.json': role('based'),
               'k/prod/kustomization.yml': {'resources': ['../base'], 'namespace': 'prod'}}
 
@@ -104,6 +105,10 @@ def paths(it):
     for given, found in (['-'], ['Role/x']), (['m/pod.json', '-'], ['Pod/p', 'Role/x']), (['/dev/stdin'], ['Role/x']):
         status, out, err = got = without_cluster(it, 'read', *given, stdin=None, input=text)
         it.checked('read %s' % given, (status, names(out)) == (0, found), got)
+    odd = it.at('temporary, "odd"')
+    os.mkdir(odd)
+    status, out, err = got = it.run('read', 'm', environment={**it.environment(), 'TMPDIR': odd})
+    it.checked('a temporary folder with a comma', (status, names(out)) == (0, in_folder), got)
     [item] = document(without_cluster(it, 'read', 'k/prod')[1])['items']
     it.checked('kustomize renders', item == role('based', 'prod'), item)
     status, out, err = got = without_cluster(it, 'read', '-n', 'test', 'k/base')
@@ -353,6 +358,13 @@ def linted(it):
     both = 'm/0.json, bad.json'
     it.checked('a bad object', got == (2, '', read(both, '2 roles, 0 bindings, 0 other objects') + 'rbacaudit: file 1 item 2: M5 bad rule 1\n'
                                        + culprit(1, both, 2, 'Role b/x, in bad.json')), got)
+    deep = {}
+    for _ in range(130):
+        deep = {'x': deep}
+    put(it, {'m/0.json': role('x', 'b'), 'bad.json': {**POD, 'spec': deep}})
+    got = without_cluster(it, 'lint', 'm/0.json', 'bad.json')
+    it.checked('a bad list', got == (2, '', read(both, '1 role, 0 bindings, 1 other object') + 'rbacaudit: file 1: M1 not JSON\n'
+                                     'kubectl-rbacaudit: file 1 is %s as kubectl reads it\n' % both), got)
     put(it, {'pod.json': POD})
     got = without_cluster(it, 'lint', 'pod.json')
     it.checked('no role', got == (2, '', read('pod.json', '0 roles, 0 bindings, 1 other object')

@@ -203,8 +203,9 @@ name_file() {
 
 # The same for a list of manifests: with the path that it was read from, and the file that the object stands in.
 name_list() {
-    find_origin "$found" "${item:-1}"
     read_from=$(cat "${found%.json}.paths")
+    origin=$read_from
+    [ -z "$item" ] || find_origin "$found" "$item"
     found="$read_from as kubectl reads it"
     [ "$origin" = "$read_from" ] || culprit="$culprit, in $origin"
 }

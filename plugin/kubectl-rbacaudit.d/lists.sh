@@ -143,9 +143,11 @@ give $folder itself, or another folder that has a kustomization"
 # Reads the files of $scratch/files in one call.
 print_files() {
     set --
+    quote_name "$scratch/mark.json"
+    mark=$quoted
     while IFS= read -r file; do
         quote_name "$file"
-        set -- "$@" -f "$quoted" -f "$scratch/mark.json"
+        set -- "$@" -f "$quoted" -f "$mark"
     done <"$scratch/files"
     print_objects "$@"
 }
