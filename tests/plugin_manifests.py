@@ -7,13 +7,15 @@ may take it away, and with a kubeconfig that can't be read.
 import contextlib
 import json
 import os
+import re
 import shutil
 import subprocess
+import textwrap
 
-from common import V1, skipped
+from common import TOP, V1, skipped
 from local_kubectl import yaml
 from plugin_changes import EMPTY, GAINED, ROLE, a_list, binding, culprit, read
-from plugin_room import SHELLS, STAND_IN, document, in_each_shell, room, served
+from plugin_room import PLUGIN, SHELLS, STAND_IN, document, in_each_shell, room, served
 
 def without_network():
     """The command that takes the network away from another, where this machine lets it."""
@@ -371,4 +373,66 @@ def linted(it):
                                   + EMPTY.replace('compared', 'checked') % 'pod.json'), got)
 
 
-CHECKS = [paths, from_yaml, refusals, without_kubectl, hidden, taken_away, states, linted]
+# ---- what documents show, as it is written
+
+# helm as documents call it: what it prints of a chart is a file there.
+HELM = '#!/bin/sh\n[ "$1 $2 $4" = "template shop -f" ] && [ -f "$5" ] && exec cat "$3/rendered.json"\n'
+
+
+def shown(path, heading):
+    """The blocks of commands below a heading of a document, each a text."""
+    with open(os.path.join(TOP, path), encoding='utf-8') as file:
+        part = file.read().partition(heading)[2]
+    part = re.split(r'^(?:#|\*\*)', part, maxsplit=1, flags=re.M)[0]
+    return [textwrap.dedent(block) for block in re.findall(r'(?:^    .*\n)+', part, re.M)]
+
+
+def run_shown(it, command):
+    """Status, standard output and standard error of commands of a document."""
+    environment = {**it.environment(), 'HOME': it.path, 'KUBECONFIG': it.at('kubeconfig')}
+    environment['PATH'] = os.pathsep.join([it.bin, os.path.dirname(PLUGIN), environment['PATH']])
+    ended = subprocess.run([*NO_NETWORK, 'bash', '-c', command], cwd=it.work, env=environment, stdin=subprocess.DEVNULL,
+                           stdout=subprocess.PIPE, stderr=subprocess.PIPE, timeout=60)
+    return ended.returncode, ended.stdout.decode(), ended.stderr.decode()
+
+
+@with_manifests
+def recipes(it):
+    """docs/RECIPES.md: what a merge does to a cluster, a chart, and several kustomizations."""
+    put(it, {'prod/cluster.json': a_list('List', 'v1'), 'prod/namespaced.json': a_list('List', 'v1', role('r', 'a'), bound('r', 'a', 'ann')),
+             it.at('kubeconfig'): 'none', os.path.join(it.bin, 'helm'): HELM})
+    os.chmod(os.path.join(it.bin, 'helm'), 0o755)
+    main, change = a_list('List', 'v1', role('r', 'a'), bound('r', 'a', 'ann')), role('r', 'a', 'watch')
+    for side, value in (('main/', main), ('', change)):
+        put(it, {side + 'rbac/roles.json': value, side + 'charts/shop/rendered.json': value, side + 'values/prod.yaml': '',
+                 side + 'apps/x/overlays/prod/kustomization.yaml': {'resources': ['r.json']}, side + 'apps/x/overlays/prod/r.json': value,
+                 side + 'apps/y/overlays/prod/kustomization.yaml': {'resources': ['y.json']},
+                 side + 'apps/y/overlays/prod/y.json': bound('y', 'a', 'yan', 'Role', 'r')})
+    [merge] = shown('docs/RECIPES.md', '### What a merge does to a cluster\n')
+    chart, folders = shown('docs/RECIPES.md', '### Helm, Flux and Argo CD\n')
+    lost, yan = line('-', 'ann', 'a', 'get', 'r'), line('-', 'yan', 'a', 'get', 'y') + line('+', 'yan', 'a', 'watch', 'y')
+    for name, command, out in (('a merge', merge, lost), ('a chart', chart, lost), ('several folders', folders, lost + yan)):
+        got = run_shown(it, 'set -e\n' + command)
+        it.checked('RECIPES.md: ' + name, got[:2] == (1, out), got)
+
+
+@with_manifests
+def first_screen(it):
+    """README.md: the three lines of a pipeline."""
+    if not shutil.which('git'):
+        skipped('git', 'the three lines of README.md')
+        return
+    put(it, {'rbac/roles.json': role('r', 'a'), 'rbac/bindings.json': bound('r', 'a', 'ann'), it.at('kubeconfig'): 'none'})
+    commands = """git init -q -b main .; git add .; git -c user.name=kim -c user.email=kim@example.com commit -q -m Roles
+                  git update-ref refs/remotes/origin/main main"""
+    it.checked('a repository', run_shown(it, commands)[0] == 0, 'none')
+    put(it, {'rbac/roles.json': role('r', 'a', 'get', 'watch')})
+    [command] = shown('README.md', '**What does a pull request change?**')
+    status, out, err = got = run_shown(it, command)
+    # (git says where the branch is)
+    it.checked('README.md: the three lines', command.count('\n') == 3 and status == 1
+               and out.splitlines(True)[1:] == [line('+', 'ann', 'a', 'watch', 'r')], got)
+    shutil.rmtree(os.path.join(it.work, 'main'))
+
+
+CHECKS = [paths, from_yaml, refusals, without_kubectl, hidden, taken_away, states, linted, recipes, first_screen]

@@ -24,6 +24,9 @@ SHELLS = ['dash' if shutil.which('dash') else 'sh', 'bash']
 # context is the file `context`. TROUBLE lists, joined by commas, kinds of trouble, each with the file
 # that it befalls; `slow` befalls all.
 STAND_IN = r'''#!/bin/sh
+case ${1-} in
+    rbacaudit) shift; exec kubectl-rbacaudit "$@" ;;
+esac
 line= targets=
 for word do
     case $word in
