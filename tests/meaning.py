@@ -6,6 +6,7 @@ name)`; who asks is `('u', name, groups)` or `('g', name, groups)`, with all gro
 that is given has labels, and selectors have `matchLabels` alone.
 """
 
+import json
 import re
 
 SHOWN = re.compile(r'\\x([0-9a-f]{2})|\\\\|[^\\]', re.S)
@@ -135,3 +136,39 @@ def text_shown(shown):
 
 def binding_text(kind, namespace, name):
     return '/'.join([kind, namespace, name] if namespace else [kind, name])
+
+
+def json_text(text):
+    return json.dumps(text, ensure_ascii=False)
+
+
+def principal_json(entry):
+    if 'group' in entry:
+        return '{"group": %s}' % json_text(entry['group'])
+    groups = ', "groups": [%s]' % ', '.join(map(json_text, entry['groups'])) if entry.get('groups') else ''
+    return '{"user": %s%s}' % (json_text(entry['user']), groups)
+
+
+def resource_json(entry):
+    return '{"group": %s, "resource": %s, "namespaced": %s}' % (
+        json_text(entry.get('group', '')), json_text(entry['resource']), 'true' if entry.get('namespaced', True) else 'false')
+
+
+def document_text(lists):
+    """The Universe document that is printed: the entries of each list once and in order, each on a line of its own."""
+    members = ['"apiVersion": "rbacaudit/v1"', '"kind": "Universe"']
+    for name, order, shown in (('principals', principal_order, principal_json), ('namespaces', str.encode, json_text), ('verbs', str.encode, json_text),
+                               ('resources', resource_order, resource_json), ('names', str.encode, json_text), ('urls', str.encode, json_text)):
+        entries = [*dict.fromkeys(map(shown, sorted(lists[name], key=order)))]
+        members.append('"%s": %s' % (name, '[\n    %s\n  ]' % ',\n    '.join(entries) if entries else '[]'))
+    return '{\n  %s\n}\n' % ',\n  '.join(members)
+
+
+def principal_order(entry):
+    """Groups before users, by name, and then by the groups that are given."""
+    kind = 'group' if 'group' in entry else 'user'
+    return kind, entry[kind].encode(), [group.encode() for group in entry.get('groups', [])]
+
+
+def resource_order(entry):
+    return entry.get('group', '').encode(), entry['resource'].encode(), entry.get('namespaced', True)

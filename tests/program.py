@@ -16,6 +16,7 @@ import sys
 import tempfile
 
 from common import PODS, PROGRAM, TOP, V1, V1BETA1, bare, checked, export, tested
+from meaning import document_text
 from transcripts import (example_cluster, links_and_heads, loop_of_pages, spaced_bindings,
                          transcripts)
 
@@ -30,10 +31,13 @@ NOBODY = (['rules', ''], ['rules', 'u:'], ['rules', 'g:'], ['rules', 'kim'], ['r
           ['rules', 'U:kim'], ['rules', ' u:kim'], ['rules', '-A', 's:kim'], ['rules', '--groups', 'ops', 'g:dev'],
           ['rules', 'g:dev', '--groups=,'], ['rules', '--group', 'ops', 'g:dev'], ['rules', '--group', '', '--group', ',', 'g:dev'],
           ['rules', '--group=ops', 'u:'], ['rules', '--groups', 'ops', 'u:'], ['rules', '--groups=', 'g:'])
-# Not both sides of a change are given, or more than its files.
-NO_CHANGES = ([], ['a'], ['a', 'b'], ['--before', 'a'], ['--after', 'a'], ['--before', 'a', '--before', 'b'],
+# The side before a change isn't given, or more than the files of a change.
+NO_CHANGES = ([], ['a'], ['a', 'b'], ['--after', 'a'], ['--with', 'a'], ['--without', 'a', '--with', 'b'],
               *([*words, '--before', 'a', '--after', 'b'] for words in (['c'], ['-n', 'dev'], ['--why'], ['-q'], ['--limit', '1'])),
               ['--before', 'a', '--after', 'b', '--', 'c'])
+# What is given beside the side before is no change, or two.
+BAD_CHANGES = ([], ['--before', 'b'], ['--after', 'b', '--with', 'c'], ['--without', 'b', '--after', 'c'],
+               ['--after', 'b', '--without', 'c', '--with', 'd'])
 
 
 def run(words, given=b'', **how):
@@ -118,6 +122,9 @@ def streams():
         expect('a bad token before a missing file', ['matrix', '--after', 'MQ', missing], 2, err=b'rbacaudit: U4 bad token\n')
         expect('a bad code before a missing file', ['lint', '--only', 'L8', missing], 2, err=b'rbacaudit: U6 bad code\n')
         expect('no codes, and a file in their place', ['lint', '--only', roles], 2, err=b'rbacaudit: U6 bad code\n')
+        for words in BAD_CHANGES:
+            expect('no change before a missing file: %s' % ' '.join(words), ['diff', '--before', missing, *words], 2,
+                   err=b'rbacaudit: U7 give either --after, or --with or --without\n')
         expect('no principal before a missing file', ['rules', 'kim', missing], 2, err=b'rbacaudit: U5 bad principal\n')
         expect('rules of two files', ['rules', 'u:alice', roles, bindings], 0,
                b'RoleBinding/default/b\tRole/default/r\tRole/default/r\t1\t1\t[get]\t[-]\t[pods]\t[]\t[]\n')
@@ -138,10 +145,14 @@ def changes_of(roles, bindings, missing):
     gained = b'+\tu:alice\tdefault\tget\t-\tpods\t*\tRoleBinding/default/b\n'
     for words in (['--before', roles, '--after', roles, bindings], ['--after', roles, bindings, '--before', roles],
                   ['--after', bindings, '--before', roles, '--after', roles], ['--before=' + roles, '--after=' + roles, '--after=' + bindings],
-                  ['--before', roles, '--before', roles, '--after', bindings, '--after', roles]):
+                  ['--before', roles, '--before', roles, '--after', bindings, '--after', roles],
+                  ['--before', roles, '--with', bindings], ['--with', bindings, '--without', bindings, '--before', roles],
+                  ['--without', bindings, '--before', roles, '--with', roles, bindings], ['--with=' + bindings, '--before=' + roles, '--with=' + roles]):
         expect('changes: %s' % ' '.join(map(os.path.basename, words)), ['diff', *words], 1, gained, given=b'[]')
     for words, place in (([missing, '--after', roles], 1), ([roles, '--after', missing], 2), ([roles, bindings, '--after', missing, roles], 3),
-                         ([missing, '--after', missing], 1), ([roles, '--after', roles, '-'], 3), ([roles, '--after', os.path.dirname(roles)], 2)):
+                         ([missing, '--after', missing], 1), ([roles, '--after', roles, '-'], 3), ([roles, '--after', os.path.dirname(roles)], 2),
+                         ([roles, '--with', missing], 2), ([roles, '--without', roles, missing, '--with', missing], 3),
+                         ([roles, '--with', roles, missing, '--without', roles], 4)):
         expect('a side that is not there: %s' % ' '.join(map(os.path.basename, words)), ['diff', '--before', *words], 2,
                err=b'rbacaudit: file %d: I1 read fault\n' % place, given=GRANTED)
     expect('files after, before files before', ['diff', '--after', missing, '--before', roles, bindings], 2,
@@ -155,13 +166,13 @@ def changes_of(roles, bindings, missing):
 
 def help_and_usage():
     """Help on standard output with status 0; a refused line on standard error with status 2."""
-    for words in (['--help'], ['can-i', '--help'], ['who-can', '--help'], ['rules', '--help'], ['matrix', '--help'], ['lint', '--help'],
-                  ['diff', '--help'], ['-h'], ['lint', '-h']):
+    for words in (['--help'], ['can-i', '--help'], ['who-can', '--help'], ['rules', '--help'], ['matrix', '--help'], ['universe', '--help'],
+                  ['lint', '--help'], ['diff', '--help'], ['-h'], ['lint', '-h']):
         ended = run(words)
         checked('%s is on standard output' % ' '.join(words),
              ended.returncode == 0 and b'Usage' in ended.stdout and not ended.stderr, repr(ended))
     commands = run(['--help']).stdout
-    for command in (b'can-i', b'who-can', b'rules', b'matrix', b'lint', b'diff'):
+    for command in (b'can-i', b'who-can', b'rules', b'matrix', b'universe', b'lint', b'diff'):
         checked('help names %s' % command.decode(), command in commands, repr(commands))
     options = run(['can-i', '--help']).stdout
     for option in (b'--as', b'--groups', b'--group <G>', b'-n, --namespace', b'-A, --all-namespaces', b'--in-namespace', b'--subresource', b'-q, --quiet',
@@ -172,11 +183,13 @@ def help_and_usage():
     for command in ('who-can', 'rules', 'matrix', 'lint', 'diff'):
         text = run([command, '--help']).stdout
         checked('help of %s names FILE and has an example' % command, b'FILE' in text and b'rbacaudit %s ' % command.encode() in text, repr(text))
-    for option in (b'--every', b'--after <TOKEN>', b'--limit <N>'):
+    for option in (b'--every', b'--once', b'--after <TOKEN>', b'--limit <N>'):
         checked('help names %s' % option.decode(), option in run(['matrix', '--help']).stdout)
     for said in (b'--groups <A,B>', b'--group <G>', b'-n, --namespace <NS>', b'-A, --all-namespaces', b'ten fields, joined by tabs', b'[] is the empty list'):
         checked('help of rules says "%s"' % said.decode(), said in run(['rules', '--help']).stdout)
-    for said in (b'--before <FILE>', b'--after <FILE>', b'eight fields, joined by tabs'):
+    for said in (b'[FILE]', b'matrix over the same files and this document lists the same rows'):
+        checked('help of universe says "%s"' % said.decode(), said in run(['universe', '--help']).stdout)
+    for said in (b'--before <FILE>', b'--after <FILE>', b'--without <FILE>', b'--with <FILE>', b'eight fields, joined by tabs'):
         checked('help of diff says "%s"' % said.decode(), said in run(['diff', '--help']).stdout)
     for option in (b'--in-namespace', b'--anywhere', b'--any-name', b'--every', b'--why'):
         checked('help of who-can names %s' % option.decode(), option in run(['who-can', '--help']).stdout)
@@ -211,6 +224,8 @@ def help_and_usage():
                   ['can-i', '--as', 'a', '--every', 'get', 'pods'], ['can-i', '--as', 'a', '--in-namespace', '--in-namespace', 'get', 'pods'],
                   ['rules', '--in-namespace', 'u:a'], ['rules', '--anywhere', 'u:a'], ['matrix', '--group', 'a'], ['matrix', '--anywhere'], ['lint', '--group', 'a'],
                   ['can-i', '--as', 'a', '--group', '-x', 'get', 'pods'], ['lint', '--every'], ['matrix', '--every', '--every'], ['matrix', '--every=x'],
+                  ['matrix', '--once', '--once'], ['matrix', '--once=x'], ['who-can', '--once', 'get', 'pods'], ['lint', '--once'],
+                  ['universe', '--once'], ['universe', '--every'], ['universe', '--limit', '1'], ['universe', '--after', 'MQ'], ['universe', '-n', 'dev'],
                   ['matrix', '--limit', '1', '--limit', '1'], ['matrix', '--after', 'MQ', '--after', 'MQ'], ['matrix', '-n', 'dev'],
                   ['lint', '--limit', '1'], ['lint', '-n', 'dev'], ['help'], ['rules'], ['rules', '-A'], ['rules', '--why', 'u:a'], ['rules', '-q', 'u:a'],
                   ['rules', '--as', 'a', 'u:a'], ['rules', '-A', '-A', 'u:a'], ['rules', '--groups', 'a', '--groups', 'b', 'u:a'],
@@ -221,6 +236,7 @@ def help_and_usage():
         checked('refused: %s' % (' '.join(words) or 'no words'),
              ended.returncode == 2 and not ended.stdout and b'Usage' in ended.stderr, repr(ended))
     for words, option in ((['diff', '--before', '--after', 'a'], b'--before <FILE>'), (['diff', '--after', 'a', '--before'], b'--before <FILE>'),
+                          (['diff', '--before', 'a', '--with'], b'--with <FILE>'), (['diff', '--without', '--before', 'a'], b'--without <FILE>'),
                           (['lint', '--only'], b'--only <CODES>')):
         ended = run(words)
         checked('refused: %s' % ' '.join(words), ended.returncode == 2 and not ended.stdout and option in ended.stderr, repr(ended))
@@ -268,6 +284,7 @@ def rows():
     lines(table['lines'])
     changes(table['changes'])
     matrices(table['matrices'])
+    universes(table['universes'])
     documents(table['documents'])
 
 
@@ -289,20 +306,22 @@ def lines(table):
 
 
 def changes(table):
-    """Files before and after a change, each a list of items or a text, with the lines that `diff` writes, or its fault. With
-    the sides exchanged, the lines have the other sign."""
+    """Files before a change and after it, or those that are taken away and put over, each a list of items or a text, with the
+    lines that `diff` writes, or its fault. With the sides exchanged, the lines have the other sign."""
     for row in table:
         with tempfile.TemporaryDirectory() as room:
-            before, after = (put_files(room, side, row[side]) for side in ('before', 'after'))
+            given = {side: put_files(room, side, row[side]) for side in ('before', 'after', 'without', 'with') if side in row}
+            words = ['diff', *itertools.chain.from_iterable(given.values())]
             if 'fault' in row:
-                expect(row['rule'], ['diff', *before, *after], 2, err=b'rbacaudit: %s\n' % row['fault'].encode())
+                expect(row['rule'], words, 2, err=b'rbacaudit: %s\n' % row['fault'].encode())
                 continue
             told = ''.join(line + '\n' for line in row['lines'])
-            exchanged = re.sub('^[+-]', lambda sign: '-+'['+-'.index(sign[0])], told, flags=re.M)
             status = 1 if row['lines'] else 0
-            expect(row['rule'], ['diff', *before, *after], status, told.encode())
-            expect('%s Exchanged.' % row['rule'], ['diff', '--before', *after[1:], '--after', *before[1:]], status,
-                   exchanged.encode())
+            expect(row['rule'], words, status, told.encode())
+            if 'after' in given:
+                exchanged = re.sub('^[+-]', lambda sign: '-+'['+-'.index(sign[0])], told, flags=re.M)
+                expect('%s Exchanged.' % row['rule'], ['diff', '--before', *given['after'][1:], '--after', *given['before'][1:]], status,
+                       exchanged.encode())
 
 
 def put_files(room, side, files):
@@ -327,6 +346,19 @@ def matrices(table):
                    ''.join(l + '\n' for l in page).encode(), given=export(*row['items']))
 
 
+def universes(table):
+    """Exports, each with the Universe document of its lists; over both the document and the matrix are as over the export alone."""
+    for row in table:
+        given, document = export(*row['items']), '\n'.join([*row['document'], '']).encode()
+        matrix = run(['matrix'], given)
+        checked('%s matrix' % row['rule'], matrix.returncode == 0 and matrix.stdout.endswith(b'end\n'), repr(matrix))
+        expect('%s universe' % row['rule'], ['universe'], 0, document, given=given)
+        with tempfile.TemporaryDirectory() as room:
+            both = put_files(room, 'both', [given.decode(), document.decode()])[1:]
+            expect('%s universe with the document' % row['rule'], ['universe', *both], 0, document)
+            expect('%s matrix with the document' % row['rule'], ['matrix', *both], 0, matrix.stdout)
+
+
 def documents(table):
     """Texts that are the whole input, each with the fault that refuses it; those without one are accepted."""
     for row in table:
@@ -344,6 +376,16 @@ def matrix_streams():
             ended = run(form, export(), stdout=full)
         got = (ended.returncode, ended.stderr)
         checked('%s on a full disk' % ' '.join(form), got == (2, b'rbacaudit: write failed after 0 bytes\n'), repr(ended))
+
+
+def universe_streams():
+    """Universes of inputs that are no list, of a missing file, and on a full disk."""
+    expect('a universe of a bad document', ['universe'], 2, err=b'rbacaudit: file 1: M2 not an object\n', given=b'[]')
+    expect('a universe of a missing file', ['universe', 'missing.json'], 2, err=b'rbacaudit: file 1: I1 read fault\n')
+    expect('a universe of too many grants', ['universe'], 2, err=b'rbacaudit: M11 too many grants\n', given=export(*many_grants(1001)))
+    with open('/dev/full', 'wb') as full:
+        ended = run(['universe'], export(), stdout=full)
+    checked('a universe on a full disk', (ended.returncode, ended.stderr) == (2, b'rbacaudit: write failed after 0 bytes\n'), repr(ended))
 
 
 def rules_streams():
@@ -377,7 +419,7 @@ def universe(**lists):
 
 
 def universe_limits():
-    """The most verbs, namespaces, users and targets, and one more of each."""
+    """The most verbs, namespaces, users and targets, and one more of each; a universe that a matrix refuses is printed."""
     verbs = ['v%d' % i for i in range(65536)]
     users = [{'user': verb} for verb in verbs]
     large = dict(status=2, err=b'rbacaudit: P4 universe too large\n')
@@ -392,12 +434,25 @@ def universe_limits():
     targets = {'resources': [{'resource': 'r%d' % i} for i in range(1000)], 'names': ['n%d' % i for i in range(1000)]}
     expect('1,000 resources by 1,000 names', ['matrix'], 0, b'end\n', given=universe(**targets))
     expect('the same and a URL', ['matrix'], given=universe(urls=['/x'], **targets), **large)
+    printed(verbs=verbs, urls=['x'])
+    printed(resources=[{'group': '', 'resource': resource, 'namespaced': True} for resource in ('', '/pods')])
+    printed(names=verbs * 2, principals=users, namespaces=verbs)
+
+
+def printed(**lists):
+    """The document of lists that replace all that follow from nothing."""
+    whole = {'principals': [], 'namespaces': [''], 'verbs': [], 'resources': [], 'names': [''], 'urls': [], **lists}
+    expect('a universe of %s' % ', '.join(map(str, lists)), ['universe'], 0, document_text(whole).encode(), given=universe(**lists))
+
+
+def many_grants(bindings):
+    """A thousand rules by so many bindings."""
+    return [cluster_role('r', [PODS] * 1000), *(binding('ClusterRoleBinding', 'b%04d' % i, 'ClusterRole', 'r') for i in range(bindings))]
 
 
 def limits():
     """A million grants, and one binding more."""
-    many = [cluster_role('r', [PODS] * 1000)]
-    many += [binding('ClusterRoleBinding', 'b%04d' % i, 'ClusterRole', 'r') for i in range(1001)]
+    many = many_grants(1001)
     expect('1,000 rules by 1,000 bindings', ALICE_GETS_PODS, 0, b'yes\n', given=export(*many[:-1]))
     lines = ('ClusterRoleBinding/b%04d\tClusterRole/r\tClusterRole/r\t%d\t1\t[get]\t[-]\t[pods]\t[]\t[]\n' % place
              for place in itertools.product(range(1000), range(1, 1001)))
@@ -410,6 +465,11 @@ def limits():
         expect('a million grants on both sides', ['diff', '--before', most, '--after', most], 0)
         for before, after in ((most, more), (more, most)):
             expect('more on one of them', ['diff', '--before', before, '--after', after], 2, err=b'rbacaudit: M11 too many grants\n')
+        last, bad = (put_files(room, name, [items])[1] for name, items in (('last', many[-1:]), ('bad', '[]')))
+        expect('a binding takes the place of another', ['diff', '--before', most, '--without', put_files(room, 'first', [many[1:2]])[1], '--with', last], 0)
+        for words, said in (([most, '--with', last], b'M11 too many grants'), ([more, '--without', last], b'M11 too many grants'),
+                            ([more, '--with', bad], b'M11 too many grants'), ([most, '--with', last, bad], b'file 3: M2 not an object')):
+            expect('more with a change: %s' % ' '.join(map(os.path.basename, words)), ['diff', '--before', *words], 2, err=b'rbacaudit: %s\n' % said)
 
 
 def ring():
@@ -430,6 +490,6 @@ def ring():
 
 
 if __name__ == '__main__':
-    sys.exit(tested(streams, help_and_usage, full_disk, little_memory, rows, matrix_streams, rules_streams, lint_streams,
+    sys.exit(tested(streams, help_and_usage, full_disk, little_memory, rows, matrix_streams, universe_streams, rules_streams, lint_streams,
                     limits, universe_limits, ring, transcripts, links_and_heads, spaced_bindings, loop_of_pages,
                     example_cluster))
