@@ -7,6 +7,8 @@ worked out by meaning.py, one after the other, without a thought of what decides
 docs/FORMATS.md says it: a `+` line has to stand for a request that is gained, and for none that after refuses; and for each
 request that is gained there has to be a line. The same with the sides exchanged. Last, the text has to be exactly the lines of
 the permissions that each side's bindings have and of which a request is gained or lost, in order, each with the first binding.
+Of a third of the pairs the side after isn't given: its objects are those before, less some that `--without` names, with some of
+`--with` put over; and with `--after` and these objects the answer has to be the same.
 `diff.py SEED COUNT` tries other pairs. The last line is `N passed, M failed`.
 """
 
@@ -19,7 +21,7 @@ import sys
 import tempfile
 
 from common import PROGRAM, V1BETA1, export
-from meaning import (binding_text, field, groups_of, is_named, key_of, name_matches, name_of,
+from meaning import (binding_text, changed, field, groups_of, is_named, key_of, name_matches, name_of,
                      ordered_bindings, path_matches, resource_matches, text_shown, word_matches)
 from pages import NAMES, RESOURCES, TEAMS, URLS, USERS, VERBS, bindings, roles, rule, some, subject
 
@@ -45,6 +47,26 @@ def pair(draw):
             draw.choice(EDITS)(draw, edited)
     draw.shuffle(edited)
     return (items, edited) if draw.random() < 0.5 else (edited, items)
+
+
+def change(draw):
+    """The items before, some that are taken away, and some that are put over; one of the two may be missing."""
+    before, other = pair(draw)
+    without = [like(draw, item) for item in some(draw, before + other, 4)] if draw.random() < 0.8 else []
+    over = some(draw, other, 4) if not without or draw.random() < 0.7 else []
+    return before, without, over
+
+
+def like(draw, item):
+    """An object of the same kind, namespace and name that says less; or one that differs in them, but for its name."""
+    other = copy.deepcopy(item)
+    if draw.random() < 0.3:
+        is_role = 'rules' in other
+        other['kind'] = draw.choice(['Role', 'ClusterRole'] if is_role else ['RoleBinding', 'ClusterRoleBinding'])
+        other['metadata']['namespace'] = draw.choice(['', 'default', 'dev', 'prod'])
+        if not is_role:
+            other['roleRef']['kind'] = 'ClusterRole'
+    return {**other, **({'rules': []} if 'rules' in other else {'subjects': []})}
 
 
 def small(draw):
@@ -79,7 +101,7 @@ def of_kind(draw, items, *parts):
 def role_name(item):
     """The name of the role that a binding refers to, or nothing."""
     wanted = item.get('roleRef')
-    home = item['metadata'].get('namespace') if wanted and wanted['kind'] == 'Role' else ''
+    home = name_of(item)[1] if wanted and wanted['kind'] == 'Role' else ''
     return wanted and (wanted['kind'], home, wanted['name'])
 
 
@@ -176,6 +198,13 @@ def move_binding(draw, items):
             bound['roleRef']['kind'] = 'ClusterRole'
 
 
+def leave_namespace(draw, items):
+    """An object is in the namespace `default`, which it names or doesn't."""
+    metadata = draw.choice(items)['metadata']
+    metadata.pop('namespace', None)
+    metadata.update(draw.choice([{}, {'namespace': ''}, {'namespace': 'default'}]))
+
+
 def edit_label(draw, items):
     role = of_kind(draw, items, 'ClusterRole')
     if role:
@@ -194,7 +223,7 @@ def write_older(draw, items):
 
 
 EDITS = [drop_item, add_binding, add_twice, edit_subjects, name_members, edit_rule, edit_rule, edit_rule, add_rule, split_rule,
-         join_rules, rename_role, rename_binding, move_binding, edit_label, aggregate, write_older]
+         join_rules, rename_role, rename_binding, move_binding, leave_namespace, edit_label, aggregate, write_older]
 
 
 # ---- the requests
@@ -373,10 +402,12 @@ def files_of(draw, items):
     return [export(*part) for part in ([items[:cut], items[cut:]] if cut else [items])]
 
 
-def told(draw, room, before, after):
-    """Status, output and error of the command, its words in one of their orders."""
+def told(draw, room, **sides):
+    """Status, output and error of the command, its words in one of their orders. An option without objects isn't given."""
     words = []
-    for side, items in (('before', before), ('after', after)):
+    for side, items in sides.items():
+        if not items and side in ('without', 'with'):
+            continue
         paths = []
         for number, text in enumerate(files_of(draw, items)):
             paths.append(os.path.join(room, '%s%d.json' % (side, number)))
@@ -385,22 +416,33 @@ def told(draw, room, before, after):
         option = '--' + side
         words.append([option, *paths] if draw.random() < 0.5 else [it for path in paths for it in (option, path)])
     draw.shuffle(words)
-    ended = subprocess.run([PROGRAM, 'diff', *words[0], *words[1]], stdin=subprocess.DEVNULL, stdout=subprocess.PIPE,
+    ended = subprocess.run([PROGRAM, 'diff', *itertools.chain(*words)], stdin=subprocess.DEVNULL, stdout=subprocess.PIPE,
                            stderr=subprocess.PIPE, timeout=60)
     return ended.returncode, ended.stdout.decode(), ended.stderr.decode()
+
+
+def asked(draw, number):
+    """What is given of a pair, by option, and the items after the change."""
+    if number % 3:
+        before, after = pair(draw)
+        return {'before': before, 'after': after}, after
+    before, without, over = change(draw)
+    return {'before': before, 'without': without, 'with': over}, changed(before, without, over)
 
 
 def tried(seed, number, room):
     """What is wrong with the answer about a pair, or nothing; its lines, and how many of them are gained."""
     draw = random.Random('%s %d' % (seed, number))
-    before, after = pair(draw)
-    status, out, err = told(draw, room, before, after)
-    wrong, gained = wrong_with(out, [[*ordered_bindings(before)], [*ordered_bindings(after)]])
+    given, after = asked(draw, number)
+    status, out, err = told(draw, room, **given)
+    wrong, gained = wrong_with(out, [[*ordered_bindings(given['before'])], [*ordered_bindings(after)]])
     if (status, err) != (1 if out else 0, ''):
         wrong = 'status %d, %r' % (status, err)
+    if 'after' not in given and told(draw, room, before=given['before'], after=after) != (status, out, err):
+        wrong = 'another answer with --after'
     if wrong:
-        print('FAIL pair %d of seed %s: %s; got %r; before %s after %s' % (
-            number, seed, wrong, out, export(*before).decode(), export(*after).decode()))
+        print('FAIL pair %d of seed %s: %s; got %r; %s' % (
+            number, seed, wrong, out, ' '.join('%s %s' % (side, export(*items).decode()) for side, items in given.items())))
     return bool(wrong), out.count('\n'), gained
 
 

@@ -91,8 +91,16 @@ def rules_of(role, cluster_roles):
 
 
 def name_of(item):
-    metadata = item['metadata']
-    return item['kind'], metadata.get('namespace', ''), metadata['name']
+    """The kind, namespace and name by which an object replaces another, or is taken away."""
+    kind, metadata = item['kind'], item['metadata']
+    has_namespace = kind in ('Role', 'RoleBinding', 'ServiceAccount')
+    return kind, (metadata.get('namespace') or 'default') if has_namespace else '', metadata['name']
+
+
+def changed(items, without, over):
+    """What a change makes of objects."""
+    names = {*map(name_of, without)}
+    return [item for item in items if name_of(item) not in names] + over
 
 
 def ordered_bindings(items):

@@ -4,13 +4,14 @@ every altered byte of tokens of both versions.
 Each export has plain and aggregated roles, bindings of both kinds, dangling ones too, and a Universe document with all six
 lists. Its matrix is worked out here by asking every request of every binding in turn, as docs/BEHAVIOUR.md says it. Then
 the program lists it whole, in pages of random sizes from token to token, and after the keys of requests and the names of
-bindings that mostly aren't there; all that with `--every` and without. The last universes are wide: 64, 65, 200 or 300 bindings
-meet in one of many namespaces. Last, in a token of each version each byte is replaced by every other ASCII one, and each
-prefix of it is tried.
+bindings that mostly aren't there; all that with `--every` and without, and with `--once` and without. The last universes are
+wide: 64, 65, 200 or 300 bindings meet in one of many namespaces, or most of 60 count in all of them. Last, in a token of each
+version each byte is replaced by every other ASCII one, and each prefix of it is tried.
 `pages.py SEED COUNT` tries other universes. The last line is `N passed, M failed`.
 """
 
 import base64
+import collections
 import itertools
 import random
 import re
@@ -93,19 +94,20 @@ def universe(draw):
             'urls': some(draw, URLS)}
 
 
-# How many bindings meet in one namespace in exports that are wide.
-MEETING = [64, 65, 200, 300]
+# How many bindings exports that are wide have, and how many of ten are RoleBindings, which mostly meet in one namespace. Where few
+# are, the rows of most namespaces are repeats alone.
+MEETING = [(64, 9.5), (65, 9.5), (200, 9.5), (300, 9.5), (60, 1)]
 
 
-def wide(draw, count):
-    """Roles of several rules, and so many RoleBindings in one namespace, each for another group, with a few elsewhere; and a
+def wide(draw, count, of_ten):
+    """Roles of several rules, and so many bindings, each for another group, with RoleBindings mostly in one namespace; and a
     universe of two users who are in many of these groups, over many namespaces."""
     teams = ['team%03d' % number for number in range(count)]
     items = [{'apiVersion': V1, 'kind': 'ClusterRole', 'metadata': {'name': name},
               'rules': [rule(draw, True) for _ in range(draw.randint(1, 5))]} for name in 'abcd']
     for number, team in enumerate(teams):
         metadata = {'name': 'b%03d' % number}
-        if draw.random() < 0.95:
+        if draw.random() * 10 < of_ten:
             metadata['namespace'] = 'dev' if draw.random() < 0.9 else 'ns%02d' % draw.randint(0, 9)
         items.append({'apiVersion': V1, 'kind': 'RoleBinding' if 'namespace' in metadata else 'ClusterRoleBinding', 'metadata': metadata,
                       'subjects': [{'kind': 'Group', 'name': team}], 'roleRef': {'kind': 'ClusterRole', 'name': draw.choice('abcd')}})
@@ -151,6 +153,25 @@ def firsts(rows):
     return [next(same) for _, same in itertools.groupby(rows, lambda row: row[:6])]
 
 
+def is_repeat(row):
+    """Whether `--once` leaves a row out: it has a namespace, and a ClusterRoleBinding grants it."""
+    return bool(row[1]) and row[6] == b'ClusterRoleBinding'
+
+
+class Form(collections.namedtuple('Form', 'every once')):
+    """Which rows a matrix lists: those of every binding that grants, or of the first; and with repeats or without."""
+
+    def words(self):
+        return ['--every'] * self.every + ['--once'] * self.once
+
+    def listed(self, rows):
+        rows = rows if self.every else firsts(rows)
+        return [row for row in rows if not (self.once and is_repeat(row))]
+
+
+FORMS = [Form(*flags) for flags in itertools.product((False, True), repeat=2)]
+
+
 def is_after(row, mark, is_every):
     """Whether a row comes after a mark, which has the six texts of a key, or a row's nine. Without a binding, and without
     `--every`, it does so if its key is greater."""
@@ -169,12 +190,12 @@ def token(mark):
     return base64.urlsafe_b64encode('\t'.join([version, *map(field, mark)]).encode('latin-1')).rstrip(b'=').decode()
 
 
-def page(rows, after, limit, is_every):
+def page(rows, after, limit, form):
     """What the program has to print, and the mark of its last line, if there is one."""
-    left = [row for row in (rows if is_every else firsts(rows)) if after is None or is_after(row, after, is_every)]
+    left = [row for row in form.listed(rows) if after is None or is_after(row, after, form.every)]
     shown = left if limit is None else left[:limit]
     lines = ['\t'.join([*map(field, row[:6]), binding_text(*(text.decode('latin-1') for text in row[6:]))]) for row in shown]
-    following = [row if is_every else row[:6] for row in shown[-1:] if len(shown) < len(left)]
+    following = [row if form.every else row[:6] for row in shown[-1:] if len(shown) < len(left)]
     lines += ['next\t' + token(mark) for mark in following] or ['end']
     return ''.join(line + '\n' for line in lines), following
 
@@ -187,8 +208,8 @@ def matrix_told(words, given=b''):
     return ended.returncode, ended.stdout.decode('latin-1'), ended.stderr.decode('latin-1')
 
 
-def listed(given, after, limit, is_every):
-    options = [['--every'] * is_every, ['--after', token(after)] if after else [], ['--limit', str(limit)] if limit else []]
+def listed(given, after, limit, form):
+    options = [form.words(), ['--after', token(after)] if after else [], ['--limit', str(limit)] if limit else []]
     return matrix_told([word for option in options for word in option], given)
 
 
@@ -211,7 +232,7 @@ def some_mark(draw, rows):
     return key + tuple(text.encode() for text in (kind, namespace, name)) if kind else key
 
 
-def walk(draw, items, lists, rows, is_every):
+def walk(draw, items, lists, rows, form):
     """The first page that isn't what it has to be, or nothing."""
     given = export(*items, lists)
     asked = [(None, None)] + [(some_mark(draw, rows), draw.choice([None, 1, 2, 5])) for _ in range(4)]
@@ -219,12 +240,12 @@ def walk(draw, items, lists, rows, is_every):
     while after and len(asked) < 40:
         limit = draw.randint(1, 2 + len(rows) // 3)
         asked.append((after[0], limit))
-        after = page(rows, after[0], limit, is_every)[1]
+        after = page(rows, after[0], limit, form)[1]
     for after, limit in asked:
-        wanted, got = (0, page(rows, after, limit, is_every)[0], ''), listed(given, after, limit, is_every)
+        wanted, got = (0, page(rows, after, limit, form)[0], ''), listed(given, after, limit, form)
         if got != wanted:
-            return 'after %r at most %r%s: wanted %r, got %r; %s' % (
-                after, limit, ', every binding' * is_every, wanted, got, given.decode())
+            return 'after %r at most %r %s: wanted %r, got %r; %s' % (
+                after, limit, ' '.join(form.words()), wanted, got, given.decode())
     return None
 
 
@@ -271,24 +292,23 @@ def altered(text):
                 yield text[:at] + chr(code) + text[at + 1:]
 
 
-def is_taken(text, rows, given, is_every):
-    """Whether the token is taken as it has to be. One that stands for no mark is refused in the same way in both forms, so
-    it is asked in one; any other is asked in both."""
+def is_taken(text, rows, given, form):
+    """Whether the token is taken as it has to be. One that stands for no mark is refused in the same way in each form, so
+    it is asked in one; any other is asked in all."""
     meant = mark_of(text)
     if meant is None:
-        return matrix_told(['--every'] * is_every + ['--after=' + text], given) == (2, '', 'rbacaudit: U4 bad token\n')
-    return all(matrix_told(['--every'] * both + ['--after=' + text], given) == (0, page(rows, meant, None, both)[0], '')
-               for both in (False, True))
+        return matrix_told([*form.words(), '--after=' + text], given) == (2, '', 'rbacaudit: U4 bad token\n')
+    return all(matrix_told([*each.words(), '--after=' + text], given) == (0, page(rows, meant, None, each)[0], '') for each in FORMS)
 
 
-def tokens(is_every):
+def tokens(form):
     """How many altered tokens of a form's version are taken as they have to be, and how many aren't; some of them have to be
     tokens of other marks."""
     rows, given = every([ROLE, *BINDINGS], THREE_VERBS), export(ROLE, *BINDINGS, THREE_VERBS)
-    texts = [*altered(token(rows[0] if is_every else rows[0][:6]))]
+    texts = [*altered(token(rows[0] if form.every else rows[0][:6]))]
     marks = sum(mark_of(text) is not None for text in texts)
-    wrong = [text for text in texts if not is_taken(text, rows, given, is_every)]
-    print('%d altered tokens of version %d, of which %d stand for another mark' % (len(texts), 1 + is_every, marks))
+    wrong = [text for text in texts if not is_taken(text, rows, given, form)]
+    print('%d altered tokens of version %d, of which %d stand for another mark' % (len(texts), 1 + form.every, marks))
     for text in wrong:
         print('FAIL token %r' % text)
     return len(texts) - len(wrong), len(wrong) + (not marks)
@@ -301,27 +321,31 @@ def drawn(seed, count):
         if number < count:
             items, lists = [*roles(draw), *bindings(draw)], universe(draw)
         else:
-            items, lists = wide(draw, MEETING[number - count])
+            items, lists = wide(draw, *MEETING[number - count])
         draw.shuffle(items)
         yield draw, items, lists
 
 
 def main(seed, count):
-    passed = failed = total = requests = 0
+    passed = failed = 0
+    counts = collections.Counter()
     for number, (draw, items, lists) in enumerate(drawn(seed, int(count))):
         rows = every(items, lists)
-        total, requests = total + len(rows), requests + len(firsts(rows))
-        for is_every in (False, True):
-            wrong = walk(draw, items, lists, rows, is_every)
+        for form in FORMS:
+            counts[form] += len(form.listed(rows))
+            wrong = walk(draw, items, lists, rows, form)
             passed, failed = passed + (not wrong), failed + bool(wrong)
             if wrong:
                 print('FAIL universe %d of seed %s: %s' % (number, seed, wrong))
-    if requests < 10 * int(count) or total < requests + int(count):
-        print('FAIL %d universes have no more than %d requests with %d rows of bindings' % (int(count), requests, total))
+    said = '%d requests and %d rows of bindings, of which %d and %d are left once' % tuple(
+        counts[form] for form in sorted(FORMS, key=lambda form: form.once))
+    requests, once, total, every_once = (counts[form] for form in FORMS)
+    if requests < 10 * int(count) or total < requests + int(count) or not all(2 * int(count) < it for it in (requests - once, once, total - every_once)):
+        print('FAIL %d universes have no more than %s' % (int(count), said))
         failed += 1
-    print('%d universes with %d requests and %d rows of bindings, walked page by page' % (int(count) + len(MEETING), requests, total))
-    for is_every in (False, True):
-        taken, wrong = tokens(is_every)
+    print('%d universes with %s, walked page by page' % (int(count) + len(MEETING), said))
+    for form in (Form(False, False), Form(True, True)):
+        taken, wrong = tokens(form)
         passed, failed = passed + taken, failed + wrong
     print('%d passed, %d failed' % (passed, failed))
     return 1 if failed else 0
