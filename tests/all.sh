@@ -1,7 +1,7 @@
 #!/usr/bin/env bash
 # The whole gate: each edit still fits, every proof, must-fail edit and test by `rt ci`, which wrong bodies a change wants
 # tried, what only a process can show, the kubectl plugin, completions and man page, the page in a browser, what make dist
-# packs, random matrices, rules and changes, bad documents, refused memory, reads and writes, and each public call by itself.
+# packs, random matrices, universes, rules and changes, bad documents, refused memory, reads and writes, and each public call by itself.
 # The last line counts all of it, as `N passed, M failed`; if a test skipped something that this machine lacks, the last line
 # but one says what.
 set -u
@@ -43,6 +43,7 @@ counted python3 tests/shells.py
 counted python3 tests/page.py
 counted python3 tests/dist.py
 counted python3 tests/pages.py
+counted python3 tests/universe.py
 counted python3 tests/rules.py
 counted python3 tests/diff.py
 counted python3 tests/memory.py
