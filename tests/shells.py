@@ -386,8 +386,12 @@ def of_words():
     yield 'rbacaudit rules ', []
     yield 'rbacaudit rules -n shop --groups a,b ', []
     yield 'rbacaudit rules u:system:serviceaccount:shop:ci -An shop --', ['--groups', '--group', '--help']
+    yield 'rbacaudit u', ['universe']
+    yield 'rbacaudit matrix --once --', ['--every', '--after', '--limit', '--help']
     yield 'rbacaudit d', ['diff']
-    yield 'rbacaudit diff --before a.json b.json --', ['--after', '--help']
+    yield 'rbacaudit diff --before a.json b.json --', ['--after', '--without', '--with', '--help']
+    yield 'rbacaudit diff --before a.json --without b.json --w', ['--with']
+    yield 'rbacaudit diff --before a.json --with=b.json --with', ['--without']
 
 
 # Lines that end in a FILE, where the folder has these. Only JSON files need be offered, and the folders that may have some.
@@ -400,6 +404,9 @@ OF_FILES = {
     'rbacaudit rules --groups dev u:system:serviceaccount:shop:ci a': {'a.json'},
     'rbacaudit matrix ': {'a.json', 'b.json', 'sub'},
     'rbacaudit matrix --limit 3 a.json b': {'b.json'},
+    'rbacaudit matrix --once a': {'a.json'},
+    'rbacaudit universe ': {'a.json', 'b.json', 'sub'},
+    'rbacaudit universe a.json sub/': {'sub/c.json'},
     'rbacaudit lint ': {'a.json', 'b.json', 'sub'},
     'rbacaudit lint sub/': {'sub/c.json'},
     'rbacaudit lint -- a': {'a.json'},
@@ -408,6 +415,8 @@ OF_FILES = {
     'rbacaudit diff --before a.json b': {'b.json'},
     'rbacaudit diff --before a.json b.json --after a.json ': {'a.json', 'b.json', 'sub'},
     'rbacaudit diff --after a.json --before sub/': {'sub/c.json'},
+    'rbacaudit diff --before a.json --with ': {'a.json', 'b.json', 'sub'},
+    'rbacaudit diff --before a.json --with b.json --without a': {'a.json'},
 }
 
 
