@@ -2,7 +2,7 @@
 
 A command begins with `$ `, and lines with `> ` right below carry it on; so what is printed never begins with these. The commands
 of a document run in order, in a copy of examples/ of its own: those of docs/RECIPES.md in cluster/, all others at the top. A
-command with sqlite3 or git is skipped where that isn't installed, and one with kubectl is run by a stand-in where there is none, or skipped
+command with sqlite3, jq or git is skipped where that isn't installed, and one with kubectl is run by a stand-in where there is none, or skipped
 where that can't read YAML; the last line but one says so.
 """
 
@@ -61,7 +61,7 @@ def transcripts():
 
 def shown(name, command, wanted, folder):
     """Whether the command prints in this folder what the document shows."""
-    for tool in ('sqlite3', 'git'):
+    for tool in ('sqlite3', 'jq', 'git'):
         if re.search(r'\b%s\b' % tool, command) and not shutil.which(tool):
             skipped(tool, 'commands of ' + name)
             return
