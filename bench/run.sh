@@ -69,16 +69,25 @@ measure_pages() {
         "$(least "$audit" matrix --limit 1000 "$file")" "$(least "$audit" matrix --limit 1000 --after "$late" "$file")"
 }
 
-# One line for what changes between two exports: how many lines, the time and memory, and the ratio to can-i over the first one.
+# One line for what a change does to an export: how many lines, the time and memory, and the ratio to can-i over the export. The
+# options that tell the change follow the file.
 measure_diff() {
-    local name=$1 before=$2 after=$3
+    local name=$1 before=$2
     local lines answer changes
-    lines=$("$audit" diff --before "$before" --after "$after" | wc -l)
+    shift 2
+    lines=$("$audit" diff --before "$before" "$@" | wc -l)
     answer=$(ask "$before")
-    changes=$(least "$audit" diff --before "$before" --after "$after")
+    changes=$(least "$audit" diff --before "$before" "$@")
     printf '%-44s %9d lines  can-i %5d ms  diff %5d ms %4d MB  ratio %s\n' "$name" "$lines" "$answer" "$changes" \
-        "$(($(python3 least.py --memory "$audit" diff --before "$before" --after "$after") / 1024))" \
+        "$(($(python3 least.py --memory "$audit" diff --before "$before" "$@") / 1024))" \
         "$(python3 -c "print('%.2f' % ($changes / max(1, $answer)))")"
+}
+
+# One line for the universe of an export: the lines of its document, the time beside can-i, and the memory.
+measure_universe() {
+    local name=$1 file=$2
+    printf '%-44s %9d lines  can-i %5d ms  universe %5d ms %4d MB\n' "$name" "$("$audit" universe "$file" | wc -l)" "$(ask "$file")" \
+        "$(least "$audit" universe "$file")" "$(($(python3 least.py --memory "$audit" universe "$file") / 1024))"
 }
 
 # One line for each shape of real clusters: its rows, the time of `matrix` over it, and the ratio to can-i over an export.
@@ -110,12 +119,15 @@ done
 typed_reader/build.sh "$room/typed_reader" 2> /dev/null || echo 'the typed Rust program is left out: its crates are not installed'
 python3 generate_export.py 10000 40000 400 7 "$room/export.json" > /dev/null
 measure_reading "reading, 10000 roles, 40000 bindings" "$room/export.json"
-measure_diff "diff, equal exports" "$room/export.json" "$room/export.json"
+measure_universe "universe, 10000 roles, 40000 bindings" "$room/export.json"
+measure_diff "diff, equal exports" "$room/export.json" --after "$room/export.json"
 python3 change_export.py bindings 100 "$room/export.json" "$room/changed.json"
-measure_diff "diff, a hundred changed bindings" "$room/export.json" "$room/changed.json"
+measure_diff "diff, a hundred changed bindings" "$room/export.json" --after "$room/changed.json"
+measure_diff "diff, the same put over" "$room/export.json" --with "$room/changed.json"
+measure_diff "diff, all taken away before" "$room/export.json" --without "$room/export.json" --with "$room/changed.json"
 measure_shapes "$room/export.json"
 python3 change_export.py names "$room/export.json" "$room/changed.json"
-measure_diff "diff, each binding renamed" "$room/export.json" "$room/changed.json"
+measure_diff "diff, each binding renamed" "$room/export.json" --after "$room/changed.json"
 python3 generate_export.py 4000 16000 200 9 "$room/export.json" > /dev/null
 python3 annotate_export.py "$room/export.json" "$room/annotated.json"
 measure_reading "reading, 4000 and 16000, annotated" "$room/annotated.json"
@@ -133,6 +145,7 @@ done
 python3 generate_export.py 200 800 20 1 "$room/export.json" > /dev/null
 measure_whole "whole matrix, 200 roles, 800 bindings" "$room/export.json"
 measure_whole "whole matrix, every granting binding" "$room/export.json" --every
+measure_whole "whole matrix, no repeats" "$room/export.json" --once
 python3 generate_export.py 1000 4000 100 1 "$room/export.json" > /dev/null
 measure_pages "pages, 1000 roles, 4000 bindings" "$room/export.json"
 for size in "4 20 60" "40 20 60" "4 200 60" "4 20 600"; do
