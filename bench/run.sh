@@ -90,9 +90,10 @@ measure_universe() {
         "$(least "$audit" universe "$file")" "$(($(python3 least.py --memory "$audit" universe "$file") / 1024))"
 }
 
-# One line for each shape of real clusters: its rows, the time of `matrix` over it, and the ratio to can-i over an export.
+# One line for each shape of real clusters: its rows, the time of `matrix` over it, and the ratio to can-i over an export; and the rows
+# and the time with --once.
 measure_shapes() {
-    local file=$1 universe name rows answer whole
+    local file=$1 universe name rows answer whole left once
     answer=$(ask "$file")
     mkdir "$room/shapes"
     (cd "$room/shapes" && python3 "$OLDPWD/generate_scale.py")
@@ -100,8 +101,10 @@ measure_shapes() {
         name=${universe%.universe.json}
         rows=$(($("$audit" matrix "$name.json" "$universe" | wc -l) - 1))
         whole=$(python3 least.py 3 "$audit" matrix "$name.json" "$universe")
-        printf '%-44s %9d rows  can-i %5d ms  matrix %5d ms  ratio %s\n' "${name##*/}" "$rows" "$answer" "$whole" \
-            "$(python3 -c "print('%.2f' % ($whole / max(1, $answer)))")"
+        left=$(($("$audit" matrix --once "$name.json" "$universe" | wc -l) - 1))
+        once=$(python3 least.py 3 "$audit" matrix --once "$name.json" "$universe")
+        printf '%-44s %9d rows  can-i %5d ms  matrix %5d ms  ratio %s  --once %9d rows %5d ms\n' "${name##*/}" "$rows" "$answer" "$whole" \
+            "$(python3 -c "print('%.2f' % ($whole / max(1, $answer)))")" "$left" "$once"
     done
 }
 
