@@ -3,10 +3,10 @@
 _rbacaudit_page() {
     COMPREPLY=()
     case ${COMP_WORDS[COMP_CWORD - 1]} in
-        --lint | --diff | --named) compopt -o default ;; # a FILE, which readline knows best
+        --lint | --diff | --named | --output) compopt -o default ;; # a FILE, which readline knows best
         --title) ;;
         *)
-            mapfile -t COMPREPLY < <(compgen -W '--lint --diff --named --title --watched -h --help' \
+            mapfile -t COMPREPLY < <(compgen -W '--lint --diff --named --title --output --watched -h --help' \
                 -- "${COMP_WORDS[COMP_CWORD]}")
             ;;
     esac

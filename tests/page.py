@@ -11,6 +11,7 @@ import os
 import pty
 import re
 import shutil
+import signal
 import subprocess
 import sys
 import tempfile
@@ -176,13 +177,27 @@ def watch_list():
         2, b"rbacaudit-page: the watch list can't be written: No space left on device\n"))
 
 
+ROW = 'u:ann\t-\tget\t-\tpods\t-\tClusterRoleBinding/b'
+
+
 def limits():
     """The most rows, and one more; a full disk; a filter without its files."""
-    row = 'u:ann\t-\tget\t-\tpods\t-\tClusterRoleBinding/b'
-    same('500,000 rows', made([row] * 500000)[::2], (0, ''))
-    status, out, err = got = made([row] * 500001)
-    checked('one more is refused, with what to do', (status, out) == (2, '')
-            and 'more than 500000 rows' in err and '"names": [""]' in err, repr(got))
+    same('500,000 rows', made([ROW] * 500000)[::2], (0, ''))
+    repeated, named = ROW.replace('-', 'dev', 1), ROW[::-1].replace('-', 'a', 1)[::-1]
+    for name, row, said in (
+            ('what holds in the whole cluster', repeated, 'matrix --once lists once'),
+            ('object names', named, '"names": [""]'),
+            ('nothing of these', ROW, 'kubectl rbacaudit page -n NS')):
+        status, out, err = got = made([row] + [ROW] * 500000)
+        checked('one more is refused, with what to do about %s' % name, (status, out) == (2, '')
+                and 'more than 500000 rows, too many for a page: ' in err and said in err
+                and err.count('\n') == 1, repr(got))
+    endless = subprocess.Popen(['yes', ROW], stdout=subprocess.PIPE)
+    ended = subprocess.run([sys.executable, FILTER], stdin=endless.stdout, stdout=subprocess.PIPE,
+                           stderr=subprocess.PIPE, timeout=60)
+    endless.stdout.close()
+    same('a pipe is read no further than that', (ended.returncode, ended.stdout), (2, b''))
+    same('and whoever writes into it ends', -endless.wait(60), signal.SIGPIPE)
     with open('/dev/full', 'wb') as full:
         ended = subprocess.run([sys.executable, FILTER], input=b'end\n', stdout=full,
                                stderr=subprocess.PIPE, timeout=60)
@@ -196,6 +211,52 @@ def limits():
                 and 'make install' in err, repr(got))
 
 
+def output():
+    """--output writes its file whole or not at all; nothing else in the folder changes."""
+    page = made(SMALL)[1]
+    with tempfile.TemporaryDirectory() as room:
+        path = os.path.join(room, 'access.html')
+
+        def left():
+            return {name: contents(room, name) for name in sorted(os.listdir(room))}
+
+        same('--output: a refusal', made(SMALL, '--output', path, last=None)[:2], (2, ''))
+        same('--output: no file is made for it', left(), {})
+        same('--output', made(SMALL, '--output', path), (0, '', ''))
+        same('--output: the file has the page', left(), {'access.html': page})
+        os.chmod(path, 0o640)
+        same('--output: again', made([], '--output', path), (0, '', ''))
+        same('--output: another page', (left(), os.stat(path).st_mode & 0o777),
+             ({'access.html': made([])[1]}, 0o640))
+        same('--output: a refusal again', made(SMALL, '--output', path, last=None)[:2], (2, ''))
+        same('--output: the file stays', left(), {'access.html': made([])[1]})
+        os.symlink('access.html', os.path.join(room, 'link'))
+        same('--output: a link', made(SMALL, '--output', os.path.join(room, 'link')), (0, '', ''))
+        same('--output: is followed', (os.readlink(os.path.join(room, 'link')), left()),
+             ('access.html', {'access.html': page, 'link': page}))
+        for given, said in ((room, 'is a folder: name a file in it'),
+                            (path + '/x', 'there is no folder ' + path)):
+            status, out, err = got = made(SMALL, '--output', given)
+            checked('--output: refused: %s' % said, (status, out) == (2, '') and said in err,
+                    repr(got))
+    same('--output: a full disk', made(SMALL, '--output', '/dev/full'), (
+        2, '', "rbacaudit-page: the page can't be written: No space left on device\n"))
+
+
+def drawn():
+    """On a terminal a line says how many rows were read, and goes away."""
+    with tempfile.TemporaryDirectory() as room:
+        ours, terminal = pty.openpty()
+        rows = ''.join([ROW + '\n'] * 50000 + ['end\n']).encode()
+        subprocess.run([sys.executable, FILTER, '--output', os.path.join(room, 'page')],
+                       input=rows, stderr=terminal, check=True, timeout=60)
+        os.close(terminal)
+        same('a line of progress', os.read(ours, 1000).decode().split('\r'),
+             ['', 'rbacaudit-page: 20,000 rows read', 'rbacaudit-page: 40,000 rows read', ' ' * 40,
+              ''])
+        os.close(ours)
+
+
 def terminals():
     """Nobody types rows, and nobody reads a page on a terminal."""
     for at in (0, 1):
@@ -206,7 +267,7 @@ def terminals():
         os.close(ours)
         os.close(streams[at])
         checked('a terminal as %d is refused' % at, ended.returncode == 2 and ended.stderr.endswith(
-            b'rbacaudit matrix *.json | rbacaudit-page > access.html\n'), repr(ended))
+            b'rbacaudit matrix --once *.json | rbacaudit-page --output access.html\n'), repr(ended))
 
 
 def told(*words, **how):
@@ -220,7 +281,7 @@ def helped():
     told_ = told(sys.executable, FILTER, '--help', env=dict(os.environ, COLUMNS='100'))
     options = dict(re.findall(r'^  (?:-h, )?--(\w+)(?: [A-Z]+)?  +(.*)$', told_, re.M))
     same('help: the options', [*options],
-         ['help', 'lint', 'diff', 'named', 'title', 'watched'])
+         ['help', 'lint', 'diff', 'named', 'title', 'output', 'watched'])
     man = contents('man', 'rbacaudit-page.1')
     same('man: the options', re.findall(r'^\.TP\n.*\\-\\-(\w+)\\fR', man, re.M), [*options])
     checked('man: the default of --title', 'Default: Who can do what.' in man)
@@ -230,7 +291,7 @@ def helped():
     zsh = contents('completions', '_rbacaudit-page')
     same('zsh: the options', dict(re.findall(r"--(\w+)=?\}?'?\[(.*?)\]", zsh)), options)
     path = os.path.join(TOP, 'completions', 'rbacaudit-page.bash')
-    for line, wanted in (('rbacaudit-page --', '--lint --diff --named --title --watched --help'),
+    for line, wanted in (('rbacaudit-page --', '--lint --diff --named --title --output --watched --help'),
                          ('rbacaudit-page --lint x --t', '--title'),
                          ('rbacaudit-page --named -', ''),
                          ('rbacaudit-page --title -', '')):
@@ -299,6 +360,6 @@ def colours():
 
 
 if __name__ == '__main__':
-    sys.exit(tested(written, no_markup, policy, refusals, watch_list, limits, terminals, helped,
-                    installed, plugin_pages, plugin_names, plugin_refusals, plugin_stale, colours,
+    sys.exit(tested(written, no_markup, policy, refusals, watch_list, limits, output, drawn,
+                    terminals, helped, installed, plugin_pages, plugin_names, plugin_refusals, plugin_stale, colours,
                     in_browser))
