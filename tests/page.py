@@ -17,7 +17,8 @@ import sys
 import tempfile
 
 from common import TOP, checked, skipped, tested
-from plugin_page import plugin_names, plugin_pages, plugin_refusals, plugin_stale
+from plugin_page import (plugin_files, plugin_names, plugin_pages, plugin_places, plugin_refusals,
+                         plugin_stale)
 from shown import in_browser
 from written import (CHANGES, FILTER, FINDINGS, NAMED, SMALL, Parts, contents, file_of, lines_in,
                      made, named_strangers, rows_of, same, strangers)
@@ -361,5 +362,5 @@ def colours():
 
 if __name__ == '__main__':
     sys.exit(tested(written, no_markup, policy, refusals, watch_list, limits, output, drawn,
-                    terminals, helped, installed, plugin_pages, plugin_names, plugin_refusals, plugin_stale, colours,
-                    in_browser))
+                    terminals, helped, installed, plugin_pages, plugin_names, plugin_places,
+                    plugin_files, plugin_refusals, plugin_stale, colours, in_browser))

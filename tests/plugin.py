@@ -123,7 +123,8 @@ def script():
 OWN = {('--export',): 'DIR', ('--partial',): '', ('--context',): 'NAME', ('--kubeconfig',): 'FILE',
        ('--request-timeout',): 'TIME'}
 HELP = ('-h', '--help')
-OF_PAGE = {('--every',): '', ('--title',): 'TEXT', ('--diff',): 'FILE'}
+OF_PAGE = {('-n', '--namespace'): 'NS', ('--output',): 'FILE', ('--title',): 'TEXT',
+           ('--diff',): 'FILE', ('--every',): ''}
 OF_READ = {('-n', '--namespace'): 'NS'}
 OF_DIFF = {('--with',): 'PATH', ('--without',): 'PATH', ('--from',): 'PATH', ('--to',): 'PATH', **OF_READ}
 OF_EXPORT = {('--force',): '', ('-n', '--namespace'): 'NS', ('--context',): 'NAME',
@@ -152,6 +153,7 @@ COMPLETED = [
     (['export', ''], [], FOLDERS), (['export', '--as-group', 'x', '--as-'], ['--as-group'],
                                     NOTHING), (['export', 'x', ''], [], NOTHING),
     (['page', '--title', ''], [], NOTHING), (['page', '--diff', ''], [], FILES),
+    (['page', '--output', ''], [], FILES), (['page', '-n', ''], [], NOTHING),
     (['page', ''], [], FILES),
     (['diff', ''], [], NOTHING), (['diff', '--with', ''], [], FILES), (['diff', '--to', ''], [], FILES), (['diff', '--without='], [], FILES),
     (['read', ''], [], FILES), (['read', '-n', ''], [], NOTHING),

@@ -11,7 +11,7 @@ import subprocess
 
 from common import PROGRAM, V1
 from plugin_questions import stale_roles
-from plugin_room import CAUTION, PLUGIN, RBAC, REFUSAL, in_each_shell, served
+from plugin_room import CAUTION, NO_SPACE, PLUGIN, RBAC, REFUSAL, in_each_shell, served
 from written import FILTER, Parts, lines_in
 
 TITLE = 'Who can do what'
@@ -86,6 +86,13 @@ def lines_of(it, *words):
     return it.run(*words)[1].splitlines()
 
 
+def once(rows):
+    """The rows of a plain matrix that --once leaves, by its definition."""
+    fields = [row.split('\t') for row in rows]
+    return ['\t'.join(row) for row in fields
+            if row[1] == '-' or not row[6].startswith('ClusterRoleBinding/')]
+
+
 def exported(it):
     """Makes an export with files beside it. The rows of its universe, those of every binding with
     one more, and its findings."""
@@ -99,9 +106,11 @@ def exported(it):
     *every, _ = lines_of(it, 'matrix', '--every', '--export', 'prod', 'universe.json', 'again.json')
     it.write('+\t%s\n' % rows[0], 'chan ges')
     findings = lines_of(it, 'lint', '--export', 'prod')
-    it.checked('there is something to show', len(every) > len(rows) > 5 and findings,
+    listed = once(rows), once(every)
+    it.checked('there is something to show, and to leave out',
+               len(rows) > len(listed[0]) > 5 and len(listed[1]) > len(listed[0]) and findings,
                (len(every), len(rows), findings))
-    return rows, every, findings
+    return *listed, findings
 
 
 @in_each_shell
@@ -175,6 +184,8 @@ def plugin_refusals(it):
                        (['--diff', 'a', '--diff', 'b'], '--diff is given twice'),
                        (['--diff', 'nothing'], "can't read nothing"),
                        (['--title', '--every'], '--title needs a value'),
+                       (['--output', 'a', '--output=b'], '--output is given twice'),
+                       (['-n'], '-n needs a value'), (['-n', 'a', '-nb'], '-n is given twice'),
                        (['--export', 'nothing'], 'there is no folder nothing')):
         status, out, err = got = it.run('page', *line)
         it.checked('refused: page %s' % ' '.join(line),
@@ -186,8 +197,8 @@ def plugin_refusals(it):
     os.close(ours)
     os.close(terminal)
     it.checked('refused: a page on a terminal', (ended.returncode, ended.stderr) == (
-        2, b'kubectl-rbacaudit: the page goes into a file: kubectl rbacaudit page > access.html\n'),
-        ended)
+        2, b'kubectl-rbacaudit: the page goes into a file: '
+        b'kubectl rbacaudit page --output access.html\n'), ended)
     it.checked('nothing was read for it', not it.lines('calls'), 'a call')
     it.checked('help', '--every' in it.run('page', '--help')[1], 'no help')
     it.expect('rows as changes', ['page', '--export', 'prod', '--diff', 'my verbs.json'], 2, '',
@@ -202,6 +213,67 @@ def plugin_refusals(it):
     status, out, err = got = it.run('page', '--export', 'prod')
     it.checked('without rbacaudit-page',
                (status, out) == (2, '') and 'there is no rbacaudit-page on the PATH' in err, got)
+
+
+@in_each_shell
+def plugin_places(it):
+    """The page of one namespace has its rows and those of the whole cluster; also where a Universe
+    document of one's own has others. A namespace that isn't there is reported."""
+    rows, _, _ = exported(it)
+    it.write(json.dumps({**GETS, 'namespaces': ['shop-staging']}), 'mine.json')
+    for line, namespace, verbs in ((['-n', 'shop'], 'shop', None),
+                                   (['--namespace=shop-staging'], 'shop-staging', None),
+                                   (['-nshop', 'mine.json'], 'shop', ['get'])):
+        wanted = [row for row in rows if row.split('\t')[1] in ('-', namespace)
+                  and (verbs is None or row.split('\t')[2] in verbs)]
+        it.checked('%s has rows of both kinds' % line,
+                   {row.split('\t')[1] for row in wanted} == {'-', namespace}, wanted)
+        status, out, err = got = it.run('page', '--export', 'prod', *line)
+        it.checked('page %s' % ' '.join(line), (status, err) == (0, '')
+                   and on_page(out)[1] == wanted, repr(got)[:2000])
+    odd = 'no"such\\ pl\tace'
+    status, out, err = got = it.run('page', '--export', 'prod', '-n', odd)
+    it.checked('a namespace that is not there', (status, err) == (
+        0, NO_SPACE % odd) and {row.split('\t')[1] for row in on_page(out)[1]} == {'-'},
+        repr(got)[:2000])
+    it.run('export', '-n', 'shop', 'part')
+    status, out, err = got = it.run('page', '--export', 'part', '-n', 'shop')
+    it.checked('of an export of that namespace', (status, err) == (0, '') and out,
+               repr(got)[:2000])
+    it.expect('of an export of another', ['page', '--export', 'part', '-n', 'shop-staging'], 2, '',
+              'kubectl-rbacaudit: the export has the namespace shop alone\n' + REFUSAL)
+
+
+# The program, but a matrix is endless, or ends with a fault, or with rows alone.
+NO_MATRIX = """#!/bin/sh
+[ "$1" != matrix ] || [ "$2" != --once ] || { %s; }
+exec '%s' "$@"
+"""
+ENDLESS = "exec yes 'u:ann	-	get	-	pods	-	ClusterRoleBinding/b'"
+FAULTY = "echo 'rbacaudit: file 2: P4 universe too large' >&2; exit 2"
+CUT = "printf 'u:ann\t-\tget\t-\tpods\t-\tClusterRoleBinding/b\n'; exit 137"
+
+
+@in_each_shell
+def plugin_files(it):
+    """--output writes its file whole or not at all: not where there are too many rows, which are
+    read through a pipe, or a matrix has failed."""
+    exported(it)
+    it.run('page', '--export', 'prod', '--output', 'whole.html')
+    it.checked('--output writes the page', it.read('whole.html')
+               == it.run('page', '--export', 'prod')[1], 'another page')
+    for name, body, said in (
+            ('too many rows', ENDLESS, 'rbacaudit-page: there are more than 500000 rows'),
+            ('a fault of the matrix', FAULTY, 'kubectl-rbacaudit: file 2 is my verbs.json\n'),
+            ('a matrix that is cut off', CUT, 'rows may be missing')):
+        os.remove(os.path.join(it.bin, 'rbacaudit'))
+        it.write(NO_MATRIX % (body, PROGRAM), it.at('bin'), 'rbacaudit')
+        os.chmod(os.path.join(it.bin, 'rbacaudit'), 0o755)
+        status, out, err = got = it.run('page', '--export', 'prod', '--output', 'new.html',
+                                        'my verbs.json')
+        it.checked(name, (status, out) == (2, '') and said in err and 'write failed' not in err,
+                   got)
+        it.checked('%s: no file' % name, 'new.html' not in it.files('.'), it.files('.'))
 
 
 @in_each_shell

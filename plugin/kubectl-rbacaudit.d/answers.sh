@@ -100,7 +100,7 @@ look_for_other() {
         who-can,noyes,*)
             report "the export has the namespace $only alone, and this answer knows no other"
             ;;
-        can-i,* | who-can,* | rules,yesno,* | rules,nono,?*)
+        can-i,* | who-can,* | rules,yesno,* | rules,nono,?* | matrix,*,?*)
             [ -z "$asked_in" ] || [ "$asked_in" = "$only" ] ||
                 "$1" "the export has the namespace $only alone"
             ;;
@@ -164,11 +164,18 @@ with_files() {
 ask() {
     run_shown rbacaudit "$@" 2>"$scratch/said"
     answered=$?
+    report_fault "$@"
+    return "$answered"
+}
+
+# Reports the fault that rbacaudit has ended with, of a call with these words.
+report_fault() {
+    [ -s "$scratch/said" ] || return 0
+    erase_progress
     cat "$scratch/said" >&2
     number=$(sed -n 's/^rbacaudit: file \([0-9][0-9]*\)[: ].*/\1/p' "$scratch/said")
     item=$(sed -n 's/^rbacaudit: file [0-9]* item \([0-9][0-9]*\): .*/\1/p' "$scratch/said")
     [ -z "$number" ] || name_file "$number" "$@"
-    return "$answered"
 }
 
 # The command itself is the first place; VERB and TARGET are two more, and WHO is one.

@@ -6,9 +6,9 @@
 take_page() {
     case $1 in
         --every) every=--every ;;
-        --title | --diff) option=$1 ;;
-        --title=* | --diff=*) set_option "${1%%=*}" "${1#*=}" ;;
-        *) take_own "$1" ;;
+        --title | --diff | --output) option=$1 ;;
+        --title=* | --diff=* | --output=*) set_option "${1%%=*}" "${1#*=}" ;;
+        *) take_namespace "$1" || take_own "$1" ;;
     esac
 }
 
@@ -43,7 +43,8 @@ page_command() {
 
 # Makes the page, with the FILEs in the words.
 make_page() {
-    [ ! -t 1 ] || refuse 'the page goes into a file: kubectl rbacaudit page > access.html'
+    [ -n "$output" ] || [ ! -t 1 ] ||
+        refuse 'the page goes into a file: kubectl rbacaudit page --output access.html'
     need_rbacaudit
     need rbacaudit-page 'make install in its repository puts it beside this plugin'
     check_options
@@ -55,27 +56,67 @@ make_page() {
     type=
     look_at_about
     choose_namespace
+    asked_in=$only_in
+    only_in=
     parts_of matrix
     open_export
+    [ -z "$asked_in" ] || check_place
     write_page "$@"
+}
+
+# Reports a namespace after -n that the export doesn't have.
+check_place() {
+    is_there namespaces.json 2 "$asked_in" '"principals": [{"user": "probe"}]' ||
+        report "the export has no namespace $asked_in: check the spelling"
 }
 
 # Writes the page of the export that is open, and of the FILEs in the words.
 write_page() {
     all=$needed
     make_universe >"$scratch/universe.json"
-    reads=$all
-    with_files ask matrix ${every:+"$every"} -- "$scratch/universe.json" "$@" >"$scratch/matrix" ||
-        exit "$answered"
     reads='cluster.json namespaced.json'
-    with_files ask lint -- "$@" >"$scratch/findings"
+    with_files ask lint -- "$scratch/universe.json" "$@" >"$scratch/findings"
     [ "$answered" -le 1 ] || exit "$answered"
     write_named "$@"
     remark_on_page
+    write_place >"$scratch/place.json"
+    mkfifo "$scratch/matrix" || refuse "can't write into $scratch"
+    reads=$all
+    set -- matrix --once ${every:+"$every"} -- "$scratch/universe.json" "$@" "$scratch/place.json"
+    with_files begin_rows "$@"
     # (run gives a command what is open as 3)
     run rbacaudit-page --lint "$scratch/findings" --named "$scratch/named" ${diff:+"--diff=$diff"} \
-        ${title:+"--title=$title"} 3<"$scratch/matrix"
-    exit
+        ${title:+"--title=$title"} ${output:+"--output=$output"} 3<"$scratch/matrix"
+    written=$?
+    [ "$written" -eq 0 ] || with_files end_rows "$@"
+    exit "$written"
+}
+
+# Prints a Universe document of the namespace after -n, and of the whole cluster: without -n, one that
+# says nothing.
+write_place() {
+    LC_ALL=C NAMED=$asked_in awk "$FIELD$JSON_TEXT"'
+        BEGIN {
+            if (ENVIRON["NAMED"] != "")
+                place = ", \"namespaces\": [\"\", " json_text(printed(ENVIRON["NAMED"])) "]"
+            print "{\"apiVersion\": \"rbacaudit/v1\", \"kind\": \"Universe\"" place "}"
+        }'
+}
+
+# Begins to run rbacaudit, which writes into the pipe $scratch/matrix while the page reads from it.
+begin_rows() {
+    rbacaudit "$@" <&3 >"$scratch/matrix" 2>"$scratch/said" 3<&- 4<&- &
+    rows_process=$!
+    children="$children$rows_process "
+    noted=$!
+}
+
+# Reports a fault that ended the rows; none is that the page took no more of them.
+end_rows() {
+    wait "$rows_process"
+    children=${children%"$rows_process "}
+    ! grep -q '^rbacaudit: write failed' "$scratch/said" || return 0
+    report_fault "$@"
 }
 
 # Writes to $scratch/named who may do what is on the watch list only to objects of certain names:
@@ -90,9 +131,14 @@ write_named() {
     : >"$scratch/outright"
     : >"$scratch/any"
     reads='cluster.json namespaced.json api'
+    asked=0
+    total=$(grep -c '' "$scratch/pairs")
     while IFS=$(printf '\t') read -r category verb group resource <&4; do
+        asked=$((asked + 1))
+        draw_progress "asking about object names, $asked of $total"
         with_files ask_pair "$@"
     done 4<"$scratch/pairs"
+    erase_progress
     LC_ALL=C awk -F '\t' '
         function place(binding,    parts) {
             return binding ~ /^Cluster/ ? "" : split(binding, parts, "/") == 3 ? parts[2] : binding
@@ -162,16 +208,20 @@ page_usage() {
     cat <<'EOT'
 Write everything about the export as one HTML file, which any current browser opens.
 
-  kubectl rbacaudit page [--title TEXT] [--diff FILE] [--every] [FILE].. > access.html
+  kubectl rbacaudit page [-n NS] [--output FILE] [--title TEXT] [--diff FILE] [--every] [FILE]..
 
-  --title TEXT  the title of the page
-  --diff FILE   changes to show beside, as rbacaudit diff writes them
-  --every       rows for every binding that grants, not only for the first
+  --output FILE  write the page into this file, whole or not at all; without it the page goes to
+                 standard output
+  -n NS          the page of one namespace: its rows, and those of the whole cluster
+  --title TEXT   the title of the page
+  --diff FILE    changes to show beside, as rbacaudit diff writes them
+  --every        rows for every binding that grants, not only for the first
 
-The rows are those of matrix, over the universe that kubectl rbacaudit universe writes: without
-object names. A FILE may be a Universe document of your own; each of its fields replaces one of
-that universe. The findings of lint are shown beside. The watch list counts apart who may do
-something on it only to objects of certain names, whatever a Universe document says.
+The rows are those of matrix --once, over the universe that kubectl rbacaudit universe writes:
+without object names. What holds in the whole cluster is listed once, and the page shows it in each
+namespace. A FILE may be a Universe document of your own; each of its fields replaces one of that
+universe. The findings of lint are shown beside. The watch list counts apart who may do something
+on it only to objects of certain names, whatever a Universe document says.
 
 --export, --partial, --context, --kubeconfig and --request-timeout mean what
 kubectl rbacaudit --help says.

@@ -109,8 +109,12 @@ note_missing() {
 
 # On a terminal, a line says how far the reading is, and goes away.
 show_progress() {
+    draw_progress "reading the cluster, $settled of $total"
+}
+
+draw_progress() {
     [ -t 2 ] || return 0
-    printf '\rkubectl-rbacaudit: reading the cluster, %s of %s' "$settled" "$total" >&2
+    printf '\rkubectl-rbacaudit: %s' "$1" >&2
     drawn=yes
 }
 

@@ -124,6 +124,17 @@ take_own() {
     esac
 }
 
+# The same for the namespace of a page or an export.
+take_namespace() {
+    case $1 in
+        -n | --namespace) option=$1 ;;
+        --namespace=*) set_option --namespace "${1#*=}" ;;
+        -n=*) set_option -n "${1#-n=}" ;;
+        -n*) set_option -n "${1#-n}" ;;
+        *) return 1 ;;
+    esac
+}
+
 # An empty value is refused: from an unset variable, it would ask another cluster than was meant.
 set_option() {
     [ -n "$2" ] || refuse "$1 needs a value"
@@ -138,6 +149,7 @@ set_option() {
         --as-group) as_groups=$as_groups$2$NEWLINE ;;
         --title) refuse_second "$1" "$title" && title=$2 ;;
         --diff) refuse_second "$1" "$diff" && diff=$2 ;;
+        --output) refuse_second "$1" "$output" && output=$2 ;;
     esac
     option=
 }
