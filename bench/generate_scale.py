@@ -1,4 +1,5 @@
-"""Writes exports of shapes that real clusters have, each with its Universe document, into the current folder.
+"""Writes exports of shapes that real clusters have, each with its Universe document, into the current folder: all of them, or
+with the words SHAPE N one.
 
 accounts-N: N namespaces, two accounts in each, and two ClusterRoleBindings for everybody who signs in, 30 verbs.
 groups-N: 100 users of 100 groups each in N namespaces, and five ClusterRoleBindings for each, 20 verbs.
@@ -6,9 +7,11 @@ given-N: the same with N groups each, in 500 namespaces.
 bindings-N: N RoleBindings in one namespace, each for another group that all of 20 users are in.
 names-N: one rule of N object names, and so a universe of as many.
 rules-N: an aggregated role of N rules, bound in 20 namespaces and once in the whole cluster.
+admins-N: six who may do all in the whole cluster, N namespaces, and in each an account and a group with roles of their own.
 """
 
 import json
+import sys
 
 GROUP = 'rbac.authorization.k8s.io'
 API_VERSION = GROUP + '/v1'
@@ -101,10 +104,30 @@ def rules(count):
     write('rules-%d' % count, items)
 
 
+def admins(count):
+    verbs = ['get', 'list', 'watch', 'create', 'update', 'patch', 'delete', 'deletecollection', 'bind', 'escalate', 'impersonate']
+    kinds = [('', 'pods'), ('', 'secrets'), ('', 'configmaps'), ('', 'services'), ('apps', 'deployments'), ('apps', 'statefulsets'),
+             ('batch', 'jobs'), *(('op%02d.io' % (at // 4), 'kind%02d' % at) for at in range(103))]
+    edit = [rule(verbs[:7], [name for of, name in kinds[:30] if of == group], group) for group in dict(kinds[:30])]
+    items = [role('all', rule(['*'], ['*'], '*')), role('edit', *edit), role('view', rule(['get', 'list', 'watch'], ['pods', 'services']))]
+    items += [binding('admin%d' % number, 'all', [subject('User', 'admin%d@example.com' % number)]) for number in range(6)]
+    for number in range(count):
+        namespace = 'team-%04d' % number
+        account = {'kind': 'ServiceAccount', 'name': 'ci', 'namespace': namespace}
+        items += [{**item('Namespace', namespace), 'apiVersion': 'v1'}, binding('edit', 'edit', [account], namespace),
+                  binding('view', 'view', [subject('Group', 'team-%04d' % number)], namespace)]
+    cluster_wide = [('', 'nodes'), ('', 'namespaces'), (GROUP, 'clusterrolebindings')]
+    write('admins-%d' % count, items, verbs=verbs, names=[''], resources=[
+        {'group': of, 'resource': name, 'namespaced': (of, name) not in cluster_wide} for of, name in [*kinds, *cluster_wide]])
+
+
 def main():
+    if sys.argv[1:]:
+        globals()[sys.argv[1]](int(sys.argv[2]))
+        return
     for shape, counts in ((accounts, (500, 1000, 2000)), (groups, (500, 1000)), (given, (200, 400)),
                           (bindings, (64, 65, 128, 200, 256, 400, 800)), (names, (10_000, 20_000, 40_000)),
-                          (rules, (250, 500, 1000))):
+                          (rules, (250, 500, 1000)), (admins, (51, 421))):
         for count in counts:
             shape(count)
 

@@ -1,5 +1,7 @@
 'use strict';
 
+const PAGE = JSON.parse(document.getElementById('data').textContent);
+
 // What the page holds. Rows are coded by tables of words: each field has the list of its words and
 // a column of places in it. A word
 // stays spelled as `matrix` prints it, so a copied or saved row is the matrix's own line; what is

@@ -1,7 +1,5 @@
 // What follows from the rows: who has how much, and who has what is worth watching.
 
-const PAGE = JSON.parse(document.getElementById('data').textContent);
-
 // What to watch: pairs of verbs and types, some in the whole cluster alone, since no server asks
 // about them in a namespace. A type with /* stands for all its subresources. The last one has no
 // pairs: it is about all that the page lists.
@@ -28,12 +26,13 @@ class Watch {
         this.rows = rows;
         this.pairs = WATCHED.flatMap((watched, at) =>
             watched.pairs.map(([verbs, types, where]) => ({bit: 1 << at, verbs, types, where})));
-        this.cluster = rows.words.namespace.indexOf('-');
         this.verbs = rows.words.verb.map(word =>
             places(this.pairs, pair => pair.verbs.includes(textOf(word))));
         this.targets = new Map();
         this.stars = rows.words.verb.map(word => word === '*');
-        this.everything = this.whoHasEverything();
+        this.common = rows.words.verb.map(word => letterAt(word) < LETTERS.length);
+        this.commonVerbs = this.common.filter(is => is).length;
+        this.countCommon();
     }
 
     // Which pairs have the type of a row, as bits.
@@ -47,11 +46,12 @@ class Watch {
         return this.targets.get(key);
     }
 
-    // Which categories a row belongs to, as bits.
-    of(row) {
-        const {who, namespace, verb} = this.rows.columns;
+    // Which categories a row belongs to in a namespace where it holds, or in the whole cluster, as
+    // bits.
+    of(row, namespace) {
+        const {who, verb} = this.rows.columns;
         const held = this.verbs[verb[row]] & this.typePairs(row);
-        const isInCluster = namespace[row] === this.cluster;
+        const isInCluster = namespace === EVERYWHERE.cluster;
         let found = 0;
         for (let at = 0; held >> at; at++) {
             const {bit, where} = this.pairs[at];
@@ -59,42 +59,78 @@ class Watch {
         }
         const isStar = this.stars[verb[row]] || this.rows.word(row, 'resource') === '*'
             || this.rows.word(row, 'group') === '*';
-        return isStar || this.everything.has(this.scope(who[row], namespace[row]))
-            ? found | EVERYTHING : found;
+        return isStar || this.hasEverything(who[row], namespace) ? found | EVERYTHING : found;
     }
 
     scope(who, namespace) {
         return who * this.rows.words.namespace.length + namespace;
     }
 
-    // The scopes (a principal in a namespace, or in the whole cluster) with every verb on every
-    // type that has rows there. A page of one verb or one type doesn't tell.
-    whoHasEverything() {
-        const {rows} = this;
-        const held = new Map();
-        const types = rows.words.namespace.map(() => new Set());
-        for (let row = 0; row < rows.length; row++) {
-            const resource = rows.word(row, 'resource');
-            if (rows.word(row, 'name') === '-' && !resource.startsWith('/') && !rows.repeats(row)) {
-                const {who, namespace} = rows.columns;
-                const scope = this.scope(who[row], namespace[row]);
-                held.set(scope, (held.get(scope) || 0) + 1);
-                types[namespace[row]].add(keyOfType(row, rows));
+    // Counts, for hasEverything, requests for common verbs on types: in the whole cluster, everywhere,
+    // and in each namespace those that don't hold everywhere.
+    countCommon() {
+        this.cluster = {held: new Map(), types: new Set()};
+        this.everywhere = {held: new Map(), types: new Set()};
+        this.inside = {held: new Map(), types: this.rows.words.namespace.map(() => new Set())};
+        const counted = [];
+        for (let row = 0; row < this.rows.length; row++) {
+            if (this.isCounted(row)) {
+                counted.push(row);
             }
         }
-        const verbs = rows.words.verb.length;
-        const isAll = (scope, count) => {
-            const there = types[scope % types.length].size;
-            return verbs > 1 && there > 1 && count === verbs * there;
-        };
-        return new Set([...held].filter(([scope, count]) => isAll(scope, count))
-            .map(([scope]) => scope));
+        const {namespace} = this.rows.columns;
+        const isInside = row => namespace[row] !== EVERYWHERE.cluster;
+        counted.filter(row => !isInside(row)).forEach(row => this.countInCluster(row));
+        counted.filter(isInside).forEach(row => this.countInside(row));
     }
-}
 
-// A number for the type of a row.
-function keyOfType(row, rows = ROWS) {
-    return rows.columns.group[row] * rows.words.resource.length + rows.columns.resource[row];
+    isCounted(row) {
+        return this.common[this.rows.columns.verb[row]] && this.rows.word(row, 'name') === '-'
+            && !this.rows.word(row, 'resource').startsWith('/') && !this.rows.repeats(row);
+    }
+
+    // A number for the verb and the type of a row.
+    use(row) {
+        return keyOfType(row, this.rows) * this.rows.words.verb.length
+            + this.rows.columns.verb[row];
+    }
+
+    countInCluster(row) {
+        const who = this.rows.columns.who[row];
+        for (const {held, types} of EVERYWHERE.holds(row) ? [this.cluster, this.everywhere]
+            : [this.cluster]) {
+            if (!held.has(who)) {
+                held.set(who, new Set());
+            }
+            held.get(who).add(this.use(row));
+            types.add(keyOfType(row, this.rows));
+        }
+    }
+
+    countInside(row) {
+        const who = this.rows.columns.who[row];
+        const namespace = this.rows.columns.namespace[row];
+        const type = keyOfType(row, this.rows);
+        if (!this.everywhere.types.has(type)) {
+            this.inside.types[namespace].add(type);
+        }
+        if (!this.everywhere.held.get(who)?.has(this.use(row))) {
+            const scope = this.scope(who, namespace);
+            this.inside.held.set(scope, (this.inside.held.get(scope) || 0) + 1);
+        }
+    }
+
+    // Whether somebody has every common verb on every type that has rows there: in a namespace, or in
+    // the whole cluster. A page of one verb or one type doesn't tell.
+    hasEverything(who, namespace) {
+        const isInCluster = namespace === EVERYWHERE.cluster;
+        const {held, types} = isInCluster ? this.cluster : this.everywhere;
+        const all = types.size
+            + (isInCluster ? 0 : this.inside.types[namespace]?.size || 0);
+        const count = (held.get(who)?.size || 0)
+            + (isInCluster ? 0 : this.inside.held.get(this.scope(who, namespace)) || 0);
+        return this.commonVerbs > 1 && all > 1 && count === this.commonVerbs * all;
+    }
 }
 
 function places(list, test) {
@@ -103,31 +139,32 @@ function places(list, test) {
 
 // A principal without rows yet. Namespaces and bindings are sets of places in their words.
 function principal(word) {
-    return {word, rows: [], permissions: 0, cluster: 0, watched: 0, namespaces: new Set(),
-        bindings: new Set(), watchedAt: new Map(), named: [], onlyNamed: 0};
+    return {word, rows: [], permissions: 0, cluster: 0, watched: 0, isEverywhere: false,
+        namespaces: new Set(), bindings: new Set(), watchedAt: new Map(), named: [], onlyNamed: 0};
 }
 
-// Each principal that has a row: its rows' places and counts.
-function principalsOf(rows, watch) {
-    const found = rows.words.who.map(word => principal(word));
-    const cluster = rows.words.namespace.indexOf('-');
-    for (let row = 0; row < rows.length; row++) {
-        const it = found[rows.columns.who[row]];
-        const namespace = rows.columns.namespace[row];
+// Each principal that has a row in a scope: its rows' places and counts.
+function principalsOf(scope) {
+    const found = ROWS.words.who.map(word => principal(word));
+    const {who, namespace, binding} = ROWS.columns;
+    for (const row of scope.rows) {
+        const it = found[who[row]];
+        const place = scope.placeOf(row);
         it.rows.push(row);
-        it.bindings.add(rows.columns.binding[row]);
-        if (!rows.repeats(row)) {
+        it.bindings.add(binding[row]);
+        if (!ROWS.repeats(row) && !scope.again.has(row)) {
             it.permissions++;
-            it.cluster += namespace === cluster ? 1 : 0;
+            it.cluster += place === '-' ? 1 : 0;
         }
-        if (namespace !== cluster) {
-            it.namespaces.add(namespace);
+        it.isEverywhere ||= EVERYWHERE.follows(row);
+        if (namespace[row] !== EVERYWHERE.cluster) {
+            it.namespaces.add(namespace[row]);
         }
-        const bits = watch.of(row);
+        const bits = scope.watched(row);
         it.watched |= bits;
-        it.watchedAt.set(namespace, it.watchedAt.get(namespace) | bits);
+        it.watchedAt.set(place, it.watchedAt.get(place) | bits);
     }
-    return found;
+    return found.filter(it => it.rows.length);
 }
 
 // ---- holders by name
@@ -140,26 +177,31 @@ function placeOf(binding) {
         : namespace === '-' ? '\\x2d' : namespace;
 }
 
-// Gives principals what they may do only to objects of certain names, by the lines of --named: not
-// what they have a row for there, or in the whole cluster. Who has no row at all is added.
-function addNamed(principals, rows, named) {
+// The principals of a scope with what they may do only to objects of certain names, by the lines of
+// --named: not what they have a row for there, or in the whole cluster. Who has no row at all is added.
+function withNamed(scope, principals, named) {
     const known = new Map(principals.map(it => [it.word, it]));
-    const cluster = rows.words.namespace.indexOf('-');
     for (let at = 0; at < named.length; at++) {
         const [verb, group, resource, who, binding] = NAMED_FIELDS.map(field =>
             named.word(at, field));
         const it = known.get(who) || principal(who);
         const place = placeOf(binding);
-        const held = it.watchedAt.get(cluster)
-            | it.watchedAt.get(rows.words.namespace.indexOf(place));
-        const bits = bitsOf(textOf(verb), typeOf(group, resource), place === '-') & ~held;
-        if (bits) {
+        const held = it.watchedAt.get('-') | it.watchedAt.get(place);
+        const isInCluster = scope.isAll && place === '-';
+        const bits = bitsOf(textOf(verb), typeOf(group, resource), isInCluster) & ~held;
+        if (bits && isNamedIn(scope, place, group, resource)) {
             it.named.push({bits, place, verb, group, resource, binding});
             it.onlyNamed |= bits;
             known.set(who, it);
         }
     }
     return [...known.values()];
+}
+
+// Whether a line of --named counts in a scope. One whose namespace its binding doesn't tell may.
+function isNamedIn(scope, place, group, resource) {
+    return scope.isAll || place === scope.word || place === undefined
+        || place === '-' && EVERYWHERE.hasNamespaces(group + '\t' + resource);
 }
 
 // ---- orders and groups
@@ -207,8 +249,8 @@ function classOf(verb) {
 
 const ROWS = new Rows(PAGE.rows, FIELDS);
 const DIFF = PAGE.changes && new Rows(PAGE.changes, ['change', ...FIELDS]);
-const WATCH = new Watch(ROWS);
 const NAMED_FIELDS = ['verb', 'group', 'resource', 'who', 'binding'];
-const PRINCIPALS = PAGE.named
-    ? addNamed(principalsOf(ROWS, WATCH), ROWS, new Rows(PAGE.named, NAMED_FIELDS))
-    : principalsOf(ROWS, WATCH);
+const EVERYWHERE = new Everywhere(ROWS, PAGE.namespaced);
+const WATCH = new Watch(ROWS);
+const ALL = new Scope();
+const PRINCIPALS = ALL.principals;

@@ -6,33 +6,33 @@ class WhatView {
         this.principals = [];
         this.types = [];
         this.cells = new Map();
-        const words = ROWS.words.namespace;
-        this.place = make('select', {'aria-label': 'Namespace', 'data-param': 'ns',
-            change: event => change({ns: event.target.value, cell: ''})},
-            words.toSorted(byNamespace).map(word => make('option', {value: word},
-                lineOf(meaning(word, 'namespace')))));
+        this.first = ROWS.words.namespace.includes('-') ? ['-'] : [];
+        this.places = namespacesOf();
+        this.everywhere = everywhereSwitch();
         this.summary = muted();
         this.grid = new Grid('Verbs of each principal on each type',
             make('th', {scope: 'col', class: 'corner'}, 'Principal'),
             column => this.typeHead(this.types[column]), at => this.side(this.principals[at]),
             (at, column) => this.cell(this.principals[at], this.types[column]));
         this.element = make('div', {class: 'view'},
-            make('div', {class: 'tools'}, make('h2', {}, 'What they may do in'), this.place,
+            make('div', {class: 'tools'}, make('h2', {}, 'What they may do in'),
+                placeChoice(this.first.map(word => [word, placeText(word)])),
                 filterInput('Filter principals', 'who', 'principals'),
-                filterInput('Filter types', 'type', 'types'), this.summary),
+                filterInput('Filter types', 'type', 'types'), this.everywhere, this.summary),
             legend(), this.grid.element);
     }
 
     update(params) {
-        const words = ROWS.words.namespace;
-        const namespace = words.includes(params.ns) ? params.ns : words.toSorted(byNamespace)[0];
+        const namespace = params.ns || this.first[0] || this.places[0];
         fill(this.element, {...params, ns: namespace});
+        this.everywhere.hidden = namespace === '-';
+        this.everywhere.firstChild.checked = !params.own;
         this.namespace = namespace;
         this.params = params;
-        const shown = JSON.stringify([namespace, params.who, params.type]);
+        const shown = JSON.stringify([namespace, params.who, params.type, params.own]);
         if (shown !== this.shown) {
             this.shown = shown;
-            this.gather(words.indexOf(namespace), params);
+            this.gather(namespace, params);
             this.summary.textContent = `${counted(this.principals.length, 'principal')}, `
                 + `${counted(this.types.length, 'type')}`;
             this.grid.showGrid(this.principals.length, this.types.length);
@@ -47,10 +47,12 @@ class WhatView {
         const {columns} = ROWS;
         const wantsWho = ROWS.mask('who', params.who || '');
         const wanted = (params.type || '').toLowerCase();
+        const isShown = row => wantsWho[columns.who[row]]
+            && !(params.own && namespace !== '-' && EVERYWHERE.follows(row));
         const types = new Map();
         const rows = [];
-        for (let row = 0; row < ROWS.length; row++) {
-            if (columns.namespace[row] === namespace && wantsWho[columns.who[row]]) {
+        for (const row of namespace === undefined ? [] : rowsIn(namespace)) {
+            if (isShown(row)) {
                 const key = keyOfType(row);
                 if (!types.has(key)) {
                     types.set(key, typeAt(row, key, wanted));
@@ -82,15 +84,17 @@ class WhatView {
         if (!rows) {
             return make('td');
         }
-        const verbs = new Set(rows.map(row => ROWS.word(row, 'verb')));
-        const plain = new Set(rows.filter(row => ROWS.word(row, 'name') === '-')
-            .map(row => ROWS.word(row, 'verb')));
+        const verbsOf = test => new Set(rows.filter(test).map(row => ROWS.word(row, 'verb')));
+        const verbs = verbsOf(() => true);
+        const plain = verbsOf(row => ROWS.word(row, 'name') === '-');
+        const own = verbsOf(row => this.namespace === '-' || !EVERYWHERE.follows(row));
         const named = [...verbs].every(verb => !plain.has(verb)) ? ', some objects only' : '';
+        const where = own.size ? '' : ', everywhere';
         const address = {...this.params, ns: this.namespace,
             cell: [ROWS.words.who[who], type.group, type.resource].join('\t')};
         return make('td', {}, make('a', {href: link('what', address),
-            'aria-label': [...verbs].map(textOf).map(lineOf).join(', ') + named},
-            lettersOf(verbs, plain)));
+            'aria-label': [...verbs].map(textOf).map(lineOf).join(', ') + named + where},
+            lettersOf(verbs, plain, own)));
     }
 }
 
@@ -100,13 +104,15 @@ function typeAt(row, key, wanted) {
     return {key, group, resource, isWanted: typeOf(group, resource).toLowerCase().includes(wanted)};
 }
 
-// The verbs' letters, each in its place; one that counts for some object names only is marked.
-function lettersOf(verbs, plain) {
+// The verbs' letters, each in its place. One that counts for some object names only is marked, and
+// one that holds everywhere.
+function lettersOf(verbs, plain, own) {
     return [...LETTERS.map(([, letter]) => letter), '·'].map((letter, at) => {
         const held = [...verbs].filter(verb => letterAt(verb) === at);
-        const isNamed = held.every(verb => !plain.has(verb));
+        const marks = [held.every(verb => !plain.has(verb)) ? ' named' : '',
+            held.every(verb => !own.has(verb)) ? ' everywhere' : ''];
         return held.length === 0 ? ' '
-            : make('span', {class: classOf(held[0]) + (isNamed ? ' named' : '')}, letter);
+            : make('span', {class: classOf(held[0]) + marks.join('')}, letter);
     });
 }
 
@@ -115,7 +121,8 @@ function legend() {
         LETTERS.map(([verb, letter]) => [make('b', {class: classOf(verb)}, letter), ` ${verb} `]),
         make('b', {class: 'other'}, '·'), ' any other verb  ',
         make('b', {class: 'read named'}, 'g'),
-        ' for some object names only. A cell tells its rows and bindings.');
+        ' for some object names only ', make('b', {class: 'read everywhere'}, 'g'),
+        ' everywhere, by a ClusterRoleBinding. A cell tells its rows and bindings.');
 }
 
 // ---- one cell
@@ -130,12 +137,16 @@ function showCell(cell, namespace) {
     const filters = {who: '=' + who, namespace: '=' + namespace, group: '=' + group,
         resource: '=' + resource};
     const fields = ['verb', 'name', 'binding'];
-    const rows = [...ROWS.matching(filters)];
+    const rows = rowsIn(namespace).filter(row => ROWS.word(row, 'who') === who
+        && ROWS.word(row, 'group') === group && ROWS.word(row, 'resource') === resource);
+    const isEverywhere = row => namespace !== '-' && EVERYWHERE.follows(row);
     dialog.replaceChildren(
         make('h2', {id: 'cell-title'}, typeNodes(group, resource)),
-        make('p', {}, principalNodes(who), muted(' in '), fieldNodes(namespace, 'namespace')),
+        make('p', {}, principalNodes(who), muted(' in '), scopeOf(namespace).isAll
+            ? fieldNodes(namespace, 'namespace') : scopeOf(namespace).titleNodes()),
         ...plainTable('Rows', fields.map(field => HEADS[field]), rows,
-            row => fields.map(field => fieldNodes(ROWS.word(row, field), field))),
+            row => fields.map(field => [fieldNodes(ROWS.word(row, field), field),
+                field === 'binding' && isEverywhere(row) ? muted(' everywhere') : []])),
         make('p', {class: 'tools'}, anchor('rows', filters, 'These rows'),
             anchor('who', {who}, 'All that they have'),
             make('button', {type: 'button', click: () => dialog.close()}, 'Close')));

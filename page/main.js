@@ -7,8 +7,9 @@ const VIEWS = {
     rows: ['Rows', () => new RowsView(ROWS, 'Rows', 'rows',
         'A filter keeps the rows whose field contains its text; with = before the text, the rows '
         + 'whose field is exactly that: =- is the empty field, which as a namespace means the '
-        + 'whole cluster, and as an API group the core group. The binding is the first that '
-        + 'grants, unless the matrix was made with --every.')],
+        + 'whole cluster, and as an API group the core group. A filter of namespaces also shows '
+        + 'what holds everywhere: rows of the whole cluster whose type has namespaces. The binding '
+        + 'is the first that grants, unless the matrix was made with --every.')],
 };
 if (PAGE.findings) {
     VIEWS.findings = ['Findings', () => new FindingsView()];
@@ -74,7 +75,8 @@ function render() {
 function begin() {
     document.getElementById('facts').textContent = [counted(ROWS.length, 'row'),
         counted(PRINCIPALS.length, 'principal'),
-        counted(ROWS.words.namespace.filter(word => word !== '-').length, 'namespace'),
+        counted(ROWS.words.namespace.filter(word => word !== '-').length, 'namespace')
+            + ' with rows of their own',
         counted(ROWS.words.binding.length, 'binding') + ' in these rows'].join(' · ');
     document.getElementById('views').append(...Object.entries(VIEWS)
         .map(([view, [title]]) => make('li', {},

@@ -40,16 +40,17 @@ function fill(element, params) {
 
 // What of the watch list a principal has; everything comes first, and what they have only by name
 // comes last.
-function badges({watched, onlyNamed, word}) {
+function badges({watched, onlyNamed, word}, scope) {
     const held = WATCHED.filter((_, at) => watched >> at & 1);
     if (watched & EVERYTHING) {
         held.unshift(held.pop());
     }
     const named = WATCHED.filter((_, at) => onlyNamed >> at & 1);
     return [held.map(({id, short, title}) => {
-        const href = link('rows', {who: '=' + word, watch: id});
+        const href = link('rows', {who: '=' + word, watch: id,
+            namespace: scope.isAll ? '' : '=' + scope.word});
         return [make('a', {href, class: 'badge', title}, short), ' '];
-    }), named.map(({id, short, title}) => [make('a', {href: link('watch', {at: id}),
+    }), named.map(({id, short, title}) => [make('a', {href: link('watch', {at: id, ns: scope.word}),
         class: 'badge part', title: title + ', only objects of certain names'},
     short + ' by name'), ' '])].flat();
 }
@@ -61,16 +62,51 @@ function bindingLinks(places_) {
     return words.length > 3 ? [shown, muted(`and ${words.length - 3} more`)] : shown;
 }
 
+// ---- the namespace that is looked at
+
+const MOST_OPTIONS = 500;
+
+// The namespaces of the page, in order. The last is any that has no rows of its own, where only that
+// holds which holds everywhere.
+function namespacesOf() {
+    const words = ROWS.words.namespace.filter(word => word !== '-').toSorted(byText);
+    return EVERYWHERE.isPlain || !ALL.rows.some(row => EVERYWHERE.holds(row)) ? words
+        : [...words, OTHER];
+}
+
+function placeText(word) {
+    return word === OTHER ? 'any other namespace' : lineOf(meaning(word, 'namespace'));
+}
+
+// Chooses what is looked at: `first` has the choices before the namespaces. Of many, it is a field to
+// type a namespace into.
+function placeChoice(first) {
+    const words = namespacesOf();
+    const attributes = {'aria-label': 'Namespace', 'data-param': 'ns',
+        change: event => change({ns: event.target.value, cell: ''})};
+    if (words.length > MOST_OPTIONS) {
+        const list = make('datalist', {id: 'namespaces'});
+        return [make('input', {type: 'search', list: 'namespaces', placeholder: 'namespace',
+            ...attributes, input: event => list.replaceChildren(...words
+                .filter(word => word.includes(event.target.value)).slice(0, 100)
+                .map(word => make('option', {value: word})))}), list];
+    }
+    return make('select', attributes, [...first, ...words.map(word => [word, placeText(word)])]
+        .map(([value, text]) => make('option', {value}, text)));
+}
+
 // ---- Who
 
 const WHO_COLUMNS = [
     {id: 'who', title: 'Principal', why: 'In the order of the matrix'},
-    {id: 'permissions', title: 'Permissions', why: 'Requests that the matrix has for them',
+    {id: 'permissions', title: 'Permissions', why: 'Requests that they have a row for. Rows of '
+        + 'matrix --once have those of the whole cluster once, and not for each namespace',
         value: it => it.permissions},
     {id: 'cluster', title: 'Whole cluster', why: 'Those of them in the whole cluster',
         value: it => it.cluster},
-    {id: 'namespaces', title: 'Namespaces', why: 'Namespaces in which they have any',
-        value: it => it.namespaces.size},
+    {id: 'namespaces', title: 'Namespaces', why: 'Namespaces in which they have any: all, where '
+        + 'something of theirs holds everywhere',
+        value: it => it.isEverywhere ? Infinity : it.namespaces.size},
     {id: 'bindings', title: 'Bindings', why: 'Bindings in their rows',
         value: it => it.bindings.size},
 ];
@@ -88,6 +124,7 @@ class WhoView {
         this.summary = muted();
         this.list = make('div', {class: 'view'},
             make('div', {class: 'tools'}, make('h2', {}, 'Who has what'),
+                placeChoice([['', 'in all rows']]),
                 filterInput('Filter principals', 'q', 'filter principals'), this.summary),
             this.sheet.element);
         this.detail = new PrincipalView();
@@ -103,7 +140,8 @@ class WhoView {
         }
         fill(this.list, params);
         const wants = wantedBy(params.q || '');
-        this.shown = PRINCIPALS.filter(it => wants(it.word, 'who'));
+        this.scope = scopeOf(params.ns);
+        this.shown = this.scope.principals.filter(it => wants(it.word, 'who'));
         const by = WHO_COLUMNS.find(column => column.id === params.sort) || WHO_COLUMNS[0];
         if (by.value) {
             this.shown.sort((a, b) => by.value(b) - by.value(a));
@@ -115,11 +153,11 @@ class WhoView {
     }
 
     row(it) {
-        const numbers = WHO_COLUMNS.slice(1)
-            .map(({value}) => cell('number', value(it) ? figure(value(it)) : muted('–')));
+        const numbers = WHO_COLUMNS.slice(1).map(({value}) => value(it)).map(value =>
+            cell('number', value === Infinity ? 'all' : value ? figure(value) : muted('–')));
         const name = make('th', {scope: 'row', title: lineOf(textOf(it.word))},
-            anchor('who', {who: it.word}, principalNodes(it.word)));
-        return [name, ...numbers, cell('', badges(it))];
+            anchor('who', {who: it.word, ns: this.scope.word}, principalNodes(it.word)));
+        return [name, ...numbers, cell('', badges(it, this.scope))];
     }
 }
 
@@ -145,9 +183,11 @@ class PrincipalView {
 
     update(params) {
         fill(this.element, params);
-        const it = PRINCIPALS.find(({word}) => word === params.who);
-        this.title.replaceChildren(...principalNodes(params.who));
-        this.watched.replaceChildren(...it ? badges(it).flat() : []);
+        this.scope = scopeOf(params.ns);
+        const it = this.scope.principals.find(({word}) => word === params.who);
+        this.title.replaceChildren(...principalNodes(params.who), ...this.scope.isAll ? []
+            : [muted(' in '), ...this.scope.titleNodes()]);
+        this.watched.replaceChildren(...it ? badges(it, this.scope).flat() : []);
         if (!it?.rows.length) {
             this.summary.textContent = 'This page has no row for them'
                 + (it ? '; the watch list has what they may do only by name.' : '.');
@@ -157,20 +197,27 @@ class PrincipalView {
             this.sheet.show(0);
             return;
         }
-        this.summary.textContent = [counted(it.permissions, 'permission') + ': '
-            + figure(it.cluster) + ' in the whole cluster',
-            figure(it.permissions - it.cluster) + ' in '
-            + counted(it.namespaces.size, 'namespace'),
-            'from ' + counted(it.bindings.size, 'binding')].join(', ') + '.';
-        this.links.replaceChildren(anchor('rows', {who: '=' + it.word}, 'All rows'));
-        it.lines ||= linesOf(it.rows);
+        this.summary.textContent = this.counts(it);
+        this.links.replaceChildren(anchor('rows', {who: '=' + it.word,
+            namespace: this.scope.isAll ? '' : '=' + this.scope.word}, 'All rows'));
+        it.lines ||= linesOf(it.rows, row => this.scope.placeOf(row));
         this.show(it.lines, params);
+    }
+
+    counts(it) {
+        const inside = figure(it.permissions - it.cluster);
+        return [counted(it.permissions, 'permission') + ': ' + figure(it.cluster)
+            + (this.scope.isAll ? ' in the whole cluster' : ' that hold everywhere'),
+        this.scope.isAll ? inside + ' in ' + counted(it.namespaces.size, 'namespace')
+            : inside + ' of this namespace alone',
+        'from ' + counted(it.bindings.size, 'binding')].join(', ') + '.';
     }
 
     show(lines, params) {
         const whole = new Map(lines.filter(line => line.namespace === '-')
             .map(line => [line.target, line.verbs]));
         const isMore = line => line.namespace === '-'
+            || [...line.bindings].some(place => !EVERYWHERE.byCluster[place])
             || ![...line.verbs].every(verb => whole.get(line.target)?.has(verb));
         const more = lines.filter(isMore);
         this.hidden.hidden = more.length === lines.length;
@@ -184,7 +231,7 @@ class PrincipalView {
     }
 
     line({namespace, group, resource, name, verbs, bindings}) {
-        return [cell('', anchor('what', {ns: namespace}, fieldNodes(namespace, 'namespace'))),
+        return [cell('', anchor('what', {ns: namespace}, this.scope.placeNodes(namespace))),
             cell('', typeNodes(group, resource)), cell('', fieldNodes(name, 'name')),
             cell('', [...verbs].map(verb =>
                 [make('span', {class: classOf(verb)}, nodesOf(textOf(verb))), ' '])),
@@ -192,11 +239,12 @@ class PrincipalView {
     }
 }
 
-// Rows by namespace and target: the verbs and bindings of each. The whole cluster comes first, then
-// namespaces by name.
-function linesOf(rows) {
-    const fields = ['namespace', 'group', 'resource', 'name'];
-    const groups = grouped(rows, row => fields.map(field => ROWS.word(row, field)).join('\t'));
+// Rows by where they count and target: the verbs and bindings of each. The whole cluster comes first,
+// then namespaces by name.
+function linesOf(rows, placeOf) {
+    const fields = ['group', 'resource', 'name'];
+    const groups = grouped(rows, row =>
+        [placeOf(row), ...fields.map(field => ROWS.word(row, field))].join('\t'));
     const lines = [...groups].map(([key, found]) => {
         const [namespace, group, resource, name] = key.split('\t');
         return {namespace, group, resource, name, target: key.slice(namespace.length),
@@ -213,140 +261,6 @@ function typeNodes(group, resource) {
             make('bdi', {}, nodesOf(textOf(group))))];
 }
 
-// ---- Watch list
-
-class WatchView {
-    constructor() {
-        const held = WATCHED.map((_, at) => holdersOf(at));
-        const named = WATCHED.map((_, at) => namedHolders(at));
-        this.element = make('div', {class: 'text'}, make('h2', {}, 'Watch list'), this.about(),
-            make('ul', {class: 'tiles'},
-                WATCHED.map((watched, at) => this.tile(watched, held[at], named[at]))),
-            WATCHED.map((watched, at) => this.section(watched, held[at], named[at])));
-    }
-
-    // Whether those count who may do something only to objects of certain names. Rows with names
-    // tell of these names at least.
-    about() {
-        const said = PAGE.named ? 'Whoever may do it only to objects of certain names is counted '
-            + 'apart: by name.'
-            : ROWS.words.name.some(word => word !== '-') ? ''
-                : 'Whoever may do it only to objects of certain names isn’t counted.';
-        return said ? make('p', {class: 'why'}, said) : [];
-    }
-
-    tile({id, title}, held, named) {
-        const whole = held.filter(isClusterWide).length;
-        const where = whole ? `${figure(whole)} in the whole cluster`
-            : held.length ? 'in namespaces alone' : named.length ? 'only by name' : 'nobody';
-        return make('li', {}, make('a', {href: link('watch', {at: id}), click: () => this.jump(id)},
-            make('b', {}, this.counts(held, named)), make('span', {}, title),
-            make('small', {class: 'muted'}, where)));
-    }
-
-    counts(held, named) {
-        return [figure(held.length),
-            named.length ? muted(` · ${figure(named.length)} by name`) : []];
-    }
-
-    section({id, title, why}, held, named) {
-        const heads = ['Principal', 'Where', 'Verbs and types', 'Bindings'];
-        const parts = held.length ? plainTable(title, heads, held, it => this.line(it, id))
-            : make('p', {}, 'Nobody, by the rows of this page.');
-        const byName = named.length ? [make('p', {class: 'why'}, 'Only by name: the rule has the '
-            + 'names of the objects. rbacaudit rules WHO prints it.'),
-        plainTable(title + ', only by name', heads, named, it => this.namedLine(it))] : [];
-        return make('section', {id: 'watch-' + id, 'aria-labelledby': 'title-' + id},
-            make('h3', {id: 'title-' + id}, title, ' ',
-                muted(this.counts(held, named))),
-            make('p', {class: 'why'}, why.join(' '), ' ',
-                held.length ? anchor('rows', {watch: id}, 'All rows') : ''), parts, byName);
-    }
-
-    line({it, rows, places: where}, id) {
-        const uses = grouped(linesOf(rows), line => line.group + '\t' + line.resource);
-        const shown = [...uses.values()].slice(0, 4).map(lines => this.use(lines));
-        return [anchor('who', {who: it.word}, principalNodes(it.word)),
-            where.includes('-') ? make('b', {class: 'whole'}, 'whole cluster')
-                : this.namespaces(where),
-            id === 'everything' ? `every verb on ${counted(uses.size, 'type')}`
-                : [shown, uses.size > 4 ? `and ${uses.size - 4} more types` : ''],
-            bindingLinks(new Set(rows.map(row => ROWS.columns.binding[row])))];
-    }
-
-    namedLine({it, lines, places: where}) {
-        const uses = grouped(lines, line => line.group + '\t' + line.resource);
-        const verbs = found => [...new Set(found.map(({verb}) => lineOf(textOf(verb))))].join(', ');
-        const inside = new Set(where.filter(place => place !== '-' && place !== undefined));
-        const bindings = [...new Set(lines.map(({binding}) => binding))];
-        return [anchor('who', {who: it.word}, principalNodes(it.word)),
-            [where.includes('-') ? make('b', {class: 'whole'}, 'whole cluster ') : [],
-                this.namespaces([...inside].sort(byText)),
-                where.includes(undefined) ? muted('as the binding says') : []],
-            [...uses.values()].map(found => make('div', {}, muted(verbs(found), ' '),
-                typeNodes(found[0].group, found[0].resource), muted(', some objects only'))),
-            [bindings.slice(0, 20).map(binding => make('div', {}, fieldNodes(binding, 'binding'))),
-                bindings.length > 20 ? muted(`and ${bindings.length - 20} more`) : []]];
-    }
-
-    // The verbs that somebody has on a type, by the lines about it.
-    use(lines) {
-        const verbs = [...new Set(lines.flatMap(line => [...line.verbs]))].map(textOf).map(lineOf);
-        const isNamed = lines.every(line => line.name !== '-');
-        return make('div', {}, muted(verbs.join(', '), ' '),
-            typeNodes(lines[0].group, lines[0].resource),
-            isNamed ? muted(', some objects only') : '');
-    }
-
-    namespaces(words) {
-        const shown = words.slice(0, 4).map(word => {
-            const nodes = fieldNodes(word, 'namespace');
-            return [ROWS.words.namespace.includes(word) ? anchor('what', {ns: word}, nodes) : nodes,
-                ' '];
-        });
-        return words.length > 4 ? [shown,
-            muted(`and ${words.length - 4} more`)] : shown;
-    }
-
-    jump(id) {
-        document.getElementById('watch-' + id)?.scrollIntoView();
-    }
-
-    update(params) {
-        if (params.at) {
-            this.jump(params.at);
-        }
-    }
-}
-
-// Who is in a category, with the rows that tell and their namespaces; those in the whole cluster
-// come first.
-function holdersOf(at) {
-    const held = PRINCIPALS.filter(it => it.watched >> at & 1).map(it => {
-        const places_ = [...it.watchedAt].filter(([, bits]) => bits >> at & 1)
-            .map(([namespace]) => ROWS.words.namespace[namespace]);
-        const isWhole = places_.includes('-');
-        const rows = it.rows.filter(row => WATCH.of(row) >> at & 1
-            && (!isWhole || ROWS.word(row, 'namespace') === '-'));
-        return {it, rows, places: places_};
-    });
-    return [...held.filter(isClusterWide), ...held.filter(holder => !isClusterWide(holder))];
-}
-
-// Who is in a category only by name, with the lines that tell; those in the whole cluster come
-// first.
-function namedHolders(at) {
-    const held = PRINCIPALS.filter(it => it.onlyNamed >> at & 1).map(it => {
-        const lines = it.named.filter(({bits}) => bits >> at & 1);
-        return {it, lines, places: lines.map(({place}) => place)};
-    });
-    return [...held.filter(isClusterWide), ...held.filter(holder => !isClusterWide(holder))];
-}
-
-function isClusterWide(holder) {
-    return holder.places.includes('-');
-}
-
 // ---- Rows and Changes
 
 class RowsView {
@@ -358,6 +272,7 @@ class RowsView {
             make('th', {scope: 'col'}, make('span', {}, HEADS[field]), this.filter(field)));
         this.sheet = new Sheet(title, heads, at => this.line(this.shown[at]), 'rows ' + name);
         this.summary = muted();
+        this.everywhere = everywhereSwitch();
         this.watch = make('select', {'aria-label': 'Only rows of the watch list',
             'data-param': 'watch',
             change: event => change({watch: event.target.value})},
@@ -366,7 +281,7 @@ class RowsView {
         this.element = make('div', {class: 'view'},
             make('div', {class: 'tools'}, make('h2', {}, title),
                 filterInput('Filter by any field', 'q', 'any field'),
-                rows === ROWS ? this.watch : [], this.summary,
+                rows === ROWS ? [this.watch, this.everywhere] : [], this.summary,
                 make('button', {type: 'button', click: () => this.copy()}, 'Copy'),
                 make('button', {type: 'button', click: () => this.save()}, 'Save as TSV'),
                 make('button', {type: 'button', click: () => go(name, {})}, 'Clear filters')),
@@ -384,20 +299,49 @@ class RowsView {
 
     update(params) {
         fill(this.element, params);
-        const at = WATCHED.findIndex(({id}) => id === params.watch);
-        const isWatched = at < 0 || this.rows !== ROWS ? null : row => WATCH.of(row) >> at & 1;
-        this.shown = this.rows.matching(params, isWatched);
-        this.summary.textContent = this.shown.length === this.rows.length
-            ? counted(this.rows.length, 'row')
-            : `${figure(this.shown.length)} of ${counted(this.rows.length, 'row')}`;
+        const namespace = this.rows === ROWS ? insideOf(params.namespace) : null;
+        this.everywhere.hidden = !namespace;
+        this.everywhere.firstChild.checked = !params.own;
+        this.isJoined = namespace !== null && !params.own;
+        this.shown = this.matching(params, namespace);
+        const joined = this.isJoined
+            ? this.shown.filter(row => EVERYWHERE.holds(row)).length : 0;
+        const own = this.shown.length - joined;
+        this.summary.textContent = (own === this.rows.length ? counted(own, 'row')
+            : `${figure(own)} of ${counted(this.rows.length, 'row')}`)
+            + (joined ? ` and ${figure(joined)} of the whole cluster that hold there too` : '');
         this.sheet.show(this.shown.length);
+    }
+
+    // The rows that pass the filters. With a filter of namespaces, those are joined that hold
+    // everywhere, or, with `own`, left out.
+    matching(params, inside) {
+        const at = WATCHED.findIndex(({id}) => id === params.watch);
+        const {namespace} = this.rows.columns;
+        const isWatched = at < 0 || this.rows !== ROWS ? () => true : row => WATCH.of(row,
+            this.isJoined && EVERYWHERE.holds(row) ? inside.place : namespace[row]) >> at & 1;
+        if (!inside) {
+            return this.rows.matching(params, isWatched);
+        }
+        if (params.own) {
+            return this.rows.matching(params, row => !EVERYWHERE.follows(row) && isWatched(row));
+        }
+        if (this.joinedBy !== params.namespace) {
+            this.joinedBy = params.namespace;
+            this.there = new Uint8Array(this.rows.length);
+            EVERYWHERE.joined(row => inside.mask[namespace[row]]).rows
+                .forEach(row => { this.there[row] = 1; });
+        }
+        return this.rows.matching({...params, namespace: ''},
+            row => this.there[row] && isWatched(row));
     }
 
     line(row) {
         return this.rows.fields.map(field => {
             const word = this.rows.word(row, field);
+            const isEverywhere = field === 'namespace' && this.isJoined && EVERYWHERE.holds(row);
             return make('td', {title: lineOf(field === 'change' ? CHANGES[word] : textOf(word))},
-                fieldNodes(word, field));
+                isEverywhere ? muted('everywhere') : fieldNodes(word, field));
         });
     }
 
@@ -418,6 +362,26 @@ class RowsView {
         setTimeout(() => URL.revokeObjectURL(address), 60000);
         say(`${counted(this.shown.length, 'row')} saved`);
     }
+}
+
+// Shows or hides what holds everywhere, where a namespace is looked at.
+function everywhereSwitch() {
+    return make('label', {}, make('input', {type: 'checkbox',
+        change: event => change({own: event.target.checked ? '' : '1'})}),
+    ' also what holds everywhere');
+}
+
+// The namespaces that a filter wants, unless it wants the whole cluster or none: for each whether it
+// does, and the place of the one after =. Where that isn't on the page, only what holds everywhere
+// holds in it.
+function insideOf(filter) {
+    if (!filter) {
+        return null;
+    }
+    const mask = ROWS.mask('namespace', filter);
+    const isExact = filter.startsWith('=') && filter !== '=-';
+    return mask[EVERYWHERE.cluster] || !isExact && !mask.includes(1) ? null
+        : {mask, place: ROWS.words.namespace.indexOf(filter.slice(1))};
 }
 
 // ---- Findings

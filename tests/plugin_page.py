@@ -216,6 +216,21 @@ def plugin_refusals(it):
 
 
 @in_each_shell
+def plugin_types(it):
+    """The page is told which types have namespaces: also of a Universe document of one's own."""
+    exported(it)
+    for line, wanted, others in (
+            ([], {'-\tpods', 'apps\tdeployments', '-\tpods/odd'},
+             {'-\tnodes', 'metrics.k8s.io\tnodes', '-\tnodes/metrics'}),
+            (['types.json'], {'-\tnodes'}, {'-\tpods'})):
+        it.write(json.dumps({**GETS, 'resources': [{'resource': 'nodes', 'namespaced': True}]}),
+                 'types.json')
+        out = it.run('page', '--export', 'prod', *line)[1]
+        found = {'\t'.join(it) for it in Parts(out).data()['namespaced']}
+        it.checked('types with namespaces %s' % line, wanted <= found and not others & found, found)
+
+
+@in_each_shell
 def plugin_places(it):
     """The page of one namespace has its rows and those of the whole cluster; also where a Universe
     document of one's own has others. A namespace that isn't there is reported."""

@@ -82,11 +82,13 @@ write_page() {
     write_place >"$scratch/place.json"
     mkfifo "$scratch/matrix" || refuse "can't write into $scratch"
     reads=$all
+    with_files list_namespaced "$scratch/universe.json" "$@"
     set -- matrix --once ${every:+"$every"} -- "$scratch/universe.json" "$@" "$scratch/place.json"
     with_files begin_rows "$@"
     # (run gives a command what is open as 3)
     run rbacaudit-page --lint "$scratch/findings" --named "$scratch/named" ${diff:+"--diff=$diff"} \
-        ${title:+"--title=$title"} ${output:+"--output=$output"} 3<"$scratch/matrix"
+        --namespaced "$scratch/namespaced" ${title:+"--title=$title"} \
+        ${output:+"--output=$output"} 3<"$scratch/matrix"
     written=$?
     [ "$written" -eq 0 ] || with_files end_rows "$@"
     exit "$written"
@@ -101,6 +103,12 @@ write_place() {
                 place = ", \"namespaces\": [\"\", " json_text(printed(ENVIRON["NAMED"])) "]"
             print "{\"apiVersion\": \"rbacaudit/v1\", \"kind\": \"Universe\"" place "}"
         }'
+}
+
+# Writes to $scratch/namespaced the types of these files that have namespaces.
+list_namespaced() {
+    list_types "$@"
+    LC_ALL=C awk -F '\t' 'NF == 7 && $2 != "-" { print $4 FS $5 }' "$scratch/rows" >"$scratch/namespaced"
 }
 
 # Begins to run rbacaudit, which writes into the pipe $scratch/matrix while the page reads from it.

@@ -1,0 +1,166 @@
+// The watch list: who has what is worth watching, in all rows or where they hold in a namespace.
+
+class WatchView {
+    constructor() {
+        this.list = make('div');
+        this.element = make('div', {class: 'text'}, make('div', {class: 'tools'},
+            make('h2', {}, 'Watch list'), placeChoice([['', 'in all rows']])), this.about(),
+        this.list);
+    }
+
+    show(scope) {
+        this.scope = scope;
+        const held = WATCHED.map((_, at) => holdersOf(scope, at));
+        const named = WATCHED.map((_, at) => namedHolders(scope, at));
+        this.list.replaceChildren(make('ul', {class: 'tiles'},
+            WATCHED.map((watched, at) => this.tile(watched, held[at], named[at]))),
+        ...WATCHED.map((watched, at) => this.section(watched, held[at], named[at])));
+    }
+
+    // Whether those count who may do something only to objects of certain names. Rows with names
+    // tell of these names at least.
+    about() {
+        const said = PAGE.named ? 'Whoever may do it only to objects of certain names is counted '
+            + 'apart: by name.'
+            : ROWS.words.name.some(word => word !== '-') ? ''
+                : 'Whoever may do it only to objects of certain names isn’t counted.';
+        return said ? make('p', {class: 'why'}, said) : [];
+    }
+
+    tile({id, title}, held, named) {
+        const whole = held.filter(isClusterWide).length;
+        const where = whole ? figure(whole) + (this.scope.isAll ? ' in the whole cluster'
+            : ' everywhere') : !held.length ? named.length ? 'only by name' : 'nobody'
+            : this.scope.isAll ? 'in namespaces alone' : 'in this namespace alone';
+        const href = link('watch', {at: id, ns: this.scope.word});
+        return make('li', {}, make('a', {href, click: () => this.jump(id)},
+            make('b', {}, this.counts(held, named)), make('span', {}, title),
+            make('small', {class: 'muted'}, where)));
+    }
+
+    counts(held, named) {
+        return [figure(held.length),
+            named.length ? muted(` · ${figure(named.length)} by name`) : []];
+    }
+
+    section({id, title, why}, held, named) {
+        const heads = ['Principal', 'Where', 'Verbs and types', 'Bindings'];
+        const parts = held.length ? plainTable(title, heads, held, it => this.line(it, id))
+            : make('p', {}, 'Nobody, by the rows of this page.');
+        const byName = named.length ? [make('p', {class: 'why'}, 'Only by name: the rule has the '
+            + 'names of the objects. rbacaudit rules WHO prints it.'),
+        plainTable(title + ', only by name', heads, named, it => this.namedLine(it))] : [];
+        return make('section', {id: 'watch-' + id, 'aria-labelledby': 'title-' + id},
+            make('h3', {id: 'title-' + id}, title, ' ',
+                muted(this.counts(held, named))),
+            make('p', {class: 'why'}, why.join(' '), ' ',
+                held.length ? anchor('rows', {watch: id, namespace: this.scope.isAll ? ''
+                    : '=' + this.scope.word}, 'All rows') : ''), parts, byName);
+    }
+
+    line({it, rows, more, places: where}, id) {
+        const lines = linesOf(rows, row => this.scope.placeOf(row));
+        const uses = grouped(lines, line => line.group + '\t' + line.resource);
+        const shown = [...uses.values()].slice(0, 4).map(lines => this.use(lines));
+        return [this.who(it), where.includes('-')
+            ? [this.whole(), ...this.also(more)] : this.namespaces(where),
+        id === 'everything' ? `all common verbs on ${counted(uses.size, 'type')}`
+            : [shown, uses.size > 4 ? `and ${uses.size - 4} more types` : ''],
+        bindingLinks(new Set([...rows, ...more].map(row => ROWS.columns.binding[row])))];
+    }
+
+    who(it) {
+        return anchor('who', {who: it.word, ns: this.scope.word}, principalNodes(it.word));
+    }
+
+    whole() {
+        return make('b', {class: 'whole'}, this.scope.isAll ? 'whole cluster' : 'everywhere');
+    }
+
+    // Where RoleBindings give somebody some of it too.
+    also(rows) {
+        const places_ = new Set(rows.map(row => ROWS.word(row, 'namespace')));
+        return places_.size ? [muted(', also by a binding in '),
+            ...this.namespaces([...places_].sort(byText))] : [];
+    }
+
+    namedLine({it, lines, places: where}) {
+        const uses = grouped(lines, line => line.group + '\t' + line.resource);
+        const verbs = found => [...new Set(found.map(({verb}) => lineOf(textOf(verb))))].join(', ');
+        const inside = new Set(where.filter(place => place !== '-' && place !== undefined));
+        const bindings = [...new Set(lines.map(({binding}) => binding))];
+        return [this.who(it),
+            [where.includes('-') ? [this.whole(), ' '] : [],
+                this.namespaces([...inside].sort(byText)),
+                where.includes(undefined) ? muted('as the binding says') : []],
+            [...uses.values()].map(found => make('div', {}, muted(verbs(found), ' '),
+                typeNodes(found[0].group, found[0].resource), muted(', some objects only'))),
+            [bindings.slice(0, 20).map(binding => make('div', {}, fieldNodes(binding, 'binding'))),
+                bindings.length > 20 ? muted(`and ${bindings.length - 20} more`) : []]];
+    }
+
+    // The verbs that somebody has on a type, by the lines about it.
+    use(lines) {
+        const verbs = [...new Set(lines.flatMap(line => [...line.verbs]))].map(textOf).map(lineOf);
+        const isNamed = lines.every(line => line.name !== '-');
+        return make('div', {}, muted(verbs.join(', '), ' '),
+            typeNodes(lines[0].group, lines[0].resource),
+            isNamed ? muted(', some objects only') : '');
+    }
+
+    namespaces(words) {
+        const shown = words.slice(0, 4).map(word => {
+            const nodes = fieldNodes(word, 'namespace');
+            return [ROWS.words.namespace.includes(word) ? anchor('what', {ns: word}, nodes) : nodes,
+                ' '];
+        });
+        return words.length > 4 ? [shown,
+            muted(`and ${words.length - 4} more`)] : shown;
+    }
+
+    jump(id) {
+        document.getElementById('watch-' + id)?.scrollIntoView();
+    }
+
+    update(params) {
+        fill(this.element, params);
+        const scope = scopeOf(params.ns);
+        if (scope !== this.scope) {
+            this.show(scope);
+        }
+        if (params.at) {
+            this.jump(params.at);
+        }
+    }
+}
+
+// Who is in a category, with the rows that tell and where they count; those in the whole cluster come
+// first. Of these, `rows` are in the whole cluster, and `more` has what RoleBindings give them too.
+function holdersOf(scope, at) {
+    const held = scope.principals.filter(it => it.watched >> at & 1).map(it => {
+        const places_ = [...it.watchedAt].filter(([, bits]) => bits >> at & 1)
+            .map(([place]) => place);
+        const rows = it.rows.filter(row => scope.watched(row) >> at & 1);
+        const isWhole = row => scope.placeOf(row) === '-';
+        const isMore = row => !isWhole(row) && !EVERYWHERE.byCluster[ROWS.columns.binding[row]];
+        return places_.includes('-')
+            ? {it, rows: rows.filter(isWhole), more: rows.filter(isMore), places: places_}
+            : {it, rows, more: [], places: places_};
+    });
+    return [...held.filter(isClusterWide), ...held.filter(holder => !isClusterWide(holder))];
+}
+
+// Who is in a category only by name, with the lines that tell; those in the whole cluster come
+// first.
+function namedHolders(scope, at) {
+    const held = scope.principals.filter(it => it.onlyNamed >> at & 1).map(it => {
+        const lines = it.named.filter(({bits}) => bits >> at & 1);
+        return {it, lines, places: lines.map(({place}) => place)};
+    });
+    return [...held.filter(isClusterWide), ...held.filter(holder => !isClusterWide(holder))];
+}
+
+function isClusterWide(holder) {
+    return holder.places.includes('-');
+}
+
