@@ -6,6 +6,8 @@ complete -c rbacaudit-page -l lint -r -F -d 'findings to show beside, as rbacaud
 complete -c rbacaudit-page -l diff -r -F -d 'changes to show beside, as rbacaudit diff writes them'
 complete -c rbacaudit-page -l named -r -F -d 'holders by name to count apart: verb, API group, resource, who, binding'
 complete -c rbacaudit-page -l namespaced -r -F -d 'types that have namespaces: API group and resource'
+complete -c rbacaudit-page -l notices -r -F -d 'lines to show at the top, such as what the rows lack'
+complete -c rbacaudit-page -l about -r -F -d 'the about.txt of an export, to show cluster, server and time'
 complete -c rbacaudit-page -l title -x -d 'the title of the page (default: Who can do what)'
 complete -c rbacaudit-page -l output -r -F -d 'write the page into this file, whole or not at all'
 complete -c rbacaudit-page -l watched -d 'print the watch list: id, verb, API group and resource'

@@ -83,12 +83,33 @@ function begin() {
         make('a', {href: link(view), 'data-view': view}, title, COUNTS[view] === undefined ? ''
             : [' ', make('small', {},
             figure(COUNTS[view]))]))));
-    const notice = document.getElementById('notice');
-    notice.hidden = PAGE.whole;
-    notice.textContent = PAGE.whole ? ''
-        : 'This is a part of the matrix: --limit left out the rows after the last one here.';
+    showAbout();
+    showNotices();
     listen();
     render();
+}
+
+// The cluster, its server and when it was read, as far as the export says it.
+function showAbout() {
+    const {context, server, version, time} = PAGE.about;
+    const facts = [['cluster ', context], ['server ', server], ['Kubernetes ', version],
+        ['read ', time]].filter(([, value]) => value);
+    const about = document.getElementById('about');
+    about.hidden = !facts.length;
+    about.append(...facts.flatMap(([name, value], at) =>
+        [at ? ' · ' : '', name, make('bdi', {}, nodesOf(value))]));
+}
+
+// What the rows lack, and what a reader has to know before they trust them.
+function showNotices() {
+    const {whole, notices, about: {only}} = PAGE;
+    const texts = [...whole ? []
+        : ['This is a part of the matrix: --limit left out the rows after the last one here.'],
+    ...only === undefined ? [] : [`The export has the namespace ${only} alone: what roles of other `
+        + 'namespaces allow isn’t on this page.'], ...notices];
+    const notice = document.getElementById('notice');
+    notice.hidden = !texts.length;
+    notice.append(...texts.map(text => make('p', {class: 'notice'}, nodesOf(text, Infinity))));
 }
 
 function listen() {

@@ -17,7 +17,7 @@ import sys
 import tempfile
 
 from common import TOP, checked, skipped, tested
-from plugin_page import (plugin_files, plugin_names, plugin_pages, plugin_places, plugin_refusals,
+from plugin_page import (plugin_files, plugin_names, plugin_notices, plugin_pages, plugin_places, plugin_refusals,
                          plugin_stale, plugin_types)
 from shown import in_browser
 from written import (CHANGES, FILTER, FINDINGS, NAMED, SMALL, Parts, contents, file_of, lines_in,
@@ -122,9 +122,11 @@ def refusals():
         for option, said in (('--lint', 'no line of rbacaudit lint'),
                              ('--diff', 'no line of changes'),
                              ('--named', 'no line of holders by name'),
-                             ('--namespaced', 'no line of API group and resource')):
-            same('refused: rows after %s' % option, made(SMALL, option, rows),
-                 (2, '', 'rbacaudit-page: %s line 1: %s\n' % (rows, said)))
+                             ('--namespaced', 'no line of API group and resource'),
+                             ('--notices', None), ('--about', None)):
+            if said:
+                same('refused: rows after %s' % option, made(SMALL, option, rows),
+                     (2, '', 'rbacaudit-page: %s line 1: %s\n' % (rows, said)))
             same('refused: no file after %s' % option, made(SMALL, option, rows + 'x')[::2],
                  (2, 'rbacaudit-page: %sx: No such file or directory\n' % rows))
     named_refusals()
@@ -283,7 +285,8 @@ def helped():
     told_ = told(sys.executable, FILTER, '--help', env=dict(os.environ, COLUMNS='100'))
     options = dict(re.findall(r'^  (?:-h, )?--(\w+)(?: [A-Z]+)?  +(.*)$', told_, re.M))
     same('help: the options', [*options],
-         ['help', 'lint', 'diff', 'named', 'namespaced', 'title', 'output', 'watched'])
+         ['help', 'lint', 'diff', 'named', 'namespaced', 'notices', 'about', 'title',
+          'output', 'watched'])
     man = contents('man', 'rbacaudit-page.1')
     same('man: the options', re.findall(r'^\.TP\n.*\\-\\-(\w+)\\fR', man, re.M), [*options])
     checked('man: the default of --title', 'Default: Who can do what.' in man)
@@ -293,8 +296,8 @@ def helped():
     zsh = contents('completions', '_rbacaudit-page')
     same('zsh: the options', dict(re.findall(r"--(\w+)=?\}?'?\[(.*?)\]", zsh)), options)
     path = os.path.join(TOP, 'completions', 'rbacaudit-page.bash')
-    for line, wanted in (('rbacaudit-page --', '--lint --diff --named --namespaced --title '
-                                    '--output --watched --help'),
+    for line, wanted in (('rbacaudit-page --', '--lint --diff --named --namespaced --notices '
+                                    '--about --title --output --watched --help'),
                          ('rbacaudit-page --lint x --t', '--title'),
                          ('rbacaudit-page --named -', ''),
                          ('rbacaudit-page --title -', '')):
@@ -364,5 +367,6 @@ def colours():
 
 if __name__ == '__main__':
     sys.exit(tested(written, no_markup, policy, refusals, watch_list, limits, output, drawn,
-                    terminals, helped, installed, plugin_pages, plugin_names, plugin_types, plugin_places,
+                    terminals, helped, installed, plugin_pages, plugin_names, plugin_types, plugin_notices,
+                    plugin_places,
                     plugin_files, plugin_refusals, plugin_stale, colours, in_browser))

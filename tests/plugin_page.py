@@ -231,6 +231,36 @@ def plugin_types(it):
 
 
 @in_each_shell
+def plugin_notices(it):
+    """The page says which part is missing, that it is of one namespace, which aggregates are stale;
+    and of which cluster and when it is."""
+    os.symlink(FILTER, os.path.join(it.bin, 'rbacaudit-page'))
+    it.write(json.dumps(stale_roles()), 'ring.json')
+    it.run('export', 'prod')
+    lacking = ('A part of the export is missing, so rows may be missing too: there is no '
+               'accounts.json: ')
+    stale = ('Stale aggregates (L6 of lint): ClusterRole/a, ClusterRole/b, ClusterRole/late. The '
+             'cluster grants what is written in them, and this page has what they gather.')
+    one = 'This page has the namespace shop and the whole cluster alone.'
+    for line, trouble, wanted in (
+            ([], [], []), (['--export', 'prod'], [], []),
+            (['--export', 'prod', 'ring.json', '-n', 'shop'], [], [one, stale]),
+            (['--partial'], ['forbid accounts'], [lacking])):
+        out = it.run('page', *line, trouble=trouble)[1]
+        data = Parts(out).data()
+        it.checked('notices of %s' % line, [text.startswith(begin) for text, begin
+                                            in zip(data['notices'], wanted, strict=True)]
+                   == [True] * len(wanted), data['notices'])
+        it.checked('about %s' % line, data['about']['context'] == 'far away' and
+                   data['about']['server'] == 'https://10.0.0.1:6443'
+                   and data['about']['time'].endswith('Z') and 'only' not in data['about'],
+                   data['about'])
+    it.run('export', '-n', 'shop', 'part')
+    data = Parts(it.run('page', '--export', 'part')[1]).data()
+    it.checked('of one namespace', data['about']['only'] == 'shop', data['about'])
+
+
+@in_each_shell
 def plugin_places(it):
     """The page of one namespace has its rows and those of the whole cluster; also where a Universe
     document of one's own has others. A namespace that isn't there is reported."""

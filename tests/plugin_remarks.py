@@ -3,11 +3,13 @@ verbs that no API resource list has, and users and groups that no binding names.
 
 import json
 import os
+import subprocess
 
 from common import V1
 from plugin_room import (DANA, DEVELOPERS, IMPLIED, KIM, NO_ACCOUNT, NO_GROUP, NO_GROUPS, NO_SPACE,
-                         NO_USER, NO_VERB, RBAC, SCOPED, UNLISTED, URL_SCOPED, in_each_shell,
+                         NO_USER, NO_VERB, PLUGIN, RBAC, SCOPED, UNLISTED, URL_SCOPED, in_each_shell,
                          of_kinds, served)
+from written import FILTER
 
 # ---- where a question is asked
 
@@ -326,4 +328,46 @@ def named_in_files(it):
     os.waitpid(pid, 0)
 
 
-CHECKS = [places, scopes, unlisted, bound_types, verbs, users, accounts, groups, named_in_files]
+def document(**lists):
+    return json.dumps({'apiVersion': 'rbacaudit/v1', 'kind': 'Universe', 'names': [''], **lists})
+
+
+REPEATED = ('kubectl-rbacaudit: %d of the first %d rows repeat for a namespace what somebody may do '
+            'in the whole cluster; --once leaves them out\n')
+NO_WHOLE = ('kubectl-rbacaudit: the namespaces of the universe lack "", the whole cluster, so what '
+            'holds in it is in no row of --once: add "" to them\n')
+
+
+@in_each_shell
+def repeated(it):
+    """A matrix of which --once leaves out more than half says so, and its rows are those of
+    rbacaudit; one of half, or less, doesn't, nor does one of --once."""
+    os.symlink(FILTER, os.path.join(it.bin, 'rbacaudit-page'))
+    it.run('export', 'prod')
+    pods = {'verbs': ['get'], 'resources': [{'resource': 'pods'}], 'urls': []}
+    dana = 'u:dana@example.com\t%s\tget\t-\tpods\t-\tClusterRoleBinding/admins\n'
+    for places_, said in ((['', 'a', 'b'], REPEATED % (2, 3)), (['', 'a'], ''), ([''], ''),
+                          (['a'], REPEATED % (1, 1))):
+        it.write(document(principals=[{'user': 'dana@example.com'}], namespaces=places_, **pods),
+                 'dana.json')
+        out = ''.join(dana % (place or '-') for place in places_) + 'end\n'
+        it.expect('a matrix of %s' % places_, ['matrix', '--export', 'prod', 'dana.json'], 0, out,
+                  said)
+        it.expect('the same with --once', ['matrix', '--once', '--export', 'prod', 'dana.json'], 0,
+                  ''.join(dana % '-' if place == '' else '' for place in places_) + 'end\n',
+                  '' if '' in places_ else NO_WHOLE)
+        status, _, err = got = it.run('page', '--export', 'prod', 'dana.json', '--output', 'page')
+        it.checked('a page of %s' % places_, (status, err)
+                   == (0, '' if '' in places_ else NO_WHOLE), got)
+    with open('/dev/full', 'wb') as full:
+        status = subprocess.run([it.shell, PLUGIN, 'matrix', '--export', 'prod', 'dana.json'],
+                                cwd=it.work, env=it.environment(), stdout=full,
+                                stderr=subprocess.PIPE, timeout=60).returncode
+    it.checked('a full disk', status == 2, status)
+    command = '"$0" "$1" matrix --export prod | head -n 1'
+    ended = subprocess.run(['sh', '-c', command, it.shell, PLUGIN], cwd=it.work,
+                           env=it.environment(), stdout=subprocess.PIPE, timeout=60)
+    it.checked('nobody reads on', ended.stdout.count(b'\n') == 1, ended)
+
+
+CHECKS = [repeated, places, scopes, unlisted, bound_types, verbs, users, accounts, groups, named_in_files]

@@ -482,6 +482,20 @@ u:ann dev list - secrets - RoleBinding/dev/ann
          ['ClusterRoleBinding/a ClusterRoleBinding/b ', 'RoleBinding/dev/ann '])
 
 
+def notices(it, room):
+    """What the rows lack stands at the top, as do cluster, server and time; names there are texts."""
+    lines = ['context: pr\u202eod', 'server: https://<b>', 'version: ', 'namespace: dev',
+             'only: d<i>ev', 'time: 2026-11-27T10:00:00Z', 'file: cluster.json: kubectl get']
+    with file_of(['A part is missing: x.', 'L6 <b>']) as said, file_of(lines) as about:
+        page = Shown(it, room, 'notices', made(SMALL, '--notices', said, '--about', about)[1])
+    same('notices', page.texts('#notice p'),
+         ['The export has the namespace d<i>ev alone: what roles of other namespaces allow isn’t '
+          'on this page.', 'A part is missing: x.', 'L6 <b>'])
+    same('about', page.text('#about'), 'cluster prU+202Eod · server https://<b> · read '
+         '2026-11-27T10:00:00Z')
+    page.is_quiet()
+
+
 def empty(it, room):
     """A matrix without rows has a page too."""
     with file_of([]) as none:
@@ -728,7 +742,7 @@ def in_browser():
     try:
         with browser.browser() as it, tempfile.TemporaryDirectory() as room:
             it.ask('Browser.setDownloadBehavior', behavior='allow', downloadPath=room)
-            for part in (small_page, watched, by_name, watch_heads, stars, joined, empty, widths,
+            for part in (small_page, watched, by_name, watch_heads, stars, joined, notices, empty, widths,
                          hostile_page, cluster_page, themes, large, wide):
                 try:
                     part(it, room)

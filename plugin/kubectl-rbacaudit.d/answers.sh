@@ -19,6 +19,7 @@ parts_of() {
 # goes on.
 open_export() {
     lacks=no
+    gaps=
     if [ -z "$export_dir" ]; then
         stage=$scratch/export
         mkdir "$stage" || refuse "can't write into $scratch"
@@ -86,12 +87,16 @@ reason_for() {
 }
 
 gap() {
-    lack
+    lack "$1"
     report "$1"
 }
 
 lack() {
     lacks=yes
+    gaps=$gaps${gaps:+; }${1%%" in $export_dir"*}
+    case $1 in
+        *" in $export_dir"*) gaps=$gaps${1#*" in $export_dir"} ;;
+    esac
 }
 
 # An export of one namespace can't answer about another, and is a part for all others.
@@ -162,7 +167,7 @@ with_files() {
 # Runs rbacaudit and gives its status. After a fault that gives a file by its number, reports the
 # file's name, and the object.
 ask() {
-    run_shown rbacaudit "$@" 2>"$scratch/said"
+    "$runs" rbacaudit "$@" 2>"$scratch/said"
     answered=$?
     report_fault "$@"
     return "$answered"
@@ -301,7 +306,10 @@ question_command() {
     find_target "$@"
     look_at_about
     choose_namespace
-    [ "$command" != matrix ] || for_each_file look_for_universe "$@"
+    if [ "$command" = matrix ]; then
+        for_each_file look_for_universe "$@"
+        [ "$once" = no ] || remark_on_once
+    fi
     parts_of "$command"
     open_export
     case $command in
@@ -390,15 +398,27 @@ is_own_object() {
     [ "$has_namespace" = no ] || [ "$namespace" = "$object" ]
 }
 
+# Answers with a matrix, and then says so if --once leaves out more than half of its rows.
+list_rows() {
+    [ "$once" = yes ] || runs=run_counted
+    with_files ask "$@"
+    runs=run_shown
+    [ "$once$answered" = no0 ] || return 0
+    read -r repeated listed <"$scratch/counted"
+    [ $((2 * repeated)) -le "$listed" ] || report "$repeated of the first $listed rows repeat for a \
+namespace what somebody may do in the whole cluster; --once leaves them out"
+}
+
 # Answers, and then says so if the cluster may answer differently.
 answer() {
     reads=$needed
     find_stale
-    case ${stale:+$command} in
-        who-can | rules)
+    case $command$stale in
+        who-can?* | rules?*)
             with_files ask "$@" >"$scratch/answer"
             show <"$scratch/answer"
             ;;
+        matrix*) list_rows "$@" ;;
         *) with_files ask "$@" ;;
     esac
     [ -z "$stale" ] || [ "$answered" -gt 1 ] || with_files remark_on_stale "$@"

@@ -52,6 +52,7 @@ make_page() {
     for word do
         look_for_universe "$word"
     done
+    [ -n "$only_in" ] || remark_on_once
     command=matrix
     type=
     look_at_about
@@ -79,7 +80,11 @@ write_page() {
     [ "$answered" -le 1 ] || exit "$answered"
     write_named "$@"
     remark_on_page
+    write_notices | printable >"$scratch/notices"
+    [ "$export_dir" != "${stage-}" ] || write_about
     write_place >"$scratch/place.json"
+    about=$export_dir/about.txt
+    [ -f "$about" ] || about=
     mkfifo "$scratch/matrix" || refuse "can't write into $scratch"
     reads=$all
     with_files list_namespaced "$scratch/universe.json" "$@"
@@ -87,11 +92,20 @@ write_page() {
     with_files begin_rows "$@"
     # (run gives a command what is open as 3)
     run rbacaudit-page --lint "$scratch/findings" --named "$scratch/named" ${diff:+"--diff=$diff"} \
-        --namespaced "$scratch/namespaced" ${title:+"--title=$title"} \
-        ${output:+"--output=$output"} 3<"$scratch/matrix"
+        --namespaced "$scratch/namespaced" --notices "$scratch/notices" \
+        ${about:+"--about=$about"} ${title:+"--title=$title"} ${output:+"--output=$output"} \
+        3<"$scratch/matrix"
     written=$?
     [ "$written" -eq 0 ] || with_files end_rows "$@"
     exit "$written"
+}
+
+# Prints what the page has to say at its top.
+write_notices() {
+    [ -z "$gaps" ] || printf '%s\n' "A part of the export is missing, so rows may be missing too: $gaps."
+    [ -z "$asked_in" ] || printf '%s\n' "This page has the namespace $asked_in and the whole cluster alone."
+    [ -z "$stale" ] || printf '%s\n' "Stale aggregates (L6 of lint): $stale. The cluster grants what is \
+written in them, and this page has what they gather."
 }
 
 # Prints a Universe document of the namespace after -n, and of the whole cluster: without -n, one that

@@ -122,6 +122,24 @@ function on_end(    at) {
 function tell(line) { if (!told[line]++) print line }
 '
 
+# Prints, of a file with a Universe document, whether it lists namespaces, and whether the empty one,
+# the whole cluster, is among them.
+PLACES=$JSON_WALK'
+function on_field() {}
+function on_text(text) {
+    if (depth != base() + 1 || !is_list[depth] || field[base()] != "namespaces") return
+    lists = "yes"
+    if (text == "") whole = "yes"
+}
+function on_end() {}
+END { print lists, whole }'
+
+# Reports a universe without the whole cluster, of which --once then lists nothing.
+remark_on_once() {
+    [ "$has_places$has_whole" != yesno ] || report "the namespaces of the universe lack \"\", the whole \
+cluster, so what holds in it is in no row of --once: add \"\" to them"
+}
+
 # Reports what of a file is meant for a universe, and is ignored. A pipe is left alone, since
 # rbacaudit has to read it.
 look_for_universe() {
@@ -131,6 +149,11 @@ look_for_universe() {
     while IFS= read -r line; do
         printf 'kubectl-rbacaudit: %s: %s\n' "$1" "$line"
     done <"$scratch/remarks" | printable >&2
+    walk "$1" "$PLACES" >"$scratch/places"
+    while read -r lists whole; do
+        has_places=${lists:-$has_places}
+        has_whole=${whole:-$has_whole}
+    done <"$scratch/places"
 }
 
 # Leaves in `culprit` the object that a fault of rbacaudit is about, an item of this file or the

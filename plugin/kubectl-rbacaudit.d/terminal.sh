@@ -69,6 +69,36 @@ show() {
     fi
 }
 
+# Counts rows of a matrix, and those that --once leaves out: of the first million, and what follows is
+# read by a program that is faster than an awk.
+COUNTS='
+/^[^\t]*\t-[^\t]|^[^\t]*\t[^-]/ && /\tClusterRoleBinding\/[^\t]*$/ { repeated++ }
+/^(end|next\t.*)$/ { ended = 1 }
+NR == 1000000 { system("cat >/dev/null"); exit }
+END { print repeated + 0, NR - ended }'
+
+# Runs a matrix as run_shown does, and leaves in $scratch/counted what COUNTS says of it. A copy of the
+# rows goes into a pipe beside, so that what is written, and its faults, stay as they are.
+run_counted() {
+    mkfifo "$scratch/rows" "$scratch/copy" || refuse "can't write into $scratch"
+    LC_ALL=C awk "$COUNTS" <"$scratch/copy" >"$scratch/counted" 3<&- &
+    counter=$!
+    noted=$!
+    children="$children$counter "
+    "$@" <&3 >"$scratch/rows" 3<&- 4<&- &
+    rows_process=$!
+    noted=$!
+    children="$children$rows_process "
+    run_shown tee "$scratch/copy" 3<"$scratch/rows"
+    copied=$?
+    wait "$rows_process"
+    ended_with=$?
+    wait "$counter"
+    children=${children%"$counter $rows_process "}
+    [ "$copied" -eq 0 ] || [ "$ended_with" -ne 0 ] || ended_with=2
+    return "$ended_with"
+}
+
 # Runs a command as `run` does, and gives its status. On a terminal, what it prints goes by way of a
 # pipe with a name: a pipe of the shell's would hide the status, and the process from signals. Only
 # the command may write into it, so that the escapes end with it, whatever ends it.

@@ -32,6 +32,7 @@ read_word() {
             --all-namespaces) everywhere=yes ;;
             --anywhere) anywhere=yes ;;
             --in-namespace) in_namespace=yes ;;
+            --once) once=yes ;;
             --*) ;;
             -?*) read_letters "${1#-}" ;;
             *) place=yes ;;
