@@ -6,6 +6,7 @@ import os
 import subprocess
 
 from common import V1
+from plugin_changes import GAINED, OVER, ROLE, read
 from plugin_room import (DANA, DEVELOPERS, IMPLIED, KIM, NO_ACCOUNT, NO_GROUP, NO_GROUPS, NO_SPACE,
                          NO_USER, NO_VERB, PLUGIN, RBAC, SCOPED, UNLISTED, URL_SCOPED, in_each_shell,
                          of_kinds, served)
@@ -370,4 +371,17 @@ def repeated(it):
     it.checked('nobody reads on', ended.stdout.count(b'\n') == 1, ended)
 
 
-CHECKS = [repeated, places, scopes, unlisted, bound_types, verbs, users, accounts, groups, named_in_files]
+@in_each_shell
+def universe_in_change(it):
+    """A Universe document within a change is remarked on, and changes nothing."""
+    it.run('export', 'prod')
+    os.mkdir(os.path.join(it.work, 'change'))
+    it.write(json.dumps(ROLE), 'change', 'role.json')
+    it.write(document(verbs=['get']), 'change', 'u.json')
+    it.expect('a Universe document in a change', ['diff', '--export', 'prod', '--with', 'change'],
+              1, GAINED, 'kubectl-rbacaudit: change/u.json: a Universe document is ignored in a '
+              'change, of which all requests are compared\n'
+              + read('change', '1 role, 0 bindings, 1 other object') + OVER % 'change')
+
+
+CHECKS = [repeated, universe_in_change, places, scopes, unlisted, bound_types, verbs, users, accounts, groups, named_in_files]

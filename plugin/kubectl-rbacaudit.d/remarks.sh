@@ -112,7 +112,9 @@ function on_text(text) {
 }
 function on_end(    at) {
     if (depth != base()) return
-    if (kind == "Universe" && version == "rbacaudit/v1")
+    if (idle && kind == "Universe" && version == "rbacaudit/v1")
+        tell("a Universe document is ignored in a change, of which all requests are compared")
+    else if (kind == "Universe" && version == "rbacaudit/v1")
         for (at = 1; at <= count; at++) tell(said[at])
     else if (kind == "Universe" || version ~ /^rbacaudit/)
         tell("a document of the version " version " and the kind " kind " is ignored: " \
@@ -140,14 +142,19 @@ remark_on_once() {
 cluster, so what holds in it is in no row of --once: add \"\" to them"
 }
 
-# Reports what of a file is meant for a universe, and is ignored. A pipe is left alone, since
-# rbacaudit has to read it.
+# Reports a Universe document in a change.
+remark_on_universe() {
+    look_for_universe "$list.json" idle=1 "$named"
+}
+
+# Reports what of a file is meant for a universe, and is ignored: with idle=1 behind it, all of it is.
+# The third word is what the file is called. A pipe is left alone, since rbacaudit has to read it.
 look_for_universe() {
     [ -f "$1" ] && [ -r "$1" ] || return 0
     LC_ALL=C grep -q -e rbacaudit -e '"Universe"' <"$1" || return 0
-    walk "$1" "$UNIVERSE_FAULTS" >"$scratch/remarks"
+    walk "$1" "$UNIVERSE_FAULTS" -v "${2:-idle=}" >"$scratch/remarks"
     while IFS= read -r line; do
-        printf 'kubectl-rbacaudit: %s: %s\n' "$1" "$line"
+        printf 'kubectl-rbacaudit: %s: %s\n' "${3:-$1}" "$line"
     done <"$scratch/remarks" | printable >&2
     walk "$1" "$PLACES" >"$scratch/places"
     while read -r lists whole; do
