@@ -111,7 +111,7 @@ one_matrix_text every m limit rows others e =
 
 -- ---- whether a row is a repeat follows from its key and binding
 
-repeat_of : Line → Bool
+abbrev repeat_of : Line → Bool
 repeat_of l = repeats_at l.0.namespace l.1.namespace
 
 unrepeated : (rows : List RowView) → map line_of (without_repeats rows) ≡ filter (λ l. not (repeat_of l)) (map line_of rows)

@@ -1,7 +1,7 @@
 mod Escapes
 mod Groups
 mod Once
-mod OneDocument
+pub mod OneDocument
 mod Pieces
 mod SameEntries
 mod Shapes
