@@ -1,17 +1,18 @@
 -- rows that are passed, of which all are repeats
 use Rattle.std.proofs.Common.{◌≡◌, ℕ, ◌+◌, ◌<◌, ◌≤◌, List, [], ◌∷◌, ◌++◌, Bool, true, false, All, length, length-append, refl, ap, ◌∙◌, sym, arith, append_assoc, subst}
-use Rattle.std.specs.Prelude.{Some, slice_get}
+use Rattle.std.specs.Prelude.{Option, Some, slice_get}
 use Rattle.std.proofs.lemmas.List.Elements.{All-append}
 use Rattle.std.proofs.lemmas.Option.{slice_get_within}
 use Rattle.rbac_model.specs.Policies.{Held, IsPolicy, GrantView}
 use Rattle.rbac_model.specs.Universes.{IsUniverse, Cell, RowView}
 use Rattle.rbac_matrix.specs.Cells.{AreRowsOf}
-use Rattle.rbac_matrix.specs.Enumeration.{AreLeft, GoesOn, requests_left}
+use Rattle.rbac_matrix.specs.Enumeration.{AreLeft, GoesOn, IsUnderWay, requests_left}
 use Rattle.rbac_matrix.specs.Lines.{LineView, cells_of_lines, lines_from}
 use Rattle.rbac_matrix.specs.Metering.{IsReady}
 use Rattle.rbac_matrix.specs.Once.{PassesSome, StaysFirst, is_repeat, repeats_at}
 use Rattle.rbac_matrix.specs.Passing.{EndsAll, FindsCell, Passes, cells_left, row_on}
 use Rattle.rbac_matrix.specs.declared.enumeration.Rows.{Rows}
+use Rattle.rbac_matrix.specs.declared.line.Place.{Place}
 use Rattle.rbac_matrix.proofs.BeginLemmas.{ready_line}
 use Rattle.rbac_matrix.proofs.EnumLemmas.{all_passes, comes_passes, here_passes, leads_pass}
 use Rattle.rbac_matrix.proofs.GoingLemmas.{fewer_left, fits_namespace}
@@ -60,6 +61,20 @@ goes_then s t v p q = record {
   universe = q.universe ∙ p.universe;
   start = q.start ∙ p.start;
   sought = q.sought ∙ p.sought;
+}
+
+-- which line is known to be mixed says nothing of the rows
+pub mixed_way : (s : Rows) (mixed : Option Place) (upto : ℕ) → IsUnderWay s upto → IsUnderWay (record s { mixed = mixed }) upto
+mixed_way s mixed upto way = record {
+  policy = way.policy;
+  universe = way.universe;
+  reaches = way.reaches;
+  ready = way.ready;
+  runs = way.runs;
+  blocks = way.blocks;
+  rows = way.rows;
+  is_returned = way.is_returned;
+  metered = way.metered;
 }
 
 -- ---- the rows of requests that are passed

@@ -37,6 +37,8 @@ pub struct Rows<'r, 'm> {
     pub(crate) from: u32,
     // What is kept of that line.
     pub(crate) kept: Kept,
+    // The last line on which a RoleBinding was found to have a cursor. It saves look-ups.
+    pub(crate) mixed: Option<Place>,
     // The first line, how many of its cursors were sought, and how many rows were returned.
     pub(crate) start: Place,
     pub(crate) sought: usize,
@@ -80,6 +82,7 @@ pub(crate) fn rows_from<'r, 'm>(
         at: start.at,
         from: start.from,
         kept,
+        mixed: None,
         start: start.at,
         sought,
         returned: 0,

@@ -12,7 +12,7 @@ use rbac_terms::{Principal, Word};
 use rbac_universe::Universe;
 
 /// The places of a line's principal, namespace and verb in the lists of a universe.
-#[derive(Clone, Copy)]
+#[derive(Clone, Copy, PartialEq)]
 pub(crate) struct Place {
     pub(crate) principal: usize,
     pub(crate) namespace: usize,

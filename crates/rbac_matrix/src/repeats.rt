@@ -125,6 +125,9 @@ impl Rows<'_, '_> {
         ensures { (l : LineView) (ls : List LineView) → IsTrue result
             → lines_from self.now.universe.now self.now.at ≡ l ∷ ls → IsBare self.now.index.now l }
     {
+        if self.mixed == Some(self.at) {
+            return false;
+        }
         let Some(line) = line_at(self.universe, self.at) else {
             return false;
         };
@@ -165,7 +168,7 @@ impl Rows<'_, '_> {
         self.from = 0;
     }
 
-    // Passes the place from which rows are left.
+    // Passes the place from which rows are left, on a line where a RoleBinding has a cursor.
     fn pass_place(&mut self)
         requires going { IsGoing self.old }
         requires few { self.old.from < most_targets }
@@ -176,6 +179,7 @@ impl Rows<'_, '_> {
     {
         self.pass(self.index.len());
         self.from += 1;
+        self.mixed = Some(self.at);
     }
 }
 
@@ -270,7 +274,8 @@ impl EveryRows<'_, '_> {
         self.upto = 0;
     }
 
-    // Passes the binding of this grant at the place from which rows are left.
+    // Passes the binding of this grant at the place from which rows are left, on a line where a
+    // RoleBinding has a cursor.
     fn pass_binding(&mut self, no: u32)
         requires going { IsGoingEvery self.old }
         requires few { self.old.rows.from < most_targets }
@@ -284,6 +289,7 @@ impl EveryRows<'_, '_> {
     {
         let (binding, end) = after_binding(self.rows.index, no);
         self.rows.pass(end);
+        self.rows.mixed = Some(self.rows.at);
         self.binding = binding;
         self.upto = end;
     }
