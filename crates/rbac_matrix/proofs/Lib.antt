@@ -2,6 +2,7 @@ pub mod BareLemmas
 pub mod BeginLemmas
 pub mod BlockLemmas
 pub mod Decided
+pub mod Elsewhere
 pub mod EnumLemmas
 pub mod EveryLemmas
 pub mod EveryStartLemmas

@@ -1,8 +1,8 @@
 -- Rows that repeat in a namespace what is allowed in the whole cluster, and the rows without them.
-use Rattle.std.specs.Prelude.{◌≡◌, ◌↔◌, Bool, true, false, not, Option, None, List, ◌∷◌, ◌++◌, All}
-use Rattle.std.specs.Prelude.{filter}
+use Rattle.std.specs.Prelude.{◌≡◌, ◌↔◌, Bool, true, false, not, Option, None, List, [], ◌∷◌, ◌++◌}
+use Rattle.std.specs.Prelude.{All, Contains, filter}
 use Rattle.rbac_terms.specs.Text.{Text}
-use Rattle.rbac_model.specs.Universes.{RowView, cell_key}
+use Rattle.rbac_model.specs.Universes.{UniverseView, RowView, cell_key}
 
 -- a request has a namespace, and a binding is a ClusterRoleBinding, which has none
 abbrev pub repeats_at : Text → Option Text → Bool
@@ -17,6 +17,16 @@ is_repeat row = repeats_at (cell_key row.cell).namespace row.binding.namespace
 -- the rows that are no repeats
 abbrev pub without_repeats : List RowView → List RowView
 without_repeats rows = filter (λ row. not (is_repeat row)) rows
+
+-- the row of the same request in the whole cluster, with the same binding
+abbrev pub everywhere : RowView → RowView
+everywhere row = record row { cell = record row.cell { namespace = [] } }
+
+-- each row that is left out as a repeat is among the others with the empty namespace, if the
+-- universe has that (own)
+abbrev pub RepeatsStandElsewhere : UniverseView → List RowView → Type 0
+RepeatsStandElsewhere u rows = Contains u.namespaces [] → (row : RowView) → Contains rows row
+    → is_repeat row ≡ true → Contains (without_repeats rows) (everywhere row)
 
 -- the rows left before are some repeats, and then the rows left after
 pub record PassesSome (before after : List RowView → Type 0) : Type 0 where

@@ -6,6 +6,7 @@ ghost use Rattle.rbac_model.specs.Policies.{Held, PolicyView, IsPolicy};
 ghost use Rattle.rbac_model.specs.Universes.{UniverseView, RowView, IsUniverse, IsMatrix};
 ghost use Rattle.rbac_token.specs.declared.mark.BindingName.{BindingName};
 ghost use Rattle.rbac_matrix.specs.Every.{EveryPagesJoin, IsEvery, StandsPast, comes_after};
+ghost use Rattle.rbac_matrix.specs.Once.{RepeatsStandElsewhere};
 ghost use Rattle.rbac_matrix.specs.Paging.{PagesJoin};
 
 /// The matrix of held objects over a universe is unique: one list of rows (own).
@@ -55,4 +56,14 @@ pub fn every_pages_join()
 pub fn rows_after_a_binding()
     ensures { (k : KeyTexts) (b : BindingName) (row : RowView) → (comes_after k (Some b) row ≡ true)
         ↔ StandsPast k b row }
+{}
+
+/// A row that is left out as a repeat stands elsewhere, if the universe has the empty namespace: its
+/// principal may do the same in the whole cluster by the same binding, in the matrix and among the
+/// rows of every granting binding (own).
+pub fn repeats_hold_in_the_whole_cluster()
+    ensures matrix { (held : Held) (u : UniverseView) (rows : List RowView) → IsMatrix held u rows
+        → RepeatsStandElsewhere u rows }
+    ensures every { (held : Held) (u : UniverseView) (rows : List RowView) → IsEvery held u rows
+        → RepeatsStandElsewhere u rows }
 {}

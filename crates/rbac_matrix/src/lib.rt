@@ -28,7 +28,7 @@ pub use every_rows::EveryRows;
 pub use fault::MatrixFault;
 pub use laws::{
     a_matrix_is_there, every_pages_join, every_rows_are_one, every_rows_are_there, pages_join,
-    rows_after_a_binding, the_matrix_is_one,
+    repeats_hold_in_the_whole_cluster, rows_after_a_binding, the_matrix_is_one,
 };
 pub use matrix::Matrix;
 pub use rbac_token::{
