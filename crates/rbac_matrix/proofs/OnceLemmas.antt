@@ -1,7 +1,8 @@
 -- rows that are passed, of which all are repeats
 use Rattle.std.proofs.Common.{◌≡◌, ℕ, ◌+◌, ◌<◌, ◌≤◌, List, [], ◌∷◌, ◌++◌, Bool, true, false, All, length, length-append, refl, ap, ◌∙◌, sym, arith, append_assoc, subst}
-use Rattle.std.specs.Prelude.{Option, Some, slice_get}
-use Rattle.std.proofs.lemmas.List.Elements.{All-append}
+use Rattle.std.specs.Prelude.{Option, Some, not, slice_get}
+use Rattle.std.proofs.lemmas.Bool.{both_ways}
+use Rattle.std.proofs.lemmas.List.Elements.{All-append, filter-append}
 use Rattle.std.proofs.lemmas.Option.{slice_get_within}
 use Rattle.rbac_model.specs.Policies.{Held, IsPolicy, GrantView}
 use Rattle.rbac_model.specs.Universes.{IsUniverse, Cell, RowView}
@@ -9,7 +10,7 @@ use Rattle.rbac_matrix.specs.Cells.{AreRowsOf}
 use Rattle.rbac_matrix.specs.Enumeration.{AreLeft, GoesOn, IsUnderWay, requests_left}
 use Rattle.rbac_matrix.specs.Lines.{LineView, cells_of_lines, lines_from}
 use Rattle.rbac_matrix.specs.Metering.{IsReady}
-use Rattle.rbac_matrix.specs.Once.{PassesSome, StaysFirst, is_repeat, repeats_at}
+use Rattle.rbac_matrix.specs.Once.{PassesRepeats, PassesSome, StaysFirst, is_repeat, repeats_at, without_repeats}
 use Rattle.rbac_matrix.specs.Passing.{EndsAll, FindsCell, Passes, cells_left, row_on}
 use Rattle.rbac_matrix.specs.declared.enumeration.Rows.{Rows}
 use Rattle.rbac_matrix.specs.declared.line.Place.{Place}
@@ -19,6 +20,8 @@ use Rattle.rbac_matrix.proofs.GoingLemmas.{fewer_left, fits_namespace}
 use Rattle.rbac_matrix.proofs.HitLemmas.{from_zero, next_onward}
 use Rattle.rbac_matrix.proofs.PassLemmas.{no_head, passes_left, passes_rows, same_head}
 use Rattle.rbac_matrix.proofs.RowLemmas.{rows_one}
+use Rattle.rbac_matrix.proofs.StartLemmas.{filter_none}
+use Rattle.rbac_matrix.proofs.WalkLemmas.{not_both}
 
 abbrev pub Lists : Type 1
 Lists = List RowView → Type 0
@@ -50,6 +53,17 @@ some_then A B C p q = record {
         (w.0, v.1 ∙ ap (λ (rows : List RowView). p.passed ++ rows) w.1 ∙ sym (append_assoc p.passed q.passed w.0), w.2),
     λ w. (p.left all).1 (q.passed ++ w.0, w.1 ∙ append_assoc p.passed q.passed w.0, (q.left (q.passed ++ w.0)).1 (w.0, refl, w.2)),
   );
+}
+
+-- the rows that are no repeats stay
+pub passes_repeats : (A B : Lists) → PassesSome A B → StaysFirst B → PassesRepeats A B
+passes_repeats A B p first = record {
+  some = p;
+  first = first;
+  once = λ all a.
+      let w = (p.left all).0 a in
+      let none : without_repeats p.passed ≡ [] = filter_none (λ row. not (is_repeat row)) p.passed (λ row v kept. not_both (is_repeat row) kept (subst (λ (r : RowView). is_repeat r ≡ true) v.2 (p.repeats v.0 row v.1))) in
+      (w.0, w.2, ap without_repeats w.1 ∙ filter-append (λ row. not (is_repeat row)) p.passed w.0 ∙ ap (λ (rows : List RowView). rows ++ without_repeats w.0) none);
 }
 
 pub goes_none : (s : Rows) → GoesOn s s

@@ -41,7 +41,9 @@ StaysFirst left = (row : RowView) (others : List RowView) → left (row ∷ othe
     → is_repeat row ≡ false
 
 -- repeats were passed: those that came before the first row that is none, or all rows if there is
--- none
+-- none. So the same rows are left that are no repeats
 pub record PassesRepeats (before after : List RowView → Type 0) : Type 0 where
   pub some : PassesSome before after
   pub first : StaysFirst after
+  pub once : (all : List RowView) → before all
+      → (others : List RowView) × after others × (without_repeats all ≡ without_repeats others)

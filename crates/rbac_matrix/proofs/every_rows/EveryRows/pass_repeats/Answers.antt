@@ -1,6 +1,6 @@
 use Rattle.std.proofs.Common.{◌∙◌, arith, refl}
 use Rattle.rbac_matrix.specs.EveryLeft.{AreEveryLeft}
-use Rattle.rbac_matrix.proofs.OnceLemmas.{goes_none, goes_then, some_none, some_then}
+use Rattle.rbac_matrix.proofs.OnceLemmas.{goes_none, goes_then, passes_repeats, some_none, some_then}
 use Rattle.rbac_matrix.proofs.every_rows.EveryRows.pass_repeats.Goals as goal
 
 pub loop-init : goal.loop-init
@@ -22,7 +22,6 @@ loop-preserved c = record {
 }
 
 pub returns-clause-passes : goal.returns-clause-passes
-returns-clause-passes c = record {
-  some = some_then (AreEveryLeft c.args.self.now) (AreEveryLeft c.loop.self) (AreEveryLeft c.pass_repeat.new.self) c.loop.invariant.some c.pass_repeat.ensures.some;
-  first = c.pass_repeat.ensures.first c.loop-test.false;
-}
+returns-clause-passes c =
+    let some = some_then (AreEveryLeft c.args.self.now) (AreEveryLeft c.loop.self) (AreEveryLeft c.pass_repeat.new.self) c.loop.invariant.some c.pass_repeat.ensures.some in
+    passes_repeats (AreEveryLeft c.args.self.now) (AreEveryLeft c.pass_repeat.new.self) some (c.pass_repeat.ensures.first c.loop-test.false)
