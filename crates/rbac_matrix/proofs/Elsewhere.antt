@@ -53,11 +53,14 @@ module _ (h : Held) (row : RowView) (e : is_repeat row ≡ true) where
   grants_everywhere grants = (live_nowhere row.binding.namespace row.cell.target.0 binding_none, grants.1, grants.2)
 
   first_everywhere : IsFirst h row.cell.who row.cell.namespace row.cell.verb row.cell.target.0 row.binding → IsFirst h row.cell.who [] row.cell.verb row.cell.target.0 row.binding
-  first_everywhere first = (first.0, record {
-    here = first.1.here;
-    holds = grants_everywhere first.1.holds;
-    none_before = λ k b lt at grants. first.1.none_before k b lt at (live_everywhere b.namespace row.cell.namespace row.cell.target.0 grants.0, grants.1, grants.2);
-  })
+  first_everywhere first = (
+    first.0,
+    record {
+      here = first.1.here;
+      holds = grants_everywhere first.1.holds;
+      none_before = λ k b lt at grants. first.1.none_before k b lt at (live_everywhere b.namespace row.cell.namespace row.cell.target.0 grants.0, grants.1, grants.2);
+    },
+  )
 
 stands : (rows : List RowView) (row : RowView) → Contains rows (everywhere row) → Contains (without_repeats rows) (everywhere row)
 stands rows row w = in_kept (λ r. not (is_repeat r)) rows (everywhere row) w (rw (once_everywhere row) refl)

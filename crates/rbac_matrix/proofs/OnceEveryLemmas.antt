@@ -163,10 +163,13 @@ module _ (s t : EveryRows) (policy : IsPolicy s.rows.index.now) (same : GoesOn s
     onward : IsFrom t.rows.from t.upto f.begin f.low
     onward = elim f.found.next.onward [
       | inl lt ↦ inl lt
-      | inr there ↦ inr (there.0, elim f.leads [
-        | inl kept ↦ rw (sym kept.2) at (begins_onward p policy no t.binding t.upto s.upto s.binding begins below (rw kept.2 at there.1))
-        | inr later ↦ omega (arith, later.1)
-      ])
+      | inr there ↦ inr (
+        there.0,
+        elim f.leads [
+          | inl kept ↦ rw (sym kept.2) at (begins_onward p policy no t.binding t.upto s.upto s.binding begins below (rw kept.2 at there.1))
+          | inr later ↦ omega (arith, later.1)
+        ],
+      )
     ]
 
     pub every_ready : IsReady p u s.rows.reaches.now t.rows.at t.rows.from t.upto t.rows.seats.now

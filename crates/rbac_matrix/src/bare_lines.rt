@@ -61,7 +61,10 @@ pub(crate) fn past_bare(index: &Index<'_>, universe: &Universe, at: Place, clust
         if line.namespace.is_empty() || has_bound_from(index, line, cluster) {
             return at;
         }
-        at = settled(universe, Place::of_namespace(at.principal, at.namespace + 1));
+        at = settled(
+            universe,
+            Place::of_namespace(at.principal, at.namespace + 1),
+        );
     }
     at
 }

@@ -8,6 +8,7 @@ mod basis;
 mod blocks;
 mod bound_runs;
 mod enumeration;
+mod every_repeats;
 mod every_rows;
 mod every_start;
 mod fault;

@@ -14,7 +14,7 @@ next_line-self-requires-clause-known c =
     known_here c.args.self.now.index.now c.args.self.now.universe.now c.args.self.now.at c.past_bare-next.result (line_of c.in-Some.line) c.args.self.now.kept.runs c.keep_here.new.self c.in-Some.ensures.place runs c.keep_here.ensures (rw (sym c.after.ensures) c.past_bare-next.ensures.moved)
 
 pub returns-clause-going : goal.returns-clause-going
-returns-clause-going c = 
+returns-clause-going c =
     let way = c.requires.way.1 in
     record {
       policy = way.policy;
@@ -30,7 +30,7 @@ returns-clause-going c =
     }
 
 pub returns-clause-passes : goal.returns-clause-passes
-returns-clause-passes c = 
+returns-clause-passes c =
     let way = c.requires.way.1 in
     let line = same_head c.requires.bare.0 (line_of c.in-Some.line) c.requires.bare.1 _ (sym c.requires.bare.2 ∙ c.in-Some.ensures.line) in
     let bare = subst (IsBare c.args.self.now.index.now) line c.requires.bare.3 in

@@ -1,4 +1,4 @@
-use Rattle.rbac_matrix.proofs.repeats.at_binding.Goals as goal
+use Rattle.rbac_matrix.proofs.every_repeats.at_binding.Goals as goal
 
 pub returns : goal.returns
 returns c = record {

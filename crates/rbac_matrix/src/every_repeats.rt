@@ -1,0 +1,126 @@
+//! Passing rows of every granting binding that repeat what is allowed in the whole cluster.
+
+ghost use Rattle.std.specs.Prelude.{◌≡◌, ◌<◌, ◌≤◌, ◌∷◌, ◌+◌, List, IfSome, IsTrue, MatchOption};
+ghost use Rattle.std.specs.Prelude.{false, length};
+ghost use Rattle.rbac_model.specs.Universes.{most_targets};
+ghost use Rattle.rbac_matrix.specs.BareLines.{IsBare, PassesLines};
+ghost use Rattle.rbac_matrix.specs.Enumeration.{GoesOn};
+ghost use Rattle.rbac_matrix.specs.EveryLeft.{AreEveryLeft, BeginsBinding, IsGoingEvery, pairs_left};
+ghost use Rattle.rbac_matrix.specs.Lines.{LineView, lines_from};
+ghost use Rattle.rbac_matrix.specs.Once.{PassesRepeats, PassesSome, StaysFirst};
+ghost use Rattle.rbac_matrix.specs.Passing.{EndsAll, FindsCell};
+
+use crate::every_rows::{EveryRows, after_binding};
+use rbac_index::Index;
+
+// The place of a grant's binding, and where the grants of that binding begin.
+fn at_binding(index: &Index<'_>, no: u32) -> (usize, u32)
+    requires { no < length index.now.grants }
+    ensures { BeginsBinding index.now no result.0 result.1 }
+{
+    let place = index.grant(no).binding_place;
+    let (start, _) = index.policy().grants_of(place);
+    (place, start)
+}
+
+impl EveryRows<'_, '_> {
+    // Comes to the next row and doesn't pass it: the grant that allows it.
+    fn come(&mut self) -> Option<u32>
+        requires { IsGoingEvery self.old }
+        ensures found { MatchOption result
+            (EndsAll self.old.rows.index.now self.old.rows.universe.now self.old.rows.reaches.now
+            self.old.rows.at self.old.rows.from self.old.upto
+            self.new.rows.at self.new.rows.seats.now)
+            (λ no. FindsCell self.old.rows.index.now self.old.rows.universe.now
+            self.old.rows.reaches.now self.old.rows.at self.old.rows.from self.old.upto
+            self.new.rows.at self.new.rows.seats.now self.new.rows.from no) }
+        ensures binding { IfSome result
+            (λ no. BeginsBinding self.old.rows.index.now no self.new.binding self.new.upto) }
+        ensures going { IsGoingEvery self.new }
+        ensures returned { self.new.rows.returned ≡ self.old.rows.returned }
+        ensures same { GoesOn self.old.rows self.new.rows }
+    {
+        let (_, no) = self.rows.come(self.upto)?;
+        let (binding, start) = at_binding(self.rows.index, no);
+        self.binding = binding;
+        self.upto = start;
+        Some(no)
+    }
+
+    /// Passes rows that are repeats, up to the next row that is none; all rows, if there is none.
+    /// Doesn't allocate.
+    pub fn pass_repeats(&mut self)
+        requires { IsGoingEvery self.old }
+        ensures passes { PassesRepeats (AreEveryLeft self.old) (AreEveryLeft self.new) }
+        ensures going { IsGoingEvery self.new }
+        ensures few { pairs_left self.new ≤ pairs_left self.old }
+        ensures returned { self.new.rows.returned ≡ self.old.rows.returned }
+        ensures same { GoesOn self.old.rows self.new.rows }
+    {
+        while self.pass_repeat() {}
+    }
+
+    // Passes the next row if it is a repeat, and answers whether it is.
+    fn pass_repeat(&mut self) -> bool
+        requires { IsGoingEvery self.old }
+        ensures some { PassesSome (AreEveryLeft self.old) (AreEveryLeft self.new) }
+        ensures first { result ≡ false → StaysFirst (AreEveryLeft self.new) }
+        ensures going { IsGoingEvery self.new }
+        ensures few { pairs_left self.new ≤ pairs_left self.old }
+        ensures fewer { IsTrue result → pairs_left self.new < pairs_left self.old }
+        ensures returned { self.new.rows.returned ≡ self.old.rows.returned }
+        ensures same { GoesOn self.old.rows self.new.rows }
+    {
+        let Some(no) = self.come() else {
+            return false;
+        };
+        if !self.rows.repeats_by(no) {
+            return false;
+        }
+        if self.rows.is_bare() {
+            self.pass_lines();
+            return true;
+        }
+        self.pass_binding(no);
+        true
+    }
+
+    // Leaves the line, whose rows are repeats, and passes lines after it of which the index says
+    // the same.
+    fn pass_lines(&mut self)
+        requires going { IsGoingEvery self.old }
+        requires bare { (l : LineView) × (ls : List LineView)
+            × (lines_from self.old.rows.universe.now self.old.rows.at ≡ l ∷ ls)
+            × IsBare self.old.rows.index.now l }
+        ensures going { IsGoingEvery self.new }
+        ensures passes { PassesLines self.old.rows.index.now self.old.rows.universe.now
+            self.old.rows.at self.new.rows.at }
+        ensures from { (self.new.rows.from ≡ 0) × (self.new.binding ≡ 0) }
+        ensures returned { self.new.rows.returned ≡ self.old.rows.returned }
+        ensures same { GoesOn self.old.rows self.new.rows }
+    {
+        self.rows.pass_lines();
+        self.binding = 0;
+        self.upto = 0;
+    }
+
+    // Passes the binding of this grant at the place from which rows are left, on a line where a
+    // RoleBinding has a cursor.
+    fn pass_binding(&mut self, no: u32)
+        requires going { IsGoingEvery self.old }
+        requires few { self.old.rows.from < most_targets }
+        requires within { self.old.rows.from < length self.old.rows.universe.now.targets }
+        requires binding { BeginsBinding self.old.rows.index.now no self.old.binding self.old.upto }
+        ensures going { IsGoingEvery self.new }
+        ensures place { (self.new.rows.at ≡ self.old.rows.at)
+            × (self.new.rows.from ≡ self.old.rows.from) × (self.new.binding ≡ self.old.binding + 1)
+            × (self.new.rows.returned ≡ self.old.rows.returned) }
+        ensures same { GoesOn self.old.rows self.new.rows }
+    {
+        let (binding, end) = after_binding(self.rows.index, no);
+        self.rows.pass(end);
+        self.rows.mixed = Some(self.rows.at);
+        self.binding = binding;
+        self.upto = end;
+    }
+}
