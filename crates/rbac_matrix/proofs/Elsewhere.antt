@@ -1,13 +1,11 @@
 -- what is allowed by a ClusterRoleBinding in a namespace is so in the whole cluster
-use Rattle.std.proofs.Common.{◌≡◌, ℕ, ◌<◌, List, [], ◌∷◌, Bool, true, false, Contains, ap, ◌∙◌, refl, inl, inr, arith, subst}
+use Rattle.std.proofs.Common.{◌≡◌, List, [], ◌∷◌, Bool, true, false, Contains, ap, ◌∙◌, refl, inl, inr, arith, subst}
 use Rattle.std.specs.Prelude.{Option, Some, None, filter, not}
 use Rattle.rbac_terms.specs.Text.{Text}
 use Rattle.rbac_terms.specs.Targets.{What, Resource, Url}
-use Rattle.rbac_terms.specs.declared.granting.Binding.{Binding}
-use Rattle.rbac_terms.specs.Principals.{Who}
 use Rattle.rbac_terms.specs.Keys.{namespace_at}
 use Rattle.rbac_model.specs.Policies.{Held, Grants, IsFirst, Live}
-use Rattle.rbac_model.specs.Universes.{UniverseView, RowView, IsCellOf, IsMatrix, cell_key}
+use Rattle.rbac_model.specs.Universes.{UniverseView, RowView, IsMatrix, cell_key}
 use Rattle.rbac_universe.proofs.Flattened.{here, in_cons, there}
 use Rattle.rbac_matrix.specs.Every.{IsEvery}
 use Rattle.rbac_matrix.specs.Once.{RepeatsStandElsewhere, everywhere, is_repeat, repeats_at, without_repeats}

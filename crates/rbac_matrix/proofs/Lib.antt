@@ -1,4 +1,3 @@
-pub mod BareLemmas
 pub mod BeginLemmas
 pub mod BlockLemmas
 pub mod Decided
@@ -23,6 +22,7 @@ pub mod Orders
 pub mod PairLemmas
 pub mod PassLemmas
 pub mod Product
+pub mod RepeatedLemmas
 pub mod RowLemmas
 pub mod SearchLemmas
 pub mod SeatLemmas

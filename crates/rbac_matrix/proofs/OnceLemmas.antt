@@ -1,7 +1,6 @@
 -- rows that are passed, of which all are repeats
 use Rattle.std.proofs.Common.{◌≡◌, ℕ, ◌+◌, ◌<◌, ◌≤◌, List, [], ◌∷◌, ◌++◌, Bool, true, false, All, length, length-append, refl, ap, ◌∙◌, sym, arith, append_assoc, subst}
 use Rattle.std.specs.Prelude.{Option, Some, not, slice_get}
-use Rattle.std.proofs.lemmas.Bool.{both_ways}
 use Rattle.std.proofs.lemmas.List.Elements.{All-append, filter-append}
 use Rattle.std.proofs.lemmas.Option.{slice_get_within}
 use Rattle.rbac_model.specs.Policies.{Held, IsPolicy, GrantView}

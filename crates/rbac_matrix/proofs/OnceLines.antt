@@ -10,7 +10,7 @@ use Rattle.rbac_terms.proofs.Reading.{read_some}
 use Rattle.rbac_model.specs.Policies.{PolicyView, IsPolicy}
 use Rattle.rbac_model.specs.Universes.{UniverseView, Cell, RowView}
 use Rattle.rbac_universe.proofs.Flattened.{contains_flat, contains_map, here, there}
-use Rattle.rbac_matrix.specs.BareLines.{PassesLines}
+use Rattle.rbac_matrix.specs.RepeatedLines.{PassesLines}
 use Rattle.rbac_matrix.specs.Cells.{AreRowsOf}
 use Rattle.rbac_matrix.specs.Enumeration.{AreLeft, GoesOn, requests_left}
 use Rattle.rbac_matrix.specs.EveryLeft.{AreEveryLeft, pairs_from, pairs_left}

@@ -1,4 +1,3 @@
-pub mod BareLines
 pub mod Blocks
 pub mod Cells
 pub mod Cursors
@@ -13,6 +12,7 @@ pub mod Once
 pub mod Paging
 pub mod Pairs
 pub mod Passing
+pub mod RepeatedLines
 pub mod RowTexts
 pub mod Seats
 pub mod Shown

@@ -3,7 +3,7 @@
 ghost use Rattle.std.specs.Prelude.{◌≡◌, ◌<◌, ◌≤◌, ◌∷◌, ◌+◌, List, IfSome, IsTrue, MatchOption};
 ghost use Rattle.std.specs.Prelude.{false, length};
 ghost use Rattle.rbac_model.specs.Universes.{most_targets};
-ghost use Rattle.rbac_matrix.specs.BareLines.{IsBare, PassesLines};
+ghost use Rattle.rbac_matrix.specs.RepeatedLines.{IsRepeated, PassesLines};
 ghost use Rattle.rbac_matrix.specs.Enumeration.{GoesOn};
 ghost use Rattle.rbac_matrix.specs.EveryLeft.{AreEveryLeft, BeginsBinding, IsGoingEvery, pairs_left};
 ghost use Rattle.rbac_matrix.specs.Lines.{LineView, lines_from};
@@ -77,7 +77,7 @@ impl EveryRows<'_, '_> {
         if !self.rows.repeats_by(no) {
             return false;
         }
-        if self.rows.is_bare() {
+        if self.rows.is_repeated() {
             self.pass_lines();
             return true;
         }
@@ -89,9 +89,9 @@ impl EveryRows<'_, '_> {
     // the same.
     fn pass_lines(&mut self)
         requires going { IsGoingEvery self.old }
-        requires bare { (l : LineView) × (ls : List LineView)
+        requires repeated { (l : LineView) × (ls : List LineView)
             × (lines_from self.old.rows.universe.now self.old.rows.at ≡ l ∷ ls)
-            × IsBare self.old.rows.index.now l }
+            × IsRepeated self.old.rows.index.now l }
         ensures going { IsGoingEvery self.new }
         ensures passes { PassesLines self.old.rows.index.now self.old.rows.universe.now
             self.old.rows.at self.new.rows.at }

@@ -3,7 +3,6 @@
 #![tactic(auto)]
 
 mod advance;
-mod bare_lines;
 mod basis;
 mod blocks;
 mod bound_runs;
@@ -16,6 +15,7 @@ mod kept;
 mod laws;
 mod line;
 mod matrix;
+mod repeated_lines;
 mod repeats;
 mod row;
 mod seat;

@@ -5,7 +5,7 @@ ghost use Rattle.std.specs.Prelude.{Some, length, slice_get};
 ghost use Rattle.rbac_model.specs.Policies.{GrantView};
 ghost use Rattle.rbac_model.specs.Universes.{most_targets};
 ghost use Rattle.rbac_universe.specs.Sets.{IsWithinLimits};
-ghost use Rattle.rbac_matrix.specs.BareLines.{IsBare, PassesLines};
+ghost use Rattle.rbac_matrix.specs.RepeatedLines.{IsRepeated, PassesLines};
 ghost use Rattle.rbac_matrix.specs.Enumeration.{AreLeft, GoesOn, IsGoing, IsUnderWay};
 ghost use Rattle.rbac_matrix.specs.Enumeration.{requests_left};
 ghost use Rattle.rbac_matrix.specs.Lines.{IsSettled, LineView, lines_from};
@@ -13,10 +13,10 @@ ghost use Rattle.rbac_matrix.specs.Metering.{IsReady};
 ghost use Rattle.rbac_matrix.specs.Once.{PassesRepeats, PassesSome, StaysFirst, repeats_at};
 ghost use Rattle.rbac_matrix.specs.Passing.{EndsAll, FindsCell};
 
-use crate::bare_lines::{cluster_grants, has_cursor_from, past_bare};
 use crate::basis::Basis;
 use crate::enumeration::Rows;
 use crate::line::{after, line_at};
+use crate::repeated_lines::{cluster_grants, has_cursor_from, past_repeated};
 use crate::row::is_repeat_in;
 use crate::seats::empty_line;
 use crate::steps::{next_cell, next_line};
@@ -91,7 +91,7 @@ impl Rows<'_, '_> {
         if !self.repeats_by(no) {
             return false;
         }
-        if self.is_bare() {
+        if self.is_repeated() {
             self.pass_lines();
             return true;
         }
@@ -117,10 +117,10 @@ impl Rows<'_, '_> {
 
     // Whether the line has a namespace, and no RoleBinding has a cursor on it. Then its rows are
     // repeats.
-    pub(crate) fn is_bare(&self) -> bool
+    pub(crate) fn is_repeated(&self) -> bool
         requires { IsSettled self.now.universe.now self.now.at }
         ensures { (l : LineView) (ls : List LineView) → IsTrue result
-            → lines_from self.now.universe.now self.now.at ≡ l ∷ ls → IsBare self.now.index.now l }
+            → lines_from self.now.universe.now self.now.at ≡ l ∷ ls → IsRepeated self.now.index.now l }
     {
         if self.mixed == Some(self.at) {
             return false;
@@ -136,9 +136,9 @@ impl Rows<'_, '_> {
     // the same.
     pub(crate) fn pass_lines(&mut self)
         requires way { (low : ℕ) × IsUnderWay self.old low }
-        requires bare { (l : LineView) × (ls : List LineView)
+        requires repeated { (l : LineView) × (ls : List LineView)
             × (lines_from self.old.universe.now self.old.at ≡ l ∷ ls)
-            × IsBare self.old.index.now l }
+            × IsRepeated self.old.index.now l }
         ensures going { IsGoing self.new }
         ensures passes { PassesLines self.old.index.now self.old.universe.now
             self.old.at self.new.at }
@@ -153,7 +153,7 @@ impl Rows<'_, '_> {
         };
         empty_line(index, line, &self.kept.runs, self.seats);
         let cluster = cluster_grants(index);
-        let next = past_bare(index, universe, after(self.at), cluster);
+        let next = past_repeated(index, universe, after(self.at), cluster);
         let basis = Basis {
             index,
             universe,

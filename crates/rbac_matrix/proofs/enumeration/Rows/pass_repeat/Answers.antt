@@ -64,16 +64,16 @@ returns-clause-few c = let fewer = returns-clause-fewer c refl in omega (arith, 
 pub pass_lines-requires-clause-way : goal.pass_lines-requires-clause-way
 pass_lines-requires-clause-way c = (0, c.come.ensures.way 0 (come_ready c.args.self.now c.come.new.self c.requires.policy c.come.ensures.same c.in-Some.field-0-0 c.in-Some.no c.in-Some.ensures.place c.in-Some.ensures.found))
 
-pub returns-then-is_bare-clause-some : goal.returns-then-is_bare-clause-some
-returns-then-is_bare-clause-some c =
+pub returns-then-is_repeated-clause-some : goal.returns-then-is_repeated-clause-some
+returns-then-is_repeated-clause-some c =
     let s = c.args.self.now in
     let t = c.come.new.self in
     let v = c.pass_lines.new.self in
     let before = left_passes s t c.come.ensures.same [] (come_passes s t c.requires.policy c.come.ensures.same c.in-Some.field-0-0 c.in-Some.no c.in-Some.ensures.place c.in-Some.ensures.found) no_repeats in
     some_then (AreLeft s) (AreLeft t) (AreLeft v) before (lines_some t v (rw c.come.ensures.same.index c.requires.policy) c.pass_lines.ensures.same c.pass_lines.ensures.passes c.pass_lines.ensures.from)
 
-pub returns-then-is_bare-clause-fewer : goal.returns-then-is_bare-clause-fewer
-returns-then-is_bare-clause-fewer c =
+pub returns-then-is_repeated-clause-fewer : goal.returns-then-is_repeated-clause-fewer
+returns-then-is_repeated-clause-fewer c =
     let s = c.args.self.now in
     let t = c.come.new.self in
     let v = c.pass_lines.new.self in
@@ -82,5 +82,5 @@ returns-then-is_bare-clause-fewer c =
     let fewer = lines_fewer t v (rw c.come.ensures.same.index c.requires.policy) c.pass_lines.ensures.same c.pass_lines.ensures.passes c.pass_lines.ensures.from within in
     λ yes. omega (arith, few, fewer)
 
-pub returns-then-is_bare-clause-few : goal.returns-then-is_bare-clause-few
-returns-then-is_bare-clause-few c = let fewer = returns-then-is_bare-clause-fewer c refl in omega (arith, fewer)
+pub returns-then-is_repeated-clause-few : goal.returns-then-is_repeated-clause-few
+returns-then-is_repeated-clause-few c = let fewer = returns-then-is_repeated-clause-fewer c refl in omega (arith, fewer)

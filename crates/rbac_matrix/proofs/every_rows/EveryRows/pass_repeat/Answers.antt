@@ -54,8 +54,8 @@ returns-clause-fewer c =
 pub returns-clause-few : goal.returns-clause-few
 returns-clause-few c = let fewer = returns-clause-fewer c refl in omega (arith, fewer)
 
-pub returns-then-is_bare-clause-some : goal.returns-then-is_bare-clause-some
-returns-then-is_bare-clause-some c =
+pub returns-then-is_repeated-clause-some : goal.returns-then-is_repeated-clause-some
+returns-then-is_repeated-clause-some c =
     let s = c.args.self.now in
     let t = c.come.new.self in
     let v = c.pass_lines.new.self in
@@ -64,8 +64,8 @@ returns-then-is_bare-clause-some c =
     (every_come s t c.requires.way.policy c.come.ensures.same c.requires.below c.requires.within c.in-Some.no c.in-Some.ensures.found c.in-Some.ensures.binding)
     (every_lines_some t v (rw c.come.ensures.same.index c.requires.way.policy) c.pass_lines.ensures.same c.pass_lines.ensures.passes c.pass_lines.ensures.from within)
 
-pub returns-then-is_bare-clause-fewer : goal.returns-then-is_bare-clause-fewer
-returns-then-is_bare-clause-fewer c =
+pub returns-then-is_repeated-clause-fewer : goal.returns-then-is_repeated-clause-fewer
+returns-then-is_repeated-clause-fewer c =
     let s = c.args.self.now in
     let t = c.come.new.self in
     let v = c.pass_lines.new.self in
@@ -75,5 +75,5 @@ returns-then-is_bare-clause-fewer c =
     let fewer = every_lines_fewer t v (rw c.come.ensures.same.index c.requires.way.policy) c.pass_lines.ensures.same c.pass_lines.ensures.passes c.pass_lines.ensures.from within binding in
     λ yes. omega (arith, few, fewer)
 
-pub returns-then-is_bare-clause-few : goal.returns-then-is_bare-clause-few
-returns-then-is_bare-clause-few c = let fewer = returns-then-is_bare-clause-fewer c refl in omega (arith, fewer)
+pub returns-then-is_repeated-clause-few : goal.returns-then-is_repeated-clause-few
+returns-then-is_repeated-clause-few c = let fewer = returns-then-is_repeated-clause-fewer c refl in omega (arith, fewer)

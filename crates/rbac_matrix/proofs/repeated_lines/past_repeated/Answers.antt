@@ -1,12 +1,12 @@
 use Rattle.std.proofs.Common.{◌≡◌, arith, ap, length, refl, inl, inr}
 use Rattle.std.proofs.lemmas.Bool.{both_ways}
-use Rattle.rbac_matrix.specs.BareLines.{PassesBare}
+use Rattle.rbac_matrix.specs.RepeatedLines.{PassesRepeated}
 use Rattle.rbac_matrix.specs.Lines.{IsMoved, lines_from}
 use Rattle.rbac_matrix.specs.Shown.{line_of}
 use Rattle.rbac_matrix.specs.declared.line.Place.{Place}
-use Rattle.rbac_matrix.proofs.BareLemmas.{bare_namespace, bare_none, bare_then}
+use Rattle.rbac_matrix.proofs.RepeatedLemmas.{repeated_namespace, repeated_none, repeated_then}
 use Rattle.rbac_matrix.proofs.IdleLemmas.{fewer_after_namespace}
-use Rattle.rbac_matrix.proofs.bare_lines.past_bare.Goals as goal
+use Rattle.rbac_matrix.proofs.repeated_lines.past_repeated.Goals as goal
 
 pub loop-line-smaller : goal.loop-line-smaller
 loop-line-smaller c =
@@ -23,9 +23,9 @@ loop-line-preserved c =
     let u = c.args.universe.now in
     let next = c.of_namespace.result in
     let to = c.settled-at-in-Some.result in
-    let over : PassesBare p u c.loop-line.at next = rw c.of_namespace.ensures (bare_namespace p c.args.cluster c.requires.cluster u c.loop-line.at (line_of c.in-Some.line) c.in-Some.ensures.place (λ e. both_ways _ c.if-is_empty.false (c.is_empty.ensures.1 e)) (c.has_bound_from.ensures (both_ways _ c.if-has_bound_from.false))) in
+    let over : PassesRepeated p u c.loop-line.at next = rw c.of_namespace.ensures (repeated_namespace p c.args.cluster c.requires.cluster u c.loop-line.at (line_of c.in-Some.line) c.in-Some.ensures.place (λ e. both_ways _ c.if-is_empty.false (c.is_empty.ensures.1 e)) (c.has_bound_from.ensures (both_ways _ c.if-has_bound_from.false))) in
     record {
       settled = c.settled-at-in-Some.ensures.settled;
-      passes = bare_then p u c.args.at c.loop-line.at to c.loop-line.invariant.passes (bare_then p u c.loop-line.at next to over (bare_none p u next to c.settled-at-in-Some.ensures.same));
+      passes = repeated_then p u c.args.at c.loop-line.at to c.loop-line.invariant.passes (repeated_then p u c.loop-line.at next to over (repeated_none p u next to c.settled-at-in-Some.ensures.same));
       moved = inr (first_verb next to (rw c.of_namespace.ensures refl) c.settled-at-in-Some.ensures.moved);
     }

@@ -2,7 +2,7 @@
 
 ghost use Rattle.std.specs.Prelude.{◌≡◌, ◌<◌, ◌≤◌, ◌⊎◌, ℕ, IsTrue, None, Some, slice_get};
 ghost use Rattle.rbac_model.specs.Policies.{GrantView};
-ghost use Rattle.rbac_matrix.specs.BareLines.{PassesBare};
+ghost use Rattle.rbac_matrix.specs.RepeatedLines.{PassesRepeated};
 ghost use Rattle.rbac_matrix.specs.Cursors.{IsBoundOn, IsCursorAt};
 ghost use Rattle.rbac_matrix.specs.Lines.{IsSettled};
 ghost use Rattle.rbac_matrix.specs.Shown.{line_of};
@@ -49,11 +49,16 @@ pub(crate) fn has_cursor_from(index: &Index<'_>, line: Line<'_>, first: u32) -> 
 
 // The place of the first line, from this one on, that is in the empty namespace, or in a namespace
 // where a RoleBinding names who asks; past all lines, if there is none.
-pub(crate) fn past_bare(index: &Index<'_>, universe: &Universe, at: Place, cluster: u32) -> Place
+pub(crate) fn past_repeated(
+    index: &Index<'_>,
+    universe: &Universe,
+    at: Place,
+    cluster: u32,
+) -> Place
     requires cluster { (k : ℕ) (g : GrantView) → slice_get index.now.grants k ≡ Some g → k < cluster
         → g.binding.namespace ≡ None }
     ensures settled { IsSettled universe.now result }
-    ensures passes { PassesBare index.now universe.now at result }
+    ensures passes { PassesRepeated index.now universe.now at result }
     ensures moved { (result ≡ at) ⊎ (result.verb ≡ 0) }
 {
     let mut at = settled(universe, at);

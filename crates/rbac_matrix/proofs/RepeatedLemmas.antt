@@ -1,4 +1,4 @@
--- bare lines, and what is passed over them
+-- repeated lines, and what is passed over them
 use Rattle.std.proofs.Common.{◌≡◌, ◌≢◌, ℕ, ◌+◌, ◌-◌, ◌<◌, ◌≤◌, ◌⊎◌, List, [], ◌∷◌, ◌++◌, true, false, Contains, drop, refl, ap, ◌∙◌, sym, arith, append_assoc, subst, inl, inr, ◌↔◌}
 use Rattle.std.specs.Prelude.{Some, None, is_none, slice_get}
 use Rattle.std.specs.List.{flat_map}
@@ -14,7 +14,7 @@ use Rattle.rbac_model.proofs.BindingPlaces.{of_some_binding}
 use Rattle.rbac_index.proofs.LivingLemmas.{cluster_first}
 use Rattle.rbac_universe.proofs.Flattened.{contains_map, flat_contains, in_cons, map_contains}
 use Rattle.rbac_index.specs.Reaches.{AreReaches}
-use Rattle.rbac_matrix.specs.BareLines.{HasRepeats, IsBare, PassesBare, PassesLines}
+use Rattle.rbac_matrix.specs.RepeatedLines.{HasRepeats, IsRepeated, PassesRepeated, PassesLines}
 use Rattle.rbac_matrix.specs.Cells.{AreRowsOf}
 use Rattle.rbac_matrix.specs.Cursors.{AreKnownAt, AreRunsOf, IsBoundOn, IsCursorAt}
 use Rattle.rbac_matrix.specs.Lines.{IsLineAt, LineView, line, line_cells_from, lines_from, next_verb, place, verb_lines}
@@ -51,8 +51,8 @@ abbrev pub AreCluster : PolicyView → ℕ → Type 0
 AreCluster p first = (k : ℕ) (g : GrantView) → slice_get p.grants k ≡ Some g → k < first → g.binding.namespace ≡ None
 
 module _ (p : PolicyView) (first : ℕ) (cluster : AreCluster p first) where
-  pub bare_line : (l : LineView) → l.namespace ≢ [] → ((k : ℕ) → first ≤ k → IsCursorAt p l k → ⊥) → IsBare p l
-  bare_line l some none = record {
+  pub repeated_line : (l : LineView) → l.namespace ≢ [] → ((k : ℕ) → first ≤ k → IsCursorAt p l k → ⊥) → IsRepeated p l
+  repeated_line l some none = record {
     some = some;
     cursors = λ k c. elim (cases_lt k first) [
       | inl lt ↦ cluster k c.grant c.at lt
@@ -60,38 +60,38 @@ module _ (p : PolicyView) (first : ℕ) (cluster : AreCluster p first) where
     ];
   }
 
-  pub bare_namespace : (u : UniverseView) (at : Place) (l : LineView) → IsLineAt u at l → l.namespace ≢ [] → ((k : ℕ) → first ≤ k → IsBoundOn p l k → ⊥) → PassesBare p u at (place at.principal (at.namespace + 1) 0)
-  bare_namespace u at l here some none = record {
+  pub repeated_namespace : (u : UniverseView) (at : Place) (l : LineView) → IsLineAt u at l → l.namespace ≢ [] → ((k : ℕ) → first ≤ k → IsBoundOn p l k → ⊥) → PassesRepeated p u at (place at.principal (at.namespace + 1) 0)
+  repeated_namespace u at l here some none = record {
     between = verb_lines u l.who at.verb l.namespace;
     whole = namespace_over u at l here;
-    bare = λ m w.
+    repeated = λ m w.
         let f = contains_map (line l.who l.namespace) (drop at.verb u.verbs) m w in
-        subst (IsBare p) f.2 (bare_line (line l.who l.namespace f.0) some (λ k ge c. none k ge (bound_alike p l f.0 k (cursor_bound p (line l.who l.namespace f.0) k c))));
+        subst (IsRepeated p) f.2 (repeated_line (line l.who l.namespace f.0) some (λ k ge c. none k ge (bound_alike p l f.0 k (cursor_bound p (line l.who l.namespace f.0) k c))));
   }
 
 module _ (p : PolicyView) (u : UniverseView) where
-  pub bare_none : (at to : Place) → lines_from u to ≡ lines_from u at → PassesBare p u at to
-  bare_none at to e = record { between = []; whole = sym e; bare = λ l w. absurd (omega (arith, w.1)) }
+  pub repeated_none : (at to : Place) → lines_from u to ≡ lines_from u at → PassesRepeated p u at to
+  repeated_none at to e = record { between = []; whole = sym e; repeated = λ l w. absurd (omega (arith, w.1)) }
 
-  pub bare_then : (a b c : Place) → PassesBare p u a b → PassesBare p u b c → PassesBare p u a c
-  bare_then a b c q r = record {
+  pub repeated_then : (a b c : Place) → PassesRepeated p u a b → PassesRepeated p u b c → PassesRepeated p u a c
+  repeated_then a b c q r = record {
     between = q.between ++ r.between;
     whole = q.whole ∙ ap (λ (ls : List LineView). q.between ++ ls) r.whole ∙ sym (append_assoc q.between r.between (lines_from u c));
-    bare = λ l w. elim (Contains-append_cases q.between r.between l w) [ inl v ↦ q.bare l v | inr v ↦ r.bare l v ];
+    repeated = λ l w. elim (Contains-append_cases q.between r.between l w) [ inl v ↦ q.repeated l v | inr v ↦ r.repeated l v ];
   }
 
 -- ---- the pairs of lines that are passed
 
 module _ (p : PolicyView) (policy : IsPolicy p) (u : UniverseView) where
   -- where no RoleBinding has a cursor, what is granted is so by a ClusterRoleBinding
-  pub bare_repeats : IsUniverse u → (l : LineView) → IsBare p l → HasRepeats p u l
-  bare_repeats is l bare q at t b read bound granted =
+  pub lines_repeat : IsUniverse u → (l : LineView) → IsRepeated p l → HasRepeats p u l
+  lines_repeat is l repeated q at t b read bound granted =
       let h = granted_hit p policy u l q at t b read bound granted in
       let cursor = hit_cursor p u l q h.0 h.1 in
       let same : h.2.0 ≡ cursor.grant = same_Some h.2.0 cursor.grant (sym h.2.1 ∙ cursor.at) in
       let binding : b ≡ cursor.grant.binding = same_Some b cursor.grant.binding (sym bound ∙ h.2.2 ∙ ap (λ (g : GrantView). Some g.binding) same) in
-      let none : b.namespace ≡ None = ap (λ (x : Binding). x.namespace) binding ∙ bare.cursors h.0 cursor in
-      rw (fits_namespace u is l q t read granted.0, none) (repeats_somewhere l.namespace bare.some)
+      let none : b.namespace ≡ None = ap (λ (x : Binding). x.namespace) binding ∙ repeated.cursors h.0 cursor in
+      rw (fits_namespace u is l q t read granted.0, none) (repeats_somewhere l.namespace repeated.some)
 
   -- a line without rows has none of them
   pub rowless_repeats : (ls : List LineView) → AreRowsOf p.held (flat_map (line_cells_from u 0) ls) [] → (l : LineView) → Contains ls l → HasRepeats p u l
@@ -101,15 +101,15 @@ module _ (p : PolicyView) (policy : IsPolicy p) (u : UniverseView) where
       (flat_contains (line_cells_from u 0) ls l (cell_of l t) w (map_contains (cell_of l) u.targets t (q, slice_get_within u.targets q t read, get_or_from_slice_get u.targets q t t read)))
       (at, slice_get_within p.held.bindings at b bound, get_or_from_slice_get p.held.bindings at b b bound) granted)
 
-  pub passes_lines : IsUniverse u → (at next past to : Place) (l : LineView) → lines_from u at ≡ l ∷ lines_from u next → IsBare p l → PassesBare p u next past → Skips p.held u past to → PassesLines p u at to
-  passes_lines is at next past to l e bare passes skips = record {
+  pub passes_lines : IsUniverse u → (at next past to : Place) (l : LineView) → lines_from u at ≡ l ∷ lines_from u next → IsRepeated p l → PassesRepeated p u next past → Skips p.held u past to → PassesLines p u at to
+  passes_lines is at next past to l e repeated passes skips = record {
     line = l;
     more = passes.between ++ skips.between;
     whole = e ∙ ap (λ (ls : List LineView). l ∷ ls) (passes.whole ∙ ap (λ (ls : List LineView). passes.between ++ ls) skips.whole ∙ sym (append_assoc passes.between skips.between (lines_from u to)));
     repeats = λ m w. elim (in_cons l (passes.between ++ skips.between) m w) [
-      | inl same ↦ subst (HasRepeats p u) same (bare_repeats is l bare)
+      | inl same ↦ subst (HasRepeats p u) same (lines_repeat is l repeated)
       | inr v ↦ elim (Contains-append_cases passes.between skips.between m v) [
-        | inl x ↦ bare_repeats is m (passes.bare m x)
+        | inl x ↦ lines_repeat is m (passes.repeated m x)
         | inr x ↦ rowless_repeats skips.between skips.none m x
       ]
     ];
@@ -125,9 +125,9 @@ known_here p u at next l old runs here are e (inr first) = record {
 
 -- the account over lines that are left
 pub metered_lines : (p : PolicyView) (u : UniverseView) (rs : List (List ℕ)) (start : Place) (sought given : ℕ) (at next past to : Place) (l : LineView) (from upto : ℕ) (old empty seats : List Seat) (m m' : ℕ) → IsPolicy p → IsUniverse u → AreReaches p u rs
-    → lines_from u at ≡ l ∷ lines_from u next → AreSeated p l rs from upto old → AreEmpty p empty → PassesBare p u next past → Skips p.held u past to → Costs 0 0 empty seats m m' → IsMetered p u start sought at old given m → IsMetered p u start sought to seats given m'
+    → lines_from u at ≡ l ∷ lines_from u next → AreSeated p l rs from upto old → AreEmpty p empty → PassesRepeated p u next past → Skips p.held u past to → Costs 0 0 empty seats m m' → IsMetered p u start sought at old given m → IsMetered p u start sought to seats given m'
 metered_lines p u rs start sought given at next past to l from upto old empty seats m m' policy is reaches e seated none passes skips costs h =
     let over = metered_end p u start sought rs at next l from upto old empty given m policy is reaches e seated none h in
-    let bare = metered_skip p u start sought next past empty given m passes.between passes.whole over in
-    let on = metered_on p u start sought past empty seats given m m' bare costs in
+    let passed = metered_skip p u start sought next past empty given m passes.between passes.whole over in
+    let on = metered_on p u start sought past empty seats given m m' passed costs in
     metered_skip p u start sought past to seats given m' skips.between skips.whole on

@@ -10,16 +10,17 @@ use Rattle.rbac_matrix.specs.Pairs.{IsGranted, pair_of}
 use Rattle.rbac_matrix.specs.Passing.{cell_of}
 use Rattle.rbac_matrix.specs.declared.line.Place.{Place}
 
--- the line has a namespace, and no RoleBinding has a cursor on it
-pub record IsBare (p : PolicyView) (l : LineView) : Type 0 where
+-- the line has a namespace, and no RoleBinding has a cursor on it: it repeats that of the empty
+-- namespace
+pub record IsRepeated (p : PolicyView) (l : LineView) : Type 0 where
   pub some : l.namespace ≢ []
   pub cursors : (k : ℕ) (c : IsCursorAt p l k) → c.grant.binding.namespace ≡ None
 
--- from one place up to another there are only bare lines
-pub record PassesBare (p : PolicyView) (u : UniverseView) (at to : Place) : Type 0 where
+-- from one place up to another there are only lines of which each is repeated
+pub record PassesRepeated (p : PolicyView) (u : UniverseView) (at to : Place) : Type 0 where
   pub between : List LineView
   pub whole : lines_from u at ≡ between ++ lines_from u to
-  pub bare : (l : LineView) → Contains between l → IsBare p l
+  pub repeated : (l : LineView) → Contains between l → IsRepeated p l
 
 -- each pair of a request of the line and a binding that is granted is a repeat
 abbrev pub HasRepeats : PolicyView → UniverseView → LineView → Type 0

@@ -1,12 +1,12 @@
 use Rattle.std.proofs.Common.{◌≡◌, ◌⊎◌, length}
-use Rattle.rbac_matrix.specs.BareLines.{PassesBare}
+use Rattle.rbac_matrix.specs.RepeatedLines.{PassesRepeated}
 use Rattle.rbac_matrix.specs.Lines.{IsSettled, lines_from}
-use Rattle.rbac_matrix.proofs.bare_lines.past_bare.Given as goal
+use Rattle.rbac_matrix.proofs.repeated_lines.past_repeated.Given as goal
 
 abbrev pub invariant-loop-line : goal.invariant-loop-line
 invariant-loop-line l = record {
   settled : IsSettled l.universe l.at;
-  passes : PassesBare l.index l.universe l.fn.at l.at;
+  passes : PassesRepeated l.index l.universe l.fn.at l.at;
   moved : (l.at ≡ l.fn.at) ⊎ (l.at.verb ≡ 0);
 }
 
