@@ -1,5 +1,5 @@
 -- what a sort by names and then a dedup leave, and that it is one list
-use Rattle.std.proofs.Common.{◌≡◌, true, List, [], ap, sym, refl, ◌∙◌, Contains}
+use Rattle.std.proofs.Common.{◌≡◌, true, List, ap, sym, refl, ◌∙◌}
 use Rattle.std.specs.List.{dedup}
 use Rattle.std.specs.Ordering.{is_eq, is_lt, eq_by_cmp}
 use Rattle.std.specs.List.Sorted.{IsPermutation, IsSorted}

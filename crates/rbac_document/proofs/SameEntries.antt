@@ -6,10 +6,9 @@ use Rattle.std.proofs.lemmas.List.{get_or_default}
 use Rattle.rbac_terms.specs.Text.{Text, text_cmp}
 use Rattle.rbac_terms.specs.Principals.{Who, who_key, given_of}
 use Rattle.rbac_terms.specs.Targets.{What, Resource, Url, IsProper}
-use Rattle.rbac_model.specs.Lists.{by_name, IsOnceEach}
+use Rattle.rbac_model.specs.Lists.{IsOnceEach}
 use Rattle.rbac_model.specs.Unions.{AreUnited}
-use Rattle.rbac_model.specs.Universes.{UniverseView, Listed}
-use Rattle.rbac_universe.specs.declared.lists.ListedResource.{ListedResource}
+use Rattle.rbac_model.specs.Universes.{UniverseView}
 use Rattle.rbac_universe.specs.declared.lists.UniverseLists.{UniverseLists}
 use Rattle.rbac_universe.specs.declared.fault.UniverseFault.{UniverseFault}
 use Rattle.rbac_universe.specs.declared.fault.UniverseFault.TheVariants.{BadTarget, TooLarge, NoMemory}

@@ -1,5 +1,5 @@
 -- the JSON values that a document and its entries are
-use Rattle.std.proofs.Common.{Bool, List, [], ◌∷◌, map, codes}
+use Rattle.std.proofs.Common.{List, [], ◌∷◌, map, codes}
 use Rattle.json.specs.Json.{Json, Members, no_members, member}
 use Rattle.json.specs.Json as json
 use Rattle.rbac_terms.specs.Text.{Text}

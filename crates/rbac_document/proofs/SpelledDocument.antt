@@ -1,17 +1,16 @@
 -- a document's text gives the tokens of its JSON value, and is read as that value
-use Rattle.std.proofs.Common.{◌≡◌, ℕ, ◌≤◌, Bool, true, false, List, [], ◌∷◌, ◌++◌, map, max, Some, option_and_then, refl, sym, ap, ◌∙◌, arith, append_assoc, append-nil, codes}
+use Rattle.std.proofs.Common.{◌≡◌, ℕ, ◌≤◌, false, List, [], ◌∷◌, ◌++◌, map, max, option_and_then, refl, sym, ap, ◌∙◌, arith, append_assoc, append-nil, codes}
 use Rattle.json.specs.Token.{Token}
 use Rattle.json.specs.Json.{Json, Members, no_members, member, value, if_last}
 use Rattle.json.specs.Json as json
 use Rattle.json.specs.Tree.{json_tokens, members_tokens, items_depth, depth}
 use Rattle.json.specs.Text.{content}
-use Rattle.json.specs.Lex.{token, comma, colon, lex, between, Place, fresh, after_value, begins_colon, punctuate, tokens}
+use Rattle.json.specs.Lex.{token, comma, colon, lex, between, fresh, after_value, begins_colon, punctuate, tokens}
 use Rattle.json.specs.Print.{quoted}
 use Rattle.json.proofs.Printed.Trees.{value-json_tokens}
 use Rattle.serde_json.specs.Read.{read, of_json, max_depth}
 use Rattle.rbac_terms.specs.Text.{Text}
 use Rattle.rbac_terms.specs.Principals.{Who, AsUser, AsMember}
-use Rattle.rbac_universe.specs.declared.lists.ListedResource.{ListedResource}
 use Rattle.rbac_universe.specs.declared.lists.UniverseLists.{UniverseLists}
 use Rattle.rbac_document.specs.Document.{list_text, principal_text, resource_text, member_text, document_text}
 use Rattle.rbac_document.proofs.Shapes.{list_json, principal_json, resource_json, lists_json, document_json}

@@ -1,5 +1,5 @@
 -- entries and lists of a document are spelled as their JSON values
-use Rattle.std.proofs.Common.{◌≡◌, ℕ, Bool, true, false, List, [], ◌∷◌, ◌++◌, map, refl, sym, ap, ◌∙◌, append_assoc, append-nil, codes}
+use Rattle.std.proofs.Common.{◌≡◌, ℕ, Bool, true, false, List, [], ◌∷◌, ◌++◌, refl, sym, ap, ◌∙◌, append_assoc, append-nil, codes}
 use Rattle.std.specs.List.{join_by}
 use Rattle.json.specs.Token.{Token}
 use Rattle.json.specs.Json.{Json}
@@ -7,12 +7,12 @@ use Rattle.json.specs.Json as json
 use Rattle.json.specs.Tree.{json_tokens}
 use Rattle.json.specs.Text.{content}
 use Rattle.json.specs.Word.{word}
-use Rattle.json.specs.Lex.{token, comma, colon, lex, between, Place, fresh, after_value, after_comma, after_key, begins_colon, may_begin, punctuate}
+use Rattle.json.specs.Lex.{token, comma, colon, lex, between, Place, fresh, after_value, may_begin, punctuate}
 use Rattle.json.specs.Print.{quoted}
 use Rattle.rbac_terms.specs.Text.{Text}
 use Rattle.rbac_terms.specs.Principals.{Who, AsUser, AsMember}
 use Rattle.rbac_universe.specs.declared.lists.ListedResource.{ListedResource}
-use Rattle.rbac_document.specs.Document.{list_text, groups_text, principal_text, resource_text, rest_of_resource}
+use Rattle.rbac_document.specs.Document.{list_text, principal_text, resource_text, rest_of_resource}
 use Rattle.rbac_document.proofs.Shapes.{list_json, principal_json, resource_json}
 use Rattle.rbac_document.proofs.Spelled.{Spells, lex-quoted, spells_string, spells_array, opened, array_placed}
 

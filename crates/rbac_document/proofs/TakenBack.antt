@@ -1,11 +1,9 @@
 -- a document after other inputs replaces the lists, and nothing else
-use Rattle.std.proofs.Common.{◌≡◌, ◌≢◌, ℕ, ◌+◌, Bool, true, false, List, [], ◌∷◌, ◌++◌, ◌||◌, All, Contains, Option, Some, None, option_and_then, unwrap_or, is_none, refl, sym, ap, ap₂, subst, ◌∙◌, codes, append-nil}
+use Rattle.std.proofs.Common.{◌≡◌, ℕ, ◌+◌, Bool, true, false, List, [], ◌∷◌, ◌++◌, ◌||◌, All, Option, Some, None, unwrap_or, is_none, refl, sym, ap, ◌∙◌, append-nil}
 use Rattle.std.specs.List.{flat_map, filter_map, list_any, last_or}
-use Rattle.std.specs.Str.{IsUtf8}
 use Rattle.std.proofs.lemmas.Grind.{flat_map-append}
 use Rattle.std.proofs.lemmas.List.Elements.{filter_map-append}
 use Rattle.std.proofs.lemmas.List.Folds.{list_any-append}
-use Rattle.serde_json.specs.Read.{read}
 use Rattle.rbac_terms.specs.Text.{Text}
 use Rattle.rbac_universe.specs.declared.lists.UniverseLists.{UniverseLists}
 use Rattle.rbac_lists.specs.declared.given_lists.GivenLists.{GivenLists}
@@ -15,14 +13,14 @@ use Rattle.rbac_lists.specs.Meant.{given_or, lists_meant}
 use Rattle.rbac_model.specs.Policies.{Held}
 use Rattle.rbac_manifest.specs.Fields.{field}
 use Rattle.rbac_manifest.specs.Kinds.{kind_at, version_read, needs_version, version_at, kind_named, kind_of}
-use Rattle.rbac_manifest.specs.Document.{not_an_object, bad_version, bad_header, fault, stands, when, content_in}
-use Rattle.rbac_manifest.specs.UniverseDocument.{is_bad_universe, given_lists_at}
-use Rattle.rbac_manifest.specs.Contents.{as_object, as_namespace, as_account, as_lists, is_api_list, api_entries, objects_in, namespaces_in, accounts_in, catalogue_in, documents_in}
-use Rattle.rbac_manifest.specs.Load.{refusal_in, contents_of_input, json_in, file_refusal, contents_of_file, fault_from, file_or, document_fault, all_contents, LoadedView, IsLoaded}
+use Rattle.rbac_manifest.specs.Document.{not_an_object, bad_version, bad_header, fault}
+use Rattle.rbac_manifest.specs.UniverseDocument.{is_bad_universe}
+use Rattle.rbac_manifest.specs.Contents.{as_object, as_namespace, as_account, as_lists, is_api_list, api_entries, objects_in, namespaces_in, accounts_in, documents_in}
+use Rattle.rbac_manifest.specs.Load.{refusal_in, contents_of_input, json_in, file_refusal, contents_of_file, fault_from, file_or, all_contents, LoadedView, IsLoaded}
 use Rattle.rbac_manifest.specs.declared.fault.LoadFault.{LoadFault}
 use Rattle.rbac_manifest.proofs.Conditions.{universe_is}
 use Rattle.rbac_manifest.proofs.Json.{json_in_text}
-use Rattle.rbac_document.specs.Document.{IsReadable, AreReadable, document_text}
+use Rattle.rbac_document.specs.Document.{AreReadable, document_text}
 use Rattle.rbac_document.proofs.SpelledDocument.{document_read}
 use Rattle.rbac_document.proofs.Utf8.{utf8_document}
 use Rattle.rbac_document.proofs.Values.{IsNamed, document_data, document_value, given, document_given}

@@ -1,12 +1,12 @@
 -- what the JSON value of a document is once members are in order, and what its fields give
-use Rattle.std.proofs.Common.{◌≡◌, ◌≢◌, ℕ, Bool, true, false, List, [], ◌∷◌, map, All, Option, Some, None, option_map, option_and_then, is_none, length, ◌==◌, arith, refl, sym, ap, ◌∙◌, codes, cond}
+use Rattle.std.proofs.Common.{◌≡◌, ◌≢◌, ℕ, true, false, List, [], ◌∷◌, map, All, Option, Some, option_map, option_and_then, length, ◌==◌, arith, refl, ap, ◌∙◌, codes}
 use Rattle.std.proofs.lemmas.Bool.{ne_eqb}
 use Rattle.std.proofs.lemmas.List.Elements.{All-head, All-tail}
 use Rattle.std.specs.List.{list_all}
 use Rattle.json.specs.Json.{Json}
 use Rattle.json.specs.Json as json
-use Rattle.serde_json.specs.Data.{Data, string, array, object, boolean, Items, no_items, item, Members, no_members, member}
-use Rattle.serde_json.specs.Read.{of_json, of_items, of_members}
+use Rattle.serde_json.specs.Data.{Data, string, array, object, boolean, no_members, member}
+use Rattle.serde_json.specs.Read.{of_json, of_items}
 use Rattle.serde_json.specs.View.{items_of}
 use Rattle.rbac_terms.specs.Text.{Text}
 use Rattle.rbac_terms.specs.Principals.{Who, AsUser, AsMember, name_of}
@@ -14,8 +14,8 @@ use Rattle.rbac_universe.specs.declared.lists.ListedResource.{ListedResource}
 use Rattle.rbac_universe.specs.declared.lists.UniverseLists.{UniverseLists}
 use Rattle.rbac_lists.specs.declared.given_lists.GivenLists.{GivenLists}
 use Rattle.rbac_manifest.specs.Fields.{elements, all_texts, is_text, text_in, field, as_list, list_field, texts_field, text_at, flag_at}
-use Rattle.rbac_manifest.specs.Lists.{all_at, cons_if}
-use Rattle.rbac_manifest.specs.UniverseDocument.{name_in, user_at, member_at, principal_at, resource_at, given_lists_at}
+use Rattle.rbac_manifest.specs.Lists.{all_at}
+use Rattle.rbac_manifest.specs.UniverseDocument.{user_at, member_at, principal_at, resource_at, given_lists_at}
 use Rattle.rbac_document.proofs.Spelled.{json_items}
 use Rattle.rbac_document.proofs.Shapes.{list_json, principal_json, resource_json, document_json}
 

@@ -1,5 +1,5 @@
 -- Names by which the entries of lists are ordered: each entry has one of its own.
-use Rattle.std.specs.Prelude.{◌≡◌, refl, ℕ, ◌==◌, Bool, true, false, List, [], ◌∷◌, codes, slice_index}
+use Rattle.std.specs.Prelude.{◌≡◌, refl, ◌==◌, Bool, true, false, List, [], ◌∷◌, codes, slice_index}
 use Rattle.std.specs.Str.{bytes_eq}
 use Rattle.rbac_terms.specs.Text.{Text}
 use Rattle.rbac_terms.specs.Principals.{Who, AsUser, AsMember, who_key, given_of, who_of}

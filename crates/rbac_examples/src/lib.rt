@@ -7,6 +7,8 @@ mod catalogues;
 #[cfg(test)]
 mod covering;
 #[cfg(test)]
+mod documents;
+#[cfg(test)]
 mod indexes;
 #[cfg(test)]
 mod matching;

@@ -58,7 +58,7 @@ fn resources(rt: &impl Abort, alloc: Global, listed: &Listed<'_>) -> ListedResou
     all
 }
 
-fn lists(rt: &impl Abort, alloc: Global, listed: &Listed<'_>) -> UniverseLists {
+pub(crate) fn lists(rt: &impl Abort, alloc: Global, listed: &Listed<'_>) -> UniverseLists {
     UniverseLists {
         principals: principals(rt, alloc, listed.users, listed.groups),
         namespaces: words(rt, alloc, listed.namespaces),

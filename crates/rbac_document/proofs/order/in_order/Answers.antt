@@ -1,7 +1,6 @@
 use Rattle.std.proofs.Common.{rules}
 use Rattle.std.specs.Ordering.{is_lt, eq_by_cmp}
 use Rattle.std.proofs.lemmas.Fn.{answers_by, dedup_same}
-use Rattle.std.proofs.lemmas.List.Sorted.{ranks_by}
 use Rattle.rbac_model.specs.Lists.{by_name}
 use Rattle.rbac_document.proofs.Once.{once_named, ranks}
 use Rattle.rbac_document.proofs.order.in_order.Goals as goal

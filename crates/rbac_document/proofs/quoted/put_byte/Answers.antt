@@ -1,4 +1,4 @@
-use Rattle.std.proofs.Common.{rules, arith}
+use Rattle.std.proofs.Common.{rules}
 use Rattle.rbac_document.proofs.Escapes.{short_escape, code_escape, no_escape}
 use Rattle.rbac_document.proofs.quoted.put_byte.Goals as goal
 
