@@ -2,6 +2,7 @@ pub mod AllChanges
 pub mod Bindings
 pub mod BoundRules
 pub mod Covered
+pub mod Exchanging
 pub mod FirstWith
 pub mod Gained
 pub mod Gathering

@@ -20,7 +20,7 @@ tells_each before after xs r is_before is_after are gained =
     let first = first_with after is_after p of.1 of.2 of.3 in
     let x : ChangeView = record { kind = Gained; permission = permission_text p; binding = first.0 } in
     let among : Contains xs x = (are.exact x).1 (p, refl, ((r, of.4, gained), first.1)) in
-    (among.0, x, among.1, among.2, (refl, (p, refl, of.4, λ other request stands. permission_allows after is_after p of.1 of.2 of.3 other request stands)))
+    (among.0, x, among.1, among.2, (refl, (p, refl, ((r, of.4, gained), first.1), of.4, λ other request stands. permission_allows after is_after p of.1 of.2 of.3 other request stands)))
 
 gained_of : (before after : PolicyView) (kind : ChangeKind) (p : PermissionView) (b : Binding) → kind ≡ Gained → IsChangeOf kind before after p b → IsGained before after p
 gained_of before after kind p b e is = (subst (λ (k : ChangeKind). IsChangeOf k before after p b) e is).0

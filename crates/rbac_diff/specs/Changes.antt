@@ -32,12 +32,22 @@ pub record AreChanges (before after : PolicyView) (xs : List ChangeView) : Type 
   pub ordered : AllPairs (λ x y. text_cmp x.permission y.permission ≡ Less) xs
   pub exact : (x : ChangeView) → Contains xs x ↔ IsChange before after x
 
+-- a change as it is with the sides exchanged: what was gained is lost, and what was lost is gained
+abbrev pub exchanged_kind : ChangeKind → ChangeKind
+exchanged_kind Gained = Lost
+exchanged_kind Lost = Gained
+
+abbrev pub exchanged : ChangeView → ChangeView
+exchanged x = record x { kind = exchanged_kind x.kind }
+
 -- no permission is gained
 abbrev pub NoneGained : List ChangeView → Type 0
 NoneGained xs = ¬ Any (λ x. x.kind ≡ Gained) xs
 
--- the changes tell of each request that is gained: some change stands for it
+-- the changes tell of a request that is gained: some change is of a gained permission that stands
+-- for it, and only for requests that after allows
 abbrev pub TellsOf : PolicyView → PolicyView → List ChangeView → RequestView → Type 0
 TellsOf before after xs r = Any (λ x. (x.kind ≡ Gained)
-    × ((p : PermissionView) × (x.permission ≡ permission_text p) × StandsFor p r
+    × ((p : PermissionView) × (x.permission ≡ permission_text p)
+    × IsChangeOf Gained before after p x.binding × StandsFor p r
     × ((other : RequestView) → IsRequest other → StandsFor p other → AllowsRequest after other))) xs

@@ -1,14 +1,23 @@
 //! Laws of changes, each stated by the contract of a function that does nothing.
 
-ghost use Rattle.std.specs.Prelude.{◌≡◌, ◌↔◌, List};
+ghost use Rattle.std.specs.Prelude.{◌≡◌, ◌↔◌, List, map};
 ghost use Rattle.rbac_model.specs.Policies.{PolicyView, IsPolicy};
 ghost use Rattle.rbac_diff.specs.Changes.{ChangeView, AreChanges, NoneGained, TellsOf};
+ghost use Rattle.rbac_diff.specs.Changes.{exchanged};
 ghost use Rattle.rbac_diff.specs.Requests.{AllowsNoMore, IsGainedRequest, RequestView};
 
 /// The changes are one list: any two lists of them are the same, in the same order (own).
 pub fn changes_are_one()
     ensures { (before after : PolicyView) (xs others : List ChangeView)
         → AreChanges before after xs → AreChanges before after others → xs ≡ others }
+{}
+
+/// What is lost is what is gained with the sides exchanged: the changes from the second policy to
+/// the first are the same permissions and bindings, those that were gained as lost, and those that
+/// were lost as gained (own). So each law of what is gained is one of what is lost.
+pub fn losses_are_gains_exchanged()
+    ensures { (before after : PolicyView) (xs : List ChangeView) → AreChanges before after xs
+        → AreChanges after before (map exchanged xs) }
 {}
 
 /// Nothing is gained exactly if every request of every user, in every namespace, with every verb,

@@ -19,5 +19,5 @@ mod unchanged;
 
 pub use change::{Change, ChangeKind, changes};
 pub use fault::DiffFault;
-pub use laws::{changes_are_one, changes_tell_all};
+pub use laws::{changes_are_one, changes_tell_all, losses_are_gains_exchanged};
 pub use line::put_change;
