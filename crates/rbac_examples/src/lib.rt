@@ -5,6 +5,8 @@
 #[cfg(test)]
 mod catalogues;
 #[cfg(test)]
+mod changing;
+#[cfg(test)]
 mod covering;
 #[cfg(test)]
 mod documents;

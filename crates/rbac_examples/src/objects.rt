@@ -11,29 +11,30 @@ use std::alloc::Global;
 use std::process::Abort;
 
 #[derive(Clone, Copy)]
-enum Kind {
+pub(crate) enum Kind {
     Role,
     ClusterRole,
     RoleBinding,
     ClusterRoleBinding,
 }
 
-// An object's kind, namespace and name, the name of the role that it binds or the verb of its rule,
-// and whether it replaces an earlier object.
-type Row<'a> = (Kind, &'a str, &'a str, &'a str, bool);
+// An object's kind, namespace and name, and the name of the role that it binds or the verb of its
+// rule.
+pub(crate) type Row<'a> = (Kind, &'a str, &'a str, &'a str);
 
-const GIVEN: &[Row<'static>] = &[
-    (Kind::Role, "dev", "a", "get", false),
-    (Kind::ClusterRole, "", "a", "get", false),
-    (Kind::ClusterRoleBinding, "", "a", "first", false),
-    (Kind::RoleBinding, "dev", "a", "first", false),
-    (Kind::RoleBinding, "Prod", "a", "first", false),
-    (Kind::Role, "dev", "a", "list", true),
-    (Kind::Role, "Prod", "a", "get", false),
-    (Kind::ClusterRole, "", "a", "list", true),
-    (Kind::ClusterRoleBinding, "", "a", "second", true),
-    (Kind::RoleBinding, "dev", "a", "second", true),
-    (Kind::ClusterRole, "", "B", "get", false),
+// Objects, and whether each replaces an earlier one.
+const GIVEN: &[(Row<'static>, bool)] = &[
+    ((Kind::Role, "dev", "a", "get"), false),
+    ((Kind::ClusterRole, "", "a", "get"), false),
+    ((Kind::ClusterRoleBinding, "", "a", "first"), false),
+    ((Kind::RoleBinding, "dev", "a", "first"), false),
+    ((Kind::RoleBinding, "Prod", "a", "first"), false),
+    ((Kind::Role, "dev", "a", "list"), true),
+    ((Kind::Role, "Prod", "a", "get"), false),
+    ((Kind::ClusterRole, "", "a", "list"), true),
+    ((Kind::ClusterRoleBinding, "", "a", "second"), true),
+    ((Kind::RoleBinding, "dev", "a", "second"), true),
+    ((Kind::ClusterRole, "", "B", "get"), false),
 ];
 
 // One rule, which allows this verb on pods.
@@ -67,8 +68,8 @@ fn role_binding(rt: &impl Abort, alloc: Global, namespace: &str, name: &str, rol
     })
 }
 
-fn object(rt: &impl Abort, alloc: Global, row: &Row<'_>) -> Object {
-    let (kind, namespace, name, word, _) = *row;
+pub(crate) fn object(rt: &impl Abort, alloc: Global, row: &Row<'_>) -> Object {
+    let (kind, namespace, name, word) = *row;
     match kind {
         Kind::Role => role(rt, alloc, namespace, name, word),
         Kind::ClusterRole => cluster_role(rt, alloc, name, on_pods(rt, alloc, word)),
@@ -92,7 +93,7 @@ const BINDINGS: &[(Option<&str>, &str)] = &[
 ];
 
 // Whether there is one rule, and this is its one verb.
-fn has_verb(rules: &Rules, verb: &str) -> bool {
+pub(crate) fn has_verb(rules: &Rules, verb: &str) -> bool {
     let [rule] = rules.as_slice() else {
         return false;
     };
@@ -114,7 +115,7 @@ fn has_last_cluster_roles(objects: &Objects) -> bool {
             && has_verb(&role.rules, verb))
 }
 
-fn binds(role: &RoleRef, wanted: &str) -> bool {
+pub(crate) fn binds(role: &RoleRef, wanted: &str) -> bool {
     let (RoleRef::Role(name) | RoleRef::ClusterRole(name)) = role;
     is(name, wanted)
 }
@@ -135,9 +136,9 @@ fn has_last_objects(objects: Objects) -> bool {
 fn a_later_object_replaces_the_earlier_of_its_name(rt: HostRuntime) {
     let alloc = rt.alloc();
     let mut objects = Objects::new(alloc);
-    for row in GIVEN {
+    for (row, replaces) in GIVEN {
         let was = built(&rt, objects.put(object(&rt, alloc, row)));
-        assert!(rt; was == row.4);
+        assert!(rt; was == *replaces);
     }
     assert!(rt; has_last_objects(objects));
 }
@@ -146,7 +147,7 @@ fn a_later_object_replaces_the_earlier_of_its_name(rt: HostRuntime) {
 fn objects_given_at_once_are_those_put_in_turn(rt: HostRuntime) {
     let alloc = rt.alloc();
     let mut given = Vec::new(alloc);
-    for row in GIVEN {
+    for (row, _) in GIVEN {
         built(&rt, given.push(object(&rt, alloc, row)));
     }
     let objects = built(&rt, Objects::from_given(alloc, given));
