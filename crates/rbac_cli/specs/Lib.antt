@@ -11,4 +11,5 @@ pub mod Printing
 pub mod RowsLeft
 pub mod RunTexts
 pub mod ShownTokens
+pub mod TakenBack
 pub mod Verdicts

@@ -1,18 +1,21 @@
 //! Laws of answers and of runs: what follows from the definitions alone. The functions do little or
 //! nothing; their contracts are the laws.
 
-ghost use Rattle.std.specs.Prelude.{◌≡◌, ◌↔◌, List, ℕ, Result};
+ghost use Rattle.std.specs.Prelude.{◌≡◌, ◌↔◌, ◌++◌, ◌∷◌, [], List, ℕ, Result};
 ghost use Rattle.rbac_model.specs.Policies.{PolicyView};
+ghost use Rattle.rbac_manifest.specs.Load.{IsLoaded, LoadedView};
+ghost use Rattle.rbac_document.specs.Document.{AreReadable};
 ghost use Rattle.rbac_streams.specs.Streams.{SinkView};
 ghost use Rattle.rbac_streams.specs.Taken.{Took};
 ghost use Rattle.rbac_question.specs.declared.command.Action.{Action};
-ghost use Rattle.rbac_question.specs.declared.command.Action.TheVariants.{Diff};
+ghost use Rattle.rbac_question.specs.declared.command.Action.TheVariants.{Diff, Universe};
 ghost use Rattle.rbac_question.specs.declared.command.Change.{Change};
 ghost use Rattle.rbac_diff.specs.Requests.{AllowsNoMore};
 ghost use Rattle.rbac_cli.specs.Exports.{AreLoaded};
 ghost use Rattle.rbac_cli.specs.Out.{Answers};
 ghost use Rattle.rbac_cli.specs.PlusLines.{HasPlusLine};
-ghost use Rattle.rbac_cli.specs.declared.exports.Exports.TheVariants.{Pair};
+ghost use Rattle.rbac_cli.specs.TakenBack.{HaveOneMatrix};
+ghost use Rattle.rbac_cli.specs.declared.exports.Exports.TheVariants.{Pair, Single};
 ghost use Rattle.rbac_question.specs.declared.command.Command.{Command};
 ghost use Rattle.rbac_cli.specs.Ends.{Ends, IsUnstopped};
 ghost use Rattle.rbac_cli.specs.declared.exports.Exports.{Exports};
@@ -20,6 +23,7 @@ ghost use Rattle.rbac_cli.specs.declared.outcome.Status.{Status};
 ghost use Rattle.rbac_cli.specs.declared.outcome.RunFault.{RunFault};
 
 use rbac_diff::changes_tell_all;
+use rbac_document::{documents_are_taken_back, once_each_is_the_same_universe};
 use rbac_manifest::{
     load_faults_are_one, loaded_inputs_are_one, loaded_inputs_have_no_fault,
     resolved_policies_are_one, resolved_policies_have_no_fault,
@@ -64,4 +68,16 @@ pub fn plus_lines_tell_all()
         → (¬ HasPlusLine text) ↔ AllowsNoMore before after }
 {
     changes_tell_all();
+}
+
+/// The document that `universe` prints is accepted behind the inputs that it was printed of, and a
+/// matrix over all of these lists what a matrix over the inputs alone lists (own). JSON has to be able
+/// to carry the words of the lists: they are UTF-8, and no principal's name is empty.
+pub fn universes_are_taken_back()
+    ensures { (inputs : List (List ℕ)) (l : LoadedView) (text : List ℕ) (status : Status)
+        → IsLoaded inputs l → AreReadable l.lists → Answers (Single l) Universe text status
+        → (again : LoadedView) × IsLoaded (inputs ++ text ∷ []) again × HaveOneMatrix l again }
+{
+    documents_are_taken_back();
+    once_each_is_the_same_universe();
 }

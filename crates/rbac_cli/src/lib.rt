@@ -23,7 +23,9 @@ mod stop;
 mod universe;
 mod who_can;
 
-pub use laws::{answers_are_one, plus_lines_tell_all, runs_are_one};
+pub use laws::{
+    answers_are_one, plus_lines_tell_all, runs_are_one, universes_are_taken_back,
+};
 pub use outcome::{RunFault, Status};
 pub use rbac_command::{UsageFault, command_of};
 pub use rbac_manifest::{At, Cause, LoadFault};

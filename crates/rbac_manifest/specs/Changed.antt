@@ -1,11 +1,9 @@
 -- What a change makes of objects, and the policy of objects.
-use Rattle.std.specs.Prelude.{◌≡◌, ◌≤◌, ℕ, Bool, not, List, ◌++◌, length, map, None}
+use Rattle.std.specs.Prelude.{◌≤◌, Bool, not, List, ◌++◌, length, map}
 use Rattle.std.specs.List.{filter}
 use Rattle.rbac_model.specs.declared.objects.Object.{Object}
 use Rattle.rbac_model.specs.Kept.{AreKept}
 use Rattle.rbac_model.specs.Policies.{PolicyView, IsPolicy, most_grants}
-use Rattle.rbac_manifest.specs.Contents.{objects_in}
-use Rattle.rbac_manifest.specs.Load.{document_fault, all_contents}
 use Rattle.rbac_manifest.specs.Names.{object_name, has_name}
 
 -- whether one of these objects has the same kind, namespace and name
@@ -23,8 +21,3 @@ pub record IsResolved (objects : List Object) (p : PolicyView) : Type 0 where
   pub kept : AreKept objects p.held
   pub policy : IsPolicy p
   pub few : length p.grants ≤ most_grants
-
--- every document is accepted, and the policy is that of the objects that they give
-abbrev pub IsPolicyOf : List (List ℕ) → PolicyView → Type 0
-IsPolicyOf inputs p =
-    (document_fault inputs ≡ None) × IsResolved (objects_in (all_contents inputs)) p
