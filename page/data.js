@@ -107,9 +107,13 @@ function meaning(word, field) {
 }
 
 // Characters that can't be seen, or change how their neighbours are shown: control, format and
-// ignorable ones, and odd blanks.
-const UNSEEN = /[\p{Cc}\p{Cf}\p{Cs}\p{Zl}\p{Zp}\p{Default_Ignorable_Code_Point}]|(?! )\p{Zs}/gu;
+// ignorable ones, odd blanks, and a blank at an end or beside another.
+const UNSEEN = new RegExp('[\\p{Cc}\\p{Cf}\\p{Cs}\\p{Zl}\\p{Zp}\\p{Default_Ignorable_Code_Point}'
+    + '\\u2800]|(?! )\\p{Zs}|(?<![^ ]) | (?![^ ])', 'gu');
 const LONGEST = 300;
+const LONGEST_TITLE = 4000;
+const LONG = 24;   // a text of more characters may be wider than a cell
+const TAIL = 12;   // how many at its end stay in view
 
 function codeOf(character) {
     return 'U+' + character.codePointAt(0).toString(16).toUpperCase().padStart(4, '0');
@@ -123,26 +127,45 @@ function counted(count, one, many = one + 's') {
     return figure(count) + ' ' + (count === 1 ? one : many);
 }
 
-// A text as nodes: each unseen character as its code, and a long text cut, which it says, unless
-// all of it is wanted.
+// The place nearest before this one at which a text may be cut: in no character, and beside no blank,
+// which would look like one at an end.
+function cutAt(text, at) {
+    while (at > 0 && (/[ \udc00-\udfff]/.test(text[at]) || text[at - 1] === ' ')) {
+        at--;
+    }
+    return at;
+}
+
+// A text as nodes: each unseen character as its code. Of a long one the middle gives way where there
+// is no room, since names differ at their ends; of a very long one it is left out, which it says,
+// unless all of it is wanted.
 function nodesOf(text, most = LONGEST) {
-    const cut = text.length > most ? text.slice(0, most) : text;
+    if (text.length > most) {
+        return [...seenNodes(text.slice(0, cutAt(text, most * 2 / 3))), muted('…'),
+            ...seenNodes(text.slice(cutAt(text, text.length - most / 3))),
+            muted(' ' + counted(text.length, 'character'))];
+    }
+    const at = cutAt(text, text.length - TAIL);
+    return text.length <= LONG ? seenNodes(text) : [make('span', {class: 'cut',
+        title: lineOf(text)}, make('span', {class: 'head'}, seenNodes(text.slice(0, at))),
+    make('span', {}, seenNodes(text.slice(at))))];
+}
+
+function seenNodes(text) {
     const nodes = [];
     let from = 0;
-    for (const found of cut.matchAll(UNSEEN)) {
-        nodes.push(cut.slice(from, found.index), make('span', {class: 'unseen'}, codeOf(found[0])));
+    for (const found of text.matchAll(UNSEEN)) {
+        nodes.push(text.slice(from, found.index),
+            make('span', {class: 'unseen'}, codeOf(found[0])));
         from = found.index + found[0].length;
     }
-    nodes.push(cut.slice(from));
-    if (cut !== text) {
-        nodes.push(muted('… ' + counted(text.length, 'character')));
-    }
-    return nodes;
+    return [...nodes, text.slice(from)];
 }
 
 // The same as one line of text, for titles and labels.
 function lineOf(text) {
-    const cut = text.length > LONGEST ? text.slice(0, LONGEST) + '…' : text;
+    const cut = text.length <= LONGEST_TITLE ? text : text.slice(0, LONGEST_TITLE / 2) + '…'
+        + text.slice(-LONGEST_TITLE / 2);
     return cut.replace(UNSEEN, character => '[' + codeOf(character) + ']');
 }
 
@@ -174,11 +197,15 @@ function fieldNodes(word, field) {
         return [make('span', {class: word === '+' ? 'gained' : 'lost'},
             `${word === '-' ? '−' : word} ${CHANGES[word]}`)];
     }
-    return word === '-' ? [muted(EMPTY[field] || '–')]
+    return word === '-' ? [make('span', {class: 'none'}, EMPTY[field] || '–')]
         : nodesOf(textOf(word));
 }
 
 const ACCOUNT = /^u:system:serviceaccount:[^:]+:[^:]+$/;
+
+function isKey(word) {
+    return /^[ug]:./.test(word);
+}
 
 function kindOf(word) {
     return word.startsWith('g:') ? 'group' : ACCOUNT.test(word) ? 'service account' : 'user';
@@ -192,6 +219,9 @@ function principalNodes(word) {
     const kind = kindOf(word);
     const name = textOf(word).slice(kind === 'service account' ? 'u:system:serviceaccount:'.length
         : 2);
+    if (!isKey(word)) {
+        return nodesOf(textOf(word));
+    }
     return [make('span', {class: 'kind ' + SHORT_KINDS[kind]}, SHORT_KINDS[kind]), ' ',
         make('bdi', {}, nodesOf(name))];
 }

@@ -71,7 +71,7 @@ class Watch {
     countCommon() {
         this.cluster = {held: new Map(), types: new Set()};
         this.everywhere = {held: new Map(), types: new Set()};
-        this.inside = {held: new Map(), types: this.rows.words.namespace.map(() => new Set())};
+        this.inside = {held: new Map(), types: new Map()};
         const counted = [];
         for (let row = 0; row < this.rows.length; row++) {
             if (this.isCounted(row)) {
@@ -111,8 +111,11 @@ class Watch {
         const who = this.rows.columns.who[row];
         const namespace = this.rows.columns.namespace[row];
         const type = keyOfType(row, this.rows);
+        if (!this.inside.types.has(namespace)) {
+            this.inside.types.set(namespace, new Set());
+        }
         if (!this.everywhere.types.has(type)) {
-            this.inside.types[namespace].add(type);
+            this.inside.types.get(namespace).add(type);
         }
         if (!this.everywhere.held.get(who)?.has(this.use(row))) {
             const scope = this.scope(who, namespace);
@@ -126,7 +129,7 @@ class Watch {
         const isInCluster = namespace === EVERYWHERE.cluster;
         const {held, types} = isInCluster ? this.cluster : this.everywhere;
         const all = types.size
-            + (isInCluster ? 0 : this.inside.types[namespace]?.size || 0);
+            + (isInCluster ? 0 : this.inside.types.get(namespace)?.size || 0);
         const count = (held.get(who)?.size || 0)
             + (isInCluster ? 0 : this.inside.held.get(this.scope(who, namespace)) || 0);
         return this.commonVerbs > 1 && all > 1 && count === this.commonVerbs * all;

@@ -21,6 +21,7 @@ if (DIFF) {
 }
 const COUNTS = {who: PRINCIPALS.length, rows: ROWS.length, findings: PAGE.findings?.length,
     changes: DIFF?.length};
+const TITLE = document.title;
 const built = {};
 let current = '';
 
@@ -66,10 +67,18 @@ function render() {
         }
     }
     built[view].update(params);
+    document.title = [placeOfTitle(params.ns), view === 'find' ? 'Found' : VIEWS[view][0], TITLE]
+        .filter(part => part).join(' · ');
     const wanted = document.getElementById('wanted');
     if (view !== 'find' && document.activeElement !== wanted) {
         wanted.value = '';
     }
+}
+
+function placeOfTitle(ns) {
+    const [view, {who}] = address();
+    return [view === 'who' && who ? lineOf(textOf(who).replace(/^[ug]:/, '')) : '',
+        ns ? placeText(ns) : ''].filter(part => part).join(' in ');
 }
 
 function begin() {

@@ -41,10 +41,9 @@ class Everywhere {
     }
 
     // Whether a type has namespaces. Where nothing tells, it is taken for one that has, as rbacaudit
-    // takes a type that no API resource list has.
+    // takes a type that no API resource list has; but for those of Kubernetes that have none.
     hasNamespaces(type) {
-        return this.types.has(type)
-            || !this.isGiven && !this.isPlain && !type.split('\t')[1].startsWith('/');
+        return this.types.has(type) || !this.isGiven && !this.isPlain && !isOfCluster(type);
     }
 
     // Whether a row is of the whole cluster and holds in each namespace.
@@ -95,6 +94,13 @@ class Everywhere {
         const {who, verb, name} = this.rows.columns;
         return `${who[row]} ${verb[row]} ${keyOfType(row, this.rows)} ${name[row]}`;
     }
+}
+
+// Whether a type is a URL, or one of Kubernetes that has no namespaces, or a subresource of one.
+function isOfCluster(type) {
+    const [group, resource] = type.split('\t');
+    const known = PAGE.cluster[group === '-' ? '' : group] || [];
+    return resource.startsWith('/') || known.includes(resource.split('/')[0]);
 }
 
 // A number for the type of a row.

@@ -111,13 +111,20 @@ const WHO_COLUMNS = [
         value: it => it.bindings.size},
 ];
 
+// The column of a parameter, by whose name the order is turned round if a dash stands before it.
+function sortOf(sort = '') {
+    const isTurned = sort.startsWith('-');
+    return {by: WHO_COLUMNS.find(({id}) => id === sort.slice(isTurned ? 1 : 0)) || WHO_COLUMNS[0],
+        isTurned};
+}
+
 class WhoView {
     constructor() {
         this.shown = [];
         this.sorts = WHO_COLUMNS.map(column => make('th',
             {scope: 'col', class: column.value ? 'number' : 'wide'},
             make('button', {type: 'button', title: column.why,
-                click: () => change({sort: column.id})}, column.title)));
+                click: () => this.sortBy(column)}, column.title)));
         this.sheet = new Sheet('Principals',
             [...this.sorts, head('Worth watching', 'As in the watch list', 'wide')],
             at => this.row(this.shown[at]), 'who');
@@ -132,7 +139,7 @@ class WhoView {
     }
 
     update(params) {
-        const isOne = params.who !== undefined;
+        const isOne = Boolean(params.who);
         this.element.replaceChildren(isOne ? this.detail.element : this.list);
         if (isOne) {
             this.detail.update(params);
@@ -142,14 +149,23 @@ class WhoView {
         const wants = wantedBy(params.q || '');
         this.scope = scopeOf(params.ns);
         this.shown = this.scope.principals.filter(it => wants(it.word, 'who'));
-        const by = WHO_COLUMNS.find(column => column.id === params.sort) || WHO_COLUMNS[0];
+        const {by, isTurned} = sortOf(params.sort);
         if (by.value) {
-            this.shown.sort((a, b) => by.value(b) - by.value(a));
+            this.shown.sort((a, b) => by.value(b) === by.value(a) ? 0 : by.value(b) - by.value(a));
         }
-        this.sorts.forEach((element, at) => element.setAttribute('aria-sort',
-            WHO_COLUMNS[at] !== by ? 'none' : by.value ? 'descending' : 'ascending'));
+        if (isTurned) {
+            this.shown.reverse();
+        }
+        this.sorts.forEach((element, at) => element.setAttribute('aria-sort', WHO_COLUMNS[at] !== by
+            ? 'none' : Boolean(by.value) === isTurned ? 'ascending' : 'descending'));
         this.summary.textContent = counted(this.shown.length, 'principal');
         this.sheet.show(this.shown.length);
+    }
+
+    // A second click on a column turns its order round.
+    sortBy(column) {
+        const {by, isTurned} = sortOf(address()[1].sort);
+        change({sort: by === column && !isTurned ? '-' + column.id : column.id});
     }
 
     row(it) {
@@ -190,7 +206,8 @@ class PrincipalView {
         this.watched.replaceChildren(...it ? badges(it, this.scope).flat() : []);
         if (!it?.rows.length) {
             this.summary.textContent = 'This page has no row for them'
-                + (it ? '; the watch list has what they may do only by name.' : '.');
+                + (it ? '; the watch list has what they may do only by name.' : '.')
+                + (isKey(params.who) ? '' : ' A principal is written u:NAME or g:NAME.');
             this.hidden.hidden = true;
             this.links.replaceChildren();
             this.shown = [];
@@ -226,17 +243,36 @@ class PrincipalView {
         const wants = wantedBy(params.q || '');
         const isWanted = line => [...line.verbs].some(verb => wants(verb, 'verb'))
             || ['namespace', 'group', 'resource', 'name'].some(field => wants(line[field], field));
-        this.shown = (params.all ? lines : more).filter(isWanted);
+        this.shown = (params.all ? lines : more).filter(isWanted).flatMap(partsOf);
         this.sheet.show(this.shown.length);
     }
 
-    line({namespace, group, resource, name, verbs, bindings}) {
-        return [cell('', anchor('what', {ns: namespace}, this.scope.placeNodes(namespace))),
-            cell('', typeNodes(group, resource)), cell('', fieldNodes(name, 'name')),
-            cell('', [...verbs].map(verb =>
-                [make('span', {class: classOf(verb)}, nodesOf(textOf(verb))), ' '])),
-            cell('', bindingLinks(bindings))];
+    line({namespace, group, resource, name, verbs, bindings, isFurther}) {
+        const held = cell('', [...verbs].map(verb =>
+            [make('span', {class: classOf(verb)}, nodesOf(textOf(verb))), ' ']));
+        return isFurther ? [cell(), cell(), cell(), held, cell()]
+            : [cell('', anchor('what', {ns: namespace}, this.scope.placeNodes(namespace))),
+                cell('', typeNodes(group, resource)), cell('', fieldNodes(name, 'name')), held,
+                cell('', bindingLinks(bindings))];
     }
+}
+
+const VERBS_FIT = 38;   // how many characters of verbs a cell has room for
+
+// A line as the rows of a table that all its verbs need.
+function partsOf(line) {
+    const parts = [];
+    let room = 0;
+    for (const verb of line.verbs) {
+        const width = lineOf(textOf(verb)).length + 1;
+        if (!parts.length || width > room) {
+            parts.push([]);
+            room = VERBS_FIT;
+        }
+        parts.at(-1).push(verb);
+        room -= width;
+    }
+    return parts.map((verbs, at) => ({...line, verbs, isFurther: at > 0}));
 }
 
 // Rows by where they count and target: the verbs and bindings of each. The whole cluster comes first,
@@ -261,6 +297,12 @@ function typeNodes(group, resource) {
             make('bdi', {}, nodesOf(textOf(group))))];
 }
 
+// The bit of a category of the watch list, or none.
+function bitOf(id) {
+    const at = WATCHED.findIndex(it => it.id === id);
+    return at < 0 ? 0 : 1 << at;
+}
+
 // ---- Rows and Changes
 
 class RowsView {
@@ -282,8 +324,8 @@ class RowsView {
             make('div', {class: 'tools'}, make('h2', {}, title),
                 filterInput('Filter by any field', 'q', 'any field'),
                 rows === ROWS ? [this.watch, this.everywhere] : [], this.summary,
-                make('button', {type: 'button', click: () => this.copy()}, 'Copy'),
-                make('button', {type: 'button', click: () => this.save()}, 'Save as TSV'),
+                make('button', {type: 'button', click: () => this.copy()}, 'Copy as lines'),
+                make('button', {type: 'button', click: () => this.save()}, 'Save as CSV'),
                 make('button', {type: 'button', click: () => go(name, {})}, 'Clear filters')),
             make('p', {class: 'why'}, explanation), this.sheet.element);
     }
@@ -309,17 +351,19 @@ class RowsView {
         const own = this.shown.length - joined;
         this.summary.textContent = (own === this.rows.length ? counted(own, 'row')
             : `${figure(own)} of ${counted(this.rows.length, 'row')}`)
-            + (joined ? ` and ${figure(joined)} of the whole cluster that hold there too` : '');
+            + (joined ? ` and ${figure(joined)} of the whole cluster that hold there too` : '')
+            + (params.watch && !bitOf(params.watch)
+                ? `: the watch list has no ${lineOf(params.watch)}` : '');
         this.sheet.show(this.shown.length);
     }
 
     // The rows that pass the filters. With a filter of namespaces, those are joined that hold
     // everywhere, or, with `own`, left out.
     matching(params, inside) {
-        const at = WATCHED.findIndex(({id}) => id === params.watch);
+        const bit = bitOf(params.watch);
         const {namespace} = this.rows.columns;
-        const isWatched = at < 0 || this.rows !== ROWS ? () => true : row => WATCH.of(row,
-            this.isJoined && EVERYWHERE.holds(row) ? inside.place : namespace[row]) >> at & 1;
+        const isWatched = !params.watch || this.rows !== ROWS ? () => true : row => WATCH.of(row,
+            this.isJoined && EVERYWHERE.holds(row) ? inside.place : namespace[row]) & bit;
         if (!inside) {
             return this.rows.matching(params, isWatched);
         }
@@ -349,6 +393,18 @@ class RowsView {
         return Array.from(this.shown, row => this.rows.line(row) + '\n').join('');
     }
 
+    // The same for a spreadsheet: an empty field is an empty cell. (The mark at the beginning is for
+    // those that know UTF-8 by it alone.)
+    table() {
+        const {fields} = this.rows;
+        const lines = Array.from(this.shown, row => fields.map(field => {
+            const word = this.rows.word(row, field);
+            return csvCell(field === 'change' ? CHANGES[word] : word === '-' ? '' : word);
+        }));
+        return '\ufeff' + [fields.map(field => csvCell(HEADS[field])), ...lines]
+            .map(cells => cells.join(',') + '\r\n').join('');
+    }
+
     copy() {
         const wanted = navigator.clipboard?.writeText(this.text()) || Promise.reject();
         wanted.then(() => say(`${counted(this.shown.length, 'row')} copied`),
@@ -356,12 +412,16 @@ class RowsView {
     }
 
     save() {
-        const address = URL.createObjectURL(new Blob([this.text()],
-            {type: 'text/tab-separated-values'}));
-        make('a', {href: address, download: this.name + '.tsv'}).click();
+        const address = URL.createObjectURL(new Blob([this.table()], {type: 'text/csv'}));
+        make('a', {href: address, download: this.name + '.csv'}).click();
         setTimeout(() => URL.revokeObjectURL(address), 60000);
         say(`${counted(this.shown.length, 'row')} saved`);
     }
+}
+
+// A cell of CSV. One that a spreadsheet would take for a formula begins with an apostrophe.
+function csvCell(text) {
+    return '"' + (/^[=+@-]/.test(text) ? "'" : '') + text.replaceAll('"', '""') + '"';
 }
 
 // Shows or hides what holds everywhere, where a namespace is looked at.
@@ -421,8 +481,7 @@ class FindingsView {
             muted(figure(found.length))),
             make('p', {class: 'why'}, Object.hasOwn(FINDINGS, code) ? FINDINGS[code] : ''),
             plainTable(title, ['Object', 'Rule or subject', 'Detail'], found,
-                finding => finding.slice(2).map(word => word === '-'
-                    ? muted('–') : nodesOf(textOf(word)))));
+                finding => finding.slice(2).map(word => fieldNodes(word, 'name'))));
     }
 
     update() {}

@@ -173,7 +173,7 @@ def watch_list():
     lines = [line.split('\t') for line in ended.stdout.decode().splitlines()]
     same('--watched: status', (ended.returncode, ended.stderr), (0, b''))
     same('--watched: the pairs', [line[1:] for line in lines], wanted)
-    same('--watched: a category has one id', len({line[0] for line in lines}), 7)
+    same('--watched: a category has one id', len({line[0] for line in lines}), 9)
     with open('/dev/full', 'wb') as full:
         ended = subprocess.run([sys.executable, FILTER, '--watched'], stdout=full,
                                stderr=subprocess.PIPE, timeout=60)

@@ -3,6 +3,7 @@ typed into, printed, and compared with the rows that they were made of.
 """
 
 import contextlib
+import csv
 import json
 import os
 import re
@@ -16,6 +17,7 @@ from written import (CHANGES, FINDINGS, NAMED, NAMES, SMALL, contents, file_of, 
                      named_strangers, rows_of, same, strangers)
 
 CLUSTER = os.path.join(TOP, 'examples', 'cluster')
+LABELS = ['Who', 'Namespace', 'Verb', 'API group', 'Resource or URL', 'Name', 'Binding']
 COUNTS = ('[...document.querySelectorAll(".tiles li")].map(it => '
           '[...it.firstChild.children].map(part => part.textContent))')
 
@@ -64,18 +66,23 @@ class Shown:
     def hash(self):
         return self.it.do('decodeURIComponent(location.hash.replaceAll("+", " "))')
 
-    def saved(self, name='rows.tsv'):
-        """What a click on Save writes."""
+    def saved(self, name='rows.csv'):
+        """What a click on Save writes: its rows, as the matrix prints them."""
+        heads, *rows = csv.reader(self.save(name).removeprefix('\ufeff').splitlines())
+        same('%s: the first line' % name, heads[-7:], LABELS)
+        return ['\t'.join(re.sub("^'(?=[=+@-])", '', cell) or '-' for cell in row) for row in rows]
+
+    def save(self, name):
         path = os.path.join(self.room, name)
         with contextlib.suppress(FileNotFoundError):
             os.remove(path)
         self.click('[...document.querySelectorAll(".tools button")].find(it => it.textContent '
-                   '=== "Save as TSV")')
+                   '=== "Save as CSV")')
         ends = time.monotonic() + browser.PATIENCE
         while not os.path.exists(path) and time.monotonic() < ends:
             time.sleep(0.02)
-        with open(path, encoding='utf-8') as file:
-            return file.read().splitlines()
+        with open(path, encoding='utf-8', newline='') as file:
+            return file.read()
 
     def is_quiet(self):
         """No fault, no dialog, and no request but that of the file itself."""
@@ -90,7 +97,7 @@ def seen_who(page):
     same('who: the counts', page.cells(), [
         ['group devs', '5', '1', '2', '3', 'secrets workloads '],
         ['user ann', '5', '2', 'all', '2', 'secrets exec '],
-        ['account dev:ci', '2', '–', '1', '1', '']])
+        ['account dev:ci', '2', '–', '1', '1', 'workloads ']])
     same('who: the facts', page.text('#facts'), '12 rows · 3 principals · 2 namespaces with rows '
          'of their own · 6 bindings in these rows')
     page.click('document.querySelectorAll(".who thead button")[1]')
@@ -99,6 +106,10 @@ def seen_who(page):
     page.click('document.querySelectorAll(".who thead button")[2]')
     same('who: sorted by those in the whole cluster', [row[0] for row in page.cells()],
          ['user ann', 'group devs', 'account dev:ci'])
+    page.click('document.querySelectorAll(".who thead button")[2]')
+    same('who: sorted the other way', ([row[0] for row in page.cells()], page.it.do(
+        '[...document.querySelectorAll(".who thead th")].map(it => it.ariaSort)')[:3]),
+         (['account dev:ci', 'group devs', 'user ann'], ['none', 'none', 'ascending']))
     page.go('#who')
     page.type_into('.view .tools input', 'DEV')
     same('who: filtered', [row[0] for row in page.cells()], ['group devs', 'account dev:ci'])
@@ -117,6 +128,11 @@ def seen_who(page):
                                                'ClusterRoleBinding/ops ']])
     page.go('#who?who=u:nobody')
     same('who: somebody without rows', page.text('main .muted'), 'This page has no row for them.')
+    page.go('#who?who=nobody')
+    same('who: a key of nobody', (page.text('main h2'), page.text('main .muted')),
+         ('nobody', 'This page has no row for them. A principal is written u:NAME or g:NAME.'))
+    page.go('#who?who=')
+    same('who: an empty one is all', len(page.cells()), 3)
 
 
 def seen_what(page):
@@ -162,10 +178,11 @@ def seen_watch(page):
     same('watch: the counts', page.it.do(COUNTS), [
         ['2', 'Reads secrets', '1 in the whole cluster'],
              ['1', 'Execs into pods', '1 in the whole cluster'],
-        ['1', 'Creates pods or workloads', 'in namespaces alone'], ['0', 'Impersonates', 'nobody'],
-             ['0', 'Binds roles', 'nobody'],
+        ['2', 'Creates or changes pods or workloads', 'in namespaces alone'],
+        ['0', 'Impersonates', 'nobody'], ['0', 'Binds roles', 'nobody'],
         ['0', 'Escalates roles', 'nobody'], ['0', 'Creates tokens', 'nobody'],
-             ['0', 'Has everything (*)', 'nobody']])
+        ['0', 'Changes webhooks', 'nobody'], ['0', 'Approves certificates', 'nobody'],
+        ['0', 'Has everything (*)', 'nobody']])
     same('watch: who reads secrets', page.cells('#watch-secrets'),
          [['user ann', 'whole cluster', 'get secrets', 'ClusterRoleBinding/ops '],
                                                                     ['group devs', 'dev ',
@@ -173,6 +190,9 @@ def seen_watch(page):
                                                                      'RoleBinding/dev/devs ']])
     page.go('#rows?watch=secrets')
     same('watch: the rows of a category', page.saved(), [SMALL[3], SMALL[6], SMALL[8]])
+    page.go('#rows?watch=nothing')
+    same('watch: a category that isn’t there', (page.cells(), page.text('.tools .muted')),
+         ([], '0 of 12 rows: the watch list has no nothing'))
 
 
 def seen_beside(page):
@@ -192,7 +212,7 @@ def seen_beside(page):
                                           ['− lost', 'user bob', '*', '*', 'apps', '*', '*',
                                            'ClusterRoleBinding/bobs']])
     page.go('#changes?change=lost')
-    same('changes: the lost ones', page.saved('changes.tsv'), CHANGES[1:])
+    same('changes: the lost ones', page.saved('changes.csv'), ['lost' + CHANGES[1][1:]])
 
 
 def seen_keys(page):
@@ -234,7 +254,12 @@ def small_page(it, room):
     with file_of(FINDINGS) as lint, file_of(CHANGES) as diff:
         page = Shown(it, room, 'small', made(SMALL, '--lint', lint, '--diff', diff, '--title',
                                              'prod & co')[1])
-    same('the title', it.do('document.title'), 'prod & co')
+    for address, title in (('', 'Who · prod & co'), ('#watch', 'Watch list · prod & co'),
+                           ('#who?who=u:ann', 'ann · Who · prod & co'),
+                           ('#what?ns=dev', 'dev · What · prod & co'),
+                           ('#find?q=x', 'Found · prod & co'), ('#who', 'Who · prod & co')):
+        page.go(address)
+        same('the title of %s' % address, it.do('document.title'), title)
     for part in (seen_who, seen_what, seen_watch, seen_beside, seen_keys):
         part(page)
     page.is_quiet()
@@ -270,7 +295,8 @@ def by_name(it, room):
     same('by name: who', [row[:2] + row[-1:] for row in page.cells()], [
         ['group devs', '5',
          'secrets workloads secrets by name exec by name workloads by name '],
-        ['user ann', '5', 'secrets exec '], ['account dev:ci', '2', 'impersonate by name '],
+        ['user ann', '5', 'secrets exec '],
+        ['account dev:ci', '2', 'workloads impersonate by name '],
         ['user zoe', '–', 'secrets by name tokens by name ']])
     checked('by name: such a badge looks different', it.do(
         '[...document.querySelectorAll(".badge")].every(it => '
@@ -280,9 +306,10 @@ def by_name(it, room):
     same('by name: the counts', it.do(COUNTS), [
         ['2 · 2 by name', 'Reads secrets', '1 in the whole cluster'],
         ['1 · 1 by name', 'Execs into pods', '1 in the whole cluster'],
-        ['1 · 1 by name', 'Creates pods or workloads', 'in namespaces alone'],
+        ['2 · 1 by name', 'Creates or changes pods or workloads', 'in namespaces alone'],
         ['0 · 1 by name', 'Impersonates', 'only by name'], ['0', 'Binds roles', 'nobody'],
         ['0', 'Escalates roles', 'nobody'], ['0 · 1 by name', 'Creates tokens', 'only by name'],
+        ['0', 'Changes webhooks', 'nobody'], ['0', 'Approves certificates', 'nobody'],
         ['0', 'Has everything (*)', 'nobody']])
     ann, devs = page.cells('#watch-secrets')[:2]
     same('by name: whoever reads all secrets comes first', (ann[0], devs[:2]),
@@ -291,7 +318,7 @@ def by_name(it, room):
         ['user zoe', 'whole cluster dev ', 'get, list secrets, some objects only',
          'RoleBinding/dev/oneRoleBinding/dev/twoClusterRoleBinding/all'],
         ['group devs', 'prod ', 'get secrets, some objects only', 'RoleBinding/prod/one']])
-    same('by name: pods in the whole cluster', page.cells('#watch-workloads')[1:], [
+    same('by name: pods in the whole cluster', page.cells('#watch-workloads')[2:], [
         ['group devs', 'whole cluster ', 'create pods, some objects only',
          'ClusterRoleBinding/pods']])
     same('by name: a subresource for a star', page.cells('#watch-impersonate'), [
@@ -458,6 +485,11 @@ def joined(it, room):
                'place.dispatchEvent(new Event("change"))}')
     same('once: there only that holds which holds everywhere', page.cells(),
          [['group admins', 'gl      ']])
+    page = Shown(it, room, 'untold', made([row.replace('secrets', 'nodes/proxy') if 'list' in row
+                                           else row for row in ONCE])[1])
+    page.go('#what?ns=dev')
+    same('without --namespaced: types of Kubernetes that have no namespaces aren’t there',
+         page.texts('.grid thead th'), ['Principal', 'pods', 'secrets'])
     everywhere_twice(it, room)
 
 
@@ -480,6 +512,96 @@ u:ann dev list - secrets - RoleBinding/dev/ann
     page.go('#who?who=u:ann')
     same('--every: so has what somebody has', [row[-1] for row in page.cells()],
          ['ClusterRoleBinding/a ClusterRoleBinding/b ', 'RoleBinding/dev/ann '])
+
+
+FULL = ['get', 'list', 'watch', 'create', 'update', 'patch', 'delete']
+
+
+def names(it, room):
+    """Names that look alike are told apart: by blanks, by their ends, by what stands for no name;
+    somebody with many verbs has each in sight."""
+    ends = ['team-%s-of-a-very-long-name-%s' % ('x' * 60, end) for end in 'ab']
+    rows = rows_of('\n'.join('u:%s - get %s pods %s ClusterRoleBinding/b' % (who, group, name)
+                             for who, group, name in (('dana', '-', '-'), ('dana', 'core', '–'))))
+    rows += [row.replace('dana', name) for name in ['dana ', *ends] for row in rows[:1]]
+    page = Shown(it, room, 'alike', made(rows)[1])
+    same('a blank at the end is seen', [row[0] for row in page.cells()][:2],
+         ['user dana', 'user danaU+0020'])
+    page.go('#rows')
+    same('no group, no namespace and no name have a shape of their own', page.texts('.none')[:6],
+         ['whole cluster', 'core', '–', 'whole cluster', 'whole cluster', 'core'])
+    heads = it.do('[...document.querySelectorAll("tbody .cut")].map(it => { '
+                  'const [head, tail] = it.children, box = it.getBoundingClientRect(), '
+                  'end = tail.getBoundingClientRect(); return [head.scrollWidth > head.clientWidth, '
+                  'end.right <= it.closest("td").getBoundingClientRect().right, '
+                  'it.title, tail.textContent] })')
+    same('long names lose their middle, and have it in their title', heads,
+         [[True, True, end, end[-12:]] for end in ends])
+    page.is_quiet()
+    verbs = sorted([*FULL, 'deletecollection', 'bind', 'escalate', 'impersonate', 'approve', 'use'])
+    page = Shown(it, room, 'verbs', made(rows_of('\n'.join(
+        'u:ann - %s - pods - ClusterRoleBinding/b' % verb for verb in verbs)))[1])
+    page.go('#who?who=u:ann')
+    same('all verbs are there', ' '.join(row[3].strip() for row in page.cells()), ' '.join(verbs))
+    same('and in sight', it.do('[...document.querySelectorAll("tbody td:nth-child(4)")].every(it => '
+                               'it.scrollWidth <= it.clientWidth)'), True)
+    page.is_quiet()
+
+
+def common_verbs(it, room):
+    """A verb that only an unbound role has, or somebody else, takes nobody out of those with
+    everything; a common one does."""
+    rows = rows_of('\n'.join('u:all - %s - %s - ClusterRoleBinding/all' % (verb, type_)
+                             for verb in sorted(FULL) for type_ in ('pods', 'secrets')))
+    odd = rows_of('u:odd - frobnicate - pods - ClusterRoleBinding/odd')
+    for name, given, wanted in (('a made-up verb', [*rows, *odd], ['user all']),
+                                ('a common verb', [*rows[1:], *odd], [])):
+        page = Shown(it, room, 'common', made(given)[1])
+        page.go('#watch')
+        same('%s: who has everything' % name,
+             [row[0] for row in page.cells('#watch-everything')], wanted)
+
+
+def spreadsheet(it, room):
+    """What is saved has quotes, and no cell that is a formula."""
+    row = '\t'.join(['u:a"b,c', '=1+1', '+x', '@y', '-z', '-', 'ClusterRoleBinding/b'])
+    page = Shown(it, room, 'formulas', made([row])[1])
+    page.go('#rows')
+    same('CSV', page.save('rows.csv'), '\ufeff"Who","Namespace","Verb","API group",'
+         '"Resource or URL","Name","Binding"\r\n"u:a""b,c","\'=1+1","\'+x","\'@y","\'-z","",'
+         '"ClusterRoleBinding/b"\r\n')
+
+
+def many_namespaces(it, room):
+    """500,000 namespaces: the page opens, and one of them is typed."""
+    page = Shown(it, room, 'namespaces', made(
+        'u:ann\tns%06d\tget\t-\tpods\t-\tRoleBinding/ns%06d/b' % (at, at)
+        for at in range(500000))[1])
+    page.go('#what')
+    page.it.do('document.querySelector("main [list]").select()')
+    page.it.type('ns499999')
+    page.it.press('Enter', 13, '\r')
+    same('500,000 namespaces: one is looked at', (page.hash(), page.cells()),
+         ('#what?ns=ns499999', [['user ann', 'g       ']]))
+    checked('500,000 namespaces: few elements',
+            it.do('document.querySelectorAll("*").length') < 1000)
+    page.is_quiet()
+
+
+def zoomed(it, room):
+    """At 200 % each view can be reached by scrolling down alone, and has room for rows."""
+    with file_of(FINDINGS) as lint:
+        page = Shown(it, room, 'zoomed', made(SMALL, '--lint', lint)[1])
+    it.ask('Emulation.setDeviceMetricsOverride', width=640, height=400, deviceScaleFactor=2,
+           mobile=False)
+    for view in ('who', 'what?ns=dev', 'watch', 'rows', 'findings', 'who?who=u:ann'):
+        page.go('#' + view)
+        same('200 %%: %s' % view, it.do(
+            '{const part = document.querySelector(".sheet") || document.querySelector("main"); '
+            '[document.documentElement.scrollWidth <= 640, part.offsetHeight >= 120, '
+            'part.getBoundingClientRect().bottom <= document.documentElement.scrollHeight]}'),
+             [True, True, True])
+    it.ask('Emulation.clearDeviceMetricsOverride')
 
 
 def notices(it, room):
@@ -558,9 +680,6 @@ def cluster_rows():
                           check=True).stdout.decode().splitlines()
 
 
-LABELS = ['Who', 'Namespace', 'Verb', 'API group', 'Resource or URL', 'Name', 'Binding']
-
-
 def passes(row, typed):
     """Whether a row's fields pass the filters that were typed, by their places."""
     return all(row[at] == text[1:] if text[0] == '=' else text.lower() in row[at].lower()
@@ -603,7 +722,7 @@ def cluster_page(it, room):
     it.ask('Browser.grantPermissions',
            permissions=['clipboardReadWrite', 'clipboardSanitizedWrite'])
     page.click('[...document.querySelectorAll(".tools button")]'
-               '.find(it => it.textContent === "Copy")')
+               '.find(it => it.textContent === "Copy as lines")')
     it.until('document.querySelector("#said").textContent === "%d rows copied"' % len(oncall))
     same('cluster: copied rows', it.do('navigator.clipboard.readText()').splitlines(), oncall)
     readers = {row[0] for row in fields
@@ -742,7 +861,8 @@ def in_browser():
     try:
         with browser.browser() as it, tempfile.TemporaryDirectory() as room:
             it.ask('Browser.setDownloadBehavior', behavior='allow', downloadPath=room)
-            for part in (small_page, watched, by_name, watch_heads, stars, joined, notices, empty, widths,
+            for part in (small_page, watched, by_name, watch_heads, stars, joined, notices, names,
+                         common_verbs, spreadsheet, many_namespaces, zoomed, empty, widths,
                          hostile_page, cluster_page, themes, large, wide):
                 try:
                     part(it, room)

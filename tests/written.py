@@ -64,7 +64,8 @@ NAMES = {
     'b\u00a0l\u3000k': 'bU+00A0lU+3000k',
     'line\u2028end\u0085': 'lineU+2028endU+0085', '\U000e0041tag': 'U+E0041tag',
     '\ufff9r': 'U+FFF9r', '\\x2d': '-',
-    'm' * 1048576: 'm' * 300 + '… 1,048,576 characters'}
+    '\u2800b': 'U+2800b', ' two  blanks ': 'U+0020twoU+0020U+0020blanksU+0020',
+    'm' * 1048576: 'm' * 200 + '…' + 'm' * 100 + ' 1,048,576 characters'}
 
 
 def made(rows, *words, last='end', **how):
