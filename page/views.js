@@ -223,11 +223,13 @@ class PrincipalView {
 
     counts(it) {
         const inside = figure(it.permissions - it.cluster);
-        return [counted(it.permissions, 'permission') + ': ' + figure(it.cluster)
-            + (this.scope.isAll ? ' in the whole cluster' : ' that hold everywhere'),
-        this.scope.isAll ? inside + ' in ' + counted(it.namespaces.size, 'namespace')
-            : inside + ' of this namespace alone',
-        'from ' + counted(it.bindings.size, 'binding')].join(', ') + '.';
+        const parts = this.scope.isAll ? [figure(it.cluster) + ' in the whole cluster'
+            + (it.isEverywhere ? ', and so in each namespace' : ''),
+        it.namespaces.size ? inside + ' in ' + counted(it.namespaces.size, 'namespace') : '']
+            : [figure(it.cluster) + ' that hold everywhere',
+                inside + ' of this namespace alone'];
+        return counted(it.permissions, 'permission') + ': ' + [...parts, 'from '
+            + counted(it.bindings.size, 'binding')].filter(part => part).join(', ') + '.';
     }
 
     show(lines, params) {

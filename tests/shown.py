@@ -121,6 +121,8 @@ def seen_who(page):
              ['whole cluster', 'secrets', '–', 'get ', 'ClusterRoleBinding/ops '],
              ['dev', 'configmaps', 'app', 'update ', 'RoleBinding/dev/ann ']]
     same('who: what they have beyond the whole cluster', page.cells(), lines)
+    same('who: how much that is', page.text('main p.muted'), '5 permissions: 2 in the whole cluster, '
+         'and so in each namespace, 3 in 1 namespace, from 2 bindings.')
     page.click_on('.tools input[type=checkbox]')
     same('who: and all of it', page.cells(),
          [*lines, ['dev', 'pods/exec', '–', 'create ', 'ClusterRoleBinding/ops '],
