@@ -8,8 +8,8 @@ import subprocess
 from common import V1
 from plugin_changes import GAINED, OVER, ROLE, read
 from plugin_room import (DANA, DEVELOPERS, IMPLIED, KIM, NO_ACCOUNT, NO_GROUP, NO_GROUPS, NO_SPACE,
-                         NO_USER, NO_VERB, PLUGIN, RBAC, SCOPED, UNLISTED, URL_SCOPED, in_each_shell,
-                         of_kinds, served)
+                         NO_USER, NO_VERB, PLUGIN, RBAC, REPEATED, SCOPED, UNLISTED, URL_SCOPED,
+                         in_each_shell, of_kinds, served)
 from written import FILTER
 
 # ---- where a question is asked
@@ -333,8 +333,6 @@ def document(**lists):
     return json.dumps({'apiVersion': 'rbacaudit/v1', 'kind': 'Universe', 'names': [''], **lists})
 
 
-REPEATED = ('kubectl-rbacaudit: %d of the first %d rows repeat for a namespace what somebody may do '
-            'in the whole cluster; --once leaves them out\n')
 NO_WHOLE = ('kubectl-rbacaudit: the namespaces of the universe lack "", the whole cluster, so what '
             'holds in it is in no row of --once: add "" to them\n')
 

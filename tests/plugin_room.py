@@ -111,6 +111,8 @@ NO_VERB = "kubectl-rbacaudit: the API resource lists of the export don't have th
 SCOPED = "kubectl-rbacaudit: the type %s is cluster-scoped, so -n doesn't count: the question is about the whole cluster%s\n"
 URL_SCOPED = "kubectl-rbacaudit: a URL has no namespace, so -n doesn't count\n"
 NO_USER = 'kubectl-rbacaudit: no binding of the export names the user %s, so it has only what its groups have%s\n'
+REPEATED = ('kubectl-rbacaudit: %d of the first %d rows repeat for a namespace what somebody may do '
+            'in the whole cluster; --once leaves them out\n')
 NO_GROUPS = '; --groups A,B names them'
 NO_GROUP = 'kubectl-rbacaudit: no binding of the export names the group%s\n'
 
