@@ -12,7 +12,9 @@ use Rattle.rbac_model.specs.Lists.{IsFirstAt}
 use Rattle.rbac_model.specs.Policies.{PolicyView, IsPolicy, GrantView, IsOfBinding, BindingNames}
 use Rattle.rbac_model.proofs.BindingPlaces.{of_some_binding}
 use Rattle.rbac_rules.specs.Effective.{ScopeView, IsInForce, AreRulesBy}
-use Rattle.rbac_rules.specs.Left.{LeftView, IsTaken}
+use Rattle.rbac_rules.specs.Left.{LeftView, IsTaken, rule_shown}
+use Rattle.rbac_rules.specs.declared.effective.EffectiveRule.{EffectiveRule}
+use Rattle.rbac_model.specs.Sources.{grant_of}
 use Rattle.rbac_rules.specs.Runs.{HasAt, HasNone, IsRun, IsRunOf, IsRunFrom, IsNextRun}
 use Rattle.rbac_rules.specs.declared.run.Run.{Run}
 use Rattle.rbac_rules.proofs.RuleLists.{taken_first, from_grant, passed, none_left}
@@ -140,20 +142,23 @@ module _ (p : PolicyView) (who : Who) (scope : ScopeView) where
       }
 
       abbrev left_from : ℕ → LeftView
-      left_from n = record { who = who; scope = scope; grants = drop n p.grants }
+      left_from n = record { who = who; scope = scope; bindings = p.held.bindings; grants = drop n p.grants }
 
-      pub taken : (g : GrantView) → slice_get p.grants f.no ≡ Some g → IsTaken (left_from run.no) (left_from (f.no + 1)) (record { grant = g; subject_place = f.subject_place })
-      taken g read =
+      pub taken : (x : EffectiveRule) → slice_get p.grants f.no ≡ Some (grant_of x.grant) → IsOfBinding p f.no x.grant.binding_place → x.subject_place ≡ f.subject_place → IsTaken (left_from run.no) (left_from (f.no + 1)) x
+      taken x read of_binding subject =
+          let g = grant_of x.grant in
           let had = next.run.had f.no g (omega arith) next.some read in
           let count = f.no - run.no in
           let s : run.no + count ≡ f.no = omega (arith, next.past) in
           let past = passed who scope p.grants count run.no in
           let e : drop f.no p.grants ≡ g ∷ drop (f.no + 1) p.grants = from_grant who scope p.grants f.no g read in
-          let first = taken_first who scope g (drop (f.no + 1) p.grants) (record { grant = g; subject_place = f.subject_place }) refl had.0 had.1 in
+          let first = taken_first who scope g (drop (f.no + 1) p.grants) (rule_shown x) refl had.0 (rw subject had.1) in
           let lt = slice_get_within p.grants f.no g read in
           record {
             who = refl;
             scope = refl;
+            bindings = refl;
+            place = of_binding.2 ∙ ap (λ (v : GrantView). Some v.binding) (same_Some of_binding.0 g (sym of_binding.1 ∙ read));
             fewer = omega (arith, length-drop (f.no + 1) p.grants, length-drop run.no p.grants, lt, next.past);
             left = λ all.
                 let skip = past all (omega arith) (λ m low high g' read' has.

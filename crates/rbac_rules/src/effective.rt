@@ -38,6 +38,7 @@ impl<'a> Model for EffectiveRules<'a> {
     ghost view = { λ it. record {
       who = it.who.now;
       scope = scope_of it.scope;
+      bindings = it.policy.now.held.bindings;
       grants = drop it.run.no it.policy.now.grants;
     } };
 
@@ -56,6 +57,7 @@ pub fn effective_rules<'a>(
     ensures { result ≡ record {
       who = who.now;
       scope = scope_of scope.entry;
+      bindings = policy.now.held.bindings;
       grants = policy.now.grants;
     } }
 {

@@ -14,4 +14,4 @@ invariant_of-self c =
 
 pub returns-clause-steps : goal.returns-clause-steps
 returns-clause-steps c =
-    rw (← c.self.view_is) (taken c.self.inside.policy.now c.self.inside.who.now (scope_of c.self.inside.scope) c.in_ok-run.ensures.policy c.self.inside.run c.self.invariant c.in_ok-run.run' c.in_ok-run.ensures.next (grant_of c.grant-grant.result) c.grant-grant.ensures.grant)
+    rw (← c.self.view_is) (taken c.self.inside.policy.now c.self.inside.who.now (scope_of c.self.inside.scope) c.in_ok-run.ensures.policy c.self.inside.run c.self.invariant c.in_ok-run.run' c.in_ok-run.ensures.next _ c.grant-grant.ensures.grant c.grant-grant.ensures.binding refl)
