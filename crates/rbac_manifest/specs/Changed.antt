@@ -10,8 +10,8 @@ use Rattle.rbac_manifest.specs.Names.{object_name, has_name}
 abbrev pub is_named : List Object → Object → Bool
 is_named objects o = has_name (map object_name objects) (object_name o)
 
--- the objects after a change: those of which none that it takes away has the name, and behind them
--- those that it puts over, which replace earlier ones of their names (own)
+-- the objects after a change: those before it, in order, less each that has the name of one of
+-- `without`, followed by those of `over`, which replace earlier ones of their names (own)
 abbrev pub changed_objects : List Object → List Object → List Object → List Object
 changed_objects objects without over = filter (λ o. not (is_named without o)) objects ++ over
 

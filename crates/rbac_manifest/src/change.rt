@@ -11,9 +11,9 @@ use crate::names::{ObjectName, is_among, push_objects, sort_names};
 use rbac_model::Object;
 use std::alloc::{AllocError, Global};
 
-/// The objects after a change: copies of those of `objects` whose kind, namespace and name none of
-/// `without` has, in order, and behind them those that the change puts over. Of a policy that is
-/// made of them, these replace earlier ones (own).
+/// The objects after a change: copies of `objects`, in order, less each whose kind, namespace and
+/// name an object of `without` has, followed by `over`. In a policy made of them, an object of
+/// `over` replaces earlier ones of its name (own).
 ///
 /// # Errors
 ///

@@ -1,4 +1,5 @@
-//! Copies of objects, part by part.
+//! Copies of objects, part by part. The types that they are made of have no `Clone`, since nothing
+//! else copies whole objects.
 
 ghost use Rattle.std.specs.Prelude.{◌≡◌, IfOk};
 

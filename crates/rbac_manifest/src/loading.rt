@@ -277,12 +277,12 @@ fn unresolved(fault: ResolveFault) -> LoadFault
     }
 }
 
-/// Reads inputs as [`load`](crate::load) does, into the objects that they give, in order, with
-/// those that later ones replace.
+/// Reads inputs as [`load`](crate::load) does, and returns the objects that they give, in order,
+/// with those that later ones replace.
 ///
 /// # Errors
 ///
-/// Those of `load`, but M11: no policy is made.
+/// Those of `load` but M11, since no policy is made.
 #[tactic(auto, unfolding(crate::specs::Contents::sorted_contents))]
 pub fn load_objects(alloc: Global, inputs: &[Input]) -> Result<Vec<Object>, LoadFault>
     ensures ok { IfOk result (λ v. (document_fault inputs.now ≡ None)
