@@ -15,13 +15,16 @@ function __rbacaudit_options
             string split ' ' 'groups= group= n/namespace= A/all-namespaces h/help'
         case matrix
             echo '^(--(after|limit))$'
-            string split ' ' 'every after= limit= h/help'
+            string split ' ' 'every once after= limit= h/help'
+        case universe
+            echo '(?!)'
+            string split ' ' 'h/help'
         case lint
             echo '^(--(only))$'
             string split ' ' 'only= skip-system h/help'
         case diff
-            echo '^(--(before|after))$'
-            string split ' ' 'before= after= h/help'
+            echo '^(--(before|after|without|with))$'
+            string split ' ' 'before= after= without= with= h/help'
         case '*'
             echo '(?!)'
             string split ' ' 'h/help V/version'
@@ -71,9 +74,10 @@ complete -c rbacaudit -n '__rbacaudit_words -eq 0 ""' -a can-i -d 'Check whether
 complete -c rbacaudit -n '__rbacaudit_words -eq 0 ""' -a who-can -d 'List who may VERB TARGET'
 complete -c rbacaudit -n '__rbacaudit_words -eq 0 ""' -a rules -d 'List the rules that WHO has'
 complete -c rbacaudit -n '__rbacaudit_words -eq 0 ""' -a matrix -d 'List everything that anyone may do'
+complete -c rbacaudit -n '__rbacaudit_words -eq 0 ""' -a universe -d 'Print the Universe that matrix makes of the files'
 complete -c rbacaudit -n '__rbacaudit_words -eq 0 ""' -a lint -d 'List what is wrong with the roles'
 complete -c rbacaudit -n '__rbacaudit_words -eq 0 ""' -a diff -d 'List what a change lets users do and takes from them'
-complete -c rbacaudit -n '__rbacaudit_lacks help "" can-i who-can rules matrix lint diff' -s h -l help -d 'Print help'
+complete -c rbacaudit -n '__rbacaudit_lacks help "" can-i who-can rules matrix universe lint diff' -s h -l help -d 'Print help'
 complete -c rbacaudit -n '__rbacaudit_lacks version ""' -s V -l version -d 'Print version'
 complete -c rbacaudit -n '__rbacaudit_lacks as can-i' -l as -x -d 'User to check'
 complete -c rbacaudit -n '__rbacaudit_lacks groups can-i rules' -l groups -x -d 'Groups of the user beside the implied ones (default: none)'
@@ -91,6 +95,7 @@ complete -c rbacaudit -n '__rbacaudit_lacks why who-can' -l why -d 'After the bi
 complete -c rbacaudit -n '__rbacaudit_lacks namespace rules' -s n -l namespace -x -d 'Namespace whose RoleBindings count (default: any)'
 complete -c rbacaudit -n '__rbacaudit_lacks all-namespaces rules' -s A -l all-namespaces -d 'Only what holds in all namespaces at once'
 complete -c rbacaudit -n '__rbacaudit_lacks every matrix' -l every -d 'List every binding that grants, not only the first'
+complete -c rbacaudit -n '__rbacaudit_lacks once matrix' -l once -d 'Leave out rows that have a namespace and a ClusterRoleBinding'
 complete -c rbacaudit -n '__rbacaudit_lacks after matrix' -l after -x \
     -d 'List only the rows after this TOKEN of a next line (default: from the first)'
 complete -c rbacaudit -n '__rbacaudit_lacks limit matrix' -l limit -x -d 'List at most N rows, 1 to 1000000 (default: all)'
@@ -100,11 +105,17 @@ complete -c rbacaudit -n '__rbacaudit_lacks before diff' -l before -x -k -a '(__
     -d 'JSON of kubectl get -o json or --raw as it was before the change'
 complete -c rbacaudit -n '__rbacaudit_lacks after diff' -l after -x -k -a '(__fish_complete_suffix .json)' \
     -d 'JSON of kubectl get -o json or --raw as it is after the change'
+complete -c rbacaudit -n '__rbacaudit_lacks without diff' -l without -x -k -a '(__fish_complete_suffix .json)' \
+    -d 'JSON of objects that the change deletes from those of --before'
+complete -c rbacaudit -n '__rbacaudit_lacks with diff' -l with -x -k -a '(__fish_complete_suffix .json)' \
+    -d 'JSON of objects that the change adds or replaces'
 complete -c rbacaudit -n '__rbacaudit_words -eq 0 can-i who-can' -k -d 'Verb to check' \
     -a 'get list watch create update patch delete deletecollection use bind escalate impersonate'
 complete -c rbacaudit -n '__rbacaudit_words -ge 2 can-i who-can' -k -a '(__fish_complete_suffix .json)'
 complete -c rbacaudit -n '__rbacaudit_words -ge 1 rules' -k -a '(__fish_complete_suffix .json)'
-complete -c rbacaudit -n '__rbacaudit_words -ge 0 matrix lint' -k -a '(__fish_complete_suffix .json)'
+complete -c rbacaudit -n '__rbacaudit_words -ge 0 matrix universe lint' -k -a '(__fish_complete_suffix .json)'
 complete -c rbacaudit -n '__rbacaudit_has before diff' -k -a '(__fish_complete_suffix .json)'
 complete -c rbacaudit -n '__rbacaudit_has after diff' -k -a '(__fish_complete_suffix .json)'
+complete -c rbacaudit -n '__rbacaudit_has without diff' -k -a '(__fish_complete_suffix .json)'
+complete -c rbacaudit -n '__rbacaudit_has with diff' -k -a '(__fish_complete_suffix .json)'
 # end
