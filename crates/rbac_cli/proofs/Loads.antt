@@ -186,8 +186,10 @@ pub after_refused : (change : Change) (first others : List (List ℕ)) (objects 
     → (r ≡ Err f) ⊎ IsOkAnd r (λ v. f.cause ≢ NoMemory → HasTooManyGrants v.items f)
     → f.cause ≢ NoMemory → IsSideRefused others (objects_after change (objects_of first) others) f
 after_refused change first others objects (Ok v) f same (none, e) err (inl is) refused = cc
-after_refused change first others objects (Ok v) f same (none, e) err (inr many) refused = inr (none,
-  subst (λ (os : List Object). HasTooManyGrants (objects_after change os others) f) same (subst (λ (os : List Object). HasTooManyGrants os f) e (many refused)))
+after_refused change first others objects (Ok v) f same (none, e) err (inr many) refused = inr (
+  none,
+  subst (λ (os : List Object). HasTooManyGrants (objects_after change os others) f) same (subst (λ (os : List Object). HasTooManyGrants os f) e (many refused)),
+)
 after_refused change first others objects (Err g) f same ok err (inl is) refused =
     let e : g ≡ f = cc in inl (subst (λ (x : LoadFault). document_fault others ≡ Some x) e (err (subst (λ (x : LoadFault). x.cause ≢ NoMemory) (sym e) refused)))
 after_refused change first others objects (Err g) f same ok err (inr many) refused = absurd many

@@ -108,15 +108,15 @@ module _ (page : PageLines) (text : Text) (h : IsRestOfPage page text) where
   pub ends : IsOver page.left → text ≡ codes "end" ++ newline ∷ []
   ends over =
       h.4 ∙ ap (λ (rows : List RowView). text_after every h.0 (cut_at page.limit rows)) (over h.1 h.3)
-          ∙ ap (text_after every h.0) (cut_none page.limit) ∙ ap (λ (t : Text). t ++ newline ∷ []) (end_words every h.0)
+      ∙ ap (text_after every h.0) (cut_none page.limit) ∙ ap (λ (t : Text). t ++ newline ∷ []) (end_words every h.0)
 
   -- a row is left, and the limit leaves none, so the last line has the token of the last row
   pub stops : (t : RowsLeft) (r : Row) → GivesFirst page.left r t → page.limit ≡ Some 0 → text ≡ last_line every page.last
   stops t r gives none =
       h.4 ∙ ap (λ (rows : List RowView). text_after every h.0 (cut_at page.limit rows)) (others t r gives).1
-          ∙ ap (λ (limit : Option ℕ). text_after every h.0 (cut_at limit (gives.0 ∷ (others t r gives).0))) none
-          ∙ ap (text_after every h.0) (cut_full gives.0 (others t r gives).0)
-          ∙ next_words every page.last h.0 h.2
+      ∙ ap (λ (limit : Option ℕ). text_after every h.0 (cut_at limit (gives.0 ∷ (others t r gives).0))) none
+      ∙ ap (text_after every h.0) (cut_full gives.0 (others t r gives).0)
+      ∙ next_words every page.last h.0 h.2
 
 -- ---- the last line is put
 

@@ -55,17 +55,25 @@ module _ (old new : RowsLeft) (mid : MatrixRows) (p : PassesRepeats (AreRowsLeft
   next_once None over = λ all (rows, left, e).
       let (rest, parts, here) = (p.some.left rows).0 left in
       e ∙ as_once old.once rows was ∙ ap without_repeats parts ∙ none_of p.some.passed rest p.some.repeats ∙ ap without_repeats (over rest here)
-  next_once (Some r) (row, shows, first) = (row, shows, λ all (rows, left, e).
-      let (rest, parts, here) = (p.some.left rows).0 left in
-      let (others, cons, after) = first rest here in
-      let plain = p.first row others (subst (AreRowsLeft mid) cons here) in (
-        without_repeats others,
-        e ∙ as_once old.once rows was ∙ ap without_repeats parts ∙ none_of p.some.passed rest p.some.repeats ∙ ap without_repeats cons ∙ kept_first row others plain,
-        (others, after, sym (as_once new.once others is)),
-      ))
+  next_once (Some r) (row, shows, first) = (
+    row,
+    shows,
+    λ all (rows, left, e).
+        let (rest, parts, here) = (p.some.left rows).0 left in
+        let (others, cons, after) = first rest here in
+        let plain = p.first row others (subst (AreRowsLeft mid) cons here) in (
+          without_repeats others,
+          e ∙ as_once old.once rows was ∙ ap without_repeats parts ∙ none_of p.some.passed rest p.some.repeats ∙ ap without_repeats cons ∙ kept_first row others plain,
+          (others, after, sym (as_once new.once others is)),
+        ),
+  )
 
 module _ (old new : RowsLeft) (was : old.once ≡ false) (is : new.once ≡ false) where
   pub next_plain : (r : Option Row) → GivesNextRow old.rows r new.rows → GivesNext old r new
   next_plain None over = λ all (rows, left, e). e ∙ rw was (over rows left)
-  next_plain (Some r) (row, shows, first) = (row, shows, λ all (rows, left, e).
-      let (others, cons, after) = first rows left in (others, e ∙ rw was cons, (others, after, rw is refl)))
+  next_plain (Some r) (row, shows, first) = (
+    row,
+    shows,
+    λ all (rows, left, e).
+        let (others, cons, after) = first rows left in (others, e ∙ rw was cons, (others, after, rw is refl)),
+  )

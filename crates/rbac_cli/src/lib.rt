@@ -23,15 +23,13 @@ mod stop;
 mod universe;
 mod who_can;
 
-pub use laws::{
-    answers_are_one, plus_lines_tell_all, runs_are_one, universes_are_taken_back,
-};
+pub use laws::{answers_are_one, plus_lines_tell_all, runs_are_one, universes_are_taken_back};
 pub use outcome::{RunFault, Status};
 pub use rbac_command::{UsageFault, command_of};
 pub use rbac_manifest::{At, Cause, LoadFault};
 pub use rbac_question::{
-    Action, Asked, AskedFor, Change, Command, HolderOptions, MatrixOptions, Question, QuestionFault,
-    Scope,
+    Action, Asked, AskedFor, Change, Command, HolderOptions, MatrixOptions, Question,
+    QuestionFault, Scope,
 };
 pub use rbac_streams::{
     Failed, Input, InputFault, Sink, Source, read_file, read_input, read_slice,

@@ -8,7 +8,7 @@ use std::fmt;
 /// The exit status of a run that gave its answer.
 #[derive(Clone, Copy, Debug, PartialEq, Eq)]
 pub enum Status {
-    /// 0: `yes`, all holders or rules, a page of the matrix, no findings, or no changes.
+    /// 0: `yes`, all holders or rules, a page of the matrix, a universe, no findings, or no changes.
     Zero,
     /// 1: `no`, findings, or changes.
     One,

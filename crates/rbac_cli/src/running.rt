@@ -22,9 +22,10 @@ use std::io::Write;
 /// whose key is greater than the token's, in key order, each with the first binding that grants it,
 /// cut at the limit, and then a line that says whether more follow. With `--every` there is one
 /// line for each pair of a request and a binding that grants it, if the pair's row comes after the
-/// token's mark.
+/// token's mark. With `--once` rows that have a namespace and a ClusterRoleBinding are left out.
 ///
-/// For a `diff` the first inputs tell what was before a change, and the others what is after it.
+/// For a `diff` the first inputs tell what was before a change. The others tell what is after it, or
+/// which objects it takes away and which it puts over.
 ///
 /// Refuses inputs that [`load`] refuses and, for a matrix, those whose lists make no universe;
 /// nothing is written then. If it runs out of memory or a write fails, what was written is a prefix

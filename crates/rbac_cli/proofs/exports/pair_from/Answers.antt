@@ -17,7 +17,7 @@ returns-in-Ok-clause-ok c =
     let others = c.split_at.ensures.back ∙ ap (λ (n : ℕ). drop n inputs) c.min.ensures ∙ drop_min c.args.before inputs in (
       subst (λ (xs : List (List ℕ)). IsBefore xs c.in-Ok.old) first c.in-Ok.ensures.ok.0,
       subst (λ (xs : List (List ℕ)). IsAfter c.args.change xs (drop c.args.before inputs) c.in-Ok.new) first
-      (subst (λ (ys : List (List ℕ)). IsAfter c.args.change c.split_at.result.0.now ys c.in-Ok.new) others c.in-Ok.ensures.ok.1),
+          (subst (λ (ys : List (List ℕ)). IsAfter c.args.change c.split_at.result.0.now ys c.in-Ok.new) others c.in-Ok.ensures.ok.1),
     )
 
 pub returns-in-Err-clause-fault : goal.returns-in-Err-clause-fault
