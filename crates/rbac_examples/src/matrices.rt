@@ -4,7 +4,7 @@ ghost use Rattle.std.specs.Prelude.{◌≡◌, length};
 ghost use Rattle.rbac_matrix.specs.Enumeration.{IsGoing};
 ghost use Rattle.rbac_index.specs.Reaches.{AreReaches};
 
-use crate::policies::{RuleRow, TO_ALICE, policy};
+use crate::policies::{BindingRow, RuleRow, TO_ALICE, policy};
 use crate::universes::{Listed, principals, universe, universe_of};
 use crate::words::{built, is, word, words};
 use rbac_index::{Index, Meter, Reach, reaches_of};
@@ -180,6 +180,64 @@ fn a_matrix_is_asked_again(rt: HostRuntime) {
     let policy = policy(&rt, alloc, TWO_RULES, TO_ALICE);
     let index = built(&rt, Index::build(alloc, &policy));
     assert!(rt; index_begins_again(&rt, alloc, &index, &universe, &["nodes", "pods"]));
+}
+
+// A binding for the whole cluster, and one in a namespace.
+const TWICE_TO_ALICE: &[BindingRow<'static>] = &[
+    (None, "b", "r", &["alice"]),
+    (Some("dev"), "own", "r", &["alice"]),
+];
+
+const IN_TWO_NAMESPACES: &Listed<'static> = &Listed {
+    users: &["alice"],
+    groups: &[],
+    namespaces: &["", "dev", "prod"],
+    verbs: &["get"],
+    resources: &[("", "pods", true)],
+    names: &[""],
+    urls: &[],
+};
+
+// Whether there is a row, it is in this namespace, and it is no repeat.
+fn is_own(row: Option<Row<'_>>, namespace: &str) -> bool {
+    match row {
+        Some(row) => is(row.namespace, namespace) && !row.is_repeat(),
+        None => false,
+    }
+}
+
+// Whether the rows without repeats are one in the whole cluster, and, of every granting binding,
+// another one in `dev`.
+fn lists_once(index: &Index<'_>, universe: &Universe, reaches: &[Reach], seats: &mut [Seat]) -> bool
+    requires reaches { AreReaches index.now universe.now reaches.now }
+    requires seats { length seats.old ≡ length index.now.grants }
+{
+    let mut matrix = Matrix::build(index, universe, reaches, seats);
+    let mut rows = matrix.rows_after(None);
+    rows.pass_repeats();
+    let first = rows.next();
+    rows.pass_repeats();
+    let none = rows.next();
+    let mut matrix = rows.into_matrix();
+    let mut rows = matrix.every_after(None);
+    rows.pass_repeats();
+    let one = rows.next();
+    rows.pass_repeats();
+    let other = rows.next();
+    rows.pass_repeats();
+    let end = rows.next();
+    is_own(first, "") && none.is_none() && is_own(one, "") && is_own(other, "dev") && end.is_none()
+}
+
+#[test]
+fn repeats_are_passed(rt: HostRuntime) {
+    let alloc = rt.alloc();
+    let universe = universe(&rt, alloc, IN_TWO_NAMESPACES);
+    let policy = policy(&rt, alloc, TWO_RULES, TWICE_TO_ALICE);
+    let index = built(&rt, Index::build(alloc, &policy));
+    let reaches = reaches_of(alloc, &index, &universe).expect(&rt, "memory");
+    let mut seats = vec![in alloc; Seat::new(); index.len() as usize].expect(&rt, "memory");
+    assert!(rt; lists_once(&index, &universe, reaches.as_slice(), seats.as_mut_slice()));
 }
 
 // A rule that allows one of 65 billion requests.
