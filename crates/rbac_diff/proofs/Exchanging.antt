@@ -1,8 +1,6 @@
 -- the changes with the sides exchanged
-use Rattle.std.proofs.Common.{◌≡◌, ◌<◌, ℕ, List, Contains, map, length, get_or, refl, sym, ap, ◌∙◌, subst, arith}
+use Rattle.std.proofs.Common.{◌≡◌, ◌<◌, List, Contains, map, length, get_or, refl, sym, ap, ◌∙◌, subst, arith}
 use Rattle.std.proofs.lemmas.List.{get_or-map, length-map}
-use Rattle.std.specs.declared.cmp.Ordering.TheVariants.{Less}
-use Rattle.rbac_terms.specs.Text.{text_cmp}
 use Rattle.rbac_terms.specs.declared.granting.Binding.{Binding}
 use Rattle.rbac_model.specs.Policies.{PolicyView}
 use Rattle.rbac_diff.specs.Permissions.{PermissionView}

@@ -35,7 +35,7 @@ same_who (AsMember n) (AsMember m) = elim (same_text n m) [
   | inr ne ↦ inr (λ e. ne (ap name_of e))
 ]
 
-same_option : {X : Type 0} → ((x y : X) → Decided (x ≡ y)) → (a b : Option X) → Decided (a ≡ b)
+pub same_option : {X : Type 0} → ((x y : X) → Decided (x ≡ y)) → (a b : Option X) → Decided (a ≡ b)
 same_option same None None = inl refl
 same_option same None (Some y) = inr (λ e. cc)
 same_option same (Some x) None = inr (λ e. cc)
@@ -56,7 +56,7 @@ permits own r (OnResource namespace group resource name) =
     ]
 permits own r (OnUrl url) = both (same_option same_text own None) (any (λ w. one_star w ≡ url) (λ w. same_text (one_star w) url) r.urls)
 
-has : (p : PermissionView) (g : GrantView) → Decided (HasPermission p g)
+pub has : (p : PermissionView) (g : GrantView) → Decided (HasPermission p g)
 has p g =
     let own = g.binding.namespace in
     elim (all_three (any (λ s. subject_principal own s ≡ Some p.principal) (λ s. same_option same_who (subject_principal own s) (Some p.principal)) g.binding.subjects)

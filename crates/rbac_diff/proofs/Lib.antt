@@ -1,7 +1,9 @@
 pub mod AllChanges
 pub mod Bindings
 pub mod BoundRules
+pub mod Candidates
 pub mod Covered
+pub mod Deciding
 pub mod Exchanging
 pub mod FirstWith
 pub mod Gained
@@ -19,4 +21,5 @@ pub mod Stars
 pub mod Strangers
 pub mod Telling
 pub mod Texts
+pub mod ThereAre
 pub mod Whom

@@ -12,6 +12,13 @@ pub fn changes_are_one()
         → AreChanges before after xs → AreChanges before after others → xs ≡ others }
 {}
 
+/// There is a list of the changes from any policy to any other, which may be empty (own). So what
+/// was printed of them, when printing stopped, is a part of one.
+pub fn a_list_of_changes_is_there()
+    ensures { (before after : PolicyView) → IsPolicy before → IsPolicy after
+        → (xs : List ChangeView) × AreChanges before after xs }
+{}
+
 /// What is lost is what is gained with the sides exchanged: the changes from the second policy to
 /// the first are the same permissions and bindings, those that were gained as lost, and those that
 /// were lost as gained (own). So each law of what is gained is one of what is lost.

@@ -19,5 +19,7 @@ mod unchanged;
 
 pub use change::{Change, ChangeKind, changes};
 pub use fault::DiffFault;
-pub use laws::{changes_are_one, changes_tell_all, losses_are_gains_exchanged};
+pub use laws::{
+    a_list_of_changes_is_there, changes_are_one, changes_tell_all, losses_are_gains_exchanged,
+};
 pub use line::put_change;
