@@ -7,7 +7,7 @@ import subprocess
 from common import PROGRAM, TOP, V1, V1BETA1
 from plugin_room import (CAUTION, CI, CI_KEY, DANA, DEVELOPERS, FINDINGS, IMPLIED, KIM, NO_ACCOUNT,
                          NO_GROUP, NO_GROUPS, NO_SPACE, NO_USER, NO_VERB, ODD, RBAC, READ, REFUSAL,
-                         REPEATED, SCOPED, UNLISTED, URL_SCOPED, document, in_each_shell, of_kinds, served)
+                         REPEATED, SCOPED, UNLISTED, URL_SCOPED, document, in_each_shell, of_kinds, repeats, served)
 from shells import commands, options
 
 
@@ -622,11 +622,9 @@ def universes(it):
     it.write(out, 'universe.json')
     status, rows, err = got = it.run('matrix', '--export', 'prod', 'universe.json')
     row = 'u:dana@example.com\t%s\tget\t%s\t%s\t-\tClusterRoleBinding/admins\n'
-    fields = [row.split('\t') for row in rows.splitlines()[:-1]]
-    repeated = [row for row in fields if row[1] != '-' and row[6].startswith('ClusterRoleBinding/')]
-    it.checked('most rows repeat the whole cluster', 2 * len(repeated) > len(fields), len(fields))
-    it.checked('matrix takes it', (status, err) == (0, REPEATED % (len(repeated), len(fields)))
-               and rows.endswith('\nend\n'), got)
+    repeated, listed = repeats(rows)
+    it.checked('most rows repeat the whole cluster', 2 * repeated > listed, listed)
+    it.checked('matrix takes it', (status, err) == (0, REPEATED % (repeated, listed)) and rows.endswith('\nend\n'), got)
     for place in ('-', 'shop'):
         printed = 'a"b\\\\c\\x09d/é\\x7f\\\\x2d'
         it.checked('its matrix has %s in %s' % (printed, place), row % (place, 'odd"group', printed) in rows, rows)

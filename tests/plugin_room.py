@@ -251,6 +251,13 @@ class Room:
         return os.listdir(self.temporary) + [path for path, _, _ in os.walk(self.work) if '.rbacaudit' in path]
 
 
+def repeats(matrix):
+    """How many rows of a matrix without --once repeat for a namespace what a ClusterRoleBinding grants in the whole
+    cluster, and how many rows there are."""
+    rows = [row.split('\t') for row in matrix.splitlines()[:-1]]
+    return len([row for row in rows if row[1] != '-' and row[6].startswith('ClusterRoleBinding/')]), len(rows)
+
+
 def document(text):
     """The JSON value of a text, or nothing if it is none."""
     with contextlib.suppress(ValueError):
