@@ -125,7 +125,7 @@ take_own() {
     esac
 }
 
-# The same for the namespace of a page or an export.
+# The same for -n, in any spelling.
 take_namespace() {
     case $1 in
         -n | --namespace) option=$1 ;;
@@ -153,17 +153,6 @@ set_option() {
         --output) refuse_second "$1" "$output" && output=$2 ;;
     esac
     option=
-}
-
-# Takes a word that is -n, in any spelling, or fails.
-take_namespace() {
-    case $1 in
-        -n | --namespace) option=$1 ;;
-        --namespace=*) set_option --namespace "${1#*=}" ;;
-        -n=*) set_option -n "${1#-n=}" ;;
-        -n*) set_option -n "${1#-n}" ;;
-        *) return 1 ;;
-    esac
 }
 
 set_manifests() {
