@@ -220,7 +220,7 @@ def plugin_types(it):
     """The page is told which types have namespaces: also of a Universe document of one's own."""
     exported(it)
     for line, wanted, others in (
-            ([], {'-\tpods', 'apps\tdeployments', '-\tpods/odd'},
+            ([], {'-\tpods', 'apps\tdeployments', '-\tpods/odd', '-\t\\x2d', 'odd"group\ta"b\\\\c\\x09d/é\\x7f\\\\x2d'},
              {'-\tnodes', 'metrics.k8s.io\tnodes', '-\tnodes/metrics'}),
             (['types.json'], {'-\tnodes'}, {'-\tpods'})):
         it.write(json.dumps({**GETS, 'resources': [{'resource': 'nodes', 'namespaced': True}]}),

@@ -550,6 +550,12 @@ def dana_alone(it, name, words_, said=''):
               'u:dana@example.com\tClusterRoleBinding/admins\n', said)
 
 
+# A type that one version has as cluster-scoped and another as namespaced, and a type called as the word for all.
+BOTH_WAYS = [{'kind': 'APIResourceList', 'apiVersion': 'v1', 'groupVersion': version, 'resources': [
+    {'name': name, 'singularName': '', 'namespaced': namespaced, 'verbs': ['get']}]} for version, name, namespaced in (
+        ('both.example.com/v1', 'both', True), ('both.example.com/v2', 'both', False), ('v1', '*', False))]
+
+
 @in_each_shell
 def types(it):
     """A type that the API lists don't have is reported, and the question answered; a label or another text is no type."""
@@ -564,6 +570,9 @@ def types(it):
     for type_ in ('secert', 'Pods', 'widgets', '"widgets"', 'deployments.app', 'pods.apps', 'po.apps', 'apps', 'v1', 'pod*', '*',
                   'deployments.v1.apps', 'a\\x2d', 'list', '-'):
         dana_alone(it, 'unknown: ' + type_, ['*', type_], UNLISTED % ('type ' + type_))
+    it.write(json.dumps({'apiVersion': 'v1', 'kind': 'List', 'items': BOTH_WAYS}), 'prod', 'api-both.json')
+    for type_, said in (('both', ''), ('pods', ''), ('nodes', SCOPED % ('nodes', ''))):
+        dana_alone(it, 'some version of it is namespaced, or none: ' + type_, ['*', type_], said)
     it.expect('unknown: secert/x, of a fresh export', ['can-i', *KIM, 'get', 'secert/x'], 1, 'no\n', UNLISTED % 'type secert')
     it.expect('unknown: a word with a dash before it', ['can-i', '--export', 'prod', *KIM, 'get', '--', '-q'], 1, 'no\n', UNLISTED % 'type -q')
 

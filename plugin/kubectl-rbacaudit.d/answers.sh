@@ -137,7 +137,7 @@ is_idle() {
 core_has_type() {
     [ -f "$export_dir/api-v1.json" ] || return 1
     list_types "$export_dir/api-v1.json"
-    grant_listed
+    grant_types
     is_listed '' "$export_dir/api-v1.json"
 }
 

@@ -104,11 +104,18 @@ remark_on_asker() {
     [ -n "$unchecked$members" ] && list_named "$@" || return 0
     list_unnamed "$scratch/named"
     [ -s "$scratch/unnamed" ] || return 0
-    [ -z "$unchecked" ] || ! list_there accounts.json '"namespaces": [""]' ||
-        list_unnamed "$scratch/named" accounts=1 "$scratch/there"
+    [ -z "$unchecked" ] || ! list_accounts || list_unnamed "$scratch/named" accounts=1 "$scratch/accounts"
     while IFS= read -r line; do
         report "$line"
     done <"$scratch/unnamed"
+}
+
+# Writes to $scratch/accounts the key of each service account. Fails if the export doesn't tell.
+list_accounts() {
+    list_there accounts.json principals || return 1
+    LC_ALL=C awk "$JSON_FIELD"'
+        sub(/^[{]"user": /, "") { print "u:" json_field(substr($0, 1, length($0) - 1)) }' \
+        "$scratch/there" >"$scratch/accounts"
 }
 
 list_unnamed() {

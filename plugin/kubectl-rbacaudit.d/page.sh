@@ -67,7 +67,7 @@ make_page() {
 
 # Reports a namespace after -n that the export doesn't have.
 check_place() {
-    is_there namespaces.json 2 "$asked_in" '"principals": [{"user": "probe"}]' ||
+    is_there namespaces.json namespaces "$(quote "$asked_in")" ||
         report "the export has no namespace $asked_in: check the spelling"
 }
 
@@ -111,18 +111,16 @@ written in them, and this page has what they gather."
 # Prints a Universe document of the namespace after -n, and of the whole cluster: without -n, one that
 # says nothing.
 write_place() {
-    LC_ALL=C NAMED=$asked_in awk "$FIELD$JSON_TEXT"'
-        BEGIN {
-            if (ENVIRON["NAMED"] != "")
-                place = ", \"namespaces\": [\"\", " json_text(printed(ENVIRON["NAMED"])) "]"
-            print "{\"apiVersion\": \"rbacaudit/v1\", \"kind\": \"Universe\"" place "}"
-        }'
+    place=
+    [ -z "$asked_in" ] || place=", \"namespaces\": [\"\", $(quote "$asked_in")]"
+    printf '%s\n' "{\"apiVersion\": \"rbacaudit/v1\", \"kind\": \"Universe\"$place}"
 }
 
 # Writes to $scratch/namespaced the types of these files that have namespaces.
 list_namespaced() {
     list_types "$@"
-    LC_ALL=C awk -F '\t' 'NF == 7 && $2 != "-" { print $4 FS $5 }' "$scratch/rows" >"$scratch/namespaced"
+    LC_ALL=C awk -F '\t' "$JSON_FIELD"'
+        $3 == "true" { print json_field($1) FS json_field($2) }' "$scratch/types" >"$scratch/namespaced"
 }
 
 # Begins to run rbacaudit, which writes into the pipe $scratch/matrix while the page reads from it.
@@ -185,11 +183,11 @@ has_names() {
 # with a star stands for its subresources. A server asks without a name whether somebody may create a
 # new object, so a rule with names never lets them, and such a pair is left out.
 list_pairs() {
-    LC_ALL=C awk -F '\t' '
-        NF == 7 && $2 == "-" && !(($4, $5) in seen) {
-            seen[$4, $5] = 1
-            groups[++count] = $4
-            types[count] = $5
+    LC_ALL=C awk -F '\t' "$JSON_FIELD"'
+        NF == 3 && !(($1, $2) in seen) {
+            seen[$1, $2] = 1
+            groups[++count] = json_field($1)
+            types[count] = json_field($2)
         }
         NF != 4 || $2 == "create" && $4 !~ /\// { next }
         {
@@ -197,7 +195,7 @@ list_pairs() {
             for (at = 1; at <= count; at++)
                 if (groups[at] == $3 && (types[at] == $4 || star && index(types[at], star) == 1))
                     print $1 FS $2 FS $3 FS types[at]
-        }' "$scratch/listed" "$scratch/rows" "$scratch/watched" >"$scratch/pairs"
+        }' "$scratch/listed" "$scratch/types" "$scratch/watched" >"$scratch/pairs"
 }
 
 # Asks who has a pair whatever the names, for $scratch/any, and who has it outright, for

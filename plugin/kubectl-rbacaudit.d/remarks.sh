@@ -186,7 +186,7 @@ in that namespace, as a server does; -A asks about the whole cluster"
         [ -z "$implied" ] || [ -n "$place_of" ] ||
             report "the question is about the namespace $implied; \
 -n NS asks about another, and -A about the whole cluster"
-        is_there namespaces.json 2 "$asked_in" '"principals": [{"user": "probe"}]' ||
+        is_there namespaces.json namespaces "$(quote "$asked_in")" ||
             report "the export has no namespace $asked_in: check the spelling"
     fi
     [ "$command" = who-can ] || remark_on_asker "$@"
@@ -197,42 +197,27 @@ check_account() {
     account=${asker#system:serviceaccount:}
     home=${account%%:*}
     [ -z "$only" ] || [ "$only" = "$home" ] || return 1
-    list_there accounts.json '"namespaces": [""]' || return 1
-    has_there 1 "u:$asker" || report "the export has no service account ${account#*:} in the \
+    list_there accounts.json principals || return 1
+    has_there "{\"user\": $(quote "$asker")}" || report "the export has no service account ${account#*:} in the \
 namespace $home: check the spelling"
 }
 
-# Whether an object has a name, by this field of what list_there writes, with the same words. A file
-# that the export doesn't have or rbacaudit refuses tells nothing.
+# Whether an entry of a list that rbacaudit derives from a file of the export is this one, in JSON. A
+# file that the export doesn't have or rbacaudit refuses tells nothing.
 is_there() {
-    ! list_there "$1" "$4" || has_there "$2" "$3"
+    ! list_there "$1" "$2" || has_there "$3"
 }
 
-# Writes to $scratch/there what rbacaudit derives from a file of the export: a matrix in which
-# everybody may do the one thing that is asked about. The last word is a member of its universe.
+# Writes to $scratch/there the entries of a list that rbacaudit derives from a file of the export.
 list_there() {
     [ -f "$export_dir/$1" ] || return 1
-    cat >"$scratch/everybody.json" <<EOF
-{"apiVersion": "v1", "kind": "List", "items": [
-  {"apiVersion": "rbac.authorization.k8s.io/v1", "kind": "ClusterRole", "metadata": {"name": "/"},
-   "rules": [{"verbs": ["get"], "apiGroups": [""], "resources": ["x"]}]},
-  {"apiVersion": "rbac.authorization.k8s.io/v1", "kind": "ClusterRoleBinding",
-   "metadata": {"name": "/"}, "roleRef": {"kind": "ClusterRole", "name": "/"},
-   "subjects": [{"kind": "Group", "name": "system:authenticated"}]},
-  {"apiVersion": "rbacaudit/v1", "kind": "Universe", "verbs": ["get"],
-   "resources": [{"resource": "x"}], "names": [""], "urls": [], $2}]}
-EOF
-    rbacaudit matrix "$export_dir/$1" "$scratch/everybody.json" >"$scratch/there" 2>/dev/null
+    rbacaudit universe "$export_dir/$1" >"$scratch/derived" 2>/dev/null || return 1
+    print_list "$2" <"$scratch/derived" >"$scratch/there"
 }
 
-# Whether a line of $scratch/there has this text in this field.
 has_there() {
-    LC_ALL=C WANTED=$2 awk -F '\t' -v at="$1" "$FIELD"'
-        BEGIN {
-            wanted = printed(ENVIRON["WANTED"])
-            if (wanted == "-") wanted = "\\x2d"
-        }
-        $at "" == wanted { found = 1; exit }
+    LC_ALL=C WANTED=$1 awk '
+        $0 == ENVIRON["WANTED"] { found = 1; exit }
         END { exit !found }' "$scratch/there"
 }
 

@@ -3,30 +3,16 @@
 
 # A question about a type that the API resource lists have as cluster-scoped is about no namespace:
 # that leaves `asked_in` empty. But some verbs a server asks about in a namespace: `place_of` is then
-# what it is the namespace of. The word is the subresource, if that is listed.
+# what it is the namespace of. is_listed has found what the type means.
 choose_scope() {
-    [ "$in_namespace$everywhere$own" = nono ] || return 0
-    ! with_files is_inside "$1" || return 0
-    case $subresource,$verb in
-        ,bind) ! with_files is_bound || place_of=RoleBinding ;;
-        ,use) place_of=pod ;;
+    [ "$in_namespace$everywhere$own$namespaced" = nonofalse ] || return 0
+    case $subresource,$verb,$meant_group,$meant_name in
+        ',bind,"rbac.authorization.k8s.io","clusterroles"') place_of=RoleBinding ;;
+        ,use,*) place_of=pod ;;
     esac
     [ -z "$place_of" ] || return 0
     asked_in=
     remark_on_scope
-}
-
-# Whether a RoleBinding can grant the type, or its subresource of this name: rbacaudit asks about a
-# cluster-scoped type in no namespace.
-is_inside() {
-    below=$1
-    shift
-    ask_probe -q --as=inside --namespace=n "--subresource=$below" -- get "$type" "$@" >"$scratch/nothing"
-}
-
-# Whether the type means cluster roles.
-is_bound() {
-    ask_probe -q --as=binder -- get "$type" "$@" >"$scratch/nothing"
 }
 
 # Whether the question is one that a server asks about in the whole cluster, though no list has the

@@ -1,36 +1,62 @@
 # shellcheck shell=sh
 # Types: which the API resource lists have, and the command universe.
 
-# An awk function: the JSON text of a field of a line. A field has backslashes doubled, as JSON has,
-# and control bytes as \x and two digits; - is the empty text.
-JSON_TEXT='
-function json_text(field,    text, at, one) {
-    if (field == "-") return "\"\""
-    for (at = 1; at <= length(field); at++) {
-        one = substr(field, at, 1)
-        if (one == "\"") one = "\\\""
-        else if (one == "\\" && substr(field, ++at, 1) == "\\") one = "\\\\"
-        else if (one == "\\") { one = "\\u00" substr(field, at + 1, 2); at += 2 }
-        text = text one
+# An awk function: a text in JSON, as rbacaudit prints it, as a field of a line.
+JSON_FIELD='
+function json_field(text,    at, one, field) {
+    if (text == "\"\"") return "-"
+    if (text == "\"-\"") return "\\x2d"
+    for (at = 2; at < length(text); at++) {
+        one = substr(text, at, 1)
+        if (one == "\\") {
+            one = substr(text, ++at, 1)
+            if (one == "u") { one = "\\x" substr(text, at + 3, 2); at += 4 }
+            else if (one == "\\") one = "\\\\"
+            else if (one != "\"") one = "\\x0" substr("89acd", index("btnfr", one), 1)
+        } else if (one == "\177") one = "\\x7f"
+        field = field one
     }
-    return "\"" text "\""
+    return field
 }'
 
-# Writes to $scratch/rows the types that these files name, as rbacaudit reads them: a user who may
-# get everything is asked about, and so the matrix has a row for each type in the whole cluster, and
-# one in the namespace n if the type is namespaced. No role in a cluster has a slash in its name, so
-# the probe takes no role's place.
+# Prints a text in JSON, as rbacaudit prints it.
+quote() {
+    LC_ALL=C TEXT=$1 awk '
+        BEGIN {
+            for (code = 1; code < 32; code++) escaped[sprintf("%c", code)] = sprintf("\\u%04x", code)
+            for (at = 1; at <= 5; at++)
+                escaped[substr("\b\t\n\f\r", at, 1)] = "\\" substr("btnfr", at, 1)
+            escaped["\""] = "\\\""
+            escaped["\\"] = "\\\\"
+            text = ENVIRON["TEXT"]
+            for (at = 1; at <= length(text); at++) {
+                one = substr(text, at, 1)
+                printed = printed (one in escaped ? escaped[one] : one)
+            }
+            print "\"" printed "\""
+        }'
+}
+
+# Prints the entries of a list of the Universe document on standard input, which rbacaudit has
+# printed, a line each.
+print_list() {
+    LC_ALL=C sed -n '/^  "'"$1"'": \[$/,/^  \]/s/^    \(.*[^,]\),*$/\1/p'
+}
+
+# Writes to $scratch/types the types of a universe of these files, in order: group and name, in JSON,
+# and whether it is namespaced. Of a type that is listed both ways, the entry that is comes last. In
+# JSON a quote has a backslash before it, so no text looks like what stands between the fields.
 list_types() {
-    cat >"$scratch/probe.json" <<'EOF'
-{"apiVersion": "v1", "kind": "List", "items": [
-  {"apiVersion": "rbac.authorization.k8s.io/v1", "kind": "ClusterRole", "metadata": {"name": "/"},
-   "rules": [{"verbs": ["get"], "apiGroups": ["*"], "resources": ["*"]}]},
-  {"apiVersion": "rbac.authorization.k8s.io/v1", "kind": "ClusterRoleBinding", "metadata": {"name": "/"},
-   "roleRef": {"kind": "ClusterRole", "name": "/"}, "subjects": [{"kind": "User", "name": "probe"}]},
-  {"apiVersion": "rbacaudit/v1", "kind": "Universe", "principals": [{"user": "probe"}], "namespaces": ["", "n"],
-   "verbs": ["get"], "names": [""], "urls": []}]}
-EOF
-    ask matrix "$@" "$scratch/probe.json" >"$scratch/rows" || exit "$answered"
+    ask universe "$@" >"$scratch/derived" || exit "$answered"
+    print_list resources <"$scratch/derived" | LC_ALL=C awk -F ', "(resource|namespaced)": ' '
+        {
+            sub(/^[{]"group": /, "", $1)
+            type = $1 "\t" $2
+            if (!(type in namespaced)) types[++count] = type
+            namespaced[type] = $3 == "true}" ? "true" : "false"
+        }
+        END { for (at = 1; at <= count; at++) print types[at] "\t" namespaced[types[at]] }' \
+        >"$scratch/types"
 }
 
 # Reports a type that the API resource lists don't have, or a subresource that they don't have of a
@@ -42,14 +68,14 @@ check_type() {
     fi
     reads=api
     with_files list_types
-    grant_listed
+    grant_types
     unknown=
     with_files is_listed '' || unknown="type $type"
     if [ -n "$subresource" ] && with_files is_listed "$subresource"; then
         unknown=
-        choose_scope "$subresource"
+        choose_scope
     elif [ -z "$unknown" ]; then
-        choose_scope ''
+        choose_scope
         [ -z "$subresource" ] || unknown="subresource $type/$subresource"
     fi
     if [ -z "$unknown" ]; then
@@ -73,49 +99,45 @@ check_object() {
     fi
 }
 
-# Writes to $scratch/known.json a user who may get each type of $scratch/rows, by a rule for each in
-# their order; another who may do it in the namespace n; and one who may get cluster roles.
-grant_listed() {
-    LC_ALL=C awk -F '\t' "$JSON_TEXT"'
-        function of_kind(kind, metadata) {
-            printf "%s{\"apiVersion\": \"rbac.authorization.k8s.io/v1\", \"kind\": \"%s\", \"metadata\": {%s}", \
-                begun++ ? ",\n" : "", kind, metadata
-        }
-        function bound(kind, metadata, role, user) {
-            of_kind(kind, metadata)
-            print ", \"roleRef\": {\"kind\": \"ClusterRole\", \"name\": \"" role "\"},"
-            print " \"subjects\": [{\"kind\": \"User\", \"name\": \"" user "\"}]}"
-        }
-        function rule(group, type) {
-            return "{\"verbs\": [\"get\"], \"apiGroups\": [" group "], \"resources\": [" type "]}"
-        }
+# Writes to $scratch/known.json a user who may get each of $scratch/types, by a rule for each in their
+# order, but none that has a star, since its rule would allow others too. No role in a cluster has a
+# slash in its name, so this one takes no role's place.
+grant_types() {
+    LC_ALL=C awk -F '\t' '
         BEGIN {
+            of_rbac = "{\"apiVersion\": \"rbac.authorization.k8s.io/v1\", \"kind\": "
             print "{\"apiVersion\": \"v1\", \"kind\": \"List\", \"items\": ["
-            bound("ClusterRoleBinding", "\"name\": \"/\"", "/", "probe")
-            bound("RoleBinding", "\"name\": \"/\", \"namespace\": \"n\"", "/", "inside")
-            bound("ClusterRoleBinding", "\"name\": \"/roles\"", "/roles", "binder")
-            of_kind("ClusterRole", "\"name\": \"/roles\"")
-            print ", \"rules\": [" rule("\"rbac.authorization.k8s.io\"", "\"clusterroles\"") "]}"
-            of_kind("ClusterRole", "\"name\": \"/\"")
-            print ", \"rules\": ["
+            print of_rbac "\"ClusterRoleBinding\", \"metadata\": {\"name\": \"/\"},"
+            print " \"roleRef\": {\"kind\": \"ClusterRole\", \"name\": \"/\"},"
+            print " \"subjects\": [{\"kind\": \"User\", \"name\": \"probe\"}]},"
+            print of_rbac "\"ClusterRole\", \"metadata\": {\"name\": \"/\"}, \"rules\": ["
         }
-        NF == 7 && $2 == "-" { print comma rule(json_text($4), json_text($5)); comma = "," }
-        END { print "]}]}" }' "$scratch/rows" >"$scratch/known.json"
+        {
+            verb = index($1 $2, "*") ? "none" : "get"
+            print comma "{\"verbs\": [\"" verb "\"], \"apiGroups\": [" $1 "], \"resources\": [" $2 "]}"
+            comma = ","
+        }
+        END { print "]}]}" }' "$scratch/types" >"$scratch/known.json"
 }
 
 # Whether the API resource lists have the type, or its subresource of this name if that isn't empty.
 # rbacaudit looks the type up, over the same lists and a user who may get exactly what they have:
-# its no means that it took the word as written. Writes to $scratch/why which rule allows it.
+# its no means that it took the word as written. The rule that allows it tells which of $scratch/types
+# the word means: `meant_group` and `meant_name` are left in JSON, and `namespaced`.
 is_listed() {
     below=$1
     shift
-    ask_probe --why --as=probe "--subresource=$below" -- get "$type" "$@" >"$scratch/why"
-}
-
-ask_probe() {
-    ask can-i "$@" "$scratch/known.json"
+    ask can-i --why --as=probe "--subresource=$below" -- get "$type" "$@" "$scratch/known.json" >"$scratch/why"
     [ "$answered" -le 1 ] || exit "$answered"
-    return "$answered"
+    [ "$answered" -eq 0 ] || return 1
+    LC_ALL=C awk -F '\t' '
+        NR == FNR { if (FNR == 2) rule = $4; next }
+        FNR == rule { print $1; print $2; print $3 }' "$scratch/why" "$scratch/types" >"$scratch/meant"
+    {
+        IFS= read -r meant_group
+        IFS= read -r meant_name
+        read -r namespaced
+    } <"$scratch/meant"
 }
 
 universe_command() {
@@ -152,7 +174,7 @@ make_universe() {
     if has_lists; then
         reads=api
         with_files list_types
-        mv -f "$scratch/rows" "$scratch/listed"
+        mv -f "$scratch/types" "$scratch/listed"
     fi
     reads='cluster.json namespaced.json'
     with_files list_types
@@ -163,21 +185,20 @@ make_universe() {
 # subresource is namespaced if its resource is, as rbacaudit takes it; any other such type is
 # namespaced. So are cluster roles, since a server asks about bind in the namespace of a RoleBinding.
 write_universe() {
-    LC_ALL=C awk -F '\t' "$JSON_TEXT"'
-        NF != 7 { next }
-        $2 != "-" { inside[part, $4, $5] = 1; next }
-        { listed[part, $4, $5] = 1 }
-        !(($4, $5) in seen) { seen[$4, $5] = 1; group[++count] = $4; name[count] = $5 }
-        function namespaced(of, type) {
-            if (of == "rbac.authorization.k8s.io" && type == "clusterroles") return 1
-            if (!(("api", of, type) in listed)) sub(/\/.*/, "", type)
-            return !(("api", of, type) in listed) || (("api", of, type) in inside)
+    LC_ALL=C awk -F '\t' '
+        function is_namespaced(group, name) {
+            if (group name == "\"rbac.authorization.k8s.io\"\"clusterroles\"") return "true"
+            if (!((group, name) in listed)) sub(/\/.*/, "\"", name)
+            return (group, name) in listed ? listed[group, name] : "true"
         }
-        END {
-            print "{\n  \"apiVersion\": \"rbacaudit/v1\",\n  \"kind\": \"Universe\",\n  \"resources\": ["
-            for (at = 1; at <= count; at++)
-                print "    {\"group\": " json_text(group[at]) ", \"resource\": " json_text(name[at]) ", \"namespaced\": " \
-                    (namespaced(group[at], name[at]) ? "true" : "false") "}" (at < count ? "," : "")
-            print "  ],\n  \"names\": [\"\"]\n}"
-        }' part=api "$scratch/listed" part=rules "$scratch/rows"
+        BEGIN {
+            printf "%s", "{\n  \"apiVersion\": \"rbacaudit/v1\",\n  \"kind\": \"Universe\",\n  \"resources\": ["
+        }
+        part == "rules" && ($1, $2) in listed { next }
+        part == "api" { listed[$1, $2] = $3 }
+        {
+            printf "%s\n    {\"group\": %s, \"resource\": %s, \"namespaced\": %s}", comma, $1, $2, is_namespaced($1, $2)
+            comma = ","
+        }
+        END { print "\n  ],\n  \"names\": [\"\"]\n}" }' part=api "$scratch/listed" part=rules "$scratch/types"
 }

@@ -22,9 +22,10 @@ function on_end(    top, at) {
     if (!sub(/\/.*/, "", version)) version = ""
     for (at = 1; at <= all; at++)
         if (index(version of[at] verb[at], "\\")) is_there = 1
-        else if (version == ENVIRON["GROUP"] && of[at] == ENVIRON["TYPE"]) keep(verb[at])
+        else if (quoted(version) == ENVIRON["GROUP"] && quoted(of[at]) == ENVIRON["TYPE"]) keep(verb[at])
     all = 0; version = ""
 }
+function quoted(text) { return "\"" text "\"" }
 function keep(text) {
     if (text == ENVIRON["VERB"]) is_there = 1
     if (!seen[text]++) texts = texts (texts == "" ? "" : ", ") text
@@ -32,29 +33,20 @@ function keep(text) {
 END { if (!is_there) print texts }
 '
 
-# Reports a verb that the API resource lists have not of the type in $scratch/why, and that is none
-# of those which no list has.
+# Reports a verb that the API resource lists have not of the type that is_listed has found, and that is
+# none of those which no list has.
 check_verb() {
     case $verb in
         '*' | bind | escalate | impersonate* | use | approve | sign | attest) return ;;
     esac
-    LC_ALL=C awk -F '\t' '
-        NR == FNR { if (FNR == 2) rule = $4; next }
-        NF == 7 && $2 == "-" && ++count == rule { print $4; print $5 }' \
-        "$scratch/why" "$scratch/rows" >"$scratch/meant"
-    {
-        IFS= read -r group
-        IFS= read -r name
-    } <"$scratch/meant"
-    case $group$name in
-        *[\\*]*) return ;;
+    case $meant_group$meant_name in
+        *\\*) return ;;
     esac
-    [ "$group" != - ] || group=
     others=$(with_files print_verbs)
     [ -z "$others" ] || report "the API resource lists of the export don't have the verb $verb of \
 $type${subresource:+/$subresource}, but $others: check the spelling"
 }
 
 print_verbs() {
-    LC_ALL=C GROUP=$group TYPE=$name VERB=$verb awk "$OTHER_VERBS" "$@"
+    LC_ALL=C GROUP=$meant_group TYPE=$meant_name VERB=$verb awk "$OTHER_VERBS" "$@"
 }
