@@ -377,9 +377,9 @@ def universe_in_change(it):
     it.write(json.dumps(ROLE), 'change', 'role.json')
     it.write(document(verbs=['get']), 'change', 'u.json')
     it.expect('a Universe document in a change', ['diff', '--export', 'prod', '--with', 'change'],
-              1, GAINED, 'kubectl-rbacaudit: change: a Universe document is ignored in a '
-              'change, of which all requests are compared\n'
-              + read('change', '1 role, 0 bindings, 1 other object') + OVER % 'change')
+              1, GAINED, read('change', '1 role, 0 bindings, 1 other object')
+              + 'kubectl-rbacaudit: change: a Universe document is ignored in a change, of which all requests are compared\n'
+              + OVER % 'change')
 
 
 CHECKS = [repeated, universe_in_change, places, scopes, unlisted, bound_types, verbs, users, accounts, groups, named_in_files]

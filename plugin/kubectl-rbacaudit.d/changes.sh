@@ -86,14 +86,19 @@ its name would have lower-case letters, digits and dashes alone"
 # Reads the manifests, before the cluster.
 read_sides() {
     if [ "$alone" = yes ]; then
-        take_manifests from "$from"
-        take_manifests to "$to"
+        take_side from "$from"
+        take_side to "$to"
         need_held compared "$from" "$to"
         return
     fi
-    [ -z "$without" ] || take_manifests without "$without"
-    [ -z "$with" ] || take_manifests with "$with"
+    [ -z "$without" ] || take_side without "$without"
+    [ -z "$with" ] || take_side with "$with"
     [ -z "$with$without" ] || need_held compared ${without:+"$without"} ${with:+"$with"}
+}
+
+take_side() {
+    take_manifests "$@"
+    remark_on_universe
 }
 
 # Opens both sides, and asks about them. A fresh one is of the namespace that the other is of.

@@ -129,7 +129,6 @@ take_manifests() {
     while IFS= read -r line; do
         take_walked "${line%% *}" "${line#* }"
     done <"$scratch/walked"
-    remark_on_universe
     report "read from $named: $(count "$roles" role), $(count "$bindings" binding), $(count "$others" 'other object')"
     held=$((held + roles + bindings))
     place_manifests
