@@ -1,5 +1,5 @@
 -- what was found are all changes, each once
-use Rattle.std.proofs.Common.{◌≡◌, ◌<◌, ℕ, List, [], inl, inr, refl, sym, ◌∙◌, ap, subst, arith, Some, None, IsSome, Option, Any, true, false, AllPairs, Contains, ◌∷◌, map, length, option_map, slice_get, Result, Ok, Err, IfOk}
+use Rattle.std.proofs.Common.{◌≡◌, ◌<◌, ℕ, List, [], inl, inr, refl, sym, ◌∙◌, ap, subst, arith, Some, None, IsSome, Option, Any, true, false, AllPairs, Contains, ◌∷◌, map, length, option_map, slice_get}
 use Rattle.std.specs.BTreeMap.{get, IsOrdered}
 use Rattle.std.specs.List.{AllByRecursion}
 use Rattle.std.specs.List.Sorted.{IsStrictlySortedBy}
@@ -29,7 +29,8 @@ use Rattle.rbac_diff.specs.declared.change.Found.{Found}
 use Rattle.rbac_diff.specs.declared.change.ChangeKind.{ChangeKind}
 use Rattle.rbac_diff.specs.declared.change.ChangeKind.TheVariants.{Gained, Lost}
 use Rattle.rbac_diff.proofs.Bindings.{none_given}
-use Rattle.rbac_diff.proofs.Covered.{same_covers}
+use Rattle.rbac_diff.proofs.Covered.{no_more_covers}
+use Rattle.rbac_diff.proofs.CoveredWords.{covers_itself}
 use Rattle.rbac_diff.proofs.Gained.{gained_exactly}
 use Rattle.rbac_diff.proofs.Texts.{permission_text-one}
 
@@ -145,7 +146,7 @@ module _ (before after : PolicyView) (ok : IsPolicy before) (also : IsPolicy aft
 
   -- what before has isn't gained
   not_gained : (p : PermissionView) (b : Binding) → IsAskedFor p.target → HasBy before p b → IsCovered before p
-  not_gained p b asked a = (a.0, a.1, a.2, a.3, same_covers p a.1 a.1 a.4.1 asked refl (λ s is. is) refl)
+  not_gained p b asked a = (a.0, a.1, a.2, a.3, no_more_covers p a.1 a.1 a.4.1 asked refl (λ s is. is) (covers_itself a.1.rule.rule))
 
   lost_found : (t : Text) (b : Binding) (p : PermissionView) → t ≡ permission_text p → IsGained after before p → IsFirstWith before p b → (y : Found) × (get text_cmp n t ≡ Some y) × (y.kind ≡ Lost) × (b ≡ y.binding.now)
   lost_found t b p same is w =
@@ -189,8 +190,3 @@ module _ (before after : PolicyView) (ok : IsPolicy before) (also : IsPolicy aft
 
   pub all_changes : IsOrdered text_cmp n → AreChanges before after (map entry_change n.entries)
   all_changes up = record { ordered = strict n.entries up; exact = λ x. (is_listed up x, λ h. listed_as x x.kind h.0 refl h.1 h.2) }
-
--- what holds of a result, if it is one, has what follows from it
-pub ok_weaker : {T E : Type 0} (P Q : T → Type 0) (r : Result T E) → ((x : T) → P x → Q x) → IfOk r P → IfOk r Q
-ok_weaker P Q (Ok x) f h = f x h
-ok_weaker P Q (Err e) f h = h

@@ -7,16 +7,16 @@ use Rattle.rbac_terms.specs.Targets.{What, Resource, Url, IsProper}
 use Rattle.rbac_terms.specs.Matching.{WordMatches, ResourceWordMatches, UrlWordMatches, NameMatches, TargetOk}
 use Rattle.rbac_terms.specs.declared.matching.Rule.{Rule}
 use Rattle.rbac_terms.specs.declared.granting.Subject.{Subject}
-use Rattle.rbac_model.specs.OwnWords.{IsUrlSample}
 use Rattle.rbac_model.specs.Policies.{PolicyView, IsPolicy, GrantView, GrantAllows, Live}
+use Rattle.rbac_covering.specs.Covering.{CoversAll}
 use Rattle.rbac_model.proofs.GrantNumbers.{grant_allows}
-use Rattle.rbac_model.proofs.OwnWords.{WordMatches-own, ResourceWordMatches-own, UrlWordMatches-own, WordMatches-through, ResourceWordMatches-through, ResourceText-word, any_from, any_weaker}
+use Rattle.rbac_model.proofs.OwnWords.{WordMatches-through, ResourceWordMatches-through, ResourceText-word, any_from, any_weaker}
 use Rattle.rbac_model.proofs.UrlSamples.{Through, sample-through}
 use Rattle.rbac_diff.specs.Unchanged.{AreAmong}
-use Rattle.rbac_diff.specs.Permissions.{Permitted, OnResource, OnUrl, PermissionView, HasPermission, IsNameOf, Permits, one_star}
+use Rattle.rbac_diff.specs.Permissions.{Permitted, OnResource, OnUrl, PermissionView, HasPermission, Permits}
 use Rattle.rbac_diff.specs.Requests.{RequestView, IsRequest, AllowsRequest, StandsFor, IsPermitted, IsNamed, IsGained}
-use Rattle.rbac_diff.specs.Covering.{Covers, CoversTarget, CoversName, CoversWords, IsAsWide, IsAskedFor}
-use Rattle.rbac_diff.proofs.OneStar.{one_star-sample}
+use Rattle.rbac_diff.specs.Covering.{Covers, CoversTarget, CoversName, IsAsWide, IsAskedFor}
+use Rattle.rbac_diff.proofs.CoveredWords.{covers_itself, words_covered}
 use Rattle.rbac_diff.proofs.Whom.{names_all, named_by_own}
 
 -- ---- where, and by each word
@@ -73,43 +73,26 @@ stands_is_asked p r request stands = asked_for p.target r.namespace r.target req
 pub gained_is_asked : (before after : PolicyView) → (p : PermissionView) (g : GrantView) → HasPermission p g → IsGained before after p → IsAskedFor p.target
 gained_is_asked before after p g has gained = stands_is_asked p gained.0 gained.2.request gained.1
 
--- ---- a grant covers its own permissions
-
-name_of_rule : (names : List Text) (name : Option Text) → IsNameOf names name → CoversName names name
-name_of_rule names None e = e
-name_of_rule names (Some own) c = inr c
-
-target_of_rule : (own : Option Text) (r : Rule) (t : Permitted) → Permits own r t → CoversTarget r t
-target_of_rule own r (OnResource namespace group resource name) h = (
-  any_from (λ w. WordMatches w group) r.groups group h.1 (WordMatches-own group),
-  any_from (λ w. ResourceWordMatches w resource) r.resources resource h.2 (ResourceWordMatches-own resource),
-  name_of_rule r.resource_names name h.3,
-)
-target_of_rule own r (OnUrl url) h = λ x sample.
-    any_weaker (λ w. one_star w ≡ url) (λ w. UrlWordMatches w x) r.urls (λ w e. UrlWordMatches-own w x (one_star-sample w x (subst (λ (u : Text). IsUrlSample u x) (sym e) sample))) h.1
+-- ---- a grant covers what one covers whose rule its own rule covers
 
 wide_of_rule : (own : Option Text) (r : Rule) (t : Permitted) → Permits own r t → IsAsWide own t
 wide_of_rule own r (OnResource namespace group resource name) h = inr (sym h.0)
 wide_of_rule own r (OnUrl url) h = h.0
 
--- a rule covers what it permits
-pub covers_own : (own : Option Text) (r : Rule) (p : PermissionView) → Contains r.verbs p.verb → Permits own r p.target → CoversWords p.verb p.target r
-covers_own own r p verb target = (any_from (λ w. WordMatches w p.verb) r.verbs p.verb verb (WordMatches-own p.verb), target_of_rule own r p.target target)
-
 -- what one of some subjects is, one of more subjects is
 any_among : (P : Subject → Type 0) (xs ys : List Subject) → AreAmong xs ys → Any P xs → Any P ys
 any_among P xs ys among w = let c = among w.1 (w.0, w.2, w.3) in (c.0, w.1, c.1, c.2, w.4)
 
-pub same_covers : (p : PermissionView) (g h : GrantView) → HasPermission p g → IsAskedFor p.target → h.binding.namespace ≡ g.binding.namespace → AreAmong g.binding.subjects h.binding.subjects → h.rule.rule ≡ g.rule.rule → Covers p h
-same_covers p g h has is here subjects rule =
+pub no_more_covers : (p : PermissionView) (g h : GrantView) → HasPermission p g → IsAskedFor p.target → h.binding.namespace ≡ g.binding.namespace → AreAmong g.binding.subjects h.binding.subjects → CoversAll h.rule.rule g.rule.rule → Covers p h
+no_more_covers p g h has is here subjects rule =
     let named : Any (λ s. subject_principal h.binding.namespace s ≡ Some p.principal) h.binding.subjects =
     subst (λ (own : Option Text). Any (λ s. subject_principal own s ≡ Some p.principal) h.binding.subjects) (sym here) (any_among (λ s. subject_principal g.binding.namespace s ≡ Some p.principal) g.binding.subjects h.binding.subjects subjects has.principal) in
     record {
       wide = subst (λ (own : Option Text). IsAsWide own p.target) (sym here) (wide_of_rule g.binding.namespace g.rule.rule p.target has.target);
       names = named_by_own h.binding.namespace h.binding.subjects p.principal named;
-      words = subst (CoversWords p.verb p.target) (sym rule) (covers_own g.binding.namespace g.rule.rule p has.verb has.target);
+      words = words_covered g.binding.namespace h.rule.rule g.rule.rule p rule has.verb has.target is;
     }
 
 pub permission_allows : (after : PolicyView) → IsPolicy after → (p : PermissionView) (g : GrantView) → Contains after.grants g → HasPermission p g → (r : RequestView) → IsRequest r → StandsFor p r → AllowsRequest after r
 permission_allows after is p g c has r request stands =
-    covered_allows after is p g c (same_covers p g g has (stands_is_asked p r request stands) refl (λ s is. is) refl) r request stands
+    covered_allows after is p g c (no_more_covers p g g has (stands_is_asked p r request stands) refl (λ s is. is) (covers_itself g.rule.rule)) r request stands

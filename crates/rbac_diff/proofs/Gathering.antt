@@ -6,19 +6,19 @@ use Rattle.rbac_terms.specs.Text.{Text, text_cmp}
 use Rattle.rbac_model.specs.Policies.{PolicyView}
 use Rattle.rbac_diff.specs.Permissions.{PermissionView}
 use Rattle.rbac_diff.specs.Texts.{permission_text}
-use Rattle.rbac_diff.specs.Unchanged.{HasSameGrants}
+use Rattle.rbac_diff.specs.Unchanged.{GrantsNoMore}
 use Rattle.rbac_diff.specs.Finding.{IsGainedAt, Findings, Finds, FindsGained}
 use Rattle.rbac_diff.specs.declared.change.Found.{Found}
 use Rattle.rbac_diff.specs.declared.change.ChangeKind.{ChangeKind}
 use Rattle.rbac_diff.proofs.Searching.{still_some, none_before, none_some}
-use Rattle.rbac_diff.proofs.Covered.{same_covers}
+use Rattle.rbac_diff.proofs.Covered.{no_more_covers}
 
 -- a binding that grants no more than one of the other policy gains nothing
-pub unchanged_gains_nothing : (before after : PolicyView) (place : ℕ) → HasSameGrants after place before → (p : PermissionView) → IsGainedAt before after place p → ⊥
+pub unchanged_gains_nothing : (before after : PolicyView) (place : ℕ) → GrantsNoMore after place before → (p : PermissionView) → IsGainedAt before after place p → ⊥
 unchanged_gains_nothing before after place same p h =
     let g = h.grant in
     let there = same g.0 g.1 g.2 g.3 in
-    h.missing (there.1.0, there.0, there.1.1, there.1.2, same_covers p g.1 there.0 g.4 h.asked there.2 there.3 there.4)
+    h.missing (there.1.0, there.0, there.1.1, there.1.2, no_more_covers p g.1 there.0 g.4 h.asked there.2 there.3 there.4)
 
 module _ (kind : ChangeKind) (before after : PolicyView) where
   pub gathered_nothing : (count : ℕ) (m : Findings) → ((at : ℕ) → at < count → (p : PermissionView) → IsGainedAt before after at p → ⊥) → FindsGained kind before after count m m

@@ -3,6 +3,9 @@ pub mod Bindings
 pub mod BoundRules
 pub mod Candidates
 pub mod Covered
+pub mod CoveredGrants
+pub mod CoveredWords
+pub mod CoveringRules
 pub mod Deciding
 pub mod Exchanging
 pub mod FirstWith
@@ -14,9 +17,10 @@ pub mod Listing
 pub mod Flags
 pub mod OneChanges
 pub mod OneStar
-pub mod SameGrants
+pub mod PairedRoles
+pub mod Results
+pub mod SameRules
 pub mod Searching
-pub mod StandingRules
 pub mod Stars
 pub mod Strangers
 pub mod Telling

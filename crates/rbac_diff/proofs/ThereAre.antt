@@ -25,7 +25,8 @@ use Rattle.rbac_diff.specs.declared.change.ChangeKind.{ChangeKind}
 use Rattle.rbac_diff.specs.declared.change.ChangeKind.TheVariants.{Gained, Lost}
 use Rattle.rbac_diff.proofs.Bindings.{none_given}
 use Rattle.rbac_diff.proofs.Candidates.{candidates, is_candidate}
-use Rattle.rbac_diff.proofs.Covered.{gained_is_asked, same_covers}
+use Rattle.rbac_diff.proofs.Covered.{gained_is_asked, no_more_covers}
+use Rattle.rbac_diff.proofs.CoveredWords.{covers_itself}
 use Rattle.rbac_diff.proofs.Deciding.{gained}
 use Rattle.rbac_diff.proofs.Gained.{gained_exactly}
 use Rattle.rbac_diff.proofs.Texts.{permission_text-one}
@@ -70,7 +71,7 @@ module _ (before after : PolicyView) (ok : IsPolicy before) (also : IsPolicy aft
       let asked = gained_is_asked before after p h.grant h.has gains in
       let lost_asked = gained_is_asked after before q i.grant i.has loses in
       let same : p ≡ q = permission_text-one p q (alone after p h) (alone before q i) asked lost_asked e in
-      let covered : IsCovered before q = (i.among.0, i.grant, i.among.1, i.among.2, same_covers q i.grant i.grant i.has lost_asked refl (λ s is. is) refl) in
+      let covered : IsCovered before q = (i.among.0, i.grant, i.among.1, i.among.2, no_more_covers q i.grant i.grant i.has lost_asked refl (λ s is. is) (covers_itself i.grant.rule.rule)) in
       ((gained_exactly before after ok also p h.grant h.among h.has).0 gains).1 (subst (IsCovered before) (sym same) covered)
 
 abbrev change_as : ChangeKind → Text → Binding → ChangeView

@@ -1,11 +1,11 @@
 pub mod Changes
+pub mod CoveredRoles
 pub mod Covering
 pub mod Finding
 pub mod Lines
 pub mod Listed
 pub mod Permissions
 pub mod Requests
-pub mod SameRoles
 pub mod Shown
 pub mod StandIns
 pub mod Texts

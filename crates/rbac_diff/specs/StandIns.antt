@@ -7,12 +7,17 @@ use Rattle.rbac_terms.specs.Text.{Text}
 use Rattle.rbac_terms.specs.Principals.{Who}
 use Rattle.rbac_terms.specs.declared.matching.Rule.{Rule}
 use Rattle.rbac_model.specs.Policies.{PolicyView, GrantView, BindingNames}
+use Rattle.rbac_covering.specs.Covering.{CoversAll}
 use Rattle.rbac_index.specs.Bound.{IsBoundTo}
 use Rattle.rbac_diff.specs.Covering.{stand_ins}
 
 -- some reference is to the rule
 abbrev pub HasRule : List (Bor Rule) → Rule → Type 0
 HasRule rules r = Any (λ held. held.now ≡ r) rules
+
+-- some reference is to a rule that covers the rule
+abbrev pub HasCoveringRule : List (Bor Rule) → Rule → Type 0
+HasCoveringRule rules r = Any (λ held. CoversAll held.now r) rules
 
 -- the rule is that of a grant, one of those numbered from `from` up to `end`, that is bound to who
 -- asks in that namespace

@@ -1,9 +1,9 @@
 //! Bindings that say the same under another name.
 
-use rbac_terms::{Binding, RoleRef, Subject, Word};
-use rbac_text::put_field_and_tab;
+use crate::subjects::{put, subject_text};
+use rbac_terms::{Binding, RoleRef, Subject};
 use std::alloc::{AllocError, Global};
-use std::collections::BTreeMap;
+use std::collections::{BTreeMap, BTreeSet};
 
 // Where some of a policy's bindings stand, by all that they say but their names; of those that say
 // the same, the last.
@@ -39,7 +39,8 @@ impl Alike {
     }
 }
 
-// What a binding says but its name, in words that are told apart by where they stand.
+// What a binding says but its name, in words that are told apart by where they stand; the order of
+// its subjects says nothing, nor do their repeats.
 fn text_of(alloc: Global, binding: &Binding) -> Result<Vec<u8>, AllocError> {
     let mut text = Vec::new(alloc);
     if let Some(namespace) = &binding.namespace {
@@ -49,26 +50,18 @@ fn text_of(alloc: Global, binding: &Binding) -> Result<Vec<u8>, AllocError> {
         RoleRef::Role(name) => put(&mut text, "role", name)?,
         RoleRef::ClusterRole(name) => put(&mut text, "cluster role", name)?,
     }
-    for subject in binding.subjects.as_slice() {
-        put_subject(&mut text, subject)?;
-    }
+    put_subjects(alloc, &mut text, binding.subjects.as_slice())?;
     Ok(text)
 }
 
-fn put_subject(text: &mut Vec<u8>, subject: &Subject) -> Result<(), AllocError> {
-    match subject {
-        Subject::User(name) => put(text, "user", name),
-        Subject::Group(name) => put(text, "group", name),
-        Subject::Account { namespace, name } => {
-            if let Some(namespace) = namespace {
-                put(text, "in", namespace)?;
-            }
-            put(text, "account", name)
-        }
+// Adds what the subjects say, in an order of its own.
+fn put_subjects(alloc: Global, text: &mut Vec<u8>, subjects: &[Subject]) -> Result<(), AllocError> {
+    let mut texts = BTreeSet::new(alloc);
+    for subject in subjects {
+        texts.insert(subject_text(alloc, subject)?)?;
     }
-}
-
-fn put(text: &mut Vec<u8>, what: &str, word: &Word) -> Result<(), AllocError> {
-    put_field_and_tab(text, what.as_bytes())?;
-    put_field_and_tab(text, word.as_bytes())
+    for one in &texts {
+        text.extend_from_slice(one.as_slice())?;
+    }
+    Ok(())
 }

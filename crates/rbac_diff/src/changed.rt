@@ -2,12 +2,13 @@
 
 ghost use Rattle.std.specs.Prelude.{◌≡◌, ◌<◌, IfOk, false, length};
 ghost use Rattle.rbac_model.specs.Policies.{IsPolicy};
-ghost use Rattle.rbac_diff.specs.Unchanged.{AreFlags, HasSameGrants};
+ghost use Rattle.rbac_diff.specs.CoveredRoles.{AreCoveredRoles};
+ghost use Rattle.rbac_diff.specs.Unchanged.{AreFlags, GrantsNoMore};
 
 use crate::alike::Alike;
+use crate::covered_roles::CoveredRoles;
 use crate::named::place_from;
-use crate::same_roles::SameRoles;
-use crate::unchanged::{of_bindings, of_namesakes};
+use crate::unchanged::{grants_no_more, is_namesake};
 use rbac_model::Policy;
 use std::alloc::{AllocError, Global};
 
@@ -31,41 +32,50 @@ impl Changed {
         ensures after { IfOk result (λ c. AreFlags after.now c.after.items before.now) }
         ensures policies { IsPolicy before.now × IsPolicy after.now }
     {
-        let named = Self::by_name(alloc, before, after)?;
-        let gone = named.before.as_slice();
-        let new = named.after.as_slice();
+        let gone = without_namesakes(alloc, before, after)?;
+        let new = without_namesakes(alloc, after, before)?;
         Ok(Changed {
-            before: without_alike(alloc, before, gone, after, new)?,
-            after: without_alike(alloc, after, new, before, gone)?,
+            before: without_alike(alloc, before, gone.as_slice(), after, new.as_slice())?,
+            after: without_alike(alloc, after, new.as_slice(), before, gone.as_slice())?,
         })
     }
+}
 
-    // Flags the bindings that the other policy doesn't have under their names, with all of their
-    // subjects and the same rules.
-    fn by_name(alloc: Global, before: &Policy, after: &Policy) -> Result<Self, AllocError>
-        ensures before { IfOk result (λ c. AreFlags before.now c.before.items after.now) }
-        ensures after { IfOk result (λ c. AreFlags after.now c.after.items before.now) }
-        ensures policies { IsPolicy before.now × IsPolicy after.now }
-    {
-        let others = before.bindings();
-        let bindings = after.bindings();
-        let same = SameRoles::between(alloc, after, before)?;
-        let mut gone = vec![in alloc; true; others.len()]?;
-        let mut new = Vec::new(alloc);
-        let mut at = 0;
-        for (place, binding) in bindings.iter().enumerate() {
-            at = place_from(others, at, binding);
-            let no_more = of_namesakes(after, place, before, at, &same);
-            if no_more.other {
-                gone[at] = false;
-            }
-            new.push(!no_more.own)?;
-        }
-        Ok(Changed {
-            before: gone,
-            after: new,
-        })
+// Flags the bindings that grant more than the other policy's of the same name, if it has one.
+fn without_namesakes(alloc: Global, own: &Policy, other: &Policy) -> Result<Vec<bool>, AllocError>
+    ensures flags { IfOk result (λ flags. AreFlags own.now flags.items other.now) }
+    ensures policies { IsPolicy own.now × IsPolicy other.now }
+{
+    let bindings = own.bindings();
+    let others = other.bindings();
+    let covered = CoveredRoles::between(alloc, own, other)?;
+    let mut flags = Vec::new(alloc);
+    let mut at = 0;
+    for (place, binding) in bindings.iter().enumerate() {
+        at = place_from(others, at, binding);
+        flags.push(exceeds_namesake(alloc, own, place, other, at, &covered)?)?;
     }
+    Ok(flags)
+}
+
+// Whether the binding at the first place may grant more than the other policy's at the second one,
+// which counts only if it has the same name.
+fn exceeds_namesake(
+    alloc: Global,
+    own: &Policy,
+    place: usize,
+    other: &Policy,
+    at: usize,
+    covered: &CoveredRoles,
+) -> Result<bool, AllocError>
+    requires within { place < length own.now.held.bindings }
+    requires covered { AreCoveredRoles own.now.held covered.now other.now.held }
+    ensures { IfOk result (λ exceeds. exceeds ≡ false → GrantsNoMore own.now place other.now) }
+{
+    if !is_namesake(&own.bindings()[place], other.bindings(), at) {
+        return Ok(true);
+    }
+    Ok(!grants_no_more(alloc, own, place, other, at, covered)?)
 }
 
 // Keeps the flags of the bindings for which none that is flagged in the other policy says the same
@@ -99,16 +109,16 @@ fn stays_flagged(
     alike: &Alike,
 ) -> Result<bool, AllocError>
     requires within { place < length own.now.held.bindings }
-    requires unflagged { flagged ≡ false → HasSameGrants own.now place other.now }
-    ensures { IfOk result (λ stays. stays ≡ false → HasSameGrants own.now place other.now) }
+    requires unflagged { flagged ≡ false → GrantsNoMore own.now place other.now }
+    ensures { IfOk result (λ stays. stays ≡ false → GrantsNoMore own.now place other.now) }
 {
     if !flagged {
         return Ok(false);
     }
     match alike.place_of(alloc, &own.bindings()[place])? {
         Some(at) => {
-            let same = SameRoles::none(alloc);
-            Ok(!of_bindings(own, place, other, at, &same).own)
+            let none = CoveredRoles::none(alloc);
+            Ok(!grants_no_more(alloc, own, place, other, at, &none)?)
         }
         None => Ok(true),
     }

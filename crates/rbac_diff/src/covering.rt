@@ -1,18 +1,23 @@
 //! Whether rules allow all that a permission stands for, its words taken as texts.
 
-ghost use Rattle.std.specs.Prelude.{◌≡◌, ◌↔◌, IsTrue, Any, Some, []};
+ghost use Rattle.std.specs.Prelude.{◌≡◌, ◌↔◌, IfOk, IsTrue, Any, Some, []};
 ghost use Rattle.std.specs.Option.{option_copied};
 ghost use Rattle.rbac_terms.specs.Matching.{ResourceWordMatches};
+ghost use Rattle.rbac_covering.specs.Covering.{CoversAll};
 ghost use Rattle.rbac_diff.specs.Covering.{CoversName, CoversTarget, CoversWords, GivesPath};
 ghost use Rattle.rbac_diff.specs.Covering.{IsAskedFor};
 ghost use Rattle.rbac_diff.specs.Permissions.{OnUrl, one_star};
 ghost use Rattle.rbac_diff.specs.Shown.{permitted_of};
 
 use crate::permission::Permitted;
+use crate::unchanged::same_rule;
+use rbac_covering::{OrderedRule, covers as covers_all};
 use rbac_model::{allows_url_word, gives_path};
 use rbac_terms::{
-    Rule, Word, group_matches, is_resource_text, name_matches, resource_matches, verb_matches,
+    Rule, Word, Words, group_matches, is_resource_text, name_matches, resource_matches,
+    verb_matches,
 };
+use std::alloc::AllocError;
 
 // Whether some request is for what is permitted: a RoleBinding in the empty namespace is live
 // nowhere, and some words match no proper target.
@@ -97,4 +102,30 @@ fn is_asked_url(word: &Word) -> bool
     ensures { IsTrue result ↔ GivesPath (one_star word.now) }
 {
     gives_path(word)
+}
+
+// Whether the rule allows all that another one does, whatever is asked (own). Most are the same, and
+// most that don't cover another lack its first words.
+pub(crate) fn covers_rule(rule: &Rule, other: &Rule) -> Result<bool, AllocError>
+    ensures { IfOk result (λ covers. IsTrue covers → CoversAll rule.now other.now) }
+{
+    if same_rule(rule, other) {
+        return Ok(true);
+    }
+    if !allows_first_words(rule, other) {
+        return Ok(false);
+    }
+    Ok(covers_all(&OrderedRule::new(rule)?, other))
+}
+
+// Whether the rule allows the first word in each list of the other one.
+fn allows_first_words(rule: &Rule, other: &Rule) -> bool {
+    first(&other.resources).is_none_or(|text| resource_matches(rule, text))
+        && first(&other.groups).is_none_or(|group| group_matches(rule, group))
+        && first(&other.resource_names).is_none_or(|name| name_matches(rule, name))
+        && first(&other.verbs).is_none_or(|verb| verb_matches(rule, verb))
+}
+
+fn first(words: &Words) -> Option<&Word> {
+    words.as_slice().first()
 }

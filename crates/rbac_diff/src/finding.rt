@@ -14,7 +14,7 @@ use crate::covering::{is_asked_for, is_covered};
 use crate::fault::DiffFault;
 use crate::permission::{Permission, Permitted, permission_text};
 use crate::stand_ins::Asked;
-use crate::standing::{place_near, stands_at};
+use crate::standing::covering_place;
 use rbac_model::Policy;
 use rbac_terms::{Binding, Principal, Rule, Word, subject_principal};
 use std::alloc::{AllocError, Global};
@@ -135,10 +135,10 @@ struct Search<'a, 'p> {
 // How many rules of the other policy are looked at behind the last one that was found.
 const NEAR: usize = 64;
 
-// Adds the permissions by the grants of the binding at this place. A rule that stands among the
-// other policy's word for word gives none. Rules mostly stand in one order on both sides, so the
-// first is looked for among all, and each next one only near the last one found: the others can be
-// many more than the binding's own.
+// Adds the permissions by the grants of the binding at this place. A rule that one of the other
+// policy's covers gives none. Rules mostly stand in one order on both sides, so the first is looked
+// for among all, and each next one only near the last one found: the others can be many more than
+// the binding's own.
 fn add_of_grants<'a, 'p>(
     alloc: Global,
     search: &'a Search<'a, 'p>,
@@ -155,11 +155,9 @@ fn add_of_grants<'a, 'p>(
     let mut count = search.others.len();
     for no in from..end {
         let rule = after.grant(no).rule;
-        let at = place_near(search.others, first, count, rule);
-        if stands_at(search.others, at, rule) {
-            first = at + 1;
-        } else {
-            add_of_rule(alloc, search, rule, findings)?;
+        match covering_place(search.others, first, count, rule)? {
+            Some(at) => first = at + 1,
+            None => add_of_rule(alloc, search, rule, findings)?,
         }
         count = NEAR;
     }

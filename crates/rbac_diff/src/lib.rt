@@ -5,6 +5,7 @@
 mod alike;
 mod change;
 mod changed;
+mod covered_roles;
 mod covering;
 mod fault;
 mod finding;
@@ -12,9 +13,9 @@ mod laws;
 mod line;
 mod named;
 mod permission;
-mod same_roles;
 mod stand_ins;
 mod standing;
+mod subjects;
 mod unchanged;
 
 pub use change::{Change, ChangeKind, changes};

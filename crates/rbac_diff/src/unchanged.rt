@@ -1,151 +1,97 @@
 //! Bindings that grant nothing that the other policy doesn't.
 
-ghost use Rattle.std.specs.Prelude.{◌≡◌, ◌<◌, ◌↔◌, IsTrue, length};
-ghost use Rattle.rbac_diff.specs.SameRoles.{AreSameRoles};
-ghost use Rattle.rbac_diff.specs.Unchanged.{AreAmong, HasSameGrants, HaveSameRules, IsSameGrant};
+ghost use Rattle.std.specs.Prelude.{◌≡◌, ◌<◌, ◌↔◌, IfOk, IsTrue, length};
+ghost use Rattle.rbac_diff.specs.CoveredRoles.{AreCoveredRoles};
+ghost use Rattle.rbac_diff.specs.Unchanged.{GrantsNoMore, HasCoveredRules, IsGrantCovered};
 
-use crate::same_roles::SameRoles;
+use crate::covered_roles::CoveredRoles;
+use crate::covering::covers_rule;
+use crate::subjects::are_among;
 use rbac_model::{Named, Policy};
-use rbac_terms::{Binding, Rule, Subject, Words};
-
-/// Which of two bindings of different policies, this one and the other's, grants nothing that the
-/// other doesn't: both or neither, unless one has subjects more.
-#[derive(Clone, Copy)]
-pub(crate) struct GrantsNoMore {
-    pub(crate) own: bool,
-    pub(crate) other: bool,
-}
-
-const BOTH_MORE: GrantsNoMore = GrantsNoMore {
-    own: false,
-    other: false,
-};
-
-// Which of two bindings grants no more, this one or the other policy's at that place, if they have
-// the same name.
-pub(crate) fn of_namesakes(
-    own: &Policy,
-    place: usize,
-    other: &Policy,
-    at: usize,
-    same: &SameRoles,
-) -> GrantsNoMore
-    requires within { place < length own.now.held.bindings }
-    requires same { AreSameRoles own.now.held same.now other.now.held }
-    ensures own { IsTrue result.own → HasSameGrants own.now place other.now }
-    ensures other { IsTrue result.other → HasSameGrants other.now at own.now }
-    ensures within { IsTrue result.other → at < length other.now.held.bindings }
-{
-    if is_namesake(&own.bindings()[place], other.bindings(), at) {
-        of_bindings(own, place, other, at, same)
-    } else {
-        BOTH_MORE
-    }
-}
+use rbac_terms::{Binding, Rule, Words};
+use std::alloc::{AllocError, Global};
 
 // Whether there is a binding at that place that has the same name as this one.
-fn is_namesake(binding: &Binding, others: &[Binding], at: usize) -> bool {
+pub(crate) fn is_namesake(binding: &Binding, others: &[Binding], at: usize) -> bool {
     others
         .get(at)
         .is_some_and(|held| held.cmp_name(binding).is_eq())
 }
 
-// Which of two bindings grants no more, this one or the other policy's at that place. They have to
-// be in the same namespace, or in none, and to have the same rules.
-pub(crate) fn of_bindings(
+// Whether the binding at that place grants no more than the other policy's at the second one: that
+// one is in the same namespace, or in none as this one, its rules cover this one's, and it has all
+// of its subjects.
+pub(crate) fn grants_no_more(
+    alloc: Global,
     own: &Policy,
     place: usize,
     other: &Policy,
     at: usize,
-    same: &SameRoles,
-) -> GrantsNoMore
+    covered: &CoveredRoles,
+) -> Result<bool, AllocError>
     requires within { place < length own.now.held.bindings }
-    requires same { AreSameRoles own.now.held same.now other.now.held }
-    ensures own { IsTrue result.own → HasSameGrants own.now place other.now }
-    ensures other { IsTrue result.other → HasSameGrants other.now at own.now }
-    ensures within { IsTrue result.other → at < length other.now.held.bindings }
+    requires covered { AreCoveredRoles own.now.held covered.now other.now.held }
+    ensures { IfOk result (λ no_more. IsTrue no_more → GrantsNoMore own.now place other.now) }
 {
     let binding = &own.bindings()[place];
     let Some(held) = other.bindings().get(at) else {
-        return BOTH_MORE;
+        return Ok(false);
     };
-    if binding.namespace != held.namespace || !same_rules(own, place, other, at, same) {
-        return BOTH_MORE;
+    if binding.namespace != held.namespace || !are_rules_covered(own, place, other, at, covered)? {
+        return Ok(false);
     }
-    let subjects = binding.subjects.as_slice();
-    let others = held.subjects.as_slice();
-    GrantsNoMore {
-        own: are_among(subjects, others),
-        other: are_among(others, subjects),
-    }
+    are_among(alloc, binding.subjects.as_slice(), held.subjects.as_slice())
 }
 
-// Whether each of these subjects is found among the others, behind those before it: so they are
-// where subjects were only added.
-fn are_among(subjects: &[Subject], others: &[Subject]) -> bool
-    ensures { IsTrue result → AreAmong subjects.now others.now }
-{
-    let mut at = 0;
-    for subject in subjects {
-        while at < others.len() && !same_subject(&others[at], subject) {
-            at += 1;
-        }
-        if at >= others.len() {
-            return false;
-        }
-    }
-    true
-}
-
-fn same_subject(a: &Subject, b: &Subject) -> bool
-    ensures { IsTrue result ↔ (a.now ≡ b.now) }
-{
-    match (a, b) {
-        (Subject::User(a), Subject::User(b)) => a == b,
-        (Subject::Group(a), Subject::Group(b)) => a == b,
-        (
-            Subject::Account { namespace, name },
-            Subject::Account {
-                namespace: other,
-                name: named,
-            },
-        ) => namespace == other && name == named,
-        _ => false,
-    }
-}
-
-// Whether the bindings at these places have the same rules, in the same order.
-fn same_rules(own: &Policy, place: usize, other: &Policy, at: usize, same: &SameRoles) -> bool
-    requires { AreSameRoles own.now.held same.now other.now.held }
-    ensures own { IsTrue result → HaveSameRules own.now place other.now at }
-    ensures other { IsTrue result → HaveSameRules other.now at own.now place }
+// Whether the rules of the binding at that place are covered by those of the other policy's at the
+// second one, one by one.
+fn are_rules_covered(
+    own: &Policy,
+    place: usize,
+    other: &Policy,
+    at: usize,
+    covered: &CoveredRoles,
+) -> Result<bool, AllocError>
+    requires { AreCoveredRoles own.now.held covered.now other.now.held }
+    ensures { IfOk result
+        (λ are. IsTrue are → HasCoveredRules own.now place other.now at) }
 {
     let (from, end) = own.grants_of(place);
     let (other_from, other_end) = other.grants_of(at);
     if end - from != other_end - other_from {
-        return false;
+        return Ok(false);
     }
     for no in from..end {
-        if !is_same_grant(own, no, other, other_from + (no - from), same) {
-            return false;
+        if !is_grant_covered(own, no, other, other_from + (no - from), covered)? {
+            return Ok(false);
         }
     }
-    true
+    Ok(true)
 }
 
-// Whether the grants with these numbers are by the same rule, word for word.
-fn is_same_grant(own: &Policy, no: u32, other: &Policy, other_no: u32, same: &SameRoles) -> bool
+// Whether the rule of the grant with the first number is covered by that of the other policy's
+// grant with the second one.
+fn is_grant_covered(
+    own: &Policy,
+    no: u32,
+    other: &Policy,
+    other_no: u32,
+    covered: &CoveredRoles,
+) -> Result<bool, AllocError>
     requires own { no < length own.now.grants }
     requires other { other_no < length other.now.grants }
-    requires same { AreSameRoles own.now.held same.now other.now.held }
-    ensures { IsTrue result → IsSameGrant own.now no other.now other_no }
+    requires covered { AreCoveredRoles own.now.held covered.now other.now.held }
+    ensures { IfOk result
+        (λ is. IsTrue is → IsGrantCovered own.now no other.now other_no) }
 {
-    same.have_rule(own.place(no), other.place(other_no))
-        || same_rule(own.grant(no).rule, other.grant(other_no).rule)
+    if covered.have_rule(own.place(no), other.place(other_no)) {
+        return Ok(true);
+    }
+    covers_rule(other.grant(other_no).rule, own.grant(no).rule)
 }
 
 // Whether the rules are the same, word for word.
-#[tactic(auto, using(crate::proofs::SameGrants::same_lists))]
+#[tactic(auto, using(crate::proofs::SameRules::same_lists))]
 pub(crate) fn same_rule(a: &Rule, b: &Rule) -> bool
     ensures { IsTrue result → a.now ≡ b.now }
 {

@@ -1,8 +1,8 @@
 //! Which rules cover which.
 
 use crate::policies::rule;
-use crate::words::{check, words};
-use rbac_lint::covers;
+use crate::words::{built, check, words};
+use rbac_covering::{OrderedRule, covers};
 use rbac_terms::Rule;
 use std::alloc::Global;
 use std::process::Abort;
@@ -25,6 +25,15 @@ const POD_A: Row<'static> = [&["get"], &[""], &["pods"], &["a"], &[]];
 const LOGS: Row<'static> = [&["get"], &[""], &["*/log"], &[], &[]];
 
 const POD_LOGS: Row<'static> = [&["get"], &[""], &["pods/log"], &[], &[]];
+
+// Names of a list that is put in order, and the same names the other way round.
+const NAMES: &[&str] = &[
+    "a", "b", "c", "d", "e", "f", "g", "h", "i", "j", "k", "l", "m", "n", "o", "p", "q",
+];
+
+const NAMES_BACK: &[&str] = &[
+    "q", "p", "o", "n", "m", "l", "k", "j", "i", "h", "g", "f", "e", "d", "c", "b", "a",
+];
 
 // What is asked, two rules, and whether the first covers the second.
 const COVERS: &[(&str, Row<'static>, Row<'static>, bool)] = &[
@@ -63,6 +72,18 @@ const COVERS: &[(&str, Row<'static>, Row<'static>, bool)] = &[
     ("a name by all", PODS, POD_A, true),
     ("all names by one", POD_A, PODS, false),
     (
+        "many names in another order",
+        [&["get"], &[""], &["pods"], NAMES, &[]],
+        [&["get"], &[""], &["pods"], NAMES_BACK, &[]],
+        true,
+    ),
+    (
+        "a name that isn't among many",
+        [&["get"], &[""], &["pods"], NAMES, &[]],
+        [&["get"], &[""], &["pods"], &["b", "r"], &[]],
+        false,
+    ),
+    (
         "nothing by anything",
         PODS,
         [&["get"], &[""], &[""], &[], &[]],
@@ -76,6 +97,7 @@ fn a_rule_covers_what_its_words_reach(rt: HostRuntime) {
     for (name, first, second, wanted) in COVERS {
         let first = rule_with_urls(&rt, alloc, first);
         let second = rule_with_urls(&rt, alloc, second);
-        check(&rt, name, covers(&first, &second) == *wanted);
+        let ordered = built(&rt, OrderedRule::new(&first));
+        check(&rt, name, covers(&ordered, &second) == *wanted);
     }
 }

@@ -1,5 +1,4 @@
 pub mod Urls
-pub mod Samples
 pub mod Exact
 pub mod Order
 pub mod RoleLines

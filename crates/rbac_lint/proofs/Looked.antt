@@ -10,9 +10,9 @@ use Rattle.rbac_terms.proofs.Texts.{IsCutAtFirst-one}
 use Rattle.rbac_terms.specs.Matching.{ResourceWordMatches, EndsInStar, IsBeforeStars}
 use Rattle.rbac_terms.specs.declared.matching.Rule.{Rule}
 use Rattle.rbac_model.specs.Universes.{Covers}
-use Rattle.rbac_lint.specs.Covering.{AllowsVerbs, AllowsVerb, AllowsGroups, AllowsGroup, AllowsResources, AllowsResource, AllowsNames, AllowsName, AllowsUrls, AllowsUrl, HasResource, HasUrl}
+use Rattle.rbac_covering.specs.Covering.{CoversAll, AllowsVerbs, AllowsVerb, AllowsGroups, AllowsGroup, AllowsResources, AllowsResource, AllowsNames, AllowsName, AllowsUrls, AllowsUrl, HasResource, HasUrl}
 use Rattle.rbac_model.specs.OwnWords.{AllowsUrlWord, GivesPath}
-use Rattle.rbac_lint.specs.Findings.{CoversAll, MakesRedundantAt, MakesRedundant}
+use Rattle.rbac_lint.specs.Findings.{MakesRedundantAt, MakesRedundant}
 use Rattle.rbac_lint.specs.declared.rules_by_word.Field.{Field}
 use Rattle.rbac_lint.specs.declared.rules_by_word.Field.TheVariants.{Verbs, Groups, Resources, Names, Urls, Prefixes}
 use Rattle.rbac_lint.specs.declared.rules_by_word.RulesByWord.{RulesByWord}
@@ -21,7 +21,7 @@ use Rattle.rbac_lint.specs.RulesByWord.{Lists, listed, lists_in, words_in, names
 use Rattle.rbac_lint.specs.Candidates.{IsAsked, Binds, IsFound, StandsIn, IsAmong, Ascend, Finds, AddsUnder, AddsPrefixes, IsOfEach, AreMatching, CoversAt, AreCandidates, IsLeastCoverIfAny, IsRedundantBy, IsSoonest}
 use Rattle.rbac_lint.specs.declared.prefixes.Prefix.{Prefix}
 use Rattle.rbac_lint.specs.Prefixes.{IsOnWay, LeadsTo, ArePrefixes}
-use Rattle.rbac_lint.proofs.Samples.{samples_from_Covers, resources_from_samples, urls_from_samples}
+use Rattle.rbac_covering.proofs.Samples.{samples_from_Covers, resources_from_samples, urls_from_samples}
 use Rattle.rbac_model.proofs.UrlSamples.{below_stars}
 use Rattle.rbac_model.proofs.UrlWords.{GivesPath-path}
 use Rattle.rbac_lint.proofs.Urls.{UrlWordMatches-begins}

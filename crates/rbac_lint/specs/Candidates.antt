@@ -8,7 +8,7 @@ use Rattle.rbac_terms.specs.Matching.{ResourceWordMatches, FollowsFirstSlash, En
 use Rattle.rbac_terms.specs.declared.matching.Rule.{Rule}
 use Rattle.rbac_model.specs.Universes.{Covers}
 use Rattle.rbac_terms.specs.Targets.{IsResourceText, IsPath}
-use Rattle.rbac_lint.specs.Covering.{HasResource, HasUrl}
+use Rattle.rbac_covering.specs.Covering.{HasResource, HasUrl}
 use Rattle.rbac_lint.specs.Findings.{MakesRedundant}
 use Rattle.rbac_lint.specs.RulesByWord.{Lists, listed, lists_in, IsAscending, AreAscending}
 use Rattle.rbac_lint.specs.declared.prefixes.Prefix.{Prefix}

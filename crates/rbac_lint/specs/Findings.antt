@@ -10,7 +10,7 @@ use Rattle.rbac_terms.specs.declared.granting.Subject.{Subject}
 use Rattle.rbac_terms.specs.declared.granting.Subject.TheVariants.{Account}
 use Rattle.rbac_model.specs.Policies.{Held, Source, InRole, InClusterRole, IsPlain, IsRefTo}
 use Rattle.rbac_model.specs.Policies.{Reaches}
-use Rattle.rbac_model.specs.Universes.{Covers}
+use Rattle.rbac_covering.specs.Covering.{CoversAll}
 use Rattle.rbac_lint.specs.declared.finding.Finding.{Finding}
 use Rattle.rbac_lint.specs.Lines.{Line, OfEach, object_text, AreShown}
 use Rattle.rbac_manifest.specs.declared.replacement.Replaced.{Replaced}
@@ -66,9 +66,6 @@ IsUnused h = OfEach (λ k s. IsUnusedOf h s) (roles_in h)
 
 -- L3: another rule of the role covers the rule, and comes before it or isn't covered by it; the
 -- line gives the first rule that does, counted from 1 (own)
-unfoldable pub CoversAll : Rule → Rule → Type 0
-CoversAll a b = Covers a b
-
 unfoldable pub MakesRedundantAt : ℕ → Rule → ℕ → Rule → Type 0
 MakesRedundantAt i b j a = (j ≢ i) × CoversAll a b × ((j < i) ⊎ (¬ CoversAll b a))
 

@@ -1,5 +1,4 @@
 pub mod Candidates
-pub mod Covering
 pub mod Findings
 pub mod Gathering
 pub mod Lines

@@ -11,9 +11,9 @@ ghost use Rattle.rbac_lint.specs.Prefixes.{ArePrefixes};
 ghost use Rattle.rbac_lint.specs.Candidates.{IsAsked, Binds, Finds, AddsUnder, AddsPrefixes};
 ghost use Rattle.rbac_lint.specs.Candidates.{IsOfEach, AreMatching, AreCandidates};
 
-use crate::coverage::{has_resource, has_url};
 use crate::prefixes::{Prefix, last_up_to};
 use crate::rules_by_word::{Field, Places, RulesByWord, star_word, stem_of, under, words_in};
+use rbac_covering::{has_resource, has_url};
 use rbac_terms::{Rule, Word, cut_at_first, is_path, is_resource_text};
 use std::alloc::{AllocError, Global};
 use std::collections::BTreeMap;

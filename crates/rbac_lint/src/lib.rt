@@ -3,7 +3,6 @@
 
 mod accounts;
 mod candidates;
-mod coverage;
 mod dangling_role;
 mod escalation;
 mod fault;
@@ -20,7 +19,6 @@ mod stale_aggregate;
 mod unused_role;
 mod wanted;
 
-pub use coverage::covers;
 pub use fault::LintFault;
 pub use finding::{Finding, Findings};
 pub use laws::{findings_are_one_list, wanted_findings_are_one_list};

@@ -9,16 +9,17 @@ ghost use Rattle.rbac_lint.specs.Lines.{Adds, OfEach};
 ghost use Rattle.rbac_lint.specs.RulesByWord.{IsAscending, AreRulesByWord};
 ghost use Rattle.rbac_lint.specs.Prefixes.{ArePrefixes};
 ghost use Rattle.rbac_lint.specs.Candidates.{AreCandidates, IsLeastCoverIfAny, IsSoonest};
-ghost use Rattle.rbac_lint.specs.Findings.{CoversAll, MakesRedundantAt, MakesRedundant};
+ghost use Rattle.rbac_covering.specs.Covering.{CoversAll};
+ghost use Rattle.rbac_lint.specs.Findings.{MakesRedundantAt, MakesRedundant};
 ghost use Rattle.rbac_lint.specs.Findings.{IsRedundantAt, IsRedundantOf, IsRedundant};
 ghost use Rattle.rbac_lint.specs.Wanted.{OfKept, OfWanted};
 
 use crate::candidates::{Candidates, fewest_for};
-use crate::coverage::covers;
 use crate::finding::{Finding, Findings, number_word, role_word};
 use crate::roles::{plain_rules, role_at, role_count};
 use crate::rules_by_word::{RulesByWord, listed_by_word};
 use crate::wanted::Wanted;
+use rbac_covering::{OrderedRule, covers, ordered_rules};
 use rbac_model::{Objects, SourceRole};
 use rbac_terms::Rule;
 use std::alloc::{AllocError, Global};
@@ -75,9 +76,25 @@ fn find_in_rules(
         (λ i r. IsRedundantAt (source_of role.entry) rules.now i) rules.now) found.old found.new) }
 {
     let by_word = by_word_if_many(alloc, rules)?;
-    let listed = by_word.as_ref();
+    let ordered = ordered_rules(alloc, rules)?;
+    find_in_ordered(alloc, found, role, ordered.as_slice(), by_word.as_ref())
+}
+
+// Adds the findings for these rules of a role, given them by their words if they are many.
+fn find_in_ordered(
+    alloc: Global,
+    found: &mut Findings,
+    role: SourceRole<'_>,
+    rules: &[OrderedRule<'_>],
+    by_word: Option<&RulesByWord>,
+) -> Result<(), AllocError>
+    requires { ForSome by_word (λ l. AreRulesByWord rules.now l.now) }
+    ensures { OnOk result
+        (Adds (OfEach
+        (λ i r. IsRedundantAt (source_of role.entry) rules.now i) rules.now) found.old found.new) }
+{
     for (place, rule) in rules.iter().enumerate() {
-        find_at(alloc, found, role, rules, listed, place, rule)?;
+        find_at(alloc, found, role, rules, by_word, place, rule)?;
     }
     Ok(())
 }
@@ -97,10 +114,10 @@ fn find_at(
     alloc: Global,
     found: &mut Findings,
     role: SourceRole<'_>,
-    rules: &[Rule],
+    rules: &[OrderedRule<'_>],
     by_word: Option<&RulesByWord>,
     place: usize,
-    rule: &Rule,
+    rule: &OrderedRule<'_>,
 ) -> Result<(), AllocError>
     requires here { slice_get rules.now place ≡ Some rule.now }
     requires listed { ForSome by_word (λ l. AreRulesByWord rules.now l.now) }
@@ -123,17 +140,17 @@ fn find_at(
 // The least place of a rule that makes this one redundant.
 fn covering_rule(
     alloc: Global,
-    rules: &[Rule],
+    rules: &[OrderedRule<'_>],
     by_word: Option<&RulesByWord>,
     place: usize,
-    rule: &Rule,
+    rule: &OrderedRule<'_>,
 ) -> Result<Option<usize>, AllocError>
     requires here { slice_get rules.now place ≡ Some rule.now }
     requires listed { ForSome by_word (λ l. AreRulesByWord rules.now l.now) }
     ensures least { IfOk result (IsLeastCoverIfAny rules.now place) }
     ensures within { IfOk result (λ o. IfSome o (λ j. j < length rules.now)) }
 {
-    match candidates_if_listed(alloc, by_word, rule)? {
+    match candidates_if_listed(alloc, by_word, rule.rule())? {
         Some(candidates) => Ok(first_of(rules, candidates, place, rule)),
         None => Ok(first_of_all(rules, place, rule)),
     }
@@ -159,10 +176,10 @@ fn candidates_if_listed<'a>(
 // they are those of the shortest prefixes, which cover the most, and a list is read only up to the
 // place found so far.
 fn first_of(
-    rules: &[Rule],
+    rules: &[OrderedRule<'_>],
     mut candidates: Candidates<'_>,
     place: usize,
-    rule: &Rule,
+    rule: &OrderedRule<'_>,
 ) -> Option<usize>
     requires here { slice_get rules.now place ≡ Some rule.now }
     requires complete { AreCandidates rules.now rule.now candidates }
@@ -182,7 +199,13 @@ fn first_of(
 
 // The least of these places below the limit whose rule makes this one redundant; the limit if there
 // is none.
-fn first_listed(rules: &[Rule], listed: &[usize], limit: usize, place: usize, rule: &Rule) -> usize
+fn first_listed(
+    rules: &[OrderedRule<'_>],
+    listed: &[usize],
+    limit: usize,
+    place: usize,
+    rule: &OrderedRule<'_>,
+) -> usize
     requires here { slice_get rules.now place ≡ Some rule.now }
     requires ascending { IsAscending listed.now }
     ensures { IsSoonest rules.now place listed.now limit result }
@@ -199,7 +222,12 @@ fn first_listed(rules: &[Rule], listed: &[usize], limit: usize, place: usize, ru
 }
 
 // Whether the rule at the other place makes this one redundant.
-fn is_redundant_by(rules: &[Rule], place: usize, rule: &Rule, other: usize) -> bool
+fn is_redundant_by(
+    rules: &[OrderedRule<'_>],
+    place: usize,
+    rule: &OrderedRule<'_>,
+    other: usize,
+) -> bool
     requires { slice_get rules.now place ≡ Some rule.now }
     ensures { IsTrue result ↔ MakesRedundant rules.now place other }
 {
@@ -210,7 +238,7 @@ fn is_redundant_by(rules: &[Rule], place: usize, rule: &Rule, other: usize) -> b
 }
 
 // The first of all rules that makes this one redundant.
-fn first_of_all(rules: &[Rule], place: usize, rule: &Rule) -> Option<usize>
+fn first_of_all(rules: &[OrderedRule<'_>], place: usize, rule: &OrderedRule<'_>) -> Option<usize>
     requires { slice_get rules.now place ≡ Some rule.now }
     ensures least { IsLeastCoverIfAny rules.now place result }
     ensures within { IfSome result (λ j. j < length rules.now) }
@@ -225,15 +253,19 @@ fn first_of_all(rules: &[Rule], place: usize, rule: &Rule) -> Option<usize>
 
 // Whether the rule `wide`, at place `other`, makes this rule, at `place`, redundant.
 #[tactic(auto, unfolding(crate::specs::Findings::MakesRedundantAt))]
-fn makes_redundant(place: usize, rule: &Rule, other: usize, wide: &Rule) -> bool
+fn makes_redundant(
+    place: usize,
+    rule: &OrderedRule<'_>,
+    other: usize,
+    wide: &OrderedRule<'_>,
+) -> bool
     ensures { IsTrue result ↔ MakesRedundantAt place rule.now other wide.now }
 {
     other != place && covers_all(wide, rule) && (other < place || !covers_all(rule, wide))
 }
 
-#[tactic(auto, unfolding(crate::specs::Findings::CoversAll))]
-fn covers_all(a: &Rule, b: &Rule) -> bool
+fn covers_all(a: &OrderedRule<'_>, b: &OrderedRule<'_>) -> bool
     ensures { IsTrue result ↔ CoversAll a.now b.now }
 {
-    covers(a, b)
+    covers(a, b.rule())
 }

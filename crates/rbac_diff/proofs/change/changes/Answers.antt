@@ -4,7 +4,8 @@ use Rattle.std.specs.Ordering.{is_eq}
 use Rattle.rbac_terms.specs.Text.{Text, text_cmp}
 use Rattle.rbac_diff.specs.Changes.{ChangeView, AreChanges}
 use Rattle.rbac_diff.specs.declared.change.Found.{Found}
-use Rattle.rbac_diff.proofs.AllChanges.{all_changes, ok_weaker}
+use Rattle.rbac_diff.proofs.AllChanges.{all_changes}
+use Rattle.rbac_diff.proofs.Results.{ok_weaker}
 use Rattle.rbac_diff.proofs.change.changes.Goals as goal
 
 pub returns-clause-changes : goal.returns-clause-changes

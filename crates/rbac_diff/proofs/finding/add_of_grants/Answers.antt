@@ -1,12 +1,12 @@
-use Rattle.std.proofs.Common.{◌+◌, refl}
+use Rattle.std.proofs.Common.{◌+◌}
 use Rattle.std.specs.Option.{option_copied}
 use Rattle.rbac_model.specs.Sources.{grant_of}
 use Rattle.rbac_diff.specs.Finding.{Findings, SearchFinds, IsByGrants, IsByRule}
 use Rattle.rbac_diff.proofs.Grants.{IsByNumbers, no_numbers, one_number, all_numbers}
 use Rattle.rbac_diff.proofs.Searching.{search_none, search_same, search_more}
-use Rattle.rbac_diff.proofs.StandingRules.{search_standing}
+use Rattle.rbac_diff.proofs.CoveringRules.{search_covered}
 use Rattle.rbac_diff.proofs.finding.add_of_grants.Goals as goal
-use Rattle.rbac_diff.proofs.finding.add_of_grants.Goals.{then-stands_at, else-stands_at+in_ok-add_of_rule}
+use Rattle.rbac_diff.proofs.finding.add_of_grants.Goals.{in-Some, in-None+in_ok-add_of_rule-in-None}
 
 pub loop-no-init : goal.loop-no-init
 loop-no-init c =
@@ -24,9 +24,9 @@ loop-no-preserved c =
     let more : (m : Findings) → SearchFinds s (IsByRule s r) c.loop-no.findings m → SearchFinds s (IsByNumbers after own from (n + 1)) c.args.findings.now m =
     λ m. search_more s (IsByNumbers after own from n) (IsByRule s r) (IsByNumbers after own from (n + 1)) c.args.findings.now c.loop-no.findings m
     (one_number after own from n (grant_of c.grant.result) c.loop-no.auto.no c.grant.ensures.grant) c.loop-no.invariant in
-    elim c.if-stands_at.branch [
-      | then-stands_at w ↦ rw w.findings-is (more c.loop-no.findings (search_standing s r c.loop-no.findings (w.if-stands_at.ensures.stands refl)))
-      | else-stands_at+in_ok-add_of_rule w ↦ rw w.findings-is (more w.add_of_rule.new.findings w.in_ok-add_of_rule.ensures)
+    elim c.match-branch-2.branch [
+      | in-Some w ↦ rw w.findings-is (more c.loop-no.findings (search_covered s r c.loop-no.findings (rw w.in-Some.is at c.in_ok-at.ensures.covers)))
+      | in-None+in_ok-add_of_rule-in-None w ↦ rw w.findings-is (more w.add_of_rule.new.findings w.in_ok-add_of_rule-in-None.ensures)
     ]
 
 pub returns : goal.returns

@@ -1,0 +1,85 @@
+-- When a rule covers another: it allows everything that the other one does. What has to be asked to
+-- decide that is finite: the other's samples.
+use Rattle.std.specs.Prelude.{◌≡◌, ◌≢◌, ◌<◌, ◌⊎◌, List, [], All, Any, Contains, length}
+use Rattle.rbac_terms.specs.declared.matching.Rule.{Rule}
+use Rattle.rbac_terms.specs.Text.{Text}
+use Rattle.rbac_model.specs.Universes.{Covers}
+use Rattle.rbac_model.specs.OwnWords.{IsUrlSample, AllowsUrlWord, GivesPath}
+use Rattle.rbac_terms.specs.Targets.{What, Resource, Url, IsPath, IsResourceText}
+use Rattle.rbac_terms.specs.Matching.{WordMatches, ResourceWordMatches, NameMatches}
+use Rattle.rbac_terms.specs.Matching.{VerbOk, RuleAllows}
+
+-- a allows whatever b allows
+unfoldable pub CoversAll : Rule → Rule → Type 0
+CoversAll a b = Covers a b
+
+-- longer than each of the names
+abbrev pub IsLongerThanAll : Text → List Text → Type 0
+IsLongerThanAll n names = All (λ m. length m < length n) names
+
+-- a name of b or, if b has none, a name longer than all of a's
+abbrev pub IsNameSample : List Text → List Text → Text → Type 0
+IsNameSample mine theirs n = Contains theirs n ⊎ ((theirs ≡ []) × IsLongerThanAll n mine)
+
+-- a sample of two rules: a verb word of b, and a proper target made of b's own words taken as texts
+-- (own)
+abbrev pub IsSample : Rule → Rule → Text → What → Type 0
+IsSample a b v (Resource group text name) =
+    Contains b.verbs v × Contains b.groups group × Contains b.resources text
+    × IsNameSample a.resource_names b.resource_names name × IsResourceText text
+IsSample a b v (Url path) = Contains b.verbs v × Any (λ w. IsUrlSample w path) b.urls × IsPath path
+
+-- a allows each sample
+abbrev pub AllowsSamples : Rule → Rule → Type 0
+AllowsSamples a b = (v : Text) (t : What) → IsSample a b v t → RuleAllows a v t
+
+-- ---- covering, list by list
+
+-- a allows this word of b, taken as a text; a resource word has to be allowed only if it is a
+-- resource text, a URL word only if its sample is a path
+unfoldable pub AllowsVerb : Rule → Text → Type 0
+AllowsVerb a v = VerbOk a v
+
+unfoldable pub AllowsGroup : Rule → Text → Type 0
+AllowsGroup a g = Any (λ w. WordMatches w g) a.groups
+
+unfoldable pub AllowsResource : Rule → Text → Type 0
+AllowsResource a s = IsResourceText s → Any (λ w. ResourceWordMatches w s) a.resources
+
+unfoldable pub AllowsName : Rule → Text → Type 0
+AllowsName a n = NameMatches a.resource_names n
+
+unfoldable pub AllowsUrl : Rule → Text → Type 0
+AllowsUrl a w = GivesPath w → AllowsUrlWord a w
+
+-- a allows each of these words of b; if b has no names, a has none
+unfoldable pub AllowsVerbs : Rule → Rule → Type 0
+AllowsVerbs a b = All (AllowsVerb a) b.verbs
+
+unfoldable pub AllowsGroups : Rule → Rule → Type 0
+AllowsGroups a b = All (AllowsGroup a) b.groups
+
+unfoldable pub AllowsResources : Rule → Rule → Type 0
+AllowsResources a b = All (AllowsResource a) b.resources
+
+unfoldable pub AllowsNames : Rule → Rule → Type 0
+AllowsNames a b = (b.resource_names ≡ [] → a.resource_names ≡ [])
+    × All (AllowsName a) b.resource_names
+
+unfoldable pub AllowsUrls : Rule → Rule → Type 0
+AllowsUrls a b = All (AllowsUrl a) b.urls
+
+-- b has samples that are resources, or URLs
+unfoldable pub HasResource : Rule → Type 0
+HasResource b = (b.verbs ≢ []) × (b.groups ≢ []) × Any IsResourceText b.resources
+
+unfoldable pub HasUrl : Rule → Type 0
+HasUrl b = (b.verbs ≢ []) × Any GivesPath b.urls
+
+-- a allows these samples, list by list, if b has any
+abbrev pub CoversResources : Rule → Rule → Type 0
+CoversResources a b = HasResource b
+    → AllowsResources a b × AllowsVerbs a b × AllowsGroups a b × AllowsNames a b
+
+abbrev pub CoversUrls : Rule → Rule → Type 0
+CoversUrls a b = HasUrl b → AllowsVerbs a b × AllowsUrls a b

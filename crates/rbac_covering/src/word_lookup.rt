@@ -1,0 +1,74 @@
+//! Lists of words in which one is looked up.
+
+ghost use Rattle.std.specs.Prelude.{◌≡◌, ◌↔◌, Any, Contains, IfOk, IfSome, IsTrue};
+ghost use Rattle.rbac_terms.specs.Matching.{WordMatches};
+ghost use Rattle.rbac_terms.specs.Sorted.{AreInOrder};
+
+use rbac_terms::{Word, Words, is_among, sorted_copy};
+use std::alloc::AllocError;
+use std::marker::Model;
+
+// How many words are put in order: fewer are sooner read one by one.
+const MANY: usize = 16;
+
+// The word that stands for every verb, API group or resource.
+const STAR: &[u8] = b"*";
+
+// The words of a list; where they are many, in byte order too, so that one is found by halving.
+#[derive(Drop)]
+pub(crate) struct WordLookup<'a> {
+    words: &'a Words,
+    ordered: Option<Vec<Word>>,
+    has_star: bool,
+}
+
+impl<'a> Model for WordLookup<'a> {
+    ghost use Rattle.std.specs.Prelude.{◌↔◌, IfSome, IsTrue, Contains, codes, ℕ, List};
+    ghost use Rattle.rbac_terms.specs.Sorted.{AreInOrder};
+
+    ghost Value = { List (List ℕ) };
+
+    ghost view = { λ w. w.words.now };
+
+    ghost invariant = { λ w. IfSome w.ordered (λ o. AreInOrder w.words.now o.items)
+        × (IsTrue w.has_star ↔ Contains w.words.now (codes "*")) };
+}
+
+impl<'a> WordLookup<'a> {
+    pub(crate) fn new(words: &'a Words) -> Result<Self, AllocError>
+        ensures { IfOk result (λ w. w ≡ words.now) }
+    {
+        Ok(WordLookup {
+            words,
+            ordered: ordered_if_many(words)?,
+            has_star: words.contains_bytes(STAR),
+        })
+    }
+
+    // Whether the list has this word.
+    pub(crate) fn contains(&self, word: &Word) -> bool
+        ensures { IsTrue result ↔ Contains self.now word.now }
+    {
+        match &self.ordered {
+            Some(ordered) => is_among(ordered.as_slice(), word.as_bytes()),
+            None => self.words.contains(word),
+        }
+    }
+
+    // Whether a word of the list is a star or this word.
+    pub(crate) fn matches(&self, word: &Word) -> bool
+        ensures { IsTrue result ↔ Any (λ w. WordMatches w word.now) self.now }
+    {
+        self.has_star || self.contains(word)
+    }
+}
+
+// The words in byte order; `None` where they are few.
+fn ordered_if_many(words: &Words) -> Result<Option<Vec<Word>>, AllocError>
+    ensures { IfOk result (λ o. IfSome o (λ v. AreInOrder words.now v.items)) }
+{
+    if words.as_slice().len() < MANY {
+        return Ok(None);
+    }
+    Ok(Some(sorted_copy(words)?))
+}

@@ -1,0 +1,153 @@
+//! Roles whose rules the other policy's role of the same name covers.
+
+ghost use Rattle.std.specs.Prelude.{◌≡◌, IsTrue, IfOk, List, Some, [], slice_get};
+ghost use Rattle.rbac_terms.specs.declared.matching.Rule.{Rule};
+ghost use Rattle.rbac_diff.specs.CoveredRoles.{AreCoveredAt, AreCoveredRoles, CoversEach};
+ghost use Rattle.rbac_diff.specs.CoveredRoles.{HasPair, IsCoveredAt};
+
+use crate::covering::covers_rule;
+use crate::named::place_from;
+use rbac_model::{GrantPlace, Named, Policy, RolePlace};
+use rbac_terms::{ClusterRole, Role, Rule};
+use std::alloc::{AllocError, Global};
+
+// For each role of a policy, and for each cluster role, the place of the other policy's of the same
+// name, if that one's rules cover this one's, one by one. Most roles stay, and most are referred to
+// by several bindings.
+#[derive(Drop)]
+pub(crate) struct CoveredRoles {
+    pub(crate) roles: Vec<Option<usize>>,
+    pub(crate) cluster_roles: Vec<Option<usize>>,
+}
+
+impl CoveredRoles {
+    pub(crate) fn between(alloc: Global, own: &Policy, other: &Policy) -> Result<Self, AllocError>
+        ensures { IfOk result (λ covered. AreCoveredRoles own.now.held covered other.now.held) }
+    {
+        let held = own.objects();
+        let others = other.objects();
+        Ok(CoveredRoles {
+            roles: covered_places(alloc, held.roles(), others.roles())?,
+            cluster_roles: covered_places(alloc, held.cluster_roles(), others.cluster_roles())?,
+        })
+    }
+
+    // No role is known to be covered.
+    pub(crate) fn none(alloc: Global) -> Self
+        ensures roles { result.roles.items ≡ [] }
+        ensures cluster_roles { result.cluster_roles.items ≡ [] }
+    {
+        CoveredRoles {
+            roles: Vec::new(alloc),
+            cluster_roles: Vec::new(alloc),
+        }
+    }
+
+    // Whether the rule of a grant at the first places is covered by that of one of the other policy
+    // at the second ones, since their role is.
+    pub(crate) fn have_rule(&self, own: GrantPlace, other: GrantPlace) -> bool
+        ensures rule { IsTrue result → own.rule ≡ other.rule }
+        ensures role { IsTrue result → HasPair self.now own.role other.role }
+    {
+        own.rule == other.rule && self.have_role(own.role, other.role)
+    }
+
+    fn have_role(&self, own: RolePlace, other: RolePlace) -> bool
+        ensures { IsTrue result → HasPair self.now own other }
+    {
+        match (own, other) {
+            (RolePlace::RoleAt(own), RolePlace::RoleAt(other)) => {
+                is_at(self.roles.as_slice(), own, other)
+            }
+            (RolePlace::ClusterRoleAt(own), RolePlace::ClusterRoleAt(other)) => {
+                is_at(self.cluster_roles.as_slice(), own, other)
+            }
+            _ => false,
+        }
+    }
+}
+
+// Whether the list has that place for the role at this one.
+fn is_at(places: &[Option<usize>], own: usize, other: usize) -> bool
+    ensures { IsTrue result → slice_get places.now own ≡ Some (Some other) }
+{
+    match places.get(own) {
+        Some(Some(place)) => *place == other,
+        _ => false,
+    }
+}
+
+// A role or a cluster role.
+trait Ruled: Named {
+    ghost rules: { Self → List Rule };
+
+    fn rules(&self) -> &[Rule]
+        ensures { result.now ≡ rules self.now };
+}
+
+impl Ruled for Role {
+    ghost rules = { λ r. r.rules };
+
+    fn rules(&self) -> &[Rule] {
+        self.rules.as_slice()
+    }
+}
+
+impl Ruled for ClusterRole {
+    ghost rules = { λ r. r.rules };
+
+    fn rules(&self) -> &[Rule] {
+        self.rules.as_slice()
+    }
+}
+
+// For each of these roles, the place of the other of its name whose rules cover its own.
+fn covered_places<T: Ruled>(
+    alloc: Global,
+    roles: &[T],
+    others: &[T],
+) -> Result<Vec<Option<usize>>, AllocError>
+    ensures { IfOk result (λ places. AreCoveredAt T.rules roles.now places.items others.now) }
+{
+    let mut places = Vec::new(alloc);
+    let mut at = 0;
+    for role in roles {
+        at = place_from(others, at, role);
+        let place = if is_covered_at(role, others, at)? {
+            Some(at)
+        } else {
+            None
+        };
+        places.push(place)?;
+    }
+    Ok(places)
+}
+
+// Whether the role at that place has the same name, and rules that cover this one's.
+fn is_covered_at<T: Ruled>(role: &T, others: &[T], at: usize) -> Result<bool, AllocError>
+    ensures { IfOk result
+        (λ is. IsTrue is → IsCoveredAt T.rules role.now others.now at) }
+{
+    let Some(other) = others.get(at) else {
+        return Ok(false);
+    };
+    if other.cmp_name(role).is_ne() {
+        return Ok(false);
+    }
+    cover_each(other.rules(), role.rules())
+}
+
+// Whether there are as many rules as others, and each covers the other at its place.
+fn cover_each(rules: &[Rule], others: &[Rule]) -> Result<bool, AllocError>
+    ensures { IfOk result (λ cover. IsTrue cover → CoversEach rules.now others.now) }
+{
+    if rules.len() != others.len() {
+        return Ok(false);
+    }
+    for (at, rule) in rules.iter().enumerate() {
+        if !covers_rule(rule, &others[at])? {
+            return Ok(false);
+        }
+    }
+    Ok(true)
+}
