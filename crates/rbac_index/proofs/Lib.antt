@@ -16,6 +16,7 @@ pub mod LivingLemmas
 pub mod TakingLemmas
 pub mod MergeLemmas
 pub mod NameLemmas
+pub mod NamespaceLemmas
 pub mod NextRunLemmas
 pub mod OneHolders
 pub mod RankLemmas

@@ -74,6 +74,17 @@ module _ (xs : List Binding) (up : IsAscendingBy binding_name xs) where
     pub parted_upto : IsPartitionedBy (λ (b : Binding). is_le (namespace_cmp b.namespace asked)) xs
     parted_upto i j d le lt e = le_back (namespace_cmp (get_or xs i d).namespace asked) (namespace_cmp (get_or xs j d).namespace asked) (rises i j d le lt) e
 
+  -- a binding of a lesser namespace comes before
+  pub earlier_namespace : (i j : ℕ) (b c : Binding) (x y : Text) → slice_get xs i ≡ Some b → slice_get xs j ≡ Some c → b.namespace ≡ Some x → c.namespace ≡ Some y → text_cmp x y ≡ Less → i < j
+  earlier_namespace i j b c x y mine theirs first second less = elim (cases_lt i j) [
+    | inl lt ↦ lt
+    | inr ge ↦
+        let rise = rises y j i b ge (slice_get_within xs i b mine) in
+        let low : ordering_index (namespace_cmp (get_or xs i b).namespace y) ≡ 0 = ap (λ (a : Binding). ordering_index (namespace_cmp a.namespace y)) (get_or_from_slice_get xs i b b mine) ∙ ap (λ (o : Option Text). ordering_index (namespace_cmp o y)) first ∙ ap ordering_index less in
+        let tied : ordering_index (namespace_cmp (get_or xs j b).namespace y) ≡ 1 = ap (λ (a : Binding). ordering_index (namespace_cmp a.namespace y)) (get_or_from_slice_get xs j c b theirs) ∙ ap (λ (o : Option Text). ordering_index (namespace_cmp o y)) second ∙ ap ordering_index (tied_itself nat_list_cmp_total y) in
+        absurd (omega (arith, rise, low, tied))
+  ]
+
 -- on which side of a point a binding stands
 module _ (xs : List Binding) (p : Binding → Bool) (point : ℕ) (parted : IsPartitionPoint (λ b. p b ≡ true) (λ b. p b ≡ false) xs point) (at : ℕ) (b : Binding) (there : slice_get xs at ≡ Some b) where
   before_point : at < point → p b ≡ true
@@ -93,6 +104,17 @@ cluster_first xs point parted at b there = (
   λ l. is_none_none b.namespace (before_point xs (λ c. is_none c.namespace) point parted at b there l),
   λ e. point_past xs (λ c. is_none c.namespace) point parted at b there (ap is_none e),
 )
+
+lt_less : (o : Ordering) → is_lt o ≡ true → o ≡ Less
+lt_less Less e = refl
+lt_less Equal e = cc
+lt_less Greater e = cc
+
+pub before_first : (xs : List Binding) (asked : Text) (first : ℕ) → IsPartitionPoint (λ (b : Binding). is_lt (namespace_cmp b.namespace asked) ≡ true) (λ (b : Binding). is_lt (namespace_cmp b.namespace asked) ≡ false) xs first
+    → (at : ℕ) (b : Binding) → slice_get xs at ≡ Some b → (at < first) ↔ (namespace_cmp b.namespace asked ≡ Less)
+before_first xs asked first before at b there =
+    let lt : Binding → Bool = λ c. is_lt (namespace_cmp c.namespace asked) in
+    (λ l. lt_less (namespace_cmp b.namespace asked) (before_point xs lt first before at b there l), λ e. point_past xs lt first before at b there (ap is_lt e))
 
 pub between_points : (xs : List Binding) (asked : Text) (first last : ℕ)
     → IsPartitionPoint (λ (b : Binding). is_lt (namespace_cmp b.namespace asked) ≡ true) (λ (b : Binding). is_lt (namespace_cmp b.namespace asked) ≡ false) xs first

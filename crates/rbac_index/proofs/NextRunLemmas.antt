@@ -18,12 +18,12 @@ use Rattle.rbac_index.proofs.HolderLaw.{naming_key, key_names}
 
 module _ (p : PolicyView) (ok : IsPolicy p) (xs : List Keyed) (are : AreKeyed p xs) (who : Who) where
   -- who asks is named by a binding exactly where one of its keys is listed with it
-  named_at : (key : Text) (place : ℕ) → IsKeyFor who key → Contains xs (keyed key place) → (b : Binding) × (slice_get p.held.bindings place ≡ Some b) × BindingNames b who
+  pub named_at : (key : Text) (place : ℕ) → IsKeyFor who key → Contains xs (keyed key place) → (b : Binding) × (slice_get p.held.bindings place ≡ Some b) × BindingNames b who
   named_at key place has c =
       let w = ((are.exact (keyed key place)).0 c).1 in
       (w.0, w.1, (w.2.0, w.2.1, w.2.2, w.2.3, key_names w.2.1 w.0.namespace who key w.2.4 has))
 
-  listed_at : (place : ℕ) (b : Binding) → slice_get p.held.bindings place ≡ Some b → HasGrants p place → BindingNames b who → (key : Text) × IsKeyFor who key × Contains xs (keyed key place)
+  pub listed_at : (place : ℕ) (b : Binding) → slice_get p.held.bindings place ≡ Some b → HasGrants p place → BindingNames b who → (key : Text) × IsKeyFor who key × Contains xs (keyed key place)
   listed_at place b there grants names =
       let k = naming_key names.1 b.namespace who names.4 in
       (k.0, k.2, (are.exact (keyed k.0 place)).1 (grants, (b, there, (names.0, names.1, names.2, names.3, k.1))))
@@ -32,22 +32,22 @@ module _ (p : PolicyView) (ok : IsPolicy p) (xs : List Keyed) (are : AreKeyed p 
     abbrev pub Found : ℕ → Type 0
     Found = IsLiveUnderAny xs live (IsKeyFor who)
 
-    names_of : (n at : ℕ) (of : IsOfBinding p n at) → Found at → BindingNames of.0.binding who
+    pub names_of : (n at : ℕ) (of : IsOfBinding p n at) → Found at → BindingNames of.0.binding who
     names_of n at of found =
         let w = named_at found.0 at found.1 found.2.0 in
         subst (λ (b : Binding). BindingNames b who) (same_Some w.0 of.0.binding (sym w.1 ∙ of.2)) w.2
 
-    pub any_named : (bound : length p.held.bindings ≤ live.cluster_wide) (o : Option ℕ) → AnswersNext Found 0 o → IsTrue (is_some o) ↔ ((n : ℕ) × IsNamedBy p who n)
-    any_named bound None none = (
+    pub any_named : (lives : (at : ℕ) → at < length p.held.bindings → IsLiveAt live at) (o : Option ℕ) → AnswersNext Found 0 o → IsTrue (is_some o) ↔ ((n : ℕ) × IsNamedBy p who n)
+    any_named lives None none = (
       λ f. cc,
       λ a.
           let of = of_some_binding p ok a.0 (slice_get_within p.grants a.0 a.1.0 a.1.1) in
           let same : a.1.0 ≡ of.1.0 = same_Some a.1.0 of.1.0 (sym a.1.1 ∙ of.1.1) in
           let names = subst (λ (g : GrantView). BindingNames g.binding who) same a.1.2 in
           let k = listed_at of.0 of.1.0.binding of.1.2 (a.0, of.1) names in
-          absurd (none of.0 (omega arith) (k.0, k.1, (k.2, inl (omega (arith, bound, slice_get_within p.held.bindings of.0 of.1.0.binding of.1.2))))),
+          absurd (none of.0 (omega arith) (k.0, k.1, (k.2, lives of.0 (slice_get_within p.held.bindings of.0 of.1.0.binding of.1.2)))),
     )
-    any_named bound (Some at) next = (
+    any_named lives (Some at) next = (
       λ t.
           let of = ((are.exact (keyed next.holds.0 at)).0 next.holds.2.0).0 in
           (of.0, (of.1.0, of.1.1, names_of of.0 at of.1 next.holds)),

@@ -1,7 +1,8 @@
 -- Which grants a principal has in a namespace, whatever their rules.
-use Rattle.std.specs.Prelude.{◌≡◌, ℕ, ◌<◌, ◌≤◌, ◌↔◌, Any, Bool, IsTrue, List, [], ◌∷◌, Some}
-use Rattle.std.specs.Prelude.{length, slice_get}
-use Rattle.rbac_terms.specs.Text.{Text}
+use Rattle.std.specs.Prelude.{◌≡◌, ◌≢◌, ℕ, ◌<◌, ◌≤◌, ◌↔◌, Any, Bool, IsTrue, List, [], ◌∷◌, Some}
+use Rattle.std.specs.Prelude.{Option, MatchOption, length, slice_get}
+use Rattle.std.specs.declared.cmp.Ordering.TheVariants.{Less}
+use Rattle.rbac_terms.specs.Text.{Text, text_cmp}
 use Rattle.rbac_terms.specs.Principals.{Who}
 use Rattle.rbac_model.specs.Policies.{Held, PolicyView, GrantView, BindingNames, IsOfBinding}
 use Rattle.rbac_model.specs.Universes.{LiveForSome}
@@ -16,6 +17,23 @@ IsNamedBy p who number = (g : GrantView) × (slice_get p.grants number ≡ Some 
 abbrev pub IsBoundTo : PolicyView → Who → Text → ℕ → Type 0
 IsBoundTo p who namespace number = (g : GrantView) × (slice_get p.grants number ≡ Some g)
     × BindingNames g.binding who × LiveForSome g.binding.namespace namespace
+
+-- a RoleBinding in that namespace that has grants names who asks
+abbrev pub IsNamedIn : PolicyView → Who → Text → Type 0
+IsNamedIn p who namespace = (number : ℕ) × (g : GrantView) × (slice_get p.grants number ≡ Some g)
+    × BindingNames g.binding who × (g.binding.namespace ≡ Some namespace)
+
+-- the least namespace, from that one on, where a RoleBinding names who asks
+pub record IsNextNamespace (p : PolicyView) (who : Who) (from found : Text) : Type 0 where
+  pub after : text_cmp found from ≢ Less
+  pub named : IsNamedIn p who found
+  pub none_before : (x : Text) → IsNamedIn p who x → text_cmp x found ≡ Less → text_cmp x from ≡ Less
+
+-- the least namespace, from that one on, where a RoleBinding names who asks, if there is one
+abbrev pub AnswersNextNamespace : PolicyView → Who → Text → Option Text → Type 0
+AnswersNextNamespace p who from o =
+    MatchOption o ((x : Text) → IsNamedIn p who x → text_cmp x from ≡ Less)
+    (IsNextNamespace p who from)
 
 -- a RoleBinding is in that namespace
 abbrev pub HasRoleBindings : Held → Text → Type 0

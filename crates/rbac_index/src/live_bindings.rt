@@ -1,6 +1,7 @@
 //! Where the live bindings are.
 
 ghost use Rattle.std.specs.Prelude.{◌≡◌, ◌<◌, ◌≤◌, ◌↔◌, ℕ, Some, None, IsTrue, length, slice_get};
+ghost use Rattle.std.specs.declared.cmp.Ordering.TheVariants.{Less};
 ghost use Rattle.rbac_terms.specs.declared.granting.Binding.{Binding};
 ghost use Rattle.rbac_model.specs.Lists.{IsAscendingBy};
 ghost use Rattle.rbac_model.specs.Policies.{binding_name};
@@ -32,6 +33,15 @@ pub(crate) fn of_namespace(bindings: &[Binding], namespace: &Word) -> (usize, us
         bindings.partition_point(|binding| cmp_namespace(binding, namespace).is_lt()),
         bindings.partition_point(|binding| cmp_namespace(binding, namespace).is_le()),
     )
+}
+
+// The place of the first RoleBinding of this namespace or a later one.
+pub(crate) fn first_from(bindings: &[Binding], namespace: &Word) -> usize
+    requires { IsAscendingBy binding_name bindings.now }
+    ensures { (at : ℕ) (b : Binding) → slice_get bindings.now at ≡ Some b
+        → (at < result) ↔ (namespace_cmp b.namespace namespace.now ≡ Less) }
+{
+    bindings.partition_point(|binding| cmp_namespace(binding, namespace).is_lt())
 }
 
 // How the binding's namespace compares to this one; a ClusterRoleBinding comes before every
@@ -84,6 +94,17 @@ impl Live {
         ensures { IsTrue result ↔ ((self.from ≤ place) × (place < self.to)) }
     {
         self.from <= place && place < self.to
+    }
+}
+
+// Where bindings are live, if each of them is.
+pub(crate) fn everywhere(bindings: &[Binding]) -> Live
+    ensures { (at : ℕ) → IsLiveAt result at ↔ (at < length bindings.now) }
+{
+    Live {
+        cluster_wide: bindings.len(),
+        from: 0,
+        to: 0,
     }
 }
 

@@ -1,16 +1,16 @@
 //! The bindings of a policy by whom they name.
 
 ghost use Rattle.std.specs.Prelude.{◌≡◌, ◌≤◌, ◌↔◌, ℕ, length, IsTrue, IfOk, MatchOption};
-ghost use Rattle.std.specs.Prelude.{true, false};
+ghost use Rattle.std.specs.Prelude.{option_copied, true, false};
 ghost use Rattle.rbac_model.specs.Policies.{IsPolicy};
 ghost use Rattle.rbac_index.specs.Bound.{AreRunsFrom, HasRoleBindings, IsBoundTo, IsNamedBy};
-ghost use Rattle.rbac_index.specs.Bound.{IsNextRun};
+ghost use Rattle.rbac_index.specs.Bound.{AnswersNextNamespace, IsNextRun};
 ghost use Rattle.rbac_index.specs.Least.{most_kept};
 
 use crate::fault::IndexFault;
 use crate::first_places::first_places;
 use crate::first_runs::{FirstRuns, runs_at};
-use crate::live_bindings::{Live, live_for_some, of_namespace};
+use crate::live_bindings::{everywhere, first_from, live_for_some, of_namespace};
 use crate::subject_keys::{Keyed, keyed_by, next_for};
 use rbac_model::Policy;
 use rbac_terms::{Principal, Word};
@@ -49,12 +49,25 @@ impl<'p> SubjectIndex<'p> {
     pub fn has_grants(&self, principal: &Principal) -> bool
         ensures { IsTrue result ↔ ((number : ℕ) × IsNamedBy self.now principal.now number) }
     {
-        let everywhere = Live {
-            cluster_wide: self.policy.bindings().len(),
-            from: 0,
-            to: 0,
+        let live = everywhere(self.policy.bindings());
+        next_for(self.named.as_slice(), principal, live, 0).is_some()
+    }
+
+    /// The least namespace, from this one on, where a RoleBinding that has grants names the
+    /// principal; `None` if there is none. Doesn't allocate.
+    pub fn next_namespace(&self, principal: &Principal, namespace: &Word) -> Option<&Word>
+        ensures { AnswersNextNamespace self.now principal.now namespace.now (option_copied result) }
+    {
+        let bindings = self.policy.bindings();
+        let from = first_from(bindings, namespace);
+        let live = everywhere(bindings);
+        let Some(place) = next_for(self.named.as_slice(), principal, live, from) else {
+            return None;
         };
-        next_for(self.named.as_slice(), principal, everywhere, 0).is_some()
+        let Some(binding) = bindings.get(place) else {
+            return None;
+        };
+        binding.namespace.as_ref()
     }
 
     /// Whether a RoleBinding is in this namespace. Doesn't allocate.

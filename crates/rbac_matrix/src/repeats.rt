@@ -152,8 +152,7 @@ impl Rows<'_, '_> {
             return;
         };
         empty_line(index, line, &self.kept.runs, self.seats);
-        let cluster = cluster_grants(index);
-        let next = past_repeated(index, universe, after(self.at), cluster);
+        let next = past_repeated(index, universe, after(self.at));
         let basis = Basis {
             index,
             universe,
