@@ -1,6 +1,6 @@
 -- While the permissions are looked for that a policy has and another one doesn't allow.
 use Rattle.std.specs.Prelude.{◌≡◌, ℕ, ◌<◌, ◌⊎◌, List, Option, Some, None, Any, IsSome, Contains}
-use Rattle.std.specs.Prelude.{slice_get}
+use Rattle.std.specs.Prelude.{map, slice_get}
 use Rattle.std.specs.BTreeMap.{BTreeMap, get}
 use Rattle.std.specs.Option.{option_copied}
 use Rattle.std.proofs.Common.{Bor}
@@ -32,6 +32,10 @@ pub record Finds (P : PermissionView → Type 0) (x : Found) (old new : Findings
 pub record IsMissing (rules : List (Bor Rule)) (p : PermissionView) : Type 0 where
   pub asked : IsAskedFor p.target
   pub missing : ¬ Any (λ r. CoversWords p.verb p.target r.now) rules
+
+-- the rules of a search stand in it with their words in order, too
+abbrev pub IsOrdered : Search → Type 0
+IsOrdered s = s.ordered.now ≡ map (λ r. r.now) s.others.now
 
 -- a search finds its principal's permissions with the property, if the others' rules lack them
 abbrev pub SearchFinds : Search → (PermissionView → Type 0) → Findings → Findings → Type 0

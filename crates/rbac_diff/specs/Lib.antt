@@ -6,6 +6,7 @@ pub mod Lines
 pub mod Listed
 pub mod Permissions
 pub mod Requests
+pub mod Sharing
 pub mod Shown
 pub mod StandIns
 pub mod Texts

@@ -12,7 +12,7 @@ ghost use Rattle.rbac_diff.specs.Shown.{permitted_of};
 use crate::permission::Permitted;
 use crate::unchanged::same_rule;
 use rbac_covering::{OrderedRule, covers as covers_all};
-use rbac_model::{allows_url_word, gives_path};
+use rbac_model::gives_path;
 use rbac_terms::{
     Rule, Word, Words, group_matches, is_resource_text, name_matches, resource_matches,
     verb_matches,
@@ -45,20 +45,20 @@ fn is_empty_namespace(namespace: Option<&Word>) -> bool
 }
 
 // Whether one of the rules allows the verb word on what is permitted.
-pub(crate) fn is_covered(rules: &[&Rule], verb: &Word, target: Permitted<'_>) -> bool
+pub(crate) fn is_covered(rules: &[OrderedRule<'_>], verb: &Word, target: Permitted<'_>) -> bool
     ensures { IsTrue result
-        ↔ Any (λ r. CoversWords verb.now (permitted_of target.entry) r.now) rules.now }
+        ↔ Any (λ r. CoversWords verb.now (permitted_of target.entry) r) rules.now }
 {
     rules.iter().any(|rule| covers(rule, verb, target))
 }
 
-fn covers(rule: &Rule, verb: &Word, target: Permitted<'_>) -> bool
+fn covers(rule: &OrderedRule<'_>, verb: &Word, target: Permitted<'_>) -> bool
     ensures { IsTrue result ↔ CoversWords verb.now (permitted_of target.entry) rule.now }
 {
-    covers_target(rule, target) && verb_matches(rule, verb)
+    covers_target(rule, target) && rule.verb_matches(verb)
 }
 
-fn covers_target(rule: &Rule, target: Permitted<'_>) -> bool
+fn covers_target(rule: &OrderedRule<'_>, target: Permitted<'_>) -> bool
     ensures { IsTrue result ↔ CoversTarget rule.now (permitted_of target.entry) }
 {
     match target {
@@ -67,34 +67,34 @@ fn covers_target(rule: &Rule, target: Permitted<'_>) -> bool
             group,
             resource,
             name,
-        } => covers_object(rule, resource, name) && group_matches(rule, group),
+        } => covers_object(rule, resource, name) && rule.group_matches(group),
         Permitted::Url(word) => covers_url(rule, word),
     }
 }
 
 // Whether the rule allows this resource word, taken as a text, for objects of that name, or of any.
-fn covers_object(rule: &Rule, resource: &Word, name: Option<&Word>) -> bool
+fn covers_object(rule: &OrderedRule<'_>, resource: &Word, name: Option<&Word>) -> bool
     ensures { IsTrue result
         ↔ (Any (λ w. ResourceWordMatches w resource.now) rule.now.resources
         × CoversName rule.now.resource_names (option_copied name.entry)) }
 {
-    resource_matches(rule, resource) && covers_name(rule, name)
+    rule.resource_matches(resource) && covers_name(rule, name)
 }
 
-fn covers_name(rule: &Rule, name: Option<&Word>) -> bool
+fn covers_name(rule: &OrderedRule<'_>, name: Option<&Word>) -> bool
     ensures { IsTrue result ↔ CoversName rule.now.resource_names (option_copied name.entry) }
 {
     match name {
-        Some(name) => name_matches(rule, name),
-        None => rule.resource_names.is_empty(),
+        Some(name) => rule.name_matches(name),
+        None => rule.rule().resource_names.is_empty(),
     }
 }
 
 // Whether the rule allows this URL word, taken as a text.
-fn covers_url(rule: &Rule, word: &Word) -> bool
+fn covers_url(rule: &OrderedRule<'_>, word: &Word) -> bool
     ensures { IsTrue result ↔ CoversTarget rule.now (OnUrl (one_star word.now)) }
 {
-    allows_url_word(rule, word)
+    rule.allows_url_word(word)
 }
 
 // Whether the URL word, taken as a text, is a path.

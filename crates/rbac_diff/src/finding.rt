@@ -1,11 +1,13 @@
 //! The permissions that one policy has and another one doesn't allow.
 
-ghost use Rattle.std.specs.Prelude.{◌≡◌, ◌<◌, [], OnOk, Some, Any, length, slice_get};
+ghost use Rattle.std.specs.Prelude.{◌≡◌, ◌<◌, ◌↔◌, [], IfOk, IsTrue, OnOk, Some, Any, length};
+ghost use Rattle.std.specs.Prelude.{map, slice_get};
 ghost use Rattle.rbac_terms.specs.Principals.{given_of};
 ghost use Rattle.std.specs.Option.{option_copied};
+ghost use Rattle.rbac_diff.specs.Covering.{CoversWords};
 ghost use Rattle.rbac_diff.specs.Finding.{Finds, FindsGained, IsByGrants, IsByRule, IsGainedAt};
 ghost use Rattle.rbac_diff.specs.Finding.{IsOnResource, IsOnTarget, IsOnUrl, IsUncovered};
-ghost use Rattle.rbac_diff.specs.Finding.{SearchFinds};
+ghost use Rattle.rbac_diff.specs.Finding.{IsOrdered, SearchFinds};
 ghost use Rattle.rbac_diff.specs.Shown.{permitted_of};
 ghost use Rattle.rbac_diff.specs.Unchanged.{AreFlags};
 
@@ -13,8 +15,10 @@ use crate::change::{ChangeKind, Findings, Found};
 use crate::covering::{is_asked_for, is_covered};
 use crate::fault::DiffFault;
 use crate::permission::{Permission, Permitted, permission_text};
+use crate::sharing::sharing;
 use crate::stand_ins::Asked;
 use crate::standing::covering_place;
+use rbac_covering::OrderedRule;
 use rbac_model::Policy;
 use rbac_terms::{Binding, Principal, Rule, Word, subject_principal};
 use std::alloc::{AllocError, Global};
@@ -117,6 +121,7 @@ fn add_of_principal<'p>(
         namespace,
         principal,
         others: others.as_slice(),
+        ordered: &[],
     };
     Ok(add_of_grants(alloc, &search, after, place, findings)?)
 }
@@ -130,6 +135,8 @@ struct Search<'a, 'p> {
     namespace: Option<&'a Word>,
     principal: &'a Principal,
     others: &'a [&'a Rule],
+    // The same rules with their words in order, where a permission is asked for.
+    ordered: &'a [OrderedRule<'a>],
 }
 
 // How many rules of the other policy are looked at behind the last one that was found.
@@ -164,13 +171,47 @@ fn add_of_grants<'a, 'p>(
     Ok(())
 }
 
-// Adds the permissions by one rule.
+// Adds the permissions by one rule. Only rules that share words with it are asked.
 fn add_of_rule<'a, 'p>(
     alloc: Global,
     search: &'a Search<'a, 'p>,
     rule: &'a Rule,
     findings: &mut Findings<'p>,
 ) -> Result<(), AllocError>
+    ensures { OnOk result
+        (SearchFinds search.now (IsByRule search.now rule.now) findings.old findings.new) }
+{
+    let near = sharing(alloc, search.others, rule)?;
+    let ordered = in_order(alloc, near.as_slice())?;
+    let narrow = Search {
+        found: search.found,
+        namespace: search.namespace,
+        principal: search.principal,
+        others: near.as_slice(),
+        ordered: ordered.as_slice(),
+    };
+    add_of_verbs(alloc, &narrow, rule, findings)
+}
+
+// These rules with their words in order.
+fn in_order<'a>(alloc: Global, rules: &[&'a Rule]) -> Result<Vec<OrderedRule<'a>>, AllocError>
+    ensures { IfOk result (λ ordered. ordered.items ≡ map (λ r. r.now) rules.now) }
+{
+    let mut ordered = Vec::new(alloc);
+    for rule in rules {
+        ordered.push(OrderedRule::new(*rule)?)?;
+    }
+    Ok(ordered)
+}
+
+// Adds the permissions of each verb word of a rule.
+fn add_of_verbs<'a, 'p>(
+    alloc: Global,
+    search: &'a Search<'a, 'p>,
+    rule: &'a Rule,
+    findings: &mut Findings<'p>,
+) -> Result<(), AllocError>
+    requires { IsOrdered search.now }
     ensures { OnOk result
         (SearchFinds search.now (IsByRule search.now rule.now) findings.old findings.new) }
 {
@@ -188,6 +229,7 @@ fn add_of_verb<'a, 'p>(
     verb: &Word,
     findings: &mut Findings<'p>,
 ) -> Result<(), AllocError>
+    requires { IsOrdered search.now }
     ensures { OnOk result
         (SearchFinds search.now (IsOnTarget search.now rule.now verb.now) findings.old
         findings.new) }
@@ -210,6 +252,7 @@ fn add_of_group<'a, 'p>(
     group: &'a Word,
     findings: &mut Findings<'p>,
 ) -> Result<(), AllocError>
+    requires { IsOrdered search.now }
     ensures { OnOk result
         (SearchFinds search.now
         (λ p. Any (λ resource. IsOnResource search.now rule.now verb.now group.now resource p)
@@ -232,6 +275,7 @@ fn add_of_resource<'a, 'p>(
     resource: &'a Word,
     findings: &mut Findings<'p>,
 ) -> Result<(), AllocError>
+    requires { IsOrdered search.now }
     ensures { OnOk result
         (SearchFinds search.now
         (IsOnResource search.now rule.now verb.now group.now resource.now) findings.old
@@ -267,6 +311,7 @@ fn add_urls<'a, 'p>(
     verb: &Word,
     findings: &mut Findings<'p>,
 ) -> Result<(), AllocError>
+    requires { IsOrdered search.now }
     ensures { OnOk result
         (SearchFinds search.now (λ p. Any (λ w. IsOnUrl verb.now w p) rule.now.urls) findings.old
         findings.new) }
@@ -286,12 +331,13 @@ fn add<'p>(
     target: Permitted<'_>,
     findings: &mut Findings<'p>,
 ) -> Result<(), AllocError>
+    requires { IsOrdered search.now }
     ensures { OnOk result
         (SearchFinds search.now
         (λ p. (p.verb ≡ verb.now) × (p.target ≡ permitted_of target.entry)) findings.old
         findings.new) }
 {
-    if !is_asked_for(target) || is_covered(search.others, verb, target) {
+    if !is_asked_for(target) || has_covered(search, verb, target) {
         return Ok(());
     }
     let permission = Permission {
@@ -304,4 +350,13 @@ fn add<'p>(
         findings.insert(text, search.found)?;
     }
     Ok(())
+}
+
+// Whether one of the other rules allows the verb word on what is permitted.
+fn has_covered(search: &Search<'_, '_>, verb: &Word, target: Permitted<'_>) -> bool
+    requires { IsOrdered search.now }
+    ensures { IsTrue result
+        ↔ Any (λ r. CoversWords verb.now (permitted_of target.entry) r.now) search.now.others.now }
+{
+    is_covered(search.ordered, verb, target)
 }

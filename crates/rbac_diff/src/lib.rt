@@ -13,6 +13,7 @@ mod laws;
 mod line;
 mod named;
 mod permission;
+mod sharing;
 mod stand_ins;
 mod standing;
 mod subjects;

@@ -13,7 +13,7 @@ returns-in_ok-insert c =
     let q : PermissionView = record { principal = s.principal.now; verb = c.args.verb.now; target = permitted_of c.args.target } in
     let missing : IsMissing s.others.now q = record {
       asked = c.if-not-is_asked_for.ensures.0 refl;
-      missing = λ h. absurd (let both : false ≡ true = c.if-is_covered.ensures.1 h in cc);
+      missing = λ h. absurd (let both : false ≡ true = c.if-has_covered.ensures.1 h in cc);
     } in
     let P : PermissionView → Type 0 = λ p. (p.principal ≡ s.principal.now) × ((p.verb ≡ c.args.verb.now) × (p.target ≡ permitted_of c.args.target)) × IsMissing s.others.now p in
     finds_same (λ p. p ≡ q) P s.found c.args.findings.now c.insert.new.self (exactly_one s.others.now q missing)

@@ -1,20 +1,15 @@
-use Rattle.std.proofs.Common.{arith, Any}
-use Rattle.rbac_diff.specs.Finding.{IsOnTarget, IsByRule}
-use Rattle.rbac_diff.proofs.Levels.{each_verb}
-use Rattle.rbac_diff.proofs.Searching.{loop_start, loop_next, loop_all, search_same}
+use Rattle.std.proofs.Common.{List, Bor, refl, subst, sym}
+use Rattle.rbac_terms.specs.declared.matching.Rule.{Rule}
+use Rattle.rbac_terms.proofs.Cases.{on_ok}
+use Rattle.rbac_diff.specs.Sharing.{AreSharing}
+use Rattle.rbac_diff.specs.declared.finding.Search.{Search}
+use Rattle.rbac_diff.proofs.SharingRules.{narrowed}
 use Rattle.rbac_diff.proofs.finding.add_of_rule.Goals as goal
-
-pub loop-verb-init : goal.loop-verb-init
-loop-verb-init c = loop_start c.args.search.now (λ v p. IsOnTarget c.args.search.now c.args.rule.now v p) c.as_slice-verb-items.result.now c.args.findings.now
-
-pub loop-verb-preserved : goal.loop-verb-preserved
-loop-verb-preserved c =
-    loop_next c.args.search.now (λ v p. IsOnTarget c.args.search.now c.args.rule.now v p) c.as_slice-verb-items.result.now c.loop-verb.verb-index c.verb-item.result
-    c.args.findings.now c.loop-verb.findings c.add_of_verb.new.findings c.loop-verb-test.true c.verb-item.is c.loop-verb.invariant c.in_ok-add_of_verb.ensures
 
 pub returns : goal.returns
 returns c =
     let s = c.args.search.now in
-    let all = rw c.as_slice-verb-items.ensures at
-    (loop_all s (λ v p. IsOnTarget s c.args.rule.now v p) c.as_slice-verb-items.result.now c.loop-verb.verb-index c.args.findings.now c.loop-verb.findings (omega arith) c.loop-verb.invariant) in
-    search_same s (λ p. Any (λ v. IsOnTarget s c.args.rule.now v p) c.args.rule.now.verbs) (IsByRule s c.args.rule.now) c.args.findings.now c.loop-verb.findings (each_verb s c.args.rule.now) all
+    let r = c.args.rule.now in
+    let n : Search = record { found = s.found; namespace = s.namespace; principal = s.principal; others = c.as_slice-2.result; ordered = c.as_slice-3.result } in
+    let are = subst (λ (rs : List (Bor Rule)). AreSharing s.others.now r rs) (sym c.as_slice-2.ensures.value) c.in_ok-near.ensures in
+    on_ok c.add_of_verbs.result (narrowed s n r c.args.findings.now c.add_of_verbs.new.findings refl refl refl are) c.add_of_verbs.ensures

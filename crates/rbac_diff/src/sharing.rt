@@ -1,0 +1,100 @@
+//! Rules of the other policy that share words with a rule: no other one covers a permission of it.
+
+ghost use Rattle.std.specs.Prelude.{◌↔◌, Any, IfOk, IsTrue};
+ghost use Rattle.rbac_diff.specs.Sharing.{AreSharing, HasGroup, HasResource, HasUrl, HasVerb};
+ghost use Rattle.rbac_diff.specs.Sharing.{SharesResource, SharesWords};
+
+use rbac_model::allows_url_word;
+use rbac_terms::{Rule, Word, group_matches, resource_matches, verb_matches};
+use std::alloc::{AllocError, Global};
+
+// Those of these rules that share words with the rule.
+pub(crate) fn sharing<'a>(
+    alloc: Global,
+    rules: &[&'a Rule],
+    rule: &Rule,
+) -> Result<Vec<&'a Rule>, AllocError>
+    ensures { IfOk result (λ near. AreSharing rules.now rule.now near.items) }
+{
+    let mut near = Vec::new(alloc);
+    for held in rules {
+        if shares_words(held, rule) {
+            near.push(*held)?;
+        }
+    }
+    Ok(near)
+}
+
+// Whether the held rule allows a verb of the other, and a resource or a URL of it.
+fn shares_words(held: &Rule, rule: &Rule) -> bool
+    ensures { IsTrue result ↔ SharesWords held.now rule.now }
+{
+    shares_verb(held, rule) && (shares_resource(held, rule) || shares_url(held, rule))
+}
+
+fn shares_verb(held: &Rule, rule: &Rule) -> bool
+    ensures { IsTrue result ↔ Any (HasVerb held.now) rule.now.verbs }
+{
+    rule.verbs
+        .as_slice()
+        .iter()
+        .any(|verb| has_verb(held, verb))
+}
+
+#[tactic(auto, unfolding(crate::specs::Sharing::HasVerb))]
+fn has_verb(held: &Rule, verb: &Word) -> bool
+    ensures { IsTrue result ↔ HasVerb held.now verb.now }
+{
+    verb_matches(held, verb)
+}
+
+fn shares_resource(held: &Rule, rule: &Rule) -> bool
+    ensures { IsTrue result ↔ SharesResource held.now rule.now }
+{
+    shares_text(held, rule) && shares_group(held, rule)
+}
+
+fn shares_text(held: &Rule, rule: &Rule) -> bool
+    ensures { IsTrue result ↔ Any (HasResource held.now) rule.now.resources }
+{
+    rule.resources
+        .as_slice()
+        .iter()
+        .any(|text| has_resource(held, text))
+}
+
+#[tactic(auto, unfolding(crate::specs::Sharing::HasResource))]
+fn has_resource(held: &Rule, text: &Word) -> bool
+    ensures { IsTrue result ↔ HasResource held.now text.now }
+{
+    resource_matches(held, text)
+}
+
+fn shares_group(held: &Rule, rule: &Rule) -> bool
+    ensures { IsTrue result ↔ Any (HasGroup held.now) rule.now.groups }
+{
+    rule.groups
+        .as_slice()
+        .iter()
+        .any(|group| has_group(held, group))
+}
+
+#[tactic(auto, unfolding(crate::specs::Sharing::HasGroup))]
+fn has_group(held: &Rule, group: &Word) -> bool
+    ensures { IsTrue result ↔ HasGroup held.now group.now }
+{
+    group_matches(held, group)
+}
+
+fn shares_url(held: &Rule, rule: &Rule) -> bool
+    ensures { IsTrue result ↔ Any (HasUrl held.now) rule.now.urls }
+{
+    rule.urls.as_slice().iter().any(|word| has_url(held, word))
+}
+
+#[tactic(auto, unfolding(crate::specs::Sharing::HasUrl))]
+fn has_url(held: &Rule, word: &Word) -> bool
+    ensures { IsTrue result ↔ HasUrl held.now word.now }
+{
+    allows_url_word(held, word)
+}
