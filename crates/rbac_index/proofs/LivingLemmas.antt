@@ -116,17 +116,23 @@ before_first xs asked first before at b there =
     let lt : Binding → Bool = λ c. is_lt (namespace_cmp c.namespace asked) in
     (λ l. lt_less (namespace_cmp b.namespace asked) (before_point xs lt first before at b there l), λ e. point_past xs lt first before at b there (ap is_lt e))
 
+not_less : (o : Ordering) → (o ≡ Less → ⊥) → is_lt o ≡ false
+not_less Less f = absurd (f refl)
+not_less Equal f = refl
+not_less Greater f = refl
+
 pub between_points : (xs : List Binding) (asked : Text) (first last : ℕ)
-    → IsPartitionPoint (λ (b : Binding). is_lt (namespace_cmp b.namespace asked) ≡ true) (λ (b : Binding). is_lt (namespace_cmp b.namespace asked) ≡ false) xs first
+    → ((at : ℕ) (b : Binding) → slice_get xs at ≡ Some b → (at < first) ↔ (namespace_cmp b.namespace asked ≡ Less))
     → IsPartitionPoint (λ (b : Binding). is_le (namespace_cmp b.namespace asked) ≡ true) (λ (b : Binding). is_le (namespace_cmp b.namespace asked) ≡ false) xs last
     → (at : ℕ) (b : Binding) → slice_get xs at ≡ Some b → ((first ≤ at) × (at < last)) ↔ (b.namespace ≡ Some asked)
 between_points xs asked first last before upto at b there =
-    let lt : Binding → Bool = λ c. is_lt (namespace_cmp c.namespace asked) in
     let le : Binding → Bool = λ c. is_le (namespace_cmp c.namespace asked) in (
-      λ within. is_asked b.namespace asked (between_is (namespace_cmp b.namespace asked) (past_point xs lt first before at b there within.0) (before_point xs le last upto at b there within.1)),
+      λ within. is_asked b.namespace asked (between_is (namespace_cmp b.namespace asked) (not_less (namespace_cmp b.namespace asked) (λ less. (let low = (before at b there).1 less in omega (arith, low, within.0)))) (before_point xs le last upto at b there within.1)),
       λ e.
-          let tied : namespace_cmp b.namespace asked ≡ Equal = ap (λ (m : Option Text). namespace_cmp m asked) e ∙ tied_itself nat_list_cmp_total asked in
-          (point_before xs lt first before at b there (ap is_lt tied), point_past xs le last upto at b there (ap is_le tied)),
+          let tied : namespace_cmp b.namespace asked ≡ Equal = ap (λ (m : Option Text). namespace_cmp m asked) e ∙ tied_itself nat_list_cmp_total asked in (
+            elim (cases_lt at first) [ inl low ↦ (let less = (before at b there).0 low in absurd (cc (less, tied))) | inr high ↦ high ],
+            point_past xs le last upto at b there (ap is_le tied),
+          ),
     )
 
 -- some binding is in a namespace where its range isn't empty

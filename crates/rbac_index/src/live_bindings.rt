@@ -30,7 +30,7 @@ pub(crate) fn of_namespace(bindings: &[Binding], namespace: &Word) -> (usize, us
         → ((result.0 ≤ at) × (at < result.1)) ↔ (b.namespace ≡ Some namespace.now) }
 {
     (
-        bindings.partition_point(|binding| cmp_namespace(binding, namespace).is_lt()),
+        first_from(bindings, namespace),
         bindings.partition_point(|binding| cmp_namespace(binding, namespace).is_le()),
     )
 }
