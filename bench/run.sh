@@ -108,6 +108,21 @@ measure_shapes() {
     done
 }
 
+# One line for a shape of wide rules: its time and memory, and the ratio to can-i over an export, whose time is given.
+measure_wide() {
+    local answer=$1 shape=$2 count=$3 file=$room/$2-$3 took
+    local asked=("$audit" diff --before "$file.before.json" --after "$file.after.json")
+    case $shape in
+        lint-*) asked=("$audit" lint "$file.json") ;;
+        all-select) asked=("$audit" can-i --as nobody@example.com -A get pods "$file.json") ;;
+    esac
+    python3 generate_wide.py "$shape" "$count" "$room"
+    took=$(python3 least.py 3 "${asked[@]}")
+    printf '%-44s can-i %5d ms  it takes %6d ms %5d MB  ratio %s\n' "$shape $count" "$answer" "$took" \
+        "$(($(python3 least.py --memory "${asked[@]}") / 1024))" "$(python3 -c "print('%.2f' % ($took / max(1, $answer)))")"
+    rm "$file".*
+}
+
 # One line for lint on a role of many rules, and for its aggregated roles alone, beside can-i.
 measure_lint() {
     local name=$1 file=$2
@@ -129,6 +144,12 @@ measure_diff "diff, a hundred changed bindings" "$room/export.json" --after "$ro
 measure_diff "diff, the same put over" "$room/export.json" --with "$room/changed.json"
 measure_diff "diff, all taken away before" "$room/export.json" --without "$room/export.json" --with "$room/changed.json"
 measure_shapes "$room/export.json"
+answer=$(ask "$room/export.json")
+for shape in "product 1000" "product 2000" "verb 1000" "verb 2000" "gained 800" "gained 1600" "names 20000" "names 40000" \
+    "name-rules 500" "name-rules 1000" "subjects 25" "subjects 50" "gathered 150" "gathered 300" "lint-names 32000" \
+    "lint-names 64000" "lint-roles 200" "lint-roles 400" "all-select 20000" "all-select 40000"; do
+    measure_wide "$answer" $shape
+done
 python3 change_export.py names "$room/export.json" "$room/changed.json"
 measure_diff "diff, each binding renamed" "$room/export.json" --after "$room/changed.json"
 python3 generate_export.py 4000 16000 200 9 "$room/export.json" > /dev/null

@@ -12,12 +12,12 @@ pub mod JoinLemmas
 pub mod LineLemmas
 pub mod LinesLemmas
 pub mod LoopLemmas
-pub mod OnceLines
-pub mod OneEvery
-pub mod OneMatrix
 pub mod NoneLeft
 pub mod OnceEveryLemmas
 pub mod OnceLemmas
+pub mod OnceLines
+pub mod OneEvery
+pub mod OneMatrix
 pub mod Orders
 pub mod PairLemmas
 pub mod PassLemmas
@@ -31,5 +31,6 @@ pub mod SomeMatrix
 pub mod StartLemmas
 pub mod ThoseLemmas
 pub mod TouchLemmas
+pub mod UnnamedLemmas
 pub mod VerbLemmas
 pub mod WalkLemmas

@@ -1,39 +1,35 @@
 -- repeated lines, and what is passed over them
-use Rattle.std.proofs.Common.{◌≡◌, ◌≢◌, ℕ, ◌+◌, ◌-◌, ◌<◌, ◌≤◌, ◌⊎◌, List, [], ◌∷◌, ◌++◌, true, false, Contains, drop, refl, ap, ◌∙◌, sym, arith, length, append_assoc, subst, subst₂, inl, inr, ◌↔◌}
+use Rattle.std.proofs.Common.{◌≡◌, ◌≢◌, ℕ, ◌+◌, ◌-◌, ◌<◌, ◌≤◌, ◌⊎◌, List, [], ◌∷◌, ◌++◌, true, false, Contains, refl, ap, ◌∙◌, sym, arith, append_assoc, subst, inl, inr, ◌↔◌}
 use Rattle.std.specs.Prelude.{Option, Some, None, is_none, slice_get}
-use Rattle.std.specs.Cmp.Lexicographic.{slice_cmp}
 use Rattle.std.specs.List.{flat_map}
 use Rattle.std.specs.List.Sorted.{IsPartitionPoint}
 use Rattle.std.specs.declared.cmp.Ordering.TheVariants.{Less}
-use Rattle.std.proofs.lemmas.Bool.{cases_eq, cases_lt}
-use Rattle.std.proofs.lemmas.Cmp.{nat_list_cmp_total, tied_itself}
+use Rattle.std.proofs.lemmas.Bool.{cases_lt}
 use Rattle.std.proofs.lemmas.List.Elements.{Contains-append_cases}
 use Rattle.std.proofs.lemmas.Option.{get_or_from_slice_get, same_Some, slice_get_within}
 use Rattle.rbac_terms.specs.declared.granting.Binding.{Binding}
 use Rattle.rbac_terms.specs.Principals.{Who}
 use Rattle.rbac_terms.specs.Text.{Text, text_cmp}
-use Rattle.rbac_terms.proofs.Orderings.{less_alone}
-use Rattle.rbac_terms.proofs.Reading.{read_some}
 use Rattle.rbac_model.specs.Policies.{PolicyView, IsPolicy, GrantView, IsOfBinding}
 use Rattle.rbac_model.specs.Universes.{UniverseView, IsUniverse, LiveForSome}
-use Rattle.rbac_index.specs.Bound.{AnswersNextNamespace, IsNamedIn}
+use Rattle.rbac_index.specs.Bound.{IsNamedIn}
 use Rattle.rbac_model.proofs.BindingPlaces.{of_some_binding}
 use Rattle.rbac_index.proofs.LivingLemmas.{cluster_first}
-use Rattle.rbac_universe.proofs.Flattened.{contains_map, flat_contains, in_cons, map_contains}
+use Rattle.rbac_universe.proofs.Flattened.{flat_contains, in_cons, map_contains}
 use Rattle.rbac_index.specs.Reaches.{AreReaches}
 use Rattle.rbac_matrix.specs.RepeatedLines.{HasRepeats, IsRepeated, PassesRepeated, PassesLines}
 use Rattle.rbac_matrix.specs.Cells.{AreRowsOf}
 use Rattle.rbac_matrix.specs.Cursors.{AreKnownAt, AreRunsOf, IsCursorAt}
-use Rattle.rbac_matrix.specs.Lines.{IsLineAt, LineView, line, line_cells_from, lines_from, next_verb, place, verb_lines}
+use Rattle.rbac_matrix.specs.Lines.{IsLineAt, LineView, line_cells_from, lines_from, next_verb}
 use Rattle.rbac_matrix.specs.Metering.{IsMetered, Skips}
 use Rattle.rbac_matrix.specs.Once.{repeats_at}
 use Rattle.rbac_matrix.specs.Passing.{cell_of}
 use Rattle.rbac_matrix.specs.Seats.{AreEmpty, AreSeated, Costs}
+use Rattle.rbac_matrix.specs.Unnamed.{IsFrom, PassesUnnamed}
 use Rattle.rbac_matrix.specs.declared.bound_runs.Runs.{Runs}
 use Rattle.rbac_matrix.specs.declared.line.Place.{Place}
 use Rattle.rbac_matrix.specs.declared.seat.Seat.{Seat}
 use Rattle.rbac_matrix.proofs.GoingLemmas.{fits_namespace}
-use Rattle.rbac_matrix.proofs.IdleLemmas.{fewer_after_namespace, namespace_over}
 use Rattle.rbac_matrix.proofs.LineLemmas.{hit_cursor}
 use Rattle.rbac_matrix.proofs.PairLemmas.{granted_hit, rowless_pairs}
 use Rattle.rbac_matrix.proofs.TouchLemmas.{metered_end, metered_on, metered_skip}
@@ -52,10 +48,6 @@ cluster_below p policy count end parted some upto k g at lt =
     let same : of.1.0 ≡ g = same_Some of.1.0 g (sym of.1.1 ∙ at) in
     let there : slice_get p.held.bindings of.0 ≡ Some g.binding = of.1.2 ∙ ap (λ (h : GrantView). Some h.binding) same in
     (cluster_first p.held.bindings count parted of.0 g.binding there).0 (omega arith)
-
--- lists of one word are in the order of their words
-one_word : (x y : Text) → slice_cmp text_cmp (x ∷ []) (y ∷ []) ≡ Less → text_cmp x y ≡ Less
-one_word x y l = less_alone (text_cmp x y) l
 
 -- the grants before a number are of ClusterRoleBindings
 abbrev pub AreCluster : PolicyView → ℕ → Type 0
@@ -76,38 +68,26 @@ bound_nowhere None namespace live other = refl
 bound_nowhere (Some n) namespace live other = absurd (other (ap (λ (t : Text). Some t) live.1))
 
 module _ (p : PolicyView) where
-  unnamed_line : (l : LineView) → l.namespace ≢ [] → (IsNamedIn p l.who l.namespace → ⊥) → IsRepeated p l
+  pub unnamed_line : (l : LineView) → l.namespace ≢ [] → (IsNamedIn p l.who l.namespace → ⊥) → IsRepeated p l
   unnamed_line l some unnamed = record {
     some = some;
     cursors = λ k c. bound_nowhere c.grant.binding.namespace l.namespace c.is.2 (λ e. unnamed (k, c.grant, c.at, c.is.1, e));
   }
 
-  pub repeated_namespace : (u : UniverseView) (at : Place) (l : LineView) → IsLineAt u at l → l.namespace ≢ [] → (IsNamedIn p l.who l.namespace → ⊥) → PassesRepeated p u at (place at.principal (at.namespace + 1) 0)
-  repeated_namespace u at l here some unnamed = record {
-    between = verb_lines u l.who at.verb l.namespace;
-    whole = namespace_over u at l here;
-    repeated = λ m w.
-        let f = contains_map (line l.who l.namespace) (drop at.verb u.verbs) m w in
-        subst (IsRepeated p) f.2 (unnamed_line (line l.who l.namespace f.0) some unnamed);
-  }
+later_some : (from x : Text) → from ≢ [] → IsFrom from x → x ≢ []
+later_some from x some (inl same) none = some (sym same ∙ none)
+later_some [] x some (inr less) none = some refl
+later_some (c ∷ cs) x some (inr less) none = let before : text_cmp (c ∷ cs) [] ≡ Less = subst (λ (t : Text). text_cmp (c ∷ cs) t ≡ Less) none less in cc
 
--- nobody is named in a namespace from one on, and before the next one where they are
-unnamed_after : (x from : Text) → text_cmp x from ≡ Less → (x ≡ from) ⊎ (text_cmp from x ≡ Less) → ⊥
-unnamed_after x from less (inl same) = let tied = tied_itself nat_list_cmp_total from in let both : text_cmp from from ≡ Less = subst (λ (t : Text). text_cmp t from ≡ Less) same less in cc
-unnamed_after x from less (inr greater) = let tied = tied_itself nat_list_cmp_total from in let both : text_cmp from from ≡ Less = nat_list_cmp_total.trans from x from greater less in cc
-
-pub unnamed_before : (p : PolicyView) (who : Who) (from x : Text) (o : Option Text) → AnswersNextNamespace p who from o → ((found : Text) → o ≡ Some found → text_cmp x found ≡ Less) → (x ≡ from) ⊎ (text_cmp from x ≡ Less) → IsNamedIn p who x → ⊥
-unnamed_before p who from x None none before on named = unnamed_after x from (none x named) on
-unnamed_before p who from x (Some found) next before on named = unnamed_after x from (next.none_before x named (before found refl)) on
-
--- a later namespace of a universe comes after
-pub namespace_on : (u : UniverseView) → IsUniverse u → (i j : ℕ) (x y : Text) → i ≤ j → slice_get u.namespaces i ≡ Some x → slice_get u.namespaces j ≡ Some y → (y ≡ x) ⊎ (text_cmp x y ≡ Less)
-namespace_on u is i j x y le mine theirs = elim (cases_eq i j) [
-  | inl same ↦ inl (same_Some y x (sym theirs ∙ ap (slice_get u.namespaces) (sym same) ∙ mine))
-  | inr differ ↦
-      let less = is.namespaces i j x (omega (arith, le, differ)) (slice_get_within u.namespaces j y theirs) in
-      inr (one_word x y (subst₂ (λ (a b : Text). slice_cmp text_cmp (a ∷ []) (b ∷ []) ≡ Less) (get_or_from_slice_get u.namespaces i x x mine) (get_or_from_slice_get u.namespaces j y x theirs) less))
-]
+-- so it is from a namespace on, up to where one does
+pub repeated_from : (p : PolicyView) (u : UniverseView) (asking : Who) (from : Text) (at to : Place) → from ≢ [] → PassesUnnamed p u asking from at to → PassesRepeated p u at to
+repeated_from p u asking from at to some passes = record {
+  between = passes.between;
+  whole = passes.whole;
+  repeated = λ l w.
+      let is = passes.unnamed l w in
+      unnamed_line p l (later_some from l.namespace some is.later) (λ named. is.unnamed (subst (λ (who : Who). IsNamedIn p who l.namespace) is.who named));
+}
 
 module _ (p : PolicyView) (u : UniverseView) where
   pub repeated_none : (at to : Place) → lines_from u to ≡ lines_from u at → PassesRepeated p u at to
@@ -119,56 +99,6 @@ module _ (p : PolicyView) (u : UniverseView) where
     whole = q.whole ∙ ap (λ (ls : List LineView). q.between ++ ls) r.whole ∙ sym (append_assoc q.between r.between (lines_from u c));
     repeated = λ l w. elim (Contains-append_cases q.between r.between l w) [ inl v ↦ q.repeated l v | inr v ↦ r.repeated l v ];
   }
-
--- from the line at one place up to another place of the principal, each line is repeated
-pub record PassesNamespaces (p : PolicyView) (u : UniverseView) (at past : Place) : Type 0 where
-  pub principal : past.principal ≡ at.principal
-  pub passes : PassesRepeated p u at past
-  pub moved : (past ≡ at) ⊎ ((past.verb ≡ 0) × (at.namespace < past.namespace) × (length (lines_from u past) < length (lines_from u at)))
-
-module _ (p : PolicyView) (u : UniverseView) where
-  pub none_passed : (at : Place) → PassesNamespaces p u at at
-  none_passed at = record { principal = refl; passes = repeated_none p u at at refl; moved = inl refl }
-
-  module _ (at past : Place) (passed : PassesNamespaces p u at past) where
-    pub passed_same : past.namespace ≡ at.namespace → past ≡ at
-    passed_same e = elim passed.moved [ inl same ↦ same | inr on ↦ absurd (omega (arith, on.1, e)) ]
-
-    pub passed_moved : (past ≡ at) ⊎ (past.verb ≡ 0)
-    passed_moved = elim passed.moved [ inl same ↦ inl same | inr on ↦ inr on.0 ]
-
-    pub passed_fewer : past.namespace ≢ at.namespace → length (lines_from u past) < length (lines_from u at)
-    passed_fewer other = elim passed.moved [ inl same ↦ absurd (other (ap (λ (to : Place). to.namespace) same)) | inr on ↦ on.2 ]
-
-    module _ (is : IsUniverse u) (l : LineView) (here : IsLineAt u at l) (x : Text) (there : slice_get u.namespaces past.namespace ≡ Some x) where
-      still_on : at.namespace ≤ past.namespace
-      still_on = elim passed.moved [ inl same ↦ rw same (omega arith) | inr on ↦ omega (arith, on.1) ]
-
-      some_line : (verb : Text) × IsLineAt u past (line l.who x verb)
-      some_line =
-          let who : slice_get u.principals past.principal ≡ Some l.who = ap (slice_get u.principals) passed.principal ∙ here.principal in
-          elim passed.moved [
-            | inl same ↦ (l.verb, record { principal = who; namespace = there; verb = ap (λ (to : Place). slice_get u.verbs to.verb) same ∙ here.verb })
-            | inr on ↦
-                let first = read_some u.verbs 0 (omega (arith, slice_get_within u.verbs at.verb l.verb here.verb)) in
-                (first.0, record { principal = who; namespace = there; verb = ap (slice_get u.verbs) on.0 ∙ first.1 })
-          ]
-
-      pub passed_more : x ≢ [] → (o : Option Text) → AnswersNextNamespace p l.who l.namespace o → ((found : Text) → o ≡ Some found → text_cmp x found ≡ Less) → PassesNamespaces p u at (place past.principal (past.namespace + 1) 0)
-      passed_more some o next before =
-          let some_verb = some_line in
-          let there_line = line l.who x some_verb.0 in
-          let to = place past.principal (past.namespace + 1) 0 in
-          let unnamed = unnamed_before p l.who l.namespace x o next before (namespace_on u is at.namespace past.namespace l.namespace x still_on here.namespace there) in
-          let fewer = fewer_after_namespace u past there_line some_verb.1 in
-          record {
-            principal = passed.principal;
-            passes = repeated_then p u at past to passed.passes (repeated_namespace p u past there_line some_verb.1 some unnamed);
-            moved = elim passed.moved [
-              | inl same ↦ inr (refl, omega (arith, ap (λ (q : Place). q.namespace) same), omega (arith, fewer, ap (λ (q : Place). length (lines_from u q)) same))
-              | inr on ↦ inr (refl, omega (arith, on.1), omega (arith, fewer, on.2))
-            ];
-          }
 
 -- ---- the pairs of lines that are passed
 

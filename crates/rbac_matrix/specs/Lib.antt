@@ -17,3 +17,4 @@ pub mod RowTexts
 pub mod Seats
 pub mod Shown
 pub mod Starting
+pub mod Unnamed

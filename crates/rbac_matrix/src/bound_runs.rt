@@ -43,18 +43,6 @@ impl Runs {
         }
     }
 
-    // No runs, of those that a walk looks up.
-    pub(crate) fn unknown() -> Self
-        ensures { (result.kept.items ≡ []) × (result.are_all ≡ false) }
-    {
-        Runs {
-            kept: ArrayVec::new(),
-            are_all: false,
-            is_bare: false,
-            verbs: ArrayVec::new(),
-        }
-    }
-
     // The first runs of the line, and the verbs that their grants have.
     pub(crate) fn of(index: &Index<'_>, universe: &Universe, line: Line<'_>) -> Self
         ensures runs { AreRunsOf index.now universe.now (line_of line.entry) result }

@@ -22,6 +22,7 @@ mod seat;
 mod seats;
 mod start;
 mod steps;
+mod unnamed;
 mod walk;
 
 pub use enumeration::Rows;

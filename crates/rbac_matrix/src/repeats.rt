@@ -118,7 +118,7 @@ impl Rows<'_, '_> {
     // Whether the line has a namespace, and no RoleBinding has a cursor on it. Then its rows are
     // repeats.
     pub(crate) fn is_repeated(&self) -> bool
-        requires { IsSettled self.now.universe.now self.now.at }
+        requires { (low : ℕ) × IsUnderWay self.now low }
         ensures { (l : LineView) (ls : List LineView) → IsTrue result
             → lines_from self.now.universe.now self.now.at ≡ l ∷ ls → IsRepeated self.now.index.now l }
     {
@@ -129,7 +129,8 @@ impl Rows<'_, '_> {
             return false;
         };
         let cluster = cluster_grants(self.index);
-        !line.namespace.is_empty() && !has_cursor_from(self.index, line, cluster)
+        let runs = &self.kept.runs;
+        !line.namespace.is_empty() && !has_cursor_from(self.index, line, runs, cluster)
     }
 
     // Leaves the line, whose rows are repeats, and passes lines after it of which the index says

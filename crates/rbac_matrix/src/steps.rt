@@ -22,8 +22,10 @@ use crate::kept::Kept;
 use crate::line::{Line, Place, after, line_at, settled};
 use crate::seat::Seat;
 use crate::seats::{empty_line, seat_line};
+use crate::unnamed::past_unnamed;
 use rbac_index::{Index, Meter};
 use rbac_terms::Word;
+use rbac_universe::Universe;
 
 // Whether a target is asked for in this namespace, given whether it is namespaced (own).
 fn fits(namespace: &Word, namespaced: bool) -> bool
@@ -124,7 +126,7 @@ pub(crate) fn next_line(
     while let Some(line) = line_at(basis.universe, at) {
         renew(basis, line, at, &mut kept.runs);
         if kept.runs.is_empty() {
-            at = settled(basis.universe, past_idle(index, line, at));
+            at = settled(basis.universe, past_idle(index, basis.universe, line, at));
         } else if kept.runs.lack_verb(at.verb) {
             at = settled(basis.universe, past_verbs(&kept.runs, at));
         } else {
@@ -159,22 +161,25 @@ fn past_verbs(runs: &Runs, at: Place) -> Place
 }
 
 // The place after a principal's lines in a namespace where none of the principal's grants may be
-// live; after all the principal's lines if it has no grants.
-fn past_idle(index: &Index<'_>, line: Line<'_>, at: Place) -> Place
+// live, and in those after it where that is so; after all the principal's lines if it has no grants.
+fn past_idle(index: &Index<'_>, universe: &Universe, line: Line<'_>, at: Place) -> Place
     requires policy { IsPolicy index.now }
+    requires universe { IsUniverse universe.now }
+    requires line { IsLineAt universe.now at (line_of line) }
     requires idle { (k : ℕ) → ¬ IsBoundOn index.now (line_of line) k }
     requires few { (at.principal < most_words) × (at.namespace < most_words) }
-    ensures skips { (u : UniverseView) → IsLineAt u at (line_of line.entry)
-        → Skips index.now.held u at result }
+    ensures skips { Skips index.now.held universe.now at result }
     ensures begins { (result.verb ≡ 0)
         × ((result.namespace ≡ 0) ⊎ (result.principal ≡ at.principal)) }
-    ensures on { (u : UniverseView) → IsLineAt u at (line_of line.entry)
-        → length (lines_from u result) < length (lines_from u at) }
+    ensures on { length (lines_from universe.now result) < length (lines_from universe.now at) }
 {
-    if at.namespace == 0 && !index.subjects().has_grants(line.principal) {
+    let subjects = index.subjects();
+    if at.namespace == 0 && !subjects.has_grants(line.principal) {
         return Place::of_principal(at.principal + 1);
     }
-    Place::of_namespace(at.principal, at.namespace + 1)
+    let next = Place::of_namespace(at.principal, at.namespace + 1);
+    let named = subjects.next_namespace(line.principal, line.namespace);
+    past_unnamed(index, universe, next, line, named)
 }
 
 // The next row from a line's place and a target's place on, or past that target for the grants

@@ -52,21 +52,6 @@ pub(crate) fn whole_walk() -> Walk
     }
 }
 
-// A walk along the grants of a line from a number on, which looks up each run.
-pub(crate) fn walk_from(first: u32) -> Walk
-    ensures ahead { (p : PolicyView) (l : LineView) (k : ℕ) → IsCursorAt p l k → first ≤ k
-        → IsAhead p l result k }
-    ensures within { (p : PolicyView) (l : LineView) (runs : Runs) → runs.kept.items ≡ []
-        → runs.are_all ≡ false → IsWithin p l runs result }
-    ensures first { result.next ≡ first }
-{
-    Walk {
-        next: first,
-        end: first,
-        later: 0,
-    }
-}
-
 // Returns the number of a cursor and moves on to the others; `None` if all were returned.
 pub(crate) fn next_cursor(
     index: &Index<'_>,

@@ -30,7 +30,7 @@ pub loop-line-preserved-then-is_empty : goal.loop-line-preserved-then-is_empty
 loop-line-preserved-then-is_empty c = record {
   settled = c.settled-at-then-is_empty.ensures.settled;
   skips = skips_then c.args.basis.index.now.held c.args.basis.universe.now c.args.at c.loop-line.at c.settled-at-then-is_empty.result c.loop-line.invariant.skips
-      (skips_then c.args.basis.index.now.held c.args.basis.universe.now c.loop-line.at c.past_idle.result c.settled-at-then-is_empty.result (c.past_idle.ensures.skips c.args.basis.universe.now c.in-Some.ensures.place)
+      (skips_then c.args.basis.index.now.held c.args.basis.universe.now c.loop-line.at c.past_idle.result c.settled-at-then-is_empty.result c.past_idle.ensures.skips
       (skips_same c.args.basis.index.now.held c.args.basis.universe.now c.past_idle.result c.settled-at-then-is_empty.result c.settled-at-then-is_empty.ensures.same));
   empty = c.loop-line.invariant.empty;
   known = known_moved c.args.basis.index.now c.args.basis.universe.now c.past_idle.result c.settled-at-then-is_empty.result c.renew.new.runs c.settled-at-then-is_empty.ensures.moved

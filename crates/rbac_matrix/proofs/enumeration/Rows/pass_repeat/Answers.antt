@@ -84,3 +84,6 @@ returns-then-is_repeated-clause-fewer c =
 
 pub returns-then-is_repeated-clause-few : goal.returns-then-is_repeated-clause-few
 returns-then-is_repeated-clause-few c = let fewer = returns-then-is_repeated-clause-fewer c refl in omega (arith, fewer)
+
+pub is_repeated-requires : goal.is_repeated-requires
+is_repeated-requires c = (0, c.come.ensures.way 0 (come_ready c.args.self.now c.come.new.self c.requires.policy c.come.ensures.same c.in-Some.field-0-0 c.in-Some.no c.in-Some.ensures.place c.in-Some.ensures.found))
