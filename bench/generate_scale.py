@@ -8,6 +8,7 @@ bindings-N: N RoleBindings in one namespace, each for another group that all of 
 names-N: one rule of N object names, and so a universe of as many.
 rules-N: an aggregated role of N rules, bound in 20 namespaces and once in the whole cluster.
 admins-N: six who may do all in the whole cluster, N namespaces, and in each an account and a group with roles of their own.
+alone-N: the same six, in N namespaces without anybody else.
 """
 
 import json
@@ -15,6 +16,9 @@ import sys
 
 GROUP = 'rbac.authorization.k8s.io'
 API_VERSION = GROUP + '/v1'
+# API groups and resources, the first of which every cluster has.
+KINDS = [('', 'pods'), ('', 'secrets'), ('', 'configmaps'), ('', 'services'), ('apps', 'deployments'), ('apps', 'statefulsets'),
+         ('batch', 'jobs'), *(('op%02d.io' % (at // 4), 'kind%02d' % at) for at in range(103))]
 
 
 def item(kind, name, namespace=None, **more):
@@ -104,21 +108,34 @@ def rules(count):
     write('rules-%d' % count, items)
 
 
-def admins(count):
+def cluster(name, *items):
+    """Six admins beside these items, and a universe of resources as a real cluster has them."""
     verbs = ['get', 'list', 'watch', 'create', 'update', 'patch', 'delete', 'deletecollection', 'bind', 'escalate', 'impersonate']
-    kinds = [('', 'pods'), ('', 'secrets'), ('', 'configmaps'), ('', 'services'), ('apps', 'deployments'), ('apps', 'statefulsets'),
-             ('batch', 'jobs'), *(('op%02d.io' % (at // 4), 'kind%02d' % at) for at in range(103))]
-    edit = [rule(verbs[:7], [name for of, name in kinds[:30] if of == group], group) for group in dict(kinds[:30])]
-    items = [role('all', rule(['*'], ['*'], '*')), role('edit', *edit), role('view', rule(['get', 'list', 'watch'], ['pods', 'services']))]
-    items += [binding('admin%d' % number, 'all', [subject('User', 'admin%d@example.com' % number)]) for number in range(6)]
+    admins_only = [role('all', rule(['*'], ['*'], '*')),
+                   *(binding('admin%d' % number, 'all', [subject('User', 'admin%d@example.com' % number)]) for number in range(6))]
+    cluster_wide = [('', 'nodes'), ('', 'namespaces'), (GROUP, 'clusterrolebindings')]
+    write(name, [*admins_only, *items], verbs=verbs, names=[''], resources=[
+        {'group': of, 'resource': kind, 'namespaced': (of, kind) not in cluster_wide} for of, kind in [*KINDS, *cluster_wide]])
+
+
+def namespace_of(number):
+    return {**item('Namespace', 'team-%04d' % number), 'apiVersion': 'v1'}
+
+
+def admins(count):
+    edit = [rule(['get', 'list', 'watch', 'create', 'update', 'patch', 'delete'], [kind for of, kind in KINDS[:30] if of == group], group)
+            for group in dict(KINDS[:30])]
+    items = [role('edit', *edit), role('view', rule(['get', 'list', 'watch'], ['pods', 'services']))]
     for number in range(count):
         namespace = 'team-%04d' % number
         account = {'kind': 'ServiceAccount', 'name': 'ci', 'namespace': namespace}
-        items += [{**item('Namespace', namespace), 'apiVersion': 'v1'}, binding('edit', 'edit', [account], namespace),
-                  binding('view', 'view', [subject('Group', 'team-%04d' % number)], namespace)]
-    cluster_wide = [('', 'nodes'), ('', 'namespaces'), (GROUP, 'clusterrolebindings')]
-    write('admins-%d' % count, items, verbs=verbs, names=[''], resources=[
-        {'group': of, 'resource': name, 'namespaced': (of, name) not in cluster_wide} for of, name in [*kinds, *cluster_wide]])
+        items += [namespace_of(number), binding('edit', 'edit', [account], namespace),
+                  binding('view', 'view', [subject('Group', namespace)], namespace)]
+    cluster('admins-%d' % count, *items)
+
+
+def alone(count):
+    cluster('alone-%d' % count, *(namespace_of(number) for number in range(count)))
 
 
 def main():
@@ -127,7 +144,7 @@ def main():
         return
     for shape, counts in ((accounts, (500, 1000, 2000)), (groups, (500, 1000)), (given, (200, 400)),
                           (bindings, (64, 65, 128, 200, 256, 400, 800)), (names, (10_000, 20_000, 40_000)),
-                          (rules, (250, 500, 1000)), (admins, (51, 421))):
+                          (rules, (250, 500, 1000)), (admins, (51, 421, 1000)), (alone, (100, 1000))):
         for count in counts:
             shape(count)
 

@@ -145,6 +145,9 @@ measure_diff "diff, the same put over" "$room/export.json" --with "$room/changed
 measure_diff "diff, all taken away before" "$room/export.json" --without "$room/export.json" --with "$room/changed.json"
 measure_shapes "$room/export.json"
 answer=$(ask "$room/export.json")
+python3 generate_export.py 2000 8000 421 7 "$room/cluster.json" > /dev/null
+echo '{"apiVersion": "rbacaudit/v1", "kind": "Universe", "names": [""]}' > "$room/universe.json"
+measure_whole "no repeats, 2000 roles, 8000 bindings" "$room/cluster.json" --once "$room/universe.json"
 for shape in "product 1000" "product 2000" "verb 1000" "verb 2000" "gained 800" "gained 1600" "names 20000" "names 40000" \
     "name-rules 500" "name-rules 1000" "subjects 25" "subjects 50" "gathered 150" "gathered 300" "lint-names 32000" \
     "lint-names 64000" "lint-roles 200" "lint-roles 400" "all-select 20000" "all-select 40000"; do
