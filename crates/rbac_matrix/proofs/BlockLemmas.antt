@@ -8,7 +8,7 @@ use Rattle.rbac_model.specs.Universes.{UniverseView}
 use Rattle.rbac_matrix.specs.Lines.{LineView, lines_from}
 use Rattle.rbac_matrix.specs.Cursors.{IsBoundOn, IsCursorAt, IsNextBound, IsWithin, back_at}
 use Rattle.rbac_matrix.specs.Blocks.{Advances, AreBlocks, AreBlocksAt, AreBlocksBelow, IsBlock, IsLeastBlock, IsLeastIn, IsOfBlock, block_at, joined, no_block}
-use Rattle.rbac_matrix.specs.Seats.{AreSeated, AreSeatedAbout, ComesFirst, Costs, IsLeastSeat, IsSeated, SeatCosts, empty_seat, no_seat, past_all, reach_at, seat_at}
+use Rattle.rbac_matrix.specs.Seats.{AreSeated, AreSeatedAbout, AreSeatedBefore, ComesFirst, Costs, IsLeastSeat, IsSeated, IsSeatedBefore, SeatCosts, empty_seat, no_seat, past_all, reach_at, seat_at, start_at}
 use Rattle.rbac_matrix.specs.declared.blocks.Block.{Block}
 use Rattle.rbac_matrix.specs.declared.bound_runs.Runs.{Runs}
 use Rattle.rbac_matrix.specs.declared.kept.Kept.{Kept}
@@ -17,7 +17,7 @@ use Rattle.rbac_matrix.specs.declared.seat.Seat.{Seat}
 use Rattle.rbac_matrix.specs.declared.walk.Walk.{Walk}
 use Rattle.rbac_matrix.proofs.LoopLemmas.{cursor_of_seat, cursor_within, start_here, start_past}
 use Rattle.rbac_matrix.proofs.PassLemmas.{same_head}
-use Rattle.rbac_matrix.proofs.SeatLemmas.{Costs-less, Costs-none, Costs-set, Costs-then, seated_stays, set_each}
+use Rattle.rbac_matrix.proofs.SeatLemmas.{Costs-less, Costs-none, Costs-set, Costs-then, seated_before, seated_stays, set_each}
 use Rattle.rbac_matrix.proofs.WalkLemmas.{cursor_bound}
 
 -- no seat numbered from `start` up to `end` is at an entry
@@ -435,6 +435,93 @@ module _ (p : PolicyView) (l : LineView) (rs : List (List ℕ)) (place end : ℕ
       let of = h.all k within (omega arith) in
       passed of.0 of.1 k of.2 lt at
 
+-- ---- seats move up to a place
+
+module _ (p : PolicyView) (l : LineView) (rs : List (List ℕ)) (place : ℕ) where
+  -- they are where the entries from an earlier place on begin
+  pub before_seated : (from upto : ℕ) (seats : List Seat) → upto ≡ 0 → from ≤ place → AreSeated p l rs from upto seats → AreSeatedBefore p l rs place seats
+  before_seated from upto seats none le h = record {
+    count = h.count;
+    each = λ k within. elim (h.each k within) [
+      | inl c ↦ inl (c.0, (start_at from upto k, omega arith, c.1))
+      | inr e ↦ inr e
+    ];
+  }
+
+  module _ (seats : List Seat) (h : AreSeatedBefore p l rs place seats) where
+    pub others_before : AreOthersEmpty p l seats
+    others_before k lt = elim (h.each k lt) [
+      | inl s ↦ inl s.0
+      | inr e ↦ inr e.1
+    ]
+
+    -- a seat that comes before the place is a cursor's, and moves on
+    module _ (k : ℕ) (within : k < length seats) (low : (seat_at seats k).place < place) (top : place ≤ past_all) where
+      before_cursor : IsCursorAt p l k × IsSeatedBefore (reach_at rs k) place (seat_at seats k)
+      before_cursor = elim (h.each k within) [
+        | inl c ↦ c
+        | inr e ↦ let empty : (seat_at seats k).place ≡ past_all = rw e.1 refl in absurd (omega arith)
+      ]
+
+      pub before_own : IsSeatedBefore (reach_at rs k) place (seat_at seats k)
+      before_own = before_cursor.1
+
+      pub move_before : (r : List ℕ) → r ≡ reach_at rs k → (s : Seat) → IsSeated r place s → AreSeatedBefore p l rs place (set seats k s)
+      move_before r is s seated = record {
+        count = length-set seats k s ∙ h.count;
+        each = set_each seats k s within
+            (λ j x. (IsCursorAt p l j × IsSeatedBefore (reach_at rs j) place x) ⊎ ((IsCursorAt p l j → ⊥) × (x ≡ empty_seat)))
+            (λ j lt ne. h.each j lt)
+            (inl (before_cursor.0, (place, omega arith, rw is at seated)));
+      }
+
+    -- what was passed, over grants that aren't bound, and over one more
+    before_on : (start next here : ℕ) → ((k : ℕ) → start ≤ k → k < next → place ≤ (seat_at seats k).place) → place ≤ past_all → here ≤ length seats → ((k : ℕ) → next ≤ k → k < here → IsBoundOn p l k → ⊥) → (k : ℕ) → start ≤ k → k < here → place ≤ (seat_at seats k).place
+    before_on start next here passed top few none k low high = elim (cases_lt k next) [
+      | inl early ↦ passed k low early
+      | inr ge ↦ omega (arith, unbound_idle p l seats next here others_before few none k ge high)
+    ]
+
+    pub before_end : (b : Block) (next : ℕ) → ((k : ℕ) → b.walk.next ≤ k → k < next → place ≤ (seat_at seats k).place) → place ≤ past_all → b.end ≤ length seats → ((k : ℕ) → next ≤ k → k < b.end → IsBoundOn p l k → ⊥) → (k : ℕ) → IsOfBlock b k → place ≤ (seat_at seats k).place
+    before_end b next passed top few none k of = before_on b.walk.next next b.end passed top few none k of.0 of.1
+
+    module _ (start next here : ℕ) (passed : (k : ℕ) → start ≤ k → k < next → place ≤ (seat_at seats k).place) (top : place ≤ past_all) (few : here < length seats) (none : (k : ℕ) → next ≤ k → k < here → IsBoundOn p l k → ⊥) where
+      pub before_stay : place ≤ (seat_at seats here).place → (k : ℕ) → start ≤ k → k < here + 1 → place ≤ (seat_at seats k).place
+      before_stay ahead k low high = elim (cases_lt k here) [
+        | inl early ↦ before_on start next here passed top (omega arith) none k low early
+        | inr ge ↦ let e : k ≡ here = omega arith in subst (λ (i : ℕ). place ≤ (seat_at seats i).place) (sym e) ahead
+      ]
+
+      pub before_move : (s : Seat) → place ≤ s.place → (k : ℕ) → start ≤ k → k < here + 1 → place ≤ (seat_at (set seats here s) k).place
+      before_move s ahead k low high = elim (cases_lt k here) [
+        | inl early ↦ rw (get_or-set_other seats here k s no_seat (λ e. omega arith)) (before_on start next here passed top (omega arith) none k low early)
+        | inr ge ↦
+            let e : k ≡ here = omega arith in
+            subst (λ (i : ℕ). place ≤ (seat_at (set seats here s) i).place) (sym e) (rw (get_or-set_same seats here s no_seat few) ahead)
+      ]
+
+    -- a block whose least seat doesn't come before the place has none that does
+    pub block_ahead : (b : Block) → IsBlock seats b → (b.place < place → ⊥) → (k : ℕ) → IsOfBlock b k → place ≤ (seat_at seats k).place
+    block_ahead b own ahead k of = elim (cases_lt b.place place) [
+      | inl lt ↦ absurd (ahead lt)
+      | inr ge ↦ omega (arith, (own.least k of.0 of.1).least)
+    ]
+
+    -- no seat is left to be moved
+    pub before_ended : (runs : Runs) (bs : List Block) → AreBlocks p l runs seats bs → place ≤ past_all → ((i : ℕ) → i < length bs → (k : ℕ) → IsOfBlock (block_at bs i) k → place ≤ (seat_at seats k).place) → AreSeated p l rs place 0 seats
+    before_ended runs bs are top passed = record {
+      count = h.count;
+      each = λ k within. elim (h.each k within) [
+        | inl c ↦
+            let ahead : place ≤ (seat_at seats k).place = elim (cases_lt (seat_at seats k).place past_all) [
+              | inl lt ↦ let of = are.all k within lt in passed of.0 of.1 k of.2
+              | inr ge ↦ omega arith
+            ] in
+            inl (c.0, start_here (reach_at rs k) place 0 k (seat_at seats k) (omega arith) (seated_before (reach_at rs k) place (seat_at seats k) c.1 ahead))
+        | inr e ↦ inr e
+      ];
+    }
+
 -- ---- the seats of one block moved
 
 module _ (p : PolicyView) (l : LineView) (runs : Runs) (seats more : List Seat) (bs : List Block) (h : AreBlocks p l runs seats bs) (at : ℕ) (lt : at < length bs) (b : Block) (len : length more ≡ length seats) (same_walk : b.walk ≡ (block_at bs at).walk) (same_end : b.end ≡ (block_at bs at).end) (others : (k : ℕ) → (k < (block_at bs at).walk.next) ⊎ ((block_at bs at).end ≤ k) → seat_at more k ≡ seat_at seats k) where
@@ -501,20 +588,16 @@ module _ (p : PolicyView) (l : LineView) (runs : Runs) (seats more : List Seat) 
   pub put_of : (i : ℕ) → i < length bs → (k : ℕ) → IsOfBlock (block_at (set bs at b) i) k → IsOfBlock (block_at bs i) k
   put_of i few k of = (omega (arith, of.0, start_is i few), omega (arith, of.1, end_is i few))
 
-  -- what was passed before stays passed
-  pub put_passed : (place end upto : ℕ) → upto ≤ at → ((i : ℕ) → i < upto → (k : ℕ) → IsOfBlock (block_at bs i) k → k < end → (seat_at seats k).place ≢ place) → (i : ℕ) → i < upto → (k : ℕ) → IsOfBlock (block_at (set bs at b) i) k → k < end → (seat_at more k).place ≢ place
-  put_passed place end upto le passed i low k of few =
-      let ne : i ≢ at = λ e. omega arith in
-      let there = subst (λ (x : Block). IsOfBlock x k) (put_other i ne) of in
-      subst (λ (s : Seat). s.place ≢ place) (sym (other_seats i (omega arith) ne k there)) (passed i low k there few)
-
-  -- the blocks before it were passed, and so is this one
-  pub put_next : (place end : ℕ) → ((i : ℕ) → i < at → (k : ℕ) → IsOfBlock (block_at bs i) k → k < end → (seat_at seats k).place ≢ place) → ((k : ℕ) → IsOfBlock (block_at bs at) k → k < end → (seat_at more k).place ≢ place) → (i : ℕ) → i < at + 1 → (k : ℕ) → IsOfBlock (block_at (set bs at b) i) k → k < end → (seat_at more k).place ≢ place
-  put_next place end before own i few k of lt' = elim (cases_lt i at) [
-    | inl low ↦ put_passed place end at (omega arith) before i low k of lt'
+  -- what holds of the seats of the blocks before it, and of its own, holds of the next ones
+  pub put_next : (Q : ℕ → Seat → Type 0) → ((i : ℕ) → i < at → (k : ℕ) → IsOfBlock (block_at bs i) k → Q k (seat_at seats k)) → ((k : ℕ) → IsOfBlock (block_at bs at) k → Q k (seat_at more k)) → (i : ℕ) → i < at + 1 → (k : ℕ) → IsOfBlock (block_at (set bs at b) i) k → Q k (seat_at more k)
+  put_next Q before own i few k of = elim (cases_lt i at) [
+    | inl low ↦
+        let ne : i ≢ at = λ e. omega arith in
+        let there = subst (λ (x : Block). IsOfBlock x k) (put_other i ne) of in
+        subst (Q k) (sym (other_seats i (omega arith) ne k there)) (before i low k there)
     | inr ge ↦
         let e : i ≡ at = omega arith in
-        own k (subst (λ (j : ℕ). IsOfBlock (block_at bs j) k) e (put_of i (omega arith) k of)) lt'
+        own k (subst (λ (j : ℕ). IsOfBlock (block_at bs j) k) e (put_of i (omega arith) k of))
   ]
 
 -- the blocks of a line at its place

@@ -16,6 +16,7 @@ pub mod NoneLeft
 pub mod OnceEveryLemmas
 pub mod OnceLemmas
 pub mod OnceLines
+pub mod OncePlaces
 pub mod OneEvery
 pub mod OneMatrix
 pub mod Orders

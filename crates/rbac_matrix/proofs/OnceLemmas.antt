@@ -85,6 +85,7 @@ mixed_way s mixed upto way = record {
   ready = way.ready;
   runs = way.runs;
   blocks = way.blocks;
+  cluster_wide = way.cluster_wide;
   rows = way.rows;
   is_returned = way.is_returned;
   metered = way.metered;

@@ -1,5 +1,5 @@
 -- repeated lines, and what is passed over them
-use Rattle.std.proofs.Common.{◌≡◌, ◌≢◌, ℕ, ◌+◌, ◌-◌, ◌<◌, ◌≤◌, ◌⊎◌, List, [], ◌∷◌, ◌++◌, true, false, Contains, refl, ap, ◌∙◌, sym, arith, append_assoc, subst, inl, inr, ◌↔◌}
+use Rattle.std.proofs.Common.{◌≡◌, ◌≢◌, ℕ, ◌+◌, ◌-◌, ◌<◌, ◌≤◌, ◌⊎◌, List, [], ◌∷◌, ◌++◌, length, true, false, Contains, refl, ap, ◌∙◌, sym, arith, append_assoc, subst, inl, inr, ◌↔◌}
 use Rattle.std.specs.Prelude.{Option, Some, None, is_none, slice_get}
 use Rattle.std.specs.List.{flat_map}
 use Rattle.std.specs.List.Sorted.{IsPartitionPoint}
@@ -17,20 +17,24 @@ use Rattle.rbac_model.proofs.BindingPlaces.{of_some_binding}
 use Rattle.rbac_index.proofs.LivingLemmas.{cluster_first}
 use Rattle.rbac_universe.proofs.Flattened.{flat_contains, in_cons, map_contains}
 use Rattle.rbac_index.specs.Reaches.{AreReaches}
-use Rattle.rbac_matrix.specs.RepeatedLines.{HasRepeats, IsRepeated, PassesRepeated, PassesLines}
+use Rattle.rbac_matrix.specs.RepeatedLines.{AreClusterWide, HasRepeats, HasRepeatsAt, HasRepeatsFrom, IsRepeated, PassesRepeated, PassesLines}
 use Rattle.rbac_matrix.specs.Cells.{AreRowsOf}
 use Rattle.rbac_matrix.specs.Cursors.{AreKnownAt, AreRunsOf, IsCursorAt}
 use Rattle.rbac_matrix.specs.Lines.{IsLineAt, LineView, line_cells_from, lines_from, next_verb}
 use Rattle.rbac_matrix.specs.Metering.{IsMetered, Skips}
 use Rattle.rbac_matrix.specs.Once.{repeats_at}
-use Rattle.rbac_matrix.specs.Passing.{cell_of}
-use Rattle.rbac_matrix.specs.Seats.{AreEmpty, AreSeated, Costs}
+use Rattle.rbac_matrix.specs.Passing.{IsHit, cell_of}
+use Rattle.rbac_matrix.specs.Seats.{AreEmpty, AreSeated, Costs, past_all, seat_at}
+use Rattle.rbac_matrix.specs.Blocks.{AreBlocks, block_at}
 use Rattle.rbac_matrix.specs.Unnamed.{IsFrom, PassesUnnamed}
+use Rattle.rbac_matrix.specs.declared.blocks.Block.{Block}
 use Rattle.rbac_matrix.specs.declared.bound_runs.Runs.{Runs}
 use Rattle.rbac_matrix.specs.declared.line.Place.{Place}
 use Rattle.rbac_matrix.specs.declared.seat.Seat.{Seat}
 use Rattle.rbac_matrix.proofs.GoingLemmas.{fits_namespace}
-use Rattle.rbac_matrix.proofs.LineLemmas.{hit_cursor}
+use Rattle.rbac_matrix.proofs.HitLemmas.{from_zero}
+use Rattle.rbac_matrix.proofs.LineLemmas.{hit_cursor, seat_first}
+use Rattle.rbac_matrix.proofs.LoopLemmas.{cursor_within}
 use Rattle.rbac_matrix.proofs.PairLemmas.{granted_hit, rowless_pairs}
 use Rattle.rbac_matrix.proofs.TouchLemmas.{metered_end, metered_on, metered_skip}
 use Rattle.rbac_matrix.proofs.WalkLemmas.{known_at}
@@ -39,9 +43,14 @@ repeats_somewhere : (namespace : Text) → namespace ≢ [] → repeats_at names
 repeats_somewhere [] some = absurd (some refl)
 repeats_somewhere (c ∷ namespace) some = refl
 
+-- a repeat has a namespace
+pub repeat_somewhere : (namespace : Text) (own : Option Text) → repeats_at namespace own ≡ true → namespace ≢ []
+repeat_somewhere [] own e none = cc
+repeat_somewhere (c ∷ namespace) own e none = cc
+
 -- the grants of the bindings before the first RoleBinding
 pub cluster_below : (p : PolicyView) → IsPolicy p → (count end : ℕ) → IsPartitionPoint (λ (b : Binding). is_none b.namespace ≡ true) (λ (b : Binding). is_none b.namespace ≡ false) p.held.bindings count
-    → 0 < count → ((n at : ℕ) → IsOfBinding p n at → (n < end) ↔ (at ≤ count - 1)) → (k : ℕ) (g : GrantView) → slice_get p.grants k ≡ Some g → k < end → g.binding.namespace ≡ None
+    → 0 < count → ((n at : ℕ) → IsOfBinding p n at → (n < end) ↔ (at ≤ count - 1)) → AreClusterWide p end
 cluster_below p policy count end parted some upto k g at lt =
     let of = of_some_binding p policy k (slice_get_within p.grants k g at) in
     let early = (upto k of.0 of.1).0 lt in
@@ -49,11 +58,7 @@ cluster_below p policy count end parted some upto k g at lt =
     let there : slice_get p.held.bindings of.0 ≡ Some g.binding = of.1.2 ∙ ap (λ (h : GrantView). Some h.binding) same in
     (cluster_first p.held.bindings count parted of.0 g.binding there).0 (omega arith)
 
--- the grants before a number are of ClusterRoleBindings
-abbrev pub AreCluster : PolicyView → ℕ → Type 0
-AreCluster p first = (k : ℕ) (g : GrantView) → slice_get p.grants k ≡ Some g → k < first → g.binding.namespace ≡ None
-
-pub repeated_line : (p : PolicyView) (first : ℕ) → AreCluster p first → (l : LineView) → l.namespace ≢ [] → ((k : ℕ) → first ≤ k → IsCursorAt p l k → ⊥) → IsRepeated p l
+pub repeated_line : (p : PolicyView) (first : ℕ) → AreClusterWide p first → (l : LineView) → l.namespace ≢ [] → ((k : ℕ) → first ≤ k → IsCursorAt p l k → ⊥) → IsRepeated p l
 repeated_line p first cluster l some none = record {
   some = some;
   cursors = λ k c. elim (cases_lt k first) [
@@ -103,15 +108,30 @@ module _ (p : PolicyView) (u : UniverseView) where
 -- ---- the pairs of lines that are passed
 
 module _ (p : PolicyView) (policy : IsPolicy p) (u : UniverseView) where
-  -- where no RoleBinding has a cursor, what is granted is so by a ClusterRoleBinding
-  pub lines_repeat : IsUniverse u → (l : LineView) → IsRepeated p l → HasRepeats p u l
-  lines_repeat is l repeated q at t b read bound granted =
+  -- what only ClusterRoleBindings grant is a repeat
+  pub hits_repeat : IsUniverse u → (l : LineView) → l.namespace ≢ [] → (q : ℕ) → ((k : ℕ) → IsHit p u l q k → (c : IsCursorAt p l k) → c.grant.binding.namespace ≡ None) → HasRepeatsAt p u l q
+  hits_repeat is l some q cluster at t b read bound granted =
       let h = granted_hit p policy u l q at t b read bound granted in
       let cursor = hit_cursor p u l q h.0 h.1 in
       let same : h.2.0 ≡ cursor.grant = same_Some h.2.0 cursor.grant (sym h.2.1 ∙ cursor.at) in
       let binding : b ≡ cursor.grant.binding = same_Some b cursor.grant.binding (sym bound ∙ h.2.2 ∙ ap (λ (g : GrantView). Some g.binding) same) in
-      let none : b.namespace ≡ None = ap (λ (x : Binding). x.namespace) binding ∙ repeated.cursors h.0 cursor in
-      rw (fits_namespace u is l q t read granted.0, none) (repeats_somewhere l.namespace repeated.some)
+      let none : b.namespace ≡ None = ap (λ (x : Binding). x.namespace) binding ∙ cluster h.0 h.1 cursor in
+      rw (fits_namespace u is l q t read granted.0, none) (repeats_somewhere l.namespace some)
+
+  -- where no RoleBinding has a cursor, what is granted is so by a ClusterRoleBinding
+  pub lines_repeat : IsUniverse u → (l : LineView) → IsRepeated p l → HasRepeats p u l
+  lines_repeat is l repeated q = hits_repeat is l repeated.some q (λ k hit. repeated.cursors k)
+
+  -- before the least place from which on RoleBindings have entries there are only repeats
+  module _ (rs : List (List ℕ)) (l : LineView) (is : IsUniverse u) (reaches : AreReaches p u rs) (some : l.namespace ≢ []) (from upto : ℕ) (none : upto ≡ 0) (seats : List Seat) (seated : AreSeated p l rs from upto seats) (runs : Runs) (bs : List Block) (blocks : AreBlocks p l runs seats bs) (count : ℕ) (cluster : AreClusterWide p count) where
+    pub repeats_before : (to : ℕ) → to ≤ past_all → ((i : ℕ) → i < length bs → count < (block_at bs i).end → to ≤ (block_at bs i).place) → HasRepeatsFrom p u l from to
+    repeats_before to top least q low high = hits_repeat is l some q (λ k hit c.
+        let at : (seat_at seats k).place ≤ q = seat_first p u rs l policy is reaches from upto seats seated q k hit (from_zero q k from upto none low) in
+        let of = blocks.all k (omega (arith, cursor_within p l k c, seated.count)) (omega arith) in
+        elim (cases_lt k count) [
+          | inl lt ↦ cluster k c.grant c.at lt
+          | inr ge ↦ absurd (let own = (blocks.each of.0 of.1).least k of.2.0 of.2.1 in omega (arith, own.least, of.2.1, least of.0 of.1 (omega (arith, of.2.1))))
+        ])
 
   -- a line without rows has none of them
   pub rowless_repeats : (ls : List LineView) → AreRowsOf p.held (flat_map (line_cells_from u 0) ls) [] → (l : LineView) → Contains ls l → HasRepeats p u l

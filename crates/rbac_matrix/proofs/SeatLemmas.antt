@@ -7,7 +7,7 @@ use Rattle.std.specs.List.Sorted.{IsStrictlyIncreasing}
 use Rattle.rbac_model.specs.Policies.{PolicyView}
 use Rattle.rbac_index.specs.Reaches.{raised}
 use Rattle.rbac_matrix.specs.declared.seat.Seat.{Seat}
-use Rattle.rbac_matrix.specs.Seats.{IsSeated, AreEmpty, Costs, SeatCosts, ReadsAtMost, IsFirstFrom, empty_seat, no_seat, filled, passed, past_all, seat_at, stand_of, standing}
+use Rattle.rbac_matrix.specs.Seats.{IsSeated, IsSeatedBefore, AreEmpty, Costs, SeatCosts, ReadsAtMost, IsFirstFrom, empty_seat, no_seat, filled, passed, past_all, seat_at, stand_of, standing}
 use Rattle.rbac_matrix.proofs.SeekLemmas.{ascends, raised-raised}
 
 -- the seat after the entry at a place
@@ -42,6 +42,24 @@ seated_stays r place seat h ne = record {
   place = h.place;
   passed = λ k lt. omega (arith, h.passed k lt);
   ahead = let low = h.ahead in omega arith;
+}
+
+-- a seat at the first entry from some place on is at the first one from its own place on
+pub seated_here : (r : List ℕ) (place : ℕ) (seat : Seat) → IsSeatedBefore r place seat → IsSeated r seat.place seat
+seated_here r place seat (from, le, h) = record {
+  within = h.within;
+  place = h.place;
+  passed = λ k lt. omega (arith, h.passed k lt, h.ahead);
+  ahead = omega arith;
+}
+
+-- and, where it doesn't come before a later place, from that one on
+pub seated_before : (r : List ℕ) (place : ℕ) (seat : Seat) → IsSeatedBefore r place seat → place ≤ seat.place → IsSeated r place seat
+seated_before r place seat (from, le, h) ahead = record {
+  within = h.within;
+  place = h.place;
+  passed = λ k lt. omega (arith, h.passed k lt);
+  ahead = ahead;
 }
 
 pub seated_first : (r : List ℕ) (from position : ℕ) (seat : Seat) → IsFirstFrom r from position → from ≤ past_all → seat.position ≡ position → seat.place ≡ get_or r position past_all → IsSeated r from seat
@@ -79,6 +97,18 @@ next_costs r old new before after stood at place read unread real = elim (cases_
       let e : get_or r new.position past_all ≡ past_all = get_or_past r new.position past_all ge in
       record { total = 0; meter = omega (arith, unread ge); low = omega arith; high = omega arith }
 ]
+
+-- one step after another
+pub seat_costs_then : (a b c : Seat) (gain m m' m'' : ℕ) → SeatCosts 0 0 a b m m' → SeatCosts 0 gain b c m' m'' → SeatCosts 0 0 a c m m''
+seat_costs_then a b c gain m m' m'' p q = record {
+  total = p.total + q.total;
+  meter = rw (← raised-raised, ← p.meter) q.meter;
+  low = omega (arith, p.low, q.low);
+  high = omega (arith, p.high, q.high);
+}
+
+pub seat_costs_none : (seat : Seat) (m : ℕ) → SeatCosts 0 0 seat seat m m
+seat_costs_none seat m = record { total = 0; meter = omega arith; low = omega arith; high = omega arith }
 
 -- one more seat is written
 module _ (seats : List Seat) (k : ℕ) (s : Seat) (h : k < length seats) where

@@ -9,6 +9,7 @@ use Rattle.rbac_matrix.specs.Cursors.{AreRunsAt}
 use Rattle.rbac_matrix.specs.Lines.{LineView, line, lines_from}
 use Rattle.rbac_matrix.specs.Metering.{AreSought, IsMetered, IsReady}
 use Rattle.rbac_matrix.specs.Passing.{cells_left}
+use Rattle.rbac_matrix.specs.RepeatedLines.{AreClusterWide}
 use Rattle.rbac_index.specs.Reaches.{AreReaches, raised}
 use Rattle.rbac_matrix.specs.RowTexts.{Shows}
 use Rattle.rbac_matrix.specs.declared.row.Row.{Row}
@@ -57,6 +58,7 @@ pub record IsUnderWay (s : Rows) (upto : ℕ) : Type 0 where
   pub ready : IsReady s.index.now s.universe.now s.reaches.now s.at s.from upto s.seats.now
   pub runs : AreRunsAt s.index.now s.universe.now s.at s.kept.runs
   pub blocks : AreBlocksAt s.index.now s.universe.now s.at s.kept s.seats.now
+  pub cluster_wide : AreClusterWide s.index.now s.cluster_wide
   pub rows : ℕ
   pub is_returned : s.returned ≡ raised 0 rows
   pub metered : IsMetered s.index.now s.universe.now s.start s.sought s.at s.seats.now rows s.meter

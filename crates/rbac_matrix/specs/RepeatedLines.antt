@@ -1,7 +1,8 @@
 -- Lines of which each row, of whichever granting binding, is a repeat.
-use Rattle.std.specs.Prelude.{◌≡◌, ◌≢◌, ℕ, List, [], ◌∷◌, ◌++◌, Some, None, Contains, slice_get, true}
+use Rattle.std.specs.Prelude.{◌≡◌, ◌≢◌, ℕ, ◌<◌, ◌≤◌, List, [], ◌∷◌, ◌++◌, Some, None, Contains}
+use Rattle.std.specs.Prelude.{slice_get, true}
 use Rattle.rbac_terms.specs.declared.granting.Binding.{Binding}
-use Rattle.rbac_model.specs.Policies.{PolicyView}
+use Rattle.rbac_model.specs.Policies.{PolicyView, GrantView}
 use Rattle.rbac_model.specs.Universes.{UniverseView, Listed}
 use Rattle.rbac_matrix.specs.Cursors.{IsCursorAt}
 use Rattle.rbac_matrix.specs.Lines.{LineView, lines_from}
@@ -22,11 +23,24 @@ pub record PassesRepeated (p : PolicyView) (u : UniverseView) (at to : Place) : 
   pub whole : lines_from u at ≡ between ++ lines_from u to
   pub repeated : (l : LineView) → Contains between l → IsRepeated p l
 
--- each pair of a request of the line and a binding that is granted is a repeat
-abbrev pub HasRepeats : PolicyView → UniverseView → LineView → Type 0
-HasRepeats p u l = (place at : ℕ) (t : Listed) (b : Binding) → slice_get u.targets place ≡ Some t
+-- each pair of the line's request for the target at that place and a binding that is granted is a
+-- repeat
+abbrev pub HasRepeatsAt : PolicyView → UniverseView → LineView → ℕ → Type 0
+HasRepeatsAt p u l place = (at : ℕ) (t : Listed) (b : Binding) → slice_get u.targets place ≡ Some t
     → slice_get p.held.bindings at ≡ Some b → IsGranted p.held (pair_of (cell_of l t) b)
     → is_repeat (pair_of (cell_of l t) b) ≡ true
+
+-- that is so of each request of the line; of those for the targets from one place up to another
+abbrev pub HasRepeats : PolicyView → UniverseView → LineView → Type 0
+HasRepeats p u l = (place : ℕ) → HasRepeatsAt p u l place
+
+abbrev pub HasRepeatsFrom : PolicyView → UniverseView → LineView → ℕ → ℕ → Type 0
+HasRepeatsFrom p u l from to = (place : ℕ) → from ≤ place → place < to → HasRepeatsAt p u l place
+
+-- the grants before that number are of ClusterRoleBindings
+abbrev pub AreClusterWide : PolicyView → ℕ → Type 0
+AreClusterWide p count = (k : ℕ) (g : GrantView) → slice_get p.grants k ≡ Some g → k < count
+    → g.binding.namespace ≡ None
 
 -- from the line at one place up to another place there are only lines that have only repeats
 pub record PassesLines (p : PolicyView) (u : UniverseView) (at to : Place) : Type 0 where

@@ -21,6 +21,10 @@ pub record IsSeated (r : List ℕ) (from : ℕ) (seat : Seat) : Type 0 where
   pub passed : (k : ℕ) → k < seat.position → slice_index_or r k 0 < from
   pub ahead : from ≤ seat.place
 
+-- the seat is at the first entry that is at least some place, which doesn't come after this one
+abbrev pub IsSeatedBefore : List ℕ → ℕ → Seat → Type 0
+IsSeatedBefore r place seat = (from : ℕ) × (from ≤ place) × IsSeated r from seat
+
 -- the seat of a number; past the end it is `no_seat`
 abbrev pub no_seat : Seat
 no_seat = record { position = 0; place = 0 }
@@ -53,6 +57,15 @@ pub record AreSeatedAbout (p : PolicyView) (l : LineView) (rs : List (List ℕ))
       → (IsCursorAt p l k
       × (IsSeated (reach_at rs k) place (seat_at seats k)
       ⊎ ((k < end) × IsSeated (reach_at rs k) (place + 1) (seat_at seats k))))
+      ⊎ ((IsCursorAt p l k → ⊥) × (seat_at seats k ≡ empty_seat))
+
+-- each cursor of the line has its seat at an entry that is the first from the place on, or comes
+-- before that one, and all other seats are empty
+pub record AreSeatedBefore (p : PolicyView) (l : LineView) (rs : List (List ℕ)) (place : ℕ)
+    (seats : List Seat) : Type 0 where
+  pub count : length seats ≡ length p.grants
+  pub each : (k : ℕ) → k < length seats
+      → (IsCursorAt p l k × IsSeatedBefore (reach_at rs k) place (seat_at seats k))
       ⊎ ((IsCursorAt p l k → ⊥) × (seat_at seats k ≡ empty_seat))
 
 -- as many seats as grants, all empty

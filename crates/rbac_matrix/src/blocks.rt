@@ -50,6 +50,13 @@ impl Block {
         self.place == place && self.number < end
     }
 
+    // Whether the block's least seat is before the place.
+    pub(crate) fn stands_before(self, place: u32) -> bool
+        ensures { IsTrue result ↔ (self.place < place) }
+    {
+        self.place < place
+    }
+
     // The block after its seats moved.
     pub(crate) fn renewed(
         self,
@@ -171,6 +178,22 @@ impl Blocks {
             self.put(last, block);
             room = room.saturating_sub(1);
         }
+    }
+
+    // A place before which no seat of a grant from this number on is, and the least such place
+    // unless a block has grants on both sides of that number.
+    pub(crate) fn least_from(&self, first: u32) -> u32
+        ensures { (i : ℕ) → i < length self.now.kept.items
+            → first < (block_at self.now.kept.items i).end
+            → result ≤ (block_at self.now.kept.items i).place }
+    {
+        let mut place = u32::MAX;
+        for block in self.kept.as_slice() {
+            if first < block.end && block.place < place {
+                place = block.place;
+            }
+        }
+        place
     }
 
     // The least place that a seat of the blocks is at, with the first grant whose seat is there.

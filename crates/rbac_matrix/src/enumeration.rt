@@ -16,6 +16,7 @@ use crate::advance::advance;
 use crate::basis::Basis;
 use crate::kept::Kept;
 use crate::line::{Place, line_at};
+use crate::repeated_lines::cluster_grants;
 use crate::row::{Row, row_of};
 use crate::seat::Seat;
 use crate::seats::empty_all;
@@ -37,6 +38,8 @@ pub struct Rows<'r, 'm> {
     pub(crate) from: u32,
     // What is kept of that line.
     pub(crate) kept: Kept,
+    // How many grants ClusterRoleBindings bring.
+    pub(crate) cluster_wide: u32,
     // The last line on which a RoleBinding was found to have a cursor. It saves look-ups.
     pub(crate) mixed: Option<Place>,
     // The first line, how many of its cursors were sought, and how many rows were returned.
@@ -82,6 +85,7 @@ pub(crate) fn rows_from<'r, 'm>(
         at: start.at,
         from: start.from,
         kept,
+        cluster_wide: cluster_grants(index),
         mixed: None,
         start: start.at,
         sought,

@@ -1,8 +1,7 @@
 //! Lines of a namespace on which no RoleBinding has a cursor: each of their rows is a repeat.
 
-ghost use Rattle.std.specs.Prelude.{◌≡◌, ◌<◌, ◌≤◌, ◌⊎◌, ℕ, IsTrue, None, Some, slice_get};
-ghost use Rattle.rbac_model.specs.Policies.{GrantView};
-ghost use Rattle.rbac_matrix.specs.RepeatedLines.{PassesRepeated};
+ghost use Rattle.std.specs.Prelude.{◌≡◌, ◌≤◌, ◌⊎◌, ℕ, IsTrue};
+ghost use Rattle.rbac_matrix.specs.RepeatedLines.{AreClusterWide, PassesRepeated};
 ghost use Rattle.rbac_matrix.specs.Cursors.{AreRuns, IsCursorAt};
 ghost use Rattle.rbac_matrix.specs.Lines.{IsSettled};
 ghost use Rattle.rbac_matrix.specs.Shown.{line_of};
@@ -10,14 +9,14 @@ ghost use Rattle.rbac_matrix.specs.Shown.{line_of};
 use crate::bound_runs::Runs;
 use crate::line::{Line, Place, line_at, settled};
 use crate::unnamed::past_unnamed;
-use crate::walk::{next_cursor, whole_walk};
+use crate::walk::{next_bound, whole_walk};
 use rbac_index::Index;
+use rbac_terms::verb_matches;
 use rbac_universe::Universe;
 
 // How many grants ClusterRoleBindings bring; they come first.
 pub(crate) fn cluster_grants(index: &Index<'_>) -> u32
-    ensures { (k : ℕ) (g : GrantView) → slice_get index.now.grants k ≡ Some g → k < result
-        → g.binding.namespace ≡ None }
+    ensures { AreClusterWide index.now result }
 {
     let policy = index.policy();
     let bindings = policy.bindings();
@@ -36,8 +35,11 @@ pub(crate) fn has_cursor_from(index: &Index<'_>, line: Line<'_>, runs: &Runs, fi
         → (k : ℕ) → first ≤ k → ¬ IsCursorAt index.now (line_of line.entry) k }
 {
     let mut walk = whole_walk();
-    while let Some(no) = next_cursor(index, line, runs, &mut walk) {
-        if first <= no {
+    while let Some(no) = next_bound(index, line, runs, &mut walk) {
+        if no < first {
+            continue;
+        }
+        if verb_matches(index.grant(no).rule, line.verb) {
             return true;
         }
     }

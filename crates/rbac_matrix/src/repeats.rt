@@ -1,11 +1,10 @@
 //! Passing rows that repeat in a namespace what is allowed in the whole cluster.
 
-ghost use Rattle.std.specs.Prelude.{◌≡◌, ◌<◌, ◌≤◌, ◌∷◌, ◌+◌, ℕ, List, IsTrue, MatchOption, false};
-ghost use Rattle.std.specs.Prelude.{Some, length, slice_get};
+ghost use Rattle.std.specs.Prelude.{◌≡◌, ◌≢◌, ◌<◌, ◌≤◌, ◌∷◌, [], ℕ, List, IsTrue, MatchOption};
+ghost use Rattle.std.specs.Prelude.{Some, false, length, slice_get};
 ghost use Rattle.rbac_model.specs.Policies.{GrantView};
-ghost use Rattle.rbac_model.specs.Universes.{most_targets};
 ghost use Rattle.rbac_universe.specs.Sets.{IsWithinLimits};
-ghost use Rattle.rbac_matrix.specs.RepeatedLines.{IsRepeated, PassesLines};
+ghost use Rattle.rbac_matrix.specs.RepeatedLines.{HasRepeatsFrom, IsRepeated, PassesLines};
 ghost use Rattle.rbac_matrix.specs.Enumeration.{AreLeft, GoesOn, IsGoing, IsUnderWay};
 ghost use Rattle.rbac_matrix.specs.Enumeration.{requests_left};
 ghost use Rattle.rbac_matrix.specs.Lines.{IsSettled, LineView, lines_from};
@@ -13,10 +12,11 @@ ghost use Rattle.rbac_matrix.specs.Metering.{IsReady};
 ghost use Rattle.rbac_matrix.specs.Once.{PassesRepeats, PassesSome, StaysFirst, repeats_at};
 ghost use Rattle.rbac_matrix.specs.Passing.{EndsAll, FindsCell};
 
+use crate::advance::advance_to;
 use crate::basis::Basis;
 use crate::enumeration::Rows;
 use crate::line::{after, line_at};
-use crate::repeated_lines::{cluster_grants, has_cursor_from, past_repeated};
+use crate::repeated_lines::{has_cursor_from, past_repeated};
 use crate::row::is_repeat_in;
 use crate::seats::empty_line;
 use crate::steps::{next_cell, next_line};
@@ -95,7 +95,7 @@ impl Rows<'_, '_> {
             self.pass_lines();
             return true;
         }
-        self.pass_place();
+        self.pass_to(self.repeats_end().max(self.from + 1));
         true
     }
 
@@ -128,9 +128,8 @@ impl Rows<'_, '_> {
         let Some(line) = line_at(self.universe, self.at) else {
             return false;
         };
-        let cluster = cluster_grants(self.index);
         let runs = &self.kept.runs;
-        !line.namespace.is_empty() && !has_cursor_from(self.index, line, runs, cluster)
+        !line.namespace.is_empty() && !has_cursor_from(self.index, line, runs, self.cluster_wide)
     }
 
     // Leaves the line, whose rows are repeats, and passes lines after it of which the index says
@@ -165,17 +164,39 @@ impl Rows<'_, '_> {
         self.from = 0;
     }
 
-    // Passes the place from which rows are left, on a line where a RoleBinding has a cursor.
-    fn pass_place(&mut self)
+    // A place up to which the rows that are left of the line, if it has a namespace, are repeats: before
+    // it no RoleBinding has an entry.
+    fn repeats_end(&self) -> u32
+        requires { IsGoing self.now }
+        ensures within { result ≤ length self.now.universe.now.targets }
+        ensures repeats { (l : LineView) (ls : List LineView)
+            → lines_from self.now.universe.now self.now.at ≡ l ∷ ls → l.namespace ≢ []
+            → HasRepeatsFrom self.now.index.now self.now.universe.now l self.now.from result }
+    {
+        let targets = self.universe.targets().len() as u32;
+        targets.min(self.kept.blocks.least_from(self.cluster_wide))
+    }
+
+    // Passes the targets before this place, on a line where a RoleBinding has a cursor.
+    fn pass_to(&mut self, place: u32)
         requires going { IsGoing self.old }
-        requires few { self.old.from < most_targets }
+        requires on { self.old.from ≤ place }
         ensures going { IsGoing self.new }
-        ensures place { (self.new.at ≡ self.old.at) × (self.new.from ≡ self.old.from + 1)
+        ensures place { (self.new.at ≡ self.old.at) × (self.new.from ≡ place)
             × (self.new.returned ≡ self.old.returned) }
         ensures same { GoesOn self.old self.new }
     {
-        self.pass(self.index.len());
-        self.from += 1;
+        let basis = Basis {
+            index: self.index,
+            universe: self.universe,
+            reaches: self.reaches,
+        };
+        self.from = place;
         self.mixed = Some(self.at);
+        let Some(line) = line_at(self.universe, self.at) else {
+            return;
+        };
+        let kept = &mut self.kept;
+        advance_to(basis, line, kept, place, self.seats, &mut self.meter);
     }
 }

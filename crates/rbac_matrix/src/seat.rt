@@ -4,8 +4,8 @@ ghost use Rattle.std.specs.Prelude.{◌≡◌, ◌+◌, ◌<◌, ◌≤◌, ◌�
 ghost use Rattle.std.specs.List.{slice_index_or};
 ghost use Rattle.std.specs.List.Sorted.{IsStrictlyIncreasing};
 ghost use Rattle.rbac_index.specs.Reaches.{raised};
-ghost use Rattle.rbac_matrix.specs.Seats.{IsSeated, IsFirstFrom, ReadsAtMost, SeatCosts};
-ghost use Rattle.rbac_matrix.specs.Seats.{empty_seat, past_all};
+ghost use Rattle.rbac_matrix.specs.Seats.{IsSeated, IsSeatedBefore, IsFirstFrom, ReadsAtMost};
+ghost use Rattle.rbac_matrix.specs.Seats.{SeatCosts, empty_seat, past_all};
 ghost use Rattle.rbac_model.specs.Universes.{most_targets};
 
 use rbac_index::{Meter, Reach};
@@ -109,4 +109,18 @@ pub(crate) fn seat_after(reach: &Reach, seat: Seat, meter: &mut Meter) -> Seat
     ensures costs { SeatCosts 0 1 seat result meter.old meter.new }
 {
     seat_in(reach, seat.position as usize + 1, meter)
+}
+
+// The seat moved on to the first entry from the place on; it stays where it is there or past it.
+pub(crate) fn seat_at_least(reach: &Reach, seat: Seat, place: u32, meter: &mut Meter) -> Seat
+    requires before { IsSeatedBefore reach.now place seat }
+    requires real { (i : ℕ) → i < length reach.now → slice_index_or reach.now i 0 < past_all }
+    ensures seated { IsSeated reach.now place result }
+    ensures costs { SeatCosts 0 0 seat result meter.old meter.new }
+{
+    let mut seat = seat;
+    while seat.place < place {
+        seat = seat_after(reach, seat, meter);
+    }
+    seat
 }

@@ -1,4 +1,4 @@
-use Rattle.std.proofs.Common.{◌≡◌, ◌∙◌, ◌<◌, ap, arith, length, length-set, subst, sym, refl, inl, inr}
+use Rattle.std.proofs.Common.{◌≡◌, ◌≢◌, ◌∙◌, ◌<◌, ap, arith, length, length-set, subst, sym, refl, inl, inr}
 use Rattle.std.proofs.lemmas.Bool.{both_ways, cases_lt}
 use Rattle.rbac_matrix.specs.Shown.{line_of}
 use Rattle.rbac_matrix.specs.Blocks.{IsBlock, IsOfBlock, block_at}
@@ -56,7 +56,7 @@ loop-at-preserved c =
       blocks = rw c.put.ensures (put_blocks c.args.basis.index.now (line_of c.args.line) c.loop-at.kept.runs c.loop-at.seats c.advance_in.new.seats c.loop-at.kept.blocks.kept.items c.loop-at.invariant.blocks c.loop-at.at lt c.renewed-renewed.result len walk end others c.renewed-renewed.ensures.block);
       runs = c.loop-at.invariant.runs;
       count = rw c.put.ensures (length-set c.loop-at.kept.blocks.kept.items c.loop-at.at c.renewed-renewed.result ∙ c.loop-at.invariant.count);
-      passed = rw c.put.ensures (put_next c.args.basis.index.now (line_of c.args.line) c.loop-at.kept.runs c.loop-at.seats c.advance_in.new.seats c.loop-at.kept.blocks.kept.items c.loop-at.invariant.blocks c.loop-at.at lt c.renewed-renewed.result len walk end others c.args.place c.args.end c.loop-at.invariant.passed (rw c.get-block.ensures at c.advance_in.ensures.passed));
+      passed = rw c.put.ensures (put_next c.args.basis.index.now (line_of c.args.line) c.loop-at.kept.runs c.loop-at.seats c.advance_in.new.seats c.loop-at.kept.blocks.kept.items c.loop-at.invariant.blocks c.loop-at.at lt c.renewed-renewed.result len walk end others (λ k s. k < c.args.end → s.place ≢ c.args.place) c.loop-at.invariant.passed (rw c.get-block.ensures at c.advance_in.ensures.passed));
     }
 
 pub returns-clause-seated : goal.returns-clause-seated

@@ -16,6 +16,7 @@ returns-clause-way c = record {
   ready = ready_line c.args.self.now.index.now c.args.self.now.universe.now c.args.self.now.reaches.now c.args.self.now.at c.args.self.now.from c.args.upto c.advance.new.seats c.requires.going.2.ready.settled (line_of c.in-Some.line) _ c.in-Some.ensures.line c.advance.ensures.seated;
   runs = rw c.advance.ensures.runs c.requires.going.2.runs;
   blocks = blocks_here c.args.self.now.index.now c.args.self.now.universe.now c.args.self.now.at (line_of c.in-Some.line) _ c.advance.new.kept c.advance.new.seats c.in-Some.ensures.line c.advance.ensures.blocks;
+  cluster_wide = c.requires.going.2.cluster_wide;
   rows = c.requires.going.2.rows;
   is_returned = c.requires.going.2.is_returned;
   metered = metered_on c.args.self.now.index.now c.args.self.now.universe.now c.args.self.now.start c.args.self.now.sought c.args.self.now.at c.args.self.now.seats.now c.advance.new.seats c.requires.going.2.rows c.args.self.now.meter c.advance.new.meter c.requires.going.2.metered c.advance.ensures.costs;

@@ -23,6 +23,7 @@ returns-clause-going c =
       ready = c.next_line-self.ensures.ready;
       runs = c.next_line-self.ensures.runs;
       blocks = c.next_line-self.ensures.blocks;
+      cluster_wide = way.cluster_wide;
       rows = way.rows;
       is_returned = way.is_returned;
       metered = metered_lines c.args.self.now.index.now c.args.self.now.universe.now c.args.self.now.reaches.now c.args.self.now.start c.args.self.now.sought way.rows c.args.self.now.at c.after.result c.past_repeated-next.result c.next_line-self.result (line_of c.in-Some.line) c.args.self.now.from c.requires.way.0 c.args.self.now.seats.now c.empty_line.new.seats c.next_line-self.new.seats c.args.self.now.meter c.next_line-self.new.meter way.policy way.universe way.reaches

@@ -37,6 +37,7 @@ returns-in_err-place-clause-going c =
         ready = e.ready c.args.self.now.rows.from c.args.self.now.upto;
         runs = c.next_cell-found.ensures.runs;
         blocks = c.next_cell-found.ensures.blocks;
+        cluster_wide = c.requires.way.cluster_wide;
         rows = c.requires.way.rows;
         is_returned = c.requires.way.is_returned;
         metered = c.next_cell-found.ensures.metered c.args.self.now.rows.start c.args.self.now.rows.sought c.requires.way.rows c.requires.way.metered;
@@ -119,6 +120,7 @@ returns-clause-going c =
             (subst (λ (l : LineView). AreSeated c.args.self.now.rows.index.now l c.args.self.now.rows.reaches.now c.in_ok-place.place c.after_binding-binding.result.1 c.advance.new.seats) line c.advance.ensures.seated);
         runs = rw c.advance.ensures.runs c.next_cell-found.ensures.runs;
         blocks = blocks_here c.args.self.now.rows.index.now c.args.self.now.rows.universe.now c.next_cell-found.result.0 (line_of c.in_ok-line.line) _ c.advance.new.kept c.advance.new.seats c.in_ok-line.ensures.line c.advance.ensures.blocks;
+        cluster_wide = c.requires.way.cluster_wide;
         rows = c.requires.way.rows + 1;
         is_returned = omega (arith, c.saturating_add-rows.ensures, c.requires.way.is_returned);
         metered = metered_after c.args.self.now.rows.index.now c.args.self.now.rows.universe.now c.args.self.now.rows.reaches.now c.args.self.now.rows.at c.args.self.now.rows.from c.args.self.now.upto c.next_cell-found.result.0 c.next_cell-found.new.seats c.advance.new.seats c.in_ok-place.place c.in_ok-place.no c.after_binding-binding.result.1 f
