@@ -9,6 +9,7 @@ pub mod Granted
 pub mod Kept
 pub mod LabelAdding
 pub mod LabelBits
+pub mod LabelJoining
 pub mod LabelPlaces
 pub mod LabelSets
 pub mod LabelSteps

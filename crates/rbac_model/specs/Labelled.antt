@@ -48,3 +48,17 @@ abbrev pub Adds : List LabelEntry → List LabelEntry → LabelTexts → ℕ →
 Adds old new labels place = (key : Text) (value : Option Text) (k : ℕ)
     → Any (λ e. Says e (label_texts key value) k) new
     ↔ (Any (λ e. Says e (label_texts key value) k) old ⊎ ((k ≡ place) × HasSome labels key value))
+
+-- no entry's label is less than the one before it
+abbrev pub AreInOrder : List LabelEntry → Type 0
+AreInOrder = IsSorted (by_name (λ e. e.label))
+
+-- xs and ys say the same
+abbrev pub SayAlike : List LabelEntry → List LabelEntry → Type 0
+SayAlike xs ys = (label : List Text) (k : ℕ)
+    → Any (λ e. Says e label k) xs ↔ Any (λ e. Says e label k) ys
+
+-- new says what old says, and what one more entry says
+abbrev pub SaysToo : List LabelEntry → List LabelEntry → LabelEntry → Type 0
+SaysToo old new entry = (label : List Text) (k : ℕ)
+    → Any (λ e. Says e label k) new ↔ (Any (λ e. Says e label k) old ⊎ Says entry label k)

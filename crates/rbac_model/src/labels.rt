@@ -1,8 +1,8 @@
 //! The labels of all cluster roles, in order. What a selector selects is looked up in them, so that
 //! no export can make that slow.
 
-ghost use Rattle.std.specs.Prelude.{◌≡◌, ◌↔◌, ◌⊎◌, ◌≤◌, ◌<◌, [], ℕ, Any, All, IfOk};
-ghost use Rattle.std.specs.Prelude.{OnOk, length, slice_get, Some};
+ghost use Rattle.std.specs.Prelude.{◌≡◌, ◌↔◌, ◌⊎◌, ◌≤◌, ◌<◌, ◌/◌, ◌∷◌, ◌++◌, [], ℕ, List, Any, All};
+ghost use Rattle.std.specs.Prelude.{IfOk, OnOk, IsTrue, length, slice_get, Some};
 ghost use Rattle.std.specs.Option.{option_map};
 ghost use Rattle.std.specs.Cmp.Lexicographic.{slice_cmp};
 ghost use Rattle.std.specs.List.Sorted.{IsSorted};
@@ -11,7 +11,7 @@ ghost use Rattle.rbac_terms.specs.Selecting.{Selects, Meets, HasLabel, HasOneOf}
 ghost use Rattle.rbac_model.specs.Graphs.{HasPlace};
 ghost use Rattle.rbac_model.specs.Lists.{by_name};
 ghost use Rattle.rbac_model.specs.Labelled.{LabelEntry, AreWith, IsWithAt, HasSome, Adds};
-ghost use Rattle.rbac_model.specs.Labelled.{label_texts};
+ghost use Rattle.rbac_model.specs.Labelled.{AreInOrder, SayAlike, SaysToo, label_texts};
 
 use crate::place_set::PlaceSet;
 use rbac_terms::{
@@ -59,6 +59,15 @@ impl<'a> Entry<'a> {
             (Some(mine), Some(theirs)) => mine.cmp(theirs),
         })
     }
+
+    // Whether both are about one label and the cluster roles of one word.
+    fn joins(&self, other: &Entry) -> bool
+        ensures { IsTrue result
+            ↔ ((self.now.label ≡ other.now.label)
+            × (self.now.place / 64 ≡ other.now.place / 64)) }
+    {
+        self.cmp_label(other.key, other.value).is_eq() && self.place / 64 == other.place / 64
+    }
 }
 
 // The labels of these cluster roles.
@@ -95,7 +104,7 @@ impl<'a> Labelled<'a> {
         Ok(Labelled {
             roles,
             all: PlaceSet::up_to(alloc, roles.len())?,
-            entries,
+            entries: joined(alloc, entries)?,
         })
     }
 
@@ -278,5 +287,36 @@ fn push_labels<'a>(
             bits,
         })?;
     }
+    Ok(())
+}
+
+// The same labels, with one entry in place of those of one label and one word, because roles that
+// all select by one label would otherwise take as many steps each as there are roles.
+fn joined<'a>(alloc: Global, entries: Vec<Entry<'a>>) -> Result<Vec<Entry<'a>>, AllocError>
+    requires { AreInOrder entries.items }
+    ensures sorted { IfOk result (λ joined. AreInOrder joined.items) }
+    ensures same { IfOk result (λ joined. SayAlike joined.items entries.entry.items) }
+{
+    let mut joined = Vec::new(alloc);
+    for entry in entries {
+        put_entry(&mut joined, entry)?;
+    }
+    Ok(joined)
+}
+
+// Adds an entry to the last one, if they join, or after it.
+fn put_entry<'a>(joined: &mut Vec<Entry<'a>>, added: Entry<'a>) -> Result<(), AllocError>
+    ensures sorted { OnOk result
+        ((rest : List LabelEntry) → AreInOrder (joined.old.items ++ added.entry ∷ rest)
+        → AreInOrder (joined.new.items ++ rest)) }
+    ensures said { OnOk result (SaysToo joined.old.items joined.new.items added.entry) }
+{
+    if let Some(last) = joined.last_mut() {
+        if last.joins(&added) {
+            last.bits |= added.bits;
+            return Ok(());
+        }
+    }
+    joined.push(added)?;
     Ok(())
 }

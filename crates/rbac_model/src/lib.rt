@@ -17,6 +17,7 @@ mod policy;
 mod reachability;
 mod references;
 mod replacement;
+mod turned;
 mod visit_order;
 
 pub use fault::ResolveFault;

@@ -47,7 +47,7 @@ impl PlaceSet {
     }
 
     // The word at a place, or 0 if there is none.
-    fn word(&self, at: usize) -> u64
+    pub(crate) fn word(&self, at: usize) -> u64
         ensures { result ≡ slice_index_or self.now at 0 }
     {
         match self.words.as_slice().get(at) {

@@ -2,6 +2,7 @@
 //! nothing is proved about it.
 
 use crate::place_set::PlaceSet;
+use crate::turned::turned;
 use std::alloc::{AllocError, Global};
 
 // The vertices that have edges, in an order in which a vertex comes after those that it leads to,
@@ -30,50 +31,6 @@ fn with_edges(alloc: Global, graph: &[PlaceSet]) -> Result<PlaceSet, AllocError>
         }
     }
     Ok(vertices)
-}
-
-// For each of these vertices, the vertices that have an edge to it.
-fn turned(
-    alloc: Global,
-    graph: &[PlaceSet],
-    vertices: &PlaceSet,
-) -> Result<Vec<PlaceSet>, AllocError> {
-    let mut turned = Vec::with_capacity(alloc, graph.len())?;
-    for _row in graph {
-        turned.push(PlaceSet::new(alloc))?;
-    }
-    for (from, row) in graph.iter().enumerate() {
-        let mut shared = row.clone()?;
-        shared.keep(vertices);
-        turn_row(&shared, from, turned.as_mut_slice())?;
-    }
-    Ok(turned)
-}
-
-// Reverses the edges of one vertex.
-fn turn_row(row: &PlaceSet, from: usize, turned: &mut [PlaceSet]) -> Result<(), AllocError> {
-    for at in 0..turned.len() / 64 + 1 {
-        if row.has_word(at) {
-            turn_word(row, at, from, turned)?;
-        }
-    }
-    Ok(())
-}
-
-// Reverses the edges that have their bit in one word.
-fn turn_word(
-    row: &PlaceSet,
-    at: usize,
-    from: usize,
-    turned: &mut [PlaceSet],
-) -> Result<(), AllocError> {
-    let first = at.saturating_mul(64);
-    for to in first..first.saturating_add(64).min(turned.len()) {
-        if row.has(to) {
-            turned[to].insert(from)?;
-        }
-    }
-    Ok(())
 }
 
 // Takes one step of the search: to a waiting vertex that has an edge to the end of the path, or

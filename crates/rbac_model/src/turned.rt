@@ -1,0 +1,116 @@
+//! Turning the edges of a graph. Nothing is proved about the edges that come out, because they decide
+//! only how long a search takes.
+
+ghost use Rattle.std.specs.Prelude.{◌<◌};
+
+use crate::place_set::PlaceSet;
+use std::alloc::{AllocError, Global};
+
+// For each of these vertices, the vertices that have an edge to it. Edges are turned by squares of
+// 64 rows and 64 places, because bit by bit a graph of all edges would take seconds.
+pub(crate) fn turned(
+    alloc: Global,
+    graph: &[PlaceSet],
+    vertices: &PlaceSet,
+) -> Result<Vec<PlaceSet>, AllocError> {
+    let mut turned = Vec::with_capacity(alloc, graph.len())?;
+    for _row in graph {
+        turned.push(PlaceSet::new(alloc))?;
+    }
+    for band in 0..graph.len() / 512 + 1 {
+        turn_band(graph, vertices, band, turned.as_mut_slice())?;
+    }
+    Ok(turned)
+}
+
+// Turns 512 rows: they fill eight words of a turned row, which a processor fetches together.
+fn turn_band(
+    graph: &[PlaceSet],
+    vertices: &PlaceSet,
+    band: usize,
+    turned: &mut [PlaceSet],
+) -> Result<(), AllocError> {
+    for to in 0..turned.len() / 64 + 1 {
+        if vertices.has_word(to) {
+            turn_squares(graph, vertices, band, to, turned)?;
+        }
+    }
+    Ok(())
+}
+
+// Turns, of 512 rows, the edges that have their bit in one word.
+fn turn_squares(
+    graph: &[PlaceSet],
+    vertices: &PlaceSet,
+    band: usize,
+    to: usize,
+    turned: &mut [PlaceSet],
+) -> Result<(), AllocError> {
+    let first = band.saturating_mul(8);
+    for from in first..first.saturating_add(8) {
+        if vertices.has_word(from) {
+            let mut square = square_of(graph, from, to);
+            turn_square(&mut square);
+            put_square(&square, from, to, turned)?;
+        }
+    }
+    Ok(())
+}
+
+// One word of each of 64 rows.
+fn square_of(graph: &[PlaceSet], from: usize, to: usize) -> [u64; 64] {
+    let first = from.saturating_mul(64);
+    let mut square = [0; 64];
+    for at in 0..64 {
+        if let Some(row) = graph.get(first.saturating_add(at)) {
+            square[at] = row.word(to);
+        }
+    }
+    square
+}
+
+// Adds one word to each of 64 turned rows.
+fn put_square(
+    square: &[u64; 64],
+    from: usize,
+    to: usize,
+    turned: &mut [PlaceSet],
+) -> Result<(), AllocError> {
+    let first = to.saturating_mul(64);
+    for at in 0..64 {
+        if square[at] != 0 {
+            if let Some(row) = turned.get_mut(first.saturating_add(at)) {
+                row.put(from.saturating_mul(64), square[at])?;
+            }
+        }
+    }
+    Ok(())
+}
+
+// Exchanges rows and columns: of the square the upper right quarter and the lower left one, then
+// the same in each quarter, and so on down to single bits.
+fn turn_square(square: &mut [u64; 64]) {
+    if square.iter().all(|word| *word == 0) {
+        return;
+    }
+    exchange(square, 32, 0x0000_0000_FFFF_FFFF);
+    exchange(square, 16, 0x0000_FFFF_0000_FFFF);
+    exchange(square, 8, 0x00FF_00FF_00FF_00FF);
+    exchange(square, 4, 0x0F0F_0F0F_0F0F_0F0F);
+    exchange(square, 2, 0x3333_3333_3333_3333);
+    exchange(square, 1, 0x5555_5555_5555_5555);
+}
+
+// Exchanges blocks of this width: `mask` has the bits of the left block of each two.
+fn exchange(square: &mut [u64; 64], width: usize, mask: u64)
+    requires { width < 64 }
+{
+    for upper in 0..64 - width {
+        if upper & width == 0 {
+            let lower = upper + width;
+            let moved = ((square[upper] >> width) ^ square[lower]) & mask;
+            square[upper] ^= moved << width;
+            square[lower] ^= moved;
+        }
+    }
+}
