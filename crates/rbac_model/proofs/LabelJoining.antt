@@ -1,8 +1,8 @@
 -- entries of one label and one word as one entry
-use Rattle.std.proofs.Common.{◌≡◌, ◌≢◌, ℕ, ◌+◌, ◌-◌, ◌/◌, ◌%◌, ◌<◌, ◌≤◌, ◌⊎◌, ◌↔◌, List, [], ◌∷◌, ◌++◌, length, get_or, set, take, drop, Any, inl, inr, sym, ap, ◌∙◌, refl, arith, subst, suc, bit_or, Bool, true, false, true≢false, length-append, Equal, Ordering}
+use Rattle.std.proofs.Common.{◌≡◌, ℕ, ◌+◌, ◌-◌, ◌/◌, ◌%◌, ◌<◌, ◌≤◌, ◌⊎◌, ◌↔◌, List, [], ◌∷◌, ◌++◌, length, get_or, set, drop, Any, inl, inr, sym, ap, ◌∙◌, refl, arith, subst, suc, bit_or, Bool, true, false, true≢false, length-append, Equal, Ordering}
 use Rattle.std.specs.Bool.{◌==◌}
 use Rattle.std.specs.Int.{bit_at}
-use Rattle.std.specs.Prelude.{Option, slice_get}
+use Rattle.std.specs.Prelude.{Option}
 use Rattle.std.specs.Ordering.{is_lt, is_eq}
 use Rattle.std.specs.Cmp.Lexicographic.{slice_cmp}
 use Rattle.std.proofs.lemmas.Bool.{cases_eq, cases_lt}
@@ -15,9 +15,9 @@ use Rattle.std.proofs.Math.ListN.{get_or-append}
 use Rattle.rbac_terms.specs.Text.{Text, text_cmp}
 use Rattle.rbac_terms.proofs.Orderings.{equal_from_test}
 use Rattle.rbac_model.specs.Lists.{by_name}
-use Rattle.rbac_model.specs.Labelled.{LabelEntry, Says, AreInOrder, SayAlike, SaysToo, IsWithAt, HasSome, label_texts}
+use Rattle.rbac_model.specs.Labelled.{LabelEntry, Says, AreInOrder, SayTheSame, IsWithEntry, IsWithAt, HasSome, label_texts}
 use Rattle.rbac_terms.specs.declared.granting.ClusterRole.{ClusterRole}
-use Rattle.rbac_model.proofs.LabelSets.{any_push, none_any}
+use Rattle.rbac_model.proofs.LabelSets.{any_push}
 use Rattle.rbac_model.proofs.LastNamed.{ranks}
 use Rattle.rbac_model.proofs.NamePlaces.{exact_names}
 use Rattle.rbac_model.proofs.PlaceSets.{either_bit}
@@ -37,11 +37,11 @@ other_label a b asked o r is compared named f same =
     let tied : o ≡ Equal = compared ∙ ap (λ (m : List Text). slice_cmp text_cmp m asked) (same ∙ sym named) ∙ tied_itself (lists_total nat_list_cmp_total) asked in
     true≢false (sym (is ∙ ap is_eq tied) ∙ f)
 
-pub put_behind : (old : List LabelEntry) (added : LabelEntry) → SaysToo old (old ++ added ∷ []) added
-put_behind old added label k = any_push (λ e. Says e label k) old added
-
-pub behind_in_order : (old rest : List LabelEntry) (added : LabelEntry) → AreInOrder (old ++ added ∷ rest) → AreInOrder ((old ++ added ∷ []) ++ rest)
-behind_in_order old rest added up = subst AreInOrder (sym (append_assoc old (added ∷ []) rest)) up
+pub put_behind : (old : List LabelEntry) (added : LabelEntry) → IsWithEntry old added (old ++ added ∷ [])
+put_behind old added = record {
+  says = λ label k. any_push (λ e. Says e label k) old added;
+  in_order = λ rest up. subst AreInOrder (sym (append_assoc old (added ∷ []) rest)) up;
+}
 
 -- the entry at a place takes over the bits of one of its label and its word
 module _ (old : List LabelEntry) (at : ℕ) (x last added : LabelEntry) (l : at < length old) (is : last ≡ get_or old at last) (kept : x.label ≡ last.label) (place : x.place ≡ last.place) (bits : x.bits ≡ bit_or last.bits added.bits) where
@@ -69,18 +69,6 @@ module _ (old : List LabelEntry) (at : ℕ) (x last added : LabelEntry) (l : at 
           any-set (λ e. Says e label k) old at x l (both_say.1 (inl (subst (λ (e : LabelEntry). Says e label k) (sym w.3 ∙ read) w.4)))
       | inr ne ↦ (w.0, w.1, omega (arith, length-set old at x, w.2), get_or-set_other old at w.0 x w.1 ne ∙ w.3, w.4)
     ]
-
-  pub put_together : last.label ≡ added.label → last.place / 64 ≡ added.place / 64 → SaysToo old (set old at x) added
-  put_together named near label k = (
-    λ w. elim (from_set label k named near w) [
-      | inl o ↦ inl o
-      | inr s ↦ elim ((both_say label k named near).0 s) [ inl a ↦ inl (at, last, l, sym is, a) | inr a ↦ inr a ]
-    ],
-    λ s. elim s [
-      | inl o ↦ still_said label k named near o
-      | inr a ↦ any-set (λ e. Says e label k) old at x l ((both_say label k named near).1 (inr a))
-    ],
-  )
 
   -- one entry less leaves the others in order
   module _ (rest : List LabelEntry) where
@@ -110,7 +98,7 @@ module _ (old : List LabelEntry) (at : ℕ) (x last added : LabelEntry) (l : at 
           (i + 1, omega arith, omega arith, λ w. absurd (omega (arith, g, w)), λ _. refl, ap (λ (e : LabelEntry). e.label) (ap (λ (n : ℕ). get_or (set old at x ++ rest) n d) (sym here) ∙ read ∙ ap (λ (n : ℕ). get_or (old ++ added ∷ rest) n d) there))
     ]
 
-    pub one_less : AreInOrder (old ++ added ∷ rest) → AreInOrder (set old at x ++ rest)
+    one_less : AreInOrder (old ++ added ∷ rest) → AreInOrder (set old at x ++ rest)
     one_less up k d from within =
         let len = length-append (set old at x) rest in
         let more = length-append old (added ∷ rest) in
@@ -124,26 +112,41 @@ module _ (old : List LabelEntry) (at : ℕ) (x last added : LabelEntry) (l : at 
         let far = sorted_far (λ x y. is_lt (by_name (λ (e : LabelEntry). e.label) x y)) (ranks (λ (e : LabelEntry). e.label)) (old ++ added ∷ rest) up a.0 b.0 d le (omega (arith, len, more, same, within, b.2)) in
         rw (a.5, b.5) far
 
+  still_say : last.label ≡ added.label → last.place / 64 ≡ added.place / 64 → (label : List Text) (k : ℕ) → Any (λ e. Says e label k) (set old at x) ↔ (Any (λ e. Says e label k) old ⊎ Says added label k)
+  still_say named near label k = (
+    λ w. elim (from_set label k named near w) [
+      | inl o ↦ inl o
+      | inr s ↦ elim ((both_say label k named near).0 s) [ inl a ↦ inl (at, last, l, sym is, a) | inr a ↦ inr a ]
+    ],
+    λ s. elim s [
+      | inl o ↦ still_said label k named near o
+      | inr a ↦ any-set (λ e. Says e label k) old at x l ((both_say label k named near).1 (inr a))
+    ],
+  )
+
+  pub put_together : last.label ≡ added.label → last.place / 64 ≡ added.place / 64 → IsWithEntry old added (set old at x)
+  put_together named near = record { says = still_say named near; in_order = one_less }
+
 -- entry by entry
-pub joined_more : (entries yielded joined new : List LabelEntry) (x : LabelEntry) → length yielded < length entries → x ≡ get_or entries (length yielded) x → ((rest : List LabelEntry) → AreInOrder (joined ++ x ∷ rest) → AreInOrder (new ++ rest)) → AreInOrder (joined ++ drop (length yielded) entries) → AreInOrder (new ++ drop (length (yielded ++ x ∷ [])) entries)
-joined_more entries yielded joined new x l is kept up =
+pub joined_more : (entries yielded joined new : List LabelEntry) (x : LabelEntry) → length yielded < length entries → x ≡ get_or entries (length yielded) x → IsWithEntry joined x new → AreInOrder (joined ++ drop (length yielded) entries) → AreInOrder (new ++ drop (length (yielded ++ x ∷ [])) entries)
+joined_more entries yielded joined new x l is more up =
     let i = length yielded in
     let split : drop i entries ≡ x ∷ drop (i + 1) entries = drop_more entries i x l ∙ ap (λ (e : LabelEntry). e ∷ drop (i + 1) entries) (sym is) in
     let next : i + 1 ≡ length (yielded ++ x ∷ []) = omega (arith, length-append yielded (x ∷ [])) in
-    subst (λ (n : ℕ). AreInOrder (new ++ drop n entries)) next (kept (drop (i + 1) entries) (subst (λ (xs : List LabelEntry). AreInOrder (joined ++ xs)) split up))
+    subst (λ (n : ℕ). AreInOrder (new ++ drop n entries)) next (more.in_order (drop (i + 1) entries) (subst (λ (xs : List LabelEntry). AreInOrder (joined ++ xs)) split up))
 
-pub said_more : (yielded joined new : List LabelEntry) (x : LabelEntry) → SaysToo joined new x → SayAlike joined yielded → SayAlike new (yielded ++ x ∷ [])
-said_more yielded joined new x too alike label k =
+pub said_more : (yielded joined new : List LabelEntry) (x : LabelEntry) → IsWithEntry joined x new → SayTheSame yielded joined → SayTheSame (yielded ++ x ∷ []) new
+said_more yielded joined new x more same label k =
     let push = any_push (λ e. Says e label k) yielded x in (
-      λ w. push.1 (elim ((too label k).0 w) [ inl o ↦ inl ((alike label k).0 o) | inr s ↦ inr s ]),
-      λ w. (too label k).1 (elim (push.0 w) [ inl o ↦ inl ((alike label k).1 o) | inr s ↦ inr s ]),
+      λ w. push.1 (elim ((more.says label k).0 w) [ inl o ↦ inl ((same label k).0 o) | inr s ↦ inr s ]),
+      λ w. (more.says label k).1 (elim (push.0 w) [ inl o ↦ inl ((same label k).1 o) | inr s ↦ inr s ]),
     )
 
 pub joined_all : (entries joined : List LabelEntry) (n : ℕ) → length entries ≤ n → AreInOrder (joined ++ drop n entries) → AreInOrder joined
 joined_all entries joined n le up =
     subst AreInOrder (ap (λ (xs : List LabelEntry). joined ++ xs) (drop_all n entries le) ∙ append-nil joined) up
 
-pub still_exact : (roles : List ClusterRole) (entries joined : List LabelEntry) → SayAlike joined entries → ((key : Text) (value : Option Text) (k : ℕ) → Any (λ e. Says e (label_texts key value) k) entries ↔ IsWithAt (λ labels. HasSome labels key value) roles k)
+pub still_exact : (roles : List ClusterRole) (entries joined : List LabelEntry) → SayTheSame entries joined → ((key : Text) (value : Option Text) (k : ℕ) → Any (λ e. Says e (label_texts key value) k) entries ↔ IsWithAt (λ labels. HasSome labels key value) roles k)
     → (key : Text) (value : Option Text) (k : ℕ) → Any (λ e. Says e (label_texts key value) k) joined ↔ IsWithAt (λ labels. HasSome labels key value) roles k
 still_exact roles entries joined alike exact key value k =
     let same = alike (label_texts key value) k in

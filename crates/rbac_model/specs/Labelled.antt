@@ -1,4 +1,4 @@
-use Rattle.std.specs.Prelude.{◌≡◌, ◌↔◌, ◌⊎◌, ℕ, ◌/◌, ◌%◌, List, [], ◌∷◌, Option, Some, None, Any}
+use Rattle.std.specs.Prelude.{◌≡◌, ◌↔◌, ◌⊎◌, ℕ, ◌/◌, ◌%◌, List, [], ◌∷◌, ◌++◌, Option, Some, None, Any}
 use Rattle.std.specs.Prelude.{slice_get}
 use Rattle.std.specs.Int.{bit_at}
 use Rattle.std.specs.List.Sorted.{IsSorted}
@@ -53,12 +53,15 @@ Adds old new labels place = (key : Text) (value : Option Text) (k : ℕ)
 abbrev pub AreInOrder : List LabelEntry → Type 0
 AreInOrder = IsSorted (by_name (λ e. e.label))
 
--- xs and ys say the same
-abbrev pub SayAlike : List LabelEntry → List LabelEntry → Type 0
-SayAlike xs ys = (label : List Text) (k : ℕ)
-    → Any (λ e. Says e label k) xs ↔ Any (λ e. Says e label k) ys
+-- ys say of each label the same as xs
+abbrev pub SayTheSame : List LabelEntry → List LabelEntry → Type 0
+SayTheSame xs ys = (label : List Text) (k : ℕ)
+    → Any (λ e. Says e label k) ys ↔ Any (λ e. Says e label k) xs
 
--- new says what old says, and what one more entry says
-abbrev pub SaysToo : List LabelEntry → List LabelEntry → LabelEntry → Type 0
-SaysToo old new entry = (label : List Text) (k : ℕ)
-    → Any (λ e. Says e label k) new ↔ (Any (λ e. Says e label k) old ⊎ Says entry label k)
+-- new says what old and one more entry say, and stands in order wherever these two would
+pub record IsWithEntry (old : List LabelEntry) (entry : LabelEntry)
+    (new : List LabelEntry) : Type 0 where
+  pub says : (label : List Text) (k : ℕ)
+      → Any (λ e. Says e label k) new ↔ (Any (λ e. Says e label k) old ⊎ Says entry label k)
+  pub in_order : (rest : List LabelEntry) → AreInOrder (old ++ entry ∷ rest)
+      → AreInOrder (new ++ rest)

@@ -1,8 +1,8 @@
 //! The labels of all cluster roles, in order. What a selector selects is looked up in them, so that
 //! no export can make that slow.
 
-ghost use Rattle.std.specs.Prelude.{◌≡◌, ◌↔◌, ◌⊎◌, ◌≤◌, ◌<◌, ◌/◌, ◌∷◌, ◌++◌, [], ℕ, List, Any, All};
-ghost use Rattle.std.specs.Prelude.{IfOk, OnOk, IsTrue, length, slice_get, Some};
+ghost use Rattle.std.specs.Prelude.{◌≡◌, ◌↔◌, ◌⊎◌, ◌≤◌, ◌<◌, ◌/◌, [], ℕ, Any, All, IfOk};
+ghost use Rattle.std.specs.Prelude.{OnOk, IsTrue, length, slice_get, Some};
 ghost use Rattle.std.specs.Option.{option_map};
 ghost use Rattle.std.specs.Cmp.Lexicographic.{slice_cmp};
 ghost use Rattle.std.specs.List.Sorted.{IsSorted};
@@ -11,7 +11,7 @@ ghost use Rattle.rbac_terms.specs.Selecting.{Selects, Meets, HasLabel, HasOneOf}
 ghost use Rattle.rbac_model.specs.Graphs.{HasPlace};
 ghost use Rattle.rbac_model.specs.Lists.{by_name};
 ghost use Rattle.rbac_model.specs.Labelled.{LabelEntry, AreWith, IsWithAt, HasSome, Adds};
-ghost use Rattle.rbac_model.specs.Labelled.{AreInOrder, SayAlike, SaysToo, label_texts};
+ghost use Rattle.rbac_model.specs.Labelled.{AreInOrder, SayTheSame, IsWithEntry, label_texts};
 
 use crate::place_set::PlaceSet;
 use rbac_terms::{
@@ -294,8 +294,8 @@ fn push_labels<'a>(
 // all select by one label would otherwise take as many steps each as there are roles.
 fn joined<'a>(alloc: Global, entries: Vec<Entry<'a>>) -> Result<Vec<Entry<'a>>, AllocError>
     requires { AreInOrder entries.items }
-    ensures sorted { IfOk result (λ joined. AreInOrder joined.items) }
-    ensures same { IfOk result (λ joined. SayAlike joined.items entries.entry.items) }
+    ensures { IfOk result
+        (λ joined. AreInOrder joined.items × SayTheSame entries.entry.items joined.items) }
 {
     let mut joined = Vec::new(alloc);
     for entry in entries {
@@ -306,10 +306,7 @@ fn joined<'a>(alloc: Global, entries: Vec<Entry<'a>>) -> Result<Vec<Entry<'a>>, 
 
 // Adds an entry to the last one, if they join, or after it.
 fn put_entry<'a>(joined: &mut Vec<Entry<'a>>, added: Entry<'a>) -> Result<(), AllocError>
-    ensures sorted { OnOk result
-        ((rest : List LabelEntry) → AreInOrder (joined.old.items ++ added.entry ∷ rest)
-        → AreInOrder (joined.new.items ++ rest)) }
-    ensures said { OnOk result (SaysToo joined.old.items joined.new.items added.entry) }
+    ensures { OnOk result (IsWithEntry joined.old.items added.entry joined.new.items) }
 {
     if let Some(last) = joined.last_mut() {
         if last.joins(&added) {

@@ -49,7 +49,7 @@ fn turn_squares(
     let first = band.saturating_mul(8);
     for from in first..first.saturating_add(8) {
         if vertices.has_word(from) {
-            let mut square = square_of(graph, from, to);
+            let mut square = square_of(graph, vertices, from, to);
             turn_square(&mut square);
             put_square(&square, from, to, turned)?;
         }
@@ -57,13 +57,13 @@ fn turn_squares(
     Ok(())
 }
 
-// One word of each of 64 rows.
-fn square_of(graph: &[PlaceSet], from: usize, to: usize) -> [u64; 64] {
+// Of each of 64 rows the edges to these vertices that have their bit in one word.
+fn square_of(graph: &[PlaceSet], vertices: &PlaceSet, from: usize, to: usize) -> [u64; 64] {
     let first = from.saturating_mul(64);
     let mut square = [0; 64];
     for at in 0..64 {
         if let Some(row) = graph.get(first.saturating_add(at)) {
-            square[at] = row.word(to);
+            square[at] = row.word(to) & vertices.word(to);
         }
     }
     square

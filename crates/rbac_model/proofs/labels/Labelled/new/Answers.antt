@@ -26,8 +26,8 @@ invariant_of-result c =
     let all : length c.args.roles.now ≤ c.loop-place.place = omega (arith, c.loop-place-test.false) in (
       c.in_ok-up_to.ensures,
       record {
-        sorted = c.in_ok-joined.ensures.sorted;
-        exact = still_exact c.args.roles.now c.sort_by.new.self.items c.in_ok-joined.field-0.items c.in_ok-joined.ensures.same
+        sorted = c.in_ok-joined.ensures.0;
+        exact = still_exact c.args.roles.now c.sort_by.new.self.items c.in_ok-joined.field-0.items c.in_ok-joined.ensures.1
             (says_sorted c.args.roles.now c.loop-place.entries.items c.sort_by.new.self.items c.loop-place.place all c.in_ok-sort_by.ensures.permutation c.loop-place.invariant);
       },
     )
