@@ -1,15 +1,13 @@
 //! What a change of policies lets people do, and what it takes from them.
 
-ghost use Rattle.std.specs.Prelude.{◌≡◌, IfOk, map};
-ghost use Rattle.std.specs.BTreeMap.{IsOrdered};
-ghost use Rattle.rbac_terms.specs.Text.{text_cmp};
+ghost use Rattle.std.specs.Prelude.{IfOk};
 ghost use Rattle.rbac_model.specs.Policies.{IsPolicy};
 ghost use Rattle.rbac_diff.specs.Changes.{AreChanges};
-ghost use Rattle.rbac_diff.specs.Listed.{change_of, entry_change};
 
 use crate::changed::Changed;
 use crate::fault::DiffFault;
 use crate::finding::add_gained;
+use crate::listing::Changes;
 use rbac_model::Policy;
 use rbac_terms::{Binding, Word};
 use std::alloc::Global;
@@ -53,9 +51,8 @@ pub fn changes<'p>(
     alloc: Global,
     before: &'p Policy,
     after: &'p Policy,
-) -> Result<Vec<Change<'p>>, DiffFault>
-    ensures changes { IfOk result
-        (λ xs. AreChanges before.now after.now (map change_of xs.items)) }
+) -> Result<Changes<'p>, DiffFault>
+    ensures changes { IfOk result (λ xs. AreChanges before.now after.now xs) }
     ensures before { IsPolicy before.now }
     ensures after { IsPolicy after.now }
 {
@@ -65,22 +62,5 @@ pub fn changes<'p>(
     let mut findings = BTreeMap::new(alloc);
     add_gained(alloc, ChangeKind::Gained, before, after, new, &mut findings)?;
     add_gained(alloc, ChangeKind::Lost, after, before, gone, &mut findings)?;
-    listed(alloc, findings)
-}
-
-// The changes that were found, in order.
-fn listed<'p>(alloc: Global, findings: Findings<'p>) -> Result<Vec<Change<'p>>, DiffFault>
-    ensures entries { IfOk result
-        (λ xs. map change_of xs.items ≡ map entry_change findings.entry.entries) }
-    ensures ordered { IsOrdered text_cmp findings.entry }
-{
-    let mut changes = Vec::new(alloc);
-    for (permission, found) in findings {
-        changes.push(Change {
-            kind: found.kind,
-            permission,
-            binding: found.binding,
-        })?;
-    }
-    Ok(changes)
+    Ok(Changes::of(findings))
 }

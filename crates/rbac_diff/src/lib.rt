@@ -11,6 +11,7 @@ mod fault;
 mod finding;
 mod laws;
 mod line;
+mod listing;
 mod named;
 mod permission;
 mod sharing;
@@ -25,3 +26,4 @@ pub use laws::{
     a_list_of_changes_is_there, changes_are_one, changes_tell_all, losses_are_gains_exchanged,
 };
 pub use line::put_change;
+pub use listing::Changes;

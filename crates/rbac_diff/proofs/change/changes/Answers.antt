@@ -5,7 +5,6 @@ use Rattle.rbac_terms.specs.Text.{Text, text_cmp}
 use Rattle.rbac_diff.specs.Changes.{ChangeView, AreChanges}
 use Rattle.rbac_diff.specs.declared.change.Found.{Found}
 use Rattle.rbac_diff.proofs.AllChanges.{all_changes}
-use Rattle.rbac_diff.proofs.Results.{ok_weaker}
 use Rattle.rbac_diff.proofs.change.changes.Goals as goal
 
 pub returns-clause-changes : goal.returns-clause-changes
@@ -13,5 +12,5 @@ returns-clause-changes c =
     let policies = c.between.ensures.policies in
     let all = all_changes c.args.before.now c.args.after.now policies.0 policies.1 c.new-findings.result c.add_gained.new.findings c.add_gained-2.new.findings
     (λ t y e. (let none = ap (λ (es : List (Text × Found)). lookup (λ k. is_eq (text_cmp t k)) es) c.new-findings.ensures.empty in let both : None ≡ Some y = sym none ∙ e in cc))
-    c.in_ok-add_gained.ensures c.in_ok-add_gained-2.ensures c.listed.ensures.ordered in
-    ok_weaker _ _ c.listed.result (λ xs e. subst (λ (xs : List ChangeView). AreChanges c.args.before.now c.args.after.now xs) (sym e) all) c.listed.ensures.entries
+    c.in_ok-add_gained.ensures c.in_ok-add_gained-2.ensures c.of.ensures.ordered in
+    subst (λ (xs : List ChangeView). AreChanges c.args.before.now c.args.after.now xs) (sym c.of.ensures.changes) all
