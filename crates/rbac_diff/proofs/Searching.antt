@@ -1,6 +1,7 @@
 -- findings, one after the other
-use Rattle.std.proofs.Common.{◌≡◌, ◌⊎◌, ◌↔◌, ◌+◌, ◌<◌, ◌≤◌, ◌++◌, ◌∷◌, [], ℕ, Any, take, length, get_or, inl, inr, refl, sym, subst, ap, ◌∙◌, IsSome, is_some, Some, None, Option, List, Bor, Bool, true, false, cond}
+use Rattle.std.proofs.Common.{◌≡◌, ◌⊎◌, ◌↔◌, ◌+◌, ◌<◌, ◌≤◌, ◌++◌, ◌∷◌, [], ℕ, Any, take, length, get_or, inl, inr, refl, sym, subst, ap, ◌∙◌, IsSome, Some, None, Option, List, Bor, Bool, true, false, cond}
 use Rattle.std.specs.BTreeMap.{get}
+use Rattle.std.specs.Option.{unwrap_or}
 use Rattle.std.specs.Ordering.{is_eq}
 use Rattle.std.proofs.lemmas.Cmp.{tied_itself, nat_list_cmp_total}
 use Rattle.std.proofs.lemmas.Option.{same_Some}
@@ -24,10 +25,6 @@ module _ {X : Type 0} where
   pub still_some : (o now : Option X) → ((y : X) → o ≡ Some y → now ≡ Some y) → IsSome o → IsSome now
   still_some None now kept is = absurd (let both : false ≡ true = is in cc)
   still_some (Some y) now kept is = subst (λ (x : Option X). IsSome x) (sym (kept y refl)) is
-
-  pub none_from : (o : Option X) (r : Bool) → r ≡ is_some o → r ≡ false → o ≡ None
-  none_from None r e h = refl
-  none_from (Some y) r e h = absurd (let both : false ≡ true = sym h ∙ e in cc)
 
   pub none_some : (o : Option X) → o ≡ None → IsSome o → ⊥
   none_some None e is = let both : false ≡ true = is in cc
@@ -67,7 +64,7 @@ finds_same P Q x a b same f = record {
 }
 
 -- what is put under a text that had nothing
-pub finds_put : (q : PermissionView) (x : Found) (a b : Findings) (t : Text) → t ≡ permission_text q → get text_cmp a t ≡ None → ((k : Text) → get text_cmp b k ≡ cond (is_eq (text_cmp t k)) (Some x) (get text_cmp a k)) → Finds (λ p. p ≡ q) x a b
+finds_put : (q : PermissionView) (x : Found) (a b : Findings) (t : Text) → t ≡ permission_text q → get text_cmp a t ≡ None → ((k : Text) → get text_cmp b k ≡ cond (is_eq (text_cmp t k)) (Some x) (get text_cmp a k)) → Finds (λ p. p ≡ q) x a b
 finds_put q x a b t same none reads = record {
   kept = λ k y e. by_bool (is_eq (text_cmp t k))
       (λ h. (let at : t ≡ k = exact_bytes t k (equal_from_test (text_cmp t k) h) in let both : None ≡ Some y = sym none ∙ ap (λ (w : Text). get text_cmp a w) at ∙ e in absurd (cc both)))
@@ -81,6 +78,28 @@ finds_put q x a b t same none reads = record {
       inr (ap (λ (w : Text). get text_cmp a w) (sym at) ∙ none, sym (same_Some x y is), (q, refl, sym at ∙ same))))
       (λ h. inl (sym (reads k ∙ ap (λ (c : Bool). cond c (Some x) (get text_cmp a k)) h) ∙ e));
 }
+
+-- what is there under a text stays as it is put there again
+finds_kept : (q : PermissionView) (x y : Found) (a b : Findings) (t : Text) → t ≡ permission_text q → get text_cmp a t ≡ Some y → ((k : Text) → get text_cmp b k ≡ cond (is_eq (text_cmp t k)) (Some y) (get text_cmp a k)) → Finds (λ p. p ≡ q) x a b
+finds_kept q x y a b t same there reads =
+    let as_before : (k : Text) → get text_cmp b k ≡ get text_cmp a k = λ k. by_bool (is_eq (text_cmp t k))
+    (λ h. (let at : t ≡ k = exact_bytes t k (equal_from_test (text_cmp t k) h) in
+    reads k ∙ ap (λ (c : Bool). cond c (Some y) (get text_cmp a k)) h ∙ sym there ∙ ap (λ (w : Text). get text_cmp a w) at))
+    (λ h. reads k ∙ ap (λ (c : Bool). cond c (Some y) (get text_cmp a k)) h) in
+    record {
+      kept = λ k z e. as_before k ∙ e;
+      has = λ p e. (let at : t ≡ permission_text p = same ∙ ap permission_text (sym e) in
+          subst (λ (o : Option Found). IsSome o) (sym (as_before t ∙ there) ∙ ap (λ (w : Text). get text_cmp b w) at) refl);
+      only = λ k z e. inl (sym (as_before k) ∙ e);
+    }
+
+-- what is put under a text unless something is there already
+pub finds_entry : (q : PermissionView) (x v : Found) (a b : Findings) (t : Text) → t ≡ permission_text q → (o : Option Found) → get text_cmp a t ≡ o → v ≡ unwrap_or o x
+    → ((k : Text) → get text_cmp b k ≡ cond (is_eq (text_cmp t k)) (Some v) (get text_cmp a k)) → Finds (λ p. p ≡ q) x a b
+finds_entry q x v a b t same None none is reads =
+    finds_put q x a b t same none (subst (λ (w : Found). (k : Text) → get text_cmp b k ≡ cond (is_eq (text_cmp t k)) (Some w) (get text_cmp a k)) is reads)
+finds_entry q x v a b t same (Some y) there is reads =
+    finds_kept q x y a b t same there (subst (λ (w : Found). (k : Text) → get text_cmp b k ≡ cond (is_eq (text_cmp t k)) (Some w) (get text_cmp a k)) is reads)
 
 -- one permission that is missing
 pub exactly_one : (rules : List (Bor Rule)) (q : PermissionView) → IsMissing rules q → (p : PermissionView) → (p ≡ q) ↔ ((p.principal ≡ q.principal) × ((p.verb ≡ q.verb) × (p.target ≡ q.target)) × IsMissing rules p)

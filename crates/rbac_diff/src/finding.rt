@@ -346,9 +346,7 @@ fn add<'p>(
         target,
     };
     let text = permission_text(alloc, permission)?;
-    if !findings.contains_key(&text) {
-        findings.insert(text, search.found)?;
-    }
+    findings.entry(text)?.or_insert(search.found);
     Ok(())
 }
 

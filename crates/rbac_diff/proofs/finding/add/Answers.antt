@@ -1,14 +1,16 @@
-use Rattle.std.proofs.Common.{◌≡◌, refl, true, false}
+use Rattle.std.proofs.Common.{◌≡◌, refl, true, false, ◌∙◌, ap, subst, rules}
 use Rattle.std.specs.BTreeMap.{get}
+use Rattle.std.specs.BTreeMap.Entry.{map_with_value}
+use Rattle.std.specs.Option.{unwrap_or}
 use Rattle.rbac_terms.specs.Text.{text_cmp}
 use Rattle.rbac_diff.specs.Permissions.{PermissionView}
-use Rattle.rbac_diff.specs.Finding.{IsMissing}
+use Rattle.rbac_diff.specs.Finding.{Findings, Finds, IsMissing}
 use Rattle.rbac_diff.specs.Shown.{permitted_of}
-use Rattle.rbac_diff.proofs.Searching.{finds_put, finds_same, exactly_one, none_from}
+use Rattle.rbac_diff.proofs.Searching.{finds_entry, finds_same, exactly_one}
 use Rattle.rbac_diff.proofs.finding.add.Goals as goal
 
-pub returns-in_ok-insert : goal.returns-in_ok-insert
-returns-in_ok-insert c =
+pub returns : goal.returns
+returns c =
     let s = c.args.search.now in
     let q : PermissionView = record { principal = s.principal.now; verb = c.args.verb.now; target = permitted_of c.args.target } in
     let missing : IsMissing s.others.now q = record {
@@ -16,7 +18,12 @@ returns-in_ok-insert c =
       missing = λ h. absurd (let both : false ≡ true = c.if-has_covered.ensures.1 h in cc);
     } in
     let P : PermissionView → Type 0 = λ p. (p.principal ≡ s.principal.now) × ((p.verb ≡ c.args.verb.now) × (p.target ≡ permitted_of c.args.target)) × IsMissing s.others.now p in
-    finds_same (λ p. p ≡ q) P s.found c.args.findings.now c.insert.new.self (exactly_one s.others.now q missing)
-    (finds_put q s.found c.args.findings.now c.insert.new.self c.in_ok-text.text c.in_ok-text.ensures
-    (none_from (get text_cmp c.args.findings.now c.in_ok-text.text) c.contains_key.result c.contains_key.ensures c.if-not-contains_key.true)
-    c.in_ok-insert.ensures.updates.0)
+    let entry = c.in_ok-findings.field-0 in
+    let text = c.in_ok-text.text in
+    let old = c.args.findings.now in
+    let v = c.or_insert.result.now in
+    subst (λ (new : Findings). Finds P s.found old new) (search rules)
+    (finds_same (λ p. p ≡ q) P s.found old (map_with_value entry v) (exactly_one s.others.now q missing)
+    (finds_entry q s.found v old (map_with_value entry v) text c.in_ok-text.ensures (get text_cmp old text) refl
+    (c.or_insert.ensures.value ∙ ap (λ o. unwrap_or o s.found) c.in_ok-findings.ensures.value)
+    (c.in_ok-findings.ensures.update.0 v).0))
