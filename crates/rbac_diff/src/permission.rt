@@ -14,6 +14,9 @@ use std::alloc::{AllocError, Global};
 // What a word ends in that has several stars at its end.
 const TWO_STARS: &[u8] = b"**";
 
+// What a permission's text seldom is longer than. A longer one only makes its buffer grow.
+const LIKELY_LEN: usize = 128;
+
 // Who may use a verb word on what.
 #[derive(Clone, Copy)]
 pub(crate) struct Permission<'a> {
@@ -39,7 +42,7 @@ pub(crate) enum Permitted<'a> {
 pub(crate) fn permission_text(alloc: Global, permission: Permission<'_>) -> Result<Word, AllocError>
     ensures { IfOk result (λ text. text ≡ permission_text (permission_of permission.entry)) }
 {
-    let mut text = Vec::new(alloc);
+    let mut text = Vec::with_capacity(alloc, LIKELY_LEN)?;
     put_permission(&mut text, permission)?;
     Word::from_slice(alloc, text.as_slice())
 }
