@@ -1,6 +1,6 @@
 //! Why a text wasn't read.
 
-ghost use Rattle.std.specs.Prelude.{◌≡◌, ◌≢◌};
+ghost use Rattle.std.specs.Prelude.{◌≡◌};
 
 use std::alloc::{AllocError, AllocFailed};
 
@@ -21,22 +21,6 @@ impl From<json::Invalid> for ReadFault {
 
     fn from(_: json::Invalid) -> Self {
         ReadFault::Refused
-    }
-}
-
-impl From<json::Error> for ReadFault {
-    ghost use Rattle.json.specs.declared.error.Error.TheVariants.{OutOfMemory};
-    ghost use Rattle.json_list.specs.declared.fault.ReadFault.TheVariants.{Refused};
-
-    ghost from_gives = { λ error fault. fault ≡ Refused → error ≢ OutOfMemory };
-
-    fn from(error: json::Error) -> Self {
-        match error {
-            json::Error::OutOfMemory => ReadFault::NoMemory,
-            json::Error::Invalid | json::Error::TooLong | json::Error::DuplicateKey => {
-                ReadFault::Refused
-            }
-        }
     }
 }
 

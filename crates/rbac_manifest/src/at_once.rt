@@ -35,12 +35,22 @@ pub(crate) enum Halt {
 }
 
 impl From<AllocError> for Halt {
+    ghost use Rattle.rbac_manifest.specs.declared.at_once.Halt.TheVariants.{NoMemory};
+
+    ghost from_gives = { λ _ halt. halt ≡ NoMemory };
+
     fn from(_: AllocError) -> Self {
         Halt::NoMemory
     }
 }
 
 impl From<ReadFault> for Halt {
+    ghost use Rattle.std.specs.Prelude.{◌↔◌};
+    ghost use Rattle.json_list.specs.declared.fault.ReadFault.TheVariants.{Refused};
+    ghost use Rattle.rbac_manifest.specs.declared.at_once.Halt.TheVariants.{GiveUp};
+
+    ghost from_gives = { λ fault halt. (halt ≡ GiveUp) ↔ (fault ≡ Refused) };
+
     fn from(fault: ReadFault) -> Self {
         match fault {
             ReadFault::Refused => Halt::GiveUp,
@@ -50,6 +60,12 @@ impl From<ReadFault> for Halt {
 }
 
 impl From<Cause> for Halt {
+    ghost use Rattle.std.specs.Prelude.{◌≢◌, ◌↔◌};
+    ghost use Rattle.rbac_manifest.specs.declared.fault.Cause.TheVariants.{NoMemory};
+    ghost use Rattle.rbac_manifest.specs.declared.at_once.Halt.TheVariants.{GiveUp};
+
+    ghost from_gives = { λ cause halt. (halt ≡ GiveUp) ↔ (cause ≢ NoMemory) };
+
     fn from(cause: Cause) -> Self {
         if matches!(cause, Cause::NoMemory) {
             Halt::NoMemory

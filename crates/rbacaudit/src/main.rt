@@ -31,6 +31,10 @@ enum Fault {
 }
 
 impl fmt::Display for Fault {
+    ghost use Rattle.rbacaudit.specs.FaultTexts.{fault_text};
+
+    ghost output = { fault_text };
+
     fn fmt<W: fmt::Write>(&self, f: &mut fmt::Formatter<W>) -> fmt::Result {
         match self {
             Fault::Words(error) => write!(f, "{error}"),

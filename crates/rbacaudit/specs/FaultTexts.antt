@@ -1,0 +1,24 @@
+-- The texts that say why there is no answer, as they are printed (own). Files are counted from 1.
+use Rattle.std.specs.Prelude.{ℕ, ◌+◌, List, ◌++◌, codes, Option, Some, None}
+use Rattle.std.specs.Fmt.{decimal}
+use Rattle.rbac_command.specs.Faults.{usage_text}
+use Rattle.rbac_streams.specs.Faults.{fault_text as input_text}
+use Rattle.rbac_streams.specs.declared.source.InputFault.{InputFault}
+use Rattle.rbac_streams.specs.declared.source.InputFault.TheVariants.{ReadFault, TooLong, NoMemory}
+use Rattle.rbac_cli.specs.RunTexts.{run_fault_text}
+use Rattle.rbacaudit.specs.declared.Fault.{Fault}
+use Rattle.rbacaudit.specs.declared.Fault.TheVariants.{Words, NotUtf8, Usage, Input, Run}
+
+-- the place of a file, and why it couldn't be read; out of memory has no place
+abbrev pub file_text : ℕ → InputFault → List ℕ
+file_text place ReadFault = codes "file " ++ decimal (place + 1) ++ codes ": " ++ input_text ReadFault
+file_text place TooLong = codes "file " ++ decimal (place + 1) ++ codes ": " ++ input_text TooLong
+file_text place NoMemory = input_text NoMemory
+
+-- why there is no answer; the text of what the system or clap refuses isn't ours
+abbrev pub fault_text : Fault → Option (List ℕ)
+fault_text (Words error) = None
+fault_text (NotUtf8 place) = Some (codes "argument " ++ decimal place ++ codes ": not UTF-8")
+fault_text (Usage fault) = usage_text fault
+fault_text (Input place fault) = Some (file_text place fault)
+fault_text (Run fault) = Some (run_fault_text fault)
