@@ -23,9 +23,8 @@ use Rattle.rbac_diff.specs.Requests.{IsGained}
 use Rattle.rbac_diff.specs.Covering.{IsAskedFor, IsCovered}
 use Rattle.rbac_diff.specs.Changes.{ChangeView, IsChange, IsChangeOf, AreChanges}
 use Rattle.rbac_diff.specs.Texts.{permission_text}
-use Rattle.rbac_diff.specs.Listed.{entry_change}
+use Rattle.rbac_diff.specs.Listed.{FoundView, entry_change}
 use Rattle.rbac_diff.specs.Finding.{IsGainedAt, Findings, FindsGained}
-use Rattle.rbac_diff.specs.declared.change.Found.{Found}
 use Rattle.rbac_diff.specs.declared.change.ChangeKind.{ChangeKind}
 use Rattle.rbac_diff.specs.declared.change.ChangeKind.TheVariants.{Gained, Lost}
 use Rattle.rbac_diff.proofs.Bindings.{none_given}
@@ -103,52 +102,52 @@ module _ (before after : PolicyView) (ok : IsPolicy before) (also : IsPolicy aft
 
 -- ---- entries in order
 
-below : (k : Text) (es : List (Text × Found)) → AllByRecursion (λ q. text_cmp k q ≡ Less) (keys_of es) → AllByRecursion (λ x. text_cmp k x.permission ≡ Less) (map entry_change es)
+below : (k : Text) (es : List (Text × FoundView)) → AllByRecursion (λ q. text_cmp k q ≡ Less) (keys_of es) → AllByRecursion (λ x. text_cmp k x.permission ≡ Less) (map entry_change es)
 below k [] h = h
 below k (e ∷ es) h = (h.0, below k es h.1)
 
-strict : (es : List (Text × Found)) → IsStrictlySortedBy text_cmp (keys_of es) → AllPairs (λ x y. text_cmp x.permission y.permission ≡ Less) (map entry_change es)
+strict : (es : List (Text × FoundView)) → IsStrictlySortedBy text_cmp (keys_of es) → AllPairs (λ x y. text_cmp x.permission y.permission ≡ Less) (map entry_change es)
 unfolding IsStrictlySortedBy
 strict [] h = λ i j d l k. absurd (omega (arith, k))
 strict (e ∷ es) h = AllPairs-cons (λ x y. text_cmp x.permission y.permission ≡ Less) (entry_change e) (map entry_change es)
     (All-from_recursion (λ x. text_cmp e.0 x.permission ≡ Less) (map entry_change es) (below e.0 es h.0)) (strict es h.1)
 
-mapped : (o : Option (Text × Found)) (x : ChangeView) → option_map entry_change o ≡ Some x → (e : Text × Found) × (o ≡ Some e) × (entry_change e ≡ x)
+mapped : (o : Option (Text × FoundView)) (x : ChangeView) → option_map entry_change o ≡ Some x → (e : Text × FoundView) × (o ≡ Some e) × (entry_change e ≡ x)
 mapped None x e = absurd (let both : None ≡ Some x = e in cc)
 mapped (Some y) x e = (y, refl, same_Some (entry_change y) x e)
 
 -- ---- both sides
 
-module _ (before after : PolicyView) (ok : IsPolicy before) (also : IsPolicy after) (none m n : Findings) (empty : (t : Text) (y : Found) → get text_cmp none t ≡ Some y → ⊥)
+module _ (before after : PolicyView) (ok : IsPolicy before) (also : IsPolicy after) (none m n : Findings) (empty : (t : Text) (y : FoundView) → get text_cmp none t ≡ Some y → ⊥)
     (gained : FindsGained Gained before after (length after.held.bindings) none m) (lost : FindsGained Lost after before (length before.held.bindings) m n) where
-  is_change : (t : Text) (y : Found) → get text_cmp n t ≡ Some y → IsChange before after (entry_change (t, y))
+  is_change : (t : Text) (y : FoundView) → get text_cmp n t ≡ Some y → IsChange before after (entry_change (t, y))
   is_change t y e = elim (lost.only t y e) [
     | inl mid ↦ elim (gained.only t y mid) [
       | inl first ↦ absurd (empty t y first)
       | inr new ↦ (let w = new.2 in
-          subst (λ (kind : ChangeKind). IsChange before after (record { kind = kind; permission = t; binding = y.binding.now })) (sym new.1)
-          (w.1, w.5, (gained_at_is before after ok also w.0 w.1 w.3, first_found before after ok also t y.binding.now w.0 w.1 w.3 w.4 w.5 w.6)))
+          subst (λ (kind : ChangeKind). IsChange before after (record { kind = kind; permission = t; binding = y.binding })) (sym new.1)
+          (w.1, w.5, (gained_at_is before after ok also w.0 w.1 w.3, first_found before after ok also t y.binding w.0 w.1 w.3 w.4 w.5 w.6)))
     ]
     | inr new ↦ (let w = new.2 in
-        subst (λ (kind : ChangeKind). IsChange before after (record { kind = kind; permission = t; binding = y.binding.now })) (sym new.1)
-        (w.1, w.5, (gained_at_is after before also ok w.0 w.1 w.3, first_found after before also ok t y.binding.now w.0 w.1 w.3 w.4 w.5 w.6)))
+        subst (λ (kind : ChangeKind). IsChange before after (record { kind = kind; permission = t; binding = y.binding })) (sym new.1)
+        (w.1, w.5, (gained_at_is after before also ok w.0 w.1 w.3, first_found after before also ok t y.binding w.0 w.1 w.3 w.4 w.5 w.6)))
   ]
 
   -- what is gained is found
-  gained_found : (t : Text) (b : Binding) (p : PermissionView) → t ≡ permission_text p → IsGained before after p → IsFirstWith after p b → (y : Found) × (get text_cmp n t ≡ Some y) × (y.kind ≡ Gained) × (b ≡ y.binding.now)
+  gained_found : (t : Text) (b : Binding) (p : PermissionView) → t ≡ permission_text p → IsGained before after p → IsFirstWith after p b → (y : FoundView) × (get text_cmp n t ≡ Some y) × (y.kind ≡ Gained) × (b ≡ y.binding)
   gained_found t b p same is w =
       let mine : IsGainedAt before after w.0 p = gains_at before after ok also w.0 b p is w.1.here w.1.holds in
       let some = some_is (get text_cmp m t) (subst (λ (s : Text). IsSome (get text_cmp m s)) (sym same) (gained.has w.0 p (slice_get_within after.held.bindings w.0 b w.1.here) mine)) in
       elim (gained.only t some.0 some.1) [
         | inl first ↦ absurd (empty t some.0 first)
-        | inr new ↦ (let v = new.2 in (some.0, lost.kept t some.0 some.1, new.1, found_is_first before after ok also t b some.0.binding.now v.0 p v.1 is w same v.3 v.4 v.5 v.6))
+        | inr new ↦ (let v = new.2 in (some.0, lost.kept t some.0 some.1, new.1, found_is_first before after ok also t b some.0.binding v.0 p v.1 is w same v.3 v.4 v.5 v.6))
       ]
 
   -- what before has isn't gained
   not_gained : (p : PermissionView) (b : Binding) → IsAskedFor p.target → HasBy before p b → IsCovered before p
   not_gained p b asked a = (a.0, a.1, a.2, a.3, no_more_covers p a.1 a.1 a.4.1 asked refl (λ s is. is) (covers_itself a.1.rule.rule))
 
-  lost_found : (t : Text) (b : Binding) (p : PermissionView) → t ≡ permission_text p → IsGained after before p → IsFirstWith before p b → (y : Found) × (get text_cmp n t ≡ Some y) × (y.kind ≡ Lost) × (b ≡ y.binding.now)
+  lost_found : (t : Text) (b : Binding) (p : PermissionView) → t ≡ permission_text p → IsGained after before p → IsFirstWith before p b → (y : FoundView) × (get text_cmp n t ≡ Some y) × (y.kind ≡ Lost) × (b ≡ y.binding)
   lost_found t b p same is w =
       let mine : IsGainedAt after before w.0 p = gains_at after before also ok w.0 b p is w.1.here w.1.holds in
       let some = some_is (get text_cmp n t) (subst (λ (s : Text). IsSome (get text_cmp n s)) (sym same) (lost.has w.0 p (slice_get_within before.held.bindings w.0 b w.1.here) mine)) in
@@ -160,12 +159,12 @@ module _ (before after : PolicyView) (ok : IsPolicy before) (also : IsPolicy aft
               let theirs : IsGainedAt before after v.0 p = subst (λ (r : PermissionView). IsGainedAt before after v.0 r) one v.3 in
               absurd (theirs.missing (not_gained p b mine.asked w.1.holds)))
         ]
-        | inr new ↦ (let v = new.2 in (some.0, some.1, new.1, found_is_first after before also ok t b some.0.binding.now v.0 p v.1 is w same v.3 v.4 v.5 v.6))
+        | inr new ↦ (let v = new.2 in (some.0, some.1, new.1, found_is_first after before also ok t b some.0.binding v.0 p v.1 is w same v.3 v.4 v.5 v.6))
       ]
 
   -- ---- the list
 
-  in_list : (t : Text) (y : Found) → get text_cmp n t ≡ Some y → Contains (map entry_change n.entries) (entry_change (t, y))
+  in_list : (t : Text) (y : FoundView) → get text_cmp n t ≡ Some y → Contains (map entry_change n.entries) (entry_change (t, y))
   in_list t y e =
       let at = place_from_lookup (λ k. is_eq (text_cmp t k)) n.entries y e in
       let same : t ≡ at.1 = exact_bytes t at.1 (equal_from_test (text_cmp t at.1) at.3) in
@@ -173,10 +172,10 @@ module _ (before after : PolicyView) (ok : IsPolicy before) (also : IsPolicy aft
       slice_get-map entry_change n.entries at.0 ∙ ap (option_map entry_change) at.2 ∙ ap (λ (k : Text). Some (entry_change (k, y))) (sym same) in
       (at.0, slice_get_within (map entry_change n.entries) at.0 (entry_change (t, y)) there, get_or_from_slice_get (map entry_change n.entries) at.0 (entry_change (t, y)) (entry_change (t, y)) there)
 
-  in_list_as : (x : ChangeView) (kind : ChangeKind) (y : Found) → x.kind ≡ kind → get text_cmp n x.permission ≡ Some y → y.kind ≡ kind → x.binding ≡ y.binding.now → Contains (map entry_change n.entries) x
+  in_list_as : (x : ChangeView) (kind : ChangeKind) (y : FoundView) → x.kind ≡ kind → get text_cmp n x.permission ≡ Some y → y.kind ≡ kind → x.binding ≡ y.binding → Contains (map entry_change n.entries) x
   in_list_as x kind y is e also_is same =
       let of : ChangeKind → Binding → ChangeView = λ k b. record { kind = k; permission = x.permission; binding = b } in
-      let made : entry_change (x.permission, y) ≡ x = ap (λ (k : ChangeKind). of k y.binding.now) (also_is ∙ sym is) ∙ ap (λ (b : Binding). of x.kind b) (sym same) in
+      let made : entry_change (x.permission, y) ≡ x = ap (λ (k : ChangeKind). of k y.binding) (also_is ∙ sym is) ∙ ap (λ (b : Binding). of x.kind b) (sym same) in
       subst (λ (z : ChangeView). Contains (map entry_change n.entries) z) made (in_list x.permission y e)
 
   listed_as : (x : ChangeView) (kind : ChangeKind) (p : PermissionView) → x.kind ≡ kind → x.permission ≡ permission_text p → IsChangeOf kind before after p x.binding → Contains (map entry_change n.entries) x

@@ -14,7 +14,7 @@ use Rattle.rbac_diff.specs.Permissions.{PermissionView, Permitted, OnResource, O
 use Rattle.rbac_diff.specs.Covering.{IsAskedFor, IsCovered, IsAsWide, CoversWords}
 use Rattle.rbac_diff.specs.StandIns.{AreRulesOf, IsWider}
 use Rattle.rbac_diff.specs.Finding.{IsByGrants, IsMissing, IsGainedAt, IsUncovered, Findings, Finds}
-use Rattle.rbac_diff.specs.declared.change.Found.{Found}
+use Rattle.rbac_diff.specs.Listed.{FoundView}
 use Rattle.rbac_diff.proofs.Searching.{finds_none, finds_more, finds_same}
 
 -- the principal that a subject stands for is given no groups
@@ -69,7 +69,7 @@ module _ (before : PolicyView) (own : Option Text) (rules : List (Bor Rule)) (p 
     λ h. record { asked = h.0; missing = λ a. h.1 (covered_by_rule a) },
   )
 
-module _ (before after : PolicyView) (place : ℕ) (own : Option Text) (x : Found) where
+module _ (before after : PolicyView) (place : ℕ) (own : Option Text) (x : FoundView) where
   abbrev pub IsBySubject : Subject → PermissionView → Type 0
   IsBySubject s p = subject_principal own s ≡ Some p.principal
 
@@ -119,7 +119,7 @@ module _ (before after : PolicyView) (place : ℕ) (own : Option Text) (x : Foun
         λ h. (same_Some p.principal who (sym h.0 ∙ is), h.1, h.2),
       )) g)
 
-module _ (before after : PolicyView) (place : ℕ) (b : Binding) (x : Found) (there : slice_get after.held.bindings place ≡ Some b) where
+module _ (before after : PolicyView) (place : ℕ) (b : Binding) (x : FoundView) (there : slice_get after.held.bindings place ≡ Some b) where
   binding_is : (n : ℕ) (g : GrantView) → slice_get after.grants n ≡ Some g → IsOfBinding after n place → g.binding ≡ b
   binding_is n g is at =
       let same : at.0 ≡ g = same_Some at.0 g (sym at.1 ∙ is) in

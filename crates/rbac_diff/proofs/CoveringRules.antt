@@ -25,7 +25,7 @@ covered_misses_nothing s r covered p by missing =
     missing.missing (any_weaker (λ (held : Bor Rule). CoversAll held.now r) (λ held. CoversWords p.verb p.target held.now) s.others.now (λ held covers. words_covered (option_copied s.namespace) held.now r p covers by.0 by.1 missing.asked) covered)
 
 pub search_covered : (s : Search) (r : Rule) (m : Findings) → HasCoveringRule s.others.now r → SearchFinds s (IsByRule s r) m m
-search_covered s r m covered = finds_none (λ p. (p.principal ≡ s.principal.now) × IsByRule s r p × IsMissing s.others.now p) s.found m (λ p h. covered_misses_nothing s r covered p h.1 h.2)
+search_covered s r m covered = finds_none (λ p. (p.principal ≡ s.principal.now) × IsByRule s r p × IsMissing s.others.now p) s.found.now m (λ p h. covered_misses_nothing s r covered p h.1 h.2)
 
 -- rules that cover others one by one, up to some place
 abbrev pub CoverUpTo : List Rule → List Rule → ℕ → Type 0

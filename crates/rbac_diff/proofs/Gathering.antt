@@ -8,7 +8,7 @@ use Rattle.rbac_diff.specs.Permissions.{PermissionView}
 use Rattle.rbac_diff.specs.Texts.{permission_text}
 use Rattle.rbac_diff.specs.Unchanged.{GrantsNoMore}
 use Rattle.rbac_diff.specs.Finding.{IsGainedAt, Findings, Finds, FindsGained}
-use Rattle.rbac_diff.specs.declared.change.Found.{Found}
+use Rattle.rbac_diff.specs.Listed.{FoundView}
 use Rattle.rbac_diff.specs.declared.change.ChangeKind.{ChangeKind}
 use Rattle.rbac_diff.proofs.Searching.{still_some, none_before, none_some}
 use Rattle.rbac_diff.proofs.Covered.{no_more_covers}
@@ -40,7 +40,7 @@ module _ (kind : ChangeKind) (before after : PolicyView) where
     ];
   }
 
-  pub gathered_more : (k : ℕ) (x : Found) (a b c : Findings) → x.kind ≡ kind → slice_get after.held.bindings k ≡ Some x.binding.now → FindsGained kind before after k a b → Finds (IsGainedAt before after k) x b c
+  pub gathered_more : (k : ℕ) (x : FoundView) (a b c : Findings) → x.kind ≡ kind → slice_get after.held.bindings k ≡ Some x.binding → FindsGained kind before after k a b → Finds (IsGainedAt before after k) x b c
       → FindsGained kind before after (k + 1) a c
   gathered_more k x a b c is there f g = record {
     kept = λ t y e. g.kept t y (f.kept t y e);
@@ -55,13 +55,13 @@ module _ (kind : ChangeKind) (before after : PolicyView) where
       ]
       | inr new ↦ inr (
         none_before (get text_cmp a t) (get text_cmp b t) (f.kept t) new.0,
-        ap (λ (z : Found). z.kind) new.1 ∙ is,
+        ap (λ (z : FoundView). z.kind) new.1 ∙ is,
         (
           k,
           new.2.0,
           omega arith,
           new.2.1,
-          there ∙ ap (λ (z : Found). Some z.binding.now) (sym new.1),
+          there ∙ ap (λ (z : FoundView). Some z.binding) (sym new.1),
           new.2.2,
           λ j q l h same. none_some (get text_cmp b t) new.0 (subst (λ (w : Text). IsSome (get text_cmp b w)) (sym same) (f.has j q l h)),
         ),
@@ -70,7 +70,7 @@ module _ (kind : ChangeKind) (before after : PolicyView) where
   }
 
   -- the same, by another name of the policy that is asked
-  pub gathered_by : (k : ℕ) (asked : PolicyView) (x : Found) (a b c : Findings) → asked ≡ before → x.kind ≡ kind → slice_get after.held.bindings k ≡ Some x.binding.now → FindsGained kind before after k a b → Finds (IsGainedAt asked after k) x b c
+  pub gathered_by : (k : ℕ) (asked : PolicyView) (x : FoundView) (a b c : Findings) → asked ≡ before → x.kind ≡ kind → slice_get after.held.bindings k ≡ Some x.binding → FindsGained kind before after k a b → Finds (IsGainedAt asked after k) x b c
       → FindsGained kind before after (k + 1) a c
   gathered_by k asked x a b c same is there f g =
       gathered_more k x a b c is there f (subst (λ (policy : PolicyView). Finds (IsGainedAt policy after k) x b c) same g)

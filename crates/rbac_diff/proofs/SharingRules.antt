@@ -59,7 +59,7 @@ narrowed s n r a b found principal namespace are f =
       λ m. record { asked = m.asked; missing = λ h. m.missing ((are (option_copied s.namespace) p by.0 by.1).1 h) },
       λ m. record { asked = m.asked; missing = λ h. m.missing ((are (option_copied s.namespace) p by.0 by.1).0 h) },
     ) in
-    finds_same (λ p. (p.principal ≡ s.principal.now) × IsByRule s r p × IsMissing n.others.now p) (λ p. (p.principal ≡ s.principal.now) × IsByRule s r p × IsMissing s.others.now p) s.found a b
+    finds_same (λ p. (p.principal ≡ s.principal.now) × IsByRule s r p × IsMissing n.others.now p) (λ p. (p.principal ≡ s.principal.now) × IsByRule s r p × IsMissing s.others.now p) s.found.now a b
     (λ p. (λ h. (h.0, h.1, (missing p h.1).0 h.2), λ h. (h.0, h.1, (missing p h.1).1 h.2))) (rw (← found, ← principal, ← namespace) f)
 
 -- a property of rules that are lent

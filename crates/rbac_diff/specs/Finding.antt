@@ -11,20 +11,20 @@ use Rattle.rbac_diff.specs.Permissions.{PermissionView, OnResource, OnUrl, one_s
 use Rattle.rbac_diff.specs.Permissions.{IsNameOf, Permits, HasPermission}
 use Rattle.rbac_diff.specs.Covering.{CoversWords, IsAskedFor, IsCovered}
 use Rattle.rbac_diff.specs.Texts.{permission_text}
-use Rattle.rbac_diff.specs.declared.change.Found.{Found}
+use Rattle.rbac_diff.specs.Listed.{FoundView}
 use Rattle.rbac_diff.specs.declared.change.ChangeKind.{ChangeKind}
 use Rattle.rbac_diff.specs.declared.finding.Search.{Search}
 
 -- what was found, under the texts of permissions
 abbrev pub Findings : Type 0
-Findings = BTreeMap Text Found
+Findings = BTreeMap Text FoundView
 
 -- new has what old has, and x under the text of each permission with the property, unless something
 -- was there already
-pub record Finds (P : PermissionView → Type 0) (x : Found) (old new : Findings) : Type 0 where
-  pub kept : (t : Text) (y : Found) → get text_cmp old t ≡ Some y → get text_cmp new t ≡ Some y
+pub record Finds (P : PermissionView → Type 0) (x : FoundView) (old new : Findings) : Type 0 where
+  pub kept : (t : Text) (y : FoundView) → get text_cmp old t ≡ Some y → get text_cmp new t ≡ Some y
   pub has : (p : PermissionView) → P p → IsSome (get text_cmp new (permission_text p))
-  pub only : (t : Text) (y : Found) → get text_cmp new t ≡ Some y → (get text_cmp old t ≡ Some y)
+  pub only : (t : Text) (y : FoundView) → get text_cmp new t ≡ Some y → (get text_cmp old t ≡ Some y)
       ⊎ ((get text_cmp old t ≡ None) × (y ≡ x)
       × ((p : PermissionView) × P p × (t ≡ permission_text p)))
 
@@ -40,7 +40,7 @@ IsOrdered s = s.ordered.now ≡ map (λ r. r.now) s.others.now
 -- a search finds its principal's permissions with the property, if the others' rules lack them
 abbrev pub SearchFinds : Search → (PermissionView → Type 0) → Findings → Findings → Type 0
 SearchFinds s P = Finds
-    (λ p. (p.principal ≡ s.principal.now) × P p × IsMissing s.others.now p) s.found
+    (λ p. (p.principal ≡ s.principal.now) × P p × IsMissing s.others.now p) s.found.now
 
 -- a verb on a resource, with one of the rule's names, or any
 abbrev pub IsOnResource : Search → Rule → Text → Text → Text → PermissionView → Type 0
@@ -82,12 +82,12 @@ pub record IsGainedAt (before after : PolicyView) (at : ℕ) (p : PermissionView
 -- allow, each with the first of these bindings that has it, unless something was there already
 pub record FindsGained (kind : ChangeKind) (before after : PolicyView) (count : ℕ)
     (old new : Findings) : Type 0 where
-  pub kept : (t : Text) (y : Found) → get text_cmp old t ≡ Some y → get text_cmp new t ≡ Some y
+  pub kept : (t : Text) (y : FoundView) → get text_cmp old t ≡ Some y → get text_cmp new t ≡ Some y
   pub has : (at : ℕ) (p : PermissionView) → at < count → IsGainedAt before after at p
       → IsSome (get text_cmp new (permission_text p))
-  pub only : (t : Text) (y : Found) → get text_cmp new t ≡ Some y → (get text_cmp old t ≡ Some y)
+  pub only : (t : Text) (y : FoundView) → get text_cmp new t ≡ Some y → (get text_cmp old t ≡ Some y)
       ⊎ ((get text_cmp old t ≡ None) × (y.kind ≡ kind)
       × ((at : ℕ) × (p : PermissionView) × (at < count) × IsGainedAt before after at p
-      × (slice_get after.held.bindings at ≡ Some y.binding.now) × (t ≡ permission_text p)
+      × (slice_get after.held.bindings at ≡ Some y.binding) × (t ≡ permission_text p)
       × ((k : ℕ) (q : PermissionView) → k < at → IsGainedAt before after k q
       → ¬ (t ≡ permission_text q))))

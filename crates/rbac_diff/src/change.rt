@@ -7,6 +7,7 @@ ghost use Rattle.rbac_diff.specs.Changes.{AreChanges};
 use crate::changed::Changed;
 use crate::fault::DiffFault;
 use crate::finding::add_gained;
+use crate::found::Found;
 use crate::listing::Changes;
 use rbac_model::Policy;
 use rbac_terms::{Binding, Word};
@@ -32,13 +33,6 @@ pub struct Change<'p> {
     pub permission: Word,
     /// The first binding that has it, of the policy that has it.
     pub binding: &'p Binding,
-}
-
-// What the map of changes has under a permission's text.
-#[derive(Clone, Copy)]
-pub(crate) struct Found<'p> {
-    pub(crate) kind: ChangeKind,
-    pub(crate) binding: &'p Binding,
 }
 
 // The changes that were found, under their permissions' texts.

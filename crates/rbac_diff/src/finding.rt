@@ -11,9 +11,10 @@ ghost use Rattle.rbac_diff.specs.Finding.{IsOrdered, SearchFinds};
 ghost use Rattle.rbac_diff.specs.Shown.{permitted_of};
 ghost use Rattle.rbac_diff.specs.Unchanged.{AreFlags};
 
-use crate::change::{ChangeKind, Findings, Found};
+use crate::change::{ChangeKind, Findings};
 use crate::covering::{is_asked_for, is_covered};
 use crate::fault::DiffFault;
+use crate::found::Found;
 use crate::permission::{Permission, Permitted, permission_text};
 use crate::sharing::sharing;
 use crate::stand_ins::Asked;
@@ -62,8 +63,8 @@ fn add_of_flagged<'p>(
     let bindings: &'p [Binding] = after.bindings();
     for (place, binding) in bindings.iter().enumerate() {
         if flags[place] {
-            let found = Found { kind, binding };
-            add_of_binding(alloc, asked, after, place, found, findings)?;
+            let found = Found::new(alloc, kind, binding)?;
+            add_of_binding(alloc, asked, after, place, &found, findings)?;
         }
     }
     Ok(())
@@ -75,14 +76,14 @@ fn add_of_binding<'p>(
     asked: &Asked<'_>,
     after: &'p Policy,
     place: usize,
-    found: Found<'p>,
+    found: &Found<'p>,
     findings: &mut Findings<'p>,
 ) -> Result<(), DiffFault>
-    requires { slice_get after.now.held.bindings place ≡ Some found.binding.now }
+    requires { slice_get after.now.held.bindings place ≡ Some found.now.binding }
     ensures gained { OnOk result
-        (Finds (IsGainedAt asked.now after.now place) found.entry findings.old findings.new) }
+        (Finds (IsGainedAt asked.now after.now place) found.now findings.old findings.new) }
 {
-    let binding: &'p Binding = found.binding;
+    let binding: &'p Binding = found.binding();
     let namespace = binding.namespace.as_ref();
     if namespace.is_some_and(|namespace| namespace.is_empty()) {
         return Ok(());
@@ -102,19 +103,19 @@ fn add_of_principal<'p>(
     asked: &Asked<'_>,
     after: &'p Policy,
     place: usize,
-    found: Found<'p>,
+    found: &Found<'p>,
     principal: &Principal,
     findings: &mut Findings<'p>,
 ) -> Result<(), DiffFault>
-    requires somewhere { ¬ (found.binding.now.namespace ≡ Some []) }
+    requires somewhere { ¬ (found.now.binding.namespace ≡ Some []) }
     requires alone { given_of principal.now ≡ [] }
     ensures { OnOk result
         (Finds (λ p. (p.principal ≡ principal.now)
-        × IsByGrants after.now place found.entry.binding.now.namespace p
+        × IsByGrants after.now place found.now.binding.namespace p
         × IsUncovered asked.now p)
-        found.entry findings.old findings.new) }
+        found.now findings.old findings.new) }
 {
-    let namespace = found.binding.namespace.as_ref();
+    let namespace = found.binding().namespace.as_ref();
     let others = asked.rules_of(alloc, principal, namespace)?;
     let search = Search {
         found,
@@ -130,7 +131,7 @@ fn add_of_principal<'p>(
 // policy don't allow.
 #[derive(Clone, Copy)]
 struct Search<'a, 'p> {
-    found: Found<'p>,
+    found: &'a Found<'p>,
     // The binding's namespace.
     namespace: Option<&'a Word>,
     principal: &'a Principal,
@@ -346,7 +347,8 @@ fn add<'p>(
         target,
     };
     let text = permission_text(alloc, permission)?;
-    findings.entry(text)?.or_insert(search.found);
+    let found = search.found.clone()?;
+    findings.entry(text)?.or_insert(found);
     Ok(())
 }
 

@@ -9,6 +9,7 @@ mod covered_roles;
 mod covering;
 mod fault;
 mod finding;
+mod found;
 mod laws;
 mod line;
 mod listing;

@@ -5,7 +5,8 @@ ghost use Rattle.std.specs.BTreeMap.{IsOrdered};
 ghost use Rattle.rbac_terms.specs.Text.{text_cmp};
 ghost use Rattle.rbac_diff.specs.Listed.{entry_change};
 
-use crate::change::{Change, Findings, Found};
+use crate::change::{Change, Findings};
+use crate::found::Found;
 use rbac_terms::Word;
 use std::alloc::Global;
 use std::collections::btree_map::IntoIter;
@@ -60,9 +61,9 @@ impl<'p> Iterator for Changes<'p> {
     fn next(&mut self) -> Option<Change<'p>> {
         let (permission, found) = self.left.next()?;
         Some(Change {
-            kind: found.kind,
+            kind: found.kind(),
             permission,
-            binding: found.binding,
+            binding: found.binding(),
         })
     }
 }

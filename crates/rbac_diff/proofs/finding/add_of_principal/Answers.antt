@@ -1,6 +1,7 @@
-use Rattle.std.proofs.Common.{List, Option, Bor, sym, ◌∙◌, subst}
+use Rattle.std.proofs.Common.{◌≡◌, List, Option, Bor, ap, sym, ◌∙◌, subst}
 use Rattle.std.specs.Option.{option_copied}
 use Rattle.rbac_terms.specs.Text.{Text}
+use Rattle.rbac_terms.specs.declared.granting.Binding.{Binding}
 use Rattle.rbac_terms.specs.declared.matching.Rule.{Rule}
 use Rattle.rbac_diff.specs.StandIns.{AreRulesOf}
 use Rattle.rbac_diff.specs.Finding.{Finds}
@@ -8,7 +9,7 @@ use Rattle.rbac_diff.proofs.Bindings.{IsByPrincipal, principal_finds}
 use Rattle.rbac_diff.proofs.finding.add_of_principal.Goals as goal
 
 pub rules_of-requires : goal.rules_of-requires
-rules_of-requires c = λ e. c.requires.somewhere (sym c.as_ref-namespace.ensures.value ∙ e)
+rules_of-requires c = λ e. c.requires.somewhere (sym (c.as_ref-namespace.ensures.value ∙ ap (λ (b : Binding). b.namespace) c.binding.ensures) ∙ e)
 
 pub returns : goal.returns
 returns c =
@@ -16,7 +17,8 @@ returns c =
     let after = c.args.after.now in
     let who = c.args.principal.now in
     let own = option_copied c.as_ref-namespace.result in
-    let x = c.args.found in
+    let x = c.args.found.now in
+    let named : own ≡ x.binding.namespace = c.as_ref-namespace.ensures.value ∙ ap (λ (b : Binding). b.namespace) c.binding.ensures in
     let rules : AreRulesOf before who own c.as_slice.result.now = subst (λ (rs : List (Bor Rule)). AreRulesOf before who own rs) (sym c.as_slice.ensures.value) (c.in_ok-others.ensures c.requires.alone) in
-    subst (λ (o : Option Text). Finds (IsByPrincipal before after c.args.place o x who) x c.args.findings.now c.add_of_grants.new.findings) c.as_ref-namespace.ensures.value
+    subst (λ (o : Option Text). Finds (IsByPrincipal before after c.args.place o x who) x c.args.findings.now c.add_of_grants.new.findings) named
     (principal_finds before after c.args.place own x who c.as_slice.result.now c.args.findings.now c.add_of_grants.new.findings rules c.in_ok-add_of_grants.ensures)

@@ -1,0 +1,68 @@
+//! The bindings of what was found.
+
+ghost use Rattle.std.specs.Prelude.{◌≡◌, IfOk};
+
+use crate::change::ChangeKind;
+use rbac_terms::Binding;
+use std::alloc::{AllocError, Global};
+use std::marker::Model;
+use std::rc::Rc;
+
+// A binding that has permissions which are gained or lost. They can be millions, so each holds no
+// more than a pointer to what they share.
+#[derive(Drop)]
+pub(crate) struct Found<'p> {
+    shared: Rc<Shared<'p>>,
+}
+
+#[derive(Drop)]
+struct Shared<'p> {
+    kind: ChangeKind,
+    binding: &'p Binding,
+}
+
+impl<'p> Model for Found<'p> {
+    ghost use Rattle.rbac_diff.specs.Listed.{FoundView};
+
+    ghost Value = { FoundView };
+
+    ghost view = { λ found. record {
+      kind = found.shared.value.kind;
+      binding = found.shared.value.binding.now;
+    } };
+}
+
+impl<'p> Found<'p> {
+    pub(crate) fn new(
+        alloc: Global,
+        kind: ChangeKind,
+        binding: &'p Binding,
+    ) -> Result<Self, AllocError>
+        ensures { IfOk result (λ found. found ≡ record { kind = kind; binding = binding.now }) }
+    {
+        let shared = Rc::new(alloc, Shared { kind, binding })?;
+        Ok(Found { shared })
+    }
+
+    pub(crate) fn kind(&self) -> ChangeKind
+        ensures { result ≡ self.now.kind }
+    {
+        self.shared.kind
+    }
+
+    pub(crate) fn binding(&self) -> &'p Binding
+        ensures { result.now ≡ self.now.binding }
+    {
+        self.shared.binding
+    }
+}
+
+impl<'p> Clone for Found<'p> {
+    ghost is_clone = { λ found copy. copy ≡ found };
+
+    fn clone(&self) -> Result<Self, AllocError> {
+        Ok(Found {
+            shared: self.shared.clone()?,
+        })
+    }
+}
