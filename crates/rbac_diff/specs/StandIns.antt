@@ -1,7 +1,7 @@
 -- Which rules everybody has whom a principal stands for.
 use Rattle.std.specs.Prelude.{◌≡◌, ◌↔◌, ◌⊎◌, ℕ, ◌≤◌, ◌<◌, List, [], ◌∷◌, Option, Some, None}
 use Rattle.std.specs.Prelude.{Any}
-use Rattle.std.specs.Prelude.{slice_get}
+use Rattle.std.specs.Prelude.{slice_get, length}
 use Rattle.std.proofs.Common.{Bor}
 use Rattle.rbac_terms.specs.Text.{Text}
 use Rattle.rbac_terms.specs.Principals.{Who}
@@ -18,6 +18,10 @@ HasRule rules r = Any (λ held. held.now ≡ r) rules
 -- some reference is to a rule that covers the rule
 abbrev pub HasCoveringRule : List (Bor Rule) → Rule → Type 0
 HasCoveringRule rules r = Any (λ held. CoversAll held.now r) rules
+
+-- a place among the rules, one of which covers the rule
+abbrev pub IsCoveringPlace : List (Bor Rule) → Rule → ℕ → Type 0
+IsCoveringPlace rules r at = (at < length rules) × HasCoveringRule rules r
 
 -- the rule is that of a grant, one of those numbered from `from` up to `end`, that is bound to who
 -- asks in that namespace

@@ -1,4 +1,4 @@
-//! The bindings of what was found.
+//! What was found under a permission's text.
 
 ghost use Rattle.std.specs.Prelude.{◌≡◌, IfOk};
 
@@ -8,13 +8,14 @@ use std::alloc::{AllocError, Global};
 use std::marker::Model;
 use std::rc::Rc;
 
-// A binding that has permissions which are gained or lost. They can be millions, so each holds no
-// more than a pointer to what they share.
+// Whether a permission is gained or lost, and by which binding. A binding can have millions of
+// permissions, so each holds no more than a pointer to what is the same for all of them.
 #[derive(Drop)]
 pub(crate) struct Found<'p> {
     shared: Rc<Shared<'p>>,
 }
 
+// What all permissions share that were found by one binding.
 #[derive(Drop)]
 struct Shared<'p> {
     kind: ChangeKind,

@@ -1,7 +1,7 @@
 //! Rules of the other policy that cover a rule.
 
 ghost use Rattle.std.specs.Prelude.{◌<◌, IfOk, IfSome, IsTrue, length};
-ghost use Rattle.rbac_diff.specs.StandIns.{HasCoveringRule, HasRule};
+ghost use Rattle.rbac_diff.specs.StandIns.{HasRule, IsCoveringPlace};
 
 use crate::covering::covers_rule;
 use crate::unchanged::same_rule;
@@ -17,9 +17,7 @@ pub(crate) fn covering_place(
     count: usize,
     rule: &Rule,
 ) -> Result<Option<usize>, AllocError>
-    ensures within { IfOk result (λ found. IfSome found (λ at. at < length rules.now)) }
-    ensures covers { IfOk result
-        (λ found. IfSome found (λ _. HasCoveringRule rules.now rule.now)) }
+    ensures { IfOk result (λ found. IfSome found (IsCoveringPlace rules.now rule.now)) }
 {
     let at = place_near(rules, first, count, rule);
     if stands_at(rules, at, rule) {
@@ -54,9 +52,7 @@ fn first_covering(
     count: usize,
     rule: &Rule,
 ) -> Result<Option<usize>, AllocError>
-    ensures within { IfOk result (λ found. IfSome found (λ at. at < length rules.now)) }
-    ensures covers { IfOk result
-        (λ found. IfSome found (λ _. HasCoveringRule rules.now rule.now)) }
+    ensures { IfOk result (λ found. IfSome found (IsCoveringPlace rules.now rule.now)) }
 {
     for at in first..first.saturating_add(count).min(rules.len()) {
         if covers_rule(rules[at], rule)? {

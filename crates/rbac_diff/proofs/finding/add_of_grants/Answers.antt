@@ -25,7 +25,7 @@ loop-no-preserved c =
     λ m. search_more s (IsByNumbers after own from n) (IsByRule s r) (IsByNumbers after own from (n + 1)) c.args.findings.now c.loop-no.findings m
     (one_number after own from n (grant_of c.grant.result) c.loop-no.auto.no c.grant.ensures.grant) c.loop-no.invariant in
     elim c.match-branch-2.branch [
-      | in-Some w ↦ rw w.findings-is (more c.loop-no.findings (search_covered s r c.loop-no.findings (rw w.in-Some.is at c.in_ok-at.ensures.covers)))
+      | in-Some w ↦ rw w.findings-is (more c.loop-no.findings (search_covered s r c.loop-no.findings (rw w.in-Some.is at c.in_ok-at.ensures).1))
       | in-None+in_ok-add_of_rule-in-None w ↦ rw w.findings-is (more w.add_of_rule.new.findings w.in_ok-add_of_rule-in-None.ensures)
     ]
 
