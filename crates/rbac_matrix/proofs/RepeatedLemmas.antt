@@ -161,6 +161,7 @@ known_here p u at next l old runs here are e (inl same) = rw (same, e) (known_at
 known_here p u at next l old runs here are e (inr first) = record {
   verbs = λ later. absurd (omega (arith, first, later));
   bare = λ later who there. rw e (λ bare. cc);
+  told = rw e are.2;
 }
 
 -- the account over lines that are left

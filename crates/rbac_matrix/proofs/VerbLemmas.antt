@@ -1,6 +1,6 @@
 -- verbs that no cursor of who asks in a namespace has
 use Rattle.std.proofs.Common.{◌≡◌, ℕ, zero, suc, ◌+◌, ◌<◌, ◌≤◌, List, [], ◌∷◌, ◌++◌, length, refl, ◌∙◌, sym, ap, arith, subst, Bool, inl, inr}
-use Rattle.std.specs.Prelude.{Some, slice_get, slice_index_or, true, false, IsTrue}
+use Rattle.std.specs.Prelude.{All, Some, slice_get, slice_index_or, true, false, IsTrue}
 use Rattle.std.proofs.lemmas.Bool.{cases_lt}
 use Rattle.std.proofs.lemmas.List.{get_or_append_left, get_or_past, get_or_push, length_push}
 use Rattle.std.proofs.lemmas.Option.{same_Some, slice_get_within}
@@ -11,7 +11,9 @@ use Rattle.rbac_model.specs.Policies.{PolicyView, IsPolicy}
 use Rattle.rbac_model.specs.Universes.{UniverseView}
 use Rattle.rbac_matrix.specs.Lines.{LineView, line, lines_from, place}
 use Rattle.rbac_matrix.specs.Cursors.{AreRunsAt, AreRunsOf, AreVerbs, IsCursorAt, ServeBare}
+use Rattle.rbac_matrix.specs.GrantVerbs.{TellsVerbs}
 use Rattle.rbac_matrix.specs.declared.bound_runs.Runs.{Runs}
+use Rattle.rbac_matrix.specs.declared.grant_verbs.GrantVerbs.{GrantVerbs}
 use Rattle.rbac_matrix.specs.declared.line.Place.{Place}
 use Rattle.rbac_matrix.specs.Metering.{Skips}
 use Rattle.rbac_matrix.proofs.LineLemmas.{no_cursors}
@@ -60,3 +62,11 @@ module _ (p : PolicyView) (u : UniverseView) (who : Who) (namespace : Text) (tol
 -- the runs of a line at its place
 pub runs_here : (p : PolicyView) (u : UniverseView) (at : Place) (l : LineView) (ls : List LineView) (runs : Runs) → lines_from u at ≡ l ∷ ls → AreRunsOf p u l runs → ServeBare p u l.who runs → AreRunsAt p u at runs
 runs_here p u at l ls runs here are bare m ms other = subst (λ (x : LineView). AreRunsOf p u x runs × ServeBare p u x.who runs) (same_head l m ls ms (sym here ∙ other)) (are, bare)
+
+-- what is told of no grants, and of one, is so
+pub told_none : (p : PolicyView) (u : UniverseView) → All (TellsVerbs p u) []
+told_none p u k d lt = absurd (omega (arith, lt))
+
+pub told_one : (p : PolicyView) (u : UniverseView) (told : GrantVerbs) → TellsVerbs p u told → All (TellsVerbs p u) (told ∷ [])
+told_one p u told is zero d lt = is
+told_one p u told is (suc k) d lt = absurd (omega (arith, lt))

@@ -13,7 +13,7 @@ use Rattle.rbac_model.proofs.BindingPlaces.{of_some_binding}
 use Rattle.rbac_index.specs.Bound.{HasRoleBindings, IsBoundTo, IsNextRun, AreRunsFrom}
 use Rattle.rbac_index.specs.declared.first_runs.Run.{Run}
 use Rattle.rbac_matrix.specs.Lines.{IsLineAt, IsMoved, LineView, line, place}
-use Rattle.rbac_matrix.specs.Cursors.{AreKnownAt, AreRuns, AreRunsOf, AreRunsOn, AreVerbs, ServeBare, IsAhead, IsBoundOn, IsCursorAt, ComesTo, IsNextBound, IsNextRunOn, IsWithin, steps_left}
+use Rattle.rbac_matrix.specs.Cursors.{AreKnownAt, AreRuns, AreRunsOf, AreRunsOn, AreVerbs, ServeBare, IsAhead, IsBoundOn, IsCursorAt, ComesTo, IsNextBound, IsNextRunOn, IsWithin, TellVerbs, steps_left}
 use Rattle.rbac_matrix.specs.declared.line.Place.{Place}
 use Rattle.rbac_matrix.specs.declared.bound_runs.Runs.{Runs}
 use Rattle.rbac_matrix.specs.declared.walk.Walk.{Walk}
@@ -179,6 +179,7 @@ pub serve_bare : (p : PolicyView) (u : UniverseView) → IsPolicy p → (l : Lin
 serve_bare p u ok l runs bare are = λ is namespace verb other. (
   runs_elsewhere p ok l.who l.namespace namespace (bare is) other runs.are_all 0 runs.kept.items are.0,
   verbs_elsewhere p u ok l.who l.namespace namespace runs.verbs.items other are.1,
+  are.2,
 )
 
 -- another line of a namespace has the runs of this one, and one of another namespace may have them
@@ -190,6 +191,7 @@ known_at p u at l runs verb here are bare = record {
       let same : AreRunsOf p u (line l.who l.namespace m.verb) runs = are in
       subst (λ (n : Text). AreRunsOf p u (line m.who n m.verb) runs) namespace (subst (λ (w : Who). AreRunsOf p u (line w l.namespace m.verb) runs) who same);
   bare = λ later who there. subst (λ (w : Who). ServeBare p u w runs) (same_Some l.who who (sym here.principal ∙ there)) bare;
+  told = are.2;
 }
 
 pub known_moved : (p : PolicyView) (u : UniverseView) (at to : Place) (runs : Runs) → IsMoved at to → AreKnownAt p u at runs → AreKnownAt p u to runs
@@ -197,21 +199,25 @@ known_moved p u at to runs (inl e) known = subst (λ (t : Place). AreKnownAt p u
 known_moved p u at to runs (inr (none, inl first)) known = record {
   verbs = λ later. absurd (omega (arith, none, later));
   bare = λ later. elim later [ inl l ↦ absurd (omega (arith, first, l)) | inr l ↦ absurd (omega (arith, none, l)) ];
+  told = known.told;
 }
 known_moved p u at to runs (inr (none, inr same)) known = record {
   verbs = λ later. absurd (omega (arith, none, later));
   bare = λ later who there. known.bare (inr same.1) who (subst (λ (n : ℕ). slice_get u.principals n ≡ Some who) same.0 there);
+  told = known.told;
 }
 
 -- and so at the first line of the next namespace
-pub known_past : (p : PolicyView) (u : UniverseView) (at to : Place) (l : LineView) (runs : Runs) → IsLineAt u at l → ServeBare p u l.who runs → to.verb ≡ 0 → (to.namespace ≡ 0) ⊎ (to.principal ≡ at.principal) → AreKnownAt p u to runs
-known_past p u at to l runs here bare none (inl first) = record {
+pub known_past : (p : PolicyView) (u : UniverseView) (at to : Place) (l : LineView) (runs : Runs) → IsLineAt u at l → ServeBare p u l.who runs → TellVerbs p u runs → to.verb ≡ 0 → (to.namespace ≡ 0) ⊎ (to.principal ≡ at.principal) → AreKnownAt p u to runs
+known_past p u at to l runs here bare told none (inl first) = record {
   verbs = λ later. absurd (omega (arith, none, later));
   bare = λ later. elim later [ inl n ↦ absurd (omega (arith, first, n)) | inr n ↦ absurd (omega (arith, none, n)) ];
+  told = told;
 }
-known_past p u at to l runs here bare none (inr same) = record {
+known_past p u at to l runs here bare told none (inr same) = record {
   verbs = λ later. absurd (omega (arith, none, later));
   bare = λ later who there. subst (λ (w : Who). ServeBare p u w runs) (same_Some l.who who (sym here.principal ∙ subst (λ (n : ℕ). slice_get u.principals n ≡ Some who) same there)) bare;
+  told = told;
 }
 
 pub not_both : (b : Bool) → IsTrue (not b) → IsTrue b → ⊥

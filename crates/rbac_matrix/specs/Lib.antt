@@ -5,6 +5,7 @@ pub mod Enumeration
 pub mod Every
 pub mod EveryLeft
 pub mod EveryStart
+pub mod GrantVerbs
 pub mod Lent
 pub mod Lines
 pub mod Metering

@@ -1,14 +1,16 @@
 //! The grants of the bindings that name a principal and may be live in a namespace, in runs.
 
 ghost use Rattle.std.specs.Prelude.{◌≡◌, ◌<◌, ◌≤◌, ◌↔◌, [], IsTrue, length, slice_index_or};
-ghost use Rattle.std.specs.Prelude.{true, false};
+ghost use Rattle.std.specs.Prelude.{All, true, false};
 ghost use Rattle.rbac_matrix.specs.Shown.{line_of};
 ghost use Rattle.rbac_index.specs.Bound.{HasRoleBindings};
 ghost use Rattle.rbac_model.specs.Policies.{IsPolicy};
-ghost use Rattle.rbac_matrix.specs.Cursors.{AreRuns, AreRunsOf, AreVerbs, ServeBare};
+ghost use Rattle.rbac_matrix.specs.Cursors.{AreRuns, AreRunsOf, AreVerbs, ServeBare, TellVerbs};
+ghost use Rattle.rbac_matrix.specs.GrantVerbs.{TellsVerbs};
 
+use crate::grant_verbs::GrantVerbs;
 use crate::line::Line;
-use crate::walk::has_cursor;
+use crate::walk::{has_cursor, next_bound, whole_walk};
 use arrayvec::ArrayVec;
 use rbac_index::{Index, MOST_RUNS, Run};
 use rbac_terms::Word;
@@ -17,6 +19,9 @@ use rbac_universe::Universe;
 // The most verbs of which it is kept whether a line's grants have them. The others are looked at
 // line by line.
 const MOST_TOLD: usize = 256;
+
+// The most grants of a line of which it is kept which verbs each has.
+const MOST_GRANTS: usize = 128;
 
 /// The first runs of the grants whose bindings name who asks and may be live on a line.
 #[derive(Drop)]
@@ -30,6 +35,8 @@ pub(crate) struct Runs {
     is_bare: bool,
     // Of the first verbs of the universe, whether one of these grants has each.
     verbs: ArrayVec<bool, MOST_TOLD>,
+    // Of the first of these grants, which verbs each has.
+    grants: ArrayVec<GrantVerbs, MOST_GRANTS>,
 }
 
 impl Runs {
@@ -40,15 +47,24 @@ impl Runs {
             are_all: true,
             is_bare: false,
             verbs: ArrayVec::new(),
+            grants: ArrayVec::new(),
         }
     }
 
-    // The first runs of the line, and the verbs that their grants have.
-    pub(crate) fn of(index: &Index<'_>, universe: &Universe, line: Line<'_>) -> Self
+    // The first runs of the line, and the verbs that their grants have. Those that are known of a
+    // grant are taken over.
+    pub(crate) fn of(
+        index: &Index<'_>,
+        universe: &Universe,
+        line: Line<'_>,
+        known: &[GrantVerbs],
+    ) -> Self
+        requires { All (TellsVerbs index.now universe.now) known.now }
         ensures runs { AreRunsOf index.now universe.now (line_of line.entry) result }
         ensures bare { ServeBare index.now universe.now line.entry.principal.now result }
     {
         let mut runs = Runs::first(index, line);
+        runs.grants = grants_of(index, universe, line, &runs, known);
         runs.verbs = verbs_of(index, universe, line, &runs);
         runs
     }
@@ -67,6 +83,7 @@ impl Runs {
             are_all: found.are_all,
             is_bare: !subjects.has_role_bindings(line.namespace),
             verbs: ArrayVec::new(),
+            grants: ArrayVec::new(),
         }
     }
 
@@ -102,6 +119,13 @@ impl Runs {
         self.kept.as_slice()
     }
 
+    // What is kept of the verbs of the first of these grants.
+    pub(crate) fn grants(&self) -> &[GrantVerbs]
+        ensures { result.now ≡ self.now.grants.items }
+    {
+        self.grants.as_slice()
+    }
+
     // Whether these are all the runs.
     pub(crate) fn are_all(&self) -> bool
         ensures { result ≡ self.now.are_all }
@@ -125,6 +149,30 @@ impl Runs {
     }
 }
 
+// Of the first of these grants, which verbs each has.
+fn grants_of(
+    index: &Index<'_>,
+    universe: &Universe,
+    line: Line<'_>,
+    runs: &Runs,
+    known: &[GrantVerbs],
+) -> ArrayVec<GrantVerbs, MOST_GRANTS>
+    requires runs { AreRuns index.now (line_of line) runs.now }
+    requires known { All (TellsVerbs index.now universe.now) known.now }
+    ensures { All (TellsVerbs index.now universe.now) result.items }
+{
+    let mut told = ArrayVec::new();
+    let mut walk = whole_walk();
+    while let Some(no) = next_bound(index, line, runs, &mut walk) {
+        if told.is_full() {
+            break;
+        }
+        let nth = told.as_slice().len();
+        told.push(GrantVerbs::of(index, universe, no, known, nth));
+    }
+    told
+}
+
 // Of the first verbs of the universe, whether one of these grants has each.
 fn verbs_of(
     index: &Index<'_>,
@@ -132,12 +180,13 @@ fn verbs_of(
     line: Line<'_>,
     runs: &Runs,
 ) -> ArrayVec<bool, MOST_TOLD>
-    requires { AreRuns index.now (line_of line) runs.now }
+    requires runs { AreRuns index.now (line_of line) runs.now }
+    requires told { TellVerbs index.now universe.now runs.now }
     ensures { AreVerbs index.now universe.now
         line.entry.principal.now line.entry.namespace.now result.items }
 {
     let mut told = ArrayVec::new();
-    for verb in universe.verbs() {
+    for (verb_place, verb) in universe.verbs().iter().enumerate() {
         if told.is_full() {
             break;
         }
@@ -145,8 +194,9 @@ fn verbs_of(
             principal: line.principal,
             namespace: line.namespace,
             verb,
+            verb_place,
         };
-        told.push(has_cursor(index, line, runs));
+        told.push(has_cursor(index, universe, line, runs));
     }
     told
 }

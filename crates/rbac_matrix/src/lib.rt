@@ -11,6 +11,7 @@ mod every_repeats;
 mod every_rows;
 mod every_start;
 mod fault;
+mod grant_verbs;
 mod kept;
 mod laws;
 mod line;

@@ -6,7 +6,7 @@ ghost use Rattle.rbac_model.specs.Universes.{IsUniverse, most_words};
 ghost use Rattle.rbac_universe.specs.Sets.{IsWithinLimits};
 ghost use Rattle.rbac_matrix.specs.Lines.{IsLineAt, IsMoved, IsSettled, lines_from};
 ghost use Rattle.rbac_matrix.specs.Lines.{next_verb, place};
-ghost use Rattle.rbac_matrix.specs.Shown.{line_of};
+ghost use Rattle.rbac_matrix.specs.Shown.{HasItsVerb, line_of};
 
 use rbac_terms::{Principal, Word};
 use rbac_universe::Universe;
@@ -39,12 +39,13 @@ impl Place {
     }
 }
 
-/// Who asks, in which namespace, and for which verb.
+/// Who asks, in which namespace, and for which verb, which is the one at a place of the universe.
 #[derive(Clone, Copy)]
 pub(crate) struct Line<'a> {
     pub(crate) principal: &'a Principal,
     pub(crate) namespace: &'a Word,
     pub(crate) verb: &'a Word,
+    pub(crate) verb_place: usize,
 }
 
 // The line at this place; `None` past the last line.
@@ -55,6 +56,7 @@ pub(crate) fn line_at<'a>(universe: &'a Universe, at: Place) -> Option<Line<'a>>
     ensures few { IfSome result
         (λ _. (at.principal < most_words) × (at.namespace < most_words) × (at.verb < most_words)) }
     ensures place { IfSome result (λ line. IsLineAt universe.now at (line_of line)) }
+    ensures verb { IfSome result (HasItsVerb universe.now) }
     ensures line { MatchOption result (lines_from universe.now at ≡ [])
         (λ line. lines_from universe.now at
         ≡ line_of line ∷ lines_from universe.now (next_verb at)) }
@@ -64,6 +66,7 @@ pub(crate) fn line_at<'a>(universe: &'a Universe, at: Place) -> Option<Line<'a>>
         principal: universe.principals().get(at.principal)?,
         namespace: universe.namespaces().get(at.namespace)?,
         verb: universe.verbs().get(at.verb)?,
+        verb_place: at.verb,
     })
 }
 

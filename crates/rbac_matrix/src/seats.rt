@@ -3,11 +3,12 @@
 ghost use Rattle.std.specs.Prelude.{◌≡◌, ◌+◌, ◌*◌, ◌<◌, ◌≤◌, ◌⊎◌, ℕ, length};
 ghost use Rattle.std.specs.Prelude.{IsTrue, ◌↔◌};
 ghost use Rattle.rbac_model.specs.Policies.{IsPolicy};
-ghost use Rattle.rbac_matrix.specs.Shown.{line_of};
-ghost use Rattle.rbac_matrix.specs.Cursors.{AreRuns, IsCursorAt};
+ghost use Rattle.rbac_matrix.specs.Shown.{HasItsVerb, line_of};
+ghost use Rattle.rbac_matrix.specs.Cursors.{AreRuns, IsCursorAt, TellVerbs};
 ghost use Rattle.rbac_matrix.specs.Seats.{AreSeated, AreEmpty, Costs};
 ghost use Rattle.rbac_matrix.specs.Seats.{AreReal, filled, empty_seat, past_all, seat_at};
 
+use crate::basis::Basis;
 use crate::bound_runs::Runs;
 use crate::line::Line;
 use crate::seat::{Seat, seat_from};
@@ -24,27 +25,33 @@ fn is_untaken(seat: Seat, reach: &Reach) -> bool
 // Seats each cursor of the line at its first entry that is at least `from`. Returns how many
 // cursors have an entry, or had one.
 pub(crate) fn seat_line(
-    index: &Index<'_>,
-    reaches: &[Reach],
+    basis: Basis<'_>,
     line: Line<'_>,
     runs: &Runs,
     from: u32,
     seats: &mut [Seat],
     meter: &mut Meter,
 ) -> usize
-    requires runs { AreRuns index.now (line_of line) runs.now }
-    requires reaches { length reaches.now ≡ length index.now.grants }
-    requires real { AreReal reaches.now }
+    requires runs { AreRuns basis.index.now (line_of line) runs.now }
+    requires told { TellVerbs basis.index.now basis.universe.now runs.now }
+    requires verb { HasItsVerb basis.universe.now line }
+    requires reaches { length basis.reaches.now ≡ length basis.index.now.grants }
+    requires real { AreReal basis.reaches.now }
     requires from { from ≤ past_all }
-    requires empty { AreEmpty index.now seats.old }
-    ensures seated { AreSeated index.now (line_of line.entry) reaches.now from 0 seats.new }
+    requires empty { AreEmpty basis.index.now seats.old }
+    ensures seated { AreSeated basis.entry.index.now
+        (line_of line.entry) basis.entry.reaches.now from 0 seats.new }
     ensures filled { result ≡ filled seats.new }
     ensures started { from ≡ 0 → Costs 0 0 seats.old seats.new meter.old meter.new }
     ensures sought { Costs (20 * result) 0 seats.old seats.new meter.old meter.new }
 {
+    let index = basis.index;
+    let universe = basis.universe;
+    let reaches = basis.reaches;
     let mut filled = 0;
     let mut walk = whole_walk();
-    while let Some(no) = next_cursor(index, line, runs, &mut walk) {
+    let mut seen = 0;
+    while let Some(no) = next_cursor(index, universe, line, runs, &mut walk, &mut seen) {
         let no = no as usize;
         if is_untaken(seats[no], &reaches[no]) {
             seats[no] = seat_from(&reaches[no], from, meter);

@@ -194,16 +194,8 @@ pub(crate) fn seat_start(
     let Some(line) = line_at(basis.universe, start.at) else {
         return 0;
     };
-    kept.runs = Runs::of(index, basis.universe, line);
-    let filled = seat_line(
-        index,
-        basis.reaches,
-        line,
-        &kept.runs,
-        start.from,
-        seats,
-        meter,
-    );
+    kept.runs = Runs::of(index, basis.universe, line, &[]);
+    let filled = seat_line(basis, line, &kept.runs, start.from, seats, meter);
     kept.blocks.fill(index, line, &kept.runs, filled, seats);
     if start.from == 0 {
         return 0;

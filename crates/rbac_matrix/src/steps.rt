@@ -9,6 +9,7 @@ ghost use Rattle.rbac_matrix.specs.Shown.{line_of};
 ghost use Rattle.rbac_index.specs.Reaches.{AreReaches};
 ghost use Rattle.rbac_matrix.specs.Blocks.{AreBlocks, AreBlocksAt};
 ghost use Rattle.rbac_matrix.specs.Cursors.{AreKnownAt, AreRunsOf, AreRunsAt, IsBoundOn, ServeBare};
+ghost use Rattle.rbac_matrix.specs.Cursors.{TellVerbs};
 ghost use Rattle.rbac_matrix.specs.Lines.{IsLineAt, lines_from, place};
 ghost use Rattle.rbac_matrix.specs.Passing.{EndsAll, EndsLine, FindsCell, FindsRow};
 ghost use Rattle.rbac_matrix.specs.Metering.{IsMetered, IsReady, Skips};
@@ -85,6 +86,7 @@ fn renew(basis: Basis<'_>, line: Line<'_>, at: Place, runs: &mut Runs)
         → AreRunsOf basis.index.now basis.universe.now (line_of line) runs.old }
     requires bare { (0 < at.namespace) ⊎ (0 < at.verb)
         → ServeBare basis.index.now basis.universe.now line.principal.now runs.old }
+    requires told { TellVerbs basis.index.now basis.universe.now runs.old }
     ensures runs { AreRunsOf basis.entry.index.now basis.entry.universe.now
         (line_of line.entry) runs.new }
     ensures bare { ServeBare basis.entry.index.now basis.entry.universe.now
@@ -96,7 +98,7 @@ fn renew(basis: Basis<'_>, line: Line<'_>, at: Place, runs: &mut Runs)
     if 0 < at.namespace && runs.serve(basis.index, line.namespace) {
         return;
     }
-    *runs = Runs::of(basis.index, basis.universe, line);
+    *runs = Runs::of(basis.index, basis.universe, line, runs.grants());
 }
 
 // Seats the cursors of the next line, from this place on, that has cursors with an entry, and
@@ -130,7 +132,7 @@ pub(crate) fn next_line(
         } else if kept.runs.lack_verb(at.verb) {
             at = settled(basis.universe, past_verbs(&kept.runs, at));
         } else {
-            let filled = seat_line(index, basis.reaches, line, &kept.runs, 0, seats, meter);
+            let filled = seat_line(basis, line, &kept.runs, 0, seats, meter);
             if filled > 0 {
                 kept.blocks.fill(index, line, &kept.runs, filled, seats);
                 return at;

@@ -3,16 +3,17 @@
 ghost use Rattle.std.specs.Prelude.{◌≡◌, ◌↔◌, IsTrue, ◌<◌, ◌≤◌};
 ghost use Rattle.std.specs.Prelude.{◌⊎◌, ℕ, IfSome, MatchOption, [], drop, false, length};
 ghost use Rattle.rbac_model.specs.Policies.{PolicyView};
-ghost use Rattle.rbac_matrix.specs.Shown.{line_of};
+ghost use Rattle.rbac_matrix.specs.Shown.{HasItsVerb, line_of};
 ghost use Rattle.rbac_matrix.specs.Lines.{LineView};
 ghost use Rattle.rbac_matrix.specs.Cursors.{AreRuns, AreRunsOn, IsAhead, IsBoundOn, IsCursorAt};
 ghost use Rattle.rbac_matrix.specs.Cursors.{ComesTo, IsNextBound, IsNextRunOn};
-ghost use Rattle.rbac_matrix.specs.Cursors.{IsWithin, back_at, steps_left};
+ghost use Rattle.rbac_matrix.specs.Cursors.{IsWithin, TellVerbs, back_at, steps_left};
 
 use crate::bound_runs::Runs;
+use crate::grant_verbs::has_verb;
 use crate::line::Line;
 use rbac_index::{Index, Run};
-use rbac_terms::verb_matches;
+use rbac_universe::Universe;
 
 /// A walk along the grants of a line, run by run.
 #[derive(Clone, Copy, Default)]
@@ -52,14 +53,19 @@ pub(crate) fn whole_walk() -> Walk
     }
 }
 
-// Returns the number of a cursor and moves on to the others; `None` if all were returned.
+// Returns the number of a cursor and moves on to the others; `None` if all were returned. `seen`
+// counts the grants that the walk came to: where it isn't their count, look-ups take longer.
 pub(crate) fn next_cursor(
     index: &Index<'_>,
+    universe: &Universe,
     line: Line<'_>,
     runs: &Runs,
     walk: &mut Walk,
+    seen: &mut usize,
 ) -> Option<u32>
-    requires { IsWithin index.now (line_of line) runs.now walk.old }
+    requires within { IsWithin index.now (line_of line) runs.now walk.old }
+    requires told { TellVerbs index.now universe.now runs.now }
+    requires verb { HasItsVerb universe.now line }
     ensures found { MatchOption result
         ((k : ℕ) → ¬ IsAhead index.now (line_of line.entry) walk.old k)
         (λ k. IsCursorAt index.now (line_of line.entry) k
@@ -71,7 +77,9 @@ pub(crate) fn next_cursor(
         (λ _. steps_left index.now walk.new < steps_left index.now walk.old) }
 {
     while let Some(no) = next_bound(index, line, runs, walk) {
-        if verb_matches(index.grant(no).rule, line.verb) {
+        let nth = *seen;
+        *seen = nth.saturating_add(1);
+        if has_verb(index, universe, runs.grants(), nth, no, line) {
             return Some(no);
         }
     }
@@ -79,12 +87,19 @@ pub(crate) fn next_cursor(
 }
 
 // Whether a line has a cursor.
-pub(crate) fn has_cursor(index: &Index<'_>, line: Line<'_>, runs: &Runs) -> bool
-    requires { AreRuns index.now (line_of line) runs.now }
+pub(crate) fn has_cursor(
+    index: &Index<'_>,
+    universe: &Universe,
+    line: Line<'_>,
+    runs: &Runs,
+) -> bool
+    requires runs { AreRuns index.now (line_of line) runs.now }
+    requires told { TellVerbs index.now universe.now runs.now }
+    requires verb { HasItsVerb universe.now line }
     ensures { IsTrue result ↔ ((k : ℕ) × IsCursorAt index.now (line_of line.entry) k) }
 {
     let mut walk = whole_walk();
-    next_cursor(index, line, runs, &mut walk).is_some()
+    next_cursor(index, universe, line, runs, &mut walk, &mut 0).is_some()
 }
 
 // The next grant of a binding that names who asks and may be live, whatever the grant's verbs.

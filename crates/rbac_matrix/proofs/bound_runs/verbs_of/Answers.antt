@@ -8,13 +8,13 @@ use Rattle.rbac_matrix.specs.Cursors.{AreVerbs}
 use Rattle.rbac_matrix.proofs.VerbLemmas.{verbs_push}
 use Rattle.rbac_matrix.proofs.bound_runs.verbs_of.Goals as goal
 
-pub loop-verb-preserved : goal.loop-verb-preserved
-loop-verb-preserved c =
+pub loop-verb_place-preserved : goal.loop-verb_place-preserved
+loop-verb_place-preserved c =
     let items : List Text = c.verbs-verb-items.result.now in
-    let there : slice_get items c.loop-verb.verb-index ≡ Some c.verb-item.result = slice_get-get_or items c.loop-verb.verb-index c.verb-item.result c.loop-verb-test.true ∙ ap (λ (t : Text). Some t) (sym c.verb-item.is) in
-    let at : slice_get c.args.universe.now.verbs (length c.loop-verb.told.items) ≡ Some c.verb-item.result = rw c.loop-verb.invariant.count (subst (λ (l : List Text). slice_get l c.loop-verb.verb-index ≡ Some c.verb-item.result) c.verbs-verb-items.ensures.verbs there) in
+    let there : slice_get items c.loop-verb_place.verb_place ≡ Some c.verb-item.result = slice_get-get_or items c.loop-verb_place.verb_place c.verb-item.result c.loop-verb_place-test.true ∙ ap (λ (t : Text). Some t) (sym c.verb-item.is) in
+    let at : slice_get c.args.universe.now.verbs (length c.loop-verb_place.told.items) ≡ Some c.verb-item.result = rw c.loop-verb_place.invariant.count (subst (λ (l : List Text). slice_get l c.loop-verb_place.verb_place ≡ Some c.verb-item.result) c.verbs-verb-items.ensures.verbs there) in
     record {
       verbs = subst (λ (told : List Bool). AreVerbs c.args.index.now c.args.universe.now (line_of c.args.line).who (line_of c.args.line).namespace told) (sym c.push.ensures.items)
-          (verbs_push c.args.index.now c.args.universe.now (line_of c.args.line).who (line_of c.args.line).namespace c.loop-verb.told.items c.loop-verb.invariant.verbs c.verb-item.result c.has_cursor.result at (λ none k cursor. none (c.has_cursor.ensures.1 (k, cursor))));
-      count = let e = ap length c.push.ensures.items in omega (arith, e, length_push c.loop-verb.told.items c.has_cursor.result, c.loop-verb.invariant.count);
+          (verbs_push c.args.index.now c.args.universe.now (line_of c.args.line).who (line_of c.args.line).namespace c.loop-verb_place.told.items c.loop-verb_place.invariant.verbs c.verb-item.result c.has_cursor.result at (λ none k cursor. none (c.has_cursor.ensures.1 (k, cursor))));
+      count = let e = ap length c.push.ensures.items in omega (arith, e, length_push c.loop-verb_place.told.items c.has_cursor.result, c.loop-verb_place.invariant.count);
     }

@@ -22,5 +22,6 @@ returns c =
         let n = ap length c.verbs.ensures.verbs in omega (arith, n, d.3.0, c.verbs.ensures.few.verbs),
       );
       place = place;
+      verb = place.verb;
       line = line_here c.args.universe.now c.args.at _ place;
     }

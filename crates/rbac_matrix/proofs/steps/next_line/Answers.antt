@@ -34,7 +34,7 @@ loop-line-preserved-then-is_empty c = record {
       (skips_same c.args.basis.index.now.held c.args.basis.universe.now c.past_idle.result c.settled-at-then-is_empty.result c.settled-at-then-is_empty.ensures.same));
   empty = c.loop-line.invariant.empty;
   known = known_moved c.args.basis.index.now c.args.basis.universe.now c.past_idle.result c.settled-at-then-is_empty.result c.renew.new.runs c.settled-at-then-is_empty.ensures.moved
-      (known_past c.args.basis.index.now c.args.basis.universe.now c.loop-line.at c.past_idle.result (line_of c.in-Some.line) c.renew.new.runs c.in-Some.ensures.place c.renew.ensures.bare c.past_idle.ensures.begins.0 c.past_idle.ensures.begins.1);
+      (known_past c.args.basis.index.now c.args.basis.universe.now c.loop-line.at c.past_idle.result (line_of c.in-Some.line) c.renew.new.runs c.in-Some.ensures.place c.renew.ensures.bare c.renew.ensures.runs.2 c.past_idle.ensures.begins.0 c.past_idle.ensures.begins.1);
   costs = c.loop-line.invariant.costs;
 }
 
