@@ -1,4 +1,4 @@
-# rbacaudit: the commands of this repository. README.md says what they need of a machine ("Install").
+# rbacaudit: the commands of this repository. docs/BUILD.md says what they need of a machine.
 
 PREFIX ?= /usr/local
 PROGRAM = crates/rbacaudit/out/rbacaudit
