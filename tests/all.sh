@@ -40,9 +40,9 @@ counted python3 tests/chosen_edits.py
 counted python3 tests/program.py
 counted python3 tests/plugin.py
 counted python3 tests/shells.py
-counted python3 tests/page.py
+counted python3 tests/rbacaudit_page.py
 counted python3 tests/dist.py
-counted python3 tests/pages.py
+counted python3 tests/matrix_pages.py
 counted python3 tests/universe.py
 counted python3 tests/rules.py
 counted python3 tests/diff.py

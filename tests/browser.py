@@ -1,4 +1,4 @@
-"""A headless Chromium, driven by its DevTools protocol over two pipes: what tests/page.py needs of
+"""A headless Chromium, driven by its DevTools protocol over two pipes: what tests/rbacaudit_page.py needs of
 it, and no more.
 
 A message is JSON that ends in a zero byte. The browser gets a profile of its own, and is ended by

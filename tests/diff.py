@@ -23,7 +23,7 @@ import tempfile
 from common import PROGRAM, V1BETA1, export
 from meaning import (binding_text, changed, field, groups_of, is_named, key_of, name_matches, name_of,
                      ordered_bindings, path_matches, resource_matches, text_shown, word_matches)
-from pages import NAMES, RESOURCES, TEAMS, URLS, USERS, VERBS, bindings, roles, rule, some, subject
+from matrix_pages import NAMES, RESOURCES, TEAMS, URLS, USERS, VERBS, bindings, roles, rule, some, subject
 
 ANONYMOUS, UNAUTHENTICATED = 'system:anonymous', 'system:unauthenticated'
 SELECTS = {'clusterRoleSelectors': [{'matchLabels': {'to': 'x'}}]}

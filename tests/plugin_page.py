@@ -1,7 +1,7 @@
 """`kubectl rbacaudit page`, under dash and under bash, with the stand-in for kubectl of
 plugin_room.py.
 
-tests/page.py runs this.
+tests/rbacaudit_page.py runs this.
 """
 
 import json

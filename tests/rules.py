@@ -1,6 +1,6 @@
 """What `rules` prints against what `can-i` answers, over random exports: its lines, read once more.
 
-Each export is drawn as tests/pages.py draws it, with odd words in some of its rules. For a user,
+Each export is drawn as tests/matrix_pages.py draws it, with odd words in some of its rules. For a user,
 `rules` is asked everywhere, in a namespace or in the whole cluster. Its lines are taken apart here,
 lists and escapes too, and each request is matched against them by docs/BEHAVIOUR.md alone: `can-i`
 has to say yes exactly if a line allows it, and the first line that does is what `can-i --why` has
@@ -18,7 +18,7 @@ import sys
 
 from common import PROGRAM, export
 from meaning import binding_text, field, is_live, key_of, ordered_bindings, rule_allows, text_shown
-from pages import (GROUPS, NAMES, NAMESPACES, RESOURCES, TEAMS, URLS, USERS, bindings, roles,
+from matrix_pages import (GROUPS, NAMES, NAMESPACES, RESOURCES, TEAMS, URLS, USERS, bindings, roles,
                    some)
 
 # Words that a line has to escape, or that only look like what they aren't.

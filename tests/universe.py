@@ -1,6 +1,6 @@
 """What `universe` prints of random exports, against the lists worked out once more, and as a file of `matrix`.
 
-Each export is drawn as tests/pages.py draws it, with odd words and names, service accounts, namespaces and API resource lists,
+Each export is drawn as tests/matrix_pages.py draws it, with odd words and names, service accounts, namespaces and API resource lists,
 objects that replace others, and Universe documents that have some of the lists. Its lists are worked out here, as docs/FORMATS.md
 says it, and the program has to print exactly their document. Read back with the export, the document has to be printed again,
 and to give the matrix that the export gives alone: the same rows, or the same refusal, in each form.
@@ -16,7 +16,7 @@ import tempfile
 
 from common import PROGRAM, export
 from meaning import account, document_text, key_of, name_of
-from pages import NAMES, NAMESPACES, RESOURCES, TEAMS, URLS, USERS, VERBS, bindings, roles, some
+from matrix_pages import NAMES, NAMESPACES, RESOURCES, TEAMS, URLS, USERS, VERBS, bindings, roles, some
 from rules import odd
 
 # Names that a JSON string can't have as they are, or that a terminal obeys, or that begin as a URL.

@@ -7,7 +7,7 @@ the program lists it whole, in pages of random sizes from token to token, and af
 bindings that mostly aren't there; all that with `--every` and without, and with `--once` and without. The last universes are
 wide: 64, 65, 200 or 300 bindings meet in one of many namespaces, or most of 60 count in all of them. Last, in a token of each
 version each byte is replaced by every other ASCII one, and each prefix of it is tried.
-`pages.py SEED COUNT` tries other universes. The last line is `N passed, M failed`.
+`matrix_pages.py SEED COUNT` tries other universes. The last line is `N passed, M failed`.
 """
 
 import base64
