@@ -19,7 +19,7 @@ import sys
 from common import PROGRAM, export
 from meaning import binding_text, field, is_live, key_of, ordered_bindings, rule_allows, text_shown
 from matrix_pages import (GROUPS, NAMES, NAMESPACES, RESOURCES, TEAMS, URLS, USERS, bindings, roles,
-                   some)
+                          some)
 
 # Words that a line has to escape, or that only look like what they aren't.
 ODD = ['', '-', ',', 'a,b', '[', ']', '[]', '\\', '\\x2c', 'a\tb', '\x7f', 'é', '\\,', '*,*']
