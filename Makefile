@@ -63,11 +63,15 @@ install: $(shell $(IS_BUILT) || echo build)
 	install -m 755 plugin/kubectl_complete-rbacaudit $(DESTDIR)$(PREFIX)/bin/kubectl_complete-rbacaudit
 	install -m 644 plugin/kubectl-rbacaudit.d/*.sh $(DESTDIR)$(PREFIX)/lib/kubectl-rbacaudit
 	install -m 755 plugin/rbacaudit-page $(DESTDIR)$(PREFIX)/bin/rbacaudit-page
+	install -m 755 plugin/rbacaudit-show $(DESTDIR)$(PREFIX)/bin/rbacaudit-show
 	install -m 644 page/* $(SHARE)/rbacaudit/page
-	install -m 644 man/rbacaudit-page.1 $(SHARE)/man/man1/rbacaudit-page.1
+	install -m 644 man/rbacaudit-page.1 man/rbacaudit-show.1 $(SHARE)/man/man1
 	install -m 644 completions/rbacaudit-page.bash $(SHARE)/bash-completion/completions/rbacaudit-page
 	install -m 644 completions/_rbacaudit-page $(SHARE)/zsh/site-functions/_rbacaudit-page
 	install -m 644 completions/rbacaudit-page.fish $(SHARE)/fish/vendor_completions.d/rbacaudit-page.fish
+	install -m 644 completions/rbacaudit-show.bash $(SHARE)/bash-completion/completions/rbacaudit-show
+	install -m 644 completions/_rbacaudit-show $(SHARE)/zsh/site-functions/_rbacaudit-show
+	install -m 644 completions/rbacaudit-show.fish $(SHARE)/fish/vendor_completions.d/rbacaudit-show.fish
 	install -m 644 completions/rbacaudit.bash $(SHARE)/bash-completion/completions/rbacaudit
 	install -m 644 completions/_rbacaudit $(SHARE)/zsh/site-functions/_rbacaudit
 	install -m 644 completions/rbacaudit.fish $(SHARE)/fish/vendor_completions.d/rbacaudit.fish

@@ -1,6 +1,6 @@
 #!/usr/bin/env bash
 # The whole gate: each edit still fits, every proof, must-fail edit and test by `rt ci`, which wrong bodies a change wants
-# tried, what only a process can show, the kubectl plugin, completions and man page, the page in a browser, what make dist
+# tried, what only a process can show, the kubectl plugin, completions and man page, the page in a browser, lines as tables and as JSON, what make dist
 # packs, random matrices, universes, rules and changes, bad documents, refused memory, reads and writes, and each public call by itself.
 # The last line counts all of it, as `N passed, M failed`; if a test skipped something that this machine lacks, the last line
 # but one says what.
@@ -41,6 +41,7 @@ counted python3 tests/program.py
 counted python3 tests/plugin.py
 counted python3 tests/shells.py
 counted python3 tests/rbacaudit_page.py
+counted python3 tests/show.py
 counted python3 tests/dist.py
 counted python3 tests/matrix_pages.py
 counted python3 tests/universe.py

@@ -41,11 +41,12 @@ PLUGIN_TOOLS = 'awk', 'date', 'mktemp', 'sed'
 QUESTION = 'can-i --as system:serviceaccount:shop:ci -n shop --why update deployments.apps'.split()
 ANSWER = 'yes\nRoleBinding/shop/ci-deploys\tRole/shop/deployer\tRole/shop/deployer\t1\t1\n'
 PLACES = {'bin/rbacaudit': None, 'bin/kubectl-rbacaudit': 'plugin/kubectl-rbacaudit', 
-          'bin/rbacaudit-page': 'plugin/rbacaudit-page', 'bin/kubectl_complete-rbacaudit': 'plugin/kubectl_complete-rbacaudit',
-          **{'share/bash-completion/completions/' + name: 'completions/%s.bash' % name for name in ('rbacaudit', 'rbacaudit-page')},
-          **{'share/zsh/site-functions/_' + name: 'completions/_' + name for name in ('rbacaudit', 'rbacaudit-page')},
-          **{'share/fish/vendor_completions.d/%s.fish' % name: 'completions/%s.fish' % name for name in ('rbacaudit', 'rbacaudit-page')},
-          **{'share/man/man1/%s.1' % name: 'man/%s.1' % name for name in ('rbacaudit', 'rbacaudit-page', 'kubectl-rbacaudit')},
+          'bin/rbacaudit-page': 'plugin/rbacaudit-page', 'bin/rbacaudit-show': 'plugin/rbacaudit-show',
+          'bin/kubectl_complete-rbacaudit': 'plugin/kubectl_complete-rbacaudit',
+          **{'share/bash-completion/completions/' + name: 'completions/%s.bash' % name for name in ('rbacaudit', 'rbacaudit-page', 'rbacaudit-show')},
+          **{'share/zsh/site-functions/_' + name: 'completions/_' + name for name in ('rbacaudit', 'rbacaudit-page', 'rbacaudit-show')},
+          **{'share/fish/vendor_completions.d/%s.fish' % name: 'completions/%s.fish' % name for name in ('rbacaudit', 'rbacaudit-page', 'rbacaudit-show')},
+          **{'share/man/man1/%s.1' % name: 'man/%s.1' % name for name in ('rbacaudit', 'rbacaudit-page', 'rbacaudit-show', 'kubectl-rbacaudit')},
           **{'lib/kubectl-rbacaudit/' + name: 'plugin/kubectl-rbacaudit.d/' + name
              for name in os.listdir(os.path.join(TOP, 'plugin', 'kubectl-rbacaudit.d'))},
           **{'share/rbacaudit/page/' + name: 'page/' + name for name in os.listdir(os.path.join(TOP, 'page'))}}

@@ -21,10 +21,9 @@ SEEN='[\303-\327\331\332\335-\337][\200-\277]|\302[\240-\254\256-\277]'\
 '|\240([\202-\277][\200-\277]|\200[\200\202-\237]))'\
 '|\364[\200-\217][\200-\277][\200-\277]'
 
-# An awk program that prints its lines with each other byte above ASCII as \x and two digits, or, in
-# JSON, with each other character as \u and four. It takes a line in pieces, since an awk may need
-# the more time for each byte the longer a text is.
-ESCAPES='
+# Functions of awk for what is escaped: each other byte above ASCII as \x and two digits, or, in JSON, each
+# other character as \u and four.
+CODES='
 BEGIN {
     for (at = 128; at < 256; at++) {
         one = sprintf("%c", at)
@@ -32,22 +31,19 @@ BEGIN {
         code[one] = sprintf("\\x%02x", at)
     }
 }
-!/[\200-\377]/ { print; next }
-{
-    for (at = 1; at <= length($0); at += put(substr($0, at, 1024))) continue
-    print ""
-}
-# Prints a piece of a line, and answers how many bytes of it: all but a character that it may cut.
-function put(piece,    at, most, one) {
+# A piece of a line with its escapes, and in `taken` how many bytes of it: all but a character that it may
+# cut.
+function escaped(piece,    at, most, one, text) {
     most = length(piece)
     for (at = 1; at <= most && (most < 1024 || at < 1022); at += RLENGTH) {
         one = substr(piece, at, 4)
         if (match(one, /^[\001-\177]+/) || match(one, /^('"$SEEN"')/))
-            printf "%s", substr(one, 1, RLENGTH)
-        else if (json) printf "%s", json_code(one)
-        else { RLENGTH = 1; printf "%s", code[substr(one, 1, 1)] }
+            text = text substr(one, 1, RLENGTH)
+        else if (json) text = text json_code(one)
+        else { RLENGTH = 1; text = text code[substr(one, 1, 1)] }
     }
-    return at - 1
+    taken = at - 1
+    return text
 }
 # The code of the character that a text begins with, and in RLENGTH how many bytes it has.
 function json_code(text,    at, value) {
@@ -59,6 +55,15 @@ function json_code(text,    at, value) {
     value -= 65536
     return sprintf("\\u%04x\\u%04x", 55296 + int(value / 1024), 56320 + value % 1024)
 }'
+
+# An awk program that prints its lines with these escapes. It takes a line in pieces, since an awk may need
+# the more time for each byte the longer a text is.
+ESCAPES='
+!/[\200-\377]/ { print; next }
+{
+    for (at = 1; at <= length($0); at += taken) printf "%s", escaped(substr($0, at, 1024))
+    print ""
+}'$CODES
 
 # Prints what it reads, and escapes it if that goes to a terminal: in JSON with the word 1.
 show() {

@@ -1,0 +1,6 @@
+# Completions of rbacaudit-show for fish; see rbacaudit.fish.
+
+complete -c rbacaudit-show -f
+complete -c rbacaudit-show -s o -l output -x -a 'table wide json name' -d 'how lines are shown'
+complete -c rbacaudit-show -s h -l help -d 'print help'
+complete -c rbacaudit-show -s V -l version -d 'print version'

@@ -1,0 +1,636 @@
+"""rbacaudit-show: lines of each command as a table, as JSON and as names, under each awk that there is.
+
+Tables and objects are written by hand from docs/FORMATS.md. Lines of the built program over examples/ are read
+once more here, by the rules of that document, and compared with the objects. What is skipped, since this
+machine lacks an awk, a shell or a renderer, stands in the last line but one. The last line is
+`N passed, M failed`.
+"""
+
+import base64
+import contextlib
+import fcntl
+import json
+import os
+import pty
+import random
+import re
+import shutil
+import struct
+import subprocess
+import sys
+import tempfile
+import termios
+import threading
+import unicodedata
+
+from common import PROGRAM, TOP, checked, skipped, tested
+from plugin_terminal import AWKS
+from shells import renders
+from written import contents, same
+
+SHOW = os.path.join(TOP, 'plugin', 'rbacaudit-show')
+EXAMPLES = os.path.join(TOP, 'examples')
+MEMORY = 60_000  # kilobytes that a million lines may take
+EXPECTED = ('no command of rbacaudit prints this: expected lines of can-i, who-can, rules, matrix, lint or diff; '
+            'rbacaudit-show --help lists their fields')
+
+
+def tabs(text):
+    """Lines that are written with blanks."""
+    return ''.join(line.strip().replace(' ', '\t') + '\n' for line in text.strip().splitlines())
+
+
+# ---- lines of each command, their table and their objects
+
+ANSWER = 'yes\n' + tabs('RoleBinding/shop/readers ClusterRole/shop-view ClusterRole/shop-pods 1 12')
+ANSWER_TABLE = '''\
+yes
+BINDING                   ROLE                   SOURCE                 RULE  SUBJECT
+RoleBinding/shop/readers  ClusterRole/shop-view  ClusterRole/shop-pods  1     12
+'''
+# (85 columns: BINDING of 24 gives three, and then the first two of those that have 21 give one each)
+ANSWER_80 = '''\
+yes
+BINDING               ROLE                  SOURCE                 RULE  SUBJECT
+RoleBinding/shop/re…  ClusterRole/shop-vi…  ClusterRole/shop-pods  1     12
+'''
+HOLDERS = tabs('''
+g:system:masters ClusterRoleBinding/cluster-admin
+u:kim RoleBinding/shop/kim''')
+HOLDERS_TABLE = '''\
+WHO               BINDING
+g:system:masters  ClusterRoleBinding/cluster-admin
+u:kim             RoleBinding/shop/kim
+'''
+WHY = tabs('u:kim RoleBinding/shop/kim Role/shop/ops Role/shop/ops 3 1')
+WHY_TABLE = '''\
+WHO    BINDING               ROLE           SOURCE         RULE  SUBJECT
+u:kim  RoleBinding/shop/kim  Role/shop/ops  Role/shop/ops  3     1
+'''
+RULES = tabs(r'''
+RoleBinding/shop/ci Role/shop/ci Role/shop/ci 1 1 [get,list] [apps,-] [deployments] [] []
+ClusterRoleBinding/m ClusterRole/m ClusterRole/m 10 2 [get] [] [] [] [/metrics,/a\x2cb]''')
+RULES_TABLE = r'''BINDING               ROLE           SOURCE         RULE  SUBJECT  VERBS       GROUPS    RESOURCES      NAMES  URLS
+RoleBinding/shop/ci   Role/shop/ci   Role/shop/ci   1     1        [get,list]  [apps,-]  [deployments]  []     []
+ClusterRoleBinding/m  ClusterRole/m  ClusterRole/m  10    2        [get]       []        []             []     [/metrics,/a\x2cb]
+'''
+# (129 columns, of which blanks take 18: 111 become 62. All that have more than 7 have 7 at last, which is 3 too many: the first three give one)
+RULES_80 = '''\
+BINDI…  ROLE    SOURCE  RULE  SUBJECT  VERBS    GROUPS   RESOUR…  NAMES  URLS
+RoleB…  Role/…  Role/…  1     1        [get,l…  [apps,…  [deplo…  []     []
+Clust…  Clust…  Clust…  10    2        [get]    []       []       []     [/metr…
+'''
+ROWS = tabs('''
+g:devs - get - /metrics - ClusterRoleBinding/scrapers
+u:ann dev update - configmaps app RoleBinding/dev/ann
+u:system:serviceaccount:dev:ci dev patch apps deployments - RoleBinding/dev/ci''')
+MATRIX = ROWS + 'end\n'
+MATRIX_TABLE = '''\
+WHO                             NAMESPACE  VERB    GROUP  RESOURCE     NAME  BINDING
+g:devs                          -          get     -      /metrics     -     ClusterRoleBinding/scrapers
+u:ann                           dev        update  -      configmaps   app   RoleBinding/dev/ann
+u:system:serviceaccount:dev:ci  dev        patch   apps   deployments  -     RoleBinding/dev/ci
+end
+'''
+# (104 columns: WHO of 30 and BINDING of 27 give 24, so they have 16 and 17)
+MATRIX_80 = '''\
+WHO               NAMESPACE  VERB    GROUP  RESOURCE     NAME  BINDING
+g:devs            -          get     -      /metrics     -     ClusterRoleBindi…
+u:ann             dev        update  -      configmaps   app   RoleBinding/dev/…
+u:system:servic…  dev        patch   apps   deployments  -     RoleBinding/dev/…
+end
+'''
+LINT = tabs(r'''
+L1 dangling-role RoleBinding/shop/old - Role/shop/gone
+L3 redundant-rule Role/shop/ops 2 1
+L5 account-without-namespace ClusterRoleBinding/m 1 7
+L6 stale-aggregate ClusterRole/view - -
+L7 replaced-object Namespace/shop - 2''')
+LINT_TABLE = '''\
+CODE  NAME                       OBJECT                PLACE  DETAIL
+L1    dangling-role              RoleBinding/shop/old  -      Role/shop/gone
+L3    redundant-rule             Role/shop/ops         2      1
+L5    account-without-namespace  ClusterRoleBinding/m  1      7
+L6    stale-aggregate            ClusterRole/view      -      -
+L7    replaced-object            Namespace/shop        -      2
+'''
+FILES = tabs(r'L2 unused-role ClusterRole/old - - rbac/roles\\.yaml')
+FILES_TABLE = r'''CODE  NAME         OBJECT           PLACE  DETAIL  FILE
+L2    unused-role  ClusterRole/old  -      -       rbac/roles\\.yaml
+'''
+DIFF = tabs(r'''
++ g:devs shop list - secrets * RoleBinding/shop/devs
+- u:bob * * apps * \x2a ClusterRoleBinding/bobs
+- u:bob - get - /healthz/* - ClusterRoleBinding/bobs''')
+DIFF_TABLE = r'''CHANGE  WHO     NAMESPACE  VERB  GROUP  RESOURCE    NAME  BINDING
++       g:devs  shop       list  -      secrets     *     RoleBinding/shop/devs
+-       u:bob   *          *     apps   *           \x2a  ClusterRoleBinding/bobs
+-       u:bob   -          get   -      /healthz/*  -     ClusterRoleBinding/bobs
+'''
+# (81 columns)
+DIFF_80 = DIFF_TABLE.replace('bobs', 'bo…')
+
+
+def objects(keys, *values):
+    return [dict(zip(keys.split(), line)) for line in values]
+
+
+OF_WHY = 'binding role source rule subject'
+OF_ROW = 'who namespace verb group resource name binding'
+OF_FINDING = 'code name object place detail'
+COMMANDS = {
+    'can-i --why': (ANSWER, ANSWER_TABLE, ANSWER_80, [{'allowed': True}, *objects(
+        OF_WHY, ('RoleBinding/shop/readers', 'ClusterRole/shop-view', 'ClusterRole/shop-pods', 1, 12))],
+                    ['RoleBinding/shop/readers']),
+    'can-i': ('no\n', 'no\n', 'no\n', [{'allowed': False}], []),
+    'who-can': (HOLDERS, HOLDERS_TABLE, HOLDERS_TABLE, objects(
+        'who binding', ('g:system:masters', 'ClusterRoleBinding/cluster-admin'), ('u:kim', 'RoleBinding/shop/kim')),
+                ['g:system:masters', 'u:kim']),
+    'who-can --why': (WHY, WHY_TABLE, WHY_TABLE, objects(
+        'who ' + OF_WHY, ('u:kim', 'RoleBinding/shop/kim', 'Role/shop/ops', 'Role/shop/ops', 3, 1)), ['u:kim']),
+    'rules': (RULES, RULES_TABLE, RULES_80, objects(
+        OF_WHY + ' verbs api_groups resources resource_names non_resource_urls',
+        ('RoleBinding/shop/ci', 'Role/shop/ci', 'Role/shop/ci', 1, 1, ['get', 'list'], ['apps', ''], ['deployments'], [], []),
+        ('ClusterRoleBinding/m', 'ClusterRole/m', 'ClusterRole/m', 10, 2, ['get'], [], [], [], ['/metrics', '/a,b'])),
+              ['RoleBinding/shop/ci', 'ClusterRoleBinding/m']),
+    'matrix': (MATRIX, MATRIX_TABLE, MATRIX_80, [*objects(
+        OF_ROW, ('g:devs', '', 'get', '', '/metrics', '', 'ClusterRoleBinding/scrapers'),
+        ('u:ann', 'dev', 'update', '', 'configmaps', 'app', 'RoleBinding/dev/ann'),
+        ('u:system:serviceaccount:dev:ci', 'dev', 'patch', 'apps', 'deployments', '', 'RoleBinding/dev/ci')), {'end': True}],
+               ['g:devs', 'u:ann', 'u:system:serviceaccount:dev:ci']),
+    'lint': (LINT, LINT_TABLE, LINT_TABLE, objects(
+        OF_FINDING, ('L1', 'dangling-role', 'RoleBinding/shop/old', None, 'Role/shop/gone'),
+        ('L3', 'redundant-rule', 'Role/shop/ops', 2, 1), ('L5', 'account-without-namespace', 'ClusterRoleBinding/m', 1, '7'),
+        ('L6', 'stale-aggregate', 'ClusterRole/view', None, ''), ('L7', 'replaced-object', 'Namespace/shop', None, 2)),
+             ['RoleBinding/shop/old', 'Role/shop/ops', 'ClusterRoleBinding/m', 'ClusterRole/view', 'Namespace/shop']),
+    'lint of manifests': (FILES, FILES_TABLE, FILES_TABLE, objects(
+        OF_FINDING + ' file', ('L2', 'unused-role', 'ClusterRole/old', None, '', 'rbac/roles\\.yaml')), ['ClusterRole/old']),
+    'diff': (DIFF, DIFF_TABLE, DIFF_80, objects(
+        'change ' + OF_ROW, ('+', 'g:devs', 'shop', 'list', '', 'secrets', None, 'RoleBinding/shop/devs'),
+        ('-', 'u:bob', None, '*', 'apps', '*', '*', 'ClusterRoleBinding/bobs'),
+        ('-', 'u:bob', '', 'get', '', '/healthz/*', '', 'ClusterRoleBinding/bobs')), ['g:devs', 'u:bob']),
+}
+
+
+# ---- the filter, under an awk
+
+class Filter:
+    """rbacaudit-show with one awk on its PATH."""
+
+    def __init__(self, words, room):
+        self.name = ' '.join(words)
+        self.bin = os.path.join(room, words[0])
+        os.mkdir(self.bin)
+        path = os.path.join(self.bin, 'awk')
+        with open(path, 'w', encoding='utf-8') as file:
+            file.write('#!/bin/sh\nexec %s "$@"\n' % ' '.join([shutil.which(words[0]), *words[1:]]))
+        os.chmod(path, 0o755)
+
+    def environment(self, **more):
+        mine = {name: value for name, value in os.environ.items() if name != 'COLUMNS'}
+        return {**mine, 'PATH': self.bin + os.pathsep + os.environ['PATH'], 'LC_ALL': 'C.UTF-8', **more}
+
+    def run(self, given, *words, **how):
+        """Status, output and error over lines."""
+        given = given if isinstance(given, bytes) else given.encode()
+        ended = subprocess.run([SHOW, *words], input=given, stdout=subprocess.PIPE, stderr=subprocess.PIPE,
+                               timeout=300, env=self.environment(), **how)
+        return ended.returncode, ended.stdout, ended.stderr.decode()
+
+    def on_terminal(self, given, columns, *words, **more):
+        """What a terminal of so many columns gets, and status and error."""
+        ours, theirs = pty.openpty()
+        fcntl.ioctl(theirs, termios.TIOCSWINSZ, struct.pack('HHHH', 50, columns, 0, 0))
+        process = subprocess.Popen([SHOW, *words], stdin=subprocess.PIPE, stdout=theirs, stderr=subprocess.PIPE,
+                                   env=self.environment(**more))
+        os.close(theirs)
+        out = []
+        reader = threading.Thread(target=lambda: out.append(all_of(ours)))
+        reader.start()
+        err = process.communicate(given if isinstance(given, bytes) else given.encode(), timeout=300)[1]
+        reader.join()
+        os.close(ours)
+        return process.returncode, out[0].replace(b'\r\n', b'\n').decode(), err.decode()
+
+    def same(self, name, got, wanted):
+        same('%s: %s' % (self.name, name), got, wanted)
+
+    def checked(self, name, well, got=None):
+        checked('%s: %s' % (self.name, name), well, 'got %.2000r' % (got,))
+
+
+def all_of(terminal):
+    out = b''
+    with contextlib.suppress(OSError):
+        while chunk := os.read(terminal, 65536):
+            out += chunk
+    return out
+
+
+def objects_in(out):
+    return [json.loads(line) for line in out.decode().splitlines()]
+
+
+def commands(it):
+    """Each command's lines in each format, through a pipe and on a terminal."""
+    for name, (lines, table, narrow, wanted, names) in COMMANDS.items():
+        for words in ([], ['-o', 'table'], ['-owide']):
+            it.same('%s: a pipe %s' % (name, words), it.run(lines, *words), (0, table.encode(), ''))
+        it.same('%s: 80 columns' % name, it.on_terminal(lines, 80), (0, narrow, ''))
+        it.same('%s: 200 columns' % name, it.on_terminal(lines, 200), (0, table, ''))
+        it.same('%s: wide, in 80 columns' % name, it.on_terminal(lines, 80, '-o', 'wide'), (0, table, ''))
+        status, out, err = it.run(lines, '-o', 'json')
+        it.same('%s: JSON' % name, (status, objects_in(out), err), (0, wanted, ''))
+        it.same('%s: the order of keys' % name, [list(line) for line in objects_in(out)], [list(line) for line in wanted])
+        it.same('%s: JSON on a terminal' % name, it.on_terminal(lines, 80, '--output=json'), (0, out.decode(), ''))
+        it.same('%s: names' % name, it.run(lines, '--output', 'name'), (0, ''.join(it + '\n' for it in names).encode(), ''))
+    it.same('$COLUMNS counts', it.on_terminal(MATRIX, 200, COLUMNS='80'), (0, MATRIX_80, ''))
+    for columns in ('', '0', 'x'):
+        it.same('COLUMNS=%s does not' % columns, it.on_terminal(MATRIX, 80, COLUMNS=columns), (0, MATRIX_80, ''))
+    it.same('a terminal that does not know', it.on_terminal(MATRIX, 0), (0, MATRIX_80, ''))
+    tiny = it.on_terminal(MATRIX, 10)
+    it.same('a terminal that is too narrow', tiny, (0, 'WHO  NA…  VE…  GR…  RE…  NA…  BI…\ng:…  -    get  -    /m…  -    Cl…\n'
+                                                    'u:…  dev  up…  -    co…  app  Ro…\nu:…  dev  pa…  ap…  de…  -    Ro…\nend\n', ''))
+
+
+def remarks(it):
+    """Answers of can-i and the last lines of pages, before and between rows."""
+    it.same('an empty matrix', it.run('end\n'), (0, b'end\n', ''))
+    it.same('an empty matrix, as JSON', it.run('end\n', '-o', 'json'), (0, b'{"end":true}\n', ''))
+    page = ROWS + 'next\tMQl1OmFsaWNl_-\n'
+    it.same('a page', it.run(page), (0, MATRIX_TABLE.replace('end', 'next\tMQl1OmFsaWNl_-').encode(), ''))
+    it.same('a page, as JSON', objects_in(it.run(page, '-o', 'json')[1])[3:], [{'next': 'MQl1OmFsaWNl_-'}])
+    it.same('a page, as names', it.run(page, '-o', 'name')[1], b'g:devs\nu:ann\nu:system:serviceaccount:dev:ci\n')
+    it.same('a matrix without its last line', it.run(ROWS), (0, MATRIX_TABLE[:-4].encode(), ''))
+    it.same('two pages', it.run(page + ROWS + 'end\n'),
+            (0, (MATRIX_TABLE.replace('end', 'next\tMQl1OmFsaWNl_-') + MATRIX_TABLE).encode(), ''))
+    it.same('several answers', it.run('no\n' + ANSWER + 'yes\n'), (0, ('no\n' + ANSWER_TABLE + 'yes\n').encode(), ''))
+    for words in ([], ['-o', 'json'], ['-o', 'wide'], ['-o', 'name']):
+        it.same('nothing %s' % words, it.run('', *words), (0, b'', ''))
+        it.same('nothing on a terminal %s' % words, it.on_terminal('', 80, *words), (0, '', ''))
+    it.same('no newline at the end', it.run(HOLDERS[:-1]), (0, HOLDERS_TABLE.encode(), ''))
+
+
+# ---- names of strangers
+
+NAMES = ['', '-', '--', '-kim', '*', '\\', '\\x2a', 'a\tb', 'a\nb\r', '"', '"}{"', "'", ' ', ' a ', 'a  b', 'a   b', 'a,b', ',',
+         '[a]', 'end', 'yes', '\u2800', '\u202ekim\u2066', '\u200e\u200f', '\u200b', '\x7f', '\x01\x1f', 'é', 'e\u0301', '中文', '한글', '👍',
+         '\x9b2J', '\u2028', '\U000e0041', '\ufffd', '\ufeff', '\u0085', '😀' * 300, 'é' * 1030, 'x' * 1020 + '\u202e"\\' * 20, '\U0010ffff']
+
+
+def field_of(text):
+    """A text as a field, by FORMATS."""
+    if text in ('', '-'):
+        return text and '\\x2d' or '-'
+    return re.sub(r'[\x00-\x1f\x7f]', lambda found: '\\x%02x' % ord(found[0]), text.replace('\\', '\\\\'))
+
+
+def list_of(texts):
+    return '[%s]' % ','.join(field_of(text).replace(',', '\\x2c') for text in texts)
+
+
+def strangers():
+    """Lines with each name in each field that may have it, and their objects."""
+    for name in NAMES:
+        yield '\t'.join(['g:' + field_of(name + 'x')] + [field_of(name)] * 5 + ['RoleBinding/a/' + field_of(name + 'y')]), dict(
+            zip(OF_ROW.split(), ['g:%sx' % name, name, name, name, name, name, 'RoleBinding/a/%sy' % name]))
+
+
+def texts(it):
+    """Names of strangers come back from JSON as they were, and their objects are ASCII but for what is to be seen."""
+    lines, wanted = zip(*strangers())
+    given = '\n'.join(lines) + '\n'
+    status, out, err = it.run(given, '-o', 'json')
+    it.same('names of strangers', (status, objects_in(out), err), (0, list(wanted), ''))
+    unseen = {one for one in out.decode() if unicodedata.category(one) in ('Cc', 'Cf', 'Zl', 'Zp') and one != '\n'}
+    it.same('none hides', unseen, set())
+    it.same('the same on a terminal', it.on_terminal(given, 80, '-o', 'json'), (0, out.decode(), ''))
+    escaped = re.sub('[\x80-\U0010ffff]', lambda found: ''.join('\\x%02x' % byte for byte in found[0].encode()), given)
+    it.same('what the plugin escaped comes back', objects_in(it.run(escaped, '-o', 'json')[1]), list(wanted))
+    rule = 'RoleBinding/a/b\tRole/a/b\tRole/a/b\t1\t1\t%s\t[]\t%s\t[]\t[]\n'
+    given = ''.join(rule % (list_of(NAMES), list_of([name])) for name in NAMES)
+    found = objects_in(it.run(given, '-o', 'json')[1])
+    it.same('in lists', [(line['verbs'], line['api_groups'], line['resources']) for line in found], [(NAMES, [], [name]) for name in NAMES])
+    change = '+\tu:a\t%s\tget\t-\tpods\t%s\tRoleBinding/a/b\n'
+    given = ''.join(change % it for it in (('*', '*'), ('\\x2a', '\\x2a'), ('-', '-'), ('\\x2d', 'a*')))
+    it.same('stars', [(line['namespace'], line['name']) for line in objects_in(it.run(given, '-o', 'json')[1])],
+            [(None, None), ('*', '*'), ('', ''), ('-', 'a*')])
+    it.same('every byte as an escape', objects_in(it.run(''.join(
+        'u:\\x%02x\tClusterRoleBinding/b\n' % at for at in range(128)), '-o', 'json')[1]),
+            [{'who': 'u:' + chr(at), 'binding': 'ClusterRoleBinding/b'} for at in range(128)])
+
+
+def random_texts(it):
+    """Random names, of the characters that escapes are made of."""
+    chosen = random.Random(1)
+    letters = '\\x2daf09-*,[] "\t\n\x7f\u00e9\u202e\u4e2d\U0001f600\u0301'
+    names = [''.join(chosen.choices(letters, k=chosen.randrange(1, 9))) for _ in range(3000)]
+    given = ''.join('u:%s\tClusterRoleBinding/%s\n' % (field_of('x' + name)[1:] or 'y', field_of('b' + name)) for name in names)
+    found = objects_in(it.run(given, '-o', 'json')[1])
+    it.same('random names', [line['binding'] for line in found], ['ClusterRoleBinding/b' + name for name in names])
+
+
+def recovered(texts_):
+    return [base64.b64decode(text) for text in texts_]
+
+
+def no_utf8(it):
+    """Bytes that are no UTF-8: U+FFFD stands for each, and the bytes stand beside."""
+    for given, text in ((b'a\xffb', 'a\ufffdb'), (b'\xe2\x80', '\ufffd\ufffd'), (b'\xed\xa0\x80', '\ufffd' * 3), (b'\xc3', '\ufffd'),
+                        (b'\xc0\x80"\xc3\xa9', '\ufffd\ufffd"é'), (b'\xf4\x90\x80\x80', '\ufffd' * 4), (b'\xff\xfe\xfd', '\ufffd' * 3)):
+        escaped = b''.join(b'\\x%02x' % byte if byte > 127 else bytes([byte]) for byte in given)
+        for field in (given, escaped, given + b'\\\\\\x00\\x0a'):
+            more = field != given and field != escaped
+            raw, said = (given + b'\\\0\n', text + '\\\0\n') if more else (given, text)
+            [line] = objects_in(it.run(b'u:' + field + b'\tClusterRoleBinding/b\n', '-o', 'json')[1])
+            it.same('no UTF-8: %r' % field, (line.pop('who'), base64.b64decode(line.pop('who_bytes')), line),
+                    ('u:' + said, b'u:' + raw, {'binding': 'ClusterRoleBinding/b'}))
+    line = b'RoleBinding/a/b\tRole/a/b\tRole/a/b\t1\t1\t[get,a\xff,-]\t[]\t[]\t[]\t[]\n'
+    [found] = objects_in(it.run(line, '-o', 'json')[1])
+    it.same('no UTF-8 in a list', (found['verbs'], recovered(found['verbs_bytes']), list(found).index('verbs_bytes')),
+            (['get', 'a\ufffd', ''], [b'get', b'a\xff', b''], 6))
+
+
+def columns_of(line):
+    """How many columns of a terminal a line takes."""
+    return sum(0 if unicodedata.combining(one) else 2 if one < '\U0010ffff' and unicodedata.east_asian_width(one) in 'WF' else 1 for one in line)
+
+
+def seen(it):
+    """Names of strangers in a table: what a terminal obeys or hides is escaped there, columns stand below each other, and no
+    name looks like two."""
+    lines, _ = zip(*strangers())
+    given = '\n'.join(lines) + '\n'
+    for columns in (40, 80, 200):
+        status, out, err = got = it.on_terminal(given, columns)
+        rows = out.splitlines()
+        it.checked('%d columns: all rows' % columns, (status, len(rows), err) == (0, len(NAMES) + 1, ''), got)
+        it.checked('%d columns: none is longer' % columns, max(map(columns_of, rows)) <= columns, max(rows, key=columns_of))
+        hidden = {one for one in out if unicodedata.category(one) in ('Cc', 'Cf', 'Zl', 'Zp') and one != '\n'}
+        it.same('%d columns: none hides' % columns, hidden, set())
+    table = it.on_terminal(tabs('''
+g:中文 ClusterRoleBinding/x
+u:e\u0301ve ClusterRoleBinding/x
+u:\u202ekim\u2800 ClusterRoleBinding/x
+u:\\x2a ClusterRoleBinding/x''') + 'u: a  b \tClusterRoleBinding/  c\n', 80)[1]
+    it.same('how names are shown', table, '''\
+WHO                 BINDING
+g:中文              ClusterRoleBinding/x
+u:e\u0301ve               ClusterRoleBinding/x
+u:\\xe2\\x80\\xaekim\u2800  ClusterRoleBinding/x
+u:\\x2a              ClusterRoleBinding/x
+u: a \\x20b\\x20      ClusterRoleBinding/ \\x20c
+''')
+    it.same('where wide characters are cut', it.on_terminal('u:aa中文中文中文\tRoleBinding/a/b\n', 23)[1], '''\
+WHO         BINDING
+u:aa中文…   RoleBindin…
+''')
+    it.same('a pipe gets the bytes', it.run('u:\u202ekim\tRoleBinding/a/b\n')[1].decode(),
+            'WHO     BINDING\nu:\u202ekim  RoleBinding/a/b\n')
+    it.same('names on a terminal', it.on_terminal('u:\u202ekim\tRoleBinding/a/b\n', 80, '-o', 'name')[1], 'u:\\xe2\\x80\\xaekim\n')
+    it.same('names through a pipe', it.run('u:\u202ekim\tRoleBinding/a/b\n', '-o', 'name')[1].decode(), 'u:\u202ekim\n')
+    blanks = 'u:a\tRoleBinding/a/%s\n' % (' ' * 2050 + 'b')
+    it.same('many blanks', it.run(blanks)[1].decode(), 'WHO  BINDING\nu:a  RoleBinding/a/ %sb\n' % ('\\x20' * 2049))
+
+
+def look_ahead(it):
+    """The first 500 rows tell the widths; what is longer later moves its row in a pipe, and is cut on a terminal."""
+    first = ''.join('u:a\tRoleBinding/a/b\n' for _ in range(500))
+    later = 'u:alexander\tRoleBinding/a/bcd\n'
+    head = 'WHO  BINDING\n' + 'u:a  RoleBinding/a/b\n' * 500
+    it.same('later rows in a pipe', it.run(first + later)[1].decode(), head + 'u:alexander  RoleBinding/a/bcd\n')
+    it.same('later rows on a terminal', it.on_terminal(first + later, 40)[1], head + 'u:…  RoleBinding/a/bcd\n')
+    it.same('the 500th row counts', it.run(first[:-20] + later)[1].decode().splitlines()[:2], ['WHO          BINDING', 'u:a          RoleBinding/a/b'])
+    long = 'u:%s\tRoleBinding/a/b\nu:b\tRoleBinding/a/b\n' % ('m' * 1000)
+    it.same('a very long name', it.run(long)[1].decode().splitlines(),
+            ['WHO' + ' ' * 399 + 'BINDING', 'u:%s  RoleBinding/a/b' % ('m' * 1000), 'u:b' + ' ' * 399 + 'RoleBinding/a/b'])
+
+
+# ---- what is refused
+
+def refusals(it):
+    """Lines that no command prints, or another command than the lines before."""
+    row, holder = ROWS.splitlines()[1], 'u:kim\tRoleBinding/shop/kim'
+    for name, line in (('an empty line', ''), ('a word', 'maybe'), ('yes with a blank', 'yes '), ('three fields', 'a\tb\tc'),
+                       ('a row with an empty field', row.replace('update', '')), ('a row of six fields', row.rpartition('\t')[0]),
+                       ('a row of eight', row + '\t-'), ('a row of nobody', 'x' + row[1:]), ('a principal without a name', 'u:\tRoleBinding/a/b'),
+                       ('a role in the place of a binding', row.replace('RoleBinding', 'Role')), ('a binding without a name', 'u:kim\tRoleBinding/a/'),
+                       ('a bad escape', row.replace('update', '\\q')), ('an escape in capitals', row.replace('update', '\\x0A')),
+                       ('half an escape', row.replace('update', '\\\\\\')), ('a control byte', row.replace('update', 'u\x1b')),
+                       ('a line of Windows', holder + '\r'), ('a tab at the end', holder + '\t'), ('a tab at the beginning', '\t' + holder),
+                       ('a rule without a number', WHY.rstrip().replace('\t3\t', '\t03\t')), ('a place that is a word', 'L3\tx\tRole/a/b\tz\t1'),
+                       ('no list', RULES.splitlines()[0].replace('[get,list]', 'get')), ('a list with an empty word', RULES.splitlines()[0].replace('[get,list]', '[get,,list]')),
+                       ('no sign', DIFF.splitlines()[0].replace('+', '=')), ('no token', 'next\ta b'), ('next without a token', 'next')):
+        for words in ([], ['-o', 'json'], ['-o', 'name']):
+            it.same('refused %s: %s' % (words, name), it.run(line + '\n', *words), (2, b'', 'rbacaudit-show: standard input line 1: %s\n' % EXPECTED))
+    it.same('refused: a NUL', it.run('u:k\0\tRoleBinding/a/b\x01\n')[::2], (2, 'rbacaudit-show: standard input line 1: %s\n' % EXPECTED))
+    it.same('refused: JSON', it.run('{\n'), (2, b'', 'rbacaudit-show: standard input line 1: this is JSON, which rbacaudit-show has no use for\n'))
+    matrix = 'no line of matrix as before: expected 7 fields: WHO NAMESPACE VERB GROUP RESOURCE NAME BINDING, or end, or next and a token'
+    for name, before, line, said in (
+            ('a finding among rows', ROWS, LINT, matrix), ('a holder after a matrix', 'end\n', HOLDERS, matrix), ('yes among rows', ROWS, 'yes\n', matrix),
+            ('end among holders', HOLDERS, 'end\n', 'no line of who-can as before: expected 2 fields: WHO BINDING'),
+            ('a reason among holders', HOLDERS, WHY, 'no line of who-can as before: expected 2 fields: WHO BINDING'),
+            ('a file among findings', LINT, FILES, 'no line of lint as before: expected 5 fields: CODE NAME OBJECT PLACE DETAIL'),
+            ('a finding after yes', 'yes\n', LINT, 'no line of can-i as before: expected yes, no, or 5 fields: BINDING ROLE SOURCE RULE SUBJECT')):
+        status, out, err = it.run(before + line, '-o', 'json')
+        at = before.count('\n') + 1
+        it.same('refused: %s' % name, (status, out.count(b'\n'), err), (2, at - 1, 'rbacaudit-show: standard input line %d: %s\n' % (at, said)))
+    it.same('the rows before are shown', it.run(HOLDERS + 'x\n')[:2], (2, HOLDERS_TABLE.encode()))
+    for words, said in ((['-o', 'yaml'], 'there is no format yaml: -o takes table, wide, json or name'), (['-o'], '-o needs a format: table, wide, json or name'),
+                        (['--output='], 'there is no format : -o takes table, wide, json or name'), (['--of', 'x'], 'there is no option --of; rbacaudit-show --help lists them'),
+                        (['rows'], 'there is no word rows in this command: rbacaudit-show reads from a pipe, or from a file as in rbacaudit-show < FILE')):
+        it.same('refused: %s' % words, it.run(ROWS, *words), (2, b'', 'rbacaudit-show: %s\n' % said))
+
+
+# ---- many lines, and pipes
+
+def many():
+    """A million rows, ten thousand at a time."""
+    for at in range(100):
+        yield ''.join('u:system:serviceaccount:team-%02d:ci-%03d\tns-%d\tget\tapps\tdeployments\t-\tRoleBinding/ns-%d/b\n' % (at, each // 10, each % 10, each % 10)
+                      for each in range(10_000)).encode()
+    yield b'end\n'
+
+
+def counted(words):
+    """Status, error, kilobytes and lines of a run over a million rows."""
+    process = subprocess.Popen([SHOW, *words], stdin=subprocess.PIPE, stdout=subprocess.PIPE, stderr=subprocess.PIPE)
+    lines = []
+    reader = threading.Thread(target=lambda: lines.append(sum(chunk.count(b'\n') for chunk in iter(lambda: process.stdout.read1(1 << 20), b''))))
+    reader.start()
+    for chunk in many():
+        process.stdin.write(chunk)
+    process.stdin.close()
+    reader.join()
+    _, status, used = os.wait4(process.pid, 0)
+    process.returncode = os.waitstatus_to_exitcode(status)
+    return process.returncode, process.stderr.read(), used.ru_maxrss, lines[0]
+
+
+def million():
+    """A million rows in each format: all of them, in a few megabytes."""
+    for words, wanted in (([], 1_000_002), (['-o', 'json'], 1_000_001), (['-o', 'name'], 100_000)):
+        status, err, memory, lines = counted(words)
+        same('a million rows %s' % words, (status, err, lines), (0, b'', wanted))
+        checked('a million rows %s: memory' % words, memory < MEMORY, '%d kB' % memory)
+
+
+def write_rows(pipe):
+    """Rows without an end, until nobody reads them."""
+    with contextlib.suppress(BrokenPipeError):
+        while True:
+            pipe.write(ROWS.encode() * 1000)
+
+
+def pipes(it):
+    """Rows are shown before their end comes, a pipe that is closed ends it, and a full disk is no success."""
+    for words in ([], ['-o', 'json']):
+        process = subprocess.Popen([SHOW, *words], stdin=subprocess.PIPE, stdout=subprocess.PIPE, stderr=subprocess.PIPE, env=it.environment())
+        writer = threading.Thread(target=write_rows, args=(process.stdin,))
+        writer.start()
+        it.checked('%s: shown before the end' % words, process.stdout.read(1) in (b'W', b'{') and writer.is_alive())
+        process.stdout.close()
+        it.same('%s: a closed pipe ends it quietly' % words, (process.wait(60) != 0, process.stderr.read()), (True, b''))
+        writer.join()
+    ended = subprocess.run(['bash', '-c', 'yes "$1" | "$0" | head -n 2', SHOW, 'u:kim\tRoleBinding/a/b'], stdout=subprocess.PIPE, stderr=subprocess.PIPE,
+                           env=it.environment(), timeout=60)
+    it.same('head', (ended.returncode, ended.stdout, ended.stderr), (0, b'WHO    BINDING\nu:kim  RoleBinding/a/b\n', b''))
+    if it.name != 'busybox awk':
+        with open('/dev/full', 'wb') as full:
+            ended = subprocess.run([SHOW], input=ROWS.encode(), stdout=full, stderr=subprocess.PIPE, env=it.environment(), timeout=60)
+        it.checked('a full disk', ended.returncode == 2 and ended.stderr, ended)
+
+
+# ---- lines of the built program
+
+SHOP = ['shop.json']
+ASKED = ([*'can-i --as kim@example.com --groups shop-developers -n shop --why list pods'.split(), *SHOP], [*'can-i --as kim get pods'.split(), *SHOP],
+         [*'who-can -n shop update deployments.apps'.split(), *SHOP], [*'who-can -n shop --any-name --why update configmaps'.split(), *SHOP],
+         ['rules', 'u:system:serviceaccount:shop:ci', *SHOP], ['matrix', *SHOP, 'shop-universe.json'], ['matrix', '--limit', '3', *SHOP, 'shop-universe.json'],
+         ['lint', 'lint.json'], ['diff', '--before', *SHOP, '--after', *SHOP, 'shop-change.json'])
+
+
+def text_of(field):
+    """The text of a field, by FORMATS."""
+    text = '' if field == '-' else re.sub(r'\\(\\|x(..))', lambda it: chr(int(it[2], 16)) if it[2] else '\\', field)
+    return text
+
+
+def value_of(field):
+    """What a field may be as a value of JSON: a list, or a text or number."""
+    if re.fullmatch(r'\[.*\]', field):
+        return [[text_of(word) for word in field[1:-1].split(',')] if field != '[]' else []]
+    return [text_of(field), *([int(field)] if field.isdecimal() else []), *([None] if field in '*-' else []), *([field] if field in '+-' else [])]
+
+
+def answers():
+    """Lines of the built program: as many objects as lines, with the values of their fields, and a table with all of them."""
+    for words in ASKED:
+        lines = subprocess.run([PROGRAM, *words], cwd=EXAMPLES, stdout=subprocess.PIPE, timeout=60).stdout
+        fields = [line.split('\t') for line in lines.decode().splitlines()]
+        found = objects_in(subprocess.run([SHOW, '-o', 'json'], input=lines, stdout=subprocess.PIPE, timeout=60, check=True).stdout)
+        well = len(found) == len(fields) and all(
+            len(line) == len(values) and all(value in value_of(field) for field, value in zip(line, values.values()))
+            for line, values in zip(fields, found) if len(line) > 1 and line[0] != 'next')
+        checked('the program: %s, as JSON' % ' '.join(words), well, 'got %.2000r of %.2000r' % (found, fields))
+        table = subprocess.run([SHOW], input=lines, stdout=subprocess.PIPE, timeout=60, check=True).stdout.decode().splitlines()
+        rows = [re.split(' {2,}|\t', line) for line in table if not line.isupper()]
+        checked('the program: %s, as a table' % ' '.join(words), rows == fields, 'got %.2000r' % table)
+
+
+# ---- help, and what is installed
+
+def told(*words, **how):
+    ended = subprocess.run(words, stdin=subprocess.DEVNULL, stdout=subprocess.PIPE, stderr=subprocess.STDOUT, timeout=60, **how)
+    return ended.returncode, ended.stdout.decode()
+
+
+OPTIONS = ['-o', '--output', '-h', '--help', '-V', '--version']
+
+
+def helped():
+    """Help, the man page and the completions have the same options, formats and fields."""
+    status, text = told(SHOW, '--help')
+    same('help', (status, told(SHOW, '-h'), sorted(set(re.findall(r'(?<![\w-])--?[a-zA-Z]+', text)) - {'--why'})), (0, (0, text), sorted(OPTIONS)))
+    checked('help fits a screen', max(map(len, text.splitlines())) <= 80, text)
+    for words in (['--version'], ['-V']):
+        same('the version: %s' % words, told(SHOW, *words), (0, 'rbacaudit-show 0.1.0\n'))
+    man = contents('man', 'rbacaudit-show.1')
+    renders(os.path.join(TOP, 'man', 'rbacaudit-show.1'), OPTIONS)
+    checked('man: the version', '"rbacaudit 0.1.0"' in man)
+    for word in ('table', 'wide', 'json', 'name'):
+        checked('man: %s' % word, re.search(r'^\.B %s$' % word, man, re.M))
+    fish, zsh = contents('completions', 'rbacaudit-show.fish'), contents('completions', '_rbacaudit-show')
+    same('fish: the options', re.findall(r"-s (\w) -l (\w+) .*?-d '(.*)'$", fish, re.M),
+         [('o', 'output', 'how lines are shown'), ('h', 'help', 'print help'), ('V', 'version', 'print version')])
+    same('zsh: the options', re.findall(r"\{(-\w),(--\w+)=?\}'\[(.*?)\]", zsh),
+         [('-o', '--output', 'how lines are shown'), ('-h', '--help', 'print help'), ('-V', '--version', 'print version')])
+    same('fish: the formats', re.findall(r"-a '(.*?)'", fish), ['table wide json name'])
+    same('zsh: the formats', re.findall(r'FORMAT:\((.*?)\)', zsh), ['table wide json name'])
+    path = os.path.join(TOP, 'completions', 'rbacaudit-show.bash')
+    for line, wanted in (('rbacaudit-show -', '-o --output -h --help -V --version'), ('rbacaudit-show --o', '--output'), ('rbacaudit-show -o j', 'json'),
+                         ('rbacaudit-show --output -', ''), ('rbacaudit-show --output t', 'table')):
+        script = '. "$0"; COMP_WORDS=(%s); COMP_CWORD=%d; _rbacaudit_show; echo ${COMPREPLY[*]}' % (line, line.count(' '))
+        same('bash: %s' % line, told('bash', '-c', script, path), (0, wanted + '\n'))
+    for shell, name in (('zsh', '_rbacaudit-show'), ('fish', 'rbacaudit-show.fish')):
+        if shutil.which(shell):
+            same('%s reads its file' % shell, told(shell, '-n', os.path.join(TOP, 'completions', name)), (0, ''))
+        else:
+            skipped(shell, 'completions of rbacaudit-show')
+
+
+def keys_in_document():
+    """docs/FORMATS.md has the head and the key of each field, in their order."""
+    part = contents('docs', 'FORMATS.md').partition('## For machines: rbacaudit-show -o json')[2].partition('\n## ')[0]
+    said = {re.sub('`', '', line.split('|')[1]).strip(): re.findall('`(.*?)`', line.split('|')[2]) for line in part.splitlines() if re.match(r'\| `[a-z]', line)}
+    wanted = {name: list(lines[3][-1]) for name, lines in COMMANDS.items() if name not in ('can-i', 'matrix')}
+    wanted = {**wanted, 'can-i': ['allowed'], 'matrix': OF_ROW.split()}
+    same('docs/FORMATS.md: the keys', {name: said.get(name) for name in wanted}, wanted)
+
+
+def installed():
+    """`make install` puts it where it is looked for; a link leads to it, and without the plugin's parts it says so."""
+    if shutil.which('shellcheck'):
+        same('shellcheck', told('shellcheck', '-x', '-e', 'SC2016', SHOW, cwd=TOP), (0, ''))
+    else:
+        skipped('shellcheck', 'rbacaudit-show')
+    with tempfile.TemporaryDirectory() as room:
+        # (the program is built, and isn't to be proved once more)
+        subprocess.run(['make', '-s', '-o', 'build', 'install', 'PREFIX=' + room], cwd=TOP, check=True, timeout=60)
+        os.symlink('bin/rbacaudit-show', os.path.join(room, 'link'))
+        for name in ('bin/rbacaudit-show', 'link'):
+            ended = subprocess.run([os.path.join(room, name)], input=HOLDERS.encode(), stdout=subprocess.PIPE, timeout=60)
+            same('installed, called as %s' % name, (ended.returncode, ended.stdout.decode()), (0, HOLDERS_TABLE))
+        ended = subprocess.run(['sh', 'rbacaudit-show'], cwd=os.path.join(room, 'bin'), input=HOLDERS.encode(), stdout=subprocess.PIPE, timeout=60)
+        same('installed, as a script of sh', (ended.returncode, ended.stdout.decode()), (0, HOLDERS_TABLE))
+        for name in ('share/man/man1/rbacaudit-show.1', 'share/bash-completion/completions/rbacaudit-show', 'share/zsh/site-functions/_rbacaudit-show',
+                     'share/fish/vendor_completions.d/rbacaudit-show.fish'):
+            checked('installed: %s' % name, os.path.isfile(os.path.join(room, name)))
+        shutil.rmtree(os.path.join(room, 'lib'))
+        same("without the plugin's parts", told(os.path.join(room, 'link')),
+             (2, "rbacaudit-show: the parts of the plugin aren't there: make install puts them into lib/kubectl-rbacaudit\n"))
+
+
+def typed():
+    """Nobody types lines."""
+    ours, theirs = pty.openpty()
+    ended = subprocess.run([SHOW], stdin=theirs, stdout=subprocess.PIPE, stderr=subprocess.PIPE, timeout=60)
+    os.close(ours)
+    os.close(theirs)
+    same('a terminal as standard input', (ended.returncode, ended.stdout, ended.stderr),
+         (2, b'', b'rbacaudit-show: lines come from a pipe or a file: rbacaudit rules u:kim *.json | rbacaudit-show\n'))
+
+
+def under_each_awk():
+    with tempfile.TemporaryDirectory() as room:
+        for words in AWKS:
+            if not shutil.which(words[0]):
+                skipped(words[0], 'rbacaudit-show')
+                continue
+            it = Filter(words, room)
+            for part in commands, remarks, texts, random_texts, no_utf8, seen, look_ahead, refusals, pipes:
+                part(it)
+
+
+if __name__ == '__main__':
+    sys.exit(tested(under_each_awk, million, typed, answers, helped, keys_in_document, installed))
