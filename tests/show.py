@@ -495,10 +495,11 @@ def pipes(it):
     ended = subprocess.run(['bash', '-c', 'yes "$1" | "$0" | head -n 2', SHOW, 'u:kim\tRoleBinding/a/b'], stdout=subprocess.PIPE, stderr=subprocess.PIPE,
                            env=it.environment(), timeout=60)
     it.same('head', (ended.returncode, ended.stdout, ended.stderr), (0, b'WHO    BINDING\nu:kim  RoleBinding/a/b\n', b''))
-    if it.name != 'busybox awk':
+    # (that is the awk's own message and status; busybox has none)
+    for many_ in (1, 1000) if it.name != 'busybox awk' else ():
         with open('/dev/full', 'wb') as full:
-            ended = subprocess.run([SHOW], input=ROWS.encode(), stdout=full, stderr=subprocess.PIPE, env=it.environment(), timeout=60)
-        it.checked('a full disk', ended.returncode == 2 and ended.stderr, ended)
+            ended = subprocess.run([SHOW], input=ROWS.encode() * many_, stdout=full, stderr=subprocess.PIPE, env=it.environment(), timeout=60)
+        it.checked('a full disk', ended.returncode and ended.stderr, ended)
 
 
 # ---- lines of the built program
@@ -564,7 +565,7 @@ def helped():
     same('fish: the options', re.findall(r"-s (\w) -l (\w+) .*?-d '(.*)'$", fish, re.M),
          [('o', 'output', 'how lines are shown'), ('h', 'help', 'print help'), ('V', 'version', 'print version')])
     same('zsh: the options', re.findall(r"\{(-\w),(--\w+)=?\}'\[(.*?)\]", zsh),
-         [('-o', '--output', 'how lines are shown'), ('-h', '--help', 'print help'), ('-V', '--version', 'print version')])
+         [('-h', '--help', 'print help'), ('-V', '--version', 'print version'), ('-o', '--output', 'how lines are shown')])
     same('fish: the formats', re.findall(r"-a '(.*?)'", fish), ['table wide json name'])
     same('zsh: the formats', re.findall(r'FORMAT:\((.*?)\)', zsh), ['table wide json name'])
     path = os.path.join(TOP, 'completions', 'rbacaudit-show.bash')
