@@ -424,7 +424,7 @@ def refusals(it):
         for words in ([], ['-o', 'json'], ['-o', 'name']):
             it.same('refused %s: %s' % (words, name), it.run(line + '\n', *words), (2, b'', 'rbacaudit-show: standard input line 1: %s\n' % EXPECTED))
     it.same('refused: a NUL', it.run('u:k\0\tRoleBinding/a/b\x01\n')[::2], (2, 'rbacaudit-show: standard input line 1: %s\n' % EXPECTED))
-    it.same('refused: JSON', it.run('{\n'), (2, b'', 'rbacaudit-show: standard input line 1: this is JSON, which rbacaudit-show has no use for\n'))
+    it.same('refused: JSON', it.run('{\n'), (2, b'', 'rbacaudit-show: standard input line 1: this is JSON, as universe prints it: expected lines of another command\n'))
     matrix = 'no line of matrix as before: expected 7 fields: WHO NAMESPACE VERB GROUP RESOURCE NAME BINDING, or end, or next and a token'
     for name, before, line, said in (
             ('a finding among rows', ROWS, LINT, matrix), ('a holder after a matrix', 'end\n', HOLDERS, matrix), ('yes among rows', ROWS, 'yes\n', matrix),
@@ -524,19 +524,43 @@ def value_of(field):
     return [text_of(field), *([int(field)] if field.isdecimal() else []), *([None] if field in '*-' else []), *([field] if field in '+-' else [])]
 
 
+def is_same(lines, found):
+    """Whether there are as many objects as lines, with the values of their fields."""
+    fields = [line.split('\t') for line in lines]
+    return len(found) == len(fields) and all(
+        len(line) == len(values) and all(value in value_of(field) for field, value in zip(line, values.values()))
+        for line, values in zip(fields, found) if len(line) > 1 and line[0] != 'next')
+
+
+def as_objects(lines):
+    return objects_in(subprocess.run([SHOW, '-o', 'json'], input=lines, stdout=subprocess.PIPE, timeout=60, check=True).stdout)
+
+
 def answers():
-    """Lines of the built program: as many objects as lines, with the values of their fields, and a table with all of them."""
+    """Lines of the built program: an object for each, and a table with all of them."""
     for words in ASKED:
         lines = subprocess.run([PROGRAM, *words], cwd=EXAMPLES, stdout=subprocess.PIPE, timeout=60).stdout
-        fields = [line.split('\t') for line in lines.decode().splitlines()]
-        found = objects_in(subprocess.run([SHOW, '-o', 'json'], input=lines, stdout=subprocess.PIPE, timeout=60, check=True).stdout)
-        well = len(found) == len(fields) and all(
-            len(line) == len(values) and all(value in value_of(field) for field, value in zip(line, values.values()))
-            for line, values in zip(fields, found) if len(line) > 1 and line[0] != 'next')
-        checked('the program: %s, as JSON' % ' '.join(words), well, 'got %.2000r of %.2000r' % (found, fields))
+        found = as_objects(lines)
+        checked('the program: %s, as JSON' % ' '.join(words), is_same(lines.decode().splitlines(), found), 'got %.2000r of %.2000r' % (found, lines))
         table = subprocess.run([SHOW], input=lines, stdout=subprocess.PIPE, timeout=60, check=True).stdout.decode().splitlines()
         rows = [re.split(' {2,}|\t', line) for line in table if not line.isupper()]
-        checked('the program: %s, as a table' % ' '.join(words), rows == fields, 'got %.2000r' % table)
+        checked('the program: %s, as a table' % ' '.join(words), rows == [line.split('\t') for line in lines.decode().splitlines()],
+                'got %.2000r' % table)
+
+
+def worked():
+    """The lines of the worked examples (rows.json)."""
+    with open(os.path.join(TOP, 'tests', 'rows.json'), encoding='utf-8') as file:
+        groups = json.load(file)
+    wrong, count = [], 0
+    for example in (example for group in groups.values() for example in group):
+        asks = [(it[0], it[2]) for it in example.get('asks', ()) if len(it) == 3 and not it[0].startswith('universe')]
+        pages = [('matrix ' + words, lines) for words, lines in example.get('pages', ())]
+        for words, lines in asks + pages:
+            count += 1
+            if not is_same(lines, as_objects(''.join(line + '\n' for line in lines).encode())):
+                wrong.append((words, lines))
+    checked('lines of worked examples', count > 300 and not wrong, '%d, not so: %.2000r' % (count, wrong))
 
 
 # ---- help, and what is installed
@@ -634,4 +658,4 @@ def under_each_awk():
 
 
 if __name__ == '__main__':
-    sys.exit(tested(under_each_awk, million, typed, answers, helped, keys_in_document, installed))
+    sys.exit(tested(under_each_awk, million, typed, answers, worked, helped, keys_in_document, installed))
