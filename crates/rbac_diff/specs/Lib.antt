@@ -8,6 +8,7 @@ pub mod Permissions
 pub mod Requests
 pub mod Sharing
 pub mod Shown
+pub mod Spread
 pub mod StandIns
 pub mod Texts
 pub mod Unchanged

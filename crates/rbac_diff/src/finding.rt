@@ -17,6 +17,7 @@ use crate::fault::DiffFault;
 use crate::found::Found;
 use crate::permission::{Permission, Permitted, permission_text};
 use crate::sharing::sharing;
+use crate::spread::spread;
 use crate::stand_ins::Asked;
 use crate::standing::covering_place;
 use rbac_covering::OrderedRule;
@@ -259,8 +260,9 @@ fn add_of_group<'a, 'p>(
         (λ p. Any (λ resource. IsOnResource search.now rule.now verb.now group.now resource p)
         rule.now.resources) findings.old findings.new) }
 {
-    for resource in rule.resources.as_slice() {
-        add_of_resource(alloc, search, rule, verb, group, resource, findings)?;
+    let resources = spread(alloc, rule.resources.as_slice())?;
+    for turn in 0..resources.len() {
+        add_of_resource(alloc, search, rule, verb, group, resources[turn], findings)?;
     }
     Ok(())
 }
@@ -292,12 +294,13 @@ fn add_of_resource<'a, 'p>(
         };
         return add(alloc, search, verb, target, findings);
     }
-    for name in rule.resource_names.as_slice() {
+    let names = spread(alloc, rule.resource_names.as_slice())?;
+    for turn in 0..names.len() {
         let target = Permitted::Resource {
             namespace,
             group,
             resource,
-            name: Some(name),
+            name: Some(names[turn]),
         };
         add(alloc, search, verb, target, findings)?;
     }

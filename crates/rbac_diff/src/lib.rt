@@ -16,6 +16,7 @@ mod listing;
 mod named;
 mod permission;
 mod sharing;
+mod spread;
 mod stand_ins;
 mod standing;
 mod subjects;
