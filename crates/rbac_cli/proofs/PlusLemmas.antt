@@ -16,7 +16,8 @@ use Rattle.rbac_universe.proofs.Flattened.{contains_map, map_contains}
 use Rattle.rbac_universe.proofs.OneMore.{as_any}
 use Rattle.rbac_model.specs.Policies.{PolicyView}
 use Rattle.rbac_diff.specs.Permissions.{PermissionView, Permitted, OnResource, OnUrl}
-use Rattle.rbac_diff.specs.Texts.{choice_text, choice_and_tab, namespace_text, target_text, permission_text}
+use Rattle.rbac_text.specs.Choice.{choice_text, choice_and_tab}
+use Rattle.rbac_diff.specs.Texts.{namespace_text, target_text, permission_text}
 use Rattle.rbac_diff.specs.Changes.{ChangeView, AreChanges, NoneGained}
 use Rattle.rbac_diff.specs.Lines.{sign, change_text}
 use Rattle.rbac_diff.specs.declared.change.ChangeKind.{ChangeKind}

@@ -1,20 +1,10 @@
 -- How a permission is printed (own).
-use Rattle.std.specs.Prelude.{[], ◌++◌, ◌∷◌, Option, Some, None, codes, if◌then◌else◌}
-use Rattle.std.specs.Str.{bytes_eq}
-use Rattle.rbac_terms.specs.Text.{Text, star}
+use Rattle.std.specs.Prelude.{[], ◌++◌}
+use Rattle.rbac_terms.specs.Text.{Text}
 use Rattle.rbac_terms.specs.Principals.{who_key}
-use Rattle.rbac_text.specs.Field.{field_text, code_text}
-use Rattle.rbac_text.specs.Row.{tab, field_and_tab}
+use Rattle.rbac_text.specs.Choice.{choice_and_tab}
+use Rattle.rbac_text.specs.Row.{field_and_tab}
 use Rattle.rbac_diff.specs.Permissions.{Permitted, OnResource, OnUrl, PermissionView}
-
--- any name or namespace is printed as `*`, one that is called `*` by its code, and others as fields
-abbrev pub choice_text : Option Text → Text
-choice_text None = codes "*"
-choice_text (Some name) = if bytes_eq name (codes "*") then code_text star else field_text name
-
--- a choice with the tab after it
-abbrev pub choice_and_tab : Option Text → Text
-choice_and_tab name = choice_text name ++ tab ∷ []
 
 -- the namespace of what is permitted; a URL has none
 abbrev pub namespace_text : Permitted → Text

@@ -1,20 +1,18 @@
 //! Permissions: what rules permit, in pieces that can't be cut further.
 
 ghost use Rattle.std.specs.Prelude.{◌≡◌, ◌++◌, IfOk, OnOk};
-ghost use Rattle.std.specs.Option.{option_copied};
 ghost use Rattle.rbac_diff.specs.Permissions.{one_star};
 ghost use Rattle.rbac_diff.specs.Shown.{permission_of, permitted_of};
-ghost use Rattle.rbac_diff.specs.Texts.{choice_and_tab, namespace_text, permission_text};
-ghost use Rattle.rbac_diff.specs.Texts.{target_text};
+ghost use Rattle.rbac_diff.specs.Texts.{namespace_text, permission_text, target_text};
 
 use rbac_terms::{Principal, Word};
-use rbac_text::put_field_and_tab;
+use rbac_text::{put_choice_and_tab, put_field_and_tab};
 use std::alloc::{AllocError, Global};
 
 // What a word ends in that has several stars at its end.
 const TWO_STARS: &[u8] = b"**";
 
-// What a permission's text seldom is longer than. A longer one only makes its buffer grow.
+// Most permissions' texts are no longer than this. A longer one only makes its buffer grow.
 const LIKELY_LEN: usize = 128;
 
 // Who may use a verb word on what.
@@ -63,7 +61,7 @@ fn put_namespace(text: &mut Vec<u8>, target: Permitted<'_>) -> Result<(), AllocE
         ≡ text.old.items ++ namespace_text (permitted_of target.entry)) }
 {
     match target {
-        Permitted::Resource { namespace, .. } => put_choice(text, namespace),
+        Permitted::Resource { namespace, .. } => put_choice_and_tab(text, namespace),
         Permitted::Url(_) => put_field_and_tab(text, b""),
     }
 }
@@ -82,25 +80,13 @@ fn put_target(text: &mut Vec<u8>, target: Permitted<'_>) -> Result<(), AllocErro
         } => {
             put_field_and_tab(text, group.as_bytes())?;
             put_field_and_tab(text, resource.as_bytes())?;
-            put_choice(text, name)
+            put_choice_and_tab(text, name)
         }
         Permitted::Url(word) => {
             put_field_and_tab(text, b"")?;
             put_field_and_tab(text, with_one_star(word.as_bytes()))?;
             put_field_and_tab(text, b"")
         }
-    }
-}
-
-// Adds a namespace or a name, or `*` where any is meant; what is called `*` is printed by its code.
-fn put_choice(text: &mut Vec<u8>, name: Option<&Word>) -> Result<(), AllocError>
-    ensures { OnOk result (text.new.items
-        ≡ text.old.items ++ choice_and_tab (option_copied name.entry)) }
-{
-    match name {
-        None => text.extend_from_slice(b"*\t"),
-        Some(name) if name.as_bytes() == b"*".as_slice() => text.extend_from_slice(b"\\x2a\t"),
-        Some(name) => put_field_and_tab(text, name.as_bytes()),
     }
 }
 

@@ -2,6 +2,7 @@
 //! empty text can be told apart.
 #![tactic(auto)]
 
+mod choice;
 mod field;
 mod finding;
 mod holder;
@@ -11,6 +12,7 @@ mod row;
 mod rule;
 mod why;
 
+pub use choice::put_choice_and_tab;
 pub use field::put_field;
 pub use finding::put_finding;
 pub use holder::put_holder;
