@@ -1,0 +1,36 @@
+-- A rule allows some request of a row exactly if it matches a verb, the API group, a resource and a name of it.
+use Rattle.std.proofs.Common.{List, [], ◌∷◌, inl, inr, refl, arith, Any}
+use Rattle.rbac_terms.specs.Text.{Text}
+use Rattle.rbac_terms.specs.Matching.{NameMatches, VerbOk, WordMatches}
+use Rattle.rbac_terms.specs.declared.matching.Rule.{Rule}
+use Rattle.rbac_model.proofs.OwnWords.{any_from}
+use Rattle.rbac_paths.specs.Rows.{HasName, HasResource}
+use Rattle.rbac_paths.specs.Steps.{AllowsRow, RowView}
+use Rattle.rbac_paths.specs.declared.table.Names.TheVariants as names
+
+-- rules match some name
+pub some_name : (names : List Text) → (name : Text) × NameMatches names name
+some_name [] = ([], inl refl)
+some_name (n ∷ ns) = (n, inr (0, omega arith, refl))
+
+pub any_has_name : (rule : Rule) → HasName names.Any rule
+any_has_name rule = let n = some_name rule.resource_names in (n.0, tt, n.1)
+
+pub allows_row : (r : RowView) (rule : Rule) → Any (VerbOk rule) r.verbs → Any (λ w. WordMatches w r.group) rule.groups → Any (HasResource rule) r.resources → HasName r.names rule → AllowsRow r rule
+allows_row r rule v g x n = record {
+  verb = v.1;
+  text = x.1;
+  name = n.0;
+  of_verbs = (v.0, v.2, v.3);
+  of_resources = (x.0, x.2, x.3);
+  named = n.1;
+  allows = (v.4, (g, x.4, n.2));
+}
+
+pub row_allowed : (r : RowView) (rule : Rule) → AllowsRow r rule → Any (VerbOk rule) r.verbs × Any (λ w. WordMatches w r.group) rule.groups × Any (HasResource rule) r.resources × HasName r.names rule
+row_allowed r rule a = (
+  any_from (VerbOk rule) r.verbs a.verb a.of_verbs a.allows.0,
+  a.allows.1.0,
+  any_from (HasResource rule) r.resources a.text a.of_resources a.allows.1.1,
+  (a.name, a.named, a.allows.1.2),
+)

@@ -1,0 +1,5 @@
+pub mod Adding
+pub mod Allowing
+pub mod Choosing
+pub mod Giving
+pub mod OnePowers

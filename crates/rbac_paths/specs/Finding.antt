@@ -1,0 +1,63 @@
+-- While the powers of a step are looked for.
+use Rattle.std.specs.Prelude.{◌≡◌, ℕ, ◌<◌, ◌⊎◌, List, Option, Any, IsSome, Some, None, length, slice_get}
+use Rattle.std.specs.BTreeMap.{BTreeMap, get}
+use Rattle.rbac_terms.specs.Text.{Text, text_cmp}
+use Rattle.rbac_terms.specs.Granting.{IsSubjectKey}
+use Rattle.rbac_terms.specs.declared.granting.Subject.{Subject}
+use Rattle.rbac_terms.specs.declared.matching.Rule.{Rule}
+use Rattle.rbac_model.specs.Lists.{IsFirstAt}
+use Rattle.rbac_model.specs.Policies.{GrantView, IsOfBinding, PolicyView}
+use Rattle.rbac_paths.specs.Powers.{GivesStep, HasKey, IsPower, PowerView, power_place}
+use Rattle.rbac_paths.specs.Powers.{who_and_where}
+use Rattle.rbac_paths.specs.Steps.{AllowsRow, CountsIn, RowView}
+use Rattle.rbac_paths.specs.declared.steps.Step.{Step}
+
+-- powers, under who and where as they are printed
+abbrev pub Found : Type 0
+Found = BTreeMap Text PowerView
+
+-- the rule allows some request of the row where a binding in that namespace, or in none, is live
+abbrev pub AllowsIn : Option Text → Rule → RowView → Type 0
+AllowsIn namespace rule row = CountsIn row namespace × AllowsRow row rule
+
+-- a grant of the binding at that place
+abbrev pub IsGrantOf : PolicyView → ℕ → ℕ → GrantView → Type 0
+IsGrantOf p place n g = (slice_get p.grants n ≡ Some g) × IsOfBinding p n place
+
+-- no grant of the binding at that place gives the step
+abbrev pub GivesNone : PolicyView → Step → ℕ → Type 0
+GivesNone p step place = (n : ℕ) (g : GrantView) → IsGrantOf p place n g → ¬ GivesStep step g
+
+-- the first grant of the binding at that place that gives the step
+pub record IsFirstGiving (p : PolicyView) (step : Step) (place n : ℕ) : Type 0 where
+  pub number : n < length p.grants
+  pub of_binding : IsOfBinding p n place
+  pub gives : (g : GrantView) → slice_get p.grants n ≡ Some g → GivesStep step g
+  pub first : (k : ℕ) (g : GrantView) → k < n → IsGrantOf p place k g → ¬ GivesStep step g
+
+-- a power of the grant's step, by the first of the subjects of its binding with the key
+pub record IsBySubject (step : Step) (g : GrantView) (t : Text) (x : PowerView) : Type 0 where
+  pub step_is : x.step ≡ step
+  pub grant_is : x.grant ≡ g
+  pub text_is : t ≡ who_and_where x.who g.binding.namespace
+  pub subject : (s : Subject)
+      × IsFirstAt
+      (λ s. IsSubjectKey s g.binding.namespace x.who) g.binding.subjects x.subject_place s
+
+-- new has what old has, and the grant's power for each key of these of the subjects of its binding,
+-- unless something was there already
+pub record AddsPowers (step : Step) (g : GrantView) (subjects : List Subject)
+    (old new : Found) : Type 0 where
+  pub kept : (t : Text) (y : PowerView) → get text_cmp old t ≡ Some y → get text_cmp new t ≡ Some y
+  pub has : (key : Text) → Any (λ s. IsSubjectKey s g.binding.namespace key) subjects
+      → IsSome (get text_cmp new (who_and_where key g.binding.namespace))
+  pub only : (t : Text) (y : PowerView) → get text_cmp new t ≡ Some y → (get text_cmp old t ≡ Some y)
+      ⊎ ((get text_cmp old t ≡ None) × IsBySubject step g t y)
+
+-- exactly the powers of the step by grants of the first `count` bindings
+pub record FindsPowers (p : PolicyView) (step : Step) (count : ℕ) (found : Found) : Type 0 where
+  pub has : (place n : ℕ) (g : GrantView) (key : Text) → place < count → IsGrantOf p place n g
+      → GivesStep step g → HasKey g.binding key
+      → IsSome (get text_cmp found (who_and_where key g.binding.namespace))
+  pub only : (t : Text) (y : PowerView) → get text_cmp found t ≡ Some y
+      → (t ≡ power_place y) × (y.step ≡ step) × IsPower p y

@@ -1,0 +1,5 @@
+pub mod Finding
+pub mod Lines
+pub mod Powers
+pub mod Rows
+pub mod Steps

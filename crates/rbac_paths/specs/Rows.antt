@@ -1,0 +1,37 @@
+-- The rows of the table, as the program has them, and what of a rule matches them.
+use Rattle.std.specs.Prelude.{◌≡◌, ◌↔◌, ◌⊎◌, List, [], ◌∷◌, ◌++◌, Any, Contains, map}
+use Rattle.rbac_terms.specs.Text.{Text}
+use Rattle.rbac_terms.specs.Matching.{NameMatches, ResourceWordMatches}
+use Rattle.rbac_terms.specs.declared.matching.Rule.{Rule}
+use Rattle.rbac_paths.specs.Steps.{IsNamed, RowView}
+use Rattle.rbac_paths.specs.declared.steps.Step.{Step}
+use Rattle.rbac_paths.specs.declared.table.Names.{Names}
+use Rattle.rbac_paths.specs.declared.table.Row.{Row}
+
+-- a row of the table
+abbrev pub row_of : Row → RowView
+row_of r = record {
+  step = r.step;
+  names = r.names;
+  reach = r.reach;
+  verbs = map (λ t. t.now) r.verbs.now;
+  group = r.group.now;
+  resources = map (λ t. t.now) r.resources.now;
+}
+
+-- some resource word of the rule matches the resource text
+abbrev pub HasResource : Rule → Text → Type 0
+HasResource rule text = Any (λ w. ResourceWordMatches w text) rule.resources
+
+-- the rule's names match some object name of the row's requests
+abbrev pub HasName : Names → Rule → Type 0
+HasName names rule = (name : Text) × IsNamed names name × NameMatches rule.resource_names name
+
+-- exactly those of all rows that are of the step
+abbrev pub AreOfStep : Step → List RowView → List RowView → Type 0
+AreOfStep step all rows = (r : RowView) → Contains rows r ↔ (Contains all r × (r.step ≡ step))
+
+-- the row is added if it is of the step
+abbrev pub AddsRow : Step → RowView → List RowView → List RowView → Type 0
+AddsRow step r old new = ((r.step ≡ step) × (new ≡ old ++ r ∷ []))
+    ⊎ ((¬ (r.step ≡ step)) × (new ≡ old))

@@ -1,0 +1,123 @@
+-- The steps by which one takes over another (Role Based Access Control Good Practices).
+use Rattle.std.specs.Prelude.{◌≡◌, ◌≢◌, List, [], ◌∷◌, codes, Contains, Option, Some, None}
+use Rattle.rbac_terms.specs.Text.{Text}
+use Rattle.rbac_terms.specs.Targets.{Resource}
+use Rattle.rbac_terms.specs.Matching.{RuleAllows}
+use Rattle.rbac_terms.specs.declared.matching.Rule.{Rule}
+use Rattle.rbac_paths.specs.declared.steps.Step.{Step}
+use Rattle.rbac_paths.specs.declared.steps.Step.TheVariants.{Impersonate, Token, Run, Exec}
+use Rattle.rbac_paths.specs.declared.steps.Step.TheVariants.{Secrets, Nodes, Bind, Escalate}
+use Rattle.rbac_paths.specs.declared.steps.Step.TheVariants.{Certificates, Webhooks}
+use Rattle.rbac_paths.specs.declared.table.Names.{Names}
+use Rattle.rbac_paths.specs.declared.table.Names.TheVariants as names
+use Rattle.rbac_paths.specs.declared.table.Reach.{Reach}
+use Rattle.rbac_paths.specs.declared.table.Reach.TheVariants as reach
+
+-- all steps, in order of the table
+abbrev pub steps : List Step
+steps = Impersonate ∷ Token ∷ Run ∷ Exec ∷ Secrets ∷ Nodes ∷ Bind ∷ Escalate ∷ Certificates
+    ∷ Webhooks ∷ []
+
+-- the word for a step (own)
+unfoldable pub step_word : Step → Text
+step_word Impersonate = codes "impersonate"
+step_word Token = codes "token"
+step_word Run = codes "run"
+step_word Exec = codes "exec"
+step_word Secrets = codes "secrets"
+step_word Nodes = codes "nodes"
+step_word Bind = codes "bind"
+step_word Escalate = codes "escalate"
+step_word Certificates = codes "certificates"
+step_word Webhooks = codes "webhooks"
+
+-- a row of the table: each of some verbs on each of some resources of an API group, whatever the
+-- object's name or without one, in the whole cluster alone or also in a namespace
+pub record RowView : Type 0 where
+  pub step : Step
+  pub names : Names
+  pub reach : Reach
+  pub verbs : List Text
+  pub group : Text
+  pub resources : List Text
+
+abbrev pub row : Step → Names → Reach → List Text → Text → List Text → RowView
+row step names reach verbs group resources = record {
+  step = step;
+  names = names;
+  reach = reach;
+  verbs = verbs;
+  group = group;
+  resources = resources;
+}
+
+-- the API groups of what has none, and of roles and bindings
+abbrev core : Text
+core = []
+
+abbrev rbac : Text
+rbac = codes "rbac.authorization.k8s.io"
+
+-- the verbs by which an object comes to say what somebody wants
+abbrev write : List Text
+write = codes "create" ∷ codes "update" ∷ codes "patch" ∷ []
+
+-- the table
+abbrev pub table : List RowView
+table =
+    row Impersonate names.Any reach.Cluster (codes "impersonate" ∷ []) core
+    (codes "users" ∷ codes "groups" ∷ [])
+    ∷ row Impersonate names.Any reach.Namespace (codes "impersonate" ∷ []) core
+    (codes "serviceaccounts" ∷ [])
+    ∷ row Token names.Any reach.Namespace (codes "create" ∷ []) core
+    (codes "serviceaccounts/token" ∷ [])
+    ∷ row Run names.None reach.Namespace (codes "create" ∷ []) core
+    (codes "pods" ∷ [])
+    ∷ row Run names.None reach.Namespace (codes "create" ∷ []) (codes "batch")
+    (codes "jobs" ∷ [])
+    ∷ row Run names.None reach.Namespace write core
+    (codes "replicationcontrollers" ∷ [])
+    ∷ row Run names.None reach.Namespace write (codes "apps")
+    (codes "daemonsets" ∷ codes "deployments" ∷ codes "replicasets" ∷ codes "statefulsets" ∷ [])
+    ∷ row Run names.None reach.Namespace write (codes "batch")
+    (codes "cronjobs" ∷ [])
+    ∷ row Exec names.None reach.Namespace (codes "create" ∷ codes "get" ∷ []) core
+    (codes "pods/attach" ∷ codes "pods/exec" ∷ [])
+    ∷ row Exec names.None reach.Namespace (codes "update" ∷ codes "patch" ∷ []) core
+    (codes "pods" ∷ codes "pods/ephemeralcontainers" ∷ [])
+    ∷ row Secrets names.None reach.Namespace (codes "get" ∷ codes "list" ∷ codes "watch" ∷ []) core
+    (codes "secrets" ∷ [])
+    ∷ row Nodes names.None reach.Cluster (codes "create" ∷ codes "get" ∷ []) core
+    (codes "nodes/proxy" ∷ [])
+    ∷ row Bind names.Any reach.Namespace (codes "bind" ∷ []) rbac
+    (codes "clusterroles" ∷ codes "roles" ∷ [])
+    ∷ row Escalate names.Any reach.Cluster (codes "escalate" ∷ []) rbac
+    (codes "clusterroles" ∷ [])
+    ∷ row Escalate names.Any reach.Namespace (codes "escalate" ∷ []) rbac
+    (codes "roles" ∷ [])
+    ∷ row Certificates names.None reach.Cluster (codes "update" ∷ codes "patch" ∷ []) (codes "certificates.k8s.io")
+    (codes "certificatesigningrequests/approval" ∷ [])
+    ∷ row Webhooks names.None reach.Cluster write (codes "admissionregistration.k8s.io")
+    (codes "mutatingwebhookconfigurations" ∷ codes "validatingwebhookconfigurations" ∷ [])
+    ∷ []
+
+-- the object name is one that a request of the row has: any, or none
+abbrev pub IsNamed : Names → Text → Type 0
+IsNamed names.Any name = Unit {0}
+IsNamed names.None name = name ≡ []
+
+-- the rule allows some request of the row
+pub record AllowsRow (r : RowView) (rule : Rule) : Type 0 where
+  pub verb : Text
+  pub text : Text
+  pub name : Text
+  pub of_verbs : Contains r.verbs verb
+  pub of_resources : Contains r.resources text
+  pub named : IsNamed r.names name
+  pub allows : RuleAllows rule verb (Resource r.group text name)
+
+-- the row counts where a binding in that namespace, or in none, is live: in the whole cluster each
+-- row does; in the empty namespace no binding is live
+abbrev pub CountsIn : RowView → Option Text → Type 0
+CountsIn r None = Unit {0}
+CountsIn r (Some namespace) = (r.reach ≡ reach.Namespace) × (namespace ≢ [])

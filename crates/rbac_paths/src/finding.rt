@@ -1,0 +1,112 @@
+//! The powers of one step, binding by binding.
+
+ghost use Rattle.std.specs.Prelude.{◌<◌, ◌≡◌, ◌↔◌, Any, IfOk, IfSome, OnOk, IsTrue, MatchOption, length};
+ghost use Rattle.std.specs.BTreeMap.{IsOrdered};
+ghost use Rattle.std.specs.Option.{option_copied};
+ghost use Rattle.rbac_terms.specs.Text.{text_cmp};
+ghost use Rattle.rbac_model.specs.Policies.{IsPolicy};
+ghost use Rattle.rbac_model.specs.Sources.{grant_of};
+ghost use Rattle.rbac_paths.specs.Finding.{AddsPowers, AllowsIn, FindsPowers, GivesNone};
+ghost use Rattle.rbac_paths.specs.Finding.{IsFirstGiving};
+ghost use Rattle.rbac_paths.specs.Powers.{who_and_where};
+ghost use Rattle.rbac_paths.specs.Rows.{AreOfStep};
+ghost use Rattle.rbac_paths.specs.Steps.{table};
+ghost use Rattle.rbac_paths.specs.declared.steps.Step.{Step};
+
+use crate::power::Power;
+use crate::rows::{WordRow, rows_of};
+use crate::steps::Step;
+use rbac_model::{Grant, Policy};
+use rbac_terms::{Binding, Rule, Word, subject_key};
+use rbac_text::{put_choice_and_tab, put_field_and_tab};
+use std::alloc::{AllocError, Global};
+use std::collections::BTreeMap;
+
+/// Powers of a step, under who and where as they are printed.
+pub(crate) type Found<'p> = BTreeMap<Word, Power<'p>>;
+
+// The powers of a step.
+pub(crate) fn found_of<'p>(
+    alloc: Global,
+    policy: &'p Policy,
+    step: Step,
+) -> Result<Found<'p>, AllocError>
+    ensures found { IfOk result
+        (FindsPowers policy.now step (length policy.now.held.bindings)) }
+    ensures ordered { IfOk result (λ found. IsOrdered text_cmp found) }
+{
+    let rows = rows_of(alloc, step)?;
+    let mut found = BTreeMap::new(alloc);
+    let places = policy.bindings().len();
+    for place in 0..places {
+        if let Some(no) = first_giving(policy, place, rows.as_slice()) {
+            add_of_grant(alloc, step, policy.grant(no), &mut found)?;
+        }
+    }
+    Ok(found)
+}
+
+// The number of the first grant of the binding at this place that gives the step of these rows.
+fn first_giving(policy: &Policy, place: usize, rows: &[WordRow]) -> Option<u32>
+    ensures first { (step : Step) → AreOfStep step table rows.now → MatchOption result
+        (GivesNone policy.now step place)
+        (IsFirstGiving policy.now step place) }
+    ensures number { IfSome result (λ n. n < length policy.now.grants) }
+    ensures policy { IsPolicy policy.now }
+{
+    let (from, end) = policy.grants_of(place);
+    for no in from..end {
+        let grant = policy.grant(no);
+        if allows_some(rows, grant.binding.namespace.as_ref(), grant.rule) {
+            return Some(no);
+        }
+    }
+    None
+}
+
+// Whether the rule allows some request of these rows where a binding in this namespace, or in none,
+// is live.
+fn allows_some(rows: &[WordRow], namespace: Option<&Word>, rule: &Rule) -> bool
+    ensures { IsTrue result ↔ Any (AllowsIn (option_copied namespace.entry) rule.now) rows.now }
+{
+    rows.iter()
+        .any(|row| row.counts_in(namespace) && row.is_allowed_by(rule))
+}
+
+// Adds the step for each key of a subject of the grant's binding, unless it was found before.
+fn add_of_grant<'p>(
+    alloc: Global,
+    step: Step,
+    grant: Grant<'p>,
+    found: &mut Found<'p>,
+) -> Result<(), AllocError>
+    ensures { OnOk result (AddsPowers step (grant_of grant.entry)
+        grant.entry.binding.now.subjects found.old found.new) }
+{
+    let binding: &'p Binding = grant.binding;
+    let namespace = binding.namespace.as_ref();
+    for (place, subject) in binding.subjects.as_slice().iter().enumerate() {
+        if let Some(who) = subject_key(alloc, subject, namespace)? {
+            let text = who_and_where(alloc, &who, namespace)?;
+            let power = Power {
+                step,
+                who,
+                grant,
+                subject_place: place,
+            };
+            found.entry(text)?.or_insert(power);
+        }
+    }
+    Ok(())
+}
+
+// Who and where, as they are printed, each with the tab after it.
+fn who_and_where(alloc: Global, who: &Word, namespace: Option<&Word>) -> Result<Word, AllocError>
+    ensures { IfOk result
+        (λ text. text ≡ who_and_where who.now (option_copied namespace.entry)) }
+{
+    let mut text = Vec::new(alloc);
+    put_field_and_tab(&mut text, who.as_bytes())?;
+    put_choice_and_tab(&mut text, namespace)?;
+    Word::from_slice(alloc, text.as_slice())
+}

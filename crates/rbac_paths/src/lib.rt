@@ -1,0 +1,18 @@
+//! Whom somebody can take over: the steps by which one comes to act as another, and who can take
+//! which.
+#![tactic(auto)]
+
+mod all_steps;
+mod finding;
+mod laws;
+mod line;
+mod power;
+mod rows;
+mod steps;
+mod table;
+
+pub use all_steps::powers;
+pub use laws::powers_are_one;
+pub use line::put_power;
+pub use power::{Power, Powers};
+pub use steps::Step;

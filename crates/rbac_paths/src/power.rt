@@ -1,0 +1,80 @@
+//! Powers, one after another.
+
+ghost use Rattle.std.specs.Prelude.{◌≡◌};
+
+use crate::steps::Step;
+use rbac_model::Grant;
+use rbac_terms::Word;
+use std::alloc::Global;
+use std::marker::Model;
+use std::vec::IntoIter;
+
+/// A step that a user or a group can take, where, and why. Contracts see its grant by what it refers
+/// to.
+#[derive(Drop)]
+pub struct Power<'p> {
+    /// The step.
+    pub step: Step,
+    /// Who can take it: a key, `u:` and a user's name, or `g:` and a group's (own).
+    pub who: Word,
+    /// The first grant that gives it: in the namespace of the grant's binding, or, if that has none,
+    /// in the whole cluster.
+    pub grant: Grant<'p>,
+    /// The place of the first subject with the key in the grant's binding, from 0.
+    pub subject_place: usize,
+}
+
+impl<'p> Model for Power<'p> {
+    ghost use Rattle.rbac_model.specs.Sources.{grant_of};
+    ghost use Rattle.rbac_paths.specs.Powers.{PowerView};
+
+    ghost Value = { PowerView };
+
+    ghost view = { λ x. record {
+      step = x.step;
+      who = x.who;
+      grant = grant_of x.grant;
+      subject_place = x.subject_place;
+    } };
+}
+
+/// The powers that weren't taken yet, in order of the table of steps, and then of who and where as
+/// they are printed (own). Contracts see the list of them.
+#[derive(Drop)]
+pub struct Powers<'p> {
+    left: IntoIter<Power<'p>, Global>,
+}
+
+impl<'p> Model for Powers<'p> {
+    ghost use Rattle.std.specs.Prelude.{List};
+    ghost use Rattle.rbac_paths.specs.Powers.{PowerView};
+
+    ghost Value = { List PowerView };
+
+    ghost view = { λ powers. powers.left.rest.items };
+}
+
+impl<'p> Powers<'p> {
+    // These powers.
+    pub(crate) fn of(powers: Vec<Power<'p>>) -> Self
+        ensures { result ≡ powers.entry.items }
+    {
+        Powers {
+            left: powers.into_iter(),
+        }
+    }
+}
+
+impl<'p> Iterator for Powers<'p> {
+    type Item = Power<'p>;
+
+    ghost use Rattle.std.specs.Iterator.{YieldsFirst, item_count};
+
+    ghost next_gives = { YieldsFirst (λ powers. powers) };
+
+    ghost remaining = { item_count (λ powers. powers) };
+
+    fn next(&mut self) -> Option<Power<'p>> {
+        self.left.next()
+    }
+}
