@@ -1,9 +1,10 @@
 -- The powers by the subjects of one grant's binding, subject by subject.
-use Rattle.std.proofs.Common.{◌≡◌, ◌⊎◌, ◌<◌, ◌+◌, ◌++◌, ◌∷◌, ◌↔◌, [], ℕ, Bool, List, Option, Some, None, IsSome, Any, take, length, slice_get, inl, inr, refl, sym, ap, ◌∙◌, subst, arith, cond, true, false}
+use Rattle.std.proofs.Common.{◌≡◌, ◌⊎◌, ◌<◌, ◌++◌, ◌∷◌, ◌↔◌, [], ℕ, Bool, List, Option, Some, None, IsSome, Any, take, slice_get, inl, inr, refl, sym, ap, ◌∙◌, subst, arith, cond, true, false}
 use Rattle.std.specs.BTreeMap.{get}
 use Rattle.std.specs.Option.{unwrap_or}
 use Rattle.std.specs.Ordering.{is_eq}
 use Rattle.std.proofs.lemmas.Cmp.{tied_itself, nat_list_cmp_total}
+use Rattle.std.proofs.lemmas.List.{get_or-take, length-take}
 use Rattle.std.proofs.lemmas.Map.Lookups.{exact_bytes}
 use Rattle.std.proofs.lemmas.Option.{same_Some, slice_get_within, get_or_from_slice_get}
 use Rattle.rbac_terms.proofs.Cases.{by_bool}
@@ -32,10 +33,10 @@ module _ {X : Type 0} where
   none_before (Some y) now kept is = absurd (let both : Some y ≡ None = sym (kept y refl) ∙ is in cc)
 
 -- x is put under a text unless something is there
-record IsPutUnless (t : Text) (x : PowerView) (old new : Found) : Type 0 where
-  kept : (k : Text) (y : PowerView) → get text_cmp old k ≡ Some y → get text_cmp new k ≡ Some y
-  there : IsSome (get text_cmp new t)
-  only : (k : Text) (y : PowerView) → get text_cmp new k ≡ Some y → (get text_cmp old k ≡ Some y) ⊎ ((get text_cmp old k ≡ None) × (y ≡ x) × (k ≡ t))
+pub record IsPutUnless (t : Text) (x : PowerView) (old new : Found) : Type 0 where
+  pub kept : (k : Text) (y : PowerView) → get text_cmp old k ≡ Some y → get text_cmp new k ≡ Some y
+  pub there : IsSome (get text_cmp new t)
+  pub only : (k : Text) (y : PowerView) → get text_cmp new k ≡ Some y → (get text_cmp old k ≡ Some y) ⊎ ((get text_cmp old k ≡ None) × (y ≡ x) × (k ≡ t))
 
 module _ (t : Text) (x v : PowerView) (a b : Found) (o : Option PowerView) (there : get text_cmp a t ≡ o) (is : v ≡ unwrap_or o x)
     (reads : (k : Text) → get text_cmp b k ≡ cond (is_eq (text_cmp t k)) (Some v) (get text_cmp a k)) where
@@ -72,7 +73,7 @@ module _ (t : Text) (x v : PowerView) (a b : Found) (o : Option PowerView) (ther
 
 module _ (step : Step) (g : GrantView) where
   -- the key of a subject
-  HasThis : Text → Subject → Type 0
+  abbrev pub HasThis : Text → Subject → Type 0
   HasThis key s = IsSubjectKey s g.binding.namespace key
 
   pub adds_none : (m : Found) → AddsPowers step g [] m m
@@ -100,11 +101,14 @@ module _ (step : Step) (g : GrantView) where
       step_is = refl;
       grant_is = refl;
       text_is = same;
-      subject = (s, record {
-        here = here;
-        holds = (one key).1 refl;
-        none_before = λ k y low there has. none_some (get text_cmp b t) none (subst (λ (w : Text). IsSome (get text_cmp b w)) (sym same) (adds.has key (before k y low there has)));
-      });
+      subject = (
+        s,
+        record {
+          here = here;
+          holds = (one key).1 refl;
+          none_before = λ k y low there has. none_some (get text_cmp b t) none (subst (λ (w : Text). IsSome (get text_cmp b w)) (sym same) (adds.has key (before k y low there has)));
+        },
+      );
     }
 
     pub adds_more : AddsPowers step g (done ++ s ∷ []) a c
@@ -122,3 +126,13 @@ module _ (step : Step) (g : GrantView) where
         )
       ];
     }
+
+-- an earlier subject with the key is among those that were passed
+pub key_before : (own : Option Text) (key : Text) (subjects : List Subject) (i k : ℕ) (y : Subject) → k < i → slice_get subjects k ≡ Some y → IsSubjectKey y own key → Any (λ s. IsSubjectKey s own key) (take i subjects)
+key_before own key subjects i k y low there has = (
+  k,
+  y,
+  omega (arith, low, slice_get_within subjects k y there, length-take i subjects),
+  get_or-take i subjects k y low ∙ get_or_from_slice_get subjects k y y there,
+  has,
+)

@@ -1,12 +1,12 @@
 -- What the rows of a step say of a rule is what the table says.
-use Rattle.std.proofs.Common.{◌≡◌, ◌≤◌, ◌<◌, ◌+◌, ◌↔◌, ℕ, List, Option, Some, ◌∙◌, ap, sym, subst, refl, Any, length, slice_get}
+use Rattle.std.proofs.Common.{◌≡◌, ◌≤◌, ◌<◌, ◌↔◌, ℕ, List, Option, Some, ◌∙◌, ap, sym, subst, refl, Any, length, slice_get}
 use Rattle.std.proofs.lemmas.Option.{same_Some}
 use Rattle.rbac_terms.specs.Text.{Text}
 use Rattle.rbac_terms.specs.declared.matching.Rule.{Rule}
 use Rattle.rbac_model.specs.Policies.{GrantView, IsOfBinding, PolicyView}
 use Rattle.rbac_model.proofs.OwnWords.{any_from}
 use Rattle.rbac_paths.specs.Powers.{AllowsStep, GivesStep}
-use Rattle.rbac_paths.specs.Finding.{AllowsIn, GivesNone, IsFirstGiving, IsGrantOf}
+use Rattle.rbac_paths.specs.Finding.{AllowsIn, GivesNone, IsFirstGiving}
 use Rattle.rbac_paths.specs.Rows.{AreOfStep}
 use Rattle.rbac_paths.specs.Steps.{AllowsRow, CountsIn, RowView, table}
 use Rattle.rbac_terms.specs.declared.granting.Binding.{Binding}

@@ -1,9 +1,7 @@
 //! The powers of one step, binding by binding.
 
 ghost use Rattle.std.specs.Prelude.{◌<◌, ◌≡◌, ◌↔◌, Any, IfOk, IfSome, OnOk, IsTrue, MatchOption, length};
-ghost use Rattle.std.specs.BTreeMap.{IsOrdered};
 ghost use Rattle.std.specs.Option.{option_copied};
-ghost use Rattle.rbac_terms.specs.Text.{text_cmp};
 ghost use Rattle.rbac_model.specs.Policies.{IsPolicy};
 ghost use Rattle.rbac_model.specs.Sources.{grant_of};
 ghost use Rattle.rbac_paths.specs.Finding.{AddsPowers, AllowsIn, FindsPowers, GivesNone};
@@ -31,9 +29,8 @@ pub(crate) fn found_of<'p>(
     policy: &'p Policy,
     step: Step,
 ) -> Result<Found<'p>, AllocError>
-    ensures found { IfOk result
-        (FindsPowers policy.now step (length policy.now.held.bindings)) }
-    ensures ordered { IfOk result (λ found. IsOrdered text_cmp found) }
+    ensures found { IfOk result (FindsPowers policy.now step (length policy.now.held.bindings)) }
+    ensures policy { IfOk result (λ _. IsPolicy policy.now) }
 {
     let rows = rows_of(alloc, step)?;
     let mut found = BTreeMap::new(alloc);

@@ -135,12 +135,7 @@ fn rows_among(alloc: Global, all: &[Row], step: Step) -> Result<Vec<WordRow>, Al
 }
 
 // Adds the row if it is of the step.
-fn add_row(
-    alloc: Global,
-    row: &Row,
-    step: Step,
-    rows: &mut Vec<WordRow>,
-) -> Result<(), AllocError>
+fn add_row(alloc: Global, row: &Row, step: Step, rows: &mut Vec<WordRow>) -> Result<(), AllocError>
     ensures { OnOk result (AddsRow step (row_of row.now) rows.old.items rows.new.items) }
 {
     if row.step == step {

@@ -1,4 +1,4 @@
-use Rattle.std.proofs.Common.{◌≡◌, ◌+◌, ◌++◌, ◌∷◌, [], ◌∙◌, ap, sym, subst, map, take, arith, List, length}
+use Rattle.std.proofs.Common.{◌≡◌, ◌∷◌, [], ◌∙◌, ap, sym, subst, map, take, arith, List}
 use Rattle.std.proofs.lemmas.List.{map-append, take_all, take_more}
 use Rattle.rbac_paths.specs.Rows.{AreOfStep, row_of}
 use Rattle.rbac_paths.specs.Steps.{RowView}
