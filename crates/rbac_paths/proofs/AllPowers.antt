@@ -19,10 +19,11 @@ use Rattle.rbac_terms.specs.Granting.{IsSubjectKey}
 use Rattle.rbac_model.specs.Lists.{IsFirstAt}
 use Rattle.rbac_model.specs.Policies.{GrantView, IsPolicy, PolicyView}
 use Rattle.rbac_model.proofs.BindingPlaces.{of_some_binding}
+use Rattle.rbac_model.proofs.OwnWords.{any_from}
 use Rattle.rbac_text.specs.Choice.{choice_text, choice_and_tab}
 use Rattle.rbac_text.specs.Row.{tab}
 use Rattle.rbac_text.proofs.Choices.{choice_text-one, field-one}
-use Rattle.rbac_paths.specs.Finding.{FindsPowers, Found}
+use Rattle.rbac_paths.specs.Finding.{AreWithGrants, FindsPowers, Found}
 use Rattle.rbac_paths.specs.Powers.{ArePowersOf, GivesStep, GivesThere, IsPower, PowerView, power_place, who_and_where}
 use Rattle.rbac_paths.specs.declared.steps.Step.{Step}
 
@@ -119,6 +120,17 @@ module _ (p : PolicyView) (ok : IsPolicy p) (step : Step) (m : Found) (up : IsOr
       let found = some_is (get text_cmp m (power_place x)) (f.has place.0 a.grant.0 x.grant x.who within (first.here, place.1) (subst (λ (s : Step). GivesStep s x.grant) is first.holds.2) first.holds.1) in
       let w = f.only (power_place x) found.0 found.1 in
       subst (λ (z : PowerView). Contains (powers_in m.entries) z) (sym (one_power p step x found.0 is w.1 a w.2 w.0)) (in_list (power_place x) found.0 found.1)
+
+  -- each grant's powers are found
+  pub with_grants : AreWithGrants p step (powers_in m.entries)
+  with_grants n g key here gives has =
+      let place = of_some_binding p ok n (slice_get_within p.grants n g here) in
+      let within : place.0 < length p.held.bindings = slice_get_within p.held.bindings place.0 place.1.0.binding place.1.2 in
+      let found = some_is (get text_cmp m (who_and_where key g.binding.namespace)) (f.has place.0 n g key within (here, place.1) gives has) in
+      let w = f.only (who_and_where key g.binding.namespace) found.0 found.1 in
+      let told = place_tells key found.0.who g.binding.namespace found.0.grant.binding.namespace w.0 in
+      any_from (λ x. (x.step ≡ step) × (x.who ≡ key) × (x.grant.binding.namespace ≡ g.binding.namespace)) (powers_in m.entries) found.0
+      (in_list (who_and_where key g.binding.namespace) found.0 found.1) (w.1, sym told.0, sym told.1)
 
   pub all_powers : ArePowersOf p step (powers_in m.entries)
   all_powers = record { ordered = in_order; exact = λ x. (is_listed x, λ h. listed x h.0 h.1) }

@@ -6,3 +6,4 @@ pub mod Choosing
 pub mod Gathering
 pub mod Giving
 pub mod OnePowers
+pub mod Telling

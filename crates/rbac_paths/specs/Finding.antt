@@ -61,3 +61,11 @@ pub record FindsPowers (p : PolicyView) (step : Step) (count : ℕ) (found : Fou
       → IsSome (get text_cmp found (who_and_where key g.binding.namespace))
   pub only : (t : Text) (y : PowerView) → get text_cmp found t ≡ Some y
       → (t ≡ power_place y) × (y.step ≡ step) × IsPower p y
+
+-- each grant that gives the step has its powers among these: one for each key of a subject of its
+-- binding, in the namespace of the binding, or, if that has none, in the whole cluster
+abbrev pub AreWithGrants : PolicyView → Step → List PowerView → Type 0
+AreWithGrants p step xs = (n : ℕ) (g : GrantView) (key : Text) → slice_get p.grants n ≡ Some g
+    → GivesStep step g → HasKey g.binding key
+    → Any (λ x. (x.step ≡ step) × (x.who ≡ key)
+    × (x.grant.binding.namespace ≡ g.binding.namespace)) xs

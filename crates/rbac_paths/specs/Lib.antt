@@ -3,3 +3,4 @@ pub mod Lines
 pub mod Powers
 pub mod Rows
 pub mod Steps
+pub mod Telling

@@ -1,0 +1,44 @@
+-- What powers tell of requests.
+use Rattle.std.specs.Prelude.{◌≡◌, ◌↔◌, List, [], Option, Some, None, Any, Contains}
+use Rattle.rbac_terms.specs.Text.{Text}
+use Rattle.rbac_terms.specs.Targets.{Resource}
+use Rattle.rbac_terms.specs.Principals.{Who}
+use Rattle.rbac_model.specs.Policies.{Allows, PolicyView}
+use Rattle.rbac_index.specs.Holding.{IsKeyFor}
+use Rattle.rbac_paths.specs.Powers.{PowerView}
+use Rattle.rbac_paths.specs.Steps.{IsNamed, RowView, table}
+use Rattle.rbac_paths.specs.declared.steps.Step.{Step}
+use Rattle.rbac_paths.specs.declared.table.Reach.{Reach}
+use Rattle.rbac_paths.specs.declared.table.Reach.TheVariants as reach
+
+-- where a request of a row is asked: in no namespace, if it counts in the whole cluster alone
+abbrev pub asked_in : Reach → Text → Text
+asked_in reach.Cluster namespace = []
+asked_in reach.Namespace namespace = namespace
+
+-- somebody is allowed some request of the step in that namespace, or, if it is the empty one, in the
+-- whole cluster
+pub record CanTake (p : PolicyView) (who : Who) (step : Step) (namespace : Text) : Type 0 where
+  pub row : RowView
+  pub verb : Text
+  pub text : Text
+  pub name : Text
+  pub of_table : Contains table row
+  pub of_step : row.step ≡ step
+  pub of_verbs : Contains row.verbs verb
+  pub of_resources : Contains row.resources text
+  pub named : IsNamed row.names name
+  pub allowed : Allows p.held who (asked_in row.reach namespace) verb (Resource row.group text name)
+
+-- what holds where a binding of that namespace, or of none, is live also holds there
+abbrev pub HoldsIn : Option Text → Text → Type 0
+HoldsIn None namespace = Unit {0}
+HoldsIn (Some own) namespace = own ≡ namespace
+
+-- somebody can take a step in a namespace, or, if it is the empty one, in the whole cluster, exactly
+-- if a power of the step holds there whose key is theirs or that of one of their groups
+abbrev pub TellAll : PolicyView → List PowerView → Type 0
+TellAll p xs = (who : Who) (step : Step) (namespace : Text)
+    → CanTake p who step namespace
+    ↔ Any (λ x. (x.step ≡ step) × HoldsIn x.grant.binding.namespace namespace
+    × IsKeyFor who x.who) xs
