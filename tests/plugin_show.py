@@ -70,7 +70,8 @@ def formats(it):
     it.write(json.dumps({'apiVersion': 'rbacaudit/v1', 'kind': 'Universe', 'names': [''], 'verbs': ['delete'], 'namespaces': [''],
                          'resources': [{'resource': TYPE}]}), 'u.json')
     changes = ['diff', '--export', 'none', '--export', 'prod']
-    for line in [*([*line, '--export', 'prod'] for line, *_ in ANSWERS), changes, [*changes, '--summary']]:
+    it.write(json.dumps(hostile()), 'm\u202e.json')
+    for line in [*([*line, '--export', 'prod'] for line, *_ in ANSWERS), changes, [*changes, '--summary'], ['lint', 'm\u202e.json']]:
         plain, out = it.run(*line), it.run(*line)[1]
         for words in (['-o', 'tsv'], ['-otsv', '--color', 'always'], ['--output=tsv', '--no-headers']):
             it.checked('%s %s' % (line, words), it.run(*line, *words) == plain, it.run(*line, *words))

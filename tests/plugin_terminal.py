@@ -217,7 +217,7 @@ def reports(it):
 LONG = r'''#!/bin/sh
 [ $# -gt 1 ] || exit 0
 echo $$ > "$ROOM/hangs"
-printf 'a row\n'
+printf 'L2\tunused-role\tClusterRole/a\t-\t-\n'
 exec sleep 300
 '''
 

@@ -303,6 +303,11 @@ question_command() {
     check_options
     with_part words accept_words "$@"
     [ "$alone" = no ] || lint_manifests "$@"
+    answer_question "$@"
+}
+
+# Answers a question about an export or a cluster.
+answer_question() {
     find_groups "$@"
     find_target "$@"
     look_at_about

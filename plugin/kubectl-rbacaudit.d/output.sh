@@ -141,7 +141,7 @@ function text_of(field,    at, one, text) {
 
 # Whether the words of rules stand below the lines of --why.
 has_words() {
-    case $why$command,$format in
+    case $asks_why$command,$format in
         yescan-i,table | yescan-i,wide | yeswho-can,table | yeswho-can,wide) ;;
         *) return 1 ;;
     esac

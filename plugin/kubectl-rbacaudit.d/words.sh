@@ -33,7 +33,7 @@ read_word() {
             --anywhere) anywhere=yes ;;
             --in-namespace) in_namespace=yes ;;
             --once) once=yes ;;
-            --why) why=yes ;;
+            --why) asks_why=yes ;;
             --*) ;;
             -?*) read_letters "${1#-}" ;;
             *) place=yes ;;
