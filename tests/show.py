@@ -363,6 +363,8 @@ def remarks(it):
     it.same('a page', it.run(page), (0, MATRIX_TABLE.replace('end', 'next\tMQl1OmFsaWNl_-').encode(), ''))
     it.same('a page, as JSON', objects_in(it.run(page, '-o', 'json')[1])[3:], [{'next': 'MQl1OmFsaWNl_-'}])
     it.same('a page, as names', it.run(page, '-o', 'name')[1], b'g:devs\nu:ann\nu:system:serviceaccount:dev:ci\n')
+    it.same('a summary of nothing', objects_in(it.run(tabs('total - - 0 0 [] []'), '-o', 'json')[1]),
+            [{'total': True, 'gained': 0, 'lost': 0, 'powers_gained': [], 'powers_lost': []}])
     it.same('a matrix without its last line', it.run(ROWS), (0, MATRIX_TABLE[:-4].encode(), ''))
     it.same('two pages', it.run(page + ROWS + 'end\n'),
             (0, (MATRIX_TABLE.replace('end', 'next\tMQl1OmFsaWNl_-') + MATRIX_TABLE).encode(), ''))
