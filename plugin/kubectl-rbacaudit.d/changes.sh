@@ -212,9 +212,9 @@ List what a change lets users do, and what it takes from them.
   --from PATH      the manifests before the change; with --export, what --without means
   --to PATH        the manifests after it; with --export, what --with means
   -n NS            the namespace of their roles and bindings that have none; without it, default
-  --summary        in the place of the lines: how many permissions who gains and loses where, by which binding,
-                   which powers are among them, by which somebody takes over somebody else; and a total
-  --fail-on WHAT   what ends with status 1: changes (default); gains, so a line with +; or powers that are gained
+  --summary        counts instead of lines: the permissions gained and lost for each who, where and binding, the
+                   powers among them, which are ways to take over somebody else, and a total
+  --fail-on WHAT   end with status 1 for changes (default), for gains alone, or for gained powers alone
 
 PATH is a file, a folder (.json, .yaml and .yml, folders within), a folder with a kustomization, or -
 for standard input. kubectl reads it, without a cluster (kubectl rbacaudit read --help). Standard error
@@ -224,6 +224,6 @@ A line begins with + for what is gained, or with - for what is lost; rbacaudit d
 fields. All requests of all users are compared, whether an export names them or not.
 
 The other options (--partial, -o, ..) mean what kubectl rbacaudit --help says.
-Exit status: 0 nothing changes, or not what --fail-on says; 1 something does; 2 an error.
+Exit status: 0 nothing changes, or nothing that --fail-on names; 1 something does; 2 an error.
 EOF
 }

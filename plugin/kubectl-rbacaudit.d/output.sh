@@ -112,8 +112,8 @@ show_answer() {
 
 # ---- the words of rules
 
-# An awk program that reads lines of --why, and prints bindings of the roles that have their rules, to one user.
-# (the name of a Role that has another / is left out: it could be read in two ways)
+# An awk program that reads lines of --why, and prints bindings that give one user the roles with these rules.
+# (a Role with a further / in its namespace or name is left out: nobody can tell in which)
 BIND_ROLES='
 BEGIN { FS = "\t"; print "{\"apiVersion\": \"v1\", \"kind\": \"List\", \"items\": [" }
 NF > 4 && !seen[$(NF - 2)]++ {
@@ -139,7 +139,7 @@ function text_of(field,    at, one, text) {
     return "\"" text "\""
 }'
 
-# Whether the words of rules stand below the lines of --why.
+# Whether the answer is a table that has the words of rules.
 has_words() {
     case $asks_why$command,$format in
         yescan-i,table | yescan-i,wide | yeswho-can,table | yeswho-can,wide) ;;
@@ -148,8 +148,8 @@ has_words() {
 }
 
 # Leaves in `words_of_rules` a file with the lines of `rules` for the rules that the answer in $scratch/answer
-# names: nothing where a FILE can't be read twice, or rbacaudit doesn't say. A user has them for whom bindings
-# are put over the same files, one for each role.
+# names, or nothing: where a FILE can't be read twice, or rbacaudit refuses them. They are those of a made-up
+# user, to whom bindings that are put over the same files give the roles.
 find_words() {
     is_whole=yes
     for_each_file look_at_file "$@"
