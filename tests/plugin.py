@@ -2,7 +2,7 @@
 
 plugin_room.py has the stand-in, plugin_exports.py the exports, plugin_questions.py the questions,
 plugin_remarks.py what is said beside answers, plugin_changes.py and plugin_manifests.py changes and manifests, plugin_advice.py what is said behind errors,
-plugin_server.py both once more with kubectl itself, and plugin_terminal.py what a terminal shows.
+plugin_server.py both once more with kubectl itself, plugin_terminal.py what a terminal shows, and plugin_show.py formats and summaries.
 Here are the tools that the plugin needs, its texts, completions and man page, and make. What is
 skipped, since this machine lacks a tool, stands in the last line but one. The last line is
 `N passed, M failed`.
@@ -23,6 +23,7 @@ import plugin_manifests
 import plugin_questions
 import plugin_remarks
 import plugin_server
+import plugin_show
 import plugin_terminal
 from common import PROGRAM, TOP, checked, skipped, tested
 from plugin_room import KIM, PLUGIN, SHELLS, in_each_shell
@@ -62,7 +63,7 @@ def tools(it):
         it.checked('help: %s' % ' '.join(line), (status, err) == (0, '') and said.lower() in out.lower(), got)
     for line, options in ((['--help'],
                            ['--export', '--partial', '--context', '--kubeconfig',
-                            '--request-timeout', '--version']),
+                            '--request-timeout', '-o', '--output', '--no-headers', '--color', '--version']),
                           (['export', '--help'],
                            ['--force', '-n', '--context', '--kubeconfig', '--request-timeout',
                             '--as',
@@ -122,11 +123,12 @@ def script():
 
 OWN = {('--export',): 'DIR', ('--partial',): '', ('--context',): 'NAME', ('--kubeconfig',): 'FILE',
        ('--request-timeout',): 'TIME'}
+SHOWN = {('-o', '--output'): 'FORMAT', ('--no-headers',): '', ('--color',): 'WHEN'}
 HELP = ('-h', '--help')
 OF_PAGE = {('-n', '--namespace'): 'NS', ('--output',): 'FILE', ('--title',): 'TEXT',
            ('--diff',): 'FILE', ('--every',): ''}
 OF_READ = {('-n', '--namespace'): 'NS'}
-OF_DIFF = {('--with',): 'PATH', ('--without',): 'PATH', ('--from',): 'PATH', ('--to',): 'PATH', **OF_READ}
+OF_DIFF = {('--with',): 'PATH', ('--without',): 'PATH', ('--from',): 'PATH', ('--to',): 'PATH', ('--summary',): '', ('--fail-on',): 'WHAT', **OF_READ}
 OF_EXPORT = {('--force',): '', ('-n', '--namespace'): 'NS', ('--context',): 'NAME',
              ('--kubeconfig',): 'FILE',
              ('--request-timeout',): 'TIME', ('--as',): 'USER', ('--as-group',): 'GROUP'}
@@ -157,6 +159,10 @@ COMPLETED = [
     (['page', ''], [], FILES),
     (['diff', ''], [], NOTHING), (['diff', '--with', ''], [], FILES), (['diff', '--to', ''], [], FILES), (['diff', '--without='], [], FILES),
     (['read', ''], [], FILES), (['read', '-n', ''], [], NOTHING),
+    (['matrix', '-o', ''], ['table', 'wide', 'json', 'name', 'tsv'], NOTHING), (['can-i', '--output', 'j'], ['json'], NOTHING),
+    (['can-i', '--output=t'], ['table', 'tsv'], NOTHING), (['rules', '-ojson', ''], [], NOTHING), (['lint', '-o', 'json', ''], [], FILES),
+    (['lint', '--color', 'a'], ['auto', 'always'], NOTHING), (['diff', '--fail-on', ''], ['changes', 'gains', 'powers'], NOTHING),
+    (['page', '--output='], [], FILES), (['page', '-o', ''], [], FILES), (['diff', '--s'], ['--summary'], NOTHING),
     (['diff', '-n', ''], [], NOTHING), (['diff', '-nx', '--w'], ['--with', '--without'], NOTHING),
     (['diff', '--export', 'x', '--export', ''], [], FOLDERS),
     (['diff', '--export', 'x', '--e'], ['--export'], NOTHING),
@@ -173,9 +179,9 @@ COMPLETED = [
 def options_of(command):
     """The options of a command, with their values: those of rbacaudit, and the plugin's own."""
     if command in ('diff', 'read', 'export', 'universe', 'page'):
-        own = {'export': OF_EXPORT, 'universe': OWN, 'page': {**OWN, **OF_PAGE}, 'diff': {**OWN, **OF_DIFF}, 'read': OF_READ}[command]
+        own = {'export': OF_EXPORT, 'universe': OWN, 'page': {**OWN, **OF_PAGE}, 'diff': {**OWN, **OF_DIFF, **SHOWN}, 'read': OF_READ}[command]
         return {**own, HELP: ''}
-    return {**{names: value for names, (value, _) in options(command).items()}, **OWN}
+    return {**{names: value for names, (value, _) in options(command).items()}, **OWN, **SHOWN}
 
 
 @in_each_shell
@@ -234,7 +240,7 @@ def in_kubectl():
 def man_page():
     """The man page has the options of help with their values, the version, and is rendered well."""
     text = contents(MAN)
-    wanted = {**OWN, **OF_EXPORT, **OF_PAGE, **OF_DIFF, HELP: '', ('-V', '--version'): ''}
+    wanted = {**OWN, **SHOWN, **OF_EXPORT, **OF_PAGE, **OF_DIFF, HELP: '', ('-V', '--version'): ''}
     got = {names: value for names, (value, _) in options_in(text).items()}
     checked('man: the options', got == wanted, repr(got))
     checked('man: the version', '"kubectl\\-rbacaudit 0.1.0"' in text, text[:300])
@@ -274,4 +280,4 @@ def told(words_, folder, tools_=os.path.dirname(PROGRAM)):
 
 if __name__ == '__main__':
     sys.exit(tested(*plugin_exports.CHECKS, *plugin_questions.CHECKS, *plugin_remarks.CHECKS, *plugin_changes.CHECKS, *plugin_manifests.CHECKS, *plugin_advice.CHECKS,
-                    *plugin_server.CHECKS, *plugin_terminal.CHECKS, tools, functions, script, make_run, completions, in_kubectl, man_page))
+                    *plugin_server.CHECKS, *plugin_terminal.CHECKS, *plugin_show.CHECKS, tools, functions, script, make_run, completions, in_kubectl, man_page))

@@ -2,11 +2,13 @@
 
 import contextlib
 import fcntl
+import itertools
 import json
 import os
 import pty
 import shutil
 import signal
+import struct
 import subprocess
 import termios
 import time
@@ -82,10 +84,12 @@ def characters():
 
 # ---- answers
 
-def on_terminal(it, *words, trouble=()):
-    """Status, what a terminal gets as standard output, and standard error."""
+def on_terminal(it, *words, columns=0, more=(), plugin=PLUGIN):
+    """Status, what a terminal gets as standard output, and standard error. A terminal of 0 columns doesn't know how many it has."""
     ours, theirs = pty.openpty()
-    process = subprocess.Popen([it.shell, PLUGIN, *words], cwd=it.work, env=it.environment(trouble), stdin=subprocess.DEVNULL,
+    fcntl.ioctl(theirs, termios.TIOCSWINSZ, struct.pack('HHHH', 50, columns, 0, 0))
+    mine = {name: value for name, value in it.environment().items() if name not in ('COLUMNS', 'NO_COLOR')}
+    process = subprocess.Popen([it.shell, plugin, *words], cwd=it.work, env={**mine, 'TERM': 'dumb', **dict(more)}, stdin=subprocess.DEVNULL,
                                stdout=theirs, stderr=subprocess.PIPE)
     os.close(theirs)
     out = b''
@@ -135,7 +139,7 @@ def answers(it):
                          'resources': [{'resource': TYPE}]}), 'u.json')
     for line, status, out in ANSWERS:
         for place in ([], ['--export', 'prod']):
-            got = on_terminal(it, *line, *place)
+            got = on_terminal(it, *line, *place, '-o', 'tsv')
             wanted = status, out.format(SEEN_BINDING, SEEN_ROLE, SEEN_TYPE, SEEN_USER)
             it.checked('on a terminal: %s %s' % (line[0], place), got[:2] == wanted, got)
             got = it.run(*line, *place)
@@ -144,7 +148,7 @@ def answers(it):
     it.serve({'cluster': of_kinds([])})
     it.run('export', 'none')
     line = ['diff', '--export', 'none', '--export', 'prod']
-    for got, names in ((on_terminal(it, *line), (SEEN_BINDING, SEEN_ROLE, SEEN_TYPE, SEEN_USER)), (it.run(*line), (BINDING, ROLE, TYPE, USER))):
+    for got, names in ((on_terminal(it, *line, '-otsv'), (SEEN_BINDING, SEEN_ROLE, SEEN_TYPE, SEEN_USER)), (it.run(*line), (BINDING, ROLE, TYPE, USER))):
         it.checked('diff', (got[0], sorted(got[1].splitlines())) == (1, sorted(GAINED.format(*names).splitlines())), got)
     status, out, err = got = on_terminal(it, 'universe', '--export', 'prod')
     it.checked('a universe on a terminal', (status, err) == (0, '') and '"resource": "w\\u200bidgets\\udb40\\udc41"' in out
@@ -156,7 +160,7 @@ def answers(it):
     it.checked('manifests on a terminal', status == 0 and SEEN_ROLE not in out and '"name": "r\u00e9\\u2028"' in out
                and document(out) == document(it.run('read', name)[1]), got)
     line = 'L4\tescalation\tClusterRole/%s\t2\tbind\t%s\n'
-    got = on_terminal(it, 'lint', name)
+    got = on_terminal(it, 'lint', name, '-o', 'tsv')
     it.checked('their findings on a terminal', got[:2] == (1, line % (SEEN_ROLE, 'm\\xe2\\x80\\xae.json')), got)
     got = it.run('lint', name)
     it.checked('their findings through a pipe', got[:2] == (1, line % (ROLE, name)), got)
@@ -175,13 +179,13 @@ def stale_answers(it):
     it.serve({'cluster': {**cluster, 'items': [*cluster['items'], role, {**again, 'subjects': [{'kind': 'User', 'name': 'lee'}]}]},
               'namespaced': of_kinds([])})
     it.run('export', 'prod')
-    status, out, err = got = on_terminal(it, 'who-can', '--export', 'prod', '-A', 'delete', TYPE)
+    status, out, err = got = on_terminal(it, 'who-can', '--export', 'prod', '-A', 'delete', TYPE, '-o', 'tsv')
     it.checked('holders', (status, out) == (0, 'u:%s\tClusterRoleBinding/%s\n' % (SEEN_USER, SEEN_BINDING))
                and 'the cluster has other holders now' in err, got)
     names = ['n%05d' % number for number in range(5000)]
     it.write(json.dumps({'apiVersion': 'rbacaudit/v1', 'kind': 'Universe', 'names': names, 'verbs': ['delete'], 'namespaces': [''],
                          'resources': [{'resource': TYPE}]}), 'u.json')
-    status, out, err = got = on_terminal(it, 'matrix', '--export', 'prod', 'u.json')
+    status, out, err = got = on_terminal(it, 'matrix', '--export', 'prod', 'u.json', '--output', 'tsv')
     wanted = ''.join('u:%s\t-\tdelete\t-\t%s\t%s\tClusterRoleBinding/%s\n' % (SEEN_USER, SEEN_TYPE, name, SEEN_BINDING) for name in names)
     it.checked('many rows', (status, out) == (0, wanted + 'end\n'), (status, out[:300], err))
 
@@ -213,7 +217,7 @@ def reports(it):
 LONG = r'''#!/bin/sh
 [ $# -gt 1 ] || exit 0
 echo $$ > "$ROOM/hangs"
-printf 'a row\n'
+printf 'L2\tunused-role\tClusterRole/a\t-\t-\n'
 exec sleep 300
 '''
 
@@ -268,12 +272,16 @@ def signals(it):
         it.checked('%s leaves no file' % name, before and not it.left(), (before, it.left()))
 
 
-def in_tmux(it, words):
+SOCKETS = itertools.count()
+
+
+def in_tmux(it, words, columns=170):
     """The lines that tmux shows, once a command in it has ended."""
-    socket = it.at('tmux')
+    # (a server that has just ended may still hold its socket)
+    socket = it.at('tmux%d' % next(SOCKETS))
     tmux = ['tmux', '-f', '/dev/null', '-S', socket]
     environment = {**it.environment(), 'LC_ALL': 'C.UTF-8', 'TERM': 'xterm'}
-    subprocess.run([*tmux, '-u', 'new-session', '-d', '-x', '170', '-y', '20',
+    subprocess.run([*tmux, '-u', 'new-session', '-d', '-x', str(columns), '-y', '40',
                     'sh', '-c', '"$@"; echo "status $?"; exec sleep 100', 'sh', *words], cwd=it.work, env=environment, check=True,
                    timeout=60)
     until, seen = time.monotonic() + 60, ''

@@ -48,6 +48,7 @@ yes
 BINDING                   ROLE                   SOURCE                 RULE  SUBJECT
 RoleBinding/shop/readers  ClusterRole/shop-view  ClusterRole/shop-pods  1     12
 '''
+ANSWER_HEADLESS = 'RoleBinding/shop/readers  ClusterRole/shop-view  ClusterRole/shop-pods  1  12\n'
 # (85 columns: BINDING of 24 gives three, and then the first two of those that have 21 give one each)
 ANSWER_80 = '''\
 yes
@@ -66,6 +67,21 @@ WHY = tabs('u:kim RoleBinding/shop/kim Role/shop/ops Role/shop/ops 3 1')
 WHY_TABLE = '''\
 WHO    BINDING               ROLE           SOURCE         RULE  SUBJECT
 u:kim  RoleBinding/shop/kim  Role/shop/ops  Role/shop/ops  3     1
+'''
+# Lines of rules, of which two have the rules of these lines.
+WORDS = tabs(r'''
+ClusterRoleBinding/m ClusterRole/shop-view ClusterRole/shop-pods 1 2 [get,list] [-] [pods,pods/log] [] []
+ClusterRoleBinding/m ClusterRole/shop-view ClusterRole/shop-pods 2 2 [no] [-] [no] [] []
+RoleBinding/x/y Role/shop/ops Role/shop/ops 3 9 [*] [apps,-] [deployments,a\x2cb,WORD] [x,y] [/metrics]
+RoleBinding/x/y Role/shop/gone Role/shop/ops 3''').replace('WORD', '\u202e a  NAMES')
+SHOP_WORDS = '    VERBS get,list  GROUPS -  RESOURCES pods,pods/log\n'
+# (the pipe gets the bytes; and a blank behind another is an escape, so that no word looks like a list)
+OPS_WORDS = '    VERBS *  GROUPS apps,-  RESOURCES deployments,a\\x2cb,\u202e a \\x20NAMES  NAMES x,y  URLS /metrics\n'
+OPS_WORDS_44 = '''\
+    VERBS *  GROUPS apps,-
+      RESOURCES deployments,a\\x2cb,
+      \\xe2\\x80\\xae a \\x20NAMES  NAMES x,y
+      URLS /metrics
 '''
 RULES = tabs(r'''
 RoleBinding/shop/ci Role/shop/ci Role/shop/ci 1 1 [get,list] [apps,-] [deployments] [] []
@@ -129,6 +145,20 @@ DIFF_TABLE = r'''CHANGE  WHO     NAMESPACE  VERB  GROUP  RESOURCE    NAME  BINDI
 '''
 # (81 columns)
 DIFF_80 = DIFF_TABLE.replace('bobs', 'bo…')
+SUMMARY = tabs('''
+g:devs shop RoleBinding/shop/devs 2 0 [secrets] []
+u:bob - ClusterRoleBinding/bobs 0 1 [] []
+u:\\x2da * ClusterRoleBinding/bobs 7 12 [exec] [run,exec]
+total - - 9 13 [secrets,exec] [run,exec]''')
+SUMMARY_TABLE = r'''WHO      NAMESPACE  BINDING                  GAINED  LOST  POWERS_GAINED   POWERS_LOST
+g:devs   shop       RoleBinding/shop/devs    2       0     [secrets]       []
+u:bob    -          ClusterRoleBinding/bobs  0       1     []              []
+u:\x2da  *          ClusterRoleBinding/bobs  7       12    [exec]          [run,exec]
+total    -          -                        9       13    [secrets,exec]  [run,exec]
+'''
+# (86 columns: BINDING of 23 gives six)
+SUMMARY_80 = SUMMARY_TABLE.replace('BINDING       ', 'BINDING ').replace('RoleBinding/shop/devs  ', 'RoleBinding/shop…').replace('ClusterRoleBinding/bobs', 'ClusterRoleBindi…')
+SUMMARY_80 = SUMMARY_80.replace('-          -                      ', '-          -                ').replace('…    2', '…  2')
 
 
 def objects(keys, *values):
@@ -137,6 +167,7 @@ def objects(keys, *values):
 
 OF_WHY = 'binding role source rule subject'
 OF_ROW = 'who namespace verb group resource name binding'
+OF_COUNTS = 'gained lost powers_gained powers_lost'
 OF_FINDING = 'code name object place detail'
 COMMANDS = {
     'can-i --why': (ANSWER, ANSWER_TABLE, ANSWER_80, [{'allowed': True}, *objects(
@@ -169,6 +200,10 @@ COMMANDS = {
         'change ' + OF_ROW, ('+', 'g:devs', 'shop', 'list', '', 'secrets', None, 'RoleBinding/shop/devs'),
         ('-', 'u:bob', None, '*', 'apps', '*', '*', 'ClusterRoleBinding/bobs'),
         ('-', 'u:bob', '', 'get', '', '/healthz/*', '', 'ClusterRoleBinding/bobs')), ['g:devs', 'u:bob']),
+    'diff --summary': (SUMMARY, SUMMARY_TABLE, SUMMARY_80, [*objects(
+        'who namespace binding ' + OF_COUNTS, ('g:devs', 'shop', 'RoleBinding/shop/devs', 2, 0, ['secrets'], []),
+        ('u:bob', '', 'ClusterRoleBinding/bobs', 0, 1, [], []), ('u:-a', None, 'ClusterRoleBinding/bobs', 7, 12, ['exec'], ['run', 'exec'])),
+        *objects('total ' + OF_COUNTS, (True, 9, 13, ['secrets', 'exec'], ['run', 'exec']))], ['g:devs', 'u:bob', 'u:\\x2da']),
 }
 
 
@@ -188,7 +223,7 @@ class Filter:
 
     def environment(self, **more):
         mine = {name: value for name, value in os.environ.items() if name != 'COLUMNS'}
-        return {**mine, 'PATH': self.bin + os.pathsep + os.environ['PATH'], 'LC_ALL': 'C.UTF-8', **more}
+        return {**mine, 'PATH': self.bin + os.pathsep + os.environ['PATH'], 'LC_ALL': 'C.UTF-8', 'TERM': 'xterm', 'NO_COLOR': '1', **more}
 
     def run(self, given, *words, **how):
         """Status, output and error over lines."""
@@ -253,6 +288,73 @@ def commands(it):
                                                     'u:…  dev  up…  -    co…  app  Ro…\nu:…  dev  pa…  ap…  de…  -    Ro…\nend\n', ''))
 
 
+# Commands whose rows have colors: the codes of each row.
+COLORS = {'can-i --why': ['', ''], 'who-can': ['', ''], 'rules': ['', ''], 'lint': [''] * 5, 'diff': ['1;32', '31', '31'], 'matrix': ['', '', '1', ''],
+          'diff --summary': ['1;32', '31', '1', '1']}
+
+
+def colored(table, codes):
+    head, *rows = table.splitlines()
+    return ''.join('\x1b[%sm%s\x1b[0m\n' % (code, row) if code else row + '\n' for code, row in zip(['', *codes], [head, *rows]))
+
+
+def colors(it):
+    """Colors where they are asked for, or a terminal has them; they are no columns of a row."""
+    for name, codes in COLORS.items():
+        lines, table, narrow, _, _ = COMMANDS[name]
+        wanted = colored(table, codes)
+        it.same('%s: colors in a pipe' % name, it.run(lines, '--color', 'always', '-o', 'wide'), (0, wanted.encode(), ''))
+        it.same('%s: colors on a terminal' % name, it.on_terminal(lines, 80, NO_COLOR=''), (0, colored(narrow, codes), ''))
+    painted = colored(DIFF_TABLE, COLORS['diff'])
+    for words, more, wanted in (([], {}, DIFF_TABLE), ([], {'NO_COLOR': '', 'TERM': 'dumb'}, DIFF_TABLE), ([], {'NO_COLOR': '', 'TERM': ''}, DIFF_TABLE),
+                                (['--color=always'], {'TERM': 'dumb'}, painted), (['--color', 'never'], {'NO_COLOR': ''}, DIFF_TABLE),
+                                (['--color=auto'], {'NO_COLOR': ''}, painted)):
+        it.same('colors: %s %s' % (words, more), it.on_terminal(DIFF, 200, *words, **more), (0, wanted, ''))
+    for format_ in ('json', 'name'):
+        it.same('colors: none in %s' % format_, it.run(DIFF, '-o', format_, '--color', 'always'), it.run(DIFF, '-o', format_))
+    powers = [('- create - pods -', '1'), ('dev create - pods -', '1'), ('dev create - pods p', ''), ('dev create apps pods -', ''),
+              ('dev create - serviceaccounts/token x', '1'), ('- impersonate - users kim', '1'), ('dev impersonate - users -', ''),
+              ('dev escalate rbac.authorization.k8s.io clusterroles -', ''), ('- escalate rbac.authorization.k8s.io clusterroles x', '1'),
+              ('dev get - nodes/proxy -', ''), ('- get - nodes/proxy -', '1'), ('- get - /pods/exec -', ''), ('dev get - pods/exec -', '1')]
+    for row, code in powers:
+        line = tabs('u:a %s RoleBinding/b/c' % row)
+        it.same('a power in a matrix: %s' % row, it.run(line, '--color=always')[1].count(b'\x1b[1m'), len(code))
+    rule = '%s\tClusterRole/x\tClusterRole/x\t1\t1\t[%s]\t[%s]\t[%s]\t[%s]\t[]\n'
+    for binding, *words, code in (
+            ('RoleBinding/a/b', 'get,create', '-', 'pods,services', '', 1), ('RoleBinding/a/b', 'create', 'apps,batch', 'jobs', '', 1),
+            ('RoleBinding/a/b', 'create', 'apps', 'jobs', '', 0), ('RoleBinding/a/b', '*', '*', '*', '', 1), ('RoleBinding/a/b', '*', '*', '*', 'x', 1),
+            ('RoleBinding/a/b', 'get', '-', 'secrets', 'x', 0), ('RoleBinding/a/b', 'get', '-', 'secrets', 'x,-', 1), ('RoleBinding/a/b', 'get', '-', 'secrets', '*', 0),
+            ('RoleBinding/a/b', 'get', '-', '*/exec', '', 1), ('RoleBinding/a/b', 'get', '-', '*/proxy', '', 0), ('ClusterRoleBinding/b', 'get', '-', '*/proxy', '', 1),
+            ('ClusterRoleBinding/b', 'get', '-', 'pods/*', '', 0), ('RoleBinding/a/b', 'get', '-', 'a\\x2csecrets', '', 0)):
+        it.same('a power in rules: %s %s' % (binding, words), it.run(rule % (binding, *words), '--color=always')[1].count(b'\x1b[1m'), code)
+
+
+def headless(it):
+    """Tables without their heads, whose columns are as wide as their fields."""
+    for words in (['--no-headers'], ['--no-headers', '-o', 'wide']):
+        it.same('no head %s' % words, it.run(ANSWER + ANSWER, *words)[1].decode(), ('yes\n' + ANSWER_HEADLESS) * 2)
+    # (16 and 32 columns: the second gives 16, and then each gives two)
+    it.same('no head on a terminal', it.on_terminal(HOLDERS, 30, '--no-headers')[1], 'g:system:mast…  ClusterRoleBi…\nu:kim           RoleBinding/s…\n')
+    for format_ in ('json', 'name'):
+        it.same('no head in %s' % format_, it.run(HOLDERS, '-o', format_, '--no-headers'), it.run(HOLDERS, '-o', format_))
+
+
+def words_below(it):
+    """The words of the rules below the lines of --why, in tables alone."""
+    with tempfile.TemporaryDirectory() as room:
+        path = os.path.join(room, 'a=b')
+        with open(path, 'w', encoding='utf-8') as file:
+            file.write(WORDS)
+        for given, wanted in ((ANSWER, ANSWER_TABLE + SHOP_WORDS), (WHY + WHY, WHY_TABLE + OPS_WORDS + WHY_TABLE.splitlines(True)[1] + OPS_WORDS)):
+            it.same('words: wide', it.run(given, '--rules', path, '-o', 'wide'), (0, wanted.encode(), ''))
+        it.same('words: by a name in the folder', it.run(ANSWER, '--rules=a=b', cwd=room), (0, (ANSWER_TABLE + SHOP_WORDS).encode(), ''))
+        it.same('words: on a terminal', it.on_terminal(WHY, 44, '--rules', path)[1].splitlines()[2:], OPS_WORDS_44.splitlines())
+        it.same('words: of another rule', it.run(WHY.replace('\t3\t', '\t4\t'), '--rules', path)[1].decode(), WHY_TABLE.replace('  3  ', '  4  '))
+        it.same('words: of other lines', it.run(RULES, '--rules', path), it.run(RULES))
+        it.same('words: none in JSON', it.run(WHY, '--rules', path, '-ojson'), it.run(WHY, '-ojson'))
+        it.same('words: no file', it.run(WHY, '--rules', room), (2, b'', "rbacaudit-show: can't read %s\n" % room))
+
+
 def remarks(it):
     """Answers of can-i and the last lines of pages, before and between rows."""
     it.same('an empty matrix', it.run('end\n'), (0, b'end\n', ''))
@@ -261,6 +363,8 @@ def remarks(it):
     it.same('a page', it.run(page), (0, MATRIX_TABLE.replace('end', 'next\tMQl1OmFsaWNl_-').encode(), ''))
     it.same('a page, as JSON', objects_in(it.run(page, '-o', 'json')[1])[3:], [{'next': 'MQl1OmFsaWNl_-'}])
     it.same('a page, as names', it.run(page, '-o', 'name')[1], b'g:devs\nu:ann\nu:system:serviceaccount:dev:ci\n')
+    it.same('a summary of nothing', objects_in(it.run(tabs('total - - 0 0 [] []'), '-o', 'json')[1]),
+            [{'total': True, 'gained': 0, 'lost': 0, 'powers_gained': [], 'powers_lost': []}])
     it.same('a matrix without its last line', it.run(ROWS), (0, MATRIX_TABLE[:-4].encode(), ''))
     it.same('two pages', it.run(page + ROWS + 'end\n'),
             (0, (MATRIX_TABLE.replace('end', 'next\tMQl1OmFsaWNl_-') + MATRIX_TABLE).encode(), ''))
@@ -438,6 +542,8 @@ def refusals(it):
     it.same('the rows before are shown', it.run(HOLDERS + 'x\n')[:2], (2, HOLDERS_TABLE.encode()))
     for words, said in ((['-o', 'yaml'], 'there is no format yaml: -o takes table, wide, json or name'), (['-o'], '-o needs a format: table, wide, json or name'),
                         (['--output='], 'there is no format : -o takes table, wide, json or name'), (['--of', 'x'], 'there is no option --of; rbacaudit-show --help lists them'),
+                        (['--color', 'red'], 'there is no color red: --color takes auto, always or never'), (['--color'], '--color needs a value'),
+                        (['--rules'], '--rules needs a value'), (['--rules=/gone'], "can't read /gone"),
                         (['rows'], 'there is no word rows in this command: rbacaudit-show reads from a pipe, or from a file as in rbacaudit-show < FILE')):
         it.same('refused: %s' % words, it.run(ROWS, *words), (2, b'', 'rbacaudit-show: %s\n' % said))
 
@@ -529,7 +635,7 @@ def is_same(lines, found):
     fields = [line.split('\t') for line in lines]
     return len(found) == len(fields) and all(
         len(line) == len(values) and all(value in value_of(field) for field, value in zip(line, values.values()))
-        for line, values in zip(fields, found) if len(line) > 1 and line[0] != 'next')
+        for line, values in zip(fields, found) if len(line) > 1 and line[0] not in ('next', 'total'))
 
 
 def as_objects(lines):
@@ -570,13 +676,13 @@ def told(*words, **how):
     return ended.returncode, ended.stdout.decode()
 
 
-OPTIONS = ['-o', '--output', '-h', '--help', '-V', '--version']
+OPTIONS = ['-o', '--output', '--no-headers', '--color', '--rules', '-h', '--help', '-V', '--version']
 
 
 def helped():
     """Help, the man page and the completions have the same options, formats and fields."""
     status, text = told(SHOW, '--help')
-    same('help', (status, told(SHOW, '-h'), sorted(set(re.findall(r'(?<![\w-])--?[a-zA-Z]+', text)) - {'--why'})), (0, (0, text), sorted(OPTIONS)))
+    same('help', (status, told(SHOW, '-h'), sorted(set(re.findall(r'(?<![\w-])--?[a-zA-Z][a-zA-Z-]*', text)) - {'--why', '--summary'})), (0, (0, text), sorted(OPTIONS)))
     checked('help fits a screen', max(map(len, text.splitlines())) <= 80, text)
     for words in (['--version'], ['-V']):
         same('the version: %s' % words, told(SHOW, *words), (0, 'rbacaudit-show 0.1.0\n'))
@@ -590,10 +696,12 @@ def helped():
          [('o', 'output', 'how lines are shown'), ('h', 'help', 'print help'), ('V', 'version', 'print version')])
     same('zsh: the options', re.findall(r"\{(-\w),(--\w+)=?\}'\[(.*?)\]", zsh),
          [('-h', '--help', 'print help'), ('-V', '--version', 'print version'), ('-o', '--output', 'how lines are shown')])
-    same('fish: the formats', re.findall(r"-a '(.*?)'", fish), ['table wide json name'])
-    same('zsh: the formats', re.findall(r'FORMAT:\((.*?)\)', zsh), ['table wide json name'])
+    same('fish: the long options', re.findall(r"-l (\S+)", fish), ['output', 'no-headers', 'color', 'rules', 'help', 'version'])
+    same('zsh: the long options', re.findall(r"'(--[\w-]+)=?\[", zsh), ['--no-headers', '--color', '--rules'])
+    same('fish: the formats', re.findall(r"-a '(.*?)'", fish), ['table wide json name', 'auto always never'])
+    same('zsh: the formats', re.findall(r'[A-Z]:\((.*?)\)', zsh), ['table wide json name', 'auto always never'])
     path = os.path.join(TOP, 'completions', 'rbacaudit-show.bash')
-    for line, wanted in (('rbacaudit-show -', '-o --output -h --help -V --version'), ('rbacaudit-show --o', '--output'), ('rbacaudit-show -o j', 'json'),
+    for line, wanted in (('rbacaudit-show -', '-o --output --no-headers --color --rules -h --help -V --version'), ('rbacaudit-show --o', '--output'), ('rbacaudit-show --color a', 'auto always'), ('rbacaudit-show -o j', 'json'),
                          ('rbacaudit-show --output -', ''), ('rbacaudit-show --output t', 'table')):
         script = '. "$0"; COMP_WORDS=(%s); COMP_CWORD=%d; _rbacaudit_show; echo ${COMPREPLY[*]}' % (line, line.count(' '))
         same('bash: %s' % line, told('bash', '-c', script, path), (0, wanted + '\n'))
@@ -608,8 +716,8 @@ def keys_in_document():
     """docs/FORMATS.md has the head and the key of each field, in their order."""
     part = contents('docs', 'FORMATS.md').partition('## For machines: rbacaudit-show -o json')[2].partition('\n## ')[0]
     said = {re.sub('`', '', line.split('|')[1]).strip(): re.findall('`(.*?)`', line.split('|')[2]) for line in part.splitlines() if re.match(r'\| `[a-z]', line)}
-    wanted = {name: list(lines[3][-1]) for name, lines in COMMANDS.items() if name not in ('can-i', 'matrix')}
-    wanted = {**wanted, 'can-i': ['allowed'], 'matrix': OF_ROW.split()}
+    wanted = {name: list(lines[3][-1]) for name, lines in COMMANDS.items() if name not in ('can-i', 'matrix', 'diff --summary')}
+    wanted = {**wanted, 'can-i': ['allowed'], 'matrix': OF_ROW.split(), 'diff --summary': ['who', 'namespace', 'binding', *OF_COUNTS.split()]}
     same('docs/FORMATS.md: the keys', {name: said.get(name) for name in wanted}, wanted)
 
 
@@ -653,7 +761,7 @@ def under_each_awk():
                 skipped(words[0], 'rbacaudit-show')
                 continue
             it = Filter(words, room)
-            for part in commands, remarks, texts, random_texts, no_utf8, seen, look_ahead, refusals, pipes:
+            for part in commands, colors, headless, words_below, remarks, texts, random_texts, no_utf8, seen, look_ahead, refusals, pipes:
                 part(it)
 
 

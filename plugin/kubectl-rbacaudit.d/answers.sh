@@ -164,7 +164,7 @@ with_files() {
     "$@"
 }
 
-# Runs rbacaudit and gives its status. After a fault that gives a file by its number, reports the
+# Runs rbacaudit, as `runs` says, and gives its status. After a fault that gives a file by its number, reports the
 # file's name, and the object.
 ask() {
     "$runs" rbacaudit "$@" 2>"$scratch/said"
@@ -290,18 +290,24 @@ question_command() {
         left=$((left - 1))
         if [ -n "$option" ]; then
             set_next "$word"
-        elif [ "$awaits$literal" != nono ] || ! take_own "$word"; then
+        elif [ "$awaits$literal" != nono ] || ! { take_own "$word" || take_shown "$word"; }; then
             read_word "$word"
             set -- "$@" "$word"
         fi
     done
     need_rbacaudit
     [ "$help" = no ] || question_help
+    choose_format "$command"
     # (lint of manifests reads neither a cluster nor an export)
     [ "$command$export_dir" != lint ] || [ "$places" -lt 2 ] || alone=yes
     check_options
     with_part words accept_words "$@"
     [ "$alone" = no ] || lint_manifests "$@"
+    answer_question "$@"
+}
+
+# Answers a question about an export or a cluster.
+answer_question() {
     find_groups "$@"
     find_target "$@"
     look_at_about
@@ -402,32 +408,42 @@ is_own_object() {
 list_rows() {
     [ "$once" = yes ] || runs=run_counted
     with_files ask "$@"
-    runs=run_shown
     [ "$once$answered" = no0 ] || return 0
     read -r repeated listed <"$scratch/counted"
     [ $((2 * repeated)) -le "$listed" ] || report "$repeated of the first $listed rows repeat for a \
 namespace what somebody may do in the whole cluster; --once leaves them out"
 }
 
+# Whether an answer is read before it is shown.
+is_kept() {
+    case $command$stale in
+        who-can?* | rules?*) ;;
+        *) has_words ;;
+    esac
+}
+
 # Answers, and then says so if the cluster may answer differently.
 answer() {
     reads=$needed
     find_stale
-    case $command$stale in
-        who-can?* | rules?*)
-            with_files ask "$@" >"$scratch/answer"
-            show <"$scratch/answer"
-            ;;
-        matrix*) list_rows "$@" ;;
-        *) with_files ask "$@" ;;
-    esac
+    if is_kept; then
+        with_files ask "$@" >"$scratch/answer"
+        ! has_words || [ "$answered" -gt 0 ] || find_words "$@"
+        show_answer
+    else
+        runs=run_shown
+        case $command in
+            matrix) list_rows "$@" ;;
+            *) with_files ask "$@" ;;
+        esac
+    fi
     [ -z "$stale" ] || [ "$answered" -gt 1 ] || with_files remark_on_stale "$@"
 }
 
 question_help() {
     rbacaudit "$command" --help || exit
     printf '\n%s\n%s\n' "With kubectl rbacaudit $command, the files of the export follow by themselves." \
-        'kubectl rbacaudit --help lists its options, such as --export DIR and --partial.'
+        'kubectl rbacaudit --help lists its options, such as --export DIR, --partial and -o FORMAT.'
     exit 0
 }
 

@@ -5,9 +5,10 @@
 # word is.
 take_diff() {
     case $1 in
-        --with | --without | --from | --to) option=$1 ;;
-        --with=* | --without=* | --from=* | --to=*) set_option "${1%%=*}" "${1#*=}" ;;
-        *) take_namespace "$1" || take_own "$1" ;;
+        --summary) summary=yes ;;
+        --with | --without | --from | --to | --fail-on) option=$1 ;;
+        --with=* | --without=* | --from=* | --to=* | --fail-on=*) set_option "${1%%=*}" "${1#*=}" ;;
+        *) take_namespace "$1" || take_own "$1" || take_shown "$1" ;;
     esac
 }
 
@@ -31,12 +32,23 @@ diff_command() {
         diff_usage
         exit 0
     fi
+    choose_format diff
     need_rbacaudit
     check_sides
     check_options
     read_sides
-    if [ "$alone" = yes ]; then compare_states; else compare_sides; fi
+    if [ "$summary$fail_on" = no ]; then
+        runs=run_shown
+        compare
+    else
+        compare >"$scratch/answer"
+        [ "$answered" -gt 1 ] || show_changes
+    fi
     exit "$answered"
+}
+
+compare() {
+    if [ "$alone" = yes ]; then compare_states; else compare_sides; fi
 }
 
 # Two exports, an export and the cluster as it is now, one of these and a change of it, or two states of
@@ -200,6 +212,9 @@ List what a change lets users do, and what it takes from them.
   --from PATH      the manifests before the change; with --export, what --without means
   --to PATH        the manifests after it; with --export, what --with means
   -n NS            the namespace of their roles and bindings that have none; without it, default
+  --summary        counts instead of lines: the permissions gained and lost for each who, where and binding, the
+                   powers among them, which are ways to take over somebody else, and a total
+  --fail-on WHAT   end with status 1 for changes (default), for gains alone, or for gained powers alone
 
 PATH is a file, a folder (.json, .yaml and .yml, folders within), a folder with a kustomization, or -
 for standard input. kubectl reads it, without a cluster (kubectl rbacaudit read --help). Standard error
@@ -208,7 +223,7 @@ says how many roles and bindings were read. Without --without, objects that the 
 A line begins with + for what is gained, or with - for what is lost; rbacaudit diff --help has its
 fields. All requests of all users are compared, whether an export names them or not.
 
---partial, --context, --kubeconfig and --request-timeout mean what kubectl rbacaudit --help says.
-Exit status: 0 nothing changes; 1 something does; 2 an error.
+The other options (--partial, -o, ..) mean what kubectl rbacaudit --help says.
+Exit status: 0 nothing changes, or nothing that --fail-on names; 1 something does; 2 an error.
 EOF
 }

@@ -34,7 +34,9 @@ ask_linted() {
     ask "$@" "$list.json" >"$scratch/answer"
     [ "$answered" -le 1 ] || return 0
     walk "$list.json" "$LIST_OBJECTS" >"$scratch/objects"
-    LC_ALL=C awk "$ADD_ORIGINS" step=1 "$list.from" step=2 "$scratch/objects" step=3 "$scratch/answer" | show
+    LC_ALL=C awk "$ADD_ORIGINS" step=1 "$list.from" step=2 "$scratch/objects" step=3 "$scratch/answer" \
+        >"$scratch/placed" && mv -f "$scratch/placed" "$scratch/answer" || refuse "can't write into $scratch"
+    show_answer
     ! LC_ALL=C grep -q '^L1' "$scratch/answer" ||
         report 'a role that L1 misses may be in the cluster: these are the manifests alone'
 }

@@ -103,31 +103,3 @@ run_counted() {
     [ "$copied" -eq 0 ] || [ "$ended_with" -ne 0 ] || ended_with=2
     return "$ended_with"
 }
-
-# Runs a command as `run` does, and gives its status. On a terminal, what it prints goes by way of a
-# pipe with a name: a pipe of the shell's would hide the status, and the process from signals. Only
-# the command may write into it, so that the escapes end with it, whatever ends it.
-run_shown() {
-    if [ ! -t 1 ]; then
-        run "$@"
-        return
-    fi
-    [ -p "$scratch/shown" ] || mkfifo "$scratch/shown" || refuse "can't write into $scratch"
-    # (opened to read and write first, which waits for nobody)
-    exec 5<>"$scratch/shown" 6<"$scratch/shown" 7>"$scratch/shown" 5>&-
-    LC_ALL=C awk "$ESCAPES" <&6 3<&- 6<&- 7>&- &
-    filter=$!
-    noted=$!
-    children="$children$filter "
-    exec 6<&-
-    "$@" <&3 >&7 3<&- 4<&- 7>&- &
-    child=$!
-    noted=$!
-    exec 7>&-
-    wait "$child"
-    ended_with=$?
-    child=
-    wait "$filter"
-    children=${children%"$filter "}
-    return "$ended_with"
-}

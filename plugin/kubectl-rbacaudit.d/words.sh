@@ -33,6 +33,7 @@ read_word() {
             --anywhere) anywhere=yes ;;
             --in-namespace) in_namespace=yes ;;
             --once) once=yes ;;
+            --why) asks_why=yes ;;
             --*) ;;
             -?*) read_letters "${1#-}" ;;
             *) place=yes ;;
@@ -151,6 +152,8 @@ set_option() {
         --title) refuse_second "$1" "$title" && title=$2 ;;
         --diff) refuse_second "$1" "$diff" && diff=$2 ;;
         --output) refuse_second "$1" "$output" && output=$2 ;;
+        -o | --color) set_shown "$1" "$2" ;;
+        --fail-on) set_fail_on "$2" ;;
     esac
     option=
 }
