@@ -1,0 +1,377 @@
+"""What `powers`, `paths` and `who-can --indirect` print of random small exports, against the definition: tests/escalation.py
+asks for each pair of nodes and each step whether the one allows what the step asks of the other.
+
+Exports are drawn mostly in the words of the table of steps, and in words that only nearly match: few rules, so that ways are
+long, with names that mean something else in another place. Each answer of the program has to be, line for line, the one of
+the definition. Then the laws are looked for in the program's answers alone: following a line's node before leads to the one
+asked about in as many lines; `paths` and `who-can --indirect` agree; and whoever has no line in `powers` comes to nobody.
+
+`paths.py SEED COUNT` tries other exports. `paths.py --reference COMMAND WORD.. [FILE]..` prints the lines of the definition,
+such as `paths.py --reference paths u:kim cluster.json`. `paths.py --rows` compares the definition with the worked rows of
+rows_paths.json. `paths.py --itself SEED COUNT` lets the definition answer in the program's place, which tests this test. The
+last line is `N passed, M failed`.
+"""
+
+import argparse
+import collections
+import json
+import os
+import random
+import subprocess
+import sys
+
+import escalation
+from common import PROGRAM, TOP, V1, export
+from escalation import STEPS, TABLE, Export, Request
+from meaning import account, groups_of, text_shown
+from matrix_pages import some
+
+# What is drawn from. Some names stand for a user, a group, an account, a namespace and a role.
+NAMESPACES = ['dev', 'prod', '*', '-', 'a/b', 'x:y']
+ACCOUNTS = ['ci', 'bot', '*', '-', 'a:b']
+USERS = ['alice', 'bob', 'ci', '*', '-', 'a\tb', 'é\\', 'system:anonymous', 'system:serviceaccount:dev:', 'system:serviceaccount:dev:ci:x']
+TEAMS = ['devs', 'alice', 'a,b', '*', '-', 'system:authenticated', 'system:unauthenticated', 'system:serviceaccounts',
+         'system:serviceaccounts:dev', 'system:serviceaccounts:*']
+ROLES = ['a', 'b', 'ci', '*', '-', 'x/y', 'é\\']
+# Words beside those of a row: most of them match nothing of the table, some all of it.
+VERBS = ['get', 'create', 'bind', 'delete', 'Bind', '']
+GROUPS = ['', 'apps', 'batch', 'rbac.authorization.k8s.io', 'extensions']
+RESOURCES = ['pods', 'jobs', 'users', 'roles', 'secrets/x', 'pods/log', '*/exec', '*/token', '*/proxy', '*/approval', 'serviceaccounts', 'nodes', '/', '*/*']
+
+
+# ---- drawing an export
+
+class World:
+    """The names of an export."""
+
+    def __init__(self, draw):
+        self.draw = draw
+        self.namespaces = draw.sample(NAMESPACES, 2) + ['default'] * (draw.random() < 0.2)
+        self.accounts = some(draw, ACCOUNTS, 2)
+        self.users = some(draw, USERS) + [account(home, name) for home in self.namespaces for name in self.accounts if draw.random() < 0.3]
+        self.teams = some(draw, TEAMS)
+        self.roles = draw.sample(ROLES, 3)
+        self.density = draw.choice([0, 0, 0.1])
+
+    def rule(self, in_cluster):
+        """The words of a row, less some and with others beside them."""
+        draw = self.draw
+        if in_cluster and draw.random() < 0.05:
+            return {'verbs': ['*'], 'nonResourceURLs': ['*']}
+        step = self.step()
+        row = draw.choice([row for row in TABLE if row.step == step])
+        words = [word.partition('.') for word in some(draw, row.types)]
+        drawn = {'verbs': self.words(some(draw, row.verbs), VERBS), 'apiGroups': self.words([group for _, _, group in words], GROUPS),
+                 'resources': self.words([resource for resource, _, _ in words], RESOURCES)}
+        if draw.random() < (0.6 if row.of != '-' or row.step == 'bind' else 0.1):
+            named = {'user': self.users, 'group': self.teams, 'ClusterRole': self.roles, 'Role': self.roles}.get(row.over, self.accounts)
+            drawn['resourceNames'] = some(draw, named) + some(draw, self.users + self.teams + [''])[1:]
+        return drawn
+
+    def step(self):
+        """One by which more ways go on counts for more."""
+        return self.draw.choice(STEPS + ['impersonate', 'token', 'run', 'bind', 'bind', 'exec'])
+
+    def words(self, words, others):
+        draw = self.draw
+        if draw.random() < self.density:
+            return ['*']
+        return [*dict.fromkeys(words)] + [draw.choice(others)] * (draw.random() < 0.15)
+
+    def role(self, kind, name, home=None):
+        draw = self.draw
+        made = {'apiVersion': V1, 'kind': kind, 'metadata': {'name': name}, 'rules': [self.rule(not home) for _ in range(draw.choice([0, 1, 1, 2, 3]))]}
+        if home:
+            made['metadata']['namespace'] = home
+            return made
+        made['metadata']['labels'] = {'to': draw.choice('xyz')}
+        if draw.random() < 0.2:
+            made['aggregationRule'] = {'clusterRoleSelectors': [{'matchLabels': {'to': to}} for to in some(draw, 'xyz', 2)]}
+        return made
+
+    def subject(self):
+        draw = self.draw
+        kind = draw.choice(['User', 'ServiceAccount', 'ServiceAccount', 'Group'])
+        if kind != 'ServiceAccount':
+            return {'kind': kind, 'name': draw.choice(self.users if kind == 'User' else self.teams)}
+        named = {'kind': kind, 'name': draw.choice(self.accounts)}
+        return {**named, 'namespace': draw.choice([*self.namespaces, ''])} if draw.random() < 0.8 else named
+
+    def binding(self):
+        draw = self.draw
+        kind = draw.choice(['ClusterRoleBinding', 'RoleBinding', 'RoleBinding'])
+        of_role = kind == 'RoleBinding' and draw.random() < 0.4
+        metadata = {'name': draw.choice(ROLES + ['b', 'd'])}
+        if kind == 'RoleBinding':
+            metadata['namespace'] = draw.choice(self.namespaces)
+        name = draw.choice(self.roles) if draw.random() < 0.9 else 'gone'
+        return {'apiVersion': V1, 'kind': kind, 'metadata': metadata, 'roleRef': {'kind': 'Role' if of_role else 'ClusterRole', 'name': name},
+                'subjects': [self.subject() for _ in range(draw.choice([0, 1, 1, 1, 2, 3]))]}
+
+    def account(self):
+        metadata = {'name': self.draw.choice(self.accounts), 'namespace': self.draw.choice([*self.namespaces, ''])}
+        return {'apiVersion': 'v1', 'kind': 'ServiceAccount', 'metadata': metadata}
+
+    def items(self):
+        """Some objects are there twice, and the later one replaces the other."""
+        draw = self.draw
+        items = [self.role('ClusterRole', name) for name in self.roles if draw.random() < 0.9]
+        items += [self.role('Role', name, home) for name in self.roles for home in self.namespaces if draw.random() < 0.7]
+        items += [self.binding() for _ in range(draw.randint(4, 10))] + [self.account() for _ in range(draw.randint(0, 4))]
+        draw.shuffle(items)
+        return items
+
+
+# ---- what is asked
+
+def who_asked(draw, world, given):
+    """The key of a principal, or mostly of none, and groups."""
+    if draw.random() < 0.85 and given.principals:
+        key = escalation.principal_key(draw.choice([node for node in given.principals if given.holdings(node)] or given.principals))
+    else:
+        key = draw.choice(['u:stranger', 'g:strangers', 'u:' + account(world.namespaces[0], 'new'), 'u:' + draw.choice(USERS)])
+    groups = some(draw, world.teams + ['system:unauthenticated']) if key[0] == 'u' and draw.random() < 0.25 else []
+    if all(',' not in group for group in groups) and draw.random() < 0.5:
+        return key, ['--groups=' + ','.join(groups)] if groups else []
+    return key, ['--group=' + group for group in groups]
+
+
+def target_asked(draw, given):
+    """A verb and a target as words, mostly those of a rule or of the table, and where."""
+    rules = [rule for _, _, rule, _ in given.grants if 'resources' in rule]
+    row = draw.choice(TABLE)
+    words = draw.choice(row.types).partition('.')
+    verb, group, resource, name = draw.choice(row.verbs), words[2], words[0], ''
+    if rules and draw.random() < 0.6:
+        rule = draw.choice(rules)
+        verb, group, resource = (draw.choice(rule[part]) for part in ('verbs', 'apiGroups', 'resources'))
+        name = draw.choice(rule.get('resourceNames') or [''])
+    if draw.random() < 0.05 or resource.startswith('/'):
+        return ['-A'], [verb or 'get', draw.choice(['/', '/healthz'])]
+    resource, _, below = resource.replace('*', 'jobs').partition('/')
+    where = draw.choice([['-A'], [], *(['--namespace=' + home] for home in given.homes)])
+    type_word = '%s.%s' % (resource, group.replace('*', 'apps')) if group else resource
+    return where + ['--subresource=' + below] * bool(below), [verb or 'get', type_word + ('/' + name if name else '')]
+
+
+def questions(draw, world, given):
+    """The words of each question about an export; the steps are the same in most of them, so that the laws can be looked for."""
+    steps = ['--steps=' + ','.join(draw.sample(STEPS, draw.randint(1, 8)))] if draw.random() < 0.25 else []
+    yield ['powers']
+    for _ in range(5):
+        key, groups = who_asked(draw, world, given)
+        yield ['paths', *groups, *steps, '--', key]
+    for _ in range(3):
+        options, words = target_asked(draw, given)
+        yield ['who-can', '--indirect', *options, *steps, '--', *words]
+
+
+# ---- the answers of the definition
+
+def parser():
+    """The words of the three commands, as docs/BEHAVIOUR.md has those that aren't new."""
+    whole = argparse.ArgumentParser(prog='paths.py --reference', allow_abbrev=False)
+    commands = whole.add_subparsers(dest='command', required=True)
+    powers, paths, who_can = (commands.add_parser(name, allow_abbrev=False) for name in ('powers', 'paths', 'who-can'))
+    paths.add_argument('--groups', default='')
+    paths.add_argument('--group', action='append', default=[])
+    who_can.add_argument('--indirect', action='store_true', help='always so here')
+    who_can.add_argument('-n', '--namespace', default='')
+    who_can.add_argument('-A', '--all-namespaces', action='store_true')
+    who_can.add_argument('--in-namespace', action='store_true', help='changes nothing without API resource lists')
+    who_can.add_argument('--subresource', default='')
+    for command, words in ((powers, []), (paths, ['who']), (who_can, ['verb', 'target'])):
+        if words:
+            command.add_argument('--steps', type=lambda text: text.split(','), default=STEPS)
+        for word in words:
+            command.add_argument(word)
+        command.add_argument('files', nargs='*')
+    return whole
+
+
+PARSER = parser()
+
+
+def request_of(asked):
+    """What `who-can` asks, by words that are taken as written."""
+    if asked.target.startswith('/'):
+        return Request('', asked.verb, ('url', asked.target))
+    type_word, _, name = asked.target.partition('/')
+    _, group, resource, _ = escalation.target(type_word, '')
+    whole = '/'.join([resource, asked.subresource]) if asked.subresource else resource
+    return Request('' if asked.all_namespaces else asked.namespace or 'default', asked.verb, ('resource', group, whole, name))
+
+
+def answer(asked, given):
+    """The lines of the definition."""
+    if asked.command == 'powers':
+        return [*escalation.powers(given)]
+    if asked.command == 'paths':
+        groups = [group for group in asked.groups.split(',') + asked.group if group]
+        return [*escalation.paths(given, asked.who, groups, asked.steps)]
+    return [*escalation.indirect(given, request_of(asked), asked.steps)]
+
+
+def whole(item):
+    """An object with the fields that tests/meaning.py wants to be there."""
+    if item['kind'].endswith('Binding'):
+        return {**item, 'subjects': item.get('subjects') or []}
+    return {**item, 'rules': item.get('rules') or [], 'metadata': {'labels': {}, **item['metadata']}}
+
+
+def items_of(path):
+    """The objects of a file that count here; one that the definition can't read is refused."""
+    with open(path, encoding='utf-8') as file:
+        document = json.load(file)
+    kind = document['kind'][:-len('List')]
+    for item in document['items'] if 'items' in document else [document]:
+        item = {'kind': kind, **item}
+        if item['kind'] == 'APIResourceList' or 'matchExpressions' in json.dumps(item.get('aggregationRule')):
+            sys.exit('%s: the definition knows neither API resource lists nor matchExpressions' % path)
+        if item['kind'] in ('Role', 'ClusterRole', 'RoleBinding', 'ClusterRoleBinding', 'ServiceAccount'):
+            yield whole(item)
+
+
+def rows():
+    """Compares the definition with the rows that were worked by hand."""
+    with open(os.path.join(TOP, 'tests', 'rows_paths.json'), encoding='utf-8') as file:
+        table = json.load(file)['lines']
+    results = []
+    for row in table:
+        given = Export([*map(whole, row['items'])])
+        for words, _, wanted in row['asks']:
+            got = answer(PARSER.parse_args(words.split(' ')), given)
+            results.append(got == wanted)
+            if got != wanted:
+                print('FAIL %s %s: wanted %r, got %r' % (row['rule'], words, wanted, got))
+    print('%d passed, %d failed' % (results.count(True), results.count(False)))
+    return 0 if all(results) else 1
+
+
+def reference(*words):
+    """Prints the lines of the definition over files."""
+    asked = PARSER.parse_args(words)
+    for line in answer(asked, Export([item for path in asked.files for item in items_of(path)])):
+        print(line)
+    return 0
+
+
+# ---- the laws
+
+Line = collections.namedtuple('Line', 'number node other step')
+
+
+def read(text):
+    """A line of `paths` or `who-can --indirect`."""
+    number, who, where, other, other_where, step, *why = text.split('\t')
+    if len(why) != 5 or step not in STEPS + ['-']:
+        raise ValueError('no line: %r' % text)
+    return Line(int(number), (who, where), (other, other_where), step)
+
+
+def follow(lines, ends):
+    """Whether following each line's other node leads to one of the ends in as many lines."""
+    numbers = {**dict.fromkeys(ends, 0), **{line.node: line.number for line in lines}}
+    return all(numbers.get(line.other) == line.number - 1 for line in lines if line.number)
+
+
+def broken_law(answers, given):
+    """What no answer to these questions may be, whatever the export is; or nothing."""
+    powers = {(step, text_shown(key)) for asked, lines in answers if asked.command == 'powers'
+              for step, key, *_ in (line.split('\t') for line in lines)}
+    ways = [(asked, [*map(read, lines)]) for asked, lines in answers if asked.command == 'paths']
+    held = [(asked, [*map(read, lines)]) for asked, lines in answers if asked.command == 'who-can']
+    for asked, lines in ways:
+        who = escalation.node_of(asked.who)
+        if not follow(lines, [escalation.shown(who)]):
+            return 'paths %s: following the node before does not lead there' % asked.who
+        groups = {asked.who[2:]} if who.kind == 'g' else groups_of(who.name, [*asked.groups.split(','), *asked.group])
+        keys = {'g:' + group for group in groups} | {asked.who}
+        if lines and not any((step, key) in powers for step in asked.steps for key in keys):
+            return 'paths %s: has nodes, but no powers' % asked.who
+    for asked, lines in held:
+        if not follow(lines, []):
+            return 'who-can %s %s: following the node after does not lead there' % (asked.verb, asked.target)
+        for other, nodes in ways:
+            is_plain = not other.groups and not other.group and escalation.node_of(other.who) in given.principals
+            if is_plain and other.steps == asked.steps and least(other, nodes, lines) != number_of(other, lines):
+                return 'paths %s and who-can %s %s do not agree' % (other.who, asked.verb, asked.target)
+    return None
+
+
+def number_of(asked, lines):
+    """The number of the one asked about among those who can, or nothing."""
+    shown = escalation.shown(escalation.node_of(asked.who))
+    return next((line.number for line in lines if line.node == shown), None)
+
+
+def least(asked, nodes, lines):
+    """The least number of steps to a node that can by itself, or nothing."""
+    can = {line.node for line in lines if not line.number}
+    numbers = [line.number for line in nodes if line.node in can]
+    return 0 if number_of(asked, lines) == 0 else min(numbers, default=None)
+
+
+# ---- trying
+
+def told(words, given):
+    """The lines of the program, or what else it says."""
+    ended = subprocess.run([PROGRAM, *words], input=given, stdout=subprocess.PIPE, stderr=subprocess.PIPE, timeout=60)
+    if (ended.returncode, ended.stderr) != (0, b''):
+        raise ValueError('%s: status %d, %r' % (words, ended.returncode, ended.stderr))
+    return ended.stdout.decode().splitlines()
+
+
+def tried(seed, number, counts, itself):
+    """What is wrong with the answers about an export, or nothing."""
+    draw = random.Random('%s %d' % (seed, number))
+    world = World(draw)
+    items = world.items()
+    text, given, answers = export(*items), Export([*map(whole, items)]), []
+    for words in questions(draw, world, given):
+        asked = PARSER.parse_args(words)
+        wanted = answer(asked, given)
+        got = wanted if itself else told(words, text)
+        if got != wanted:
+            return '%s: wanted %r, got %r; %s' % (words, wanted, got, text.decode())
+        answers.append((asked, got))
+        count(counts, asked, got)
+    wrong = broken_law(answers, given)
+    return wrong and '%s; %s' % (wrong, text.decode())
+
+
+def count(counts, asked, lines):
+    """What the answers have, to see that all of it is drawn."""
+    counts[asked.command] += len(lines)
+    counts[asked.command, 'none'] += not lines
+    for text in lines if asked.command != 'powers' else ():
+        line = read(text)
+        counts[asked.command, 'of %d' % line.number] += 1
+        counts[asked.command, line.step] += 1
+
+
+def main(seed='1', number='300', itself=False):
+    counts, passed, failed = collections.Counter(), 0, 0
+    for at in range(int(number)):
+        try:
+            wrong = tried(seed, at, counts, itself)
+        except ValueError as fault:
+            wrong = str(fault)
+        passed, failed = passed + (not wrong), failed + bool(wrong)
+        if wrong:
+            print('FAIL export %d of seed %s: %s' % (at, seed, wrong))
+    print('%s exports: %s' % (number, ', '.join('%s %d' % (' '.join(name) if isinstance(name, tuple) else name, many) for name, many in sorted(
+        counts.items(), key=str))))
+    print('%d passed, %d failed' % (passed, failed))
+    return 1 if failed else 0
+
+
+if __name__ == '__main__':
+    first, rest = (sys.argv[1:2] or [''])[0], sys.argv[2:]
+    if first == '--reference':
+        sys.exit(reference(*rest))
+    if first == '--rows':
+        sys.exit(rows())
+    if first == '--itself':
+        sys.exit(main(*rest, itself=True))
+    sys.exit(main(*sys.argv[1:3]))
