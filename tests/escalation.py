@@ -159,7 +159,7 @@ class Export:
         self.principals = [node_of(key) for key in sorted(keys)]
         self.homes = sorted({home for kind, home, _ in self.bindings if kind == 'RoleBinding'})
         self.nodes = self.principals + [*self.nodes_in_scopes()]
-        self.known_holdings, self.known = {}, {}
+        self.known_holdings, self.known, self.ways = {}, {}, {}
 
     def bound(self):
         for kind, home, name in self.bindings:
@@ -262,32 +262,46 @@ class Ways:
             self.known[before, after] = next(((step, why) for step, why in found if why), None)
         return self.known[before, after]
 
-    def levels(self, first, is_after):
-        """Each node that a path leads to, with the least number of steps: those that no shorter path leads to, level by level."""
+    def levels(self, first, nodes, is_after):
+        """The nodes to which a list of steps leads from the first ones, each with the least number of steps: in each level are
+        those that a node of the level before it reaches, and no shorter list."""
         numbers, level = dict.fromkeys(first, 0), [*first]
         for number in itertools.count(1):
             if not level:
                 return numbers
-            level = [node for node in self.nodes if node not in numbers and any(is_after(other, node) for other in level)]
+            level = [node for node in nodes if node not in numbers and any(is_after(other, node) for other in level)]
             numbers.update(dict.fromkeys(level, number))
 
     def reached(self, first):
-        return self.levels(first, lambda before, node: self.step(before, node))
+        return self.levels(first, self.nodes, self.step)
 
-    def leading(self, last):
-        return self.levels(last, lambda after, node: self.step(node, after))
+    def leading(self, last, nodes):
+        return self.levels(last, nodes, lambda after, node: self.step(node, after))
+
+
+def ways_of(given, steps, who=None):
+    """These are kept, since most questions about an export share them. A principal without groups is there anyway."""
+    asked = tuple(steps), None if who in given.principals else who
+    if asked not in given.ways:
+        given.ways[asked] = Ways(given, *asked)
+    return given.ways[asked]
+
+
+def told(numbers):
+    """The nodes in the order of lines."""
+    return sorted(numbers, key=lambda node: (numbers[node], printed_order(node)))
 
 
 def line(*fields):
     return '\t'.join(map(str, fields))
 
 
-def paths(given, key, groups=(), steps=STEPS):
+def paths(given, asked, groups=(), steps=STEPS):
     """The lines of `paths`."""
-    who = node_of(key, groups)
-    ways = Ways(given, steps, who)
+    who = node_of(asked, groups)
+    ways = ways_of(given, steps, who)
     numbers = ways.reached([who])
-    for node in sorted(numbers, key=lambda node: (numbers[node], printed_order(node))):
+    for node in told(numbers):
         if node != who:
             before = min((it for it in numbers if numbers[it] == numbers[node] - 1 and ways.step(it, node)), key=printed_order)
             step, why = ways.step(before, node)
@@ -296,10 +310,10 @@ def paths(given, key, groups=(), steps=STEPS):
 
 def indirect(given, request, steps=STEPS):
     """The lines of `who-can --indirect`."""
-    ways = Ways(given, steps)
-    ways.nodes = [*ways.reached(given.principals)]
-    numbers = ways.leading([node for node in ways.nodes if given.why(node, [request])])
-    for node in sorted(numbers, key=lambda node: (numbers[node], printed_order(node))):
+    ways = ways_of(given, steps)
+    nodes = [*ways.reached(given.principals)]
+    numbers = ways.leading([node for node in nodes if given.why(node, [request])], nodes)
+    for node in told(numbers):
         if not numbers[node]:
             yield line(0, *shown(node), '-', '-', '-', *given.why(node, [request]))
             continue

@@ -46,12 +46,13 @@ class World:
 
     def __init__(self, draw):
         self.draw = draw
-        self.namespaces = draw.sample(NAMESPACES, 2) + ['default'] * (draw.random() < 0.2)
+        self.namespaces = draw.sample(NAMESPACES, 2) + ['default'] * (draw.random() < 0.3)
+        self.homes = some(draw, self.namespaces)
         self.accounts = some(draw, ACCOUNTS, 2)
         self.users = some(draw, USERS) + [account(home, name) for home in self.namespaces for name in self.accounts if draw.random() < 0.3]
         self.teams = some(draw, TEAMS)
-        self.roles = draw.sample(ROLES, 3)
-        self.density = draw.choice([0, 0, 0.1])
+        self.roles = draw.sample(ROLES, 4)
+        self.density = draw.choice([0, 0, 0.05])
 
     def rule(self, in_cluster):
         """The words of a row, less some and with others beside them."""
@@ -63,14 +64,14 @@ class World:
         words = [word.partition('.') for word in some(draw, row.types)]
         drawn = {'verbs': self.words(some(draw, row.verbs), VERBS), 'apiGroups': self.words([group for _, _, group in words], GROUPS),
                  'resources': self.words([resource for resource, _, _ in words], RESOURCES)}
-        if draw.random() < (0.6 if row.of != '-' or row.step == 'bind' else 0.1):
+        if draw.random() < (0.6 if row.of != '-' or row.step == 'bind' else 0.2):
             named = {'user': self.users, 'group': self.teams, 'ClusterRole': self.roles, 'Role': self.roles}.get(row.over, self.accounts)
             drawn['resourceNames'] = some(draw, named) + some(draw, self.users + self.teams + [''])[1:]
         return drawn
 
     def step(self):
-        """One by which more ways go on counts for more."""
-        return self.draw.choice(STEPS + ['impersonate', 'token', 'run', 'bind', 'bind', 'exec'])
+        """Those of several rows count for more."""
+        return self.draw.choice(STEPS * 2 + ['impersonate', 'run', 'exec', 'bind', 'bind', 'escalate', 'webhooks'])
 
     def words(self, words, others):
         draw = self.draw
@@ -80,7 +81,7 @@ class World:
 
     def role(self, kind, name, home=None):
         draw = self.draw
-        made = {'apiVersion': V1, 'kind': kind, 'metadata': {'name': name}, 'rules': [self.rule(not home) for _ in range(draw.choice([0, 1, 1, 2, 3]))]}
+        made = {'apiVersion': V1, 'kind': kind, 'metadata': {'name': name}, 'rules': [self.rule(not home) for _ in range(draw.choice([0, 1, 2, 3, 3]))]}
         if home:
             made['metadata']['namespace'] = home
             return made
@@ -99,11 +100,11 @@ class World:
 
     def binding(self):
         draw = self.draw
-        kind = draw.choice(['ClusterRoleBinding', 'RoleBinding', 'RoleBinding'])
+        kind = draw.choice(['ClusterRoleBinding', 'RoleBinding'])
         of_role = kind == 'RoleBinding' and draw.random() < 0.4
-        metadata = {'name': draw.choice(ROLES + ['b', 'd'])}
+        metadata = {'name': draw.choice(ROLES + ['b', 'd', 'e', 'f', 'g'])}
         if kind == 'RoleBinding':
-            metadata['namespace'] = draw.choice(self.namespaces)
+            metadata['namespace'] = draw.choice(self.homes)
         name = draw.choice(self.roles) if draw.random() < 0.9 else 'gone'
         return {'apiVersion': V1, 'kind': kind, 'metadata': metadata, 'roleRef': {'kind': 'Role' if of_role else 'ClusterRole', 'name': name},
                 'subjects': [self.subject() for _ in range(draw.choice([0, 1, 1, 1, 2, 3]))]}
@@ -112,12 +113,46 @@ class World:
         metadata = {'name': self.draw.choice(self.accounts), 'namespace': self.draw.choice([*self.namespaces, ''])}
         return {'apiVersion': 'v1', 'kind': 'ServiceAccount', 'metadata': metadata}
 
+    def chain(self):
+        """Each of some principals has a role by which it takes over the next one, or by which it binds such a role."""
+        draw = self.draw
+        others = [('user', name, None) for name in self.users if not name.startswith('system:')] + [('group', name, None) for name in self.teams]
+        ends = some(draw, others, 2) + [('account', name, home) for name in self.accounts for home in self.namespaces]
+        draw.shuffle(ends)
+        for number, (one, (over, name, home)) in enumerate(zip(ends, ends[1:])):
+            role, row = 'chain%d' % number, draw.choice([row for row in TABLE if row.over == over])
+            yield self.narrow(role, row, name)
+            if draw.random() < 0.3:
+                [binds] = [row for row in TABLE if row.over == 'ClusterRole']
+                yield self.narrow(role + 'b', binds, role)
+                role += 'b'
+            yield self.bound(role, None if row.place == 'cluster' else home, one)
+
+    def narrow(self, role, row, name):
+        """A role that allows one request of a row."""
+        resource, _, group = self.draw.choice(row.types).partition('.')
+        rule = {'verbs': [self.draw.choice(row.verbs)], 'apiGroups': [group], 'resources': [resource]}
+        return {'apiVersion': V1, 'kind': 'ClusterRole', 'metadata': {'name': role},
+                'rules': [{**rule, 'resourceNames': [name]} if row.of == 'NAME' else rule]}
+
+    @staticmethod
+    def bound(role, home, one):
+        """Binds a role for one, in a namespace or in none."""
+        over, name, of = one
+        subject = {'kind': {'user': 'User', 'group': 'Group', 'account': 'ServiceAccount'}[over], 'name': name}
+        return {'apiVersion': V1, 'kind': 'RoleBinding' if home else 'ClusterRoleBinding', 'roleRef': {'kind': 'ClusterRole', 'name': role},
+                'metadata': {'name': role, 'namespace': home} if home else {'name': role},
+                'subjects': [{**subject, 'namespace': of} if of else subject]}
+
     def items(self):
         """Some objects are there twice, and the later one replaces the other."""
         draw = self.draw
         items = [self.role('ClusterRole', name) for name in self.roles if draw.random() < 0.9]
         items += [self.role('Role', name, home) for name in self.roles for home in self.namespaces if draw.random() < 0.7]
-        items += [self.binding() for _ in range(draw.randint(4, 10))] + [self.account() for _ in range(draw.randint(0, 4))]
+        is_chain = draw.random() < 0.4
+        items += self.chain() if is_chain else ()
+        items += [self.binding() for _ in range(draw.randint(0, 3) if is_chain else draw.randint(5, 12))]
+        items += [self.account() for _ in range(draw.randint(0, 4))]
         draw.shuffle(items)
         return items
 
@@ -137,19 +172,21 @@ def who_asked(draw, world, given):
 
 
 def target_asked(draw, given):
-    """A verb and a target as words, mostly those of a rule or of the table, and where."""
-    rules = [rule for _, _, rule, _ in given.grants if 'resources' in rule]
-    row = draw.choice(TABLE)
-    words = draw.choice(row.types).partition('.')
-    verb, group, resource, name = draw.choice(row.verbs), words[2], words[0], ''
-    if rules and draw.random() < 0.6:
-        rule = draw.choice(rules)
+    """The words of a question: where, and a verb and a target; mostly what a grant allows, or a row asks for."""
+    row, home = draw.choice(TABLE), draw.choice([*given.homes, None])
+    resource, _, group = draw.choice(row.types).partition('.')
+    verb, name = draw.choice(row.verbs), ''
+    grants = [(home, rule) for home, _, rule, _ in given.grants if 'resources' in rule]
+    if grants and draw.random() < 0.8:
+        home, rule = draw.choice(grants)
         verb, group, resource = (draw.choice(rule[part]) for part in ('verbs', 'apiGroups', 'resources'))
         name = draw.choice(rule.get('resourceNames') or [''])
     if draw.random() < 0.05 or resource.startswith('/'):
         return ['-A'], [verb or 'get', draw.choice(['/', '/healthz'])]
+    if draw.random() < 0.3 or not home:
+        home = draw.choice([*given.homes, '', None])
+    where = ['-A'] if home is None else ['--namespace=' + home] if home else []
     resource, _, below = resource.replace('*', 'jobs').partition('/')
-    where = draw.choice([['-A'], [], *(['--namespace=' + home] for home in given.homes)])
     type_word = '%s.%s' % (resource, group.replace('*', 'apps')) if group else resource
     return where + ['--subresource=' + below] * bool(below), [verb or 'get', type_word + ('/' + name if name else '')]
 
@@ -158,7 +195,7 @@ def questions(draw, world, given):
     """The words of each question about an export; the steps are the same in most of them, so that the laws can be looked for."""
     steps = ['--steps=' + ','.join(draw.sample(STEPS, draw.randint(1, 8)))] if draw.random() < 0.25 else []
     yield ['powers']
-    for _ in range(5):
+    for _ in range(7):
         key, groups = who_asked(draw, world, given)
         yield ['paths', *groups, *steps, '--', key]
     for _ in range(3):
@@ -342,12 +379,21 @@ def tried(seed, number, counts, itself):
 
 def count(counts, asked, lines):
     """What the answers have, to see that all of it is drawn."""
-    counts[asked.command] += len(lines)
-    counts[asked.command, 'none'] += not lines
-    for text in lines if asked.command != 'powers' else ():
-        line = read(text)
-        counts[asked.command, 'of %d' % line.number] += 1
-        counts[asked.command, line.step] += 1
+    counts[asked.command] += 1
+    counts[asked.command + ' without a line'] += not lines
+    for text in lines:
+        step = text.split('\t')[0] if asked.command == 'powers' else read(text).step
+        counts['%s by %s' % (asked.command, step)] += 1
+        if asked.command != 'powers':
+            counts['%s of %d steps' % (asked.command, min(read(text).number, 4))] += 1
+
+
+def too_few(counts, exports):
+    """What is hardly drawn: each step in each command, each number of steps, and answers with and without a line."""
+    wanted = ['%s by %s' % (command, step) for command in ('powers', 'paths', 'who-can') for step in STEPS]
+    wanted += ['%s of %d steps' % (command, number) for command in ('paths', 'who-can') for number in range(command == 'paths', 5)]
+    wanted += [command + ' without a line' for command in ('powers', 'paths', 'who-can')]
+    return [name for name in wanted if counts[name] < max(exports // 50, 1)]
 
 
 def main(seed='1', number='300', itself=False):
@@ -360,8 +406,10 @@ def main(seed='1', number='300', itself=False):
         passed, failed = passed + (not wrong), failed + bool(wrong)
         if wrong:
             print('FAIL export %d of seed %s: %s' % (at, seed, wrong))
-    print('%s exports: %s' % (number, ', '.join('%s %d' % (' '.join(name) if isinstance(name, tuple) else name, many) for name, many in sorted(
-        counts.items(), key=str))))
+    print('%s exports: %s' % (number, ', '.join('%s %d' % pair for pair in sorted(counts.items()))))
+    if too_few(counts, int(number)):
+        print('FAIL too few lines or answers: %s' % ', '.join(too_few(counts, int(number))))
+        failed += 1
     print('%d passed, %d failed' % (passed, failed))
     return 1 if failed else 0
 
