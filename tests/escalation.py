@@ -287,7 +287,7 @@ def ways_of(given, steps, who=None):
     return given.ways[asked]
 
 
-def told(numbers):
+def in_order(numbers):
     """The nodes in the order of lines."""
     return sorted(numbers, key=lambda node: (numbers[node], printed_order(node)))
 
@@ -301,7 +301,7 @@ def paths(given, asked, groups=(), steps=STEPS):
     who = node_of(asked, groups)
     ways = ways_of(given, steps, who)
     numbers = ways.reached([who])
-    for node in told(numbers):
+    for node in in_order(numbers):
         if node != who:
             before = min((it for it in numbers if numbers[it] == numbers[node] - 1 and ways.step(it, node)), key=printed_order)
             step, why = ways.step(before, node)
@@ -313,7 +313,7 @@ def indirect(given, request, steps=STEPS):
     ways = ways_of(given, steps)
     nodes = [*ways.reached(given.principals)]
     numbers = ways.leading([node for node in nodes if given.why(node, [request])], nodes)
-    for node in told(numbers):
+    for node in in_order(numbers):
         if not numbers[node]:
             yield line(0, *shown(node), '-', '-', '-', *given.why(node, [request]))
             continue

@@ -14,6 +14,7 @@ last line is `N passed, M failed`.
 
 import argparse
 import collections
+import itertools
 import json
 import os
 import random
@@ -36,7 +37,8 @@ ROLES = ['a', 'b', 'ci', '*', '-', 'x/y', 'é\\']
 # Words beside those of a row: most of them match nothing of the table, some all of it.
 VERBS = ['get', 'create', 'bind', 'delete', 'Bind', '']
 GROUPS = ['', 'apps', 'batch', 'rbac.authorization.k8s.io', 'extensions']
-RESOURCES = ['pods', 'jobs', 'users', 'roles', 'secrets/x', 'pods/log', '*/exec', '*/token', '*/proxy', '*/approval', 'serviceaccounts', 'nodes', '/', '*/*']
+RESOURCES = ['pods', 'jobs', 'users', 'roles', 'serviceaccounts', 'nodes', 'secrets/x', 'pods/log', '*/exec', '*/token', '*/proxy', '*/approval',
+             '*/*', '/']
 
 
 # ---- drawing an export
@@ -54,12 +56,11 @@ class World:
         self.roles = draw.sample(ROLES, 4)
         self.density = draw.choice([0, 0, 0.05])
 
-    def rule(self, in_cluster):
-        """The words of a row, less some and with others beside them."""
+    def rule(self, in_cluster, step):
+        """The words of a row of a step, less some and with others beside them."""
         draw = self.draw
         if in_cluster and draw.random() < 0.05:
             return {'verbs': ['*'], 'nonResourceURLs': ['*']}
-        step = self.step()
         row = draw.choice([row for row in TABLE if row.step == step])
         words = [word.partition('.') for word in some(draw, row.types)]
         drawn = {'verbs': self.words(some(draw, row.verbs), VERBS), 'apiGroups': self.words([group for _, _, group in words], GROUPS),
@@ -81,7 +82,8 @@ class World:
 
     def role(self, kind, name, home=None):
         draw = self.draw
-        made = {'apiVersion': V1, 'kind': kind, 'metadata': {'name': name}, 'rules': [self.rule(not home) for _ in range(draw.choice([0, 1, 2, 3, 3]))]}
+        steps = [self.step()] * 3 if draw.random() < 0.2 else [self.step() for _ in range(draw.choice([0, 1, 2, 3, 3]))]
+        made = {'apiVersion': V1, 'kind': kind, 'metadata': {'name': name}, 'rules': [self.rule(not home, step) for step in steps]}
         if home:
             made['metadata']['namespace'] = home
             return made
@@ -105,7 +107,11 @@ class World:
         metadata = {'name': draw.choice(ROLES + ['b', 'd', 'e', 'f', 'g'])}
         if kind == 'RoleBinding':
             metadata['namespace'] = draw.choice(self.homes)
-        name = draw.choice(self.roles) if draw.random() < 0.9 else 'gone'
+        name = draw.choice(self.roles)
+        if draw.random() < 0.15:
+            # Its namespace counts all the same, unless it is a ClusterRoleBinding, which has none.
+            name = 'gone'
+            metadata['namespace'] = draw.choice(self.namespaces)
         return {'apiVersion': V1, 'kind': kind, 'metadata': metadata, 'roleRef': {'kind': 'Role' if of_role else 'ClusterRole', 'name': name},
                 'subjects': [self.subject() for _ in range(draw.choice([0, 1, 1, 1, 2, 3]))]}
 
@@ -193,7 +199,8 @@ def target_asked(draw, given):
 
 def questions(draw, world, given):
     """The words of each question about an export; the steps are the same in most of them, so that the laws can be looked for."""
-    steps = ['--steps=' + ','.join(draw.sample(STEPS, draw.randint(1, 8)))] if draw.random() < 0.25 else []
+    most = draw.choice([1, 4, 8, 9]) if draw.random() < 0.3 else None
+    steps = ['--steps=' + ','.join(draw.sample(STEPS, most))] if most else []
     yield ['powers']
     for _ in range(7):
         key, groups = who_asked(draw, world, given)
@@ -239,13 +246,16 @@ def request_of(asked):
     return Request('' if asked.all_namespaces else asked.namespace or 'default', asked.verb, ('resource', group, whole, name))
 
 
+def given_groups(asked):
+    return [group for group in asked.groups.split(',') + asked.group if group]
+
+
 def answer(asked, given):
     """The lines of the definition."""
     if asked.command == 'powers':
         return [*escalation.powers(given)]
     if asked.command == 'paths':
-        groups = [group for group in asked.groups.split(',') + asked.group if group]
-        return [*escalation.paths(given, asked.who, groups, asked.steps)]
+        return [*escalation.paths(given, asked.who, given_groups(asked), asked.steps)]
     return [*escalation.indirect(given, request_of(asked), asked.steps)]
 
 
@@ -285,7 +295,7 @@ def rows():
     return 0 if all(results) else 1
 
 
-def reference(*words):
+def reference(words):
     """Prints the lines of the definition over files."""
     asked = PARSER.parse_args(words)
     for line in answer(asked, Export([item for path in asked.files for item in items_of(path)])):
@@ -314,26 +324,29 @@ def follow(lines, ends):
 
 def broken_law(answers, given):
     """What no answer to these questions may be, whatever the export is; or nothing."""
-    powers = {(step, text_shown(key)) for asked, lines in answers if asked.command == 'powers'
-              for step, key, *_ in (line.split('\t') for line in lines)}
+    powers = {tuple(map(text_shown, line.split('\t')[:2])) for asked, lines in answers if asked.command == 'powers' for line in lines}
     ways = [(asked, [*map(read, lines)]) for asked, lines in answers if asked.command == 'paths']
     held = [(asked, [*map(read, lines)]) for asked, lines in answers if asked.command == 'who-can']
     for asked, lines in ways:
-        who = escalation.node_of(asked.who)
-        if not follow(lines, [escalation.shown(who)]):
+        if not follow(lines, [escalation.shown(escalation.node_of(asked.who))]):
             return 'paths %s: following the node before does not lead there' % asked.who
-        groups = {asked.who[2:]} if who.kind == 'g' else groups_of(who.name, [*asked.groups.split(','), *asked.group])
-        keys = {'g:' + group for group in groups} | {asked.who}
-        if lines and not any((step, key) in powers for step in asked.steps for key in keys):
+        if lines and not powers & {*itertools.product(asked.steps, keys_of(asked))}:
             return 'paths %s: has nodes, but no powers' % asked.who
     for asked, lines in held:
         if not follow(lines, []):
             return 'who-can %s %s: following the node after does not lead there' % (asked.verb, asked.target)
-        for other, nodes in ways:
-            is_plain = not other.groups and not other.group and escalation.node_of(other.who) in given.principals
-            if is_plain and other.steps == asked.steps and least(other, nodes, lines) != number_of(other, lines):
-                return 'paths %s and who-can %s %s do not agree' % (other.who, asked.verb, asked.target)
+    for (asked, lines), (other, nodes) in itertools.product(held, ways):
+        is_plain = not given_groups(other) and escalation.node_of(other.who) in given.principals
+        if is_plain and other.steps == asked.steps and least(other, nodes, lines) != number_of(other, lines):
+            return 'paths %s and who-can %s %s do not agree' % (other.who, asked.verb, asked.target)
     return None
+
+
+def keys_of(asked):
+    """The key of the one asked about, and those of its groups."""
+    name = asked.who[2:]
+    groups = {name} if asked.who.startswith('g:') else groups_of(name, given_groups(asked))
+    return {'g:' + group for group in groups} | {asked.who}
 
 
 def number_of(asked, lines):
@@ -356,7 +369,7 @@ def told(words, given):
     ended = subprocess.run([PROGRAM, *words], input=given, stdout=subprocess.PIPE, stderr=subprocess.PIPE, timeout=60)
     if (ended.returncode, ended.stderr) != (0, b''):
         raise ValueError('%s: status %d, %r' % (words, ended.returncode, ended.stderr))
-    return ended.stdout.decode().splitlines()
+    return ended.stdout.decode().split('\n')[:-1]
 
 
 def tried(seed, number, counts, itself):
@@ -393,7 +406,7 @@ def too_few(counts, exports):
     wanted = ['%s by %s' % (command, step) for command in ('powers', 'paths', 'who-can') for step in STEPS]
     wanted += ['%s of %d steps' % (command, number) for command in ('paths', 'who-can') for number in range(command == 'paths', 5)]
     wanted += [command + ' without a line' for command in ('powers', 'paths', 'who-can')]
-    return [name for name in wanted if counts[name] < max(exports // 50, 1)]
+    return [name for name in wanted if counts[name] < exports // 100]
 
 
 def main(seed='1', number='300', itself=False):
@@ -415,11 +428,5 @@ def main(seed='1', number='300', itself=False):
 
 
 if __name__ == '__main__':
-    first, rest = (sys.argv[1:2] or [''])[0], sys.argv[2:]
-    if first == '--reference':
-        sys.exit(reference(*rest))
-    if first == '--rows':
-        sys.exit(rows())
-    if first == '--itself':
-        sys.exit(main(*rest, itself=True))
-    sys.exit(main(*sys.argv[1:3]))
+    MODE, WORDS = (sys.argv[1], sys.argv[2:]) if sys.argv[1:2] and sys.argv[1].startswith('--') else ('', sys.argv[1:3])
+    sys.exit({'': lambda: main(*WORDS), '--itself': lambda: main(*WORDS, itself=True), '--rows': rows, '--reference': lambda: reference(WORDS)}[MODE]())
