@@ -39,6 +39,8 @@ VERBS = ['get', 'create', 'bind', 'delete', 'Bind', '']
 GROUPS = ['', 'apps', 'batch', 'rbac.authorization.k8s.io', 'extensions']
 RESOURCES = ['pods', 'jobs', 'users', 'roles', 'serviceaccounts', 'nodes', 'secrets/x', 'pods/log', '*/exec', '*/token', '*/proxy', '*/approval',
              '*/*', '/']
+# How many lines `powers` has of each step over the example cluster.
+POWERS = {'impersonate': 10, 'token': 10, 'run': 15, 'exec': 12, 'secrets': 15, 'nodes': 6, 'bind': 7, 'escalate': 6, 'certificates': 5, 'webhooks': 5}
 
 
 # ---- drawing an export
@@ -372,22 +374,42 @@ def told(words, given):
     return ended.stdout.decode().split('\n')[:-1]
 
 
+def wrong_answer(words, given, ask):
+    """What is wrong with the answers to some questions, each as words, or nothing; and the answers."""
+    answers = []
+    for asked, its in ((PARSER.parse_args(its), its) for its in words):
+        wanted = answer(asked, given)
+        got = ask(its) if ask else wanted
+        if got != wanted:
+            return '%s: wanted %r, got %r' % (its, wanted, got), answers
+        answers.append((asked, got))
+    return broken_law(answers, given), answers
+
+
 def tried(seed, number, counts, itself):
     """What is wrong with the answers about an export, or nothing."""
     draw = random.Random('%s %d' % (seed, number))
     world = World(draw)
     items = world.items()
-    text, given, answers = export(*items), Export([*map(whole, items)]), []
-    for words in questions(draw, world, given):
-        asked = PARSER.parse_args(words)
-        wanted = answer(asked, given)
-        got = wanted if itself else told(words, text)
-        if got != wanted:
-            return '%s: wanted %r, got %r; %s' % (words, wanted, got, text.decode())
-        answers.append((asked, got))
-        count(counts, asked, got)
-    wrong = broken_law(answers, given)
+    text, given = export(*items), Export([*map(whole, items)])
+    wrong, answers = wrong_answer(questions(draw, world, given), given, None if itself else lambda words: told(words, text))
+    for asked, lines in answers:
+        count(counts, asked, lines)
     return wrong and '%s; %s' % (wrong, text.decode())
+
+
+def example(itself):
+    """What is wrong with the answers about the example cluster, or nothing: also how many have powers, and come to everything."""
+    paths = [os.path.join(TOP, 'examples', 'cluster', name + '.json') for name in ('cluster', 'namespaced', 'accounts')]
+    given = Export([item for path in paths for item in items_of(path)])
+    words = [['powers'], *(['paths', escalation.principal_key(node)] for node in given.principals),
+             ['who-can', '--indirect', '-A', 'delete', 'nodes'], ['who-can', '--indirect', '-n', 'payments', 'get', 'secrets']]
+    wrong, answers = wrong_answer(words, given, None if itself else lambda words: told([*words, *paths], b''))
+    powers = collections.Counter(line.split('\t')[0] for _, lines in answers[:1] for line in lines)
+    rich = [asked.who for asked, lines in answers if asked.command == 'paths' and any(read(line).node == ('*', '*') for line in lines)]
+    if not wrong and (powers, len(given.principals), len(rich)) != (POWERS, 46, 13):
+        wrong = 'powers %s; everything for %s' % (powers, rich)
+    return wrong
 
 
 def count(counts, asked, lines):
@@ -411,14 +433,14 @@ def too_few(counts, exports):
 
 def main(seed='1', number='300', itself=False):
     counts, passed, failed = collections.Counter(), 0, 0
-    for at in range(int(number)):
+    for at in ['example', *range(int(number))]:
         try:
-            wrong = tried(seed, at, counts, itself)
+            wrong = example(itself) if at == 'example' else tried(seed, at, counts, itself)
         except ValueError as fault:
             wrong = str(fault)
         passed, failed = passed + (not wrong), failed + bool(wrong)
         if wrong:
-            print('FAIL export %d of seed %s: %s' % (at, seed, wrong))
+            print('FAIL export %s of seed %s: %s' % (at, seed, wrong))
     print('%s exports: %s' % (number, ', '.join('%s %d' % pair for pair in sorted(counts.items()))))
     if too_few(counts, int(number)):
         print('FAIL too few lines or answers: %s' % ', '.join(too_few(counts, int(number))))
