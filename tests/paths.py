@@ -268,17 +268,25 @@ def whole(item):
     return {**item, 'rules': item.get('rules') or [], 'metadata': {'labels': {}, **item['metadata']}}
 
 
-def items_of(path):
-    """The objects of a file that count here; one that the definition can't read is refused."""
-    with open(path, encoding='utf-8') as file:
-        document = json.load(file)
+def items_of(text):
+    """The objects of a document that count here; one that the definition can't read is refused."""
+    document = json.loads(text)
     kind = document['kind'][:-len('List')]
     for item in document['items'] if 'items' in document else [document]:
         item = {'kind': kind, **item}
         if item['kind'] == 'APIResourceList' or 'matchExpressions' in json.dumps(item.get('aggregationRule')):
-            sys.exit('%s: the definition knows neither API resource lists nor matchExpressions' % path)
+            sys.exit('the definition knows neither API resource lists nor matchExpressions')
         if item['kind'] in ('Role', 'ClusterRole', 'RoleBinding', 'ClusterRoleBinding', 'ServiceAccount'):
             yield whole(item)
+
+
+def read_files(paths):
+    """The export of files, or of standard input if there is none."""
+    texts = []
+    for path in paths:
+        with open(path, encoding='utf-8') as file:
+            texts.append(file.read())
+    return Export([item for text in texts or [sys.stdin.read()] for item in items_of(text)])
 
 
 def rows():
@@ -298,9 +306,9 @@ def rows():
 
 
 def reference(words):
-    """Prints the lines of the definition over files."""
+    """Prints the lines of the definition over files, as the program does."""
     asked = PARSER.parse_args(words)
-    for line in answer(asked, Export([item for path in asked.files for item in items_of(path)])):
+    for line in answer(asked, read_files(asked.files)):
         print(line)
     return 0
 
@@ -401,7 +409,7 @@ def tried(seed, number, counts, itself):
 def example(itself):
     """What is wrong with the answers about the example cluster, or nothing: also how many have powers, and come to everything."""
     paths = [os.path.join(TOP, 'examples', 'cluster', name + '.json') for name in ('cluster', 'namespaced', 'accounts')]
-    given = Export([item for path in paths for item in items_of(path)])
+    given = read_files(paths)
     words = [['powers'], *(['paths', escalation.principal_key(node)] for node in given.principals),
              ['who-can', '--indirect', '-A', 'delete', 'nodes'], ['who-can', '--indirect', '-n', 'payments', 'get', 'secrets']]
     wrong, answers = wrong_answer(words, given, None if itself else lambda words: told([*words, *paths], b''))
