@@ -6,10 +6,12 @@ long, with names that mean something else in another place. Each answer of the p
 the definition. Then the laws are looked for in the program's answers alone: following a line's node before leads to the one
 asked about in as many lines; `paths` and `who-can --indirect` agree; and whoever has no line in `powers` comes to nobody.
 
+First of all the same is asked about the example cluster, of which some numbers are known.
+
 `paths.py SEED COUNT` tries other exports. `paths.py --reference COMMAND WORD.. [FILE]..` prints the lines of the definition,
-such as `paths.py --reference paths u:kim cluster.json`. `paths.py --rows` compares the definition with the worked rows of
-rows_paths.json. `paths.py --itself SEED COUNT` lets the definition answer in the program's place, which tests this test. The
-last line is `N passed, M failed`.
+such as `paths.py --reference paths u:kim cluster.json`, without FILE those of standard input. `paths.py --rows` compares the
+definition with the worked rows of rows_paths.json. `paths.py --itself SEED COUNT` lets the definition answer in the program's
+place, which tests this test. The last line is `N passed, M failed`.
 """
 
 import argparse
