@@ -124,8 +124,10 @@ class World:
         return {'apiVersion': 'v1', 'kind': 'ServiceAccount', 'metadata': metadata}
 
     def chain(self):
-        """Each of some principals has a role by which it takes over the next one, or by which it binds such a role."""
+        """Each of some principals has a role by which it takes over the next one, or by which it binds such a role. In some chains
+        the one before it has this role too, so that there are several ways of one length."""
         draw = self.draw
+        is_double = draw.random() < 0.4
         others = [('user', name, None) for name in self.users if not name.startswith('system:')] + [('group', name, None) for name in self.teams]
         ends = some(draw, others, 2) + [('account', name, home) for name in self.accounts for home in self.namespaces]
         draw.shuffle(ends)
@@ -136,7 +138,7 @@ class World:
                 [binds] = [row for row in TABLE if row.over == 'ClusterRole']
                 yield self.narrow(role + 'b', binds, role)
                 role += 'b'
-            yield self.bound(role, None if row.place == 'cluster' else home, one)
+            yield self.bound(role, None if row.place == 'cluster' else home, [one, *ends[:number][-1:]] if is_double else [one])
 
     def narrow(self, role, row, name):
         """A role that allows one request of a row."""
@@ -146,13 +148,12 @@ class World:
                 'rules': [{**rule, 'resourceNames': [name]} if row.of == 'NAME' else rule]}
 
     @staticmethod
-    def bound(role, home, one):
-        """Binds a role for one, in a namespace or in none."""
-        over, name, of = one
-        subject = {'kind': {'user': 'User', 'group': 'Group', 'account': 'ServiceAccount'}[over], 'name': name}
+    def bound(role, home, ends):
+        """Binds a role, in a namespace or in none."""
+        kinds = {'user': 'User', 'group': 'Group', 'account': 'ServiceAccount'}
+        subjects = [{'kind': kinds[over], 'name': name, **({'namespace': of} if of else {})} for over, name, of in ends]
         return {'apiVersion': V1, 'kind': 'RoleBinding' if home else 'ClusterRoleBinding', 'roleRef': {'kind': 'ClusterRole', 'name': role},
-                'metadata': {'name': role, 'namespace': home} if home else {'name': role},
-                'subjects': [{**subject, 'namespace': of} if of else subject]}
+                'metadata': {'name': role, 'namespace': home} if home else {'name': role}, 'subjects': subjects}
 
     def items(self):
         """Some objects are there twice, and the later one replaces the other."""
