@@ -75,10 +75,10 @@ def rule_allows(rule, verb, target):
 
 # ---- which binding grants
 
-def rules_of(role, cluster_roles):
-    """The rules of a role; of an aggregated one those of the plain ones that it leads to."""
+def sources_of(role, cluster_roles):
+    """The roles that contain the rules of a role: itself, or if it is aggregated the plain ones that it leads to, by name."""
     if 'aggregationRule' not in role:
-        return role['rules']
+        return [role]
     reached, waiting = set(), [role]
     while waiting:
         selectors = waiting.pop()['aggregationRule']['clusterRoleSelectors']
@@ -87,7 +87,11 @@ def rules_of(role, cluster_roles):
             if is_selected and name not in reached:
                 reached.add(name)
                 waiting += [other] * ('aggregationRule' in other)
-    return [rule for name in sorted(reached) if 'aggregationRule' not in cluster_roles[name] for rule in cluster_roles[name]['rules']]
+    return [cluster_roles[name] for name in sorted(reached) if 'aggregationRule' not in cluster_roles[name]]
+
+
+def rules_of(role, cluster_roles):
+    return [rule for source in sources_of(role, cluster_roles) for rule in source['rules']]
 
 
 def name_of(item):
@@ -103,14 +107,25 @@ def changed(items, without, over):
     return [item for item in items if name_of(item) not in names] + over
 
 
+def objects(items):
+    """The objects by name, after later ones have replaced earlier ones; and the cluster roles."""
+    last = {name_of(item): item for item in items}
+    return last, {name: item for (kind, _, name), item in last.items() if kind == 'ClusterRole'}
+
+
+def role_of(bound, last):
+    """The role that a binding refers to, or nothing if there is none."""
+    _, namespace, _ = name_of(bound)
+    wanted = bound['roleRef']
+    return last.get((wanted['kind'], namespace if wanted['kind'] == 'Role' else '', wanted['name']))
+
+
 def ordered_bindings(items):
     """Each binding by order, as its kind word, namespace and name, its subjects and the rules of its role."""
-    last = {name_of(item): item for item in items}
-    cluster_roles = {name: item for (kind, _, name), item in last.items() if kind == 'ClusterRole'}
+    last, cluster_roles = objects(items)
     for (kind, namespace, name), item in sorted(last.items()):
         if kind in ('ClusterRoleBinding', 'RoleBinding'):
-            wanted = item['roleRef']
-            role = last.get((wanted['kind'], namespace if wanted['kind'] == 'Role' else '', wanted['name']))
+            role = role_of(item, last)
             yield (kind, namespace, name), item['subjects'], rules_of(role, cluster_roles) if role else []
 
 
