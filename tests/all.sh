@@ -1,9 +1,9 @@
 #!/usr/bin/env bash
 # The whole gate: each edit still fits, every proof, must-fail edit and test by `rt ci`, which wrong bodies a change wants
-# tried, what only a process can show, the kubectl plugin, completions and man page, the page in a browser, lines as tables and as JSON, what make dist
-# packs, random matrices, universes, rules and changes, bad documents, refused memory, reads and writes, and each public call by itself.
-# The last line counts all of it, as `N passed, M failed`; if a test skipped something that this machine lacks, the last line
-# but one says what.
+# tried, what only a process can show, the kubectl plugin, completions and man page, the page in a browser, lines as tables
+# and as JSON, what make dist packs, random matrices, universes, rules, changes and powers, bad documents, refused memory,
+# reads and writes, and each public call by itself. The last line counts all of it, as `N passed, M failed`; if a test
+# skipped something that this machine lacks, the last line but one says what.
 set -u
 cd "$(dirname "$0")/.."
 log=$(mktemp)
@@ -47,6 +47,7 @@ counted python3 tests/matrix_pages.py
 counted python3 tests/universe.py
 counted python3 tests/rules.py
 counted python3 tests/diff.py
+counted python3 tests/paths.py
 counted python3 tests/memory.py
 counted python3 tests/fuzz.py 1 2000
 counted python3 tests/calls.py --once
