@@ -41,8 +41,8 @@ BAD_CHANGES = ([], ['--before', 'b'], ['--after', 'b', '--with', 'c'], ['--witho
 
 
 # The steps of powers, as their help describes them.
-STEPS = [b'  %s  ' % step for step in (b'impersonate ', b'token       ', b'run         ', b'exec        ', b'secrets     ', b'nodes       ',
-                                       b'bind        ', b'escalate    ', b'certificates', b'webhooks    ')]
+STEPS = [b'  %-12s  ' % step for step in (b'impersonate', b'token', b'run', b'exec', b'secrets', b'nodes', b'bind', b'escalate', b'certificates',
+                                          b'webhooks')]
 
 
 def run(words, given=b'', **how):
