@@ -11,6 +11,7 @@ ghost use Rattle.rbac_command.specs.App.{group_rule, in_namespace_rule, only_rul
 ghost use Rattle.rbac_command.specs.App.{with_scope, with_question, can_i_app, who_can_app};
 ghost use Rattle.rbac_command.specs.App.{rules_app, matrix_app, universe_app, lint_app, bare_app};
 ghost use Rattle.rbac_command.specs.App.{rbac_app, before_files_rule, after_files_rule, diff_app};
+ghost use Rattle.rbac_command.specs.App.{powers_app};
 ghost use Rattle.rbac_command.specs.App.{without_files_rule, with_files_rule, skip_system_rule};
 ghost use Rattle.rbac_command.specs.Flags.{flag_rule};
 
@@ -129,6 +130,34 @@ Examples:
   rbacaudit lint cluster.json namespaced.json
   rbacaudit lint --only L1,L6 cluster.json namespaced.json
   rbacaudit lint --skip-system cluster.json namespaced.json";
+
+const POWERS_MORE: &str = "A line has eight fields, joined by tabs:
+  STEP     what WHO can do, as below
+  WHO      u:USER or g:GROUP
+  WHERE    the namespace where WHO can do it; * is the whole cluster
+  BINDING  the first binding that grants it
+  ROLE     the role that the binding names
+  SOURCE   the role where the rule is written: an aggregated ROLE gathers it from there
+  RULE     the number of the rule in SOURCE, from 1
+  SUBJECT  the number of the first subject in BINDING that is WHO, from 1
+
+  impersonate   act as a user, a group or a service account
+  token         create tokens of service accounts
+  run           create Pods, or workloads that create them, under any service account
+  exec          run commands in containers
+  secrets       read Secrets, which can hold tokens of service accounts
+  nodes         reach each container of a node through its kubelet
+  bind          bind roles that grant more than WHO has
+  escalate      write rules that grant more than WHO has
+  certificates  approve client certificates, with which anyone can be signed in
+  webhooks      read and change the objects that others write
+
+A rule that is limited to object names counts only for impersonate, token, bind and escalate. The
+exit status is 0, also without a line; 2 is an error.
+
+Examples:
+  rbacaudit powers cluster.json namespaced.json
+  rbacaudit powers *.json | grep '^secrets'";
 
 const DIFF_MORE: &str = "A line has eight fields, joined by tabs; - is an empty field:
   CHANGE     + for what the change allows, - for what it takes away
@@ -592,6 +621,19 @@ fn lint<'a>(alloc: Global) -> Built<'a>
     with(command, files_arg(alloc))
 }
 
+fn powers<'a>(alloc: Global) -> Built<'a>
+    ensures app { IfOk result (λ r. app_of r ≡ powers_app) }
+    ensures local { IfOk result (λ r. (fields_of r).has_globals ≡ false) }
+{
+    let command = named(
+        alloc,
+        "powers",
+        "List who can act as others or gain permissions: a line for each step, with its binding",
+        POWERS_MORE,
+    );
+    with(Ok(command), files_arg(alloc))
+}
+
 fn diff<'a>(alloc: Global) -> Built<'a>
     ensures app { IfOk result (λ r. app_of r ≡ diff_app) }
     ensures local { IfOk result (λ r. (fields_of r).has_globals ≡ false) }
@@ -653,5 +695,6 @@ pub(crate) fn program<'a>(alloc: Global) -> Result<Command<'a>, AllocError>
     let command = with_sub(command, matrix(alloc))?;
     let command = with_sub(command, universe(alloc))?;
     let command = with_sub(command, lint(alloc))?;
+    let command = with_sub(command, powers(alloc))?;
     with_sub(command, diff(alloc))
 }
