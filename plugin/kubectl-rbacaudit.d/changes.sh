@@ -32,12 +32,12 @@ diff_command() {
         diff_usage
         exit 0
     fi
-    choose_format diff
+    if [ "$summary" = yes ]; then choose_format 'diff --summary'; else choose_format diff; fi
     need_rbacaudit
     check_sides
     check_options
     read_sides
-    if [ "$summary$fail_on" = no ]; then
+    if [ "$summary$fail_on" = no ] && [ "$format" != sarif ]; then
         runs=run_shown
         compare
     else
