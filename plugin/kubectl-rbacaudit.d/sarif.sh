@@ -135,18 +135,21 @@ find_places() {
     [ -f "$list.json" ] || return 0
     walk "$list.json" "$LIST_OBJECTS" >"$scratch/objects.$1"
     LC_ALL=C sort -u "$list.from" >"$scratch/found"
-    while IFS= read -r origin; do
+    while IFS= read -r origin <&4; do
         find_source
         printf '%s\n%s\n' "$origin" "$source"
-    done <"$scratch/found" >"$scratch/sources"
+    done 4<"$scratch/found" >"$scratch/sources"
     HOME_FOLDER=$PWD LC_ALL=C awk "$OBJECT_PLACES" step=1 "$list.from" step=2 "$scratch/sources" \
         step=3 "$scratch/objects.$1" >"$scratch/places.$1" || refuse "can't write into $scratch"
 }
 
 # Leaves in `source` the file to show for what an object was read from: of a folder, its kustomization. What
-# isn't a file, such as a pipe, has none.
+# isn't a file of a repository, such as a pipe, has none.
 find_source() {
     source=
+    case $origin in
+        /dev/* | /proc/*) return ;;
+    esac
     if [ -f "$origin" ]; then source=$origin; fi
     for name in kustomization.yaml kustomization.yml Kustomization; do
         [ -n "$source" ] || [ ! -f "$origin/$name" ] || source=$origin/$name
