@@ -164,6 +164,7 @@ COMPLETED = [
     (['matrix', '-o', ''], ['table', 'wide', 'json', 'name', 'tsv'], NOTHING), (['can-i', '--output', 'j'], ['json'], NOTHING),
     (['can-i', '--output=t'], ['table', 'tsv'], NOTHING), (['rules', '-ojson', ''], [], NOTHING), (['lint', '-o', 'json', ''], [], FILES),
     (['lint', '--color', 'a'], ['auto', 'always'], NOTHING), (['diff', '--fail-on', ''], ['changes', 'gains', 'powers'], NOTHING),
+    (['lint', '-o', 's'], ['sarif'], NOTHING), (['diff', '--output='], ['table', 'wide', 'json', 'name', 'tsv', 'sarif'], NOTHING),
     (['page', '--output='], [], FILES), (['page', '-o', ''], [], FILES), (['diff', '--s'], ['--summary'], NOTHING),
     (['diff', '-n', ''], [], NOTHING), (['diff', '-nx', '--w'], ['--with', '--without'], NOTHING),
     (['diff', '--export', 'x', '--export', ''], [], FOLDERS),

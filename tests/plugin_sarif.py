@@ -11,8 +11,8 @@ import subprocess
 import sarif
 from common import TOP, V1, skipped
 from local_kubectl import yaml
-from plugin_changes import a_list
-from plugin_manifests import bound, put, role, with_manifests, without_cluster
+from plugin_changes import a_list, read
+from plugin_manifests import ALONE, bound, put, role, with_manifests, without_cluster
 from plugin_room import PLUGIN, SHELLS, example, in_each_shell, of_kinds, room
 from plugin_terminal import AWKS
 
@@ -75,7 +75,7 @@ def examples(it):
     """The files of examples/: findings, none, and changes."""
     shutil.copytree(os.path.join(TOP, 'examples'), it.work, dirs_exist_ok=True)
     got = without_cluster(it, 'lint', '-o', 'sarif', 'lint.json')
-    same(it, 'lint.json', seen(results_of(it, 'lint.json', got, 1)), FINDINGS)
+    same(it, 'lint.json', seen(results_of(it, 'lint.json', got, 1, read('lint.json', '6 roles, 6 bindings, 0 other objects') + ALONE)), FINDINGS)
     run = sarif.read(got[1])[0]
     driver = run['tool']['driver']
     same(it, 'lint: the tool', (driver['name'], driver['semanticVersion'], [rule['id'] for rule in driver['rules']], run['automationDetails'],

@@ -214,6 +214,7 @@ List what a change lets users do, and what it takes from them.
   -n NS            the namespace of their roles and bindings that have none; without it, default
   --summary        counts instead of lines: the permissions gained and lost for each who, where and binding, the
                    powers among them, which are ways to take over somebody else, and a total
+  -o sarif         the changes as SARIF, for code hosts, with the file of each binding or of its role
   --fail-on WHAT   end with status 1 for changes (default), for gains alone, or for gained powers alone
 
 PATH is a file, a folder (.json, .yaml and .yml, folders within), a folder with a kustomization, or -

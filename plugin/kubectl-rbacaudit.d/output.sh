@@ -111,8 +111,9 @@ run_shown() {
 
 # Shows an answer that was kept, in $scratch/answer. If that fails, the status is 2.
 show_answer() {
+    kept=$scratch/answer
     [ "$format" != sarif ] || [ "$answered" -gt 1 ] || make_sarif
-    run_shown cat "$scratch/answer" || answered=2
+    run_shown cat "$kept" || answered=2
 }
 
 # ---- the words of rules

@@ -26,8 +26,10 @@ function find_lines(path,    text, number) {
     while ((getline text < path) > 0) look_at(path, text, ++number)
     close(path)
 }
-# The keys of an object have one column, and those of its metadata have another.
+# The keys of an object have one column, and those of its metadata have another. (a long line has no key that
+# counts, and an awk may need long for it)
 function look_at(path, text, number,    at, key) {
+    if (length(text) > 1000) text = substr(text, 1, 1000)
     sub(/\r$/, "", text)
     if (text ~ /^(---|[{])/) forget(0)
     if (text ~ /^ *(#.*)?$/) return
@@ -351,10 +353,11 @@ function is_in_file(side, name) {
     return ((side "\t" name) in address) || ((side "\t" role[side "\t" name]) in address)
 }'
 
-# Puts SARIF in the place of the lines in $scratch/answer. It is printed only once it is whole: what a code host
-# would take for a run without results must not come from an error.
+# Leaves in `kept` a file with SARIF of the lines in $scratch/answer. It is printed only once it is whole: what a
+# code host would take for a run without results must not come from an error.
 make_sarif() {
-    mv -f "$scratch/answer" "$scratch/lines" && : >"$scratch/left" || refuse "can't write into $scratch"
+    kept=$scratch/sarif
+    : >"$scratch/left" || refuse "can't write into $scratch"
     if [ "$command" = lint ]; then write_findings; else write_changes; fi
     left=$(cat "$scratch/left")
     [ -z "$left" ] || report "$left more results are left out: code hosts take no more than the first 25000"
@@ -363,7 +366,7 @@ make_sarif() {
 write_findings() {
     find_places lint
     LEFT=$scratch/left LC_ALL=C awk -v command=lint -v "version=$VERSION" "$SARIF_LINT" \
-        step=1 "$scratch/places.lint" step=2 "$scratch/lines" >"$scratch/answer" || refuse "can't write into $scratch"
+        step=1 "$scratch/places.lint" step=2 "$scratch/answer" >"$kept" || refuse "can't write into $scratch"
 }
 
 write_changes() {
@@ -379,7 +382,7 @@ write_changes() {
     list_same
     LEFT=$scratch/left LC_ALL=C awk -v command=diff -v "version=$VERSION" "$SARIF_DIFF" \
         step=0 "$scratch/exported" step=1 "$scratch/places.$before" step=2 "$scratch/places.$after" \
-        step=3 "$scratch/same" step=4 "$scratch/lines" step=5 "$scratch/lines" >"$scratch/answer" ||
+        step=3 "$scratch/same" step=4 "$scratch/answer" step=5 "$scratch/answer" >"$kept" ||
         refuse "can't write into $scratch"
 }
 
