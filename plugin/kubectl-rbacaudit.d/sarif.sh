@@ -92,11 +92,11 @@ step == 1 { from[NR] = $0; next }
 step == 2 && FNR % 2 { origin = $0; next }
 step == 2 {
     if ($0 == "") next
-    path[origin] = $0
+    file_of[origin] = $0
     find_lines($0)
     next
 }
-{ print $2 "\t" address(path[from[$1]]) "\t" line_in(path[from[$1]], $2) "\t" $3 }
+{ path = file_of[from[$1]]; print $2 "\t" address(path) "\t" line_in(path, $2) "\t" $3 }
 function line_in(path, object,    part, parts, place) {
     parts = split(object, part, "/")
     place = path SUBSEP part[1] SUBSEP (parts == 3 ? part[2] : "") SUBSEP part[parts]
@@ -105,20 +105,20 @@ function line_in(path, object,    part, parts, place) {
 }
 # The address of a file: from the folder in which the plugin is called, if the file is below it.
 function address(path,    parts, part, at, kept, whole, text) {
-    if (path == "") return ""
+    if (path == "" || (path in address_of)) return address_of[path]
     whole = split(path ~ /^\// ? path : ENVIRON["HOME_FOLDER"] "/" path, part, "/")
     for (at = 1; at <= whole; at++)
         if (part[at] == "..") { if (kept) kept-- }
         else if (part[at] != "" && part[at] != ".") parts[++kept] = part[at]
-    at = is_below(parts, kept) ? count_home + 1 : 1
-    if (at == 1) text = "file://"
-    for (; at <= kept; at++) text = text (text == "" ? "" : "/") encoded(parts[at])
-    return text
+    at = above(parts)
+    text = at < 0 ? "file://" : ""
+    for (at = at < 0 ? 1 : at + 1; at <= kept; at++) text = text (text == "" ? "" : "/") encoded(parts[at])
+    return address_of[path] = text
 }
-function is_below(parts, kept,    at) {
-    count_home = 0
-    for (at = 1; at <= folders; at++) if (home[at] != "" && parts[++count_home] != home[at]) return 0
-    return kept > count_home
+# How many folders of a whole path are those of the folder in which the plugin is called, or -1.
+function above(parts,    at, same) {
+    for (at = 1; at <= folders; at++) if (home[at] != "" && parts[++same] != home[at]) return -1
+    return same + 0
 }
 function encoded(text,    at, one, out) {
     if (text !~ /[^A-Za-z0-9._~-]/) return text
