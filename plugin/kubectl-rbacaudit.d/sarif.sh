@@ -174,8 +174,7 @@ BEGIN {
     }
 }
 function rule(id, name, level, short, full, help) {
-    rule_id[++rules] = id
-    index_of[id] = rules - 1
+    index_of[id] = rules++
     level_of[id] = level
     described[rules] = "{\"id\":\"" id "\",\"name\":\"" name "\",\"shortDescription\":{\"text\":\"" short \
         "\"},\"fullDescription\":{\"text\":\"" full "\"},\"help\":{\"text\":\"" help \
@@ -191,7 +190,7 @@ function lint_rules() {
         "Delete the role if nobody is going to bind it.")
     rule("L3", "redundant-rule", "note", "A rule is redundant",
         "Another rule of the same role allows all that this rule allows.", "Delete this rule.")
-    rule("L4", "escalation", "error", "A rule allows to escalate",
+    rule("L4", "escalation", "error", "A rule allows escalation",
         "The rule allows the verb bind or escalate on roles or cluster roles. With it, users can bind roles whose " \
         "permissions they do not have, or write such roles.",
         "Find out who has it, with kubectl rbacaudit who-can -n NS bind roles.rbac.authorization.k8s.io, and " \
@@ -210,8 +209,8 @@ function lint_rules() {
 }'
 
 # Awk functions that write results as SARIF. put(id, text, object, other, mark) writes one: the id of its rule,
-# its message, the object that it is about, another that belongs to it, if there is one, and what tells it from
-# all other results of the rule. An object is the number of a list and, behind a tab, its name.
+# its message, the object that it is about, a related object or nothing, and its fingerprint. An object is the
+# number of a list and, after a tab, its name.
 RESULTS=$CODES$RULES_FOUND'
 BEGIN {
     FS = "\t"
@@ -248,8 +247,8 @@ function location(object,    name) {
         (address[object] ~ /^file:/ ? "" : ",\"uriBaseId\":\"%SRCROOT%\"") "},\"region\":{\"startLine\":" \
         line[object] "}}," name "}"
 }
-# A field as messages have it: what acts on who reads it, or hides, is escaped, and so is what is a link or a
-# place in messages of SARIF. A name with a blank stands between quotes.
+# A field as messages have it: what a reader cannot see is escaped, and so are the brackets and braces of which
+# SARIF makes links and arguments. A name with a blank is quoted.
 function shown(field) {
     field = visible(field)
     if (field ~ /[][{}]/) {
@@ -300,9 +299,9 @@ function finding(object, place, detail) {
     return object " is there " detail + 1 " times, and only this one counts."
 }'
 
-# The same for the changes of diff, which it reads twice: first what is gained, which matters more where not all
-# is listed. Before that it reads the objects of an export; where objects of manifests stand, before the change
-# and after it; and which of these are the same. A result has all that somebody gains in one place by one binding.
+# The same for the changes of diff. It reads the objects of an export; where the objects of manifests stand, before
+# the change and after it; which of these are the same; and the changes, twice: gains come first, as they matter
+# more where some results are left out. A result has all that somebody gains in one place through one binding.
 SARIF_DIFF=$RESULTS'
 BEGIN { FEW = 10 }
 step == 0 { if ($3 != "") role["1\t" $2] = role["2\t" $2] = $3; next }
@@ -338,9 +337,9 @@ function put_change(name,    many) {
         shown(name) (sign == "+" ? " gives: " : " gave: ") listed[name] (many > FEW ? " and " many - FEW " more" : "") ".",
         first, second, who "\t" where "\t" name)
 }
-# Leaves in `first` what a result is about, and in `second` what belongs to it: the binding and its role. That is
-# the binding, unless it is the same on both sides and the role is not, or the role alone stands in a file. Both
-# are those of the side that has the binding; but where only the other side has files, of that.
+# Leaves in `first` the object that a result is about, and in `second` the related one: a binding and its role. The
+# role comes first if the binding is the same on both sides and the role is not, or if only the role is in a file.
+# Both are objects of this side of the change, unless only the other side has them in files.
 function choose(side, name,    of) {
     if (!is_in_file(side, name) && is_in_file(3 - side, name)) side = 3 - side
     first = side "\t" name
@@ -353,8 +352,8 @@ function is_in_file(side, name) {
     return ((side "\t" name) in address) || ((side "\t" role[side "\t" name]) in address)
 }'
 
-# Leaves in `kept` a file with SARIF of the lines in $scratch/answer. It is printed only once it is whole: what a
-# code host would take for a run without results must not come from an error.
+# Leaves in `kept` a file with the lines of $scratch/answer as SARIF. Only a whole file is printed, since a code host
+# would take a part of one, or none, for a run without results.
 make_sarif() {
     kept=$scratch/sarif
     : >"$scratch/left" || refuse "can't write into $scratch"
