@@ -416,8 +416,8 @@ namespace what somebody may do in the whole cluster; --once leaves them out"
 
 # Whether an answer is read before it is shown.
 is_kept() {
-    case $command$stale in
-        who-can?* | rules?*) ;;
+    case $command$stale,$format in
+        who-can?* | rules?* | *,sarif) ;;
         *) has_words ;;
     esac
 }
