@@ -8,4 +8,4 @@ pub returns : goal.returns
 returns g c =
     let xs = c.in_ok-powers.powers in
     c.print_lines.ensures (Single c.args.export.now) Powers (powers_text xs) refl
-    (xs, rw c.policy.ensures at c.in_ok-powers.ensures, refl, refl)
+    (xs, rw c.policy.ensures at c.in_ok-powers.ensures.powers, refl, refl)
