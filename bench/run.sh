@@ -15,15 +15,15 @@ ask() {
     least "$audit" can-i --as nobody@example.com -A get pods "$1"
 }
 
-# One line for an export: its size, the times of JSON alone and of three commands, and the ratio of can-i to JSON alone.
+# One line for an export: its size, the times of JSON alone and of four commands, and the ratio of can-i to JSON alone.
 measure() {
     local name=$1 file=$2
     local json answer
     json=$(least "$alone" "$file")
     answer=$(ask "$file")
-    printf '%-44s %9d bytes  JSON alone %5d ms  can-i %5d ms  who-can %5d ms  lint %5d ms  ratio %s\n' \
+    printf '%-44s %9d bytes  JSON alone %5d ms  can-i %5d ms  who-can %5d ms  lint %5d ms  powers %5d ms  ratio %s\n' \
         "$name" "$(stat -c %s "$file")" "$json" "$answer" "$(least "$audit" who-can -A get pods "$file")" \
-        "$(least "$audit" lint "$file")" "$(python3 -c "print('%.2f' % ($answer / max(1, $json)))")"
+        "$(least "$audit" lint "$file")" "$(least "$audit" powers "$file")" "$(python3 -c "print('%.2f' % ($answer / max(1, $json)))")"
 }
 
 # One line for reading an export: processor time and memory of `can-i`, of JSON alone, and of the typed Rust program where Debian's

@@ -10,4 +10,4 @@ complete -c rbacaudit-page -l notices -r -F -d 'lines to show at the top, such a
 complete -c rbacaudit-page -l about -r -F -d 'the about.txt of an export, to show cluster, server and time'
 complete -c rbacaudit-page -l title -x -d 'the title of the page (default: Who can do what)'
 complete -c rbacaudit-page -l output -r -F -d 'write the page into this file, whole or not at all'
-complete -c rbacaudit-page -l watched -d 'print the watch list: id, verb, API group and resource'
+complete -c rbacaudit-page -l watched -d 'print the watch list: step, verb, API group and resource'

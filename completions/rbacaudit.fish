@@ -22,6 +22,9 @@ function __rbacaudit_options
         case lint
             echo '^(--(only))$'
             string split ' ' 'only= skip-system h/help'
+        case powers
+            echo '(?!)'
+            string split ' ' 'h/help'
         case diff
             echo '^(--(before|after|without|with))$'
             string split ' ' 'before= after= without= with= h/help'
@@ -76,8 +79,9 @@ complete -c rbacaudit -n '__rbacaudit_words -eq 0 ""' -a rules -d 'List the rule
 complete -c rbacaudit -n '__rbacaudit_words -eq 0 ""' -a matrix -d 'List everything that anyone may do'
 complete -c rbacaudit -n '__rbacaudit_words -eq 0 ""' -a universe -d 'Print the Universe that matrix makes of the files'
 complete -c rbacaudit -n '__rbacaudit_words -eq 0 ""' -a lint -d 'List what is wrong with the roles'
+complete -c rbacaudit -n '__rbacaudit_words -eq 0 ""' -a powers -d 'List who can act as others or gain permissions'
 complete -c rbacaudit -n '__rbacaudit_words -eq 0 ""' -a diff -d 'List what a change lets users do and takes from them'
-complete -c rbacaudit -n '__rbacaudit_lacks help "" can-i who-can rules matrix universe lint diff' -s h -l help -d 'Print help'
+complete -c rbacaudit -n '__rbacaudit_lacks help "" can-i who-can rules matrix universe lint powers diff' -s h -l help -d 'Print help'
 complete -c rbacaudit -n '__rbacaudit_lacks version ""' -s V -l version -d 'Print version'
 complete -c rbacaudit -n '__rbacaudit_lacks as can-i' -l as -x -d 'User to check'
 complete -c rbacaudit -n '__rbacaudit_lacks groups can-i rules' -l groups -x -d 'Groups of the user beside the implied ones (default: none)'
@@ -113,7 +117,7 @@ complete -c rbacaudit -n '__rbacaudit_words -eq 0 can-i who-can' -k -d 'Verb to 
     -a 'get list watch create update patch delete deletecollection use bind escalate impersonate'
 complete -c rbacaudit -n '__rbacaudit_words -ge 2 can-i who-can' -k -a '(__fish_complete_suffix .json)'
 complete -c rbacaudit -n '__rbacaudit_words -ge 1 rules' -k -a '(__fish_complete_suffix .json)'
-complete -c rbacaudit -n '__rbacaudit_words -ge 0 matrix universe lint' -k -a '(__fish_complete_suffix .json)'
+complete -c rbacaudit -n '__rbacaudit_words -ge 0 matrix universe lint powers' -k -a '(__fish_complete_suffix .json)'
 complete -c rbacaudit -n '__rbacaudit_has before diff' -k -a '(__fish_complete_suffix .json)'
 complete -c rbacaudit -n '__rbacaudit_has after diff' -k -a '(__fish_complete_suffix .json)'
 complete -c rbacaudit -n '__rbacaudit_has without diff' -k -a '(__fish_complete_suffix .json)'

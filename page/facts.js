@@ -1,22 +1,15 @@
 // What follows from the rows: who has how much, and who has what is worth watching.
 
-// What to watch: pairs of verbs and types, some in the whole cluster alone, since no server asks
-// about them in a namespace. A type with /* stands for all its subresources. The last one has no
-// pairs: it is about all that the page lists.
+// What to watch: the steps of `rbacaudit powers`, as pairs of verbs and types, some in the whole
+// cluster alone, since no server asks about them in a namespace. The last one has no pairs: it is
+// about all that the page lists.
 const WATCHED = PAGE.watched;
 const EVERYTHING = 1 << (WATCHED.length - 1);
-
-function isType(word, wanted) {
-    const [before, after] = wanted.split('/*');
-    return after === undefined ? word === wanted
-        : word.startsWith(before + '/') && word.endsWith(after);
-}
 
 // Which categories a verb on a type belongs to, in the whole cluster or in a namespace, as bits.
 function bitsOf(verb, type, isInCluster) {
     return places(WATCHED, ({pairs}) => pairs.some(([verbs, types, where]) =>
-        (isInCluster || !where) && verbs.includes(verb)
-        && types.some(wanted => isType(type, wanted))));
+        (isInCluster || !where) && verbs.includes(verb) && types.includes(type)));
 }
 
 // A category may have several pairs, and a verb of one goes with no type of another: so each pair
@@ -40,8 +33,7 @@ class Watch {
         const key = keyOfType(row, this.rows);
         if (!this.targets.has(key)) {
             const type = typeOf(this.rows.word(row, 'group'), this.rows.word(row, 'resource'));
-            const isHere = pair => pair.types.some(wanted => isType(type, wanted));
-            this.targets.set(key, places(this.pairs, isHere));
+            this.targets.set(key, places(this.pairs, pair => pair.types.includes(type)));
         }
         return this.targets.get(key);
     }

@@ -46,13 +46,13 @@ function badges({watched, onlyNamed, word}, scope) {
         held.unshift(held.pop());
     }
     const named = WATCHED.filter((_, at) => onlyNamed >> at & 1);
-    return [held.map(({id, short, title}) => {
+    return [held.map(({id, title}) => {
         const href = link('rows', {who: '=' + word, watch: id,
             namespace: scope.isAll ? '' : '=' + scope.word});
-        return [make('a', {href, class: 'badge', title}, short), ' '];
-    }), named.map(({id, short, title}) => [make('a', {href: link('watch', {at: id, ns: scope.word}),
+        return [make('a', {href, class: 'badge', title}, id), ' '];
+    }), named.map(({id, title}) => [make('a', {href: link('watch', {at: id, ns: scope.word}),
         class: 'badge part', title: title + ', only objects of certain names'},
-    short + ' by name'), ' '])].flat();
+    id + ' by name'), ' '])].flat();
 }
 
 function bindingLinks(places_) {

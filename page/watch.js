@@ -17,14 +17,16 @@ class WatchView {
         ...WATCHED.map((watched, at) => this.section(watched, held[at], named[at])));
     }
 
-    // Whether those count who may do something only to objects of certain names. Rows with names
-    // tell of these names at least.
+    // What counts, and whether those do who may do something only to objects of certain names. Rows
+    // with names tell of these names at least.
     about() {
-        const said = PAGE.named ? 'Whoever may do it only to objects of certain names is counted '
+        const named = PAGE.named ? 'Whoever may do it only to objects of certain names is counted '
             + 'apart: by name.'
-            : ROWS.words.name.some(word => word !== '-') ? ''
+            : ROWS.words.name.some(word => word !== '-')
+                ? 'Rows for objects of certain names count too.'
                 : 'Whoever may do it only to objects of certain names isn’t counted.';
-        return said ? make('p', {class: 'why'}, said) : [];
+        return make('p', {class: 'why'}, 'The steps of rbacaudit powers, and who has everything. '
+            + 'A step counts whoever has a row of this page for one of its requests. ' + named);
     }
 
     tile({id, title}, held, named) {
@@ -43,7 +45,7 @@ class WatchView {
             named.length ? muted(` · ${figure(named.length)} by name`) : []];
     }
 
-    section({id, title, why}, held, named) {
+    section({id, title, why, names}, held, named) {
         const heads = ['Principal', 'Where', 'Verbs and types', 'Bindings'];
         const parts = held.length ? plainTable(title, heads, held, it => this.line(it, id))
             : make('p', {}, 'Nobody, by the rows of this page.');
@@ -54,6 +56,8 @@ class WatchView {
             make('h3', {id: 'title-' + id}, title, ' ',
                 muted(this.counts(held, named))),
             make('p', {class: 'why'}, why.join(' '), ' ',
+                names === 'any' ? 'For this step, rbacaudit powers also counts whoever may do it '
+                    + 'only to objects of certain names. ' : '',
                 held.length ? anchor('rows', {watch: id, namespace: this.scope.isAll ? ''
                     : '=' + this.scope.word}, 'All rows') : ''), parts, byName);
     }

@@ -2,7 +2,8 @@
 
 plugin_room.py has the stand-in, plugin_exports.py the exports, plugin_questions.py the questions,
 plugin_remarks.py what is said beside answers, plugin_changes.py and plugin_manifests.py changes and manifests, plugin_advice.py what is said behind errors,
-plugin_server.py both once more with kubectl itself, plugin_terminal.py what a terminal shows, and plugin_show.py formats and summaries.
+plugin_server.py both once more with kubectl itself, plugin_terminal.py what a terminal shows, plugin_show.py formats and summaries,
+and plugin_sarif.py what code hosts get.
 Here are the tools that the plugin needs, its texts, completions and man page, and make. What is
 skipped, since this machine lacks a tool, stands in the last line but one. The last line is
 `N passed, M failed`.
@@ -22,6 +23,7 @@ import plugin_exports
 import plugin_manifests
 import plugin_questions
 import plugin_remarks
+import plugin_sarif
 import plugin_server
 import plugin_show
 import plugin_terminal
@@ -163,6 +165,7 @@ COMPLETED = [
     (['matrix', '-o', ''], ['table', 'wide', 'json', 'name', 'tsv'], NOTHING), (['can-i', '--output', 'j'], ['json'], NOTHING),
     (['can-i', '--output=t'], ['table', 'tsv'], NOTHING), (['rules', '-ojson', ''], [], NOTHING), (['lint', '-o', 'json', ''], [], FILES),
     (['lint', '--color', 'a'], ['auto', 'always'], NOTHING), (['diff', '--fail-on', ''], ['changes', 'gains', 'powers'], NOTHING),
+    (['lint', '-o', 's'], ['sarif'], NOTHING), (['diff', '--output='], ['table', 'wide', 'json', 'name', 'tsv', 'sarif'], NOTHING),
     (['page', '--output='], [], FILES), (['page', '-o', ''], [], FILES), (['diff', '--s'], ['--summary'], NOTHING),
     (['diff', '-n', ''], [], NOTHING), (['diff', '-nx', '--w'], ['--with', '--without'], NOTHING),
     (['diff', '--export', 'x', '--export', ''], [], FOLDERS),
@@ -281,4 +284,5 @@ def told(words_, folder, tools_=os.path.dirname(PROGRAM)):
 
 if __name__ == '__main__':
     sys.exit(tested(*plugin_exports.CHECKS, *plugin_questions.CHECKS, *plugin_remarks.CHECKS, *plugin_changes.CHECKS, *plugin_manifests.CHECKS, *plugin_advice.CHECKS,
-                    *plugin_server.CHECKS, *plugin_terminal.CHECKS, *plugin_show.CHECKS, tools, functions, script, make_run, completions, in_kubectl, man_page))
+                    *plugin_server.CHECKS, *plugin_terminal.CHECKS, *plugin_show.CHECKS, *plugin_sarif.CHECKS,
+                    tools, functions, script, make_run, completions, in_kubectl, man_page))

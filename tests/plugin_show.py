@@ -143,14 +143,14 @@ def on_terminals(it):
 @in_each_shell
 def refused(it):
     """What isn't known, before anything is read."""
-    every = 'table, wide, json, name or tsv'
+    every, hosted = 'table, wide, json, name or tsv', 'table, wide, json, name, tsv or sarif'
     for words, said in ((['who-can', 'get', 'pods', '-o', 'yaml'], 'who-can has no format yaml: -o takes ' + every),
-                        (['lint', '--output=x y'], 'lint has no format x y: -o takes ' + every), (['matrix', '-o'], '-o needs a value'),
+                        (['lint', '--output=x y'], 'lint has no format x y: -o takes ' + hosted), (['matrix', '-o'], '-o needs a value'),
                         (['matrix', '-o='], '-o needs a value'), (['rules', 'u:x', '-o', 'json', '-ojson'], '-o is given twice'),
                         (['matrix', '--color'], '--color needs a value'), (['matrix', '--color=red'], 'there is no color red: --color takes auto, always or never'),
                         (['diff', '--fail-on', 'all'], "diff can't fail on all: --fail-on takes changes, gains or powers"),
                         (['diff', '--fail-on', 'gains', '--fail-on=gains'], '--fail-on is given twice'), (['diff', '--fail-on'], '--fail-on needs a value'),
-                        (['diff', '--export', 'x', '-o', 'sum'], 'diff has no format sum: -o takes ' + every),
+                        (['diff', '--export', 'x', '-o', 'sum'], 'diff has no format sum: -o takes ' + hosted),
                         (['universe', '-o', 'json'], 'universe has no -o; kubectl rbacaudit --help lists its options')):
         it.expect('refused: %s' % words, words, 2, '', 'kubectl-rbacaudit: %s\n' % said)
     it.checked('asks no cluster', not it.lines('calls'), 'calls')

@@ -40,6 +40,11 @@ BAD_CHANGES = ([], ['--before', 'b'], ['--after', 'b', '--with', 'c'], ['--witho
                ['--after', 'b', '--without', 'c', '--with', 'd'])
 
 
+# The steps of powers, as their help describes them.
+STEPS = [b'  %-12s  ' % step for step in (b'impersonate', b'token', b'run', b'exec', b'secrets', b'nodes', b'bind', b'escalate', b'certificates',
+                                          b'webhooks')]
+
+
 def run(words, given=b'', **how):
     return subprocess.run([PROGRAM, *words], input=given, stdout=how.get('stdout', subprocess.PIPE),
                           stderr=subprocess.PIPE, timeout=120)
@@ -167,12 +172,12 @@ def changes_of(roles, bindings, missing):
 def help_and_usage():
     """Help on standard output with status 0; a refused line on standard error with status 2."""
     for words in (['--help'], ['can-i', '--help'], ['who-can', '--help'], ['rules', '--help'], ['matrix', '--help'], ['universe', '--help'],
-                  ['lint', '--help'], ['diff', '--help'], ['-h'], ['lint', '-h']):
+                  ['lint', '--help'], ['powers', '--help'], ['diff', '--help'], ['-h'], ['lint', '-h']):
         ended = run(words)
         checked('%s is on standard output' % ' '.join(words),
              ended.returncode == 0 and b'Usage' in ended.stdout and not ended.stderr, repr(ended))
     commands = run(['--help']).stdout
-    for command in (b'can-i', b'who-can', b'rules', b'matrix', b'universe', b'lint', b'diff'):
+    for command in (b'can-i', b'who-can', b'rules', b'matrix', b'universe', b'lint', b'powers', b'diff'):
         checked('help names %s' % command.decode(), command in commands, repr(commands))
     options = run(['can-i', '--help']).stdout
     for option in (b'--as', b'--groups', b'--group <G>', b'-n, --namespace', b'-A, --all-namespaces', b'--in-namespace', b'--subresource', b'-q, --quiet',
@@ -180,7 +185,7 @@ def help_and_usage():
         checked('help names %s' % option.decode(), option in options, repr(options))
     for line in (b'Namespace to check (default: default)', b'five fields, joined by tabs', b'rbacaudit can-i --as alice -n dev get pods'):
         checked('help of can-i says "%s"' % line.decode(), line in options, repr(options))
-    for command in ('who-can', 'rules', 'matrix', 'lint', 'diff'):
+    for command in ('who-can', 'rules', 'matrix', 'lint', 'powers', 'diff'):
         text = run([command, '--help']).stdout
         checked('help of %s names FILE and has an example' % command, b'FILE' in text and b'rbacaudit %s ' % command.encode() in text, repr(text))
     for option in (b'--every', b'--once', b'--after <TOKEN>', b'--limit <N>'):
@@ -226,6 +231,8 @@ def help_and_usage():
                   ['can-i', '--as', 'a', '--group', '-x', 'get', 'pods'], ['lint', '--every'], ['matrix', '--every', '--every'], ['matrix', '--every=x'],
                   ['matrix', '--once', '--once'], ['matrix', '--once=x'], ['who-can', '--once', 'get', 'pods'], ['lint', '--once'],
                   ['universe', '--once'], ['universe', '--every'], ['universe', '--limit', '1'], ['universe', '--after', 'MQ'], ['universe', '-n', 'dev'],
+                  ['powers', '-n', 'dev'], ['powers', '-A'], ['powers', '--as', 'a'], ['powers', '--every'], ['powers', '--why'], ['powers', '--only', 'run'],
+                  ['powers', '--limit', '1'], ['power'],
                   ['matrix', '--limit', '1', '--limit', '1'], ['matrix', '--after', 'MQ', '--after', 'MQ'], ['matrix', '-n', 'dev'],
                   ['lint', '--limit', '1'], ['lint', '-n', 'dev'], ['help'], ['rules'], ['rules', '-A'], ['rules', '--why', 'u:a'], ['rules', '-q', 'u:a'],
                   ['rules', '--as', 'a', 'u:a'], ['rules', '-A', '-A', 'u:a'], ['rules', '--groups', 'a', '--groups', 'b', 'u:a'],
@@ -414,6 +421,23 @@ def lint_streams():
         checked('help of lint names L%d' % code, b'L%d  ' % code in text, repr(text))
 
 
+def powers_streams():
+    """Powers by an export in files, of a bad document, on a full disk, and the help, which has a line for each step."""
+    runs = cluster_role('r', [{'verbs': ['create'], 'apiGroups': [''], 'resources': ['pods']}])
+    line = b'run\tu:alice\t*\tClusterRoleBinding/b\tClusterRole/r\tClusterRole/r\t1\t1\n'
+    with tempfile.TemporaryDirectory() as room:
+        files = put_files(room, 'powers', [[runs], [binding('ClusterRoleBinding', 'b', 'ClusterRole', 'r')]])[1:]
+        expect('powers of two files', ['powers', *files], 0, line)
+        expect('powers of a file and a missing one', ['powers', files[0], room], 2, err=b'rbacaudit: file 2: I1 read fault\n')
+        with open('/dev/full', 'wb') as full:
+            ended = run(['powers', *files], stdout=full)
+        checked('powers on a full disk', (ended.returncode, ended.stderr) == (2, b'rbacaudit: write failed after 0 bytes\n'), repr(ended))
+    expect('powers of a bad document', ['powers'], 2, err=b'rbacaudit: file 1: M2 not an object\n', given=b'[]')
+    text = run(['powers', '--help']).stdout
+    for said in (*STEPS, b'eight fields, joined by tabs', b'* is the whole cluster'):
+        checked('help of powers says "%s"' % said.decode(), said in text, repr(text))
+
+
 def universe(**lists):
     return export({'apiVersion': 'rbacaudit/v1', 'kind': 'Universe', **lists})
 
@@ -491,5 +515,5 @@ def ring():
 
 if __name__ == '__main__':
     sys.exit(tested(streams, help_and_usage, full_disk, little_memory, rows, matrix_streams, universe_streams, rules_streams, lint_streams,
-                    limits, universe_limits, ring, transcripts, links_and_heads, spaced_bindings, loop_of_pages,
+                    powers_streams, limits, universe_limits, ring, transcripts, links_and_heads, spaced_bindings, loop_of_pages,
                     example_cluster))

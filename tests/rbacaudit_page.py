@@ -7,6 +7,7 @@ a renderer, stands in the last line but one. The last line is `N passed, M faile
 
 import base64
 import hashlib
+import json
 import os
 import pty
 import re
@@ -21,7 +22,7 @@ from plugin_page import (plugin_files, plugin_names, plugin_notices, plugin_page
                          plugin_stale, plugin_types)
 from shown import in_browser
 from written import (CHANGES, FILTER, FINDINGS, NAMED, SMALL, Parts, contents, file_of, lines_in,
-                     made, named_strangers, rows_of, same, strangers)
+                     made, named_strangers, rows_of, same, steps, strangers)
 
 
 def written():
@@ -153,27 +154,31 @@ def named_refusals():
              unwatched),
             ('a type of another group', 'get apps secrets u:ann RoleBinding/dev/b', unwatched),
             ('another subresource', 'create - pods/log u:ann RoleBinding/dev/b', unwatched),
-            ('no subresource', 'impersonate authentication.k8s.io userextras/ u:ann '
-             'RoleBinding/dev/b', unwatched)):
+            ('a type that no step has', 'impersonate authentication.k8s.io uids u:ann '
+             'ClusterRoleBinding/b', unwatched)):
         with file_of([NAMED[0], line.replace(' ', '\t')]) as path:
             same('refused: %s' % name, made(SMALL, '--named', path),
                  (2, '', 'rbacaudit-page: %s line 2: %s\n' % (path, said)))
 
 
 def watch_list():
-    """--watched prints the pairs of docs/FORMATS.md, and needs no rows."""
-    part = contents('docs', 'FORMATS.md').partition('| Category |')[2].partition('\n\n')[0]
-    wanted = []
-    for line in part.splitlines()[2:]:
-        verbs, types = (re.findall(r'`(.*?)`', cell) for cell in line.split('|')[2:4])
-        wanted += [[verb, it.partition('.')[2] or '-', it.partition('.')[0]] for it in types
-                   for verb in verbs]
+    """The watch list has the steps of docs/BEHAVIOUR.md, and then everything; --watched prints its
+    pairs, and needs no rows."""
+    *watched, everything = json.loads(contents('page', 'watched.json'))
+    table = steps()
+    same('the watch list: the steps', [
+        (it['id'], verbs, types, where == ['whole cluster'], it.get('names') == 'any')
+        for it in watched for verbs, types, *where in it['pairs']], table)
+    same('the watch list: each step has one category', [it['id'] for it in watched],
+         [*dict.fromkeys(step for step, *_ in table)])
+    same('the watch list: everything', (everything['id'], everything['pairs']), ('everything', []))
+    wanted = [[step, verb, it.partition('.')[2] or '-', it.partition('.')[0]]
+              for step, verbs, types, *_ in table for it in types for verb in verbs]
     ended = subprocess.run([sys.executable, FILTER, '--watched'], stdin=subprocess.DEVNULL,
                            stdout=subprocess.PIPE, stderr=subprocess.PIPE, timeout=60)
     lines = [line.split('\t') for line in ended.stdout.decode().splitlines()]
     same('--watched: status', (ended.returncode, ended.stderr), (0, b''))
-    same('--watched: the pairs', [line[1:] for line in lines], wanted)
-    same('--watched: a category has one id', len({line[0] for line in lines}), 9)
+    same('--watched: the pairs', lines, wanted)
     with open('/dev/full', 'wb') as full:
         ended = subprocess.run([sys.executable, FILTER, '--watched'], stdout=full,
                                stderr=subprocess.PIPE, timeout=60)

@@ -507,7 +507,7 @@ Plain words up to where a line of the source is as wide as it may be, then
 .B L8 odd\-role
 A role is odd, such as \fB\-\-only\fR.
 .\" end
-.SS diff
+.SS powers
 """
 
 

@@ -4,7 +4,6 @@ typed into, printed, and compared with the rows that they were made of.
 
 import json
 import os
-import re
 import subprocess
 import tempfile
 
@@ -13,8 +12,8 @@ from common import PROGRAM, TOP, checked, skipped
 from opened import COUNTS, LABELS, Shown
 from shown_names import common_verbs, many_namespaces, names, notices, spreadsheet, zoomed
 from shown_scopes import joined, wide
-from written import (CHANGES, FINDINGS, NAMED, NAMES, SMALL, contents, file_of, made,
-                     named_strangers, rows_of, same, strangers)
+from written import (CHANGES, FINDINGS, NAMED, NAMES, SMALL, file_of, made, named_strangers,
+                     rows_of, same, steps, strangers)
 
 CLUSTER = os.path.join(TOP, 'examples', 'cluster')
 
@@ -22,9 +21,9 @@ CLUSTER = os.path.join(TOP, 'examples', 'cluster')
 def seen_who(page):
     """Who has how much."""
     same('who: the counts', page.cells(), [
-        ['group devs', '5', '1', '2', '3', 'secrets workloads '],
-        ['user ann', '5', '2', 'all', '2', 'secrets exec '],
-        ['account dev:ci', '2', '–', '1', '1', 'workloads ']])
+        ['group devs', '5', '1', '2', '3', 'run secrets '],
+        ['user ann', '5', '2', 'all', '2', 'exec secrets '],
+        ['account dev:ci', '2', '–', '1', '1', 'run ']])
     same('who: the facts', page.text('#facts'), '12 rows · 3 principals · 2 namespaces with rows '
          'of their own · 6 bindings in these rows')
     page.click('document.querySelectorAll(".who thead button")[1]')
@@ -105,13 +104,13 @@ def seen_watch(page):
     """The watch list: counted, the whole cluster first."""
     page.go('#watch')
     same('watch: the counts', page.it.do(COUNTS), [
+        ['0', 'Impersonates', 'nobody'], ['0', 'Creates tokens', 'nobody'],
+        ['2', 'Starts pods', 'in namespaces alone'],
+        ['1', 'Execs into pods or changes them', '1 in the whole cluster'],
         ['2', 'Reads secrets', '1 in the whole cluster'],
-             ['1', 'Execs into pods', '1 in the whole cluster'],
-        ['2', 'Creates or changes pods or workloads', 'in namespaces alone'],
-        ['0', 'Impersonates', 'nobody'], ['0', 'Binds roles', 'nobody'],
-        ['0', 'Escalates roles', 'nobody'], ['0', 'Creates tokens', 'nobody'],
-        ['0', 'Changes webhooks', 'nobody'], ['0', 'Approves certificates', 'nobody'],
-        ['0', 'Has everything (*)', 'nobody']])
+        ['0', 'Sends requests to kubelets', 'nobody'], ['0', 'Binds roles', 'nobody'],
+        ['0', 'Escalates roles', 'nobody'], ['0', 'Approves certificates', 'nobody'],
+        ['0', 'Changes webhooks', 'nobody'], ['0', 'Has everything (*)', 'nobody']])
     same('watch: who reads secrets', page.cells('#watch-secrets'),
          [['user ann', 'whole cluster', 'get secrets', 'ClusterRoleBinding/ops '],
                                                                     ['group devs', 'dev ',
@@ -195,25 +194,25 @@ def small_page(it, room):
 
 
 def watched(it, room):
-    """The watch list is that of docs/FORMATS.md."""
-    part = contents('docs', 'FORMATS.md').partition('| Category |')[2].partition('\n\n')[0]
-    lines = [[re.findall(r'`(.*?)`', cell) or cell.strip() for cell in line.split('|')[1:-1]]
-             for line in part.splitlines()[2:]]
-    Shown(it, room, 'watched', made(SMALL)[1])
-    same('the watch list', it.do('WATCHED.flatMap(({title, pairs}) => pairs.map(pair => '
-                                 '[title, ...pair, ...pair[2] ? [] : [""]]))'), lines)
-    rows = rows_of('\n'.join('u:%s %s %s %s %s - ClusterRoleBinding/a' % (who, place, verb, *type_)
-                             for who, place in (('ann', '-'), ('bob', 'dev'))
-                             for verb, *type_ in (
-                                 ('bind', 'rbac.authorization.k8s.io', 'clusterroles'),
-                                 ('escalate', 'rbac.authorization.k8s.io', 'clusterroles'),
-                                 ('impersonate', '-', 'users'))))
+    """A row counts for a step by each pair of the table of docs/BEHAVIOUR.md: in the whole cluster,
+    and in a namespace if any binding gives the step."""
+    requests = [(step, verb, type_.partition('.')[2] or '-', type_.partition('.')[0], in_cluster)
+                for step, verbs, types, in_cluster, _ in steps() for verb in verbs for type_ in types]
+    rows = rows_of('\n'.join('u:%s-%d %s %s %s %s - ClusterRoleBinding/a' % (
+        who, at, place, verb, group, resource) for who, place in (('all', '-'), ('dev', 'dev'))
+        for at, (_, verb, group, resource, _) in enumerate(requests)))
     page = Shown(it, room, 'places', made(rows)[1])
     page.go('#watch')
-    same('what is asked in the whole cluster alone counts there',
-         [[row[0] for row in page.cells('#watch-' + category)]
-          for category in ('bind', 'escalate', 'impersonate')],
-         [['user ann', 'user bob'], ['user ann'], ['user ann']])
+    for step in dict.fromkeys(step for step, *_ in requests):
+        places = [(at, request[-1]) for at, request in enumerate(requests) if request[0] == step]
+        same('watched: who has the step %s' % step,
+             [row[0] for row in page.cells('#watch-' + step)],
+             ['user all-%d' % at for at, _ in places]
+             + ['user dev-%d' % at for at, in_cluster in places if not in_cluster])
+        said = ' '.join(page.texts('#watch-%s .why' % step))
+        checked('watched: %s says whether powers counts names' % step,
+                ('rbacaudit powers also counts' in said) == any(
+                    by_any for it, *_, by_any in steps() if it == step), said)
 
 
 def by_name(it, room):
@@ -223,23 +222,24 @@ def by_name(it, room):
         page = Shown(it, room, 'names', made(SMALL, '--named', named)[1])
     same('by name: who', [row[:2] + row[-1:] for row in page.cells()], [
         ['group devs', '5',
-         'secrets workloads secrets by name exec by name workloads by name '],
-        ['user ann', '5', 'secrets exec '],
-        ['account dev:ci', '2', 'workloads impersonate by name '],
-        ['user zoe', '–', 'secrets by name tokens by name ']])
+         'run secrets run by name exec by name secrets by name '],
+        ['user ann', '5', 'exec secrets '],
+        ['account dev:ci', '2', 'run impersonate by name '],
+        ['user zoe', '–', 'token by name secrets by name ']])
     checked('by name: such a badge looks different', it.do(
         '[...document.querySelectorAll(".badge")].every(it => '
         'it.classList.contains("part") === it.textContent.endsWith("by name"))'))
-    page.click('[...document.querySelectorAll(".badge")].at(-1)')
-    same('by name: it leads to the watch list', page.hash(), '#watch?at=tokens')
+    page.click('[...document.querySelectorAll(".badge")].at(-2)')
+    same('by name: it leads to the watch list', page.hash(), '#watch?at=token')
     same('by name: the counts', it.do(COUNTS), [
+        ['0 · 1 by name', 'Impersonates', 'only by name'],
+        ['0 · 1 by name', 'Creates tokens', 'only by name'],
+        ['2 · 1 by name', 'Starts pods', 'in namespaces alone'],
+        ['1 · 1 by name', 'Execs into pods or changes them', '1 in the whole cluster'],
         ['2 · 2 by name', 'Reads secrets', '1 in the whole cluster'],
-        ['1 · 1 by name', 'Execs into pods', '1 in the whole cluster'],
-        ['2 · 1 by name', 'Creates or changes pods or workloads', 'in namespaces alone'],
-        ['0 · 1 by name', 'Impersonates', 'only by name'], ['0', 'Binds roles', 'nobody'],
-        ['0', 'Escalates roles', 'nobody'], ['0 · 1 by name', 'Creates tokens', 'only by name'],
-        ['0', 'Changes webhooks', 'nobody'], ['0', 'Approves certificates', 'nobody'],
-        ['0', 'Has everything (*)', 'nobody']])
+        ['0', 'Sends requests to kubelets', 'nobody'], ['0', 'Binds roles', 'nobody'],
+        ['0', 'Escalates roles', 'nobody'], ['0', 'Approves certificates', 'nobody'],
+        ['0', 'Changes webhooks', 'nobody'], ['0', 'Has everything (*)', 'nobody']])
     ann, devs = page.cells('#watch-secrets')[:2]
     same('by name: whoever reads all secrets comes first', (ann[0], devs[:2]),
          ('user ann', ['group devs', 'dev ']))
@@ -247,13 +247,13 @@ def by_name(it, room):
         ['user zoe', 'whole cluster dev ', 'get, list secrets, some objects only',
          'RoleBinding/dev/oneRoleBinding/dev/twoClusterRoleBinding/all'],
         ['group devs', 'prod ', 'get secrets, some objects only', 'RoleBinding/prod/one']])
-    same('by name: pods in the whole cluster', page.cells('#watch-workloads')[2:], [
+    same('by name: pods in the whole cluster', page.cells('#watch-run')[2:], [
         ['group devs', 'whole cluster ', 'create pods, some objects only',
          'ClusterRoleBinding/pods']])
-    same('by name: a subresource for a star', page.cells('#watch-impersonate'), [
-        ['account dev:ci', 'whole cluster ', 'impersonate userextras/scopes.authentication.k8s.io, '
-         'some objects only', 'ClusterRoleBinding/scopes']])
-    same('by name: a namespace that the binding doesn’t tell', page.cells('#watch-tokens'), [
+    same('by name: users in the whole cluster', page.cells('#watch-impersonate'), [
+        ['account dev:ci', 'whole cluster ', 'impersonate users, some objects only',
+         'ClusterRoleBinding/one-user']])
+    same('by name: a namespace that the binding doesn’t tell', page.cells('#watch-token'), [
         ['user zoe', 'as the binding says', 'create serviceaccounts/token, some objects only',
          'RoleBinding/a/b/c']])
     page.go('#who?who=u:zoe')
@@ -267,19 +267,22 @@ def by_name(it, room):
     with file_of([NAMED[0].replace('g:devs', who) for who in ('u:ann', 'u:bob', 'u:cy')]) as named:
         page = Shown(it, room, 'names', made([row, other], '--named', named)[1])
     page.go('#watch')
-    same('by name: a row with a name counts as before', it.do(COUNTS)[0],
+    same('by name: a row with a name counts as before', it.do(COUNTS)[4],
          ['2 · 1 by name', 'Reads secrets', 'in namespaces alone'])
 
 
 def watch_heads(it, room):
     """The watch list says whether holders by name count."""
     plain = [row for row in SMALL if row.split('\t')[5] == '-']
-    uncounted = 'Whoever may do it only to objects of certain names isn’t counted.'
-    apart = 'Whoever may do it only to objects of certain names is counted apart: by name.'
+    head = ('The steps of rbacaudit powers, and who has everything. A step counts whoever has a row of '
+            'this page for one of its requests. ')
+    uncounted = head + 'Whoever may do it only to objects of certain names isn’t counted.'
+    apart = head + 'Whoever may do it only to objects of certain names is counted apart: by name.'
+    too = head + 'Rows for objects of certain names count too.'
     with file_of([]) as none:
         for name, rows, words, wanted in (
                 ('rows without names', plain, [], [uncounted]), ('no rows', [], [], [uncounted]),
-                ('rows with names', SMALL, [], []),
+                ('rows with names', SMALL, [], [too]),
                 ('no holder by name', plain, ['--named', none], [apart])):
             page = Shown(it, room, 'heads', made(rows, *words)[1])
             page.go('#watch')
@@ -438,7 +441,7 @@ def cluster_page(it, room):
     readers = {row[0] for row in fields
                if row[2] in ('get', 'list', 'watch') and row[3:5] == ['-', 'secrets']}
     page.go('#watch')
-    same('cluster: who reads secrets', page.text('.tiles b'), str(len(readers)))
+    same('cluster: who reads secrets', page.texts('.tiles b')[4], str(len(readers)))
     page.is_quiet()
 
 

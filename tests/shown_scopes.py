@@ -26,9 +26,9 @@ def joined_views(page, name):
     """In a namespace, each view has its own rows, and what holds everywhere, told apart."""
     for place, wanted in (
             ('dev', [['group admins', '2', '2', 'all', '1', 'secrets '],
-                     ['user ann', '2', '–', '1', '1', 'secrets workloads ']]),
+                     ['user ann', '2', '–', '1', '1', 'run secrets ']]),
             ('prod', [['group admins', '2', '2', 'all', '1', 'secrets '],
-                      ['user bob', '1', '–', '1', '1', 'workloads ']])):
+                      ['user bob', '1', '–', '1', '1', 'run ']])):
         page.go('#who?ns=' + place)
         same('%s: who in %s' % (name, place), page.cells(), wanted)
     page.go('#who?who=g:admins&ns=dev')
@@ -52,7 +52,7 @@ def joined_views(page, name):
          ('#what?ns=dev&own=1', [['user ann', '   c    ', 'g       ']]))
     for place, held in (('dev', '2'), ('prod', '1')):
         page.go('#watch?ns=' + place)
-        same('%s: who reads secrets in %s' % (name, place), page.it.do(COUNTS)[0],
+        same('%s: who reads secrets in %s' % (name, place), page.it.do(COUNTS)[4],
              [held, 'Reads secrets', '1 everywhere'])
     same('%s: and where' % name, page.cells('#watch-secrets'),
          [['group admins', 'everywhere', 'get, list secrets', 'ClusterRoleBinding/admins ']])

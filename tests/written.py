@@ -7,6 +7,7 @@ import contextlib
 import html.parser
 import json
 import os
+import re
 import struct
 import subprocess
 import sys
@@ -48,8 +49,7 @@ NAMED = [line.replace(' ', '\t') for line in (
     'get - secrets u:ann RoleBinding/dev/one', 'get - secrets u:zoe RoleBinding/dev/one',
     'list - secrets u:zoe RoleBinding/dev/two', 'list - secrets u:zoe ClusterRoleBinding/all',
     'create - pods/exec g:devs RoleBinding/dev/one', 'create - pods g:devs ClusterRoleBinding/pods',
-    'impersonate authentication.k8s.io userextras/scopes u:system:serviceaccount:dev:ci '
-    'ClusterRoleBinding/scopes',
+    'impersonate - users u:system:serviceaccount:dev:ci ClusterRoleBinding/one-user',
     'create - serviceaccounts/token u:zoe RoleBinding/a/b/c')]
 # Names of strangers as a field prints them, and what is seen of them.
 NAMES = {
@@ -95,6 +95,17 @@ def contents(*path):
         return file.read()
 
 
+def steps():
+    """The table of steps of docs/BEHAVIOUR.md: the step, its verbs, its types, whether a
+    ClusterRoleBinding alone gives it, and whether it counts rules for any names."""
+    table = contents('docs', 'BEHAVIOUR.md').partition('## `powers`')[2].partition('\n## ')[0]
+    lines = [line.split('|')[1:-1] for line in table.splitlines() if line.startswith('| `')]
+    return [(step.strip(' `'), *(re.findall('`(.*?)`', cell) for cell in (verbs, types)),
+             {'a ClusterRoleBinding': True, 'any binding': False}[granted.strip()],
+             {'any': True, 'none': False}[names.strip()])
+            for step, verbs, types, granted, names in lines]
+
+
 def strangers():
     """Rows in which each name stands in each field that may have it."""
     for name in NAMES:
@@ -105,7 +116,7 @@ def strangers():
 def named_strangers():
     """Lines of --named in which each name stands in each field that may have it."""
     for name in NAMES:
-        yield '\t'.join(['impersonate', 'authentication.k8s.io', 'userextras/' + name, 'g:' + name,
+        yield '\t'.join(['create', '-', 'serviceaccounts/token', 'g:' + name,
                          'RoleBinding/%s/%s' % (name, name)])
         yield '\t'.join(['get', '-', 'secrets', 'u:' + name, 'ClusterRoleBinding/' + name])
 

@@ -416,6 +416,7 @@ namespace what somebody may do in the whole cluster; --once leaves them out"
 
 # Whether an answer is read before it is shown.
 is_kept() {
+    [ "$format" != sarif ] || return 0
     case $command$stale in
         who-can?* | rules?* | powers?*) ;;
         *) has_words ;;

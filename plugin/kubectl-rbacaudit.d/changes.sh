@@ -32,12 +32,12 @@ diff_command() {
         diff_usage
         exit 0
     fi
-    choose_format diff
+    if [ "$summary" = yes ]; then choose_format 'diff --summary'; else choose_format diff; fi
     need_rbacaudit
     check_sides
     check_options
     read_sides
-    if [ "$summary$fail_on" = no ]; then
+    if [ "$summary$fail_on" = no ] && [ "$format" != sarif ]; then
         runs=run_shown
         compare
     else
@@ -214,6 +214,7 @@ List what a change lets users do, and what it takes from them.
   -n NS            the namespace of their roles and bindings that have none; without it, default
   --summary        counts instead of lines: the permissions gained and lost for each who, where and binding, the
                    powers among them, which are ways to take over somebody else, and a total
+  -o sarif         the changes as SARIF, for code hosts, with the file of each binding or of its role
   --fail-on WHAT   end with status 1 for changes (default), for gains alone, or for gained powers alone
 
 PATH is a file, a folder (.json, .yaml and .yml, folders within), a folder with a kustomization, or -

@@ -2,7 +2,8 @@
 # What manifests have: which roles and bindings are read from them is said before anything is answered.
 
 # Awk functions that follow JSON_WALK over a List that kubectl has made: take(item) is called at the end of
-# each item, and finds its fields in `kind`, `version`, `name` and `space`. A program that has these defines it.
+# each item, and finds its fields in `kind`, `version`, `name` and `space`, and in `role_kind` and `role` what a
+# binding refers to. A program that has these defines it.
 ITEM_WALK=$JSON_WALK'
 BEGIN {
     rbac_group = "^rbac[.]authorization[.]k8s[.]io/"
@@ -12,19 +13,22 @@ BEGIN {
 function on_field() {
     if (is_metadata()) filled = 1
     if (depth == 3 && field[3] == "metadata") filled = 0
+    if (depth == 3 && field[3] == "roleRef") role_kind = role = ""
 }
 function on_text(text) {
     if (depth == 3 && field[3] == "kind") kind = text
     if (depth == 3 && field[3] == "apiVersion") version = text
     if (is_metadata() && field[4] == "name") name = text
     if (is_metadata() && field[4] == "namespace") space = text
+    if (depth == 4 && field[3] == "roleRef" && field[4] == "kind") role_kind = text
+    if (depth == 4 && field[3] == "roleRef" && field[4] == "name") role = text
 }
 function on_end() {
     ends++
     if (marks == "yes" && is_metadata() && space == "") print "at", ends, filled ? "," : ""
     if (depth != 3) return
     take(place[2])
-    kind = version = name = space = ""
+    kind = version = name = space = role_kind = role = ""
 }
 function is_metadata() { return depth == 4 && field[3] == "metadata" }
 function is_known() { return version ~ rbac_group && (kind in known) }'
@@ -51,13 +55,14 @@ function take(item) {
 }
 END { print "read", roles + 0, bindings + 0, others + 0, bare + 0 }'
 
-# Prints a line for each object of such a List that rbacaudit holds, as a finding of lint has it: its item, a
-# tab, and its kind, namespace and name.
+# Prints a line for each object of such a List that rbacaudit holds: its item; its kind, namespace and name, as
+# a finding of lint has them; and in the same way the role that a binding refers to. Tabs separate them.
 LIST_OBJECTS=$ITEM_WALK'
-function take(item) {
+function take(item,    refers) {
     if (!is_known() && !(version == "v1" && kind ~ /^(Namespace|ServiceAccount)$/)) return
-    if (kind ~ /^(Role|ServiceAccount)/) name = (space == "" ? "default" : space) "/" name
-    print item "\t" kind "/" field_text(name)
+    if (space == "") space = "default"
+    refers = kind ~ /Binding$/ ? "\t" field_text(role_kind "/" (role_kind == "Role" ? space "/" : "") role) : ""
+    print item "\t" kind "/" field_text((kind ~ /^(Role|ServiceAccount)/ ? space "/" : "") name) refers
 }
 # The text of a field of a line, from JSON: kubectl writes what JSON lets it as it is, but for < > and &.
 function field_text(json,    out, at, one, code) {

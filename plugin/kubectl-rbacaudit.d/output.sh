@@ -27,6 +27,9 @@ set_shown() {
 # Leaves in `formats` what -o takes of this command.
 formats_of() {
     formats='table wide json name tsv'
+    case $1 in
+        lint | diff) formats="$formats sarif" ;;
+    esac
 }
 
 # Takes the format, before anything is read. Without -o it is a table on a terminal.
@@ -64,6 +67,7 @@ find_show() {
 is_filtered() {
     case $format in
         '' | tsv) [ -t 1 ] ;;
+        sarif) return 1 ;;
     esac
 }
 
@@ -107,7 +111,9 @@ run_shown() {
 
 # Shows an answer that was kept, in $scratch/answer. If that fails, the status is 2.
 show_answer() {
-    run_shown cat "$scratch/answer" || answered=2
+    kept=$scratch/answer
+    [ "$format" != sarif ] || [ "$answered" -gt 1 ] || make_sarif
+    run_shown cat "$kept" || answered=2
 }
 
 # ---- the words of rules

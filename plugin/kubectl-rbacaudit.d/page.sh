@@ -141,7 +141,7 @@ end_rows() {
 
 # Writes to $scratch/named who may do what is on the watch list only to objects of certain names:
 # holders by rules whatever their resourceNames, but for those who have something of the same
-# category outright, in that namespace or in the whole cluster. Without resourceNames there are none.
+# step outright, in that namespace or in the whole cluster. Without resourceNames there are none.
 write_named() {
     : >"$scratch/named"
     reads='cluster.json namespaced.json'
@@ -153,7 +153,7 @@ write_named() {
     reads='cluster.json namespaced.json api'
     asked=0
     total=$(grep -c '' "$scratch/pairs")
-    while IFS=$(printf '\t') read -r category verb group resource <&4; do
+    while IFS=$(printf '\t') read -r step verb group resource <&4; do
         asked=$((asked + 1))
         draw_progress "asking about object names, $asked of $total"
         with_files ask_pair "$@"
@@ -179,34 +179,20 @@ has_names() {
     return 1
 }
 
-# Writes to $scratch/pairs the pairs of the watch list whose types make_universe has listed. A type
-# with a star stands for its subresources. A server asks without a name whether somebody may create a
-# new object, so a rule with names never lets them, and such a pair is left out.
+# Writes to $scratch/pairs the pairs of the watch list whose types make_universe has listed. A server asks
+# without a name whether somebody may create a new object, so a rule with names never lets them, and such a pair
+# is left out.
 list_pairs() {
     LC_ALL=C awk -F '\t' "$JSON_FIELD"'
-        NF == 3 && !(($1, $2) in seen) {
-            seen[$1, $2] = 1
-            groups[++count] = json_field($1)
-            types[count] = json_field($2)
-        }
-        NF != 4 || $2 == "create" && $4 !~ /\// { next }
-        {
-            star = $4 ~ /\/\*$/ ? substr($4, 1, length($4) - 1) : ""
-            for (at = 1; at <= count; at++)
-                if (groups[at] == $3 && (types[at] == $4 || star && index(types[at], star) == 1))
-                    print $1 FS $2 FS $3 FS types[at]
-        }' "$scratch/listed" "$scratch/types" "$scratch/watched" >"$scratch/pairs"
+        NF == 3 { is_listed[json_field($1), json_field($2)]; next }
+        NF == 4 && ($2 != "create" || $4 ~ /\//) && (($3, $4) in is_listed)
+    ' "$scratch/listed" "$scratch/types" "$scratch/watched" >"$scratch/pairs"
 }
 
 # Asks who has a pair whatever the names, for $scratch/any, and who has it outright, for
 # $scratch/outright. (A type with a dot and no group is of the core group.)
 ask_pair() {
     case $resource in
-        *\\*)
-            report "the page doesn't count who may $verb $resource only by object names, since that \
-resource has a backslash or a control byte; kubectl rbacaudit rules WHO shows it"
-            return
-            ;;
         */*) below=--subresource=${resource#*/} ;;
         *) below= ;;
     esac
@@ -220,7 +206,7 @@ ask_holders() {
     into=$1
     shift
     ask who-can "$@" >"$scratch/holders" || exit "$answered"
-    pair=$(printf '%s\t' "$category" "$verb" "$group" "$resource") \
+    pair=$(printf '%s\t' "$step" "$verb" "$group" "$resource") \
         LC_ALL=C awk '{ print ENVIRON["pair"] $0 }' "$scratch/holders" >>"$scratch/$into"
 }
 

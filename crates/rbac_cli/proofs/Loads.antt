@@ -11,7 +11,7 @@ use Rattle.rbac_model.specs.Policies.{PolicyView}
 use Rattle.rbac_model.specs.declared.objects.Object.{Object}
 use Rattle.rbac_manifest.specs.Load.{HasTooManyGrants, document_fault, fault_from, file_refusal, in_file}
 use Rattle.rbac_question.specs.declared.command.Action.{Action}
-use Rattle.rbac_question.specs.declared.command.Action.TheVariants.{CanI, WhoCan, Rules, Matrix, Lint, Diff}
+use Rattle.rbac_question.specs.declared.command.Action.TheVariants.{CanI, WhoCan, Rules, Matrix, Lint, Powers, Diff}
 use Rattle.rbac_question.specs.declared.command.Action.TheVariants as action
 use Rattle.rbac_question.specs.declared.command.Change.{Change}
 use Rattle.rbac_question.specs.declared.command.Change.TheVariants.{Over}
@@ -33,6 +33,7 @@ over (WhoCan options q) inputs (Single l) h = tt
 over (Rules who scope) inputs (Single l) h = tt
 over (Matrix options after limit) inputs (Single l) h = tt
 over (Lint only skip) inputs (Single l) h = tt
+over Powers inputs (Single l) h = tt
 over action.Universe inputs (Single l) h = tt
 over (Diff n change) inputs (Single l) h = h
 over (CanI who quiet why q) inputs (Pair x y) h = h
@@ -40,6 +41,7 @@ over (WhoCan options q) inputs (Pair x y) h = h
 over (Rules who scope) inputs (Pair x y) h = h
 over (Matrix options after limit) inputs (Pair x y) h = h
 over (Lint only skip) inputs (Pair x y) h = h
+over Powers inputs (Pair x y) h = h
 over action.Universe inputs (Pair x y) h = h
 over (Diff n change) inputs (Pair x y) h = tt
 
@@ -228,3 +230,4 @@ of_diff P (Rules who scope) before after is h = absurd is
 of_diff P (Matrix options mark limit) before after is h = absurd is
 of_diff P action.Universe before after is h = absurd is
 of_diff P (Lint only skip) before after is h = absurd is
+of_diff P Powers before after is h = absurd is

@@ -12,7 +12,7 @@ use Rattle.rbac_terms.specs.declared.granting.Subject.{Subject}
 use Rattle.rbac_terms.specs.declared.granting.Subject.TheVariants.{User, Group, Account}
 use Rattle.rbac_terms.proofs.Groups.{apart}
 use Rattle.rbac_model.specs.Lists.{by_name, IsAscendingBy}
-use Rattle.rbac_model.specs.Policies.{Held, Grants, Allows, IsFirst, binding_name}
+use Rattle.rbac_model.specs.Policies.{Held, Grants, Allows, IsFirst, PolicyView, binding_name}
 use Rattle.rbac_model.specs.Unions.{AreUnited, who_name}
 use Rattle.rbac_model.specs.Universes.{UniverseView, RowView, Cell, IsRow, IsMatrix, cell_key}
 use Rattle.rbac_index.specs.WhoCan.{AreListedHolders}
@@ -27,14 +27,15 @@ use Rattle.rbac_index.proofs.ListedLemmas.{one_listed}
 use Rattle.rbac_manifest.specs.Load.{LoadedView}
 use Rattle.rbac_lint.proofs.OneLines.{one_wanted}
 use Rattle.rbac_diff.proofs.OneChanges.{one_changes}
+use Rattle.rbac_paths.specs.Powers.{ArePowers, PowerView}
 use Rattle.rbac_document.proofs.OneDocument.{one_document}
 use Rattle.rbac_question.specs.declared.command.Action.{Action}
-use Rattle.rbac_question.specs.declared.command.Action.TheVariants.{CanI, WhoCan, Rules, Matrix, Universe, Lint, Diff}
+use Rattle.rbac_question.specs.declared.command.Action.TheVariants.{CanI, WhoCan, Rules, Matrix, Universe, Lint, Powers, Diff}
 use Rattle.rbac_question.specs.declared.command.HolderOptions.{HolderOptions}
 use Rattle.rbac_question.specs.declared.command.MatrixOptions.{MatrixOptions}
 use Rattle.rbac_question.specs.declared.command.Question.{Question}
 use Rattle.rbac_cli.specs.HolderLines.{AreHolderLines, joined}
-use Rattle.rbac_cli.specs.Out.{Answers, IsAllowed, IsDenied, rules_text, scope_asked, findings_text, findings_status, wanted_meant, changes_text, changes_status, line_unless}
+use Rattle.rbac_cli.specs.Out.{Answers, IsAllowed, IsDenied, rules_text, scope_asked, findings_text, findings_status, wanted_meant, powers_text, changes_text, changes_status, line_unless}
 use Rattle.rbac_cli.specs.MatrixPage.{AreRows, AreListed}
 use Rattle.rbac_cli.specs.Meant.{IsWhereMeant, requested_meant}
 use Rattle.rbac_cli.specs.declared.exports.Exports.{Exports}
@@ -246,33 +247,41 @@ not_both held entries who q (t, n, meant, allows) (u, m, means, none) =
     let same = one_meant entries q t u n m meant means in
     none (subst (λ x. Allows held who m q.verb x) same.0 (subst (λ x. Allows held who x q.verb t) same.1 allows))
 
-pub one_answer : (e : Exports) (action : Action) (text other : List ℕ) (status ending : Status) → Answers e action text status → Answers e action other ending
-    → (text ≡ other) × (status ≡ ending)
-one_answer (Single l) (CanI who quiet why q) text other status ending (inl (a, (r, is, e), s)) (inl (b, (o, are, f), t)) = (
-  e ∙ ap (λ (reason : List ℕ). line_unless quiet (codes "yes") ++ reason) (one_reason l.policy l.catalogue.entries who q r o quiet why is are) ∙ sym f,
-  s ∙ sym t,
-)
-one_answer (Single l) (CanI who quiet why q) text other status ending (inl a) (inr b) = absurd (not_both l.policy.held l.catalogue.entries who q a.0 b.0)
-one_answer (Single l) (CanI who quiet why q) text other status ending (inr a) (inl b) = absurd (not_both l.policy.held l.catalogue.entries who q b.0 a.0)
-one_answer (Single l) (CanI who quiet why q) text other status ending (inr a) (inr b) = (a.1 ∙ sym b.1, a.2 ∙ sym b.2)
-one_answer (Single l) (WhoCan options q) text other status ending a b = one_holders_text l options q text other status ending a b
-one_answer (Single l) (Rules who scope) text other status ending (xs, are, e, s) (ys, those, f, t) =
-    (e ∙ ap rules_text (one_rules who (scope_asked scope) l.policy.grants xs ys are those) ∙ sym f, s ∙ sym t)
-one_answer (Single l) (Matrix options after limit) text other status ending (u, rows, m, x, e, s) (v, others, n, y, f, t) = (
-  e ∙ one_matrix_text options.every after limit rows others (one_listed_lines options l.policy.held l.lists u v rows others m.sets n.sets x y) ∙ sym f,
-  s ∙ sym t,
-)
-one_answer (Single l) (Lint only skip) text other status ending (found, are, e, s) (others, these, f, t) =
-    let one = one_wanted (wanted_meant (option_map vec_items only) skip) l.policy.held l.replaced found others are these in
-    (e ∙ ap findings_text one ∙ sym f, s ∙ ap findings_status one ∙ sym t)
-one_answer (Single l) Universe text other status ending (is, s) (are, t) = (one_document l.lists text other is are, s ∙ sym t)
-one_answer (Single l) (Diff n change) text other status ending a b = absurd a
-one_answer (Pair before after) (Diff n change) text other status ending (xs, are, e, s) (ys, those, f, t) =
-    let one = one_changes before after xs ys are those in
-    (e ∙ ap changes_text one ∙ sym f, s ∙ ap changes_status one ∙ sym t)
-one_answer (Pair before after) (CanI who quiet why q) text other status ending a b = absurd a
-one_answer (Pair before after) (WhoCan options q) text other status ending a b = absurd a
-one_answer (Pair before after) (Rules who scope) text other status ending a b = absurd a
-one_answer (Pair before after) (Matrix options mark limit) text other status ending a b = absurd a
-one_answer (Pair before after) Universe text other status ending a b = absurd a
-one_answer (Pair before after) (Lint only skip) text other status ending a b = absurd a
+-- what is known of powers
+abbrev pub PowersOne : Type 0
+PowersOne = (p : PolicyView) (xs others : List PowerView) → ArePowers p xs → ArePowers p others → xs ≡ others
+
+module _ (powers_one : PowersOne) where
+  pub one_answer : (e : Exports) (action : Action) (text other : List ℕ) (status ending : Status) → Answers e action text status → Answers e action other ending
+      → (text ≡ other) × (status ≡ ending)
+  one_answer (Single l) (CanI who quiet why q) text other status ending (inl (a, (r, is, e), s)) (inl (b, (o, are, f), t)) = (
+    e ∙ ap (λ (reason : List ℕ). line_unless quiet (codes "yes") ++ reason) (one_reason l.policy l.catalogue.entries who q r o quiet why is are) ∙ sym f,
+    s ∙ sym t,
+  )
+  one_answer (Single l) (CanI who quiet why q) text other status ending (inl a) (inr b) = absurd (not_both l.policy.held l.catalogue.entries who q a.0 b.0)
+  one_answer (Single l) (CanI who quiet why q) text other status ending (inr a) (inl b) = absurd (not_both l.policy.held l.catalogue.entries who q b.0 a.0)
+  one_answer (Single l) (CanI who quiet why q) text other status ending (inr a) (inr b) = (a.1 ∙ sym b.1, a.2 ∙ sym b.2)
+  one_answer (Single l) (WhoCan options q) text other status ending a b = one_holders_text l options q text other status ending a b
+  one_answer (Single l) (Rules who scope) text other status ending (xs, are, e, s) (ys, those, f, t) =
+      (e ∙ ap rules_text (one_rules who (scope_asked scope) l.policy.grants xs ys are those) ∙ sym f, s ∙ sym t)
+  one_answer (Single l) (Matrix options after limit) text other status ending (u, rows, m, x, e, s) (v, others, n, y, f, t) = (
+    e ∙ one_matrix_text options.every after limit rows others (one_listed_lines options l.policy.held l.lists u v rows others m.sets n.sets x y) ∙ sym f,
+    s ∙ sym t,
+  )
+  one_answer (Single l) (Lint only skip) text other status ending (found, are, e, s) (others, these, f, t) =
+      let one = one_wanted (wanted_meant (option_map vec_items only) skip) l.policy.held l.replaced found others are these in
+      (e ∙ ap findings_text one ∙ sym f, s ∙ ap findings_status one ∙ sym t)
+  one_answer (Single l) Universe text other status ending (is, s) (are, t) = (one_document l.lists text other is are, s ∙ sym t)
+  one_answer (Single l) Powers text other status ending (xs, are, e, s) (ys, those, f, t) =
+      (e ∙ ap powers_text (powers_one l.policy xs ys are those) ∙ sym f, s ∙ sym t)
+  one_answer (Single l) (Diff n change) text other status ending a b = absurd a
+  one_answer (Pair before after) (Diff n change) text other status ending (xs, are, e, s) (ys, those, f, t) =
+      let one = one_changes before after xs ys are those in
+      (e ∙ ap changes_text one ∙ sym f, s ∙ ap changes_status one ∙ sym t)
+  one_answer (Pair before after) (CanI who quiet why q) text other status ending a b = absurd a
+  one_answer (Pair before after) (WhoCan options q) text other status ending a b = absurd a
+  one_answer (Pair before after) (Rules who scope) text other status ending a b = absurd a
+  one_answer (Pair before after) (Matrix options mark limit) text other status ending a b = absurd a
+  one_answer (Pair before after) Universe text other status ending a b = absurd a
+  one_answer (Pair before after) (Lint only skip) text other status ending a b = absurd a
+  one_answer (Pair before after) Powers text other status ending a b = absurd a

@@ -16,11 +16,13 @@ use Rattle.rbac_text.specs.Why.{why_text}
 use Rattle.rbac_text.specs.Finding.{finding_text}
 use Rattle.rbac_lint.specs.declared.finding.Finding.{Finding}
 use Rattle.rbac_lint.specs.Wanted.{WantedView, AreWanted}
+use Rattle.rbac_paths.specs.Powers.{ArePowers, PowerView}
+use Rattle.rbac_paths.specs.Lines.{power_text}
 use Rattle.rbac_diff.specs.Changes.{ChangeView, AreChanges}
 use Rattle.rbac_diff.specs.Lines.{change_text}
 use Rattle.rbac_question.specs.declared.command.Action.{Action}
 use Rattle.rbac_question.specs.declared.command.Action.TheVariants.{CanI, WhoCan, Rules, Matrix}
-use Rattle.rbac_question.specs.declared.command.Action.TheVariants.{Universe, Lint, Diff}
+use Rattle.rbac_question.specs.declared.command.Action.TheVariants.{Universe, Lint, Powers, Diff}
 use Rattle.rbac_question.specs.declared.command.Scope.{Scope}
 use Rattle.rbac_question.specs.declared.command.Scope.TheVariants as question
 use Rattle.rbac_question.specs.declared.command.Question.{Question}
@@ -101,6 +103,10 @@ abbrev pub findings_status : List Finding → Status
 findings_status [] = Zero
 findings_status (f ∷ found) = One
 
+-- a line for each step that somebody can take, in order
+abbrev pub powers_text : List PowerView → Text
+powers_text xs = flat_map power_text xs
+
 -- a line for each change, in order
 abbrev pub changes_text : List ChangeView → Text
 changes_text xs = flat_map change_text xs
@@ -114,8 +120,9 @@ changes_status (x ∷ xs) = One
 -- or `no` and 1 (kubectl auth can-i); `who-can` answers a line for each holder, and 0; `rules` a line
 -- for each rule that somebody has, and 0 (own); `matrix` a page of the rows that are listed over a
 -- universe of the lists, and 0 (own); `universe` the Universe document of the lists, and 0 (own);
--- `lint` a line for each finding that is asked for, and 1 if there is one (own); `diff` a line for
--- each change from the first policy to the second, and 1 if there is one (own)
+-- `lint` a line for each finding that is asked for, and 1 if there is one (own); `powers` a line for
+-- each step that a user or a group can take, and 0 (own); `diff` a line for each change from the first
+-- policy to the second, and 1 if there is one (own)
 abbrev pub Answers : Exports → Action → List ℕ → Status → Type 0
 Answers (Single l) (CanI who quiet why q) text status =
     (IsAllowed l.policy.held l.catalogue.entries who q
@@ -144,6 +151,8 @@ Answers (Single l) (Lint only skip_system) text status =
     (found : List Finding)
     × AreWanted (wanted_meant (option_map vec_items only) skip_system) l.policy.held l.replaced found
     × (text ≡ findings_text found) × (status ≡ findings_status found)
+Answers (Single l) Powers text status =
+    (xs : List PowerView) × ArePowers l.policy xs × (text ≡ powers_text xs) × (status ≡ Zero)
 Answers (Pair before after) (Diff n change) text status =
     (xs : List ChangeView) × AreChanges before after xs
     × (text ≡ changes_text xs) × (status ≡ changes_status xs)

@@ -11,6 +11,7 @@ use crate::lint::print_findings;
 use crate::matrix::print_matrix;
 use crate::outcome::Status;
 use crate::output::Output;
+use crate::powers::print_powers;
 use crate::rules::print_rules;
 use crate::stop::Stop;
 use crate::universe::print_universe;
@@ -60,6 +61,7 @@ pub(crate) fn print_answer<W: Write + Drop>(
         Action::Lint { only, skip_system } => {
             print_findings(alloc, export, only, *skip_system, output)
         }
+        Action::Powers => print_powers(alloc, export, output),
         Action::Diff { .. } => unreachable!(),
     }
 }

@@ -105,7 +105,7 @@ fn policy_of(alloc: Global, objects: Result<Vec<Object>, LoadFault>) -> Result<P
     }
 }
 
-// The objects that are there after a change of these, which the other inputs tell.
+// The objects after a change that the other inputs describe.
 fn changed_by(
     alloc: Global,
     change: Change,
@@ -126,8 +126,7 @@ fn changed_by(
     }
 }
 
-// The objects that are left of these without those that some inputs name, with those of others put
-// over.
+// These objects without those that `without` names, followed by those of `over`.
 fn changed_over(
     alloc: Global,
     objects: &[Object],

@@ -16,6 +16,7 @@ mod meaning;
 mod outcome;
 mod output;
 mod pages;
+mod powers;
 mod rows_left;
 mod rules;
 mod running;

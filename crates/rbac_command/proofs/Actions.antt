@@ -6,37 +6,40 @@ use Rattle.std.proofs.lemmas.Slice.Eq.{bytes_eq-Decides}
 use Rattle.clap.specs.Words.{Row, Text, first_of}
 use Rattle.rbac_question.specs.Lines.{CanIParts, WhoCanParts, RulesParts, MatrixParts, LintParts, MeansCanI, MeansWhoCan, MeansRules, MeansMatrix, MeansLint, MeansDiff, AcceptsCanI, AcceptsQuestion, RefusesCanI, RefusesQuestion, RefusesRules, RefusesMatrix, RefusesLint, RefusesDiff, HasBadToken, IsAfter}
 use Rattle.rbac_question.specs.declared.command.Action.{Action}
-use Rattle.rbac_question.specs.declared.command.Action.TheVariants.{CanI, WhoCan, Rules, Matrix, Universe, Lint, Diff}
+use Rattle.rbac_question.specs.declared.command.Action.TheVariants.{CanI, WhoCan, Rules, Matrix, Universe, Lint, Powers, Diff}
 use Rattle.rbac_question.specs.declared.fault.QuestionFault.{QuestionFault}
 use Rattle.rbac_question.specs.declared.fault.QuestionFault.TheVariants.{EmptyWord, UrlSubresource, BadToken, BadPrincipal, BadCode, BadChange, NoMemory}
 use Rattle.rbac_question.specs.declared.line.DiffLine.{DiffLine}
 use Rattle.rbac_command.specs.MatrixOptions.{matrix_options_in}
 use Rattle.rbac_command.specs.Meaning.{question_in, parts_in, who_can_in, rules_in, lint_in, diff_in, is_known, DoesAction, IsNumberAt, RefusesAction}
 
-first_of_seven : (a b c d e f g : Bool) → a || (b || (c || (d || (e || (f || g))))) ≡ true
-    → b ≡ false → c ≡ false → d ≡ false → e ≡ false → f ≡ false → g ≡ false → a ≡ true
-first_of_seven true b c d e f g h i j k l m n = refl
-first_of_seven false true c d e f g h i j k l m n = cc
-first_of_seven false false true d e f g h i j k l m n = cc
-first_of_seven false false false true e f g h i j k l m n = cc
-first_of_seven false false false false true f g h i j k l m n = cc
-first_of_seven false false false false false true g h i j k l m n = cc
-first_of_seven false false false false false false g h i j k l m n = cc
+first_of_eight : (a b c d e f g h : Bool) → a || (b || (c || (d || (e || (f || (g || h)))))) ≡ true
+    → b ≡ false → c ≡ false → d ≡ false → e ≡ false → f ≡ false → g ≡ false → h ≡ false → a ≡ true
+first_of_eight true b c d e f g h i j k l m n o p = refl
+first_of_eight false true c d e f g h i j k l m n o p = cc
+first_of_eight false false true d e f g h i j k l m n o p = cc
+first_of_eight false false false true e f g h i j k l m n o p = cc
+first_of_eight false false false false true f g h i j k l m n o p = cc
+first_of_eight false false false false false true g h i j k l m n o p = cc
+first_of_eight false false false false false false true h i j k l m n o p = cc
+first_of_eight false false false false false false false true i j k l m n o p = cc
+first_of_eight false false false false false false false false i j k l m n o p = cc
 
 -- a known name that is none of the others is `can-i`
-pub the_other : (name : Text) (is_matrix is_who_can is_rules is_universe is_lint is_diff : Bool) → is_known name ≡ true
+pub the_other : (name : Text) (is_matrix is_who_can is_rules is_universe is_lint is_powers is_diff : Bool) → is_known name ≡ true
     → is_matrix ≡ bytes_eq name (codes "matrix") → is_matrix ≡ false
     → is_who_can ≡ bytes_eq name (codes "who-can") → is_who_can ≡ false
     → is_rules ≡ bytes_eq name (codes "rules") → is_rules ≡ false
     → is_universe ≡ bytes_eq name (codes "universe") → is_universe ≡ false
     → is_lint ≡ bytes_eq name (codes "lint") → is_lint ≡ false
+    → is_powers ≡ bytes_eq name (codes "powers") → is_powers ≡ false
     → is_diff ≡ bytes_eq name (codes "diff") → is_diff ≡ false
     → name ≡ codes "can-i"
-the_other name is_matrix is_who_can is_rules is_universe is_lint is_diff known m no_matrix w no_who_can r no_rules u no_universe l no_lint d no_diff =
+the_other name is_matrix is_who_can is_rules is_universe is_lint is_powers is_diff known m no_matrix w no_who_can r no_rules u no_universe l no_lint p no_powers d no_diff =
     (bytes_eq-Decides name (codes "can-i")).0
-    (first_of_seven (bytes_eq name (codes "can-i")) (bytes_eq name (codes "who-can")) (bytes_eq name (codes "rules")) (bytes_eq name (codes "matrix"))
-    (bytes_eq name (codes "universe")) (bytes_eq name (codes "lint")) (bytes_eq name (codes "diff")) known (sym w ∙ no_who_can) (sym r ∙ no_rules)
-    (sym m ∙ no_matrix) (sym u ∙ no_universe) (sym l ∙ no_lint) (sym d ∙ no_diff))
+    (first_of_eight (bytes_eq name (codes "can-i")) (bytes_eq name (codes "who-can")) (bytes_eq name (codes "rules")) (bytes_eq name (codes "matrix"))
+    (bytes_eq name (codes "universe")) (bytes_eq name (codes "lint")) (bytes_eq name (codes "powers")) (bytes_eq name (codes "diff")) known (sym w ∙ no_who_can) (sym r ∙ no_rules)
+    (sym m ∙ no_matrix) (sym u ∙ no_universe) (sym l ∙ no_lint) (sym p ∙ no_powers) (sym d ∙ no_diff))
 
 as_can_i : (name : Text) (rows : List Row) (r : Result Action QuestionFault) → name ≡ codes "can-i"
     → MatchResult r (λ a. AcceptsCanI (parts_in rows) × MeansCanI (parts_in rows) a) (RefusesCanI (parts_in rows))
@@ -47,6 +50,7 @@ as_can_i name rows (Ok (Rules principal scope)) e h = absurd h.1
 as_can_i name rows (Ok (Matrix options after limit)) e h = absurd h.1
 as_can_i name rows (Ok (Lint only skip_system)) e h = absurd h.1
 as_can_i name rows (Ok Universe) e h = absurd h.1
+as_can_i name rows (Ok Powers) e h = absurd h.1
 as_can_i name rows (Ok (Diff before change)) e h = absurd h.1
 as_can_i name rows (Err EmptyWord) e h = inl (e, h)
 as_can_i name rows (Err UrlSubresource) e h = inl (e, h)
@@ -71,6 +75,7 @@ as_who_can name rows (Ok (Rules principal scope)) e h = absurd h.1
 as_who_can name rows (Ok (Matrix options after limit)) e h = absurd h.1
 as_who_can name rows (Ok (Lint only skip_system)) e h = absurd h.1
 as_who_can name rows (Ok Universe) e h = absurd h.1
+as_who_can name rows (Ok Powers) e h = absurd h.1
 as_who_can name rows (Ok (Diff before change)) e h = absurd h.1
 as_who_can name rows (Err EmptyWord) e h = inr (e, h)
 as_who_can name rows (Err UrlSubresource) e h = inr (e, h)
@@ -95,6 +100,7 @@ as_rules name rows (Ok (Rules principal scope)) e h = (e, h)
 as_rules name rows (Ok (Matrix options after limit)) e h = absurd h
 as_rules name rows (Ok (Lint only skip_system)) e h = absurd h
 as_rules name rows (Ok Universe) e h = absurd h
+as_rules name rows (Ok Powers) e h = absurd h
 as_rules name rows (Ok (Diff before change)) e h = absurd h
 as_rules name rows (Err EmptyWord) e h = absurd h
 as_rules name rows (Err UrlSubresource) e h = absurd h
@@ -119,6 +125,7 @@ as_lint name rows (Ok (Rules principal scope)) e h = absurd h
 as_lint name rows (Ok (Matrix options after limit)) e h = absurd h
 as_lint name rows (Ok (Lint only skip_system)) e h = (e, h)
 as_lint name rows (Ok Universe) e h = absurd h
+as_lint name rows (Ok Powers) e h = absurd h
 as_lint name rows (Ok (Diff before change)) e h = absurd h
 as_lint name rows (Err EmptyWord) e h = absurd h
 as_lint name rows (Err UrlSubresource) e h = absurd h
@@ -145,6 +152,7 @@ matrix_line name rows l (Ok (Matrix options after limit)) e v f n h =
     (e, h.0 ∙ v, subst (λ (t : _). IsAfter t after) f h.1, subst (λ (m : _). IsNumberAt (codes "limit") rows m) (sym h.2) n)
 matrix_line name rows l (Ok (Lint only skip_system)) e v f n h = absurd h
 matrix_line name rows l (Ok Universe) e v f n h = absurd h
+matrix_line name rows l (Ok Powers) e v f n h = absurd h
 matrix_line name rows l (Ok (Diff before change)) e v f n h = absurd h
 matrix_line name rows l (Err EmptyWord) e v f n h = absurd h
 matrix_line name rows l (Err UrlSubresource) e v f n h = absurd h
@@ -162,6 +170,7 @@ as_diff name rows (Ok (WhoCan options question)) e h = absurd h
 as_diff name rows (Ok (Rules principal scope)) e h = absurd h
 as_diff name rows (Ok (Matrix options after limit)) e h = absurd h
 as_diff name rows (Ok Universe) e h = absurd h
+as_diff name rows (Ok Powers) e h = absurd h
 as_diff name rows (Ok (Lint only skip_system)) e h = absurd h
 as_diff name rows (Ok (Diff before change)) e h = (e, h)
 as_diff name rows (Err EmptyWord) e h = absurd h

@@ -176,6 +176,10 @@ lint_app =
     with_rule (with_rule
     (with_rule (new_app (codes "lint")) only_rule) skip_system_rule) files_rule
 
+-- powers [FILE]..
+abbrev pub powers_app : App
+powers_app = with_rule (new_app (codes "powers")) files_rule
+
 -- diff --before FILE.. [--after FILE..] [--without FILE..] [--with FILE..]
 abbrev pub diff_app : App
 diff_app =
@@ -200,7 +204,7 @@ bare_app = as_program (new_app (codes "rbacaudit"))
 -- the whole command line
 unfoldable pub rbac_app : App
 rbac_app =
-    with_subcommand (with_subcommand (with_subcommand
+    with_subcommand (with_subcommand (with_subcommand (with_subcommand
     (with_subcommand (with_subcommand
     (with_subcommand (with_subcommand bare_app can_i_app.top) who_can_app.top) rules_app.top)
-    matrix_app.top) universe_app.top) lint_app.top) diff_app.top
+    matrix_app.top) universe_app.top) lint_app.top) powers_app.top) diff_app.top

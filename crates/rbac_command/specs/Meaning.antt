@@ -12,7 +12,7 @@ use Rattle.rbac_question.specs.Lines.{AcceptsQuestion, RefusesCanI, RefusesQuest
 use Rattle.rbac_question.specs.Lines.{HasBadPrincipal, HasBadCode, HasBadChange, IsAfter, MeansDiff}
 use Rattle.rbac_question.specs.declared.command.Action.{Action}
 use Rattle.rbac_question.specs.declared.command.Action.TheVariants.{CanI, WhoCan, Rules, Matrix}
-use Rattle.rbac_question.specs.declared.command.Action.TheVariants.{Universe, Lint, Diff}
+use Rattle.rbac_question.specs.declared.command.Action.TheVariants.{Universe, Lint, Powers, Diff}
 use Rattle.rbac_question.specs.declared.command.Command.{Command}
 use Rattle.rbac_question.specs.declared.fault.QuestionFault.{QuestionFault}
 use Rattle.rbac_question.specs.declared.fault.QuestionFault.TheVariants as question
@@ -115,7 +115,8 @@ is_known name = bytes_eq name (codes "can-i")
     || (bytes_eq name (codes "rules")
     || (bytes_eq name (codes "matrix")
     || (bytes_eq name (codes "universe")
-    || (bytes_eq name (codes "lint") || bytes_eq name (codes "diff"))))))
+    || (bytes_eq name (codes "lint")
+    || (bytes_eq name (codes "powers") || bytes_eq name (codes "diff")))))))
 
 -- what the subcommand of that name does, according to its matches
 abbrev pub DoesAction : Text → List Row → Action → Type 0
@@ -133,6 +134,7 @@ DoesAction name rows (Matrix options after limit) =
 DoesAction name rows Universe = name ≡ codes "universe"
 DoesAction name rows (Lint only skip_system) =
     (name ≡ codes "lint") × MeansLint (lint_in rows) (Lint only skip_system)
+DoesAction name rows Powers = name ≡ codes "powers"
 DoesAction name rows (Diff before change) =
     (name ≡ codes "diff") × MeansDiff (diff_in rows) (Diff before change)
 
@@ -150,7 +152,7 @@ Means (Some p) c = MeansRows p.0 p.1 c
 
 -- the refusal of a subcommand's matches: out of memory may come at any time; besides it, `matrix`
 -- has only U4, `rules` only U5, `lint` only U6 and `diff` only U7, no other has these, and `universe`
--- has none
+-- and `powers` have none
 abbrev pub RefusesAction : Text → List Row → QuestionFault → Type 0
 RefusesAction name rows question.NoMemory = Unit {0}
 RefusesAction name rows question.BadToken = (name ≡ codes "matrix")

@@ -11,6 +11,7 @@ ghost use Rattle.rbac_command.specs.App.{group_rule, in_namespace_rule, only_rul
 ghost use Rattle.rbac_command.specs.App.{with_scope, with_question, can_i_app, who_can_app};
 ghost use Rattle.rbac_command.specs.App.{rules_app, matrix_app, universe_app, lint_app, bare_app};
 ghost use Rattle.rbac_command.specs.App.{rbac_app, before_files_rule, after_files_rule, diff_app};
+ghost use Rattle.rbac_command.specs.App.{powers_app};
 ghost use Rattle.rbac_command.specs.App.{without_files_rule, with_files_rule, skip_system_rule};
 ghost use Rattle.rbac_command.specs.Flags.{flag_rule};
 
@@ -26,7 +27,7 @@ const VERSION: &str = "0.1.0";
 const MORE: &str = "Get the files:
   kubectl get clusterroles,clusterrolebindings -o json > cluster.json
   kubectl get roles,rolebindings --all-namespaces -o json > namespaced.json
-or, with the plugin, all that there is to read: kubectl rbacaudit export DIR
+or let the plugin get everything: kubectl rbacaudit export DIR
 
 Then ask:
   rbacaudit can-i --as alice -n dev get pods cluster.json namespaced.json
@@ -36,7 +37,7 @@ rbacaudit COMMAND --help lists the options of a command.";
 const CAN_I_MORE: &str = "The line of --why has five fields, joined by tabs:
   BINDING  the first binding that allows it
   ROLE     the role that the binding names
-  SOURCE   the role where the rule is written: an aggregated ROLE gathers it from there
+  SOURCE   the role that contains the rule: ROLE, or a role that an aggregated ROLE gathers
   RULE     the number of the rule in SOURCE, from 1
   SUBJECT  the number of the subject in BINDING, from 1
 
@@ -45,13 +46,12 @@ Examples:
   rbacaudit can-i --as alice --groups dev,ops -n dev --why get pods --subresource log *.json";
 
 const WHO_CAN_MORE: &str =
-    "The exit status is 0, also where nobody may; 2 is an error. Holders that are limited to object
-names are listed only where TARGET names the object: --any-name lists them all. A RoleBinding
-counts in its namespace alone: --anywhere counts them all, and a line's binding tells where it
-counts.
+    "The exit status is 0 even if nobody may; 2 is an error. Holders that are limited to object names
+are listed only if TARGET names the object: --any-name lists them all. A RoleBinding counts in its
+namespace alone: --anywhere counts all RoleBindings; each line's binding shows its namespace.
 
 With --why four fields follow the binding: ROLE, SOURCE, RULE and SUBJECT, as in can-i --help. They
-are of the first rule of that binding that allows it, and of the first subject that is the holder.
+name the binding's first rule that allows it, and its first subject that is the holder.
 
 Examples:
   rbacaudit who-can -n dev delete secrets cluster.json namespaced.json
@@ -63,7 +63,7 @@ Examples:
 const RULES_MORE: &str = "A line has ten fields, joined by tabs:
   BINDING    a binding that names WHO, or a group of WHO
   ROLE       the role that the binding names
-  SOURCE     the role where the rule is written: an aggregated ROLE gathers it from there
+  SOURCE     the role that contains the rule: ROLE, or a role that an aggregated ROLE gathers
   RULE       the number of the rule in SOURCE, from 1
   SUBJECT    the number of the first such subject in BINDING, from 1
   VERBS      the verbs of the rule
@@ -75,7 +75,7 @@ The last five are lists, as [get,list]. [] is the empty list; - in a list is the
 core API group; a comma in a word is \\x2c.
 
 WHO is the first field of a line of who-can or matrix, taken as it is: undo its escapes first. With
-a group, --groups is refused. The exit status is 0, also without a line; 2 is an error.
+a group, --groups is refused. The exit status is 0 even if there is no line; 2 is an error.
 
 Examples:
   rbacaudit rules u:alice --groups dev cluster.json namespaced.json
@@ -84,9 +84,9 @@ Examples:
 const MATRIX_MORE: &str =
     "A line has seven fields, joined by tabs: who (u:USER or g:GROUP), namespace, verb,
 API group, resource or URL, object name, and the first binding that grants it; - is an empty field.
-With --every each binding that grants it has a line: whoever deletes one sees what still grants.
-A Universe document says whom and what to ask. A list that it leaves out is made from the files:
-whom bindings name and every service account, the namespaces, verbs, object names and URLs that
+With --every there is a line for each binding that grants it, so you see what is left if one is
+deleted. A Universe document lists the principals and requests to ask about. A list that it leaves
+out is made from the files: whom bindings name and every service account, the namespaces, verbs, object names and URLs that
 there are, and the resources of the API resource lists, or of the rules if there is no such list.
 
 The last line is end, or next and a TOKEN, joined by a tab, where --limit left rows out:
@@ -98,10 +98,10 @@ Examples:
   rbacaudit matrix --limit 1000 --after TOKEN cluster.json namespaced.json";
 
 const UNIVERSE_MORE: &str =
-    "matrix over the same files and this document lists the same rows. So keep it, take out of it
-what isn't to be asked about, and give it to matrix as one more FILE. A list that FILEs give stays
-as they give it; the others are made from the files, as matrix --help says. The exit status is 0; 2
-is an error.
+    "matrix over the same files and this document lists the same rows. So keep it, take out what you
+don't want to ask about, and give it to matrix as one more FILE. A list that a Universe document
+among FILEs has is printed as it is; the others are made from the files, as matrix --help says. The
+exit status is 0; 2 is an error.
 
 Examples:
   rbacaudit universe cluster.json namespaced.json > universe.json
@@ -112,7 +112,7 @@ const LINT_MORE: &str = "A line has five fields, joined by tabs; - is an empty f
   NAME    what the code stands for, as below
   OBJECT  the role or other object, as KIND/NAME or KIND/NAMESPACE/NAME
   PLACE   the number of the rule or subject in it, from 1
-  OTHER   what it collides with or lacks: a role, a rule's number, a verb, an account, a count
+  OTHER   a detail: a role, a rule's number, a verb, an account, a count
 
   L1  dangling-role              a binding refers to a role that is not there
   L2  unused-role                no binding refers to the role, or to a role that aggregates it
@@ -123,12 +123,40 @@ const LINT_MORE: &str = "A line has five fields, joined by tabs; - is an empty f
   L7  replaced-object            a later document replaced earlier ones of this object
 
 --skip-system leaves out objects whose names begin with system:, and the cluster roles admin, edit,
-view and cluster-admin. The exit status is 1 where a finding is left, else 0; 2 is an error.
+view and cluster-admin. The exit status is 1 if a finding is listed, else 0; 2 is an error.
 
 Examples:
   rbacaudit lint cluster.json namespaced.json
   rbacaudit lint --only L1,L6 cluster.json namespaced.json
   rbacaudit lint --skip-system cluster.json namespaced.json";
+
+const POWERS_MORE: &str = "A line has eight fields, joined by tabs:
+  STEP     what WHO can do, as below
+  WHO      u:USER or g:GROUP
+  WHERE    the namespace where WHO can do it; * is the whole cluster
+  BINDING  the first binding that grants it
+  ROLE     the role that the binding names
+  SOURCE   the role that contains the rule: ROLE, or a role that an aggregated ROLE gathers
+  RULE     the number of the rule in SOURCE, from 1
+  SUBJECT  the number of the first subject in BINDING that is WHO, from 1
+
+  impersonate   act as a user, a group or a service account
+  token         create tokens of service accounts
+  run           create Pods, or workloads that create them, under any service account
+  exec          run commands in containers
+  secrets       read Secrets, which can hold tokens of service accounts
+  nodes         reach each container of a node through its kubelet
+  bind          bind roles that grant more than WHO has
+  escalate      write rules that grant more than WHO has
+  certificates  approve client certificates, with which anyone can be signed in
+  webhooks      read and change the objects that others write
+
+A rule that is limited to object names counts only for impersonate, token, bind and escalate. The
+exit status is 0 even if there is no line; 2 is an error.
+
+Examples:
+  rbacaudit powers cluster.json namespaced.json
+  rbacaudit powers *.json | grep '^secrets'";
 
 const DIFF_MORE: &str = "A line has eight fields, joined by tabs; - is an empty field:
   CHANGE     + for what the change allows, - for what it takes away
@@ -140,8 +168,8 @@ const DIFF_MORE: &str = "A line has eight fields, joined by tabs; - is an empty 
   NAME       * is any object name, and none
   BINDING    the first binding that has it, on the side that has it
 
-What is after the change is in the files of --after; or it is what those of --before have, less the
-objects that --without names by kind, namespace and name, with those of --with put over.
+The state after the change is in the files of --after. Without --after, it is that of --before, less
+the objects that --without names by kind, namespace and name, with those of --with put over.
 
 It compares all requests that any user can make, in any namespace, but for users who are given the
 group system:unauthenticated, and system:anonymous with given groups. So no + line means that nobody
@@ -538,7 +566,7 @@ fn rules<'a>(alloc: Global) -> Built<'a>
     let command = named(
         alloc,
         "rules",
-        "List the rules that WHO has: a line for each, with the binding that brings it",
+        "List the rules that WHO has: a line for each, with the binding that grants it",
         RULES_MORE,
     );
     let command = with_groups(alloc, Ok(command));
@@ -571,7 +599,7 @@ fn universe<'a>(alloc: Global) -> Built<'a>
     let command = named(
         alloc,
         "universe",
-        "Print the Universe that matrix makes of the files, as JSON to narrow and to give it back",
+        "Print the Universe that matrix makes of the files, as JSON, to cut down and pass to matrix",
         UNIVERSE_MORE,
     );
     with(Ok(command), files_arg(alloc))
@@ -592,6 +620,19 @@ fn lint<'a>(alloc: Global) -> Built<'a>
     with(command, files_arg(alloc))
 }
 
+fn powers<'a>(alloc: Global) -> Built<'a>
+    ensures app { IfOk result (λ r. app_of r ≡ powers_app) }
+    ensures local { IfOk result (λ r. (fields_of r).has_globals ≡ false) }
+{
+    let command = named(
+        alloc,
+        "powers",
+        "List who can act as others or gain permissions: a line for each step, with its binding",
+        POWERS_MORE,
+    );
+    with(Ok(command), files_arg(alloc))
+}
+
 fn diff<'a>(alloc: Global) -> Built<'a>
     ensures app { IfOk result (λ r. app_of r ≡ diff_app) }
     ensures local { IfOk result (λ r. (fields_of r).has_globals ≡ false) }
@@ -599,7 +640,7 @@ fn diff<'a>(alloc: Global) -> Built<'a>
     let command = named(
         alloc,
         "diff",
-        "List what a change lets users do and takes from them: status 1 where anything, else 0",
+        "List what a change lets users do and takes from them: status 1 if anything changes, else 0",
         DIFF_MORE,
     );
     let command = with(Ok(command), before_files_arg(alloc));
@@ -653,5 +694,6 @@ pub(crate) fn program<'a>(alloc: Global) -> Result<Command<'a>, AllocError>
     let command = with_sub(command, matrix(alloc))?;
     let command = with_sub(command, universe(alloc))?;
     let command = with_sub(command, lint(alloc))?;
+    let command = with_sub(command, powers(alloc))?;
     with_sub(command, diff(alloc))
 }

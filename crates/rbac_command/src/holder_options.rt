@@ -15,7 +15,7 @@ const ANYWHERE: &str = "Count the bindings of all namespaces, not only of -n; -A
 
 const ANY_NAME: &str = "Count rules limited to object names too; a NAME in TARGET isn't looked at";
 
-const EVERY: &str = "List each of them with every binding that grants it, not only the first";
+const EVERY: &str = "List each holder with every binding that grants it, not only the first";
 
 const WHY: &str = "After the binding, print why: its ROLE, the SOURCE role, its RULE, the SUBJECT";
 

@@ -246,6 +246,9 @@ fn action_of(alloc: Global, name: &str, matches: &ArgMatches<'_>) -> Result<Acti
     if name == "lint" {
         return Action::lint(alloc, &lint_line_of(matches));
     }
+    if name == "powers" {
+        return Ok(Action::Powers);
+    }
     if name == "diff" {
         return Action::diff(&diff_line_of(matches));
     }

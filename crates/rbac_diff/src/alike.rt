@@ -5,8 +5,8 @@ use rbac_terms::{Binding, RoleRef, Subject};
 use std::alloc::{AllocError, Global};
 use std::collections::{BTreeMap, BTreeSet};
 
-// Where some of a policy's bindings stand, by all that they say but their names; of those that say
-// the same, the last.
+// Looks up a binding by its content, without its name. Of bindings with equal content, the last
+// counts.
 #[derive(Drop)]
 pub(crate) struct Alike {
     places: BTreeMap<Vec<u8>, usize>,
@@ -39,8 +39,8 @@ impl Alike {
     }
 }
 
-// What a binding says but its name, in words that are told apart by where they stand; the order of
-// its subjects says nothing, nor do their repeats.
+// A binding's content without its name, as a text from which each part can be read back. The order
+// of its subjects doesn't matter, nor do their repeats.
 fn text_of(alloc: Global, binding: &Binding) -> Result<Vec<u8>, AllocError> {
     let mut text = Vec::new(alloc);
     if let Some(namespace) = &binding.namespace {

@@ -21,8 +21,9 @@ pub(crate) struct Changed {
 }
 
 impl Changed {
-    // The other policy's binding is looked for under the same name, and then among those that were
-    // looked for in vain: most bindings of an export stay, and many others are renamed.
+    // The other policy's binding is looked for under the same name, and then, without a namesake, by
+    // its content, among the bindings that also have none: most bindings of an export stay, and many
+    // others are renamed.
     pub(crate) fn between(
         alloc: Global,
         before: &Policy,

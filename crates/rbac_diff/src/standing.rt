@@ -8,8 +8,8 @@ use crate::unchanged::same_rule;
 use rbac_terms::Rule;
 use std::alloc::AllocError;
 
-// The place of one of so many of these rules, from that place on, that covers the rule: of the same
-// rule, word for word, if it is there, and otherwise of the first that covers it.
+// The place of one of so many of these rules, from that place on, that covers the rule. Prefers the
+// same rule, word for word, where it finds that; otherwise the first that covers the rule.
 #[tactic(auto, using(crate::proofs::CoveringRules::stands_covers))]
 pub(crate) fn covering_place(
     rules: &[&Rule],

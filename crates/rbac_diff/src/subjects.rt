@@ -69,7 +69,7 @@ fn are_at(
     Ok(true)
 }
 
-// Whether the subject stands among the others at the place that is told for it.
+// Whether `others` has the subject at the place listed for it.
 fn is_at(
     alloc: Global,
     subject: &Subject,

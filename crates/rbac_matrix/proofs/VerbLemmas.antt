@@ -11,7 +11,7 @@ use Rattle.rbac_model.specs.Policies.{PolicyView, IsPolicy}
 use Rattle.rbac_model.specs.Universes.{UniverseView}
 use Rattle.rbac_matrix.specs.Lines.{LineView, line, lines_from, place}
 use Rattle.rbac_matrix.specs.Cursors.{AreRunsAt, AreRunsOf, AreVerbs, IsCursorAt, ServeBare}
-use Rattle.rbac_matrix.specs.GrantVerbs.{TellsVerbs}
+use Rattle.rbac_matrix.specs.GrantVerbs.{AreVerbsOfGrant}
 use Rattle.rbac_matrix.specs.declared.bound_runs.Runs.{Runs}
 use Rattle.rbac_matrix.specs.declared.grant_verbs.GrantVerbs.{GrantVerbs}
 use Rattle.rbac_matrix.specs.declared.line.Place.{Place}
@@ -64,9 +64,9 @@ pub runs_here : (p : PolicyView) (u : UniverseView) (at : Place) (l : LineView) 
 runs_here p u at l ls runs here are bare m ms other = subst (λ (x : LineView). AreRunsOf p u x runs × ServeBare p u x.who runs) (same_head l m ls ms (sym here ∙ other)) (are, bare)
 
 -- what is told of no grants, and of one, is so
-pub told_none : (p : PolicyView) (u : UniverseView) → All (TellsVerbs p u) []
+pub told_none : (p : PolicyView) (u : UniverseView) → All (AreVerbsOfGrant p u) []
 told_none p u k d lt = absurd (omega (arith, lt))
 
-pub told_one : (p : PolicyView) (u : UniverseView) (told : GrantVerbs) → TellsVerbs p u told → All (TellsVerbs p u) (told ∷ [])
+pub told_one : (p : PolicyView) (u : UniverseView) (told : GrantVerbs) → AreVerbsOfGrant p u told → All (AreVerbsOfGrant p u) (told ∷ [])
 told_one p u told is zero d lt = is
 told_one p u told is (suc k) d lt = absurd (omega (arith, lt))

@@ -13,7 +13,7 @@ use Rattle.rbac_model.proofs.BindingPlaces.{of_some_binding}
 use Rattle.rbac_index.specs.Bound.{HasRoleBindings, IsBoundTo, IsNextRun, AreRunsFrom}
 use Rattle.rbac_index.specs.declared.first_runs.Run.{Run}
 use Rattle.rbac_matrix.specs.Lines.{IsLineAt, IsMoved, LineView, line, place}
-use Rattle.rbac_matrix.specs.Cursors.{AreKnownAt, AreRuns, AreRunsOf, AreRunsOn, AreVerbs, ServeBare, IsAhead, IsBoundOn, IsCursorAt, ComesTo, IsNextBound, IsNextRunOn, IsWithin, TellVerbs, steps_left}
+use Rattle.rbac_matrix.specs.Cursors.{AreKnownAt, AreRuns, AreRunsOf, AreRunsOn, AreVerbs, ServeBare, IsAhead, IsBoundOn, IsCursorAt, ComesTo, IsNextBound, IsNextRunOn, IsWithin, KeepGrantVerbs, steps_left}
 use Rattle.rbac_matrix.specs.declared.line.Place.{Place}
 use Rattle.rbac_matrix.specs.declared.bound_runs.Runs.{Runs}
 use Rattle.rbac_matrix.specs.declared.walk.Walk.{Walk}
@@ -208,7 +208,7 @@ known_moved p u at to runs (inr (none, inr same)) known = record {
 }
 
 -- and so at the first line of the next namespace
-pub known_past : (p : PolicyView) (u : UniverseView) (at to : Place) (l : LineView) (runs : Runs) → IsLineAt u at l → ServeBare p u l.who runs → TellVerbs p u runs → to.verb ≡ 0 → (to.namespace ≡ 0) ⊎ (to.principal ≡ at.principal) → AreKnownAt p u to runs
+pub known_past : (p : PolicyView) (u : UniverseView) (at to : Place) (l : LineView) (runs : Runs) → IsLineAt u at l → ServeBare p u l.who runs → KeepGrantVerbs p u runs → to.verb ≡ 0 → (to.namespace ≡ 0) ⊎ (to.principal ≡ at.principal) → AreKnownAt p u to runs
 known_past p u at to l runs here bare told none (inl first) = record {
   verbs = λ later. absurd (omega (arith, none, later));
   bare = λ later. elim later [ inl n ↦ absurd (omega (arith, first, n)) | inr n ↦ absurd (omega (arith, none, n)) ];

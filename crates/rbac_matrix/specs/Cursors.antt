@@ -7,7 +7,7 @@ use Rattle.rbac_terms.specs.Text.{Text}
 use Rattle.rbac_terms.specs.Principals.{Who}
 use Rattle.rbac_index.specs.Bound.{HasRoleBindings, IsBoundTo, IsNextRun, AreRunsFrom}
 use Rattle.rbac_index.specs.declared.first_runs.Run.{Run}
-use Rattle.rbac_matrix.specs.GrantVerbs.{TellsVerbs}
+use Rattle.rbac_matrix.specs.GrantVerbs.{AreVerbsOfGrants}
 use Rattle.rbac_matrix.specs.Lines.{LineView, IsLineAt, line, lines_from}
 use Rattle.rbac_matrix.specs.declared.bound_runs.Runs.{Runs}
 use Rattle.rbac_matrix.specs.declared.line.Place.{Place}
@@ -41,14 +41,14 @@ pub record AreVerbs (p : PolicyView) (u : UniverseView) (who : Who) (namespace :
       → slice_index_or told place true ≡ false
       → (number : ℕ) → ¬ IsCursorAt p (line who namespace verb) number
 
--- what is kept of the verbs of grants is so
-abbrev pub TellVerbs : PolicyView → UniverseView → Runs → Type 0
-TellVerbs p u runs = All (TellsVerbs p u) runs.grants.items
+-- the verbs of the grants that the runs keep
+abbrev pub KeepGrantVerbs : PolicyView → UniverseView → Runs → Type 0
+KeepGrantVerbs p u runs = AreVerbsOfGrants p u runs.grants.items
 
 -- these are the first runs of the line, and the verbs of who asks in its namespace
 abbrev pub AreRunsOf : PolicyView → UniverseView → LineView → Runs → Type 0
 AreRunsOf p u l runs = AreRuns p l runs × AreVerbs p u l.who l.namespace runs.verbs.items
-    × TellVerbs p u runs
+    × KeepGrantVerbs p u runs
 
 -- if `is_bare` is true, the runs are those of who asks in each namespace without a RoleBinding
 abbrev pub ServeBare : PolicyView → UniverseView → Who → Runs → Type 0
@@ -67,7 +67,7 @@ pub record AreKnownAt (p : PolicyView) (u : UniverseView) (at : Place) (runs : R
   pub verbs : 0 < at.verb → (l : LineView) → IsLineAt u at l → AreRunsOf p u l runs
   pub bare : (0 < at.namespace) ⊎ (0 < at.verb) → (who : Who)
       → slice_get u.principals at.principal ≡ Some who → ServeBare p u who runs
-  pub told : TellVerbs p u runs
+  pub told : KeepGrantVerbs p u runs
 
 -- the walk back at a number of the run that it is in
 abbrev pub back_at : Walk → ℕ → Walk

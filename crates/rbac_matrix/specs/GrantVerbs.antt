@@ -1,5 +1,5 @@
 -- Which verbs the rules of grants have.
-use Rattle.std.specs.Prelude.{◌≡◌, ℕ, ◌<◌, ◌↔◌, List, Some, slice_get}
+use Rattle.std.specs.Prelude.{◌≡◌, ℕ, ◌<◌, ◌↔◌, All, List, Some, slice_get}
 use Rattle.std.specs.Int.{bit_at}
 use Rattle.rbac_terms.specs.Text.{Text}
 use Rattle.rbac_terms.specs.Matching.{VerbOk}
@@ -17,10 +17,14 @@ abbrev pub AreBits : Rule → List Text → ℕ → Type 0
 AreBits r verbs bits = (place : ℕ) (verb : Text) → place < 64 → slice_get verbs place ≡ Some verb
     → HasBit bits place ↔ VerbOk r verb
 
--- that is so of the rule of the grant
-abbrev pub TellsVerbs : PolicyView → UniverseView → GrantVerbs → Type 0
-TellsVerbs p u told = (g : GrantView) → slice_get p.grants told.no ≡ Some g
+-- of the first 64 verbs, those of the grant's rule are kept
+abbrev pub AreVerbsOfGrant : PolicyView → UniverseView → GrantVerbs → Type 0
+AreVerbsOfGrant p u told = (g : GrantView) → slice_get p.grants told.no ≡ Some g
     → AreBits g.rule.rule u.verbs told.bits
+
+-- they are kept of each of these grants
+abbrev pub AreVerbsOfGrants : PolicyView → UniverseView → List GrantVerbs → Type 0
+AreVerbsOfGrants p u kept = All (AreVerbsOfGrant p u) kept
 
 -- the rule of the grant with that number has the verb
 abbrev pub HasVerbAt : PolicyView → ℕ → Text → Type 0

@@ -1,12 +1,12 @@
 //! The grants of the bindings that name a principal and may be live in a namespace, in runs.
 
 ghost use Rattle.std.specs.Prelude.{◌≡◌, ◌<◌, ◌≤◌, ◌↔◌, [], IsTrue, length, slice_index_or};
-ghost use Rattle.std.specs.Prelude.{All, true, false};
+ghost use Rattle.std.specs.Prelude.{true, false};
 ghost use Rattle.rbac_matrix.specs.Shown.{line_of};
 ghost use Rattle.rbac_index.specs.Bound.{HasRoleBindings};
 ghost use Rattle.rbac_model.specs.Policies.{IsPolicy};
-ghost use Rattle.rbac_matrix.specs.Cursors.{AreRuns, AreRunsOf, AreVerbs, ServeBare, TellVerbs};
-ghost use Rattle.rbac_matrix.specs.GrantVerbs.{TellsVerbs};
+ghost use Rattle.rbac_matrix.specs.Cursors.{AreRuns, AreRunsOf, AreVerbs, ServeBare, KeepGrantVerbs};
+ghost use Rattle.rbac_matrix.specs.GrantVerbs.{AreVerbsOfGrants};
 
 use crate::grant_verbs::GrantVerbs;
 use crate::line::Line;
@@ -59,7 +59,7 @@ impl Runs {
         line: Line<'_>,
         known: &[GrantVerbs],
     ) -> Self
-        requires { All (TellsVerbs index.now universe.now) known.now }
+        requires { AreVerbsOfGrants index.now universe.now known.now }
         ensures runs { AreRunsOf index.now universe.now (line_of line.entry) result }
         ensures bare { ServeBare index.now universe.now line.entry.principal.now result }
     {
@@ -69,7 +69,7 @@ impl Runs {
         runs
     }
 
-    // The first runs of the line, with no verbs told.
+    // The first runs of the line; its verbs aren't filled in yet.
     fn first(index: &Index<'_>, line: Line<'_>) -> Self
         ensures runs { AreRuns index.now (line_of line.entry) result }
         ensures bare { IsTrue result.is_bare
@@ -158,8 +158,8 @@ fn grants_of(
     known: &[GrantVerbs],
 ) -> ArrayVec<GrantVerbs, MOST_GRANTS>
     requires runs { AreRuns index.now (line_of line) runs.now }
-    requires known { All (TellsVerbs index.now universe.now) known.now }
-    ensures { All (TellsVerbs index.now universe.now) result.items }
+    requires known { AreVerbsOfGrants index.now universe.now known.now }
+    ensures { AreVerbsOfGrants index.now universe.now result.items }
 {
     let mut told = ArrayVec::new();
     let mut walk = whole_walk();
@@ -181,7 +181,7 @@ fn verbs_of(
     runs: &Runs,
 ) -> ArrayVec<bool, MOST_TOLD>
     requires runs { AreRuns index.now (line_of line) runs.now }
-    requires told { TellVerbs index.now universe.now runs.now }
+    requires told { KeepGrantVerbs index.now universe.now runs.now }
     ensures { AreVerbs index.now universe.now
         line.entry.principal.now line.entry.namespace.now result.items }
 {

@@ -1,9 +1,10 @@
 //! Which verbs the rule of a grant has, kept from one line to the next: the grants of
 //! ClusterRoleBindings are the same in each namespace.
 
-ghost use Rattle.std.specs.Prelude.{◌<◌, ◌↔◌, All, IsTrue, length};
+ghost use Rattle.std.specs.Prelude.{◌<◌, ◌↔◌, IsTrue, length};
 ghost use Rattle.rbac_matrix.specs.Shown.{HasItsVerb};
-ghost use Rattle.rbac_matrix.specs.GrantVerbs.{AreBits, HasBit, HasVerbAt, TellsVerbs};
+ghost use Rattle.rbac_matrix.specs.GrantVerbs.{AreBits, AreVerbsOfGrant, AreVerbsOfGrants};
+ghost use Rattle.rbac_matrix.specs.GrantVerbs.{HasBit, HasVerbAt};
 
 use crate::line::Line;
 use rbac_index::Index;
@@ -30,8 +31,8 @@ impl GrantVerbs {
         nth: usize,
     ) -> Self
         requires within { no < length index.now.grants }
-        requires known { All (TellsVerbs index.now universe.now) known.now }
-        ensures { TellsVerbs index.now universe.now result }
+        requires known { AreVerbsOfGrants index.now universe.now known.now }
+        ensures { AreVerbsOfGrant index.now universe.now result }
     {
         if let Some(told) = known.get(nth) {
             if told.no == no {
@@ -78,7 +79,7 @@ pub(crate) fn has_verb(
     line: Line<'_>,
 ) -> bool
     requires within { no < length index.now.grants }
-    requires kept { All (TellsVerbs index.now universe.now) kept.now }
+    requires kept { AreVerbsOfGrants index.now universe.now kept.now }
     requires verb { HasItsVerb universe.now line }
     ensures { IsTrue result ↔ HasVerbAt index.now no line.entry.verb.now }
 {

@@ -164,8 +164,8 @@ impl Rows<'_, '_> {
         self.from = 0;
     }
 
-    // A place up to which the rows that are left of the line, if it has a namespace, are repeats: before
-    // it no RoleBinding has an entry.
+    // A place up to which the rows that are left of the line, if it has a namespace, are repeats:
+    // before it no RoleBinding has an entry.
     fn repeats_end(&self) -> u32
         requires { IsGoing self.now }
         ensures within { result ≤ length self.now.universe.now.targets }

@@ -111,7 +111,8 @@ pub(crate) fn seat_after(reach: &Reach, seat: Seat, meter: &mut Meter) -> Seat
     seat_in(reach, seat.position as usize + 1, meter)
 }
 
-// The seat moved on to the first entry from the place on; it stays where it is there or past it.
+// The seat moved on to the first entry from the place on. A seat that is already there, or past it,
+// stays.
 pub(crate) fn seat_at_least(reach: &Reach, seat: Seat, place: u32, meter: &mut Meter) -> Seat
     requires before { IsSeatedBefore reach.now place seat }
     requires real { (i : ℕ) → i < length reach.now → slice_index_or reach.now i 0 < past_all }

@@ -4,7 +4,7 @@ ghost use Rattle.std.specs.Prelude.{◌≡◌, ◌+◌, ◌*◌, ◌<◌, ◌≤
 ghost use Rattle.std.specs.Prelude.{IsTrue, ◌↔◌};
 ghost use Rattle.rbac_model.specs.Policies.{IsPolicy};
 ghost use Rattle.rbac_matrix.specs.Shown.{HasItsVerb, line_of};
-ghost use Rattle.rbac_matrix.specs.Cursors.{AreRuns, IsCursorAt, TellVerbs};
+ghost use Rattle.rbac_matrix.specs.Cursors.{AreRuns, IsCursorAt, KeepGrantVerbs};
 ghost use Rattle.rbac_matrix.specs.Seats.{AreSeated, AreEmpty, Costs};
 ghost use Rattle.rbac_matrix.specs.Seats.{AreReal, filled, empty_seat, past_all, seat_at};
 
@@ -33,7 +33,7 @@ pub(crate) fn seat_line(
     meter: &mut Meter,
 ) -> usize
     requires runs { AreRuns basis.index.now (line_of line) runs.now }
-    requires told { TellVerbs basis.index.now basis.universe.now runs.now }
+    requires told { KeepGrantVerbs basis.index.now basis.universe.now runs.now }
     requires verb { HasItsVerb basis.universe.now line }
     requires reaches { length basis.reaches.now ≡ length basis.index.now.grants }
     requires real { AreReal basis.reaches.now }

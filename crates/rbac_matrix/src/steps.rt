@@ -9,7 +9,7 @@ ghost use Rattle.rbac_matrix.specs.Shown.{line_of};
 ghost use Rattle.rbac_index.specs.Reaches.{AreReaches};
 ghost use Rattle.rbac_matrix.specs.Blocks.{AreBlocks, AreBlocksAt};
 ghost use Rattle.rbac_matrix.specs.Cursors.{AreKnownAt, AreRunsOf, AreRunsAt, IsBoundOn, ServeBare};
-ghost use Rattle.rbac_matrix.specs.Cursors.{TellVerbs};
+ghost use Rattle.rbac_matrix.specs.Cursors.{KeepGrantVerbs};
 ghost use Rattle.rbac_matrix.specs.Lines.{IsLineAt, lines_from, place};
 ghost use Rattle.rbac_matrix.specs.Passing.{EndsAll, EndsLine, FindsCell, FindsRow};
 ghost use Rattle.rbac_matrix.specs.Metering.{IsMetered, IsReady, Skips};
@@ -86,7 +86,7 @@ fn renew(basis: Basis<'_>, line: Line<'_>, at: Place, runs: &mut Runs)
         → AreRunsOf basis.index.now basis.universe.now (line_of line) runs.old }
     requires bare { (0 < at.namespace) ⊎ (0 < at.verb)
         → ServeBare basis.index.now basis.universe.now line.principal.now runs.old }
-    requires told { TellVerbs basis.index.now basis.universe.now runs.old }
+    requires told { KeepGrantVerbs basis.index.now basis.universe.now runs.old }
     ensures runs { AreRunsOf basis.entry.index.now basis.entry.universe.now
         (line_of line.entry) runs.new }
     ensures bare { ServeBare basis.entry.index.now basis.entry.universe.now

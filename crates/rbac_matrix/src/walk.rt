@@ -7,7 +7,7 @@ ghost use Rattle.rbac_matrix.specs.Shown.{HasItsVerb, line_of};
 ghost use Rattle.rbac_matrix.specs.Lines.{LineView};
 ghost use Rattle.rbac_matrix.specs.Cursors.{AreRuns, AreRunsOn, IsAhead, IsBoundOn, IsCursorAt};
 ghost use Rattle.rbac_matrix.specs.Cursors.{ComesTo, IsNextBound, IsNextRunOn};
-ghost use Rattle.rbac_matrix.specs.Cursors.{IsWithin, TellVerbs, back_at, steps_left};
+ghost use Rattle.rbac_matrix.specs.Cursors.{IsWithin, KeepGrantVerbs, back_at, steps_left};
 
 use crate::bound_runs::Runs;
 use crate::grant_verbs::has_verb;
@@ -64,7 +64,7 @@ pub(crate) fn next_cursor(
     seen: &mut usize,
 ) -> Option<u32>
     requires within { IsWithin index.now (line_of line) runs.now walk.old }
-    requires told { TellVerbs index.now universe.now runs.now }
+    requires told { KeepGrantVerbs index.now universe.now runs.now }
     requires verb { HasItsVerb universe.now line }
     ensures found { MatchOption result
         ((k : ℕ) → ¬ IsAhead index.now (line_of line.entry) walk.old k)
@@ -94,7 +94,7 @@ pub(crate) fn has_cursor(
     runs: &Runs,
 ) -> bool
     requires runs { AreRuns index.now (line_of line) runs.now }
-    requires told { TellVerbs index.now universe.now runs.now }
+    requires told { KeepGrantVerbs index.now universe.now runs.now }
     requires verb { HasItsVerb universe.now line }
     ensures { IsTrue result ↔ ((k : ℕ) × IsCursorAt index.now (line_of line.entry) k) }
 {
@@ -133,9 +133,8 @@ pub(crate) fn next_bound(
     Some(no)
 }
 
-// A next grant whose number is below `end`: those that are passed are of no binding that names who
-// asks and may be live. Past the runs that are kept, each grant is a next one: to look at its seat,
-// which is empty where it is of another binding, takes less than to look up a run.
+// The next grant below `end` to look at. Skipped grants can't be cursors. Past the runs that are
+// kept, no grant is skipped: to look at a seat takes less than to look up a run.
 pub(crate) fn next_below(
     index: &Index<'_>,
     line: Line<'_>,

@@ -112,6 +112,8 @@ pub enum Action {
         /// Whether findings about Kubernetes' own objects are left out.
         skip_system: bool,
     },
+    /// Lists who can act as others, or come to do so.
+    Powers,
     /// Lists what a change lets users do, and what it takes from them.
     Diff {
         /// How many of the files tell what was before the change: the first ones.

@@ -1,5 +1,5 @@
-//! What a command line asks: the command, its question, and what the texts of its words mean. How
-//! the words are told apart isn't part of it: `rbac_command` reads them and re-exports these names.
+//! What a command line asks: the command, its question, and what the texts of its words mean.
+//! `rbac_command` sorts the words by option, and re-exports these names.
 #![tactic(auto)]
 
 mod asked;

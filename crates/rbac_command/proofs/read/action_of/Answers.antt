@@ -30,13 +30,17 @@ returns-then-eq-5 c =
     ((bytes_eq-Decides c.args.name.now (codes "lint")).0 (sym c.eq-5.ensures ∙ c.if-eq-5.true)) c.lint_line_of.ensures c.lint.ensures.answer
 
 pub returns-then-eq-6 : goal.returns-then-eq-6
-returns-then-eq-6 c =
+returns-then-eq-6 c = (bytes_eq-Decides c.args.name.now (codes "powers")).0 (sym c.eq-6.ensures ∙ c.if-eq-6.true)
+
+pub returns-then-eq-7 : goal.returns-then-eq-7
+returns-then-eq-7 c =
     diff_line c.args.name.now (rows_of (found_of c.args.matches.now)) _ c.diff.result
-    ((bytes_eq-Decides c.args.name.now (codes "diff")).0 (sym c.eq-6.ensures ∙ c.if-eq-6.true)) c.diff_line_of.ensures c.diff.ensures
+    ((bytes_eq-Decides c.args.name.now (codes "diff")).0 (sym c.eq-7.ensures ∙ c.if-eq-7.true)) c.diff_line_of.ensures c.diff.ensures
 
 pub returns : goal.returns
 returns c =
     can_i_line c.args.name.now (rows_of (found_of c.args.matches.now)) _ c.can_i.result
-    (the_other c.args.name.now c.eq.result c.eq-2.result c.eq-3.result c.eq-4.result c.eq-5.result c.eq-6.result c.requires c.eq.ensures c.if-eq.false
-    c.eq-2.ensures c.if-eq-2.false c.eq-3.ensures c.if-eq-3.false c.eq-4.ensures c.if-eq-4.false c.eq-5.ensures c.if-eq-5.false c.eq-6.ensures c.if-eq-6.false)
+    (the_other c.args.name.now c.eq.result c.eq-2.result c.eq-3.result c.eq-4.result c.eq-5.result c.eq-6.result c.eq-7.result c.requires c.eq.ensures c.if-eq.false
+    c.eq-2.ensures c.if-eq-2.false c.eq-3.ensures c.if-eq-3.false c.eq-4.ensures c.if-eq-4.false c.eq-5.ensures c.if-eq-5.false c.eq-6.ensures c.if-eq-6.false
+    c.eq-7.ensures c.if-eq-7.false)
     c.line_of.ensures c.can_i.ensures.answer

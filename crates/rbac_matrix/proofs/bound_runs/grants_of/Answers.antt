@@ -1,7 +1,7 @@
 use Rattle.std.proofs.Common.{[], ◌∷◌}
 use Rattle.std.proofs.lemmas.List.Elements.{All-append}
 use Rattle.rbac_matrix.specs.Shown.{line_of}
-use Rattle.rbac_matrix.specs.GrantVerbs.{TellsVerbs}
+use Rattle.rbac_matrix.specs.GrantVerbs.{AreVerbsOfGrant}
 use Rattle.rbac_matrix.proofs.VerbLemmas.{told_none, told_one}
 use Rattle.rbac_matrix.proofs.bound_runs.grants_of.Goals as goal
 
@@ -13,6 +13,6 @@ loop-no-init c = record {
 
 pub loop-no-preserved : goal.loop-no-preserved
 loop-no-preserved c = record {
-  told = rw c.push.ensures.items (All-append (TellsVerbs c.args.index.now c.args.universe.now) c.loop-no.told.items (c.of.result ∷ []) c.loop-no.invariant.told (told_one c.args.index.now c.args.universe.now c.of.result c.of.ensures));
+  told = rw c.push.ensures.items (All-append (AreVerbsOfGrant c.args.index.now c.args.universe.now) c.loop-no.told.items (c.of.result ∷ []) c.loop-no.invariant.told (told_one c.args.index.now c.args.universe.now c.of.result c.of.ensures));
   within = c.in-Some.ensures.within;
 }

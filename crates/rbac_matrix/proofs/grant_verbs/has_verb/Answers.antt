@@ -3,7 +3,7 @@ use Rattle.std.specs.Prelude.{Some, slice_get}
 use Rattle.std.proofs.lemmas.Option.{same_Some}
 use Rattle.rbac_terms.specs.Matching.{VerbOk}
 use Rattle.rbac_model.specs.Policies.{GrantView}
-use Rattle.rbac_matrix.specs.GrantVerbs.{TellsVerbs}
+use Rattle.rbac_matrix.specs.GrantVerbs.{AreVerbsOfGrant}
 use Rattle.rbac_terms.proofs.Reading.{read_some}
 use Rattle.rbac_matrix.proofs.grant_verbs.has_verb.Goals as goal
 
@@ -13,7 +13,7 @@ returns-then-line-lt-MOST_VERBS c =
     let u = c.args.universe.now in
     let told = c.in-Some.told.now in
     let a = c.in-Some.ensures.lookup in
-    let tells : TellsVerbs p u told = subst (TellsVerbs p u) (sym (a.3.1 told)) (c.requires.kept c.args.nth told a.3.0) in
+    let tells : AreVerbsOfGrant p u told = subst (AreVerbsOfGrant p u) (sym (a.3.1 told)) (c.requires.kept c.args.nth told a.3.0) in
     let g = read_some p.grants c.args.no c.requires.within in
     let here : slice_get p.grants told.no ≡ Some g.0 = rw c.if-told-no.true g.1 in
     let bits = tells g.0 here c.args.line.verb_place c.args.line.verb.now (omega (arith, c.if-line-lt-MOST_VERBS.true)) c.requires.verb in (
