@@ -59,7 +59,7 @@ def tools(it):
     it.expect('versions', ['--version'], 0, VERSIONS)
     for line, said in ((['--help'], 'kubectl rbacaudit who-can'), (['-h'], '--partial'), (['export', '--help'], 'incomplete.txt'),
                        (['universe', '-h'], 'Universe document'), (['can-i', '--help'], '--why'),
-                       (['who-can', '-Ah'], 'with kubectl rbacaudit who-can'), (['rules', '-h'], 'u:USER or g:GROUP'), (['matrix', '-h'], '--after'), (['lint', '--help'], 'dangling-role'),
+                       (['who-can', '-Ah'], 'with kubectl rbacaudit who-can'), (['rules', '-h'], 'u:USER or g:GROUP'), (['matrix', '-h'], '--after'), (['lint', '--help'], 'dangling-role'), (['powers', '-h'], 'act as a user, a group'),
                        (['diff', '--help'], 'objects that the change deletes'), (['diff', '-h'], 'folder with a kustomization'), (['read', '-h'], 'refused')):
         status, out, err = got = it.run(*line)
         it.checked('help: %s' % ' '.join(line), (status, err) == (0, '') and said.lower() in out.lower(), got)
@@ -136,7 +136,7 @@ OF_EXPORT = {('--force',): '', ('-n', '--namespace'): 'NS', ('--context',): 'NAM
              ('--request-timeout',): 'TIME', ('--as',): 'USER', ('--as-group',): 'GROUP'}
 NOTHING, FILES, FOLDERS = ':4', ':0', ':16'
 COMPLETED = [
-    ([''], ['can-i', 'who-can', 'rules', 'matrix', 'lint', 'diff', 'read', 'universe', 'page', 'export'], NOTHING),
+    ([''], ['can-i', 'who-can', 'rules', 'matrix', 'powers', 'lint', 'diff', 'read', 'universe', 'page', 'export'], NOTHING),
     (['m'], ['matrix'], NOTHING),
     (['-'], ['-h', '--help', '-V', '--version'], NOTHING), (['no', ''], [], NOTHING),
     (['no', '-'], [], NOTHING),
@@ -150,6 +150,7 @@ COMPLETED = [
     (['rules', '--groups', 'x', 'u:kim', 'y', ''], [], FILES),
     (['matrix', '--limit', ''], [], NOTHING),
     (['matrix', '--limit=3', 'a'], [], FILES), (['lint', '--export', ''], [], FOLDERS),
+    (['powers', ''], [], FILES), (['powers', '--export', ''], [], FOLDERS), (['powers', 'a', '--exp'], ['--export'], NOTHING),
     (['lint', '--only', ''], [], NOTHING), (['lint', '--only', 'L6', 'a'], [], FILES),
     (['lint', '--kubeconfig', 'x'], [], FILES),
     (['lint', '--context', ''], ['far away', 'near'], NOTHING),

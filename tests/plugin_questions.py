@@ -199,6 +199,58 @@ def rules(it):
               VIEW_RULES)
 
 
+# What the developers, the admin and the CI account of the example have: a RoleBinding doesn't give nodes, certificates and webhooks.
+STEPS = 'impersonate token run exec secrets nodes bind escalate certificates webhooks'.split()
+OF_DEVELOPERS = 'g:shop-developers\tshop-staging\tRoleBinding/shop-staging/developers-own\tRole/shop-staging/owner\tRole/shop-staging/owner\t1\t1\n'
+OF_DANA = 'u:dana@example.com\t*\tClusterRoleBinding/admins\tClusterRole/cluster-admin\tClusterRole/cluster-admin\t1\t1\n'
+OF_CI = CI_KEY + '\tshop\tRoleBinding/shop/ci-deploys\tRole/shop/deployer\tRole/shop/deployer\t1\t1\n'
+POWERS = ''.join('%s\t%s' % (step, line) for step in STEPS for line in (OF_DEVELOPERS, OF_DANA, OF_CI)
+                 if line == OF_DANA or step == 'run' or (line == OF_DEVELOPERS and step not in ('nodes', 'certificates', 'webhooks')))
+POWERS_WIDE = '''\
+STEP  WHO                              WHERE         BINDING                                  ROLE                       SOURCE                     RULE  SUBJECT
+run   g:shop-developers                shop-staging  RoleBinding/shop-staging/developers-own  Role/shop-staging/owner    Role/shop-staging/owner    1     1
+run   u:dana@example.com               *             ClusterRoleBinding/admins                ClusterRole/cluster-admin  ClusterRole/cluster-admin  1     1
+run   u:system:serviceaccount:shop:ci  shop          RoleBinding/shop/ci-deploys              Role/shop/deployer         Role/shop/deployer         1     1
+'''
+
+
+@in_each_shell
+def powers(it):
+    """Who can act as others, by a fresh export and by one in a folder, in each format, and what is said beside it."""
+    it.run('export', 'prod')
+    it.lines('calls')
+    for place in ([], ['--export', 'prod'], ['--partial', '--export=prod']):
+        it.expect('powers %s' % place, ['powers', *place], 0, POWERS)
+    got = it.lines('calls')
+    it.checked('powers read roles and bindings alone', len(got) == 2, got)
+    # (cut down to one step, so that the table stays small)
+    cluster, namespaced = served()['cluster'], served()['namespaced']
+    for item in cluster['items'] + namespaced['items']:
+        if item['metadata']['name'] in ('cluster-admin', 'owner'):
+            item['rules'] = [{'verbs': ['create'], 'apiGroups': ['batch'], 'resources': ['jobs']}]
+    it.serve({'cluster': cluster, 'namespaced': namespaced})
+    it.run('export', 'run')
+    for words_, wanted in ((['-o', 'wide'], POWERS_WIDE), (['--output=table', '--color', 'always'], POWERS_WIDE),
+                           (['-oname'], 'g:shop-developers\nu:dana@example.com\n%s\n' % CI_KEY)):
+        it.expect('powers %s' % words_, ['powers', '--export', 'run', *words_], 0, wanted)
+    status, out, err = got = it.run('powers', '--export', 'run', '-o', 'json')
+    keys = 'step who where binding role source rule subject'.split()
+    it.checked('powers as JSON', (status, err) == (0, '') and [json.loads(line) for line in out.splitlines()][1] == dict(zip(keys, (
+        'run', 'u:dana@example.com', None, 'ClusterRoleBinding/admins', 'ClusterRole/cluster-admin', 'ClusterRole/cluster-admin', 1, 1))), got)
+    it.write(json.dumps({'apiVersion': V1, 'kind': 'ClusterRoleBinding', 'metadata': {'name': 'eve'}, 'roleRef': {'kind': 'ClusterRole', 'name': 'cluster-admin'},
+                         'subjects': [{'kind': 'User', 'name': 'eve'}]}), 'eve.json')
+    eve = 'run\tu:eve\t*\tClusterRoleBinding/eve\tClusterRole/cluster-admin\tClusterRole/cluster-admin\t1\t1\n'
+    it.expect('powers with a FILE', ['powers', 'eve.json', '--export', 'run'], 0, 'run\t' + OF_DEVELOPERS + 'run\t' + OF_DANA + eve + 'run\t' + OF_CI)
+    it.write('[]', 'bad.json')
+    it.expect('a bad FILE of powers', ['powers', 'bad.json', '--export', 'prod'], 2, '',
+              'rbacaudit: file 1: M2 not an object\nkubectl-rbacaudit: file 1 is bad.json\n')
+    os.remove(os.path.join(it.work, 'prod', 'namespaced.json'))
+    missing = 'kubectl-rbacaudit: there is no namespaced.json in prod\n'
+    it.expect('powers without a part', ['powers', '--export', 'prod'], 2, '', missing + REFUSAL)
+    it.expect('powers without a part, --partial', ['powers', '--export', 'prod', '--partial'], 0,
+              ''.join('%s\t%s' % (step, OF_DANA) for step in STEPS), missing + CAUTION)
+
+
 ALONE = 'kubectl-rbacaudit: the export has the namespace shop alone'
 
 
@@ -221,7 +273,7 @@ def alone(it):
     it.expect('rules in the whole cluster', [*group, '-A', '-n', 'monitoring'], 0)
     it.expect('rules anywhere', group, 0, VIEW_RULES, ALONE + ', and this answer knows no other\n')
     it.expect('rules in another', [*group, '-n', 'monitoring'], 2, '', ALONE + '\n' + REFUSAL)
-    for line in (['lint'], ['matrix', '--limit', '1']):
+    for line in (['lint'], ['matrix', '--limit', '1'], ['powers']):
         status, out, err = got = it.run(*line, '--export', 'own')
         it.checked('%s of it' % line[0], status < 2 and out
                    and err == ALONE + ', and this answer knows no other\n', got)
@@ -327,13 +379,38 @@ def stale_aggregates(it):
                    (status, err, out.count('\nL6\t')) == (1, '', 4), got)
 
 
+def stale_with(written, gathered):
+    """An aggregated role in use with a rule that isn't the one that it gathers, each with a verb on secrets."""
+    def rules(verb):
+        return [{'verbs': [verb], 'apiGroups': [''], 'resources': ['secrets']}]
+
+    return of_kinds([
+        {'apiVersion': V1, 'kind': 'ClusterRole', 'metadata': {'name': 'a'}, 'rules': rules(written),
+         'aggregationRule': {'clusterRoleSelectors': [{'matchLabels': {'is': 'part'}}]}},
+        {'apiVersion': V1, 'kind': 'ClusterRole', 'metadata': {'name': 'part', 'labels': {'is': 'part'}}, 'rules': rules(gathered)},
+        {'apiVersion': V1, 'kind': 'ClusterRoleBinding', 'metadata': {'name': 'b'}, 'roleRef': {'kind': 'ClusterRole', 'name': 'a'},
+         'subjects': [{'kind': 'User', 'name': 'kim'}]}], 'ClusterRole', 'ClusterRoleBinding')
+
+
+@in_each_shell
+def stale_powers(it):
+    """A stale aggregate is reported where the cluster gives other powers: neither by another rule, nor by nothing."""
+    line = 'secrets\tu:kim\t*\tClusterRoleBinding/b\tClusterRole/a\tClusterRole/part\t1\t1\n'
+    said = ('kubectl-rbacaudit: the cluster has other powers now, because of stale aggregates (L6 of lint): ClusterRole/a\n')
+    for written, gathered, out, err in (('get', 'delete', '', said), ('delete', 'get', line, said), ('list', 'get', line, ''), ('update', 'delete', '', '')):
+        it.serve({'cluster': stale_with(written, gathered), 'namespaced': of_kinds([])})
+        it.run('export', '--force', 'prod')
+        for place in ([], ['--export', 'prod']):
+            it.expect('powers of a stale aggregate: %s, %s %s' % (written, gathered, place), ['powers', *place], 0, out, err)
+
+
 @in_each_shell
 def words(it):
     """Words that rbacaudit refuses end before a call to a cluster; what looks like an option may be a value."""
     for line, said in ((['can-i', 'get', 'pods'], '--as'), (['can-i', *KIM, 'list'], '<TARGET>'), (['who-can', 'get'], '<TARGET>'),
                        (['can-i', *KIM, '--wy', 'list', 'pods'], '--wy'), (['matrix', '--limit', '0'], '--limit'),
                        (['rules'], '<WHO>'), (['rules', 'kim'], 'U5 bad principal'), (['rules', 'u:'], 'U5 bad principal'),
-                       (['rules', 'g:dev', '--groups', 'x'], 'U5 bad principal'), (['rules', '-q', 'u:kim'], '-q'),
+                       (['rules', 'g:dev', '--groups', 'x'], 'U5 bad principal'), (['rules', '-q', 'u:kim'], '-q'), (['powers', '--why'], '--why'), (['powers', '-n', 'shop'], '-n'),
                        (['matrix', '--after', 'x'], 'U4 bad token'), (['can-i', '--as', '', 'get', 'pods'], 'U2 empty word'),
                        (['lint', '--only', ''], 'U6 bad code'), (['lint', '--only', 'L6,', 'a.json'], 'U6 bad code'), (['lint', '--only'], '--only'),
                        (['can-i', '--as', '--partial', 'get', 'pods'], '--as'), (['lint', '--limit', '1'], '--limit'),
@@ -650,5 +727,5 @@ def universes(it):
     it.checked('a universe of nothing is a document too', status == 0 and document(out) == {**wanted, 'resources': []}, got)
 
 
-CHECKS = [questions, rules, namespaces, own_objects, accounts, alone, idle_groups, stale_aggregates, words, files,
+CHECKS = [questions, rules, powers, namespaces, own_objects, accounts, alone, idle_groups, stale_aggregates, stale_powers, words, files,
           universe_faults, parts, gaps, types, subresources, universes]

@@ -31,7 +31,7 @@ from written import contents, same
 SHOW = os.path.join(TOP, 'plugin', 'rbacaudit-show')
 EXAMPLES = os.path.join(TOP, 'examples')
 MEMORY = 60_000  # kilobytes that a million lines may take
-EXPECTED = ('no command of rbacaudit prints this: expected lines of can-i, who-can, rules, matrix, lint or diff; '
+EXPECTED = ('no command of rbacaudit prints this: expected lines of can-i, who-can, rules, matrix, lint, powers or diff; '
             'rbacaudit-show --help lists their fields')
 
 
@@ -134,6 +134,21 @@ FILES = tabs(r'L2 unused-role ClusterRole/old - - rbac/roles\\.yaml')
 FILES_TABLE = r'''CODE  NAME         OBJECT           PLACE  DETAIL  FILE
 L2    unused-role  ClusterRole/old  -      -       rbac/roles\\.yaml
 '''
+POWERS = tabs(r'''
+exec g:devs shop RoleBinding/shop/devs ClusterRole/edit ClusterRole/edit-exec 2 1
+secrets u:bob * ClusterRoleBinding/bobs ClusterRole/ops ClusterRole/ops 10 3
+secrets u:eve \x2a RoleBinding/*/eve Role/*/r Role/*/r 1 1''')
+POWERS_TABLE = r'''STEP     WHO     WHERE  BINDING                  ROLE              SOURCE                 RULE  SUBJECT
+exec     g:devs  shop   RoleBinding/shop/devs    ClusterRole/edit  ClusterRole/edit-exec  2     1
+secrets  u:bob   *      ClusterRoleBinding/bobs  ClusterRole/ops   ClusterRole/ops        10    3
+secrets  u:eve   \x2a   RoleBinding/*/eve        Role/*/r          Role/*/r               1     1
+'''
+# (103 columns: BINDING of 23 gives two, then BINDING and SOURCE five each, then these and ROLE of 16 give four, four and three)
+POWERS_80 = r'''STEP     WHO     WHERE  BINDING       ROLE          SOURCE         RULE  SUBJECT
+exec     g:devs  shop   RoleBinding…  ClusterRole…  ClusterRole/…  2     1
+secrets  u:bob   *      ClusterRole…  ClusterRole…  ClusterRole/…  10    3
+secrets  u:eve   \x2a   RoleBinding…  Role/*/r      Role/*/r       1     1
+'''
 DIFF = tabs(r'''
 + g:devs shop list - secrets * RoleBinding/shop/devs
 - u:bob * * apps * \x2a ClusterRoleBinding/bobs
@@ -196,6 +211,10 @@ COMMANDS = {
              ['RoleBinding/shop/old', 'Role/shop/ops', 'ClusterRoleBinding/m', 'ClusterRole/view', 'Namespace/shop']),
     'lint of manifests': (FILES, FILES_TABLE, FILES_TABLE, objects(
         OF_FINDING + ' file', ('L2', 'unused-role', 'ClusterRole/old', None, '', 'rbac/roles\\.yaml')), ['ClusterRole/old']),
+    'powers': (POWERS, POWERS_TABLE, POWERS_80, objects(
+        'step who where ' + OF_WHY, ('exec', 'g:devs', 'shop', 'RoleBinding/shop/devs', 'ClusterRole/edit', 'ClusterRole/edit-exec', 2, 1),
+        ('secrets', 'u:bob', None, 'ClusterRoleBinding/bobs', 'ClusterRole/ops', 'ClusterRole/ops', 10, 3),
+        ('secrets', 'u:eve', '*', 'RoleBinding/*/eve', 'Role/*/r', 'Role/*/r', 1, 1)), ['g:devs', 'u:bob', 'u:eve']),
     'diff': (DIFF, DIFF_TABLE, DIFF_80, objects(
         'change ' + OF_ROW, ('+', 'g:devs', 'shop', 'list', '', 'secrets', None, 'RoleBinding/shop/devs'),
         ('-', 'u:bob', None, '*', 'apps', '*', '*', 'ClusterRoleBinding/bobs'),
@@ -289,7 +308,7 @@ def commands(it):
 
 
 # Commands whose rows have colors: the codes of each row.
-COLORS = {'can-i --why': ['', ''], 'who-can': ['', ''], 'rules': ['', ''], 'lint': [''] * 5, 'diff': ['1;32', '31', '31'], 'matrix': ['', '', '1', ''],
+COLORS = {'can-i --why': ['', ''], 'who-can': ['', ''], 'rules': ['', ''], 'lint': [''] * 5, 'powers': [''] * 3, 'diff': ['1;32', '31', '31'], 'matrix': ['', '', '1', ''],
           'diff --summary': ['1;32', '31', '1', '1']}
 
 
@@ -400,6 +419,12 @@ def strangers():
             zip(OF_ROW.split(), ['g:%sx' % name, name, name, name, name, name, 'RoleBinding/a/%sy' % name]))
 
 
+def power_of(name):
+    """A line of powers with this name wherever one can stand. As a place, * is the whole cluster."""
+    place = '\\x2a' if name == '*' else field_of(name)
+    return '\t'.join(('bind', field_of('g:' + name), place, *(field_of(text % name) for text in ('RoleBinding/%s/b', 'Role/%s/r', 'ClusterRole/%s')), '1', '2')) + '\n'
+
+
 def texts(it):
     """Names of strangers come back from JSON as they were, and their objects are ASCII but for what is to be seen."""
     lines, wanted = zip(*strangers())
@@ -419,6 +444,10 @@ def texts(it):
     given = ''.join(change % it for it in (('*', '*'), ('\\x2a', '\\x2a'), ('-', '-'), ('\\x2d', 'a*')))
     it.same('stars', [(line['namespace'], line['name']) for line in objects_in(it.run(given, '-o', 'json')[1])],
             [(None, None), ('*', '*'), ('', ''), ('-', 'a*')])
+    given = ''.join(power_of(name) for name in NAMES if name)
+    it.same('in powers', [tuple(line.values()) for line in objects_in(it.run(given, '-o', 'json')[1])], [
+        ('bind', 'g:' + name, name, 'RoleBinding/%s/b' % name, 'Role/%s/r' % name, 'ClusterRole/' + name, 1, 2) for name in NAMES if name])
+    it.same('in powers, as names', it.run(given, '-o', 'name')[1].decode(), ''.join(field_of('g:' + name) + '\n' for name in NAMES if name))
     it.same('every byte as an escape', objects_in(it.run(''.join(
         'u:\\x%02x\tClusterRoleBinding/b\n' % at for at in range(128)), '-o', 'json')[1]),
             [{'who': 'u:' + chr(at), 'binding': 'ClusterRoleBinding/b'} for at in range(128)])
@@ -524,7 +553,9 @@ def refusals(it):
                        ('a line of Windows', holder + '\r'), ('a tab at the end', holder + '\t'), ('a tab at the beginning', '\t' + holder),
                        ('a rule without a number', WHY.rstrip().replace('\t3\t', '\t03\t')), ('a place that is a word', 'L3\tx\tRole/a/b\tz\t1'),
                        ('no list', RULES.splitlines()[0].replace('[get,list]', 'get')), ('a list with an empty word', RULES.splitlines()[0].replace('[get,list]', '[get,,list]')),
-                       ('no sign', DIFF.splitlines()[0].replace('+', '=')), ('no token', 'next\ta b'), ('next without a token', 'next')):
+                       ('no sign', DIFF.splitlines()[0].replace('+', '=')), ('no step', POWERS.splitlines()[0].replace('exec', 'exe', 1)), ('no step, but a head', POWERS.splitlines()[0].replace('exec', 'STEP', 1)),
+                       ('a step of nobody', POWERS.splitlines()[0].replace('g:devs', 'devs')), ('a step by no binding', POWERS.splitlines()[0].replace('RoleBinding', 'Role')),
+                       ('no token', 'next\ta b'), ('next without a token', 'next')):
         for words in ([], ['-o', 'json'], ['-o', 'name']):
             it.same('refused %s: %s' % (words, name), it.run(line + '\n', *words), (2, b'', 'rbacaudit-show: standard input line 1: %s\n' % EXPECTED))
     it.same('refused: a NUL', it.run('u:k\0\tRoleBinding/a/b\x01\n')[::2], (2, 'rbacaudit-show: standard input line 1: %s\n' % EXPECTED))
@@ -534,6 +565,8 @@ def refusals(it):
             ('a finding among rows', ROWS, LINT, matrix), ('a holder after a matrix', 'end\n', HOLDERS, matrix), ('yes among rows', ROWS, 'yes\n', matrix),
             ('end among holders', HOLDERS, 'end\n', 'no line of who-can as before: expected 2 fields: WHO BINDING'),
             ('a reason among holders', HOLDERS, WHY, 'no line of who-can as before: expected 2 fields: WHO BINDING'),
+            ('a power among changes', DIFF, POWERS, 'no line of diff as before: expected 8 fields: CHANGE WHO NAMESPACE VERB GROUP RESOURCE NAME BINDING'),
+            ('a change among powers', POWERS, DIFF, 'no line of powers as before: expected 8 fields: STEP WHO WHERE BINDING ROLE SOURCE RULE SUBJECT'),
             ('a file among findings', LINT, FILES, 'no line of lint as before: expected 5 fields: CODE NAME OBJECT PLACE DETAIL'),
             ('a finding after yes', 'yes\n', LINT, 'no line of can-i as before: expected yes, no, or 5 fields: BINDING ROLE SOURCE RULE SUBJECT')):
         status, out, err = it.run(before + line, '-o', 'json')
@@ -614,7 +647,7 @@ SHOP = ['shop.json']
 ASKED = ([*'can-i --as kim@example.com --groups shop-developers -n shop --why list pods'.split(), *SHOP], [*'can-i --as kim get pods'.split(), *SHOP],
          [*'who-can -n shop update deployments.apps'.split(), *SHOP], [*'who-can -n shop --any-name --why update configmaps'.split(), *SHOP],
          ['rules', 'u:system:serviceaccount:shop:ci', *SHOP], ['matrix', *SHOP, 'shop-universe.json'], ['matrix', '--limit', '3', *SHOP, 'shop-universe.json'],
-         ['lint', 'lint.json'], ['diff', '--before', *SHOP, '--after', *SHOP, 'shop-change.json'])
+         ['lint', 'lint.json'], ['powers', *SHOP], ['diff', '--before', *SHOP, '--after', *SHOP, 'shop-change.json'])
 
 
 def text_of(field):
@@ -655,9 +688,12 @@ def answers():
 
 
 def worked():
-    """The lines of the worked examples (rows.json)."""
+    """The lines of the worked examples (rows.json, and the powers of rows_paths.json)."""
     with open(os.path.join(TOP, 'tests', 'rows.json'), encoding='utf-8') as file:
         groups = json.load(file)
+    with open(os.path.join(TOP, 'tests', 'rows_paths.json'), encoding='utf-8') as file:
+        examples = (example for group in json.load(file).values() for example in group)
+        groups['powers'] = [{'asks': [it for it in example.get('asks', ()) if it[0] == 'powers']} for example in examples]
     wrong, count = [], 0
     for example in (example for group in groups.values() for example in group):
         asks = [(it[0], it[2]) for it in example.get('asks', ()) if len(it) == 3 and not it[0].startswith('universe')]

@@ -5,7 +5,7 @@
 parts_of() {
     wanted=
     case $1 in
-        rules | lint | diff) needed='cluster.json namespaced.json' ;;
+        rules | powers | lint | diff) needed='cluster.json namespaced.json' ;;
         matrix) needed='cluster.json namespaced.json namespaces.json accounts.json api' ;;
         *) needed='cluster.json namespaced.json api' ;;
     esac
@@ -416,8 +416,9 @@ namespace what somebody may do in the whole cluster; --once leaves them out"
 
 # Whether an answer is read before it is shown.
 is_kept() {
-    case $command$stale,$format in
-        who-can?* | rules?* | *,sarif) ;;
+    [ "$format" != sarif ] || return 0
+    case $command$stale in
+        who-can?* | rules?* | powers?*) ;;
         *) has_words ;;
     esac
 }

@@ -314,13 +314,17 @@ and this matrix has what they gather"
             ! has_same_lines || return 0
             differs='has other rules'
             ;;
+        powers00)
+            ! has_same_lines || return 0
+            differs='has other powers'
+            ;;
         *) return 0 ;;
     esac
     report "the cluster $differs now, because of stale aggregates (L6 of lint): $stale"
 }
 
-# Whether both answers have the same holders, or the same rules by the same bindings: wherever a rule
-# is written.
+# Whether both answers have the same holders, the same rules by the same bindings, or the same powers:
+# wherever a rule is written.
 has_same_lines() {
     has_lines_of "$scratch/answer" "$scratch/written" &&
         has_lines_of "$scratch/written" "$scratch/answer"
@@ -329,7 +333,7 @@ has_same_lines() {
 # Whether each line of the second list is in the first.
 has_lines_of() {
     LC_ALL=C awk -F '\t' '
-        { line = NF == 10 ? $1 FS $6 FS $7 FS $8 FS $9 FS $10 : $1 }
+        { line = NF == 10 ? $1 FS $6 FS $7 FS $8 FS $9 FS $10 : NF == 8 ? $1 FS $2 FS $3 : $1 }
         !begun { there[line]; next }
         !(line in there) { lacks = 1 }
         END { exit lacks }' "$1" begun=1 "$2"

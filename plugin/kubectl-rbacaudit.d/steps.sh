@@ -24,9 +24,10 @@ BEGIN {
     step("webhooks", "create update patch", "mutatingwebhookconfigurations.admissionregistration.k8s.io " \
         "validatingwebhookconfigurations.admissionregistration.k8s.io", "cluster")
 }
-# (in steps are the names of the steps, each once)
+# (in steps are the names of the steps, each once, and in is_step too)
 function step(name, verbs, types, where,    verb, type, many, at, of) {
     if (name != steps[how_many]) steps[++how_many] = name
+    is_step[name] = 1
     many = split(types, type, " ")
     for (at = split(verbs, verb, " "); at; at--) for (of = many; of; of--) {
         step_name[++requests] = name
