@@ -198,7 +198,7 @@ def help_and_usage():
         checked('help of diff says "%s"' % said.decode(), said in run(['diff', '--help']).stdout)
     for option in (b'--in-namespace', b'--anywhere', b'--any-name', b'--every', b'--why'):
         checked('help of who-can names %s' % option.decode(), option in run(['who-can', '--help']).stdout)
-    for said in (b'--only <CODES>', b'--skip-system', b'The exit status is 1 where a finding is left', b'rbacaudit lint --only L1,L6 ',
+    for said in (b'--only <CODES>', b'--skip-system', b'The exit status is 1 if a finding is listed', b'rbacaudit lint --only L1,L6 ',
                  b'rbacaudit lint --skip-system '):
         checked('help of lint says "%s"' % said.decode(), said in run(['lint', '--help']).stdout)
     no_tokens = ['', 'MQ==', 'M', 'OQ', 'MQ', 'Mg', 'Mw', 'MQlnOmEJLQktCS0JeAkt=']
