@@ -95,6 +95,16 @@ L7\treplaced-object\tClusterRole/admin\t-\t1
 OTHER_FINDINGS, ADMIN_FINDINGS = FINDINGS[:FINDINGS.index('L6')], FINDINGS[FINDINGS.index('L6'):]
 ALICE = ['can-i', '--as', 'alice', '-n', 'dev']
 CI_KEY = 'u:system:serviceaccount:dev:ci'
+# What gives powers, beside the worked export, which gives none.
+TAKERS = [
+    item('Role', {'namespace': 'dev', 'name': 'taker'}, rules=[
+        {'verbs': ['get'], 'apiGroups': [''], 'resources': ['secrets']},
+        {'verbs': ['impersonate'], 'apiGroups': [''], 'resources': ['serviceaccounts'], 'resourceNames': ['ci']}]),
+    item('RoleBinding', {'namespace': 'dev', 'name': 't'}, roleRef=role_ref('Role', 'taker'),
+         subjects=[{'kind': 'Group', 'name': 'dev'}, {'kind': 'ServiceAccount', 'name': 'ci'}]),
+]
+POWERS = ''.join('%s\t%s\tdev\tRoleBinding/dev/t\tRole/dev/taker\tRole/dev/taker\t%d\t%d\n' % line for line in [
+    ('impersonate', 'g:dev', 2, 1), ('impersonate', CI_KEY, 2, 2), ('secrets', 'g:dev', 1, 1), ('secrets', CI_KEY, 1, 2)])
 # What the two bindings of the worked export bring: to the group dev, and to the subject at a place.
 GROUP_RULES = ''.join('ClusterRoleBinding/a\tClusterRole/admin\tClusterRole/%s\t%s\n' % (LONG, rest) for rest in (
     '1\t1\t[get]\t[-]\t[pods]\t[]\t[]', '2\t1\t[get]\t[]\t[]\t[]\t[/healthz*]'))
@@ -393,6 +403,7 @@ def answers():
     yield Case('lint --only', ['lint', '--only', 'L7,L6,L7'], export(*WORKED, *SLIPS), 1, ADMIN_FINDINGS)
     yield Case('lint --skip-system', ['lint', '--skip-system'], export(*WORKED, *SLIPS), 1, OTHER_FINDINGS)
     yield Case('lint, no findings', ['lint'], export(*WORKED), 0)
+    yield Case('powers', ['powers'], export(*WORKED, *TAKERS), 0, POWERS)
     yield Case('lint, no findings left', ['lint', '--only', 'L6', '--skip-system'], export(*WORKED, *SLIPS), 0)
 
 
