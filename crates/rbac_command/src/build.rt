@@ -86,8 +86,9 @@ const MATRIX_MORE: &str =
 API group, resource or URL, object name, and the first binding that grants it; - is an empty field.
 With --every there is a line for each binding that grants it, so you see what is left if one is
 deleted. A Universe document lists the principals and requests to ask about. A list that it leaves
-out is made from the files: whom bindings name and every service account, the namespaces, verbs, object names and URLs that
-there are, and the resources of the API resource lists, or of the rules if there is no such list.
+out is made from the files: whom bindings name and every service account, the namespaces, verbs,
+object names and URLs that there are, and the resources of the API resource lists, or of the rules
+if there is no such list.
 
 The last line is end, or next and a TOKEN, joined by a tab, where --limit left rows out:
 --after TOKEN goes on from there. The exit status is 0; 2 is an error.
