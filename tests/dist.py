@@ -36,7 +36,7 @@ WHO = {'GIT_%s_%s' % (who, what): value for who in ('AUTHOR', 'COMMITTER')
        for what, value in (('NAME', 'tests'), ('EMAIL', 'tests@example.com'), ('DATE', DATE))}
 GIT = {'GIT_CONFIG_GLOBAL': '/dev/null', 'GIT_CONFIG_SYSTEM': '/dev/null', **WHO}
 # What every system has, and with it tar and gzip. The plugin's tools are those that its help names.
-BASE = 'cat cp dirname find gzip install mkdir mv readlink rm sh sha256sum sort tar tr'.split()
+BASE = 'cat cp dirname find gzip install mkdir mkfifo mv readlink rm sh sha256sum sort tar tr'.split()
 PLUGIN_TOOLS = 'awk', 'date', 'mktemp', 'sed'
 QUESTION = 'can-i --as system:serviceaccount:shop:ci -n shop --why update deployments.apps'.split()
 ANSWER = 'yes\nRoleBinding/shop/ci-deploys\tRole/shop/deployer\tRole/shop/deployer\t1\t1\n'
@@ -558,6 +558,19 @@ esac
 MANIFEST_TOOLS = 'bash', 'cut', 'env', 'fold', 'git', 'grep', 'wc', *PLUGIN_TOOLS
 MORE = '+\tu:system:serviceaccount:shop:ci\tshop\tget\t-\tsecrets\t*\tRoleBinding/shop/ci-deploys\n'
 LESS = ''.join('-\tg:shop-support\tshop\tget\t-\t%s\t*\tRoleBinding/shop/support\n' % type_ for type_ in ('pods', 'pods/log'))
+# What the script of both jobs adds to a pull request.
+MORE_SUMMARY = """### Who gains and loses what
+
+    WHO                              NAMESPACE  BINDING                      GAINED  LOST  POWERS_GAINED  POWERS_LOST
+    u:system:serviceaccount:shop:ci  shop       RoleBinding/shop/ci-deploys  1       0     [secrets]      []
+    total                            -          -                            1       0     [secrets]      []
+"""
+LESS_SUMMARY = """### Who gains and loses what
+
+    WHO             NAMESPACE  BINDING                   GAINED  LOST  POWERS_GAINED  POWERS_LOST
+    g:shop-support  shop       RoleBinding/shop/support  0       2     []             []
+    total           -          -                         0       2     []             []
+"""
 
 
 def manifests(room):
@@ -574,18 +587,22 @@ def manifests(room):
     for name in ('curl', 'kubectl'):
         os.chmod(os.path.join(tools, name), 0o755)
     folder = shutil.copytree(os.path.join(TOP, 'examples/manifests/main'), room.at('manifests') + '/rbac') + '/..'
+    run(['bash', '-c', next(command for command, _ in steps(text_of('docs', 'RECIPES.md')) if command.startswith('cat > summary.sh '))], folder)
     less = text_of('examples/manifests/main/support.yaml').partition('---\n')[0]
     address = with_branches(os.path.normpath(folder), {
         'more': {'rbac/deployer.yaml': text_of('examples/manifests/change/deployer.yaml')},
         'less': {'rbac/support.yaml': less}, 'bad': {'rbac/deployer.yaml': 'kind: ClusterRole\n\tname: x\n'}})
     github, gitlab = shell_parts(*jobs_below('Jobs for pull requests'))
-    for branch, status, changes in (('more', 1, MORE), ('less', 0, LESS), ('bad', 1, '')):
-        for name, shell in (('GitHub', github), ('GitLab', gitlab)):
-            job = Job(room, address, branch, tools)
-            got = job.run(shell)
-            told = ''.join('    %s\n' % line for line in changes.splitlines()) if changes and name == 'GitHub' else None
-            well = got[0] == status and bytes_of(job.work, 'changes').decode() == changes and job.told() == told
-            holds('%s, manifests: %s' % (name, branch), well and ('bad' != branch or 'rbac/deployer.yaml' in got[1]), (got, job.told()))
+    for branch, status, changes, summary in (('more', 1, MORE, MORE_SUMMARY), ('less', 0, LESS, LESS_SUMMARY), ('bad', 1, '', None)):
+        job = Job(room, address, branch, tools)
+        got = job.run(github)
+        holds('GitHub, manifests: ' + branch, got[0] == status and changes in got[1] and job.told() == summary, (got, job.told()))
+        holds('GitHub, manifests: %s: the file' % branch, branch != 'bad' or 'rbac/deployer.yaml' in got[1], got)
+        job = Job(room, address, branch, tools)
+        got = job.run(gitlab, GITHUB_STEP_SUMMARY='')
+        path = os.path.join(job.work, 'summary.md')
+        told = bytes_of(path).decode() if os.path.exists(path) else None
+        holds('GitLab, manifests: ' + branch, got[0] == status and changes in got[1] and told == summary, (got, told))
 
 
 def all_of_it():
