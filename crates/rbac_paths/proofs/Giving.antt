@@ -6,9 +6,9 @@ use Rattle.rbac_terms.specs.declared.matching.Rule.{Rule}
 use Rattle.rbac_model.specs.Policies.{GrantView, IsOfBinding, PolicyView}
 use Rattle.rbac_model.proofs.OwnWords.{any_from}
 use Rattle.rbac_paths.specs.Powers.{AllowsStep, GivesStep}
-use Rattle.rbac_paths.specs.Finding.{AllowsIn, GivesNone, IsFirstGiving}
+use Rattle.rbac_paths.specs.Finding.{GivesNone, IsFirstGiving}
 use Rattle.rbac_paths.specs.Rows.{AreOfStep}
-use Rattle.rbac_paths.specs.Steps.{AllowsRow, CountsIn, RowView, table}
+use Rattle.rbac_paths.specs.Steps.{AllowsIn, RowView, table}
 use Rattle.rbac_terms.specs.declared.granting.Binding.{Binding}
 use Rattle.rbac_paths.specs.declared.steps.Step.{Step}
 
@@ -16,10 +16,10 @@ module _ (step : Step) (rows : List RowView) (of : AreOfStep step table rows) (n
   pub by_rows : Any (AllowsIn namespace rule) rows → AllowsStep step namespace rule
   by_rows a =
       let w = (of a.1).0 (a.0, a.2, a.3) in
-      any_from (λ row. (row.step ≡ step) × CountsIn row namespace × AllowsRow row rule) table a.1 w.0 (w.1, a.4.0, a.4.1)
+      any_from (λ row. (row.step ≡ step) × AllowsIn namespace rule row) table a.1 w.0 (w.1, a.4)
 
   pub in_rows : AllowsStep step namespace rule → Any (AllowsIn namespace rule) rows
-  in_rows a = any_from (AllowsIn namespace rule) rows a.1 ((of a.1).1 ((a.0, a.2, a.3), a.4.0)) (a.4.1, a.4.2)
+  in_rows a = any_from (AllowsIn namespace rule) rows a.1 ((of a.1).1 ((a.0, a.2, a.3), a.4.0)) a.4.1
 
 -- a grant of the binding at a place has that binding
 pub own_binding : (p : PolicyView) (n place : ℕ) (g : GrantView) (b : Binding) → slice_get p.grants n ≡ Some g → IsOfBinding p n place → slice_get p.held.bindings place ≡ Some b → g.binding ≡ b

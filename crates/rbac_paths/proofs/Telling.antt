@@ -9,13 +9,14 @@ use Rattle.rbac_model.proofs.GrantNumbers.{grant_allows, some_grant}
 use Rattle.rbac_model.proofs.OwnWords.{any_from}
 use Rattle.rbac_index.specs.Holding.{IsKeyFor}
 use Rattle.rbac_index.proofs.HolderLaw.{key_names, naming_key}
-use Rattle.rbac_paths.specs.Powers.{GivesStep, HasKey, PowerView}
-use Rattle.rbac_paths.specs.Steps.{AllowsRow, CountsIn, RowView, steps, table}
+use Rattle.rbac_index.specs.WhyHeld.{HasKey}
+use Rattle.rbac_paths.specs.Powers.{GivesStep, PowerView}
+use Rattle.rbac_paths.specs.Steps.{AllowsIn, AllowsRow, CountsIn, RowView, steps, table}
 use Rattle.rbac_paths.specs.Telling.{CanTake, HoldsIn, TellAll, asked_in}
 use Rattle.rbac_paths.specs.declared.steps.Step.{Step}
 use Rattle.rbac_paths.specs.declared.steps.Step.TheVariants.{Impersonate, Token, Run, Exec, Secrets, Nodes, Bind, Escalate, Certificates, Webhooks}
-use Rattle.rbac_paths.specs.declared.table.Reach.{Reach}
-use Rattle.rbac_paths.specs.declared.table.Reach.TheVariants as reach
+use Rattle.rbac_paths.specs.declared.table.Counts.{Counts}
+use Rattle.rbac_paths.specs.declared.table.Counts.TheVariants as counted
 use Rattle.rbac_paths.proofs.AllSteps.{ArePowersTo, each_power}
 
 in_steps : (step : Step) → Contains steps step
@@ -31,33 +32,33 @@ in_steps Certificates = (8, omega arith, refl)
 in_steps Webhooks = (9, omega arith, refl)
 
 -- where a binding is live for a request of a row, the row counts, and what holds where the binding is holds there
-counts_there : (own : Option Text) (r : RowView) (place : Reach) (namespace verb text name : Text) → r.reach ≡ place → Live own (asked_in place namespace) (Resource r.group text name) → CountsIn r own × HoldsIn own namespace
+counts_there : (own : Option Text) (r : RowView) (place : Counts) (namespace verb text name : Text) → r.counts ≡ place → Live own (asked_in place namespace) (Resource r.group text name) → CountsIn r own × HoldsIn own namespace
 counts_there None r place namespace verb text name is live = (tt, tt)
-counts_there (Some own) r reach.Cluster namespace verb text name is live = absurd (live.0 refl)
-counts_there (Some own) r reach.Namespace namespace verb text name is live = ((is, λ e. live.0 (sym live.1 ∙ e)), live.1)
+counts_there (Some own) r counted.ClusterWide namespace verb text name is live = absurd (live.0 refl)
+counts_there (Some own) r counted.InNamespaces namespace verb text name is live = ((is, λ e. live.0 (sym live.1 ∙ e)), live.1)
 
 -- where a row counts that is asked there, a binding is live
-live_there : (own : Option Text) (r : RowView) (namespace text name : Text) → HoldsIn own namespace → CountsIn r own → Live own (asked_in r.reach namespace) (Resource r.group text name)
+live_there : (own : Option Text) (r : RowView) (namespace text name : Text) → HoldsIn own namespace → CountsIn r own → Live own (asked_in r.counts namespace) (Resource r.group text name)
 live_there None r namespace text name holds counts = tt
 live_there (Some own) r namespace text name holds counts =
-    let asked : asked_in r.reach namespace ≡ namespace = ap (λ (p : Reach). asked_in p namespace) counts.0 in
+    let asked : asked_in r.counts namespace ≡ namespace = ap (λ (p : Counts). asked_in p namespace) counts.0 in
     (λ e. counts.1 (holds ∙ sym asked ∙ e), holds ∙ sym asked)
 
 module _ (p : PolicyView) (ok : IsPolicy p) (xs : List PowerView) (to : ArePowersTo p steps xs) (who : Who) (step : Step) (namespace : Text) where
   pub told : CanTake p who step namespace → Any (λ x. (x.step ≡ step) × HoldsIn x.grant.binding.namespace namespace × IsKeyFor who x.who) xs
   told c =
       let row = c.row in
-      let asked = asked_in row.reach namespace in
+      let asked = asked_in row.counts namespace in
       let t = Resource row.group c.text c.name in
       let by = some_grant p.held p.grants who asked c.verb t ok.0 ok.1 c.allowed in
       let g = by.1 in
       let here : slice_get p.grants by.0 ≡ Some g = slice_get-get_or p.grants by.0 g by.2 ∙ ap (λ (v : GrantView). Some v) by.3 in
-      let there = counts_there g.binding.namespace row row.reach namespace c.verb c.text c.name refl by.4.0 in
+      let there = counts_there g.binding.namespace row row.counts namespace c.verb c.text c.name refl by.4.0 in
       let named = by.4.1 in
       let key = naming_key named.1 g.binding.namespace who named.4 in
       let has : HasKey g.binding key.0 = (named.0, named.1, named.2, named.3, key.1) in
       let allows : AllowsRow row g.rule.rule = record { verb = c.verb; text = c.text; name = c.name; of_verbs = c.of_verbs; of_resources = c.of_resources; named = c.named; allows = by.4.2 } in
-      let gives : GivesStep step g = any_from (λ r. (r.step ≡ step) × CountsIn r g.binding.namespace × AllowsRow r g.rule.rule) table row c.of_table (c.of_step, there.0, allows) in
+      let gives : GivesStep step g = any_from (λ r. (r.step ≡ step) × AllowsIn g.binding.namespace g.rule.rule r) table row c.of_table (c.of_step, (there.0, allows)) in
       let x = to.grants step (in_steps step) by.0 g key.0 here gives has in
       (x.0, x.1, x.2, x.3, (x.4.0, subst (λ (o : Option Text). HoldsIn o namespace) (sym x.4.2) there.1, subst (λ (k : Text). IsKeyFor who k) (sym x.4.1) key.2))
 
@@ -71,11 +72,11 @@ module _ (p : PolicyView) (ok : IsPolicy p) (xs : List PowerView) (to : ArePower
       let has = first.holds.1 in
       let gives = first.holds.2 in
       let row = gives.1 in
-      let allows = gives.4.2 in
+      let allows = gives.4.1.1 in
       let t = Resource row.group allows.text allows.name in
-      let asked = asked_in row.reach namespace in
+      let asked = asked_in row.counts namespace in
       let named : BindingNames g.binding who = (has.0, has.1, has.2, has.3, key_names has.1 g.binding.namespace who x.who has.4 a.4.2) in
-      let live = live_there g.binding.namespace row namespace allows.text allows.name a.4.1 gives.4.1 in
+      let live = live_there g.binding.namespace row namespace allows.text allows.name a.4.1 gives.4.1.0 in
       record {
         row = row;
         verb = allows.verb;

@@ -1,24 +1,19 @@
 -- While the powers of a step are looked for.
-use Rattle.std.specs.Prelude.{◌≡◌, ℕ, ◌<◌, ◌⊎◌, List, Option, Any, IsSome, Some, None, length, slice_get}
+use Rattle.std.specs.Prelude.{◌≡◌, ℕ, ◌<◌, ◌⊎◌, List, Any, IsSome, Some, None, length, slice_get}
 use Rattle.std.specs.BTreeMap.{BTreeMap, get}
 use Rattle.rbac_terms.specs.Text.{Text, text_cmp}
 use Rattle.rbac_terms.specs.Granting.{IsSubjectKey}
 use Rattle.rbac_terms.specs.declared.granting.Subject.{Subject}
-use Rattle.rbac_terms.specs.declared.matching.Rule.{Rule}
 use Rattle.rbac_model.specs.Lists.{IsFirstAt}
 use Rattle.rbac_model.specs.Policies.{GrantView, IsOfBinding, PolicyView}
-use Rattle.rbac_paths.specs.Powers.{GivesStep, HasKey, IsPower, PowerView, power_place}
+use Rattle.rbac_index.specs.WhyHeld.{HasKey}
+use Rattle.rbac_paths.specs.Powers.{GivesStep, IsPower, PowerView, power_place}
 use Rattle.rbac_paths.specs.Powers.{who_and_where}
-use Rattle.rbac_paths.specs.Steps.{AllowsRow, CountsIn, RowView}
 use Rattle.rbac_paths.specs.declared.steps.Step.{Step}
 
 -- powers, under who and where as they are printed
 abbrev pub Found : Type 0
 Found = BTreeMap Text PowerView
-
--- the rule allows some request of the row where a binding in that namespace, or in none, is live
-abbrev pub AllowsIn : Option Text → Rule → RowView → Type 0
-AllowsIn namespace rule row = CountsIn row namespace × AllowsRow row rule
 
 -- a grant of the binding at that place
 abbrev pub IsGrantOf : PolicyView → ℕ → ℕ → GrantView → Type 0

@@ -3,14 +3,14 @@ use Rattle.std.specs.Prelude.{◌≡◌, ℕ, ◌↔◌, List, [], ◌∷◌, �
 use Rattle.std.specs.declared.cmp.Ordering.TheVariants.{Less}
 use Rattle.rbac_terms.specs.Text.{Text, text_cmp}
 use Rattle.rbac_terms.specs.Granting.{IsSubjectKey}
-use Rattle.rbac_terms.specs.declared.granting.Binding.{Binding}
 use Rattle.rbac_terms.specs.declared.granting.Subject.{Subject}
 use Rattle.rbac_terms.specs.declared.matching.Rule.{Rule}
 use Rattle.rbac_model.specs.Lists.{IsFirstAt}
 use Rattle.rbac_model.specs.Policies.{GrantView, PolicyView}
+use Rattle.rbac_index.specs.WhyHeld.{HasKey}
 use Rattle.rbac_text.specs.Choice.{choice_and_tab}
 use Rattle.rbac_text.specs.Row.{field_and_tab}
-use Rattle.rbac_paths.specs.Steps.{AllowsRow, CountsIn, steps, table}
+use Rattle.rbac_paths.specs.Steps.{AllowsIn, steps, table}
 use Rattle.rbac_paths.specs.declared.steps.Step.{Step}
 
 -- a step that somebody with a key can take, by a grant and a subject of its binding: in the
@@ -24,15 +24,11 @@ pub record PowerView : Type 0 where
 -- the rule allows some request of the step where a binding in that namespace, or in none, is live
 abbrev pub AllowsStep : Step → Option Text → Rule → Type 0
 AllowsStep step namespace rule =
-    Any (λ row. (row.step ≡ step) × CountsIn row namespace × AllowsRow row rule) table
+    Any (λ row. (row.step ≡ step) × AllowsIn namespace rule row) table
 
 -- the grant gives its subjects the step
 abbrev pub GivesStep : Step → GrantView → Type 0
 GivesStep step g = AllowsStep step g.binding.namespace g.rule.rule
-
--- some subject of the binding has the key
-abbrev pub HasKey : Binding → Text → Type 0
-HasKey b key = Any (λ s. IsSubjectKey s b.namespace key) b.subjects
 
 -- the grant gives whoever has the key the step, in that namespace, or, if there is none, in the
 -- whole cluster

@@ -13,7 +13,7 @@ abbrev pub row_of : Row → RowView
 row_of r = record {
   step = r.step;
   names = r.names;
-  reach = r.reach;
+  counts = r.counts;
   verbs = map (λ t. t.now) r.verbs.now;
   group = r.group.now;
   resources = map (λ t. t.now) r.resources.now;

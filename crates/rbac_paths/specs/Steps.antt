@@ -10,8 +10,8 @@ use Rattle.rbac_paths.specs.declared.steps.Step.TheVariants.{Secrets, Nodes, Bin
 use Rattle.rbac_paths.specs.declared.steps.Step.TheVariants.{Certificates, Webhooks}
 use Rattle.rbac_paths.specs.declared.table.Names.{Names}
 use Rattle.rbac_paths.specs.declared.table.Names.TheVariants as names
-use Rattle.rbac_paths.specs.declared.table.Reach.{Reach}
-use Rattle.rbac_paths.specs.declared.table.Reach.TheVariants as reach
+use Rattle.rbac_paths.specs.declared.table.Counts.{Counts}
+use Rattle.rbac_paths.specs.declared.table.Counts.TheVariants as counted
 
 -- all steps, in order of the table
 abbrev pub steps : List Step
@@ -36,68 +36,68 @@ step_word Webhooks = codes "webhooks"
 pub record RowView : Type 0 where
   pub step : Step
   pub names : Names
-  pub reach : Reach
+  pub counts : Counts
   pub verbs : List Text
   pub group : Text
   pub resources : List Text
 
-abbrev pub row : Step → Names → Reach → List Text → Text → List Text → RowView
-row step names reach verbs group resources = record {
+abbrev pub row : Step → Names → Counts → List Text → Text → List Text → RowView
+row step names counts verbs group resources = record {
   step = step;
   names = names;
-  reach = reach;
+  counts = counts;
   verbs = verbs;
   group = group;
   resources = resources;
 }
 
--- the API groups of what has none, and of roles and bindings
+-- the core API group, and that of roles and bindings
 abbrev core : Text
 core = []
 
 abbrev rbac : Text
 rbac = codes "rbac.authorization.k8s.io"
 
--- the verbs by which an object comes to say what somebody wants
+-- the verbs that write an object
 abbrev write : List Text
 write = codes "create" ∷ codes "update" ∷ codes "patch" ∷ []
 
 -- the table
 abbrev pub table : List RowView
 table =
-    row Impersonate names.Any reach.Cluster (codes "impersonate" ∷ []) core
+    row Impersonate names.Any counted.ClusterWide (codes "impersonate" ∷ []) core
     (codes "users" ∷ codes "groups" ∷ [])
-    ∷ row Impersonate names.Any reach.Namespace (codes "impersonate" ∷ []) core
+    ∷ row Impersonate names.Any counted.InNamespaces (codes "impersonate" ∷ []) core
     (codes "serviceaccounts" ∷ [])
-    ∷ row Token names.Any reach.Namespace (codes "create" ∷ []) core
+    ∷ row Token names.Any counted.InNamespaces (codes "create" ∷ []) core
     (codes "serviceaccounts/token" ∷ [])
-    ∷ row Run names.None reach.Namespace (codes "create" ∷ []) core
+    ∷ row Run names.None counted.InNamespaces (codes "create" ∷ []) core
     (codes "pods" ∷ [])
-    ∷ row Run names.None reach.Namespace (codes "create" ∷ []) (codes "batch")
+    ∷ row Run names.None counted.InNamespaces (codes "create" ∷ []) (codes "batch")
     (codes "jobs" ∷ [])
-    ∷ row Run names.None reach.Namespace write core
+    ∷ row Run names.None counted.InNamespaces write core
     (codes "replicationcontrollers" ∷ [])
-    ∷ row Run names.None reach.Namespace write (codes "apps")
+    ∷ row Run names.None counted.InNamespaces write (codes "apps")
     (codes "daemonsets" ∷ codes "deployments" ∷ codes "replicasets" ∷ codes "statefulsets" ∷ [])
-    ∷ row Run names.None reach.Namespace write (codes "batch")
+    ∷ row Run names.None counted.InNamespaces write (codes "batch")
     (codes "cronjobs" ∷ [])
-    ∷ row Exec names.None reach.Namespace (codes "create" ∷ codes "get" ∷ []) core
+    ∷ row Exec names.None counted.InNamespaces (codes "create" ∷ codes "get" ∷ []) core
     (codes "pods/attach" ∷ codes "pods/exec" ∷ [])
-    ∷ row Exec names.None reach.Namespace (codes "update" ∷ codes "patch" ∷ []) core
+    ∷ row Exec names.None counted.InNamespaces (codes "update" ∷ codes "patch" ∷ []) core
     (codes "pods" ∷ codes "pods/ephemeralcontainers" ∷ [])
-    ∷ row Secrets names.None reach.Namespace (codes "get" ∷ codes "list" ∷ codes "watch" ∷ []) core
+    ∷ row Secrets names.None counted.InNamespaces (codes "get" ∷ codes "list" ∷ codes "watch" ∷ []) core
     (codes "secrets" ∷ [])
-    ∷ row Nodes names.None reach.Cluster (codes "create" ∷ codes "get" ∷ []) core
+    ∷ row Nodes names.None counted.ClusterWide (codes "create" ∷ codes "get" ∷ []) core
     (codes "nodes/proxy" ∷ [])
-    ∷ row Bind names.Any reach.Namespace (codes "bind" ∷ []) rbac
+    ∷ row Bind names.Any counted.InNamespaces (codes "bind" ∷ []) rbac
     (codes "clusterroles" ∷ codes "roles" ∷ [])
-    ∷ row Escalate names.Any reach.Cluster (codes "escalate" ∷ []) rbac
+    ∷ row Escalate names.Any counted.ClusterWide (codes "escalate" ∷ []) rbac
     (codes "clusterroles" ∷ [])
-    ∷ row Escalate names.Any reach.Namespace (codes "escalate" ∷ []) rbac
+    ∷ row Escalate names.Any counted.InNamespaces (codes "escalate" ∷ []) rbac
     (codes "roles" ∷ [])
-    ∷ row Certificates names.None reach.Cluster (codes "update" ∷ codes "patch" ∷ []) (codes "certificates.k8s.io")
-    (codes "certificatesigningrequests/approval" ∷ [])
-    ∷ row Webhooks names.None reach.Cluster write (codes "admissionregistration.k8s.io")
+    ∷ row Certificates names.None counted.ClusterWide (codes "update" ∷ codes "patch" ∷ [])
+    (codes "certificates.k8s.io") (codes "certificatesigningrequests/approval" ∷ [])
+    ∷ row Webhooks names.None counted.ClusterWide write (codes "admissionregistration.k8s.io")
     (codes "mutatingwebhookconfigurations" ∷ codes "validatingwebhookconfigurations" ∷ [])
     ∷ []
 
@@ -120,4 +120,8 @@ pub record AllowsRow (r : RowView) (rule : Rule) : Type 0 where
 -- row does; in the empty namespace no binding is live
 abbrev pub CountsIn : RowView → Option Text → Type 0
 CountsIn r None = Unit {0}
-CountsIn r (Some namespace) = (r.reach ≡ reach.Namespace) × (namespace ≢ [])
+CountsIn r (Some namespace) = (r.counts ≡ counted.InNamespaces) × (namespace ≢ [])
+
+-- the rule allows some request of the row where a binding in that namespace, or in none, is live
+abbrev pub AllowsIn : Option Text → Rule → RowView → Type 0
+AllowsIn namespace rule row = CountsIn row namespace × AllowsRow row rule

@@ -8,13 +8,13 @@ use Rattle.rbac_index.specs.Holding.{IsKeyFor}
 use Rattle.rbac_paths.specs.Powers.{PowerView}
 use Rattle.rbac_paths.specs.Steps.{IsNamed, RowView, table}
 use Rattle.rbac_paths.specs.declared.steps.Step.{Step}
-use Rattle.rbac_paths.specs.declared.table.Reach.{Reach}
-use Rattle.rbac_paths.specs.declared.table.Reach.TheVariants as reach
+use Rattle.rbac_paths.specs.declared.table.Counts.{Counts}
+use Rattle.rbac_paths.specs.declared.table.Counts.TheVariants as counted
 
 -- where a request of a row is asked: in no namespace, if it counts in the whole cluster alone
-abbrev pub asked_in : Reach → Text → Text
-asked_in reach.Cluster namespace = []
-asked_in reach.Namespace namespace = namespace
+abbrev pub asked_in : Counts → Text → Text
+asked_in counted.ClusterWide namespace = []
+asked_in counted.InNamespaces namespace = namespace
 
 -- somebody is allowed some request of the step in that namespace, or, if it is the empty one, in the
 -- whole cluster
@@ -28,7 +28,7 @@ pub record CanTake (p : PolicyView) (who : Who) (step : Step) (namespace : Text)
   pub of_verbs : Contains row.verbs verb
   pub of_resources : Contains row.resources text
   pub named : IsNamed row.names name
-  pub allowed : Allows p.held who (asked_in row.reach namespace) verb (Resource row.group text name)
+  pub allowed : Allows p.held who (asked_in row.counts namespace) verb (Resource row.group text name)
 
 -- what holds where a binding of that namespace, or of none, is live also holds there
 abbrev pub HoldsIn : Option Text → Text → Type 0

@@ -4,11 +4,10 @@ ghost use Rattle.std.specs.Prelude.{◌<◌, ◌≡◌, ◌↔◌, Any, IfOk, If
 ghost use Rattle.std.specs.Option.{option_copied};
 ghost use Rattle.rbac_model.specs.Policies.{IsPolicy};
 ghost use Rattle.rbac_model.specs.Sources.{grant_of};
-ghost use Rattle.rbac_paths.specs.Finding.{AddsPowers, AllowsIn, FindsPowers, GivesNone};
-ghost use Rattle.rbac_paths.specs.Finding.{IsFirstGiving};
+ghost use Rattle.rbac_paths.specs.Finding.{AddsPowers, FindsPowers, GivesNone, IsFirstGiving};
 ghost use Rattle.rbac_paths.specs.Powers.{who_and_where};
 ghost use Rattle.rbac_paths.specs.Rows.{AreOfStep};
-ghost use Rattle.rbac_paths.specs.Steps.{table};
+ghost use Rattle.rbac_paths.specs.Steps.{AllowsIn, table};
 ghost use Rattle.rbac_paths.specs.declared.steps.Step.{Step};
 
 use crate::power::Power;

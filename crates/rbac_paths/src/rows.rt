@@ -7,7 +7,7 @@ ghost use Rattle.rbac_paths.specs.Rows.{AddsRow, AreOfStep, HasName, HasResource
 ghost use Rattle.rbac_paths.specs.Steps.{AllowsRow, CountsIn, table};
 
 use crate::steps::Step;
-use crate::table::{Names, Reach, Row, TABLE};
+use crate::table::{Counts, Names, Row, TABLE};
 use rbac_terms::{Rule, Word, Words, group_matches, resource_matches, verb_matches};
 use std::alloc::{AllocError, Global};
 use std::marker::Model;
@@ -17,7 +17,7 @@ use std::marker::Model;
 pub(crate) struct WordRow {
     step: Step,
     names: Names,
-    reach: Reach,
+    counts: Counts,
     verbs: Words,
     group: Word,
     resources: Words,
@@ -31,7 +31,7 @@ impl Model for WordRow {
     ghost view = { λ r. record {
       step = r.step;
       names = r.names;
-      reach = r.reach;
+      counts = r.counts;
       verbs = r.verbs;
       group = r.group;
       resources = r.resources;
@@ -45,7 +45,7 @@ impl WordRow {
         Ok(WordRow {
             step: row.step,
             names: row.names,
-            reach: row.reach,
+            counts: row.counts,
             verbs: words_of(alloc, row.verbs)?,
             group: Word::from_slice(alloc, row.group.as_bytes())?,
             resources: words_of(alloc, row.resources)?,
@@ -58,7 +58,7 @@ impl WordRow {
     {
         match namespace {
             None => true,
-            Some(namespace) => self.reach == Reach::Namespace && !namespace.is_empty(),
+            Some(namespace) => self.counts == Counts::InNamespaces && !namespace.is_empty(),
         }
     }
 

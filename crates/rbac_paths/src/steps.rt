@@ -1,7 +1,7 @@
 //! The steps by which one takes over another.
 
 ghost use Rattle.std.specs.Prelude.{◌≡◌};
-ghost use Rattle.rbac_paths.specs.Steps.{steps, step_word};
+ghost use Rattle.rbac_paths.specs.Steps.{step_word};
 
 /// A step by which one comes to act as another (Role Based Access Control Good Practices). Which
 /// requests each takes is told by the table of steps.

@@ -13,18 +13,18 @@ pub(crate) enum Names {
 
 /// Where the requests of a row count.
 #[derive(Clone, Copy, PartialEq, Eq, Debug, Drop)]
-pub(crate) enum Reach {
+pub(crate) enum Counts {
     /// In the whole cluster alone.
-    Cluster,
+    ClusterWide,
     /// Also in a namespace.
-    Namespace,
+    InNamespaces,
 }
 
 /// A row of the table: each of some verbs on each of some resources of an API group.
 pub(crate) struct Row {
     pub(crate) step: Step,
     pub(crate) names: Names,
-    pub(crate) reach: Reach,
+    pub(crate) counts: Counts,
     pub(crate) verbs: &'static [&'static str],
     pub(crate) group: &'static str,
     pub(crate) resources: &'static [&'static str],
@@ -33,7 +33,7 @@ pub(crate) struct Row {
 // The API group of roles and bindings.
 const RBAC: &str = "rbac.authorization.k8s.io";
 
-// The verbs by which an object comes to say what somebody wants.
+// The verbs that write an object.
 const WRITE: &[&str] = &["create", "update", "patch"];
 
 // The table of steps (Role Based Access Control Good Practices; own).
@@ -41,7 +41,7 @@ pub(crate) const TABLE: [Row; 17] = [
     Row {
         step: Step::Impersonate,
         names: Names::Any,
-        reach: Reach::Cluster,
+        counts: Counts::ClusterWide,
         verbs: &["impersonate"],
         group: "",
         resources: &["users", "groups"],
@@ -49,7 +49,7 @@ pub(crate) const TABLE: [Row; 17] = [
     Row {
         step: Step::Impersonate,
         names: Names::Any,
-        reach: Reach::Namespace,
+        counts: Counts::InNamespaces,
         verbs: &["impersonate"],
         group: "",
         resources: &["serviceaccounts"],
@@ -57,7 +57,7 @@ pub(crate) const TABLE: [Row; 17] = [
     Row {
         step: Step::Token,
         names: Names::Any,
-        reach: Reach::Namespace,
+        counts: Counts::InNamespaces,
         verbs: &["create"],
         group: "",
         resources: &["serviceaccounts/token"],
@@ -65,7 +65,7 @@ pub(crate) const TABLE: [Row; 17] = [
     Row {
         step: Step::Run,
         names: Names::None,
-        reach: Reach::Namespace,
+        counts: Counts::InNamespaces,
         verbs: &["create"],
         group: "",
         resources: &["pods"],
@@ -73,7 +73,7 @@ pub(crate) const TABLE: [Row; 17] = [
     Row {
         step: Step::Run,
         names: Names::None,
-        reach: Reach::Namespace,
+        counts: Counts::InNamespaces,
         verbs: &["create"],
         group: "batch",
         resources: &["jobs"],
@@ -81,7 +81,7 @@ pub(crate) const TABLE: [Row; 17] = [
     Row {
         step: Step::Run,
         names: Names::None,
-        reach: Reach::Namespace,
+        counts: Counts::InNamespaces,
         verbs: WRITE,
         group: "",
         resources: &["replicationcontrollers"],
@@ -89,7 +89,7 @@ pub(crate) const TABLE: [Row; 17] = [
     Row {
         step: Step::Run,
         names: Names::None,
-        reach: Reach::Namespace,
+        counts: Counts::InNamespaces,
         verbs: WRITE,
         group: "apps",
         resources: &["daemonsets", "deployments", "replicasets", "statefulsets"],
@@ -97,7 +97,7 @@ pub(crate) const TABLE: [Row; 17] = [
     Row {
         step: Step::Run,
         names: Names::None,
-        reach: Reach::Namespace,
+        counts: Counts::InNamespaces,
         verbs: WRITE,
         group: "batch",
         resources: &["cronjobs"],
@@ -105,7 +105,7 @@ pub(crate) const TABLE: [Row; 17] = [
     Row {
         step: Step::Exec,
         names: Names::None,
-        reach: Reach::Namespace,
+        counts: Counts::InNamespaces,
         verbs: &["create", "get"],
         group: "",
         resources: &["pods/attach", "pods/exec"],
@@ -113,7 +113,7 @@ pub(crate) const TABLE: [Row; 17] = [
     Row {
         step: Step::Exec,
         names: Names::None,
-        reach: Reach::Namespace,
+        counts: Counts::InNamespaces,
         verbs: &["update", "patch"],
         group: "",
         resources: &["pods", "pods/ephemeralcontainers"],
@@ -121,7 +121,7 @@ pub(crate) const TABLE: [Row; 17] = [
     Row {
         step: Step::Secrets,
         names: Names::None,
-        reach: Reach::Namespace,
+        counts: Counts::InNamespaces,
         verbs: &["get", "list", "watch"],
         group: "",
         resources: &["secrets"],
@@ -129,7 +129,7 @@ pub(crate) const TABLE: [Row; 17] = [
     Row {
         step: Step::Nodes,
         names: Names::None,
-        reach: Reach::Cluster,
+        counts: Counts::ClusterWide,
         verbs: &["create", "get"],
         group: "",
         resources: &["nodes/proxy"],
@@ -137,7 +137,7 @@ pub(crate) const TABLE: [Row; 17] = [
     Row {
         step: Step::Bind,
         names: Names::Any,
-        reach: Reach::Namespace,
+        counts: Counts::InNamespaces,
         verbs: &["bind"],
         group: RBAC,
         resources: &["clusterroles", "roles"],
@@ -145,7 +145,7 @@ pub(crate) const TABLE: [Row; 17] = [
     Row {
         step: Step::Escalate,
         names: Names::Any,
-        reach: Reach::Cluster,
+        counts: Counts::ClusterWide,
         verbs: &["escalate"],
         group: RBAC,
         resources: &["clusterroles"],
@@ -153,7 +153,7 @@ pub(crate) const TABLE: [Row; 17] = [
     Row {
         step: Step::Escalate,
         names: Names::Any,
-        reach: Reach::Namespace,
+        counts: Counts::InNamespaces,
         verbs: &["escalate"],
         group: RBAC,
         resources: &["roles"],
@@ -161,7 +161,7 @@ pub(crate) const TABLE: [Row; 17] = [
     Row {
         step: Step::Certificates,
         names: Names::None,
-        reach: Reach::Cluster,
+        counts: Counts::ClusterWide,
         verbs: &["update", "patch"],
         group: "certificates.k8s.io",
         resources: &["certificatesigningrequests/approval"],
@@ -169,7 +169,7 @@ pub(crate) const TABLE: [Row; 17] = [
     Row {
         step: Step::Webhooks,
         names: Names::None,
-        reach: Reach::Cluster,
+        counts: Counts::ClusterWide,
         verbs: WRITE,
         group: "admissionregistration.k8s.io",
         resources: &[

@@ -4,7 +4,7 @@ use Rattle.std.proofs.lemmas.Bool.{cases_lt}
 use Rattle.rbac_terms.specs.Text.{Text}
 use Rattle.rbac_model.specs.Policies.{GrantView, IsOfBinding}
 use Rattle.rbac_model.specs.Sources.{grant_of}
-use Rattle.rbac_paths.specs.Finding.{AllowsIn}
+use Rattle.rbac_paths.specs.Steps.{AllowsIn}
 use Rattle.rbac_paths.proofs.Giving.{gives_none, first_giving}
 use Rattle.rbac_paths.proofs.finding.first_giving.Goals as goal
 
