@@ -15,6 +15,7 @@ from plugin_room import PLUGIN, SHELLS, in_each_shell, of_kinds
 from plugin_terminal import (ANSWERS, SEEN_BINDING, SEEN_ROLE, SEEN_TYPE, SEEN_USER, TYPE, USER, awks, hostile, in_tmux,
                              on_terminal)
 from show import NAMES, colored, field_of, is_same, objects_in
+from written import steps as steps_of_behaviour
 
 PARTS = PLUGIN + '.d'
 RBAC = 'rbac.authorization.k8s.io'
@@ -418,11 +419,8 @@ def random_summaries(it):
 
 def steps():
     """The table of steps is that of docs/BEHAVIOUR.md, and the powers are what it says, under each awk."""
-    with open(os.path.join(TOP, 'docs', 'BEHAVIOUR.md'), encoding='utf-8') as file:
-        part = file.read().partition('## `powers`')[2].partition('\n## ')[0]
-    said = [(*(re.findall('`(.*?)`', cell) for cell in row.split('|')[1:4]), 'ClusterRole' in row.split('|')[4], 'any' in row.split('|')[5])
-            for row in part.splitlines() if re.match(r'\| `', row)]
-    wanted = [([power], verbs.split(), types.split(), in_cluster, named) for power, verbs, types, in_cluster, named in POWERS]
+    wanted = [(power, verbs.split(), types.split(), in_cluster, named) for power, verbs, types, in_cluster, named in POWERS]
+    said = steps_of_behaviour()
     checked('docs/BEHAVIOUR.md: the powers', said == wanted, repr(said))
     with open(os.path.join(PARTS, 'steps.sh'), encoding='utf-8') as file:
         text = re.sub(r'" \\\n *"', '', file.read())
