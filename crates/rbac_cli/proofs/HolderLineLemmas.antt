@@ -23,7 +23,7 @@ use Rattle.rbac_index.specs.WhoCan.{WhereView, InNamespace, HoldsAt, IsHolderBy,
 use Rattle.rbac_index.specs.Requested.{RequestedView, ThisTarget, AnyName, AllowsRequested, with_name}
 use Rattle.rbac_index.specs.WhyHeld.{IsFirstShown}
 use Rattle.rbac_index.proofs.NameLemmas.{chosen_name}
-use Rattle.rbac_index.specs.declared.deciding.Why.{Why}
+use Rattle.rbac_model.specs.declared.why.Why.{Why}
 use Rattle.rbac_matrix.proofs.Decided.{Decided, grants}
 use Rattle.rbac_text.specs.Row.{holder_text}
 use Rattle.rbac_text.specs.Why.{holder_why_text}

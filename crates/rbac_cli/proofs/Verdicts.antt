@@ -8,7 +8,7 @@ use Rattle.rbac_terms.specs.Principals.{Who}
 use Rattle.rbac_terms.specs.declared.granting.Binding.{Binding}
 use Rattle.rbac_model.specs.Policies.{Held, Allows, IsFirst}
 use Rattle.rbac_catalogue.specs.declared.entry.Entry.{Entry}
-use Rattle.rbac_index.specs.declared.deciding.Why.{Why}
+use Rattle.rbac_model.specs.declared.why.Why.{Why}
 use Rattle.rbac_index.specs.Deciding.{IsWhyShown}
 use Rattle.rbac_manifest.specs.Load.{LoadedView}
 use Rattle.rbac_question.specs.declared.command.Action.TheVariants.{CanI}

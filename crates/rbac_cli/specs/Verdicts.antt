@@ -2,7 +2,7 @@
 use Rattle.std.specs.Prelude.{ℕ, Bool, true, false, List, [], ◌++◌, codes, Option, Some, None}
 use Rattle.rbac_model.specs.Sources.{source_of}
 use Rattle.rbac_text.specs.Why.{why_text}
-use Rattle.rbac_index.specs.declared.deciding.Why.{Why}
+use Rattle.rbac_model.specs.declared.why.Why.{Why}
 use Rattle.rbac_cli.specs.Out.{line}
 use Rattle.rbac_cli.specs.declared.outcome.Status.{Status}
 use Rattle.rbac_cli.specs.declared.outcome.Status.TheVariants.{Zero, One}

@@ -8,7 +8,7 @@ ghost use Rattle.rbac_cli.specs.declared.exports.Exports.TheVariants.{Single};
 
 use crate::meaning::meant_by;
 use crate::outcome::Status;
-use rbac_index::{Why, why_allowed};
+use rbac_index::why_allowed;
 use rbac_manifest::Export;
 use rbac_question::Question;
 use rbac_terms::Principal;

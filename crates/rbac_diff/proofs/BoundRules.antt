@@ -11,7 +11,7 @@ use Rattle.rbac_terms.specs.declared.matching.Rule.{Rule}
 use Rattle.rbac_terms.proofs.Reading.{any_pushed, any_kept}
 use Rattle.rbac_model.specs.Policies.{PolicyView, GrantView, BindingNames}
 use Rattle.rbac_model.specs.Universes.{LiveForSome}
-use Rattle.rbac_index.specs.Bound.{IsBoundTo, IsNextRun}
+use Rattle.rbac_subjects.specs.Bound.{IsBoundTo, IsNextRun}
 use Rattle.rbac_diff.specs.Covering.{stand_ins}
 use Rattle.rbac_diff.specs.StandIns.{HasRule, IsBoundRule, AddsRules, AddsRulesIn, AreRulesOf, IsWider, one_or_two}
 

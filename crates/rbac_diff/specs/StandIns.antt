@@ -8,7 +8,7 @@ use Rattle.rbac_terms.specs.Principals.{Who}
 use Rattle.rbac_terms.specs.declared.matching.Rule.{Rule}
 use Rattle.rbac_model.specs.Policies.{PolicyView, GrantView, BindingNames}
 use Rattle.rbac_covering.specs.Covering.{CoversAll}
-use Rattle.rbac_index.specs.Bound.{IsBoundTo}
+use Rattle.rbac_subjects.specs.Bound.{IsBoundTo}
 use Rattle.rbac_diff.specs.Covering.{stand_ins}
 
 -- some reference is to the rule

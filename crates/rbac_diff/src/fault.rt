@@ -2,7 +2,7 @@
 
 ghost use Rattle.std.specs.Prelude.{◌≡◌};
 
-use rbac_index::IndexFault;
+use rbac_subjects::IndexFault;
 use rbac_terms::ModelFault;
 use std::alloc::{AllocError, AllocFailed};
 use std::error::Error;

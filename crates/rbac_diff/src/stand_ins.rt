@@ -9,8 +9,8 @@ ghost use Rattle.rbac_diff.specs.Covering.{stand_ins};
 ghost use Rattle.rbac_diff.specs.StandIns.{AddsRulesIn, AddsRules, AreRulesOf, one_or_two};
 
 use crate::fault::DiffFault;
-use rbac_index::SubjectIndex;
 use rbac_model::Policy;
+use rbac_subjects::SubjectIndex;
 use rbac_terms::{Principal, Rule, Word, Words};
 use std::alloc::{AllocError, Global};
 use std::marker::Model;

@@ -3,7 +3,8 @@
 use crate::policies::{BindingRow, RuleRow, TO_ALICE, policy};
 use crate::universes::{Listed, universe};
 use crate::words::{built, is};
-use rbac_index::{Index, Meter, Reach};
+use rbac_index::Index;
+use rbac_reaches::{Meter, Reach};
 use rbac_terms::{Principal, Word};
 use rbac_text::put_place;
 use rbac_universe::Universe;

@@ -2,13 +2,14 @@
 
 ghost use Rattle.std.specs.Prelude.{◌≡◌, length};
 ghost use Rattle.rbac_matrix.specs.Enumeration.{IsGoing};
-ghost use Rattle.rbac_index.specs.Reaches.{AreReaches};
+ghost use Rattle.rbac_reaches.specs.Reaches.{AreReaches};
 
 use crate::policies::{BindingRow, RuleRow, TO_ALICE, policy};
 use crate::universes::{Listed, principals, universe, universe_of};
 use crate::words::{built, is, word, words};
-use rbac_index::{Index, Meter, Reach, reaches_of};
+use rbac_index::Index;
 use rbac_matrix::{Matrix, Row, Rows, Seat};
+use rbac_reaches::{Meter, Reach, reaches_of};
 use rbac_terms::Words;
 use rbac_universe::{ListedResource, ListedResources, Universe, UniverseLists};
 use std::alloc::Global;

@@ -15,9 +15,9 @@ use Rattle.rbac_model.specs.Sources.{source_of}
 use Rattle.rbac_model.proofs.GrantNumbers.{some_grant, first_grant}
 use Rattle.rbac_model.proofs.BindingPlaces.{places_rise, of_some_binding}
 use Rattle.rbac_index.specs.Requested.{ThisTarget}
-use Rattle.rbac_index.specs.Living.{IsLiveRoleBinding}
+use Rattle.rbac_subjects.specs.Living.{IsLiveRoleBinding}
 use Rattle.rbac_index.specs.Deciding.{IsWhyShown, AllowsOf, NoneAllowing, IsFirstAllowing, GrantsOf, NoneAmong, IsFirstAmong}
-use Rattle.rbac_index.specs.declared.deciding.Why.{Why}
+use Rattle.rbac_model.specs.declared.why.Why.{Why}
 
 module _ (p : PolicyView) (who : Who) (verb : Text) (t : What) where
   allows_of : (at n : ℕ) → GrantsOf p who verb t at n → AllowsOf p verb (ThisTarget t) at n

@@ -10,10 +10,10 @@ use Rattle.rbac_index.specs.Requested.{RequestedView}
 use Rattle.rbac_terms.specs.declared.granting.Binding.{Binding}
 use Rattle.rbac_terms.proofs.Cases.{by_bool}
 use Rattle.rbac_model.specs.Policies.{Held}
-use Rattle.rbac_model.specs.Holders.{HolderView}
-use Rattle.rbac_index.specs.Holding.{IsKeyFor, GrantsIn, GrantsByHolders}
+use Rattle.rbac_model.specs.Holders.{HolderView, IsKeyFor}
+use Rattle.rbac_index.specs.Holding.{GrantsIn, GrantsByHolders}
 use Rattle.rbac_index.specs.WhoCan.{WhereView, HoldsAt, IsHolderBy, AreListedHolders}
-use Rattle.rbac_index.proofs.HolderLaw.{naming_key, key_names}
+use Rattle.rbac_model.proofs.KeyNames.{naming_key, key_names}
 use Rattle.rbac_index.proofs.SeenLemmas.{holder_by}
 
 -- ---- whether one of a list has a decided property

@@ -6,7 +6,7 @@ use Rattle.rbac_terms.specs.Targets.{What, Resource, Url, IsUrl, IsResource}
 use Rattle.rbac_terms.specs.Matching.{NameMatches, RuleAllows, VerbOk}
 use Rattle.rbac_terms.specs.declared.matching.Rule.{Rule}
 use Rattle.rbac_model.specs.Policies.{Held, Live}
-use Rattle.rbac_index.specs.Matched.{StemOk}
+use Rattle.rbac_index.specs.Requested.{StemOk}
 use Rattle.rbac_index.specs.Requested.{ThisTarget, AnyName, AllowsRequested, with_name}
 use Rattle.rbac_index.specs.WhoCan.{WhereView, InNamespace, Anywhere, CountsIn, HoldsAt}
 

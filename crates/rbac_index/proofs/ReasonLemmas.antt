@@ -11,16 +11,15 @@ use Rattle.rbac_terms.specs.Matching.{RuleAllows}
 use Rattle.rbac_terms.specs.declared.granting.Binding.{Binding}
 use Rattle.rbac_terms.specs.declared.granting.Subject.{Subject}
 use Rattle.rbac_model.specs.Lists.{IsFirstAt}
-use Rattle.rbac_model.specs.Holders.{HolderView, IsHolder, IsHolderAt}
+use Rattle.rbac_model.specs.Holders.{HolderView, IsHolder, IsHolderAt, IsKeyFor, HasKey}
 use Rattle.rbac_model.specs.Policies.{PolicyView, IsPolicy, GrantView, GrantAllows, IsOfBinding, IsWhy, Live, Brings}
 use Rattle.rbac_model.proofs.BindingPlaces.{places_rise, of_some_binding, rule_of_binding, grant_of_rule}
 use Rattle.rbac_model.proofs.GrantNumbers.{grant_by}
 use Rattle.rbac_index.specs.Deciding.{IsFirstAllowing, NoneAllowing}
-use Rattle.rbac_index.specs.Holding.{IsKeyFor}
 use Rattle.rbac_index.specs.Requested.{RequestedView, ThisTarget}
 use Rattle.rbac_index.specs.WhoCan.{WhereView, HoldsAt}
-use Rattle.rbac_index.specs.WhyHeld.{HasKey, AllowsKey, IsWhyHeld}
-use Rattle.rbac_index.proofs.HolderLaw.{naming_key, key_names}
+use Rattle.rbac_index.specs.WhyHeld.{AllowsKey, IsWhyHeld}
+use Rattle.rbac_model.proofs.KeyNames.{naming_key, key_names}
 
 -- some grant of a binding by which a key holds the permission allows the request
 pub some_allows : (p : PolicyView) → IsPolicy p → (asked : WhereView) (verb : Text) (t : RequestedView) (key : Text) (i j : ℕ) → HoldsAt p.held asked verb t key i j → ¬ NoneAllowing p verb t i

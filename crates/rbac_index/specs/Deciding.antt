@@ -10,7 +10,7 @@ use Rattle.rbac_model.specs.Policies.{PolicyView, GrantView, IsOfBinding, Bindin
 use Rattle.rbac_model.specs.Sources.{source_of}
 use Rattle.rbac_index.specs.Indexed.{AllowsAt}
 use Rattle.rbac_index.specs.Requested.{RequestedView}
-use Rattle.rbac_index.specs.declared.deciding.Why.{Why}
+use Rattle.rbac_model.specs.declared.why.Why.{Why}
 
 -- the answer shows the grant's binding, the role where its rule is written, and the rule's place
 -- there

@@ -2,10 +2,10 @@ use Rattle.std.specs.Prelude.{◌≡◌, ℕ, ◌⊎◌, ◌↔◌, Bool, List, 
 use Rattle.std.specs.Prelude.{Some}
 use Rattle.rbac_terms.specs.Text.{Text}
 use Rattle.rbac_terms.specs.Targets.{What}
-use Rattle.rbac_terms.specs.Principals.{Who, AsMember, who_key, IsInGroup}
+use Rattle.rbac_terms.specs.Principals.{Who}
 use Rattle.rbac_terms.specs.declared.granting.Binding.{Binding}
 use Rattle.rbac_model.specs.Policies.{Held, Allows, BindingNames}
-use Rattle.rbac_model.specs.Holders.{IsBefore, HolderView}
+use Rattle.rbac_model.specs.Holders.{IsBefore, HolderView, IsKeyFor}
 use Rattle.rbac_index.specs.HolderViews.{once_in}
 use Rattle.rbac_index.specs.Requested.{RequestedView, target_given}
 use Rattle.rbac_index.specs.WhoCan.{WhereView, BringsRequested, CountsIn, HoldsAt}
@@ -54,11 +54,6 @@ pub record AreFirsts (every : Bool) (xs firsts : List HolderView) : Type 0 where
   pub ordered : AllPairs IsEarlier firsts
   pub exact : (x : HolderView) → Contains firsts x
       ↔ (Contains xs x × ((y : HolderView) → Contains xs y → IsAlike every y x → ¬ IsEarlier y x))
-
--- the key is that of who asks, or of one of its groups
-abbrev pub IsKeyFor : Who → Text → Type 0
-IsKeyFor who key = (key ≡ who_key who)
-    ⊎ ((group : Text) × IsInGroup who group × (key ≡ who_key (AsMember group)))
 
 -- a request is allowed exactly if some holder's key is that of who asks, or of one of its groups
 abbrev pub AllowsByHolders : Held → Text → Text → What → List HolderView → Type 0

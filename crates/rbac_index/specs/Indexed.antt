@@ -63,3 +63,8 @@ abbrev pub IsAllowedBy : List Written → List (List ℕ) → List ℕ → Text 
 IsAllowedBy ws starts places verb t n = (at : ℕ) × Contains places at
     × ((w : Written) × (slice_get ws at ≡ Some w) × AllowsRequested w.rule.now verb t
     × Contains (numbers_by starts w) n)
+
+-- the grants with these numbers are by the same rule
+abbrev pub AreAlike : PolicyView → ℕ → ℕ → Type 0
+AreAlike p m n = (g h : GrantView) → slice_get p.grants m ≡ Some g → slice_get p.grants n ≡ Some h
+    → g.rule.rule ≡ h.rule.rule

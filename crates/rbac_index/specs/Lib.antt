@@ -1,17 +1,10 @@
-pub mod Bound
 pub mod Deciding
 pub mod HolderViews
 pub mod Holding
 pub mod Indexed
-pub mod Keyed
-pub mod Least
 pub mod RuleLists
-pub mod Living
-pub mod Matched
 pub mod Ranks
-pub mod Reaches
 pub mod Requested
-pub mod Spans
 pub mod WhoCan
 pub mod WhyHeld
 pub mod Written

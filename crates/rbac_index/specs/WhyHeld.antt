@@ -8,14 +8,10 @@ use Rattle.rbac_terms.specs.declared.granting.Binding.{Binding}
 use Rattle.rbac_terms.specs.declared.granting.Subject.{Subject}
 use Rattle.rbac_model.specs.Lists.{IsFirstAt}
 use Rattle.rbac_model.specs.Policies.{PolicyView, GrantView, Live}
-use Rattle.rbac_model.specs.Holders.{HolderView}
+use Rattle.rbac_model.specs.Holders.{HolderView, HasKey}
 use Rattle.rbac_index.specs.Deciding.{IsFirstAllowing, ShowsGrant}
 use Rattle.rbac_index.specs.Requested.{RequestedView}
-use Rattle.rbac_index.specs.declared.deciding.Why.{Why}
-
--- some subject of the binding has the key
-abbrev pub HasKey : Binding → Text → Type 0
-HasKey b key = Any (λ s. IsSubjectKey s b.namespace key) b.subjects
+use Rattle.rbac_model.specs.declared.why.Why.{Why}
 
 -- a grant allows a request to a key: its binding is live and some subject of it has the key, and
 -- its rule allows the verb on the target

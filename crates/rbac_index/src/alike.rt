@@ -1,7 +1,7 @@
 //! Grants by the same rule.
 
 ghost use Rattle.std.specs.Prelude.{◌≡◌, ◌<◌, ◌↔◌, IsTrue, IfSome, length};
-ghost use Rattle.rbac_index.specs.Reaches.{AreAlike};
+ghost use Rattle.rbac_index.specs.Indexed.{AreAlike};
 
 use crate::numbers::GrantNos;
 use rbac_model::{GrantPlace, Policy, RolePlace};

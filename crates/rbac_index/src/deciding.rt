@@ -2,46 +2,15 @@
 
 ghost use Rattle.std.specs.Prelude.{◌≡◌, ◌<◌, ◌≤◌, ◌+◌, length, slice_get, Some, MatchOption};
 ghost use Rattle.std.specs.Prelude.{IfSome};
-ghost use Rattle.rbac_terms.specs.Granting.{Names};
-ghost use Rattle.rbac_terms.specs.declared.granting.Subject.{Subject};
-ghost use Rattle.rbac_model.specs.Lists.{IsFirstAt};
-ghost use Rattle.rbac_model.specs.Policies.{Allows, BindingNames, IsFirst, IsPolicy};
+ghost use Rattle.rbac_model.specs.Policies.{Allows, IsFirst, IsPolicy};
 ghost use Rattle.rbac_index.specs.Deciding.{IsWhyShown, NoneAmong, IsFirstAmong, IsFirstAllowing};
 ghost use Rattle.rbac_index.specs.Deciding.{NoneAllowing};
 ghost use Rattle.rbac_index.specs.HolderViews.{requested_of};
 
-use crate::live_bindings::{cluster_wide, live_role_bindings};
 use crate::requested::{Requested, allows_requested};
-use rbac_model::{Policy, SourceRole};
-use rbac_terms::{Binding, Principal, Target, Word, names};
-
-/// Why a request is allowed: the first grant that allows it, as its binding and where its rule is
-/// written, and the first subject of the binding that names who asks.
-#[derive(Clone, Copy)]
-pub struct Why<'p> {
-    /// The binding that grants.
-    pub binding: &'p Binding,
-    /// The role where the rule is written.
-    pub source: SourceRole<'p>,
-    /// The place of the rule in that role, from 0.
-    pub rule_place: usize,
-    /// The place, among the binding's subjects, of the first one that names who asks, from 0.
-    pub subject_place: usize,
-}
-
-// The place of the first subject that names the principal.
-fn naming_place(binding: &Binding, principal: &Principal) -> Option<usize>
-    ensures { MatchOption result (¬ BindingNames binding.now principal.now)
-        (λ at. (s : Subject)
-        × IsFirstAt (λ s. Names s binding.now.namespace principal.now) binding.now.subjects at s) }
-{
-    for (place, subject) in binding.subjects.as_slice().iter().enumerate() {
-        if names(subject, binding.namespace.as_ref(), principal) {
-            return Some(place);
-        }
-    }
-    None
-}
+use rbac_model::{Policy, Why, naming_place};
+use rbac_subjects::{cluster_wide, live_role_bindings};
+use rbac_terms::{Binding, Principal, Target, Word};
 
 // The binding at this place.
 pub(crate) fn binding_at<'p>(policy: &'p Policy, place: usize) -> &'p Binding

@@ -6,18 +6,16 @@ ghost use Rattle.std.specs.List.Sorted.{IsStrictlyIncreasing};
 ghost use Rattle.rbac_model.specs.Sources.{grant_of};
 ghost use Rattle.rbac_model.specs.Policies.{Allows, IsFirst, IsOfBinding};
 ghost use Rattle.rbac_model.specs.Holders.{AreHolders};
-ghost use Rattle.rbac_index.specs.Indexed.{AreCandidates, HaveNumbers, IsAllowedBy};
+ghost use Rattle.rbac_index.specs.Indexed.{AreCandidates, HaveNumbers, IsAllowedBy, AreAlike};
 ghost use Rattle.rbac_index.specs.Deciding.{IsWhyShown};
 ghost use Rattle.rbac_index.specs.HolderViews.{requested_of, where_of};
 ghost use Rattle.rbac_index.specs.Holding.{AllowsByHolders};
-ghost use Rattle.rbac_index.specs.Reaches.{AreAlike};
 ghost use Rattle.rbac_index.specs.Requested.{ThisTarget};
 ghost use Rattle.rbac_index.specs.WhoCan.{AreListedHolders};
 
 use crate::alike::earlier_alike;
 use crate::asked::Where;
-use crate::deciding::{Why, why_allowed};
-use crate::fault::IndexFault;
+use crate::deciding::why_allowed;
 use crate::holders::Holders;
 use crate::merge::{Numbers, merged};
 use crate::numbers::GrantNos;
@@ -26,8 +24,8 @@ use crate::rule_lists::{ListedRules, listed_rules, matching};
 use crate::rule_rows::{Written, rows_of};
 use crate::sightings::sightings_of;
 use crate::starts::starts_by_row;
-use crate::subject_index::SubjectIndex;
-use rbac_model::{Grant, Policy};
+use rbac_model::{Grant, Policy, Why};
+use rbac_subjects::{IndexFault, SubjectIndex};
 use rbac_terms::{Principal, Target, Word};
 use std::alloc::{AllocError, Global};
 use std::marker::Model;
@@ -105,8 +103,9 @@ impl<'p> Index<'p> {
         policy.grant(no)
     }
 
-    // An earlier grant by the same rule as the grant with this number, if one is known.
-    pub(crate) fn earlier_alike(&self, no: u32) -> Option<u32>
+    /// An earlier grant by the same rule as the grant with this number, if one is known. Doesn't
+    /// allocate.
+    pub fn earlier_alike(&self, no: u32) -> Option<u32>
         requires { no < length self.now.grants }
         ensures { IfSome result (λ first. (first < no) × AreAlike self.now first no) }
     {

@@ -10,10 +10,10 @@ ghost use Rattle.rbac_index.specs.Requested.{ThisTarget};
 ghost use Rattle.rbac_index.specs.WhoCan.{WhereView, IsHolderBy};
 ghost use Rattle.rbac_index.specs.WhyHeld.{IsFirstShown, IsHeldShown, IsShownBy};
 
-use crate::deciding::{Why, first_allowing};
+use crate::deciding::first_allowing;
 use crate::holders::Holder;
 use crate::requested::Requested;
-use rbac_model::Policy;
+use rbac_model::{Policy, Why};
 use rbac_terms::{Binding, Word};
 
 /// Why a holder may use the verb on what is requested (own): the first grant of the holder's binding

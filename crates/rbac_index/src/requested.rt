@@ -2,10 +2,9 @@
 
 ghost use Rattle.std.specs.Prelude.{◌≡◌, ◌↔◌, IsTrue};
 ghost use Rattle.rbac_index.specs.HolderViews.{requested_of};
-ghost use Rattle.rbac_index.specs.Requested.{AllowsRequested, AnyName, target_given};
+ghost use Rattle.rbac_index.specs.Requested.{AllowsRequested, AnyName, StemOk, target_given};
 
-use crate::ordered_rule::matches_stem;
-use rbac_terms::{Rule, Target, Word, rule_allows, verb_matches};
+use rbac_terms::{Rule, Target, Word, group_matches, resource_matches, rule_allows, verb_matches};
 
 /// What holders are asked for (own).
 #[derive(Clone, Copy)]
@@ -47,4 +46,12 @@ fn allows_any_name(rule: &Rule, verb: &Word, target: &Target) -> bool
         return rule_allows(rule, verb, target);
     }
     verb_matches(rule, verb) && matches_stem(rule, target)
+}
+
+/// Whether words of the rule match the target's group and resource text. Doesn't
+/// allocate.
+pub fn matches_stem(rule: &Rule, target: &Target) -> bool
+    ensures { IsTrue result ↔ StemOk rule.now target.now }
+{
+    group_matches(rule, target.group()) && resource_matches(rule, target.text())
 }

@@ -9,7 +9,7 @@ use Rattle.rbac_model.specs.Policies.{Held, PolicyView, IsPolicy}
 use Rattle.rbac_model.specs.Universes.{UniverseView, IsUniverse, Cell, RowView}
 use Rattle.rbac_matrix.specs.Cells.{AreRowsOf}
 use Rattle.rbac_matrix.specs.Lines.{LineView, cells_of_lines, line_cells_from, lines_from}
-use Rattle.rbac_index.specs.Reaches.{AreReaches}
+use Rattle.rbac_reaches.specs.Reaches.{AreReaches}
 use Rattle.rbac_matrix.specs.Metering.{IsMetered, IsReady, Skips}
 use Rattle.rbac_matrix.specs.Passing.{EndsAll, EndsLine, FindsCell, HasNoHit, Leads, Passes, cells_left, row_on}
 use Rattle.rbac_matrix.specs.declared.line.Place.{Place}

@@ -9,7 +9,7 @@ use Rattle.rbac_model.specs.Policies.{Held, PolicyView, IsPolicy}
 use Rattle.rbac_model.specs.Universes.{UniverseView, IsUniverse, Listed, Cell, RowView, Fits, cell_key}
 use Rattle.rbac_matrix.specs.Cells.{AreRowsOf}
 use Rattle.rbac_matrix.specs.Lines.{LineView, cells_of_lines, lines_from}
-use Rattle.rbac_index.specs.Reaches.{AreReaches}
+use Rattle.rbac_reaches.specs.Reaches.{AreReaches}
 use Rattle.rbac_matrix.specs.Metering.{AreTouched, IsMetered, IsReady}
 use Rattle.rbac_matrix.specs.Cursors.{IsCursorAt}
 use Rattle.rbac_matrix.specs.Passing.{FindsCell, Passes, cell_of, cells_left}

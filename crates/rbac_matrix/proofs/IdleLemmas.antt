@@ -5,7 +5,7 @@ use Rattle.std.proofs.lemmas.Grind.{flat_map-append}
 use Rattle.rbac_terms.specs.Text.{Text}
 use Rattle.rbac_model.specs.Policies.{Held, PolicyView, IsPolicy}
 use Rattle.rbac_model.specs.Universes.{UniverseView, Cell}
-use Rattle.rbac_index.specs.Bound.{IsNamedBy}
+use Rattle.rbac_subjects.specs.Bound.{IsNamedBy}
 use Rattle.rbac_matrix.specs.Cells.{AreRowsOf}
 use Rattle.rbac_matrix.specs.Cursors.{IsBoundOn, IsCursorAt}
 use Rattle.rbac_matrix.specs.Lines.{IsLineAt, LineView, line, line_cells_from, lines_from, namespace_lines, onward, place, verb_lines}

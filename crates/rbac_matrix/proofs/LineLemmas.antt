@@ -15,7 +15,7 @@ use Rattle.rbac_model.specs.Universes.{UniverseView, IsUniverse, Listed, Fits, L
 use Rattle.rbac_matrix.specs.Cells.{AreRowsOf}
 use Rattle.rbac_matrix.specs.Lines.{LineView, line_cells_from}
 use Rattle.rbac_matrix.specs.Cursors.{IsCursorAt}
-use Rattle.rbac_index.specs.Reaches.{AreReaches, IsReachAt}
+use Rattle.rbac_reaches.specs.Reaches.{AreReaches, IsReachAt}
 use Rattle.rbac_matrix.specs.Passing.{EndsLine, FindsRow, IsFrom, IsHit, cell_of}
 use Rattle.rbac_matrix.specs.declared.seat.Seat.{Seat}
 use Rattle.rbac_matrix.specs.Seats.{AreReal, AreSeated, AreSeatedAbout, ComesFirst, IsLeastSeat, IsSeated, past_all, reach_at, seat_at, start_at}

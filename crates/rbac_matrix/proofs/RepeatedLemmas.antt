@@ -12,11 +12,11 @@ use Rattle.rbac_terms.specs.Principals.{Who}
 use Rattle.rbac_terms.specs.Text.{Text, text_cmp}
 use Rattle.rbac_model.specs.Policies.{PolicyView, IsPolicy, GrantView, IsOfBinding}
 use Rattle.rbac_model.specs.Universes.{UniverseView, IsUniverse, LiveForSome}
-use Rattle.rbac_index.specs.Bound.{IsNamedIn}
+use Rattle.rbac_subjects.specs.Bound.{IsNamedIn}
 use Rattle.rbac_model.proofs.BindingPlaces.{of_some_binding}
-use Rattle.rbac_index.proofs.LivingLemmas.{cluster_first}
+use Rattle.rbac_subjects.proofs.LivingLemmas.{cluster_first}
 use Rattle.rbac_universe.proofs.Flattened.{flat_contains, in_cons, map_contains}
-use Rattle.rbac_index.specs.Reaches.{AreReaches}
+use Rattle.rbac_reaches.specs.Reaches.{AreReaches}
 use Rattle.rbac_matrix.specs.RepeatedLines.{AreClusterWide, HasRepeats, HasRepeatsAt, HasRepeatsFrom, IsRepeated, PassesRepeated, PassesLines}
 use Rattle.rbac_matrix.specs.Cells.{AreRowsOf}
 use Rattle.rbac_matrix.specs.Cursors.{AreKnownAt, AreRunsOf, IsCursorAt}

@@ -5,7 +5,7 @@ use Rattle.std.proofs.lemmas.List.Sums.{sum_by-cons, sum_by-set}
 use Rattle.std.proofs.lemmas.Bool.{cases_lt, cases_eq}
 use Rattle.std.specs.List.Sorted.{IsStrictlyIncreasing}
 use Rattle.rbac_model.specs.Policies.{PolicyView}
-use Rattle.rbac_index.specs.Reaches.{raised}
+use Rattle.rbac_reaches.specs.Reaches.{raised}
 use Rattle.rbac_matrix.specs.declared.seat.Seat.{Seat}
 use Rattle.rbac_matrix.specs.Seats.{IsSeated, IsSeatedBefore, AreEmpty, Costs, SeatCosts, ReadsAtMost, IsFirstFrom, empty_seat, no_seat, filled, passed, past_all, seat_at, stand_of, standing}
 use Rattle.rbac_matrix.proofs.SeekLemmas.{ascends, raised-raised}

@@ -3,7 +3,7 @@ use Rattle.std.proofs.Common.{◌≡◌, ℕ, zero, suc, ◌+◌, ◌*◌, ◌^�
 use Rattle.std.specs.List.Sorted.{IsStrictlyIncreasing}
 use Rattle.std.proofs.lemmas.Bool.{cases_lt}
 use Rattle.std.proofs.Math.Nat.{pow-le-pow_right, pow-succ', mul-le-mul_right}
-use Rattle.rbac_index.specs.Reaches.{raised}
+use Rattle.rbac_reaches.specs.Reaches.{raised}
 
 -- two rises of a meter are one
 pub raised-raised : (m a b : ℕ) → raised (raised m a) b ≡ raised m (a + b)

@@ -14,7 +14,7 @@ use Rattle.rbac_model.specs.Policies.{PolicyView, IsPolicy, GrantView}
 use Rattle.rbac_model.specs.Universes.{UniverseView, IsUniverse, Listed, IsCursor, AreTouches}
 use Rattle.rbac_matrix.specs.Lines.{LineView, lines_from}
 use Rattle.rbac_matrix.specs.Cursors.{IsCursorAt}
-use Rattle.rbac_index.specs.Reaches.{AreReaches}
+use Rattle.rbac_reaches.specs.Reaches.{AreReaches}
 use Rattle.rbac_matrix.specs.Metering.{AreTouched, IsMetered}
 use Rattle.rbac_matrix.specs.declared.line.Place.{Place}
 use Rattle.rbac_matrix.specs.declared.seat.Seat.{Seat}

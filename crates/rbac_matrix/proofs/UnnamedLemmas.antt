@@ -14,7 +14,7 @@ use Rattle.rbac_terms.proofs.Orderings.{less_alone}
 use Rattle.rbac_terms.proofs.Reading.{read_some}
 use Rattle.rbac_model.specs.Policies.{BindingNames, Held, IsPolicy, PolicyView}
 use Rattle.rbac_model.specs.Universes.{IsUniverse, LiveForSome, UniverseView}
-use Rattle.rbac_index.specs.Bound.{AnswersNextNamespace, IsNamedIn}
+use Rattle.rbac_subjects.specs.Bound.{AnswersNextNamespace, IsNamedIn}
 use Rattle.rbac_universe.proofs.Flattened.{contains_map, here as first}
 use Rattle.rbac_matrix.specs.Cells.{AreRowsOf}
 use Rattle.rbac_matrix.specs.Cursors.{IsBoundOn, IsCursorAt}

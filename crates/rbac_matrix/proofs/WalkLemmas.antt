@@ -10,8 +10,8 @@ use Rattle.rbac_terms.specs.Matching.{VerbOk}
 use Rattle.rbac_model.specs.Policies.{PolicyView, GrantView, BindingNames, IsPolicy}
 use Rattle.rbac_model.specs.Universes.{LiveForSome, UniverseView}
 use Rattle.rbac_model.proofs.BindingPlaces.{of_some_binding}
-use Rattle.rbac_index.specs.Bound.{HasRoleBindings, IsBoundTo, IsNextRun, AreRunsFrom}
-use Rattle.rbac_index.specs.declared.first_runs.Run.{Run}
+use Rattle.rbac_subjects.specs.Bound.{HasRoleBindings, IsBoundTo, IsNextRun, AreRunsFrom}
+use Rattle.rbac_subjects.specs.declared.first_runs.Run.{Run}
 use Rattle.rbac_matrix.specs.Lines.{IsLineAt, IsMoved, LineView, line, place}
 use Rattle.rbac_matrix.specs.Cursors.{AreKnownAt, AreRuns, AreRunsOf, AreRunsOn, AreVerbs, ServeBare, IsAhead, IsBoundOn, IsCursorAt, ComesTo, IsNextBound, IsNextRunOn, IsWithin, KeepGrantVerbs, steps_left}
 use Rattle.rbac_matrix.specs.declared.line.Place.{Place}

@@ -5,8 +5,8 @@ use Rattle.rbac_model.specs.Policies.{PolicyView, GrantView}
 use Rattle.rbac_model.specs.Universes.{UniverseView, IsCursor}
 use Rattle.rbac_terms.specs.Text.{Text}
 use Rattle.rbac_terms.specs.Principals.{Who}
-use Rattle.rbac_index.specs.Bound.{HasRoleBindings, IsBoundTo, IsNextRun, AreRunsFrom}
-use Rattle.rbac_index.specs.declared.first_runs.Run.{Run}
+use Rattle.rbac_subjects.specs.Bound.{HasRoleBindings, IsBoundTo, IsNextRun, AreRunsFrom}
+use Rattle.rbac_subjects.specs.declared.first_runs.Run.{Run}
 use Rattle.rbac_matrix.specs.GrantVerbs.{AreVerbsOfGrants}
 use Rattle.rbac_matrix.specs.Lines.{LineView, IsLineAt, line, lines_from}
 use Rattle.rbac_matrix.specs.declared.bound_runs.Runs.{Runs}

@@ -10,7 +10,7 @@ use Rattle.rbac_matrix.specs.Lines.{LineView, line, lines_from}
 use Rattle.rbac_matrix.specs.Metering.{AreSought, IsMetered, IsReady}
 use Rattle.rbac_matrix.specs.Passing.{cells_left}
 use Rattle.rbac_matrix.specs.RepeatedLines.{AreClusterWide}
-use Rattle.rbac_index.specs.Reaches.{AreReaches, raised}
+use Rattle.rbac_reaches.specs.Reaches.{AreReaches, raised}
 use Rattle.rbac_matrix.specs.RowTexts.{Shows}
 use Rattle.rbac_matrix.specs.declared.row.Row.{Row}
 use Rattle.rbac_matrix.specs.declared.enumeration.Rows.{Rows}

@@ -2,7 +2,7 @@
 use Rattle.std.specs.Prelude.{◌≡◌, Option, length}
 use Rattle.rbac_terms.specs.Keys.{KeyTexts}
 use Rattle.rbac_matrix.specs.Metering.{AreSought}
-use Rattle.rbac_index.specs.Reaches.{AreReaches}
+use Rattle.rbac_reaches.specs.Reaches.{AreReaches}
 use Rattle.rbac_matrix.specs.Starting.{BeginsOnLine, IsStart}
 use Rattle.rbac_matrix.specs.declared.matrix.Matrix.{Matrix}
 use Rattle.rbac_matrix.specs.declared.enumeration.Rows.{Rows}

@@ -7,7 +7,7 @@ use Rattle.rbac_model.specs.Universes.{UniverseView, IsCursor, AreTouches}
 use Rattle.rbac_model.specs.Lists.{IsCount}
 use Rattle.rbac_matrix.specs.Cells.{AreRowsOf}
 use Rattle.rbac_matrix.specs.Lines.{IsSettled, LineView, line_cells_from, lines_from}
-use Rattle.rbac_index.specs.Reaches.{raised}
+use Rattle.rbac_reaches.specs.Reaches.{raised}
 use Rattle.rbac_matrix.specs.Seats.{AreEmpty, AreSeated, passed, standing}
 use Rattle.rbac_matrix.specs.declared.line.Place.{Place}
 use Rattle.rbac_matrix.specs.declared.seat.Seat.{Seat}

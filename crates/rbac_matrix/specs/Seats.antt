@@ -4,7 +4,7 @@ use Rattle.std.specs.List.{slice_index_or}
 use Rattle.rbac_model.specs.Policies.{PolicyView}
 use Rattle.rbac_matrix.specs.Lines.{LineView}
 use Rattle.rbac_matrix.specs.Cursors.{IsCursorAt}
-use Rattle.rbac_index.specs.Reaches.{raised}
+use Rattle.rbac_reaches.specs.Reaches.{raised}
 use Rattle.rbac_matrix.specs.declared.seat.Seat.{Seat}
 
 -- the place of a seat that has no further entry

@@ -5,7 +5,7 @@ use Rattle.rbac_terms.specs.Text.{Text, text_cmp}
 use Rattle.rbac_terms.specs.Principals.{Who}
 use Rattle.rbac_model.specs.Policies.{PolicyView}
 use Rattle.rbac_model.specs.Universes.{UniverseView}
-use Rattle.rbac_index.specs.Bound.{IsNamedIn}
+use Rattle.rbac_subjects.specs.Bound.{IsNamedIn}
 use Rattle.rbac_matrix.specs.Lines.{LineView, lines_from}
 use Rattle.rbac_matrix.specs.declared.line.Place.{Place}
 

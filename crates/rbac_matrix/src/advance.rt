@@ -14,7 +14,7 @@ use crate::kept::Kept;
 use crate::line::Line;
 use crate::seat::{Seat, seat_after, seat_at_least};
 use crate::walk::next_below;
-use rbac_index::Meter;
+use rbac_reaches::Meter;
 
 // Whether a seat is at the place and its number is below `end`.
 fn stands_below(seat: Seat, no: u32, place: u32, end: u32) -> bool

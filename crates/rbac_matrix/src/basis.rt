@@ -1,6 +1,7 @@
 //! What rows are worked out from.
 
-use rbac_index::{Index, Reach};
+use rbac_index::Index;
+use rbac_reaches::Reach;
 use rbac_universe::Universe;
 
 /// An index, a universe, and for each grant the reach of its rule over that universe.

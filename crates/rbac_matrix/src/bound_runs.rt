@@ -3,7 +3,7 @@
 ghost use Rattle.std.specs.Prelude.{◌≡◌, ◌<◌, ◌≤◌, ◌↔◌, [], IsTrue, length, slice_index_or};
 ghost use Rattle.std.specs.Prelude.{true, false};
 ghost use Rattle.rbac_matrix.specs.Shown.{line_of};
-ghost use Rattle.rbac_index.specs.Bound.{HasRoleBindings};
+ghost use Rattle.rbac_subjects.specs.Bound.{HasRoleBindings};
 ghost use Rattle.rbac_model.specs.Policies.{IsPolicy};
 ghost use Rattle.rbac_matrix.specs.Cursors.{AreRuns, AreRunsOf, AreVerbs, ServeBare, KeepGrantVerbs};
 ghost use Rattle.rbac_matrix.specs.GrantVerbs.{AreVerbsOfGrants};
@@ -12,7 +12,8 @@ use crate::grant_verbs::GrantVerbs;
 use crate::line::Line;
 use crate::walk::{has_cursor, next_bound, whole_walk};
 use arrayvec::ArrayVec;
-use rbac_index::{Index, MOST_RUNS, Run};
+use rbac_index::Index;
+use rbac_subjects::{MOST_RUNS, Run};
 use rbac_terms::Word;
 use rbac_universe::Universe;
 

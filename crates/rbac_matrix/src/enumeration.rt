@@ -3,11 +3,11 @@
 ghost use Rattle.std.specs.Prelude.{length, ◌≡◌, ◌≤◌, ◌+◌, ◌*◌, ℕ, List, is_some, if◌then◌else◌};
 ghost use Rattle.std.specs.Iterator.{MakesProgress};
 ghost use Rattle.rbac_matrix.specs.Lines.{LineView};
-ghost use Rattle.rbac_index.specs.Reaches.{raised};
+ghost use Rattle.rbac_reaches.specs.Reaches.{raised};
 ghost use Rattle.rbac_matrix.specs.Metering.{AreTouched};
 ghost use Rattle.rbac_model.specs.Universes.{IsUniverse, most_targets};
 ghost use Rattle.rbac_model.specs.Policies.{IsPolicy};
-ghost use Rattle.rbac_index.specs.Reaches.{AreReaches};
+ghost use Rattle.rbac_reaches.specs.Reaches.{AreReaches};
 ghost use Rattle.rbac_matrix.specs.Lines.{IsSettled};
 ghost use Rattle.rbac_matrix.specs.Enumeration.{AreEntered, BeginsAt, Gives, GoesOn, IsGoing};
 ghost use Rattle.rbac_matrix.specs.Enumeration.{IsUnderWay, left_at_most};
@@ -22,7 +22,8 @@ use crate::seat::Seat;
 use crate::seats::empty_all;
 use crate::start::{Start, seat_start};
 use crate::steps::next_cell;
-use rbac_index::{Index, Meter, Reach};
+use rbac_index::Index;
+use rbac_reaches::{Meter, Reach};
 use rbac_universe::Universe;
 
 /// The rows of a matrix from some key on, in order of keys. Holds what it borrows and a few

@@ -4,7 +4,7 @@ ghost use Rattle.std.specs.Prelude.{length, ◌<◌, ◌≡◌, ◌≤◌, ◌+�
 ghost use Rattle.std.specs.Prelude.{if◌then◌else◌};
 ghost use Rattle.std.specs.Iterator.{MakesProgress};
 ghost use Rattle.rbac_matrix.specs.Lines.{LineView};
-ghost use Rattle.rbac_index.specs.Reaches.{raised};
+ghost use Rattle.rbac_reaches.specs.Reaches.{raised};
 ghost use Rattle.rbac_matrix.specs.Metering.{AreTouched};
 ghost use Rattle.rbac_matrix.specs.Enumeration.{AreEntered, GoesOn};
 ghost use Rattle.rbac_matrix.specs.EveryLeft.{GivesEvery, IsGoingEvery, PassesBinding};
@@ -16,7 +16,8 @@ use crate::enumeration::Rows;
 use crate::line::line_at;
 use crate::row::{Row, row_of};
 use crate::steps::next_cell;
-use rbac_index::{Index, Meter};
+use rbac_index::Index;
+use rbac_reaches::Meter;
 
 /// The rows of every granting binding from some mark on, in order of keys, then of bindings: one
 /// for each binding that grants a request. Holds what it borrows and a few numbers: the rows that

@@ -8,14 +8,15 @@ ghost use Rattle.rbac_matrix.specs.Every.{IsEvery, every_after};
 ghost use Rattle.rbac_matrix.specs.EveryLeft.{AreEveryLeft, IsGoingEvery};
 ghost use Rattle.rbac_matrix.specs.EveryStart.{EveryStarts, key_of_mark};
 ghost use Rattle.rbac_matrix.specs.Lent.{AreLent, Starts};
-ghost use Rattle.rbac_index.specs.Reaches.{AreReaches};
+ghost use Rattle.rbac_reaches.specs.Reaches.{AreReaches};
 
 use crate::enumeration::{Rows, rows_from};
 use crate::every_rows::EveryRows;
 use crate::every_start::every_start;
 use crate::seat::Seat;
 use crate::start::start_after;
-use rbac_index::{Index, Reach};
+use rbac_index::Index;
+use rbac_reaches::Reach;
 use rbac_terms::Key;
 use rbac_token::Mark;
 use rbac_universe::Universe;

@@ -3,12 +3,12 @@
 ghost use Rattle.std.specs.Prelude.{◌≡◌, ◌+◌, ◌<◌, ◌≤◌, ◌↔◌, ℕ, IsTrue, length};
 ghost use Rattle.std.specs.List.{slice_index_or};
 ghost use Rattle.std.specs.List.Sorted.{IsStrictlyIncreasing};
-ghost use Rattle.rbac_index.specs.Reaches.{raised};
+ghost use Rattle.rbac_reaches.specs.Reaches.{raised};
 ghost use Rattle.rbac_matrix.specs.Seats.{IsSeated, IsSeatedBefore, IsFirstFrom, ReadsAtMost};
 ghost use Rattle.rbac_matrix.specs.Seats.{SeatCosts, empty_seat, past_all};
 ghost use Rattle.rbac_model.specs.Universes.{most_targets};
 
-use rbac_index::{Meter, Reach};
+use rbac_reaches::{Meter, Reach};
 
 /// The seat of a grant: its position in its reach, and the place that was read there. A seat
 /// belongs to an enumeration, which determines what it holds.

@@ -13,7 +13,8 @@ use crate::bound_runs::Runs;
 use crate::line::Line;
 use crate::seat::{Seat, seat_from};
 use crate::walk::{next_below, next_cursor, whole_walk};
-use rbac_index::{Index, Meter, Reach};
+use rbac_index::Index;
+use rbac_reaches::{Meter, Reach};
 
 // Whether nothing was seated here and the reach has places.
 fn is_untaken(seat: Seat, reach: &Reach) -> bool

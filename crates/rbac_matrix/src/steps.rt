@@ -6,7 +6,7 @@ ghost use Rattle.rbac_model.specs.Policies.{IsPolicy};
 ghost use Rattle.rbac_model.specs.Universes.{IsUniverse, UniverseView, most_words};
 ghost use Rattle.rbac_universe.specs.Sets.{IsWithinLimits};
 ghost use Rattle.rbac_matrix.specs.Shown.{line_of};
-ghost use Rattle.rbac_index.specs.Reaches.{AreReaches};
+ghost use Rattle.rbac_reaches.specs.Reaches.{AreReaches};
 ghost use Rattle.rbac_matrix.specs.Blocks.{AreBlocks, AreBlocksAt};
 ghost use Rattle.rbac_matrix.specs.Cursors.{AreKnownAt, AreRunsOf, AreRunsAt, IsBoundOn, ServeBare};
 ghost use Rattle.rbac_matrix.specs.Cursors.{KeepGrantVerbs};
@@ -24,7 +24,8 @@ use crate::line::{Line, Place, after, line_at, settled};
 use crate::seat::Seat;
 use crate::seats::{empty_line, seat_line};
 use crate::unnamed::past_unnamed;
-use rbac_index::{Index, Meter};
+use rbac_index::Index;
+use rbac_reaches::Meter;
 use rbac_terms::Word;
 use rbac_universe::Universe;
 

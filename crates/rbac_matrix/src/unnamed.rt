@@ -3,7 +3,7 @@
 ghost use Rattle.std.specs.Prelude.{◌≡◌, ◌≢◌, ◌<◌, ◌⊎◌, IsTrue, Some, length, option_copied};
 ghost use Rattle.std.specs.declared.cmp.Ordering.TheVariants.{Less};
 ghost use Rattle.rbac_terms.specs.Text.{Text, text_cmp};
-ghost use Rattle.rbac_index.specs.Bound.{AnswersNextNamespace};
+ghost use Rattle.rbac_subjects.specs.Bound.{AnswersNextNamespace};
 ghost use Rattle.rbac_matrix.specs.Lines.{lines_from};
 ghost use Rattle.rbac_matrix.specs.Shown.{line_of};
 ghost use Rattle.rbac_matrix.specs.Unnamed.{BeginsFrom, PassesUnnamed};

@@ -12,7 +12,8 @@ ghost use Rattle.rbac_matrix.specs.Cursors.{IsWithin, KeepGrantVerbs, back_at, s
 use crate::bound_runs::Runs;
 use crate::grant_verbs::has_verb;
 use crate::line::Line;
-use rbac_index::{Index, Run};
+use rbac_index::Index;
+use rbac_subjects::Run;
 use rbac_universe::Universe;
 
 /// A walk along the grants of a line, run by run.

@@ -7,6 +7,7 @@ pub mod Gathered
 pub mod GrantNumbers
 pub mod Granted
 pub mod Kept
+pub mod KeyNames
 pub mod LabelAdding
 pub mod LabelBits
 pub mod LabelJoining

@@ -1,7 +1,9 @@
 -- Who may use a verb on a target: the holders of a permission.
-use Rattle.std.specs.Prelude.{◌≡◌, ℕ, ◌+◌, ◌<◌, ◌⊎◌, ◌↔◌, List, Some, Contains, AllPairs, slice_get}
+use Rattle.std.specs.Prelude.{◌≡◌, ℕ, ◌+◌, ◌<◌, ◌⊎◌, ◌↔◌, List, Some, Any, Contains, AllPairs}
+use Rattle.std.specs.Prelude.{slice_get}
 use Rattle.rbac_terms.specs.Text.{Text}
 use Rattle.rbac_terms.specs.Targets.{What}
+use Rattle.rbac_terms.specs.Principals.{Who, AsMember, who_key, IsInGroup}
 use Rattle.rbac_terms.specs.Granting.{IsSubjectKey}
 use Rattle.rbac_terms.specs.declared.granting.Binding.{Binding}
 use Rattle.rbac_terms.specs.declared.granting.Subject.{Subject}
@@ -45,3 +47,12 @@ pub record AreHolders (h : Held) (namespace verb : Text) (t : What)
   pub ordered : AllPairs
       (λ x y. IsBefore x.binding_place x.subject_place y.binding_place y.subject_place) xs
   pub exact : (x : HolderView) → Contains xs x ↔ IsHolder h namespace verb t x
+
+-- some subject of the binding has the key
+abbrev pub HasKey : Binding → Text → Type 0
+HasKey b key = Any (λ s. IsSubjectKey s b.namespace key) b.subjects
+
+-- the key is that of who asks, or of one of its groups
+abbrev pub IsKeyFor : Who → Text → Type 0
+IsKeyFor who key = (key ≡ who_key who)
+    ⊎ ((group : Text) × IsInGroup who group × (key ≡ who_key (AsMember group)))

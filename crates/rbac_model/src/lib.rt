@@ -19,6 +19,7 @@ mod references;
 mod replacement;
 mod turned;
 mod visit_order;
+mod why;
 
 pub use fault::ResolveFault;
 pub use laws::{grants_are_one_list, kept_objects_are_one, words_match_themselves};
@@ -34,3 +35,4 @@ pub use rbac_terms::{
     verb_matches,
 };
 pub use references::{Grant, SourceRole, ref_place};
+pub use why::{Why, naming_place};

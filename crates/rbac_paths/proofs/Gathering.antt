@@ -10,7 +10,7 @@ use Rattle.rbac_terms.specs.declared.granting.Subject.{Subject}
 use Rattle.rbac_model.specs.Lists.{IsFirstAt}
 use Rattle.rbac_model.specs.Policies.{GrantView, IsOfBinding, IsPolicy, PolicyView}
 use Rattle.rbac_model.proofs.BindingPlaces.{of_some_binding, places_rise}
-use Rattle.rbac_index.specs.WhyHeld.{HasKey}
+use Rattle.rbac_model.specs.Holders.{HasKey}
 use Rattle.rbac_paths.specs.Finding.{AddsPowers, FindsPowers, Found, GivesNone, IsFirstGiving, IsGrantOf}
 use Rattle.rbac_paths.specs.Powers.{GivesThere, IsPower, PowerView, who_and_where}
 use Rattle.rbac_paths.specs.declared.steps.Step.{Step}

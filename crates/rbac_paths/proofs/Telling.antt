@@ -7,9 +7,8 @@ use Rattle.rbac_terms.specs.Principals.{Who}
 use Rattle.rbac_model.specs.Policies.{BindingNames, GrantView, IsPolicy, Live, PolicyView}
 use Rattle.rbac_model.proofs.GrantNumbers.{grant_allows, some_grant}
 use Rattle.rbac_model.proofs.OwnWords.{any_from}
-use Rattle.rbac_index.specs.Holding.{IsKeyFor}
-use Rattle.rbac_index.proofs.HolderLaw.{key_names, naming_key}
-use Rattle.rbac_index.specs.WhyHeld.{HasKey}
+use Rattle.rbac_model.specs.Holders.{IsKeyFor, HasKey}
+use Rattle.rbac_model.proofs.KeyNames.{key_names, naming_key}
 use Rattle.rbac_paths.specs.Powers.{GivesStep, PowerView}
 use Rattle.rbac_paths.specs.Steps.{AllowsIn, AllowsRow, CountsIn, RowView, steps, table}
 use Rattle.rbac_paths.specs.Telling.{CanTake, HoldsIn, TellAll, asked_in}

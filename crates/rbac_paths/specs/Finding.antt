@@ -6,7 +6,7 @@ use Rattle.rbac_terms.specs.Granting.{IsSubjectKey}
 use Rattle.rbac_terms.specs.declared.granting.Subject.{Subject}
 use Rattle.rbac_model.specs.Lists.{IsFirstAt}
 use Rattle.rbac_model.specs.Policies.{GrantView, IsOfBinding, PolicyView}
-use Rattle.rbac_index.specs.WhyHeld.{HasKey}
+use Rattle.rbac_model.specs.Holders.{HasKey}
 use Rattle.rbac_paths.specs.Powers.{GivesStep, IsPower, PowerView, power_place}
 use Rattle.rbac_paths.specs.Powers.{who_and_where}
 use Rattle.rbac_paths.specs.declared.steps.Step.{Step}

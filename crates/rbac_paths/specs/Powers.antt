@@ -7,7 +7,7 @@ use Rattle.rbac_terms.specs.declared.granting.Subject.{Subject}
 use Rattle.rbac_terms.specs.declared.matching.Rule.{Rule}
 use Rattle.rbac_model.specs.Lists.{IsFirstAt}
 use Rattle.rbac_model.specs.Policies.{GrantView, PolicyView}
-use Rattle.rbac_index.specs.WhyHeld.{HasKey}
+use Rattle.rbac_model.specs.Holders.{HasKey}
 use Rattle.rbac_text.specs.Choice.{choice_and_tab}
 use Rattle.rbac_text.specs.Row.{field_and_tab}
 use Rattle.rbac_paths.specs.Steps.{AllowsIn, steps, table}

@@ -4,7 +4,7 @@ use Rattle.rbac_terms.specs.Text.{Text}
 use Rattle.rbac_terms.specs.Targets.{Resource}
 use Rattle.rbac_terms.specs.Principals.{Who}
 use Rattle.rbac_model.specs.Policies.{Allows, PolicyView}
-use Rattle.rbac_index.specs.Holding.{IsKeyFor}
+use Rattle.rbac_model.specs.Holders.{IsKeyFor}
 use Rattle.rbac_paths.specs.Powers.{PowerView}
 use Rattle.rbac_paths.specs.Steps.{IsNamed, RowView, table}
 use Rattle.rbac_paths.specs.declared.steps.Step.{Step}

@@ -1,16 +1,13 @@
 //! The grants of one binding, of which somebody has the rules.
 
 ghost use Rattle.std.specs.Prelude.{ℕ, ◌≤◌, ◌<◌, ◌+◌, MatchOption, length};
-ghost use Rattle.rbac_terms.specs.Granting.{Names};
-ghost use Rattle.rbac_terms.specs.declared.granting.Subject.{Subject};
-ghost use Rattle.rbac_model.specs.Lists.{IsFirstAt};
-ghost use Rattle.rbac_model.specs.Policies.{BindingNames, IsPolicy};
+ghost use Rattle.rbac_model.specs.Policies.{IsPolicy};
 ghost use Rattle.rbac_rules.specs.Left.{scope_of};
 ghost use Rattle.rbac_rules.specs.Runs.{HasAt, HasNone, IsRun, IsRunOf, IsNextRun};
 
 use crate::scope::{Scope, is_in_force};
-use rbac_model::Policy;
-use rbac_terms::{Binding, Principal, names};
+use rbac_model::{Policy, naming_place};
+use rbac_terms::Principal;
 
 // The grants of one binding that are left, from number `no` up to `end`, the place of the first
 // subject that names who asks, and the place of the binding after it.
@@ -20,21 +17,6 @@ pub(crate) struct Run {
     pub(crate) end: u32,
     pub(crate) subject_place: usize,
     pub(crate) next_place: usize,
-}
-
-// The place of the first subject that names who asks.
-fn naming_place(binding: &Binding, who: &Principal) -> Option<usize>
-    ensures { MatchOption result (¬ BindingNames binding.now who.now)
-        (λ at. (s : Subject)
-        × IsFirstAt (λ s. Names s binding.now.namespace who.now) binding.now.subjects at s) }
-{
-    let namespace = binding.namespace.as_ref();
-    for (place, subject) in binding.subjects.as_slice().iter().enumerate() {
-        if names(subject, namespace, who) {
-            return Some(place);
-        }
-    }
-    None
 }
 
 // The grants of the binding at this place, if it has some and who asks has their rules.

@@ -1,7 +1,7 @@
 use Rattle.std.proofs.Common.{◌≡◌, ◌∙◌, sym, ℕ, List, ◌<◌, ◌≤◌, slice_get, ◌↔◌}
 use Rattle.std.specs.Prelude.{Some, None}
 use Rattle.rbac_terms.specs.declared.granting.Binding.{Binding}
-use Rattle.rbac_index.specs.Living.{IsLiveRoleBinding}
+use Rattle.rbac_subjects.specs.Living.{IsLiveRoleBinding}
 use Rattle.rbac_index.proofs.DecidingLemmas.{decided_first, decided_second}
 use Rattle.rbac_index.proofs.deciding.why_allowed.Goals as goal
 

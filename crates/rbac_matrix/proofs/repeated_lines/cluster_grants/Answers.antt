@@ -2,7 +2,7 @@ use Rattle.std.proofs.Common.{arith, rules, sym}
 use Rattle.std.specs.Prelude.{is_none}
 use Rattle.std.proofs.lemmas.List.Sorted.{IsPartitionPoint-from_clause}
 use Rattle.rbac_terms.specs.declared.granting.Binding.{Binding}
-use Rattle.rbac_index.proofs.LivingLemmas.{parted_by_kind}
+use Rattle.rbac_subjects.proofs.LivingLemmas.{parted_by_kind}
 use Rattle.rbac_matrix.proofs.RepeatedLemmas.{cluster_below}
 use Rattle.rbac_matrix.proofs.repeated_lines.cluster_grants.Goals as goal
 

@@ -1,4 +1,0 @@
-use Rattle.rbac_index.proofs.meter.Meter.count.Goals as goal
-
-pub returns : goal.returns
-returns c = c.self.view_is

@@ -1,5 +1,0 @@
-use Rattle.rbac_index.specs.Reaches.{AreReachesBelow}
-use Rattle.rbac_index.proofs.reach.reaches_of.Given as goal
-
-abbrev pub invariant-loop-no : goal.invariant-loop-no
-invariant-loop-no l = AreReachesBelow l.index l.universe l.no l.reaches.items

@@ -1,4 +1,0 @@
-use Rattle.rbac_index.proofs.subject_index.SubjectIndex.build.Goals as goal
-
-pub invariant_of-result : goal.invariant_of-result
-invariant_of-result c = c.in_ok-named.ensures

@@ -1,5 +1,0 @@
-use Rattle.rbac_index.proofs.KeyingLemmas.{AreKeyedBelow}
-use Rattle.rbac_index.proofs.subject_keys.keyed_by.Given as goal
-
-abbrev pub invariant-loop-place : goal.invariant-loop-place
-invariant-loop-place l = AreKeyedBelow l.policy l.place l.entries.items

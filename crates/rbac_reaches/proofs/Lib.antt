@@ -1,0 +1,4 @@
+pub mod ReachLemmas
+pub mod SharedLemmas
+pub mod SpanLemmas
+pub mod StemLemmas

@@ -1,0 +1,3 @@
+pub mod Matched
+pub mod Reaches
+pub mod Spans

@@ -1,0 +1,12 @@
+//! Which targets of a universe the grants of a policy reach, and how much of that was read.
+#![tactic(auto)]
+
+mod matches;
+mod meter;
+mod ordered_rule;
+mod reach;
+mod spans;
+mod stems;
+
+pub use meter::Meter;
+pub use reach::{Reach, reaches_of};

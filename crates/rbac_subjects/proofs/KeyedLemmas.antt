@@ -1,0 +1,266 @@
+-- look-ups in the sorted list of keys
+use Rattle.std.proofs.Common.{◌≡◌, ℕ, ◌<◌, ◌≤◌, List, [], ◌∷◌, ◌++◌, length, get_or, Contains, ap, sym, ◌∙◌, refl, subst, arith, inl, inr, ◌⊎◌, ◌↔◌, Bool, true, false, max, min}
+use Rattle.std.specs.Prelude.{Option, Some, None, codes}
+use Rattle.std.specs.Ordering.{nat_cmp, ordering_then, is_lt, is_eq, ordering_reverse}
+use Rattle.std.specs.Cmp.{IsTotalOrder}
+use Rattle.std.specs.List.Sorted.{IsSorted, IsPartitionedBy, IsPartitionPoint}
+use Rattle.std.specs.declared.cmp.Ordering.{Ordering}
+use Rattle.std.specs.declared.cmp.Ordering.TheVariants.{Less, Equal, Greater}
+use Rattle.std.proofs.lemmas.Bool.{cases_lt}
+use Rattle.std.proofs.lemmas.Cmp.{nat_cmp_total, nat_list_cmp_total, on_total, then_total, tied_itself}
+use Rattle.std.proofs.lemmas.List.{get_or_default}
+use Rattle.std.proofs.lemmas.List.Elements.{Contains-append_left, Contains-push, Contains-push_cases}
+use Rattle.std.proofs.lemmas.List.Sorted.{searchable_from_sorted, sorted_far, ranks_by}
+use Rattle.std.proofs.lemmas.Map.Lookups.{exact_bytes}
+use Rattle.rbac_terms.specs.Text.{Text, text_cmp}
+use Rattle.rbac_terms.specs.Principals.{Who, who_key, given_of, IsAccountIn, SignsInAs}
+use Rattle.rbac_subjects.specs.declared.subject_keys.Keyed.{Keyed}
+use Rattle.rbac_subjects.specs.declared.live_bindings.Live.{Live}
+use Rattle.rbac_model.specs.Holders.{IsKeyFor}
+use Rattle.rbac_subjects.specs.Keyed.{keyed, keyed_cmp, IsLiveAt, IsNextOf, AnswersNext, IsLiveUnder, IsLiveUnderAny, IsGivenKey, IsAccountKey, IsSignInKey, sooner}
+use Rattle.rbac_subjects.proofs.KeysOf.{keys_sorted}
+use Rattle.rbac_terms.proofs.Orderings.{lt_back}
+
+then_assoc : (a b c : Ordering) → ordering_then (ordering_then a b) c ≡ ordering_then a (ordering_then b c)
+then_assoc Less b c = refl
+then_assoc Equal b c = refl
+then_assoc Greater b c = refl
+
+-- a text stands to one in two parts as its head to the first, and then as its tail to the second
+pub joined_cmp : (head tail prefix rest : Text) → (length head ≡ length prefix) ⊎ ((length tail ≡ 0) × (length head < length prefix)) → ordering_then (text_cmp head prefix) (text_cmp tail rest) ≡ text_cmp (head ++ tail) (prefix ++ rest)
+joined_cmp [] tail [] rest d = refl
+joined_cmp [] tail (f ∷ fs) rest (inl e) = absurd (omega (arith, e))
+joined_cmp [] [] (f ∷ fs) rest (inr e) = refl
+joined_cmp [] (t ∷ ts) (f ∷ fs) rest (inr e) = absurd (omega (arith, e.0))
+joined_cmp (h ∷ hs) tail [] rest (inl e) = absurd (omega (arith, e))
+joined_cmp (h ∷ hs) tail [] rest (inr e) = absurd (omega (arith, e.1))
+joined_cmp (h ∷ hs) tail (f ∷ fs) rest (inl e) = then_assoc (nat_cmp h f) (text_cmp hs fs) (text_cmp tail rest) ∙ ap (ordering_then (nat_cmp h f)) (joined_cmp hs tail fs rest (inl (omega (arith, e))))
+joined_cmp (h ∷ hs) tail (f ∷ fs) rest (inr e) = then_assoc (nat_cmp h f) (text_cmp hs fs) (text_cmp tail rest) ∙ ap (ordering_then (nat_cmp h f)) (joined_cmp hs tail fs rest (inr (e.0, omega (arith, e.1))))
+
+pub keyed_total : IsTotalOrder keyed_cmp
+keyed_total = then_total (on_total (λ (x : Keyed). x.key) nat_list_cmp_total) (on_total (λ (x : Keyed). x.place) nat_cmp_total)
+
+less_is : (m n : ℕ) → is_lt (nat_cmp m n) ≡ true → m < n
+less_is m n e = grind arith
+
+is_less : (m n : ℕ) → m < n → is_lt (nat_cmp m n) ≡ true
+is_less m n lt = grind arith
+
+not_less : (m n : ℕ) → is_lt (nat_cmp m n) ≡ false → n ≤ m
+not_less m n e = grind arith
+
+-- the order of entries of one key is that of their places
+under_one : (key : Text) (m n : ℕ) → keyed_cmp (keyed key m) (keyed key n) ≡ nat_cmp m n
+under_one key m n = ap (λ (o : Ordering). ordering_then o (nat_cmp m n)) (tied_itself nat_list_cmp_total key)
+
+above : (o p q : Ordering) → is_lt (ordering_then o p) ≡ false → is_eq o ≡ false → o ≡ Greater
+above Less p q e f = cc
+above Equal p q e f = cc
+above Greater p q e f = refl
+
+module _ (xs : List Keyed) (up : IsSorted keyed_cmp xs) (key : Text) (from : ℕ) where
+  -- the entries before those of the key from that place on
+  abbrev pub before : Keyed → Bool
+  before x = is_lt (keyed_cmp x (keyed key from))
+
+  pub parted_before_key : IsPartitionedBy before xs
+  parted_before_key i j d le lt e = lt_back (keyed_cmp (get_or xs i d) (keyed key from)) (keyed_cmp (get_or xs j d) (keyed key from)) (searchable_from_sorted keyed_total (λ x. x) xs (keyed key from) up i j d le lt) e
+
+  module _ (at : ℕ) (point : IsPartitionPoint (λ x. before x ≡ true) (λ x. before x ≡ false) xs at) where
+    -- the key's places from that one on are listed past the point
+    past : (n : ℕ) → from ≤ n → (c : Contains xs (keyed key n)) → at ≤ c.0
+    past n le c = elim (cases_lt c.0 at) [
+      | inl l ↦
+          let e = rw c.2 at (point.0 c.0 (keyed key n) (omega arith) l) in
+          absurd (omega (arith, le, less_is n from (sym (ap is_lt (under_one key n from)) ∙ e)))
+      | inr l ↦ l
+    ]
+
+    pub none_at_end : length xs ≤ at → (n : ℕ) → from ≤ n → Contains xs (keyed key n) → ⊥
+    none_at_end end n le c = absurd (omega (arith, past n le c, c.1, end))
+
+    module _ (x : Keyed) (within : at < length xs) (here : x ≡ get_or xs at x) where
+      unlisted : before x ≡ false
+      unlisted = rw (← here) at (point.1 at x (omega arith) within)
+
+      -- the key's places from that one on are listed no earlier than x
+      no_earlier : (n : ℕ) → from ≤ n → Contains xs (keyed key n) → is_lt (keyed_cmp (keyed key n) x) ≡ false
+      no_earlier n le c =
+          let far = sorted_far (λ a b. is_lt (keyed_cmp a b)) (ranks_by keyed_total (λ (y : Keyed). y)) xs up at c.0 x (past n le c) c.1 in
+          let read : get_or xs c.0 x ≡ keyed key n = get_or_default xs c.0 x (keyed key n) c.1 ∙ c.2 in
+          rw (read, ← here) at far
+
+      pub next_here : text_cmp x.key key ≡ Equal → IsNextOf (λ n. Contains xs (keyed key n)) from x.place
+      next_here tied =
+          let same : x.key ≡ key = exact_bytes x.key key tied in
+          let is : x ≡ keyed key x.place = ap (λ (t : Text). keyed t x.place) same in
+          record {
+            after = not_less x.place from (sym (ap is_lt (ap (λ (o : Ordering). ordering_then o (nat_cmp x.place from)) tied)) ∙ unlisted);
+            holds = subst (λ (y : Keyed). Contains xs y) is (at, within, sym here);
+            none_before = λ n le less c.
+                let e = no_earlier n le c in
+                let f : is_lt (keyed_cmp (keyed key n) (keyed key x.place)) ≡ false = subst (λ (y : Keyed). is_lt (keyed_cmp (keyed key n) y) ≡ false) is e in
+                absurd (omega (arith, less, not_less n x.place (sym (ap is_lt (under_one key n x.place)) ∙ f)));
+          }
+
+      pub none_here : is_eq (text_cmp x.key key) ≡ false → (n : ℕ) → from ≤ n → Contains xs (keyed key n) → ⊥
+      none_here apart n le c =
+          let over : text_cmp x.key key ≡ Greater = above (text_cmp x.key key) (nat_cmp x.place from) Equal unlisted apart in
+          let under : text_cmp key x.key ≡ Less = nat_list_cmp_total.antisymm key x.key ∙ ap ordering_reverse over in
+          let e = no_earlier n le c in
+          let f : is_lt (ordering_then (text_cmp key x.key) (nat_cmp n x.place)) ≡ true = rw under refl in
+          cc
+
+module _ (xs : List Keyed) (live : Live) (key : Text) (from first : ℕ) (at : IsNextOf (λ n. Contains xs (keyed key n)) from first) where
+  pub first_live : IsLiveAt live first → IsNextOf (IsLiveUnder xs live key) from first
+  first_live l = record { after = at.after; holds = (at.holds, l); none_before = λ n le less p. at.none_before n le less p.0 }
+
+  module _ (dead : ¬ IsLiveAt live first) (next : ℕ) (is : next ≡ max first live.from) where
+    ahead : (n : ℕ) → from ≤ n → IsLiveUnder xs live key n → (next ≤ n) × (n < live.to)
+    ahead n le p =
+        let far : first ≤ n = elim (cases_lt n first) [ inl l ↦ absurd (at.none_before n le l p.0) | inr l ↦ l ] in
+        elim p.1 [
+          | inl l ↦ absurd (dead (inl (omega (arith, far, l))))
+          | inr w ↦ (omega (arith, is, far, w.0), w.1)
+        ]
+
+    pub none_next : ((n : ℕ) → next ≤ n → Contains xs (keyed key n) → ⊥) → (n : ℕ) → from ≤ n → IsLiveUnder xs live key n → ⊥
+    none_next none n le p = none n (ahead n le p).0 p.0
+
+    module _ (found : ℕ) (then : IsNextOf (λ n. Contains xs (keyed key n)) next found) where
+      pub next_inside : found < live.to → IsNextOf (IsLiveUnder xs live key) from found
+      next_inside lt = record {
+        after = omega (arith, at.after, then.after, is);
+        holds = (then.holds, inr (omega (arith, then.after, is), lt));
+        none_before = λ n le less p. then.none_before n (ahead n le p).0 less p.0;
+      }
+
+      pub next_outside : live.to ≤ found → (n : ℕ) → from ≤ n → IsLiveUnder xs live key n → ⊥
+      next_outside le n low p =
+          let a = ahead n low p in
+          then.none_before n a.0 (omega (arith, le, a.1)) p.0
+
+-- the sooner of two first numbers is the first of both
+pub sooner_next : (P Q : ℕ → Type 0) (from : ℕ) (a b : Option ℕ) → AnswersNext P from a → AnswersNext Q from b → AnswersNext (λ n. P n ⊎ Q n) from (sooner a b)
+sooner_next P Q from None None f g = λ n le r. elim r [ inl p ↦ f n le p | inr q ↦ g n le q ]
+sooner_next P Q from None (Some b) f g = record { after = g.after; holds = inr g.holds; none_before = λ n le less r. elim r [ inl p ↦ f n le p | inr q ↦ g.none_before n le less q ] }
+sooner_next P Q from (Some a) None f g = record { after = f.after; holds = inl f.holds; none_before = λ n le less r. elim r [ inl p ↦ f.none_before n le less p | inr q ↦ g n le q ] }
+sooner_next P Q from (Some a) (Some b) f g = elim (cases_lt b a) [
+  | inl l ↦
+      let least : min a b ≡ b = omega (arith, l) in
+      rw least (record {
+        after = g.after;
+        holds = inr g.holds;
+        none_before = λ n le less r. elim r [ inl p ↦ f.none_before n le (omega (arith, l, less)) p | inr q ↦ g.none_before n le less q ];
+      })
+  | inr l ↦
+      let least : min a b ≡ a = omega (arith, l) in
+      rw least (record {
+        after = f.after;
+        holds = inl f.holds;
+        none_before = λ n le less r. elim r [ inl p ↦ f.none_before n le less p | inr q ↦ g.none_before n le (omega (arith, l, less)) q ];
+      })
+]
+
+pub next_same : (P Q : ℕ → Type 0) (from : ℕ) (a : Option ℕ) → ((n : ℕ) → P n ↔ Q n) → AnswersNext P from a → AnswersNext Q from a
+next_same P Q from None same f = λ n le q. f n le ((same n).1 q)
+next_same P Q from (Some a) same f = record { after = f.after; holds = (same a).0 f.holds; none_before = λ n le less q. f.none_before n le less ((same n).1 q) }
+
+any_none : (xs : List Keyed) (live : Live) (Has : Text → Type 0) (n : ℕ) → ((key : Text) → Has key → ⊥) → IsLiveUnderAny xs live Has n → ⊥
+any_none xs live Has n none a = none a.0 a.1
+
+-- the places of a principal's keys, by the kinds of keys
+module _ (xs : List Keyed) (live : Live) where
+  pub given_none : (n : ℕ) → IsLiveUnderAny xs live (IsGivenKey []) n → ⊥
+  given_none n a = any_none xs live (IsGivenKey []) n (λ key k. absurd (omega (arith, k.1.1))) a
+
+  pub given_one : (given : List Text) (group : Text) (n : ℕ) → (IsLiveUnderAny xs live (IsGivenKey given) n ⊎ IsLiveUnder xs live (codes "g:" ++ group) n) ↔ IsLiveUnderAny xs live (IsGivenKey (given ++ group ∷ [])) n
+  given_one given group n = (
+    λ d. elim d [
+      | inl w ↦ (w.0, (w.1.0, Contains-append_left given (group ∷ []) w.1.0 w.1.1, w.1.2), w.2)
+      | inr u ↦ (codes "g:" ++ group, (group, Contains-push given group, refl), u)
+    ],
+    λ w. elim (Contains-push_cases given group w.1.0 w.1.1) [
+      | inl old ↦ inl (w.0, (w.1.0, old, w.1.2), w.2)
+      | inr new ↦ inr (subst (λ (t : Text). IsLiveUnder xs live t n) (w.1.2 ∙ ap (λ (t : Text). codes "g:" ++ t) (sym new)) w.2)
+    ],
+  )
+
+  pub account_two : (who : Who) (own : Text) → ((n : Text) → IsAccountIn who n ↔ (n ≡ own)) → (n : ℕ) → (IsLiveUnder xs live (codes "g:system:serviceaccounts") n ⊎ IsLiveUnder xs live (codes "g:system:serviceaccounts:" ++ own) n) ↔ IsLiveUnderAny xs live (IsAccountKey who) n
+  account_two who own is n = (
+    λ d. elim d [
+      | inl u ↦ (codes "g:system:serviceaccounts", (own, (is own).1 refl, inl refl), u)
+      | inr u ↦ (codes "g:system:serviceaccounts:" ++ own, (own, (is own).1 refl, inr refl), u)
+    ],
+    λ w. elim w.1.2 [
+      | inl e ↦ inl (subst (λ (t : Text). IsLiveUnder xs live t n) e w.2)
+      | inr e ↦ inr (subst (λ (t : Text). IsLiveUnder xs live t n) (e ∙ ap (λ (t : Text). codes "g:system:serviceaccounts:" ++ t) ((is w.1.0).0 w.1.1)) w.2)
+    ],
+  )
+
+  pub signed_in_one : (who : Who) (own : Text) → ((g : Text) → SignsInAs who g ↔ (g ≡ own)) → (n : ℕ) → IsLiveUnder xs live (codes "g:" ++ own) n ↔ IsLiveUnderAny xs live (IsSignInKey who) n
+  signed_in_one who own is n = (
+    λ u. (codes "g:" ++ own, (own, (is own).1 refl, refl), u),
+    λ w. subst (λ (t : Text). IsLiveUnder xs live t n) (w.1.2 ∙ ap (λ (t : Text). codes "g:" ++ t) ((is w.1.0).0 w.1.1)) w.2,
+  )
+
+  -- under a key of one of the four kinds
+  abbrev pub IsUnderSome : Who → Text → ℕ → Type 0
+  IsUnderSome who own n = (IsLiveUnder xs live own n ⊎ IsLiveUnderAny xs live (IsGivenKey (given_of who)) n) ⊎ (IsLiveUnderAny xs live (IsAccountKey who) n ⊎ IsLiveUnderAny xs live (IsSignInKey who) n)
+
+  pub all_four : (who : Who) (own : Text) → own ≡ who_key who → (n : ℕ) → IsUnderSome who own n ↔ IsLiveUnderAny xs live (IsKeyFor who) n
+  all_four who own is n = (
+    λ w. elim w [
+      | inl l ↦ elim l [
+        | inl u ↦ (own, (keys_sorted who own).0 (inl (inl is)), u)
+        | inr v ↦ (v.0, (keys_sorted who v.0).0 (inl (inr v.1)), v.2)
+      ]
+      | inr l ↦ elim l [
+        | inl v ↦ (v.0, (keys_sorted who v.0).0 (inr (inl v.1)), v.2)
+        | inr v ↦ (v.0, (keys_sorted who v.0).0 (inr (inr v.1)), v.2)
+      ]
+    ],
+    λ w. elim ((keys_sorted who w.0).1 w.1) [
+      | inl l ↦ elim l [
+        | inl e ↦ inl (inl (subst (λ (t : Text). IsLiveUnder xs live t n) (e ∙ sym is) w.2))
+        | inr v ↦ inl (inr (w.0, v, w.2))
+      ]
+      | inr l ↦ elim l [
+        | inl v ↦ inr (inl (w.0, v, w.2))
+        | inr v ↦ inr (inr (w.0, v, w.2))
+      ]
+    ],
+  )
+
+  module _ (from : ℕ) where
+    pub given_more : (given : List Text) (group : Text) (a b : Option ℕ) → AnswersNext (IsLiveUnderAny xs live (IsGivenKey given)) from a → AnswersNext (IsLiveUnder xs live (codes "g:" ++ group)) from b → AnswersNext (IsLiveUnderAny xs live (IsGivenKey (given ++ group ∷ []))) from (sooner a b)
+    given_more given group a b f g =
+        let P : ℕ → Type 0 = IsLiveUnderAny xs live (IsGivenKey given) in
+        let Q : ℕ → Type 0 = IsLiveUnder xs live (codes "g:" ++ group) in
+        next_same (λ n. P n ⊎ Q n) (IsLiveUnderAny xs live (IsGivenKey (given ++ group ∷ []))) from (sooner a b) (given_one given group) (sooner_next P Q from a b f g)
+
+    -- no other group makes the first place come sooner
+    pub given_first : (given : List Text) (group : Text) → AnswersNext (IsLiveUnderAny xs live (IsGivenKey given)) from (Some from) → AnswersNext (IsLiveUnderAny xs live (IsGivenKey (given ++ group ∷ []))) from (Some from)
+    given_first given group h = record {
+      after = omega arith;
+      holds = (given_one given group from).0 (inl h.holds);
+      none_before = λ n low high. absurd (omega arith);
+    }
+
+    pub account_next : (who : Who) (own : Text) (a b : Option ℕ) → ((n : Text) → IsAccountIn who n ↔ (n ≡ own)) → AnswersNext (IsLiveUnder xs live (codes "g:system:serviceaccounts")) from a → AnswersNext (IsLiveUnder xs live (codes "g:system:serviceaccounts:" ++ own)) from b → AnswersNext (IsLiveUnderAny xs live (IsAccountKey who)) from (sooner a b)
+    account_next who own a b is f g =
+        let P : ℕ → Type 0 = IsLiveUnder xs live (codes "g:system:serviceaccounts") in
+        let Q : ℕ → Type 0 = IsLiveUnder xs live (codes "g:system:serviceaccounts:" ++ own) in
+        next_same (λ n. P n ⊎ Q n) (IsLiveUnderAny xs live (IsAccountKey who)) from (sooner a b) (account_two who own is) (sooner_next P Q from a b f g)
+
+    pub signed_in_next : (who : Who) (own : Text) (a : Option ℕ) → ((g : Text) → SignsInAs who g ↔ (g ≡ own)) → AnswersNext (IsLiveUnder xs live (codes "g:" ++ own)) from a → AnswersNext (IsLiveUnderAny xs live (IsSignInKey who)) from a
+    signed_in_next who own a is f = next_same (IsLiveUnder xs live (codes "g:" ++ own)) (IsLiveUnderAny xs live (IsSignInKey who)) from a (signed_in_one who own is) f
+
+    pub all_next : (who : Who) (own : Text) (a b c d : Option ℕ) → own ≡ who_key who → AnswersNext (IsLiveUnder xs live own) from a → AnswersNext (IsLiveUnderAny xs live (IsGivenKey (given_of who))) from b → AnswersNext (IsLiveUnderAny xs live (IsAccountKey who)) from c → AnswersNext (IsLiveUnderAny xs live (IsSignInKey who)) from d → AnswersNext (IsLiveUnderAny xs live (IsKeyFor who)) from (sooner (sooner a b) (sooner c d))
+    all_next who own a b c d is f g h k =
+        let P : ℕ → Type 0 = IsLiveUnder xs live own in
+        let Q : ℕ → Type 0 = IsLiveUnderAny xs live (IsGivenKey (given_of who)) in
+        let R : ℕ → Type 0 = IsLiveUnderAny xs live (IsAccountKey who) in
+        let S : ℕ → Type 0 = IsLiveUnderAny xs live (IsSignInKey who) in
+        next_same (IsUnderSome who own) (IsLiveUnderAny xs live (IsKeyFor who)) from (sooner (sooner a b) (sooner c d)) (all_four who own is)
+        (sooner_next (λ n. P n ⊎ Q n) (λ n. R n ⊎ S n) from (sooner a b) (sooner c d) (sooner_next P Q from a b f g) (sooner_next R S from c d h k))

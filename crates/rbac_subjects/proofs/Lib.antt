@@ -1,0 +1,9 @@
+pub mod FirstRunLemmas
+pub mod KeyedLemmas
+pub mod KeyingLemmas
+pub mod KeysOf
+pub mod LeastLemmas
+pub mod LivingLemmas
+pub mod NamespaceLemmas
+pub mod NextRunLemmas
+pub mod TakingLemmas

@@ -1,0 +1,87 @@
+-- The bindings under the keys of their subjects.
+use Rattle.std.specs.Prelude.{◌≡◌, ℕ, ◌<◌, ◌≤◌, ◌⊎◌, ◌↔◌, List, ◌++◌, codes, Option, Some, None}
+use Rattle.std.specs.Prelude.{Contains, Any, MatchOption, slice_get, min}
+use Rattle.std.specs.Ordering.{nat_cmp, ordering_then}
+use Rattle.std.specs.List.Sorted.{IsSorted}
+use Rattle.std.specs.declared.cmp.Ordering.{Ordering}
+use Rattle.rbac_terms.specs.Text.{Text, text_cmp}
+use Rattle.rbac_terms.specs.Principals.{Who, IsAccountIn, SignsInAs}
+use Rattle.rbac_terms.specs.Granting.{IsSubjectKey}
+use Rattle.rbac_terms.specs.declared.granting.Binding.{Binding}
+use Rattle.rbac_model.specs.Policies.{PolicyView, IsOfBinding}
+use Rattle.rbac_model.specs.Holders.{HasKey}
+use Rattle.rbac_subjects.specs.declared.subject_keys.Keyed.{Keyed}
+use Rattle.rbac_subjects.specs.declared.live_bindings.Live.{Live}
+
+-- some subject of the binding at that place has the key
+abbrev pub IsKeyedAt : List Binding → Text → ℕ → Type 0
+IsKeyedAt bs key place = (b : Binding) × (slice_get bs place ≡ Some b) × HasKey b key
+
+-- some grant belongs to the binding at that place
+abbrev pub HasGrants : PolicyView → ℕ → Type 0
+HasGrants p place = (number : ℕ) × IsOfBinding p number place
+
+-- the order of entries: by key, then by place
+abbrev pub keyed_cmp : Keyed → Keyed → Ordering
+keyed_cmp x y = ordering_then (text_cmp x.key y.key) (nat_cmp x.place y.place)
+
+-- the entry with that key and place
+abbrev pub keyed : Text → ℕ → Keyed
+keyed key place = record { key = key; place = place }
+
+-- new has what old has, and the keys of the binding's subjects, each with the binding's place
+abbrev pub HasKeysOf : List Keyed → List Keyed → Binding → ℕ → Type 0
+HasKeysOf old new b place = (x : Keyed) → Contains new x
+    ↔ (Contains old x ⊎ ((x.place ≡ place) × HasKey b x.key))
+
+-- exactly the keys of the subjects of the bindings that have grants, in order
+pub record AreKeyed (p : PolicyView) (xs : List Keyed) : Type 0 where
+  pub sorted : IsSorted keyed_cmp xs
+  pub exact : (x : Keyed) → Contains xs x
+      ↔ (HasGrants p x.place × IsKeyedAt p.held.bindings x.key x.place)
+
+-- the binding at that place is live: it is one of the ClusterRoleBindings, which come first, or one
+-- of the namespace's RoleBindings
+abbrev pub IsLiveAt : Live → ℕ → Type 0
+IsLiveAt l place = (place < l.cluster_wide) ⊎ ((l.from ≤ place) × (place < l.to))
+
+-- the first number from that one on that has the property
+pub record IsNextOf (P : ℕ → Type 0) (from at : ℕ) : Type 0 where
+  pub after : from ≤ at
+  pub holds : P at
+  pub none_before : (n : ℕ) → from ≤ n → n < at → ¬ P n
+
+-- the first number from that one on that has the property, if there is one
+abbrev pub AnswersNext : (ℕ → Type 0) → ℕ → Option ℕ → Type 0
+AnswersNext P from o = MatchOption o ((n : ℕ) → from ≤ n → ¬ P n) (IsNextOf P from)
+
+-- the key is listed with the place, and the binding there is live
+abbrev pub IsLiveUnder : List Keyed → Live → Text → ℕ → Type 0
+IsLiveUnder xs live key place = Contains xs (keyed key place) × IsLiveAt live place
+
+-- one of these keys is listed with the place, and the binding there is live
+abbrev pub IsLiveUnderAny : List Keyed → Live → (Text → Type 0) → ℕ → Type 0
+IsLiveUnderAny xs live Has place = (key : Text) × Has key × IsLiveUnder xs live key place
+
+-- the lesser of the numbers that are given; none if neither is
+abbrev pub sooner : Option ℕ → Option ℕ → Option ℕ
+sooner None b = b
+sooner (Some a) None = Some a
+sooner (Some a) (Some b) = Some (min a b)
+
+-- the key of one of the given groups
+abbrev pub IsGivenKey : List Text → Text → Type 0
+IsGivenKey given key = (g : Text) × Contains given g × (key ≡ codes "g:" ++ g)
+
+-- the key of a group that service accounts are in: that of all of them, or that of the namespace's
+abbrev pub IsAccountKeyOf : Text → Text → Type 0
+IsAccountKeyOf namespace key = (key ≡ codes "g:system:serviceaccounts")
+    ⊎ (key ≡ codes "g:system:serviceaccounts:" ++ namespace)
+
+-- the key of a group that who asks is in as a service account
+abbrev pub IsAccountKey : Who → Text → Type 0
+IsAccountKey who key = (namespace : Text) × IsAccountIn who namespace × IsAccountKeyOf namespace key
+
+-- the key of the group that says whether who asks has signed in
+abbrev pub IsSignInKey : Who → Text → Type 0
+IsSignInKey who key = (g : Text) × SignsInAs who g × (key ≡ codes "g:" ++ g)

@@ -1,0 +1,4 @@
+pub mod Bound
+pub mod Keyed
+pub mod Least
+pub mod Living

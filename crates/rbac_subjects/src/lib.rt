@@ -1,0 +1,17 @@
+//! The bindings of a policy by whom they name, and where they are live. The contracts here speak
+//! only of the policy.
+#![tactic(auto)]
+
+mod fault;
+mod first_places;
+mod first_runs;
+mod least_places;
+mod live_bindings;
+mod subject_index;
+mod subject_keys;
+
+pub use fault::IndexFault;
+pub use first_runs::{FirstRuns, Run};
+pub use least_places::MOST_KEPT as MOST_RUNS;
+pub use live_bindings::{cluster_wide, live_role_bindings};
+pub use subject_index::SubjectIndex;

@@ -1,0 +1,119 @@
+//! The bindings of a policy by whom they name.
+
+ghost use Rattle.std.specs.Prelude.{◌≡◌, ◌≤◌, ◌↔◌, ℕ, length, IsTrue, IfOk, MatchOption};
+ghost use Rattle.std.specs.Prelude.{option_copied, true, false};
+ghost use Rattle.rbac_model.specs.Policies.{IsPolicy};
+ghost use Rattle.rbac_subjects.specs.Bound.{AreRunsFrom, HasRoleBindings, IsBoundTo, IsNamedBy};
+ghost use Rattle.rbac_subjects.specs.Bound.{AnswersNextNamespace, IsNextRun};
+ghost use Rattle.rbac_subjects.specs.Least.{most_kept};
+
+use crate::fault::IndexFault;
+use crate::first_places::first_places;
+use crate::first_runs::{FirstRuns, runs_at};
+use crate::live_bindings::{everywhere, first_from, live_for_some, of_namespace};
+use crate::subject_keys::{Keyed, keyed_by, next_for};
+use rbac_model::Policy;
+use rbac_terms::{Principal, Word};
+use std::alloc::Global;
+use std::marker::Model;
+
+/// The bindings of a policy that have grants, under the keys of their subjects: so those that name
+/// a principal are found without a look at the others.
+#[derive(Drop)]
+pub struct SubjectIndex<'p> {
+    policy: &'p Policy,
+    named: Vec<Keyed>,
+}
+
+impl<'p> Model for SubjectIndex<'p> {
+    ghost use Rattle.rbac_model.specs.Policies.{PolicyView};
+    ghost use Rattle.rbac_subjects.specs.Keyed.{AreKeyed};
+
+    ghost Value = { PolicyView };
+
+    ghost view = { λ i. i.policy.now };
+
+    ghost invariant = { λ i. AreKeyed i.policy.now i.named.items };
+}
+
+impl<'p> SubjectIndex<'p> {
+    /// The bindings of this policy by their subjects. X1 NoMemory if it runs out of memory.
+    pub fn build(alloc: Global, policy: &'p Policy) -> Result<Self, IndexFault>
+        ensures { IfOk result (λ i. i ≡ policy.now) }
+    {
+        let named = keyed_by(alloc, policy)?;
+        Ok(SubjectIndex { policy, named })
+    }
+
+    /// Whether some grant belongs to a binding that names the principal. Doesn't allocate.
+    pub fn has_grants(&self, principal: &Principal) -> bool
+        ensures { IsTrue result ↔ ((number : ℕ) × IsNamedBy self.now principal.now number) }
+    {
+        let live = everywhere(self.policy.bindings());
+        next_for(self.named.as_slice(), principal, live, 0).is_some()
+    }
+
+    /// The least namespace, from this one on, where a RoleBinding that has grants names the
+    /// principal; `None` if there is none. Doesn't allocate.
+    pub fn next_namespace(&self, principal: &Principal, namespace: &Word) -> Option<&Word>
+        ensures { AnswersNextNamespace self.now principal.now namespace.now (option_copied result) }
+    {
+        let bindings = self.policy.bindings();
+        let from = first_from(bindings, namespace);
+        let live = everywhere(bindings);
+        let Some(place) = next_for(self.named.as_slice(), principal, live, from) else {
+            return None;
+        };
+        let Some(binding) = bindings.get(place) else {
+            return None;
+        };
+        binding.namespace.as_ref()
+    }
+
+    /// Whether a RoleBinding is in this namespace. Doesn't allocate.
+    pub fn has_role_bindings(&self, namespace: &Word) -> bool
+        ensures has { IsTrue result ↔ HasRoleBindings self.now.held namespace.now }
+        ensures policy { IsPolicy self.now }
+    {
+        let (from, to) = of_namespace(self.policy.bindings(), namespace);
+        from < to
+    }
+
+    /// The next grants, from this number on, of bindings that name the principal and are live in
+    /// this namespace for some target: a run of numbers, from the first up to the second. `None` if
+    /// there are no more of them. Doesn't allocate.
+    pub fn next_run(&self, principal: &Principal, namespace: &Word, from: u32) -> Option<(u32, u32)>
+        ensures { MatchOption result
+            ((number : ℕ) → from ≤ number → ¬ IsBoundTo self.now principal.now namespace.now number)
+            (λ run. IsNextRun self.now principal.now namespace.now from run.0 run.1) }
+    {
+        if self.policy.len() <= from {
+            return None;
+        }
+        let live = live_for_some(self.policy.bindings(), namespace);
+        let here = self.policy.place(from).binding;
+        let Some(place) = next_for(self.named.as_slice(), principal, live, here) else {
+            return None;
+        };
+        let (start, end) = self.policy.grants_of(place);
+        Some((start.max(from), end))
+    }
+
+    /// The first runs of the grants of bindings that name the principal and are live in this
+    /// namespace for some target, as many as there is room for, and whether there are no others.
+    /// Doesn't allocate.
+    pub fn first_runs(&self, principal: &Principal, namespace: &Word) -> FirstRuns
+        ensures runs { AreRunsFrom self.now principal.now namespace.now
+            result.are_all 0 result.runs.items }
+        ensures others { result.are_all ≡ false
+            → ¬ AreRunsFrom self.now principal.now namespace.now true 0 result.runs.items }
+        ensures most { result.are_all ≡ false → length result.runs.items ≡ most_kept }
+    {
+        let live = live_for_some(self.policy.bindings(), namespace);
+        let places = first_places(self.named.as_slice(), principal, live);
+        FirstRuns {
+            runs: runs_at(self.policy, places.kept()),
+            are_all: places.are_all(),
+        }
+    }
+}
