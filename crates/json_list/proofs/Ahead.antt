@@ -3,10 +3,10 @@ use Rattle.std.proofs.Common.{◌≡◌, ℕ, zero, suc, ◌-◌, ◌<◌, ◌�
 use Rattle.json.specs.Token.{Token}
 use Rattle.json.specs.Json as json
 use Rattle.json.specs.Json.{Parse, parse_map, after_end_array, items_step}
-use Rattle.json.proofs.Grammar.{left, Takes, skip_value-shorter, value_is, items_end, items_fail, items_more}
+use Rattle.json.proofs.Grammar.{left, Takes, skip_value-shorter, items_end, items_fail, items_more}
 use Rattle.serde_json.specs.Data.{Data, no_items, item}
-use Rattle.serde_json.specs.Read.{converted, of_json, of_items}
-use Rattle.json_list.specs.List.{items_ahead, IsRead, IsUnread}
+use Rattle.serde_json.specs.Read.{converted, of_items}
+use Rattle.json_list.specs.List.{IsRead, IsUnread}
 use Rattle.json_list.specs.OnePass.{items_and_rest}
 use Rattle.json_list.proofs.Values.{item_first, no_first}
 
@@ -43,42 +43,6 @@ module _ (p : Parse json.Json) (takes : Takes p) where
   any_bound (suc n) (suc m) ts le also = one_turn n m ts (after_end_array ts) (λ r less. any_bound n m r (omega arith) (omega arith))
 
 -- ---- the next item, or none
-
-pub over : (ts r : List Token) → after_end_array ts ≡ Some r → items_ahead ts ≡ Some no_items
-over ts r e = ap (option_and_then (λ p. of_items p.0)) (items_end (json.value 125) (length ts) ts r (omega arith) e)
-
-pub still_over : items_ahead (Token.end_array ∷ []) ≡ Some no_items
-still_over = over (Token.end_array ∷ []) [] refl
-
-pub nothing_ahead : items_ahead [] ≡ None
-nothing_ahead = ap (option_and_then (λ p. of_items p.0)) (items_fail (json.value 125) 0 [] refl (value_is 125 []))
-
-with_first : (j : json.Json) (d : Data) (o : Option (json.Items × List Token)) → of_json j ≡ Some d
-    → option_and_then (λ p. of_items p.0) (parse_map (json.item j) o) ≡ option_map (item d) (option_and_then (λ p. of_items p.0) o)
-with_first j d None is = refl
-with_first j d (Some p) is = ap (option_and_then (λ e. option_map (item e) (of_items p.0))) is
-
-without_first : (j : json.Json) (o : Option (json.Items × List Token)) → of_json j ≡ None → option_and_then (λ p. of_items p.0) (parse_map (json.item j) o) ≡ None
-without_first j None is = refl
-without_first j (Some p) is = ap (option_and_then (λ e. option_map (item e) (of_items p.0))) is
-
-module _ (ts : List Token) (going : after_end_array ts ≡ None) where
-  pub next : (r : List Token) (d : Data) → IsRead 125 ts d r → length r < length ts → items_ahead ts ≡ option_map (item d) (items_ahead r)
-  next r d is less =
-      let turn = items_more (json.value 125) (length ts) ts r is.0 (omega arith) going is.1 in
-      let same = any_bound (json.value 125) (skip_value-shorter 125) (length ts - 1) (length r) r (omega arith) (omega arith) in
-      ap (option_and_then (λ p. of_items p.0)) (turn ∙ ap (parse_map (json.item is.0)) same) ∙ with_first is.0 d _ is.2
-
-  refused_at : (o : Option (json.Json × List Token)) → json.value 125 ts ≡ o → IsUnread 125 ts → items_ahead ts ≡ None
-  refused_at None is unread = ap (option_and_then (λ p. of_items p.0)) (items_fail (json.value 125) (length ts) ts going is)
-  refused_at (Some (j, r)) is unread =
-      let less = skip_value-shorter 125 ts r (ap left is) in
-      ap (option_and_then (λ p. of_items p.0)) (items_more (json.value 125) (length ts) ts r j (omega arith) going is) ∙ without_first j _ (unread j r is)
-
-  pub refused : IsUnread 125 ts → items_ahead ts ≡ None
-  refused unread = refused_at (json.value 125 ts) refl unread
-
--- ---- with the tokens after the list
 
 pub over_before : (ts r : List Token) → after_end_array ts ≡ Some r → items_and_rest ts ≡ Some (no_items, r)
 over_before ts r e = ap (converted of_items) (items_end (json.value 125) (length ts) ts r (omega arith) e)

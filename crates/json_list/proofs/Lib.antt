@@ -4,6 +4,5 @@ pub mod Lean
 pub mod Puts
 pub mod Ahead
 pub mod Walks
-pub mod Others
 pub mod Whole
 pub mod OnePass

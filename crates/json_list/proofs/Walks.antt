@@ -1,19 +1,10 @@
 -- A walk over the members of an object: those that were passed, and those still to come.
-use Rattle.std.proofs.Common.{◌≡◌, ℕ, ◌-◌, ◌<◌, ◌≤◌, List, [], ◌∷◌, length, Bool, true, false, bytes_eq, cond, Option, Some, None, option_map, option_and_then, refl, sym, ap, ◌∙◌, arith}
-use Rattle.std.specs.Prelude.{Result, Ok, Err, OnErr, MatchBool}
+use Rattle.std.proofs.Common.{◌≡◌, ℕ, ◌-◌, ◌<◌, ◌≤◌, List, [], ◌∷◌, length, Option, Some, None, refl, sym, ap, ◌∙◌, arith}
 use Rattle.json.specs.Token.{Token}
 use Rattle.json.specs.Json as json
 use Rattle.json.specs.Json.{parse_map, read_key}
-use Rattle.json.proofs.Grammar.{left_some, value_is, value-begin_array, read_key-shorter, members_end, members_no_key, members_fail, members_more}
-use Rattle.serde_json.specs.Data.{array}
-use Rattle.serde_json.specs.Read.{of_json, of_items}
-use Rattle.json_list.specs.List.{items_name, values_of}
-use Rattle.json_list.specs.Places.{members_in, HasOneList, IsAtItems}
-
--- what holds anyway holds where a call failed
-pub on_error : {T E P : Type 0} (r : Result T E) → P → OnErr r P
-on_error (Ok t) p = tt
-on_error (Err e) p = p
+use Rattle.json.proofs.Grammar.{value_is, read_key-shorter, members_end, members_no_key, members_fail, members_more}
+use Rattle.json_list.specs.OnePass.{members_in}
 
 -- ---- what was read, under a function
 
@@ -60,7 +51,7 @@ module _ (old ts : List Token) (before : json.Members → json.Members) (so_far 
     pub no_value : json.value 126 s ≡ None → members_in old ≡ None
     no_value e = so_far.2 ∙ ap (parse_map before) (members_fail (json.value 126) so_far.0 k ts s key e)
 
-    with_value : (j : json.Json) (r : List Token) → json.value 126 s ≡ Some (j, r) → members_in old ≡ parse_map (λ ms. before (json.member k j ms)) (json.members (json.value 126) (so_far.0 - 1) r)
+    pub with_value : (j : json.Json) (r : List Token) → json.value 126 s ≡ Some (j, r) → members_in old ≡ parse_map (λ ms. before (json.member k j ms)) (json.members (json.value 126) (so_far.0 - 1) r)
     with_value j r e =
         let less = read_key-shorter ts (Some k) s key in
         so_far.2 ∙ ap (parse_map before) (members_more (json.value 126) so_far.0 k ts s r j (omega (arith, so_far.1)) key e) ∙ twice before (json.member k j) _
@@ -113,54 +104,3 @@ list_begins depth ts r js e = begins_list _ _ ts r js (sym (value_is depth ts) �
 
 pub object_begins : (depth : ℕ) (ts r : List Token) (ms : json.Members) → json.value depth ts ≡ Some (json.object ms, r) → (inside : List Token) × (ts ≡ Token.begin_object ∷ inside)
 object_begins depth ts r ms e = begins_object _ _ ts r ms (sym (value_is depth ts) ∙ e)
-
--- ---- to the first member `items`
-
--- no member that was passed is `items`
-abbrev pub Seeks : List Token → List Token → Type 0
-Seeks old ts = (before : json.Members → json.Members) × Passed old ts before × ((ms : json.Members) → values_of items_name (before ms) ≡ values_of items_name ms)
-
-pub begun : (old : List Token) → Seeks old old
-begun old = ((λ ms. ms), none_passed old, λ ms. refl)
-
-module _ (old ts : List Token) (so_far : Seeks old ts) where
-  pub none_left : (r : List Token) → read_key ts ≡ Some (None, r) → ¬ HasOneList old
-  none_left r e has =
-      let all = all_passed old ts so_far.0 so_far.1 r e has.0 has.1 has.2 in
-      let never : [] ≡ json.array has.3.0 ∷ [] = sym (so_far.2 json.no_members) ∙ ap (values_of items_name) (sym all) ∙ has.3.1 in
-      absurd (cc)
-
-  module _ (k : List ℕ) (s : List Token) (key : read_key ts ≡ Some (Some k, s)) where
-    pub other_passed : (r : List Token) → bytes_eq k items_name ≡ false → json.skip_value 126 s ≡ Some r → length r < length s → Seeks old r
-    other_passed r other skipped shorter =
-        let j = left_some (json.value 126 s) r skipped in (
-          (λ ms. so_far.0 (json.member k j.0 ms)),
-          one_more old ts so_far.0 so_far.1 k s key j.0 r j.1 shorter,
-          λ ms. so_far.2 (json.member k j.0 ms) ∙ ap (λ b. cond b (j.0 ∷ values_of items_name ms) (values_of items_name ms)) other,
-        )
-
-    module _ (is_items : bytes_eq k items_name ≡ true) where
-      -- the value that comes next is the first of `items`
-      first_value : (ms : json.Members) (new : List Token) (j : json.Json) → members_in old ≡ Some (ms, new) → values_of items_name ms ≡ j ∷ [] → (r : List Token) × (json.value 126 s ≡ Some (j, r))
-      first_value ms new j e values =
-          let it = next old ts so_far.0 so_far.1 k s key ms new e in
-          let first : it.0 ∷ values_of items_name it.2 ≡ j ∷ [] =
-          sym (ap (λ b. cond b (it.0 ∷ values_of items_name it.2) (values_of items_name it.2)) is_items) ∙ sym (so_far.2 (json.member k it.0 it.2)) ∙ ap (values_of items_name) (sym it.4) ∙ values in
-          let is : it.0 ≡ j = cc in
-          (it.1, it.3 ∙ ap (λ i. Some (i, it.1)) is)
-
-      not_a_list : ((at : List Token) → s ≡ Token.begin_array ∷ at → ⊥) → ¬ HasOneList old
-      not_a_list other has =
-          let it = first_value has.0 has.1 (json.array has.3.0) has.2 has.3.1 in
-          let begin = list_begins 126 s it.0 has.3.0 it.1 in
-          other begin.0 begin.1
-
-      reached : (at : List Token) → s ≡ Token.begin_array ∷ at → IsAtItems old at
-      reached at begin = λ ms new j e values.
-          let it = first_value ms new j e values in
-          let inside = mapped json.array _ j it.0 (sym (ap (json.value 126) begin ∙ value-begin_array 126 at (omega arith)) ∙ it.1) in
-          ap of_json inside.2 ∙ ap (λ o. option_map array (option_and_then (λ p. of_items p.0) o)) (sym inside.1)
-
-      pub found : (is_list : Bool) (at : List Token) → MatchBool is_list (s ≡ Token.begin_array ∷ at) ((ts : List Token) → s ≡ Token.begin_array ∷ ts → ⊥) → MatchBool is_list (IsAtItems old at) (¬ HasOneList old)
-      found true at begin = reached at begin
-      found false at other = not_a_list other

@@ -5,12 +5,12 @@ use Rattle.json.specs.Lex.{tokens}
 use Rattle.json.specs.Json as json
 use Rattle.json.specs.Json.{parse_map}
 use Rattle.json.proofs.Grammar.{value-begin_object}
-use Rattle.serde_json.specs.Data.{array, object, Items, Members, no_members, put}
-use Rattle.serde_json.specs.Read.{of_json, of_members, read}
-use Rattle.json_list.specs.List.{IsList, items_name, with_items, items_ahead}
-use Rattle.json_list.specs.Places.{members_in, AreRefused, HasOneList, AreOthers, AreOthersOf, AreBefore}
-use Rattle.json_list.specs.OnePass.{IsReadUpTo}
-use Rattle.json_list.proofs.OnePass.{came_from}
+use Rattle.serde_json.specs.Data.{Members, no_members}
+use Rattle.serde_json.specs.Read.{of_json, read}
+use Rattle.json_list.specs.List.{IsList}
+use Rattle.json_list.specs.OnePass.{members_in, object_from, IsReadUpTo, IsListUpTo}
+use Rattle.json_list.specs.Places.{AreRefused, HasOneList, IsBefore}
+use Rattle.json_list.proofs.OnePass.{object_by}
 use Rattle.json_list.proofs.Walks.{mapped, object_begins}
 
 abbrev whole : Option (json.Json × List Token) → Option json.Json
@@ -28,45 +28,36 @@ inside_list text is =
     let begin = object_begins 127 (tokens text) [] is.0 all in
     let inside = mapped json.object (members_in begin.0) (json.object is.0) [] (sym (ap (json.value 127) begin.1 ∙ value-begin_object 127 begin.0 (omega arith)) ∙ all) in
     let same : is.0 ≡ inside.0 = let e = inside.2 in cc in
-    (begin.0, begin.1, (is.0, [], inside.1 ∙ ap (λ ms. Some (ms, [])) (sym same), is.2))
+    (begin.0, begin.1, (is.0, inside.1 ∙ ap (λ ms. Some (ms, [])) (sym same), is.2))
 
 pub no_object : (text : List ℕ) → ((ts : List Token) → tokens text ≡ Token.begin_object ∷ ts → ⊥) → ¬ IsList text
 no_object text other is = let inside = inside_list text is in other inside.0 inside.1
 
+as_object : (o : Option (json.Members × List Token)) → option_and_then of_json (whole (parse_map json.object o)) ≡ object_by no_members o
+as_object None = refl
+as_object (Some (ms, [])) = refl
+as_object (Some (ms, t ∷ r)) = refl
+
 module _ (text : List ℕ) (ts : List Token) (begin : tokens text ≡ Token.begin_object ∷ ts) where
+  inside : IsList text → HasOneList ts
+  inside is =
+      let found = inside_list text is in
+      let same : found.0 ≡ ts = let e = sym found.1 ∙ begin in cc in
+      subst HasOneList same found.2
+
   pub no_list : ¬ HasOneList ts → ¬ IsList text
-  no_list other is =
-      let inside = inside_list text is in
-      let same : inside.0 ≡ ts = let e = sym inside.1 ∙ begin in cc in
-      other (subst HasOneList same inside.2)
+  no_list other is = other (inside is)
 
-  read_is : read text ≡ option_and_then of_json (whole (parse_map json.object (members_in ts)))
-  read_is = ap (λ o. option_and_then of_json (whole o)) (ap (json.value 127) begin ∙ value-begin_object 127 ts (omega arith))
-
-  refused_at : (o : Option (json.Members × List Token)) → members_in ts ≡ o → AreRefused ts → option_and_then of_json (whole (parse_map json.object o)) ≡ None
-  refused_at None is unread = refl
-  refused_at (Some (ms, [])) is unread = ap (option_map object) (unread ms [] is)
-  refused_at (Some (ms, t ∷ r)) is unread = refl
+  read_is : read text ≡ object_from no_members ts
+  read_is = ap (λ o. option_and_then of_json (whole o)) (ap (json.value 127) begin ∙ value-begin_object 127 ts (omega arith)) ∙ as_object (members_in ts)
 
   pub refused : AreRefused ts → read text ≡ None
-  refused unread = read_is ∙ refused_at (members_in ts) refl unread
-
-  pub text_after : (others : Members) (left : List Token) → AreOthers ts others left → (left ≡ [] → ⊥) → read text ≡ None
-  text_after others [] are more = absurd (more refl)
-  text_after others (t ∷ left) are more = read_is ∙ ap (λ o. option_and_then of_json (whole (parse_map json.object o))) are.2
-
-  with_list : (others : Members) (o : Option Items) → option_map object (option_map (λ d. put items_name d others) (option_map array o)) ≡ option_map (with_items others) o
-  with_list others None = refl
-  with_list others (Some ds) = refl
-
-  pub others_of : (others : Members) → AreOthers ts others [] → AreOthersOf text others
-  others_of others are = λ at there.
-      let same : ts ≡ there.0 = let e = sym begin ∙ there.1 in cc in
-      let value = there.2 are.0 [] are.1 (ap members_in (sym same) ∙ are.2) are.3 in
-      read_is ∙ ap (λ o. option_and_then of_json (whole (parse_map json.object o))) are.2 ∙ ap (option_map object) (are.4 ∙ ap (option_map (λ d. put items_name d others)) value) ∙ with_list others (items_ahead at)
+  refused unread = read_is ∙ unread
 
   -- what is read up to a list
-  pub read_up_to : (before : Members) (at : List Token) → AreBefore ts before at → IsReadUpTo text before at
-  read_up_to before at are = λ ds rest others e r.
-      let it = came_from (λ ms. of_members ms no_members) (members_in ts) (put items_name (array ds) others) [] (are ds rest others e r) in
-      read_is ∙ ap (λ o. option_and_then of_json (whole (parse_map json.object o))) it.1 ∙ ap (option_map object) it.2
+  module _ (before : Members) (at : List Token) (are : IsBefore ts before at) where
+    pub read_up_to : IsReadUpTo text before at
+    read_up_to = read_is ∙ are.0
+
+    pub list_up_to : IsListUpTo text at
+    list_up_to is = are.1 (inside is)

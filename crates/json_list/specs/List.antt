@@ -1,11 +1,11 @@
 -- Which texts are lists, what the items of a list are, and what its other members are.
-use Rattle.std.specs.Prelude.{◌≡◌, ℕ, List, [], ◌∷◌, length, bytes_eq, cond, codes, Option, Some}
-use Rattle.std.specs.Prelude.{None, option_and_then}
+use Rattle.std.specs.Prelude.{◌≡◌, ℕ, List, [], ◌∷◌, bytes_eq, cond, codes, Option, Some, None}
+use Rattle.std.specs.Prelude.{option_and_then}
 use Rattle.json.specs.Token.{Token}
 use Rattle.json.specs.Lex.{tokens}
 use Rattle.json.specs.Json as json
 use Rattle.serde_json.specs.Data.{Data, array, object, Items, Members, put}
-use Rattle.serde_json.specs.Read.{max_depth, of_json, of_items}
+use Rattle.serde_json.specs.Read.{max_depth, of_json}
 
 -- the name of the member that holds the items
 abbrev pub items_name : List ℕ
@@ -32,10 +32,6 @@ IsList text = (ms : json.Members) × (json_of text ≡ Some (json.object ms)) ×
 -- the object with these members, and these items under `items`
 abbrev pub with_items : Members → Items → Data
 with_items ms ds = object (put items_name (array ds) ms)
-
--- the items up to the bracket that closes their list; None if one of them can't be read
-abbrev pub items_ahead : List Token → Option Items
-items_ahead ts = option_and_then (λ p. of_items p.0) (json.items (json.value 125) (length ts) ts)
 
 -- ---- one value; for private clauses
 

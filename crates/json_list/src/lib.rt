@@ -3,15 +3,11 @@
 #![tactic(auto)]
 
 mod fault;
-mod items;
 mod kept;
-mod list;
 mod one_pass;
 mod pass;
 mod value;
 
 pub use fault::ReadFault;
-pub use items::Items;
 pub use kept::Kept;
-pub use list::{OpenList, open_list};
 pub use one_pass::{ListFront, Unread, open_front};

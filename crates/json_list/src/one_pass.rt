@@ -1,26 +1,36 @@
 //! A list read in one pass: the members before its items, the items, the members after them.
 
-ghost use Rattle.std.specs.Prelude.{◌≡◌, ◌<◌, length, option_map, Some, None, Err, IfOk};
-ghost use Rattle.std.specs.Prelude.{IfSome, MatchOption};
+ghost use Rattle.std.specs.Prelude.{◌≡◌, ◌<◌, List, ◌∷◌, length, option_map, option_and_then, Some};
+ghost use Rattle.std.specs.Prelude.{None, Err, IfOk, IfSome, MatchOption};
 ghost use Rattle.std.specs.Bool.{MatchBool};
-ghost use Rattle.serde_json.specs.Data.{Data, Members, no_members, no_items, item};
+ghost use Rattle.json.specs.Lex.{tokens};
+ghost use Rattle.json.specs.Token.{Token as SpecToken, begin_array, begin_object};
+ghost use Rattle.serde_json.specs.Data.{Data, array, Items, Members, no_members, put, no_items};
+ghost use Rattle.serde_json.specs.Data.{item};
+ghost use Rattle.serde_json.specs.Read.{read};
 ghost use Rattle.serde_json.specs.View.{view, members_view};
 ghost use Rattle.json_list.specs.Lean.{lean};
-ghost use Rattle.json_list.specs.OnePass.{items_and_rest, AreTheRest, IsReadUpTo};
-ghost use Rattle.serde_json.specs.Read.{read};
-ghost use Rattle.json_list.specs.List.{IsList};
-ghost use Rattle.json_list.specs.Places.{AreBefore, AreRefused, HasOneList};
+ghost use Rattle.json_list.specs.List.{IsList, items_name, with_items};
+ghost use Rattle.json_list.specs.OnePass.{items_and_rest, object_from, OthersFollow, IsReadUpTo};
+ghost use Rattle.json_list.specs.OnePass.{AreTheOthers, IsListUpTo};
+ghost use Rattle.json_list.specs.Places.{IsBefore, AreRefused, HasOneList};
 ghost use Rattle.json_list.specs.declared.fault.ReadFault.TheVariants.{Refused};
 
 use crate::fault::ReadFault;
-use crate::items::ITEM_DEPTH;
 use crate::kept::Kept;
-use crate::list::{ITEMS, object_in, take_begin_array};
 use crate::value::{read_kept, read_member};
-use json::{Reader, Scratch};
+use json::{Reader, Scratch, Token};
 use serde_json::{Map, Value};
-use std::alloc::Global;
+use std::alloc::{AllocError, Global};
 use std::marker::Model;
+
+pub(crate) const ITEMS: &str = "items";
+
+// `serde_json` reads 127 levels, of which the object is one.
+pub(crate) const MEMBER_DEPTH: usize = 126;
+
+// Of those levels, the object and its list are two.
+const ITEM_DEPTH: usize = 125;
 
 /// An object with a list under `items`, read up to that list.
 #[derive(Drop)]
@@ -71,22 +81,21 @@ impl<'a> Unread<'a> {
     }
 
     /// The members beside the list: those before it, and those after it (own). None only if another
-    /// of them is `items`, or if the text goes on after the object.
+    /// of them is `items`.
     ///
     /// # Errors
     ///
-    /// Refused only if a member can't be read.
+    /// Refused only if `serde_json` doesn't read the rest of the text either.
     pub fn rest(
         &mut self,
         alloc: Global,
         before: Map<String, Value>,
     ) -> Result<Option<Map<String, Value>>, ReadFault>
-        ensures rest { IfOk result (λ o. MatchOption o
-            ((others : Members) → AreTheRest (members_view before.entries) self.old others → ⊥)
-            (λ others.
-            AreTheRest (members_view before.entries) self.old (members_view others.entries))) }
-        ensures refused { result ≡ Err Refused → (others : Members)
-            → AreTheRest (members_view before.entries) self.old others → ⊥ }
+        ensures rest { IfOk result (λ o. MatchOption o (¬ OthersFollow self.old)
+            (λ others. AreTheOthers (members_view before.entries) self.old
+            (members_view others.entries))) }
+        ensures refused { result ≡ Err Refused
+            → (found : Members) → object_from found self.old ≡ None }
     {
         let mut others = before;
         if !read_rest(alloc, &mut self.reader, &mut others)? {
@@ -96,19 +105,41 @@ impl<'a> Unread<'a> {
     }
 }
 
-// Adds the members after a list to those before it; false if they aren't the rest of a text.
+// A reader just after the brace that opens an object, if a text begins with one.
+pub(crate) fn object_in<'a>(
+    text: &'a str,
+    scratch: &'a mut Scratch,
+) -> Result<Option<Reader<'a>>, AllocError>
+    ensures { IfOk result (λ o. MatchOption o
+        ((ts : List SpecToken) → tokens text.now ≡ begin_object ∷ ts → ⊥)
+        (λ reader. tokens text.now ≡ begin_object ∷ reader)) }
+{
+    let mut reader = Reader::new(text, scratch)?;
+    let Some(Token::BeginObject) = reader.next() else {
+        return Ok(None);
+    };
+    Ok(Some(reader))
+}
+
+// Takes the bracket that opens an array, if it is next.
+pub(crate) fn take_begin_array(reader: &mut Reader<'_>) -> bool
+    ensures { MatchBool result (reader.old ≡ begin_array ∷ reader.new)
+        ((ts : List SpecToken) → reader.old ≡ begin_array ∷ ts → ⊥) }
+{
+    matches!(reader.next(), Some(Token::BeginArray))
+}
+
+// Adds the members after a list to those before it; false if one of them is another `items`.
 fn read_rest(
     alloc: Global,
     reader: &mut Reader<'_>,
     members: &mut Map<String, Value>,
 ) -> Result<bool, ReadFault>
     ensures rest { IfOk result (λ is_rest. MatchBool is_rest
-        (AreTheRest (members_view members.old.entries) reader.old
-        (members_view members.new.entries))
-        ((others : Members) → AreTheRest (members_view members.old.entries) reader.old others
-        → ⊥)) }
-    ensures refused { result ≡ Err Refused → (others : Members)
-        → AreTheRest (members_view members.old.entries) reader.old others → ⊥ }
+        (AreTheOthers (members_view members.old.entries) reader.old
+        (members_view members.new.entries)) (¬ OthersFollow reader.old)) }
+    ensures refused { result ≡ Err Refused
+        → (found : Members) → object_from found reader.old ≡ None }
 {
     'members: while let Some(name) = reader.next_key()? {
         if name == ITEMS {
@@ -116,7 +147,10 @@ fn read_rest(
         }
         read_member(alloc, reader, name, members)?;
     }
-    Ok(reader.next().is_none())
+    if reader.next().is_some() {
+        return Err(ReadFault::Refused);
+    }
+    Ok(true)
 }
 
 // Puts the members of an object before a list under `items` into an empty map; false if the first
@@ -128,7 +162,7 @@ fn read_before(
 ) -> Result<bool, ReadFault>
     requires { members_view members.old.entries ≡ no_members }
     ensures before { IfOk result (λ found. MatchBool found
-        (AreBefore reader.old (members_view members.new.entries) reader.new)
+        (IsBefore reader.old (members_view members.new.entries) reader.new)
         (¬ HasOneList reader.old)) }
     ensures refused { result ≡ Err Refused → AreRefused reader.old }
 {
@@ -155,6 +189,7 @@ pub fn open_front<'a>(
 ) -> Result<Option<ListFront<'a>>, ReadFault>
     ensures front { IfOk result (λ o. MatchOption o (¬ IsList text.now) (λ front.
         IsReadUpTo text.now (members_view front.before.entries) front.unread)) }
+    ensures list { IfOk result (λ o. IfSome o (λ front. IsListUpTo text.now front.unread)) }
     ensures refused { result ≡ Err Refused → read text.now ≡ None }
 {
     let Some(mut reader) = object_in(text, scratch)? else {

@@ -15,7 +15,7 @@ ghost use Rattle.json_list.specs.declared.fault.ReadFault.TheVariants.{Refused};
 
 use crate::fault::ReadFault;
 use crate::kept::{Kept, Whole};
-use crate::list::MEMBER_DEPTH;
+use crate::one_pass::MEMBER_DEPTH;
 use crate::pass::pass_value;
 use json::{Reader, Token};
 use serde_json::{Map, Value};

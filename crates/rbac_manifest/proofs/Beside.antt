@@ -58,7 +58,7 @@ pub same_kind : (ms : Members) (ds : Items) → kind_of lists.Nothing (with_item
 unfolding kind_of
 same_kind ms ds = rw (same_kind_text ms ds, same_version _ ms ds) refl
 
-same_header : (ms : Members) (ds : Items) → bad_header lists.Nothing (with_items ms ds) ≡ bad_header lists.Nothing (object ms)
+pub same_header : (ms : Members) (ds : Items) → bad_header lists.Nothing (with_items ms ds) ≡ bad_header lists.Nothing (object ms)
 unfolding bad_header not_an_object bad_version
 same_header ms ds = rw (same_kind_text ms ds, same_version _ ms ds) refl
 

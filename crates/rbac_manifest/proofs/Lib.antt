@@ -5,7 +5,7 @@ pub mod Conditions
 pub mod ContentsLemmas
 pub mod GroupVersions
 pub mod Halved
-pub mod ItemsAhead
+pub mod DocumentList
 pub mod Json
 pub mod Members
 pub mod OneLoad
@@ -14,4 +14,3 @@ pub mod Texts
 pub mod Replacing
 pub mod Unnamed
 pub mod Unread
-pub mod AtOnce

@@ -14,7 +14,6 @@ use Rattle.rbac_manifest.specs.Binding.{role_ref_at, subjects_in}
 use Rattle.rbac_manifest.specs.ApiList.{is_bad_api_list, entries_at}
 use Rattle.rbac_manifest.specs.UniverseDocument.{is_bad_universe, given_lists_at}
 use Rattle.rbac_manifest.specs.Document.{fault, stands, first_of, when, not_an_object, bad_version, bad_metadata, bad_rules, bad_role_ref, bad_subjects, bad_selector, bad_catalogue, bad_universe, bad_header, refusals, bad_body, role_in, cluster_role_in, binding_in, content_in}
-use Rattle.rbac_manifest.specs.ItemsAhead.{ahead_refusal}
 use Rattle.rbac_manifest.specs.Load.{item_or, first_refusal}
 use Rattle.rbac_manifest.specs.declared.part.Part.{Part}
 use Rattle.rbac_manifest.specs.declared.part.Part.TheVariants.{Document, Metadata, Whole}
@@ -307,9 +306,3 @@ same_fault implied d =
 pub same_stands : (implied : Implied) (d : Data) → stands implied (read_of d) ≡ stands implied d
 unfolding stands
 same_stands implied d = ap (λ k. content_in k (read_of d)) (same_kind d implied) ∙ same_content d (kind_of implied d)
-
--- ---- an item and those that are still to come
-
-pub same_ahead : (implied : Implied) (place : ℕ) (d : Data) (rest : Option Items) → ahead_refusal implied place (option_map (λ ds. item (read_of d) ds) rest) ≡ ahead_refusal implied place (option_map (λ ds. item d ds) rest)
-same_ahead implied place d None = refl
-same_ahead implied place d (Some ds) = ap (λ f. item_or place f (first_refusal implied (place + 1) (elements ds))) (same_fault implied d)

@@ -5,7 +5,7 @@ pub mod Document
 pub mod FaultTexts
 pub mod Fields
 pub mod Contents
-pub mod ItemsAhead
+pub mod DocumentList
 pub mod Kinds
 pub mod Label
 pub mod Lists

@@ -1,7 +1,6 @@
 //! What documents gave so far, grouped by its use.
 
 ghost use Rattle.std.specs.Prelude.{◌≡◌, ◌++◌, ◌∷◌, OnOk, []};
-ghost use Rattle.std.specs.Option.{option_to_list};
 ghost use Rattle.rbac_manifest.specs.Contents.{sorted_contents, with_contents};
 
 use crate::content::Content;
@@ -59,18 +58,27 @@ impl Contents {
         }
     }
 
-    // Adds what a document gave, if it gave anything.
+    // Adds what a document gave.
     #[tactic(auto, unfolding(crate::specs::Contents::with_contents))]
-    pub(crate) fn take(&mut self, content: Option<Content>) -> Result<(), AllocError>
-        ensures { OnOk result (self.new ≡ with_contents self.old (option_to_list content)) }
+    fn take(&mut self, content: Content) -> Result<(), AllocError>
+        ensures { OnOk result (self.new ≡ with_contents self.old (content ∷ [])) }
     {
         match content {
-            Some(Content::Object(object)) => put(&mut self.objects, object),
-            Some(Content::Namespace(name)) => put(&mut self.namespaces, name),
-            Some(Content::Account(account)) => put(&mut self.accounts, account),
-            Some(Content::ApiList(entries)) => self.catalogue.give(entries),
-            Some(Content::Lists(lists)) => put(&mut self.documents, lists),
-            None => Ok(()),
+            Content::Object(object) => put(&mut self.objects, object),
+            Content::Namespace(name) => put(&mut self.namespaces, name),
+            Content::Account(account) => put(&mut self.accounts, account),
+            Content::ApiList(entries) => self.catalogue.give(entries),
+            Content::Lists(lists) => put(&mut self.documents, lists),
         }
+    }
+
+    // Adds what documents gave, in order.
+    pub(crate) fn take_all(&mut self, given: Vec<Content>) -> Result<(), AllocError>
+        ensures { OnOk result (self.new ≡ with_contents self.old given.items) }
+    {
+        for content in given {
+            self.take(content)?;
+        }
+        Ok(())
     }
 }

@@ -1,6 +1,7 @@
 //! What one document gives, or why the document is refused.
 
-ghost use Rattle.std.specs.Prelude.{◌≡◌, Some, IfOk, option_map};
+ghost use Rattle.std.specs.Prelude.{◌≡◌, ◌≢◌, ◌++◌, Some, None, IfOk, IfErr, OnOk, option_map};
+ghost use Rattle.std.specs.Option.{option_to_list};
 ghost use Rattle.serde_json.specs.View.{view};
 ghost use Rattle.rbac_manifest.specs.Document.{namespace_or_default, role_in, cluster_role_in};
 ghost use Rattle.rbac_manifest.specs.Document.{binding_in, account_from, content_in, fault, stands};
@@ -8,6 +9,7 @@ ghost use Rattle.rbac_manifest.specs.Document.{first_of, binding_refusals, bad_h
 ghost use Rattle.rbac_manifest.specs.Metadata.{metadata_at};
 ghost use Rattle.rbac_manifest.specs.Reads.{Loads, Gives};
 ghost use Rattle.rbac_manifest.specs.declared.fault.Cause.{Cause};
+ghost use Rattle.rbac_manifest.specs.declared.fault.Cause.TheVariants.{NoMemory};
 ghost use Rattle.rbac_manifest.specs.declared.kind.Kind.TheVariants as kinds;
 
 use crate::api_list::entries_of;
@@ -155,7 +157,7 @@ fn content_of(alloc: Global, kind: Kind, document: &Value) -> Result<Option<Cont
 
 // What a document gives. A bad kind or version is refused before anything is allocated.
 #[tactic(auto, unfolding(crate::specs::Document::fault, crate::specs::Document::stands))]
-pub(crate) fn document_of(
+fn document_of(
     alloc: Global,
     document: &Value,
     implied: Implied,
@@ -167,4 +169,23 @@ pub(crate) fn document_of(
 {
     let kind = kind_of(document, implied)?;
     content_of(alloc, kind, document)
+}
+
+// Adds what a document gives to `contents`, if it gives anything.
+pub(crate) fn take_document(
+    alloc: Global,
+    document: &Value,
+    implied: Implied,
+    contents: &mut Vec<Content>,
+) -> Result<(), Cause>
+    ensures sound { OnOk result (fault implied (view document.now) ≡ None) }
+    ensures contents { OnOk result (contents.new.items
+        ≡ contents.old.items ++ option_to_list (stands implied (view document.now))) }
+    ensures refused { IfErr result
+        (λ cause. cause ≢ NoMemory → fault implied (view document.now) ≡ Some cause) }
+{
+    if let Some(content) = document_of(alloc, document, implied)? {
+        contents.push(content)?;
+    }
+    Ok(())
 }

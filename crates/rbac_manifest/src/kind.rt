@@ -1,6 +1,6 @@
 //! Kinds and versions of documents.
 
-ghost use Rattle.std.specs.Prelude.{◌≡◌, ◌≢◌, IfErr, map, option_map};
+ghost use Rattle.std.specs.Prelude.{◌≡◌, ◌≢◌, IfErr, MatchOption, map, option_map};
 ghost use Rattle.std.specs.List.{list_any};
 ghost use Rattle.serde_json.specs.View.{view};
 ghost use Rattle.rbac_manifest.specs.Kinds.{as_reading, kinds_read, is_row, meaning_in};
@@ -8,8 +8,10 @@ ghost use Rattle.rbac_manifest.specs.Kinds.{implied_kind, implied_version, kind_
 ghost use Rattle.rbac_manifest.specs.Kinds.{needs_version, version_read, version_at, kind_named};
 ghost use Rattle.rbac_manifest.specs.Kinds.{kind_of};
 ghost use Rattle.rbac_manifest.specs.Document.{bad_header};
+ghost use Rattle.rbac_manifest.specs.DocumentList.{IsListOf};
 ghost use Rattle.rbac_manifest.specs.Reads.{Loads};
 ghost use Rattle.rbac_manifest.specs.declared.fault.Cause.TheVariants.{NoMemory};
+ghost use Rattle.rbac_manifest.specs.declared.kind.Implied.{Implied};
 
 use crate::fault::Cause;
 use crate::fields::field;
@@ -302,4 +304,16 @@ pub(crate) fn kind_of(document: &Value, implied: Implied) -> Result<Kind, Cause>
         return Err(Cause::BadVersion);
     };
     Ok(kind_named(version, kind))
+}
+
+// What a document implies about its items, if it is a list with a sound kind and version.
+pub(crate) fn list_kind(document: &Value) -> Option<Implied>
+    ensures { MatchOption result
+        ((implied : Implied) → IsListOf implied (view document.now) → ⊥)
+        (λ implied. IsListOf implied (view document.now)) }
+{
+    match kind_of(document, Implied::Nothing) {
+        Ok(Kind::List(implied)) => Some(implied),
+        _ => None,
+    }
 }

@@ -4,16 +4,15 @@
 #![tactic(auto)]
 
 mod api_list;
-mod at_once;
 mod binding;
 mod change;
 mod content;
 mod contents;
 mod copies;
 mod document;
+mod document_list;
 mod fault;
 mod fields;
-mod item_by_item;
 mod kind;
 mod label;
 mod laws;

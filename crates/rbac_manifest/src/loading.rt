@@ -1,33 +1,28 @@
 //! Reads inputs into what they give and the policy that follows from it.
 
-ghost use Rattle.std.specs.Prelude.{◌≡◌, ◌≢◌, OnOk, IfOk, IfErr, IsTrue, None, Some};
-ghost use Rattle.std.specs.Prelude.{false, if◌then◌else◌};
-ghost use Rattle.std.specs.Str.{IsUtf8};
-ghost use Rattle.json_list.specs.List.{IsList};
-ghost use Rattle.serde_json.specs.View.{view};
-ghost use Rattle.rbac_manifest.specs.declared.fault.Cause.TheVariants.{NotJson, NoMemory};
-ghost use Rattle.rbac_manifest.specs.Load.{json_in, in_file, file_refusal, contents_of_file};
+ghost use Rattle.std.specs.Prelude.{◌≡◌, ◌≢◌, OnOk, IfOk, IfErr, None, Some};
+ghost use Rattle.rbac_manifest.specs.declared.fault.Cause.TheVariants.{NoMemory};
+ghost use Rattle.rbac_manifest.specs.Load.{file_refusal, contents_of_file};
 ghost use Rattle.rbac_manifest.specs.Load.{document_fault, all_contents, too_many, IsLoaded};
 ghost use Rattle.rbac_manifest.specs.Load.{HasFault, HasTooManyGrants};
 ghost use Rattle.rbac_manifest.specs.Contents.{sorted_contents, with_contents, objects_in};
 ghost use Rattle.rbac_manifest.specs.Changed.{IsResolved};
 ghost use Rattle.rbac_manifest.specs.Names.{names_given};
+ghost use Rattle.rbac_manifest.specs.Reads.{Yields};
 ghost use Rattle.rbac_manifest.specs.Replaced.{AreReplaced, replaced_name};
 ghost use Rattle.rbac_model.specs.Lists.{IsAscendingBy};
 
-use crate::at_once::{Halt, list_at_once};
+use crate::content::Content;
 use crate::contents::Contents;
+use crate::document_list::text_contents;
 use crate::fault::{Cause, LoadFault, Refusal};
-use crate::item_by_item::list_into;
 use crate::replacement::{Replaced, replaced_of};
-use crate::whole::input_into;
 use rbac_catalogue::Catalogue;
 use rbac_lists::{Account, GivenLists, lists_of};
 use rbac_model::{Object, Objects, Policy, ResolveFault};
 use rbac_streams::Input;
 use rbac_terms::Word;
 use rbac_universe::UniverseLists;
-use serde_json::Value;
 use simdutf8::basic::from_utf8;
 use std::alloc::{AllocError, Global};
 use std::marker::Model;
@@ -107,114 +102,32 @@ impl Export {
     }
 }
 
-// The JSON value that bytes spell.
-#[tactic(auto, using(crate::proofs::Json::json_in_text, crate::proofs::Json::json_in_none))]
-fn parse(alloc: Global, bytes: &[u8]) -> Result<Value, Cause>
-    ensures value { IfOk result (λ v. json_in bytes.now ≡ Some (view v)) }
-    ensures refused { IfErr result
-        (λ e. e ≢ NoMemory → (e ≡ NotJson) × (json_in bytes.now ≡ None)) }
-{
-    match Value::from_slice(alloc, bytes) {
-        Ok(value) => Ok(value),
-        Err(error) if error.is_memory() => Err(Cause::NoMemory),
-        Err(_) => Err(Cause::NotJson),
-    }
-}
-
-// Adds what a file gives to `contents`, if it is an object with one list under `items`.
-#[tactic(auto, using(crate::proofs::Json::json_in_text), unfolding(crate::specs::Load::file_refusal, crate::specs::Load::contents_of_file))]
-fn list_in(alloc: Global, bytes: &[u8], contents: &mut Contents) -> Result<bool, Refusal>
-    ensures sound { IfOk result (λ is_list. IsTrue is_list → file_refusal bytes.now ≡ None) }
-    ensures contents { IfOk result (λ is_list. contents.new ≡ (if is_list
-        then with_contents contents.old (contents_of_file bytes.now) else contents.old)) }
-    ensures whole { IfOk result
-        (λ is_list. is_list ≡ false → ¬ (IsUtf8 bytes.now × IsList bytes.now)) }
-    ensures refusal { IfErr result (λ e. e.cause ≢ NoMemory → file_refusal bytes.now ≡ Some e) }
+// What a file gives.
+#[tactic(auto, using(crate::proofs::Json::json_in_text, crate::proofs::Json::json_in_none), unfolding(crate::specs::Load::file_refusal, crate::specs::Load::contents_of_file))]
+fn file_contents(alloc: Global, bytes: &[u8]) -> Result<Vec<Content>, Refusal>
+    ensures { Yields result (file_refusal bytes.now) (contents_of_file bytes.now) }
 {
     match from_utf8(bytes) {
-        Ok(text) => list_into(alloc, text, contents),
-        Err(_) => Ok(false),
+        Ok(text) => text_contents(alloc, text),
+        Err(_) => Err(Refusal::whole(Cause::NotJson)),
     }
 }
 
-// Adds what one file gives to `contents`. A file that isn't an object with one list under `items`
-// is read as a whole.
-#[tactic(auto, unfolding(crate::specs::Load::file_refusal, crate::specs::Load::contents_of_file))]
+// Adds what a file gives to `contents`.
 fn file_into(alloc: Global, bytes: &[u8], contents: &mut Contents) -> Result<(), Refusal>
     ensures sound { OnOk result (file_refusal bytes.now ≡ None) }
     ensures contents { OnOk result
         (contents.new ≡ with_contents contents.old (contents_of_file bytes.now)) }
     ensures refusal { IfErr result (λ e. e.cause ≢ NoMemory → file_refusal bytes.now ≡ Some e) }
 {
-    if list_in(alloc, bytes, contents)? {
-        return Ok(());
-    }
-    match parse(alloc, bytes) {
-        Ok(value) => input_into(alloc, &value, contents),
-        Err(cause) => Err(Refusal::whole(cause)),
-    }
-}
-
-// Adds what a file gives to `contents`, in one pass, if it is an object with one list under
-// `items`.
-#[tactic(auto, using(crate::proofs::Json::json_in_text), unfolding(crate::specs::Load::file_refusal, crate::specs::Load::contents_of_file))]
-fn list_in_at_once(alloc: Global, bytes: &[u8], contents: &mut Contents) -> Result<bool, Halt>
-    ensures sound { IfOk result (λ is_list. IsTrue is_list → file_refusal bytes.now ≡ None) }
-    ensures contents { IfOk result (λ is_list. contents.new ≡ (if is_list
-        then with_contents contents.old (contents_of_file bytes.now) else contents.old)) }
-{
-    match from_utf8(bytes) {
-        Ok(text) => list_at_once(alloc, text, contents),
-        Err(_) => Ok(false),
-    }
-}
-
-// Adds what a file gives to `contents`, in one pass where it is a list.
-fn file_at_once(alloc: Global, bytes: &[u8], contents: &mut Contents) -> Result<(), Halt>
-    ensures sound { OnOk result (file_refusal bytes.now ≡ None) }
-    ensures contents { OnOk result
-        (contents.new ≡ with_contents contents.old (contents_of_file bytes.now)) }
-{
-    if list_in_at_once(alloc, bytes, contents)? {
-        return Ok(());
-    }
-    match file_into(alloc, bytes, contents) {
-        Ok(()) => Ok(()),
-        Err(refusal) => Err(Halt::from(refusal.cause)),
-    }
-}
-
-// What all inputs give, in order, each list read in one pass.
-#[tactic(auto, using(crate::proofs::ContentsLemmas::contents_next))]
-fn contents_at_once(alloc: Global, inputs: &[Input]) -> Result<Contents, Halt>
-    ensures sound { OnOk result (document_fault inputs.now ≡ None) }
-    ensures contents { IfOk result (λ g. g ≡ sorted_contents (all_contents inputs.now)) }
-{
-    let mut contents = Contents::new(alloc);
-    for (file, input) in inputs.iter().enumerate() {
-        file_at_once(alloc, input.as_bytes(), &mut contents)?;
-    }
-    Ok(contents)
+    let given = file_contents(alloc, bytes)?;
+    contents.take_all(given)?;
+    Ok(())
 }
 
 // What all inputs give, in order. Fails with the fault of the first document that has one.
-fn contents_of(alloc: Global, inputs: &[Input]) -> Result<Contents, LoadFault>
-    ensures sound { OnOk result (document_fault inputs.now ≡ None) }
-    ensures contents { IfOk result (λ g. g ≡ sorted_contents (all_contents inputs.now)) }
-    ensures fault { IfErr result (λ e. e.cause ≢ NoMemory → document_fault inputs.now ≡ Some e) }
-    ensures memory { IfErr result (λ e. e.cause ≡ NoMemory → e.at ≡ None) }
-{
-    match contents_at_once(alloc, inputs) {
-        Ok(contents) => Ok(contents),
-        Err(Halt::NoMemory) => Err(LoadFault::no_memory()),
-        Err(Halt::GiveUp) => contents_or_fault(alloc, inputs),
-    }
-}
-
-// What all inputs give, in order. Fails with the fault of the first document that has one, of which
-// it names the place: a list is read in several passes.
 #[tactic(auto, using(crate::proofs::ContentsLemmas::contents_next))]
-fn contents_or_fault(alloc: Global, inputs: &[Input]) -> Result<Contents, LoadFault>
+fn contents_of(alloc: Global, inputs: &[Input]) -> Result<Contents, LoadFault>
     ensures sound { OnOk result (document_fault inputs.now ≡ None) }
     ensures contents { IfOk result (λ g. g ≡ sorted_contents (all_contents inputs.now)) }
     ensures fault { IfErr result (λ e. e.cause ≢ NoMemory → document_fault inputs.now ≡ Some e) }

@@ -3,9 +3,7 @@ use Rattle.json.specs.Json.{read_key}
 use Rattle.serde_json.specs.Data.{no_members}
 use Rattle.serde_json.specs.View.{members_view}
 use Rattle.json_list.specs.List.{items_name}
-use Rattle.json_list.proofs.Others.{key_refused, other_refused}
-use Rattle.json_list.proofs.Walks.{none_left}
-use Rattle.json_list.proofs.OnePass.{Adds, begun, added, before_or_not}
+use Rattle.json_list.proofs.OnePass.{Adds, begun, added, bad_key, bad_member, no_list_at_all, before_or_not}
 use Rattle.json_list.proofs.one_pass.read_before.Goals as goal
 
 pub members-init : goal.members-init
@@ -29,7 +27,7 @@ members-preserved c =
 pub returns-in_err-name-clause-refused : goal.returns-in_err-name-clause-refused
 returns-in_err-name-clause-refused c _ =
     let l = c.members in
-    key_refused false c.args.reader.now l.reader (members_view l.members.entries) l.invariant c.in_err-name.ensures.value
+    bad_key no_members c.args.reader.now l.reader (members_view l.members.entries) l.invariant c.in_err-name.ensures.value no_members
 
 pub returns-in_err-read_member-clause-refused : goal.returns-in_err-read_member-clause-refused
 returns-in_err-read_member-clause-refused c refusal =
@@ -37,7 +35,7 @@ returns-in_err-read_member-clause-refused c refusal =
     let k = c.in-Some.name.now in
     let s = c.next_key.new.self in
     let key : read_key l.reader ≡ Some (Some k, s) = grind arith in
-    other_refused c.args.reader.now l.reader (members_view l.members.entries) k s key false l.invariant (c.in_err-read_member.ensures.refused (grind arith))
+    bad_member no_members c.args.reader.now l.reader (members_view l.members.entries) l.invariant k s key (c.in_err-read_member.ensures.refused (grind arith)) no_members
 
 pub returns-then-eq-clause-before : goal.returns-then-eq-clause-before
 returns-then-eq-clause-before c =
@@ -53,4 +51,4 @@ returns-clause-before c =
     let l = c.members in
     let r = c.next_key.new.self in
     let over : read_key l.reader ≡ Some (None, r) = grind arith in
-    none_left c.args.reader.now l.reader (l.invariant.0, l.invariant.1, l.invariant.2) r over
+    no_list_at_all no_members c.args.reader.now l.reader (members_view l.members.entries) l.invariant r over

@@ -2,7 +2,7 @@ use Rattle.std.proofs.Common.{◌≡◌, Some, None, bytes_eq, true, false, sym,
 use Rattle.json.specs.Json.{read_key}
 use Rattle.serde_json.specs.View.{members_view}
 use Rattle.json_list.specs.List.{items_name}
-use Rattle.json_list.proofs.OnePass.{Adds, begun, added, the_rest_or_not, items_again, bad_member, bad_key}
+use Rattle.json_list.proofs.OnePass.{Adds, begun, added, the_others, refused_after, items_again, bad_member, bad_key}
 use Rattle.json_list.proofs.one_pass.read_rest.Goals as goal
 
 pub members-init : goal.members-init
@@ -27,7 +27,14 @@ returns-clause-rest c =
     let l = c.members in
     let r = c.next_key.new.self in
     let over : read_key l.reader ≡ Some (None, r) = grind arith in
-    the_rest_or_not (members_view c.args.members.now.entries) c.args.reader.now l.reader (members_view l.members.entries) l.invariant r over c.is_none.result (search rules)
+    the_others (members_view c.args.members.now.entries) c.args.reader.now l.reader (members_view l.members.entries) l.invariant r over (search rules)
+
+pub returns-then-is_some-clause-refused : goal.returns-then-is_some-clause-refused
+returns-then-is_some-clause-refused c _ =
+    let l = c.members in
+    let r = c.next_key.new.self in
+    let over : read_key l.reader ≡ Some (None, r) = grind arith in
+    refused_after (members_view c.args.members.now.entries) c.args.reader.now l.reader (members_view l.members.entries) l.invariant r over (search rules)
 
 pub returns-in_err-name-clause-refused : goal.returns-in_err-name-clause-refused
 returns-in_err-name-clause-refused c _ =
