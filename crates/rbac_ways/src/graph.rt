@@ -1,0 +1,32 @@
+//! A graph whose edges go through sets, and where nodes are on its ways.
+
+use rbac_terms::Items;
+use std::marker::Model;
+
+/// A graph whose edges go through sets of nodes: an edge leads from each node that takes a set to
+/// each node of the set. So a large set that many nodes take is written once. Nodes and sets are
+/// numbered from 0; a number past the last one stands for nothing (own).
+#[derive(Drop)]
+pub struct Graph {
+    /// The sets that each node takes.
+    pub takes: Vec<Items<usize>>,
+    /// The nodes of each set.
+    pub sets: Vec<Items<usize>>,
+}
+
+impl Model for Graph {
+    ghost use Rattle.rbac_ways.specs.Ways.{GraphView};
+
+    ghost Value = { GraphView };
+
+    ghost view = { λ g. record { takes = g.takes.items; sets = g.sets.items } };
+}
+
+/// Where a node is on a shortest way.
+#[derive(Clone, Copy, PartialEq, Eq, Debug, Drop)]
+pub struct Stop {
+    /// How many edges lead to the node.
+    pub edges: usize,
+    /// The node before it; the node itself, if no edge leads to it.
+    pub before: usize,
+}

@@ -1,0 +1,158 @@
+//! Meeting the nodes of a level.
+
+ghost use Rattle.std.specs.Prelude.{◌≡◌, ◌≤◌, ◌↔◌, ℕ, OnOk, IfOk, Contains, [], length};
+ghost use Rattle.std.specs.Prelude.{slice_index_or};
+ghost use Rattle.std.specs.List.Sorted.{IsStrictlyIncreasing};
+ghost use Rattle.rbac_ways.specs.Ways.{HasEdge};
+ghost use Rattle.rbac_ways.specs.Meeting.{AreMet, ComesAfter, IsNext, IsNextTo, IsOneOf, IsStart};
+ghost use Rattle.rbac_ways.specs.Meeting.{Meets};
+
+use crate::graph::{Graph, Stop};
+use std::alloc::{AllocError, Global};
+
+// The starts, in order, which are met with no node before them.
+pub(crate) fn first_level(
+    alloc: Global,
+    starts: &[usize],
+    stops: &mut Vec<Option<Stop>>,
+) -> Result<Vec<usize>, AllocError>
+    ensures meets { IfOk result (λ level. Meets (Contains starts.now) (IsStart starts.now)
+        stops.old.items stops.new.items [] level.items) }
+    ensures ordered { IfOk result (λ level. IsStrictlyIncreasing level.items) }
+{
+    let mut level = Vec::new(alloc);
+    for start in starts {
+        let stop = Stop {
+            edges: 0,
+            before: *start,
+        };
+        meet(*start, stop, stops, &mut level)?;
+    }
+    Ok(in_order(level))
+}
+
+// The nodes that nodes of this level have edges to, in order, less those that were met; they are met
+// now.
+pub(crate) fn next_level(
+    alloc: Global,
+    graph: &Graph,
+    level: &[usize],
+    edges: usize,
+    passed: &mut Vec<bool>,
+    stops: &mut Vec<Option<Stop>>,
+) -> Result<Vec<usize>, AllocError>
+    requires ordered { IsStrictlyIncreasing level.now }
+    requires nodes { length stops.old.items ≡ length graph.now.takes }
+    requires sets { length passed.old.items ≡ length graph.now.sets }
+    requires met { AreMet graph.now passed.old.items stops.old.items }
+    ensures meets { IfOk result (λ next.
+        Meets (IsNextTo graph.now level.now) (ComesAfter graph.now level.now edges)
+        stops.old.items stops.new.items [] next.items) }
+    ensures ordered { IfOk result (λ next. IsStrictlyIncreasing next.items) }
+    ensures sets { length passed.new.items ≡ length passed.old.items }
+    ensures met { IfOk result (λ _. AreMet graph.now passed.new.items stops.new.items) }
+{
+    let mut next = Vec::new(alloc);
+    for node in level {
+        meet_next(graph, *node, edges, passed, stops, &mut next)?;
+    }
+    Ok(in_order(next))
+}
+
+// The numbers, each once, in order.
+fn in_order(mut numbers: Vec<usize>) -> Vec<usize>
+    ensures same { (n : ℕ) → Contains result.items n ↔ Contains numbers.items n }
+    ensures ordered { IsStrictlyIncreasing result.items }
+    ensures len { length result.items ≤ length numbers.items }
+{
+    numbers.sort_unstable();
+    numbers.dedup();
+    numbers
+}
+
+// Meets the nodes that this node has an edge to, and passes its sets.
+fn meet_next(
+    graph: &Graph,
+    node: usize,
+    edges: usize,
+    passed: &mut Vec<bool>,
+    stops: &mut Vec<Option<Stop>>,
+    level: &mut Vec<usize>,
+) -> Result<(), AllocError>
+    requires nodes { length stops.old.items ≡ length graph.now.takes }
+    requires sets { length passed.old.items ≡ length graph.now.sets }
+    requires met { AreMet graph.now passed.old.items stops.old.items }
+    ensures meets { OnOk result (Meets (HasEdge graph.now node) (IsNext graph.now edges node)
+        stops.old.items stops.new.items level.old.items level.new.items) }
+    ensures sets { length passed.new.items ≡ length passed.old.items }
+    ensures met { OnOk result (AreMet graph.now passed.new.items stops.new.items) }
+{
+    let Some(sets) = graph.takes.as_slice().get(node) else {
+        return Ok(());
+    };
+    for set in sets.as_slice() {
+        let stop = Stop {
+            edges,
+            before: node,
+        };
+        meet_set(graph, *set, stop, passed, stops, level)?;
+    }
+    Ok(())
+}
+
+// Meets the nodes of a set, and passes the set, unless it was passed.
+fn meet_set(
+    graph: &Graph,
+    set: usize,
+    stop: Stop,
+    passed: &mut Vec<bool>,
+    stops: &mut Vec<Option<Stop>>,
+    level: &mut Vec<usize>,
+) -> Result<(), AllocError>
+    requires sets { length passed.old.items ≡ length graph.now.sets }
+    requires met { AreMet graph.now passed.old.items stops.old.items }
+    ensures meets { OnOk result (Meets (Contains (slice_index_or graph.now.sets set []))
+        (IsOneOf (slice_index_or graph.now.sets set []) stop)
+        stops.old.items stops.new.items level.old.items level.new.items) }
+    ensures sets { length passed.new.items ≡ length passed.old.items }
+    ensures met { OnOk result (AreMet graph.now passed.new.items stops.new.items) }
+{
+    if let Some(false) = passed.as_slice().get(set) {
+        passed[set] = true;
+        return meet_each(graph.sets[set].as_slice(), stop, stops, level);
+    }
+    Ok(())
+}
+
+// Meets these nodes.
+fn meet_each(
+    nodes: &[usize],
+    stop: Stop,
+    stops: &mut Vec<Option<Stop>>,
+    level: &mut Vec<usize>,
+) -> Result<(), AllocError>
+    ensures { OnOk result (Meets (Contains nodes.now) (IsOneOf nodes.now stop)
+        stops.old.items stops.new.items level.old.items level.new.items) }
+{
+    for node in nodes {
+        meet(*node, stop, stops, level)?;
+    }
+    Ok(())
+}
+
+// Gives a node this stop and adds it to the level, if it is there and wasn't met.
+fn meet(
+    node: usize,
+    stop: Stop,
+    stops: &mut Vec<Option<Stop>>,
+    level: &mut Vec<usize>,
+) -> Result<(), AllocError>
+    ensures { OnOk result (Meets (λ j. j ≡ node) (λ j s. (j ≡ node) × (s ≡ stop))
+        stops.old.items stops.new.items level.old.items level.new.items) }
+{
+    if let Some(None) = stops.as_slice().get(node) {
+        stops[node] = Some(stop);
+        level.push(node)?;
+    }
+    Ok(())
+}

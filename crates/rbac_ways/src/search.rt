@@ -1,0 +1,36 @@
+//! The search, level by level: first the starts, then the nodes that one edge leads to, and so on.
+
+ghost use Rattle.std.specs.Prelude.{◌≡◌, IfOk};
+ghost use Rattle.rbac_ways.specs.Ways.{AreStops};
+
+use crate::graph::{Graph, Stop};
+use crate::meeting::{first_level, next_level};
+use std::alloc::{AllocError, Global};
+
+/// For each node of the graph, where it is on a shortest way from a start, if a way leads there
+/// (own). Of several nodes that can be before it, the one with the least number is told. Each set is
+/// gone through once. Fails only if it runs out of memory.
+pub fn shortest_ways(
+    alloc: Global,
+    graph: &Graph,
+    starts: &[usize],
+) -> Result<Vec<Option<Stop>>, AllocError>
+    ensures { IfOk result (λ stops. AreStops graph.now starts.now stops.items) }
+{
+    let mut passed = vec![in alloc; false; graph.sets.as_slice().len()]?;
+    let mut stops = vec![in alloc; None; graph.takes.as_slice().len()]?;
+    let mut level = first_level(alloc, starts, &mut stops)?;
+    let mut edges = 0;
+    while !level.is_empty() {
+        edges += 1;
+        level = next_level(
+            alloc,
+            graph,
+            level.as_slice(),
+            edges,
+            &mut passed,
+            &mut stops,
+        )?;
+    }
+    Ok(stops)
+}
