@@ -1,9 +1,10 @@
 -- A rule allows some request of a row exactly if it matches a verb, the API group, a resource and a name of it.
-use Rattle.std.proofs.Common.{List, [], ◌∷◌, inl, inr, refl, arith, Any}
+use Rattle.std.proofs.Common.{List, [], ◌∷◌, ◌↔◌, inl, inr, refl, arith, subst, Any}
 use Rattle.rbac_terms.specs.Text.{Text}
 use Rattle.rbac_terms.specs.Matching.{NameMatches, VerbOk, WordMatches}
 use Rattle.rbac_terms.specs.declared.matching.Rule.{Rule}
 use Rattle.rbac_model.proofs.OwnWords.{any_from}
+use Rattle.rbac_paths.specs.Asked.{AllowsRowFor, Asks, HasNameFor}
 use Rattle.rbac_paths.specs.Rows.{HasName, HasResource}
 use Rattle.rbac_paths.specs.Steps.{AllowsRow, RowView}
 use Rattle.rbac_paths.specs.declared.table.Names.TheVariants as names
@@ -14,7 +15,10 @@ some_name [] = ([], inl refl)
 some_name (n ∷ ns) = (n, inr (0, omega arith, refl))
 
 pub any_has_name : (rule : Rule) → HasName names.Any rule
-any_has_name rule = let n = some_name rule.resource_names in (n.0, tt, n.1)
+any_has_name rule = let n = some_name rule.resource_names in (n.0, (n.0, tt), n.1)
+
+pub own_has_name : (rule : Rule) → HasName names.Own rule
+own_has_name rule = let n = some_name rule.resource_names in (n.0, (n.0, refl), n.1)
 
 pub allows_row : (r : RowView) (rule : Rule) → Any (VerbOk rule) r.verbs → Any (λ w. WordMatches w r.group) rule.groups → Any (HasResource rule) r.resources → HasName r.names rule → AllowsRow r rule
 allows_row r rule v g x n = record {
@@ -33,4 +37,20 @@ row_allowed r rule a = (
   a.allows.1.0,
   any_from (HasResource rule) r.resources a.text a.of_resources a.allows.1.1,
   (a.name, a.named, a.allows.1.2),
+)
+
+-- of what has a name
+pub any_name_for : (own : Text) (rule : Rule) → HasNameFor names.Any own rule
+any_name_for own rule = let n = some_name rule.resource_names in (n.0, tt, n.1)
+
+pub own_name_for : (own : Text) (rule : Rule) → HasNameFor names.Own own rule ↔ NameMatches rule.resource_names own
+own_name_for own rule = (
+  λ h. subst (λ (n : Text). NameMatches rule.resource_names n) h.1 h.2,
+  λ h. (own, refl, h),
+)
+
+pub no_name_for : (own : Text) (rule : Rule) → HasNameFor names.None own rule ↔ NameMatches rule.resource_names []
+no_name_for own rule = (
+  λ h. subst (λ (n : Text). NameMatches rule.resource_names n) h.1 h.2,
+  λ h. ([], refl, h),
 )

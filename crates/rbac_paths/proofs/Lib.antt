@@ -1,9 +1,12 @@
+pub mod Accounts
 pub mod Adding
 pub mod AllPowers
 pub mod AllSteps
 pub mod Allowing
+pub mod Asking
 pub mod Choosing
 pub mod Gathering
 pub mod Giving
 pub mod OnePowers
+pub mod Taken
 pub mod Telling

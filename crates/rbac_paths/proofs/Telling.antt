@@ -10,8 +10,8 @@ use Rattle.rbac_model.proofs.OwnWords.{any_from}
 use Rattle.rbac_model.specs.Holders.{IsKeyFor, HasKey}
 use Rattle.rbac_model.proofs.KeyNames.{key_names, naming_key}
 use Rattle.rbac_paths.specs.Powers.{GivesStep, PowerView}
-use Rattle.rbac_paths.specs.Steps.{AllowsIn, AllowsRow, CountsIn, RowView, steps, table}
-use Rattle.rbac_paths.specs.Telling.{CanTake, HoldsIn, TellAll, asked_in}
+use Rattle.rbac_paths.specs.Steps.{AllowsIn, AllowsRow, CountsIn, RowView, asked_in, steps, table}
+use Rattle.rbac_paths.specs.Telling.{CanTake, HoldsIn, TellAll}
 use Rattle.rbac_paths.specs.declared.steps.Step.{Step}
 use Rattle.rbac_paths.specs.declared.steps.Step.TheVariants.{Impersonate, Token, Run, Exec, Secrets, Nodes, Bind, Escalate, Certificates, Webhooks}
 use Rattle.rbac_paths.specs.declared.table.Counts.{Counts}

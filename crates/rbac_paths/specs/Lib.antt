@@ -1,6 +1,9 @@
+pub mod Asked
 pub mod Finding
 pub mod Lines
+pub mod Nodes
 pub mod Powers
 pub mod Rows
 pub mod Steps
+pub mod Taking
 pub mod Telling

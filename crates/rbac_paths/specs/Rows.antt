@@ -3,7 +3,7 @@ use Rattle.std.specs.Prelude.{◌≡◌, ◌↔◌, ◌⊎◌, List, [], ◌∷�
 use Rattle.rbac_terms.specs.Text.{Text}
 use Rattle.rbac_terms.specs.Matching.{NameMatches, ResourceWordMatches}
 use Rattle.rbac_terms.specs.declared.matching.Rule.{Rule}
-use Rattle.rbac_paths.specs.Steps.{IsNamed, RowView}
+use Rattle.rbac_paths.specs.Steps.{CanBeNamed, RowView}
 use Rattle.rbac_paths.specs.declared.steps.Step.{Step}
 use Rattle.rbac_paths.specs.declared.table.Names.{Names}
 use Rattle.rbac_paths.specs.declared.table.Row.{Row}
@@ -17,6 +17,7 @@ row_of r = record {
   verbs = map (λ t. t.now) r.verbs.now;
   group = r.group.now;
   resources = map (λ t. t.now) r.resources.now;
+  over = r.over;
 }
 
 -- some resource word of the rule matches the resource text
@@ -25,7 +26,7 @@ HasResource rule text = Any (λ w. ResourceWordMatches w text) rule.resources
 
 -- the rule's names match some object name of the row's requests
 abbrev pub HasName : Names → Rule → Type 0
-HasName names rule = (name : Text) × IsNamed names name × NameMatches rule.resource_names name
+HasName names rule = (name : Text) × CanBeNamed names name × NameMatches rule.resource_names name
 
 -- exactly those of all rows that are of the step
 abbrev pub AreOfStep : Step → List RowView → List RowView → Type 0

@@ -12,6 +12,8 @@ use Rattle.rbac_paths.specs.declared.table.Names.{Names}
 use Rattle.rbac_paths.specs.declared.table.Names.TheVariants as names
 use Rattle.rbac_paths.specs.declared.table.Counts.{Counts}
 use Rattle.rbac_paths.specs.declared.table.Counts.TheVariants as counted
+use Rattle.rbac_paths.specs.declared.table.Over.{Over}
+use Rattle.rbac_paths.specs.declared.table.Over.TheVariants as over
 
 -- all steps, in order of the table
 abbrev pub steps : List Step
@@ -31,8 +33,8 @@ step_word Escalate = codes "escalate"
 step_word Certificates = codes "certificates"
 step_word Webhooks = codes "webhooks"
 
--- a row of the table: each of some verbs on each of some resources of an API group, whatever the
--- object's name or without one, in the whole cluster alone or also in a namespace
+-- a row of the table: each of some verbs on each of some resources of an API group, with which object
+-- name, in the whole cluster alone or also in a namespace, and what it takes over
 pub record RowView : Type 0 where
   pub step : Step
   pub names : Names
@@ -40,15 +42,17 @@ pub record RowView : Type 0 where
   pub verbs : List Text
   pub group : Text
   pub resources : List Text
+  pub over : Over
 
-abbrev pub row : Step → Names → Counts → List Text → Text → List Text → RowView
-row step names counts verbs group resources = record {
+abbrev pub row : Step → Names → Counts → List Text → Text → List Text → Over → RowView
+row step names counts verbs group resources over = record {
   step = step;
   names = names;
   counts = counts;
   verbs = verbs;
   group = group;
   resources = resources;
+  over = over;
 }
 
 -- the core API group, and that of roles and bindings
@@ -65,46 +69,66 @@ write = codes "create" ∷ codes "update" ∷ codes "patch" ∷ []
 -- the table
 abbrev pub table : List RowView
 table =
-    row Impersonate names.Any counted.ClusterWide (codes "impersonate" ∷ []) core
-    (codes "users" ∷ codes "groups" ∷ [])
-    ∷ row Impersonate names.Any counted.InNamespaces (codes "impersonate" ∷ []) core
-    (codes "serviceaccounts" ∷ [])
-    ∷ row Token names.Any counted.InNamespaces (codes "create" ∷ []) core
-    (codes "serviceaccounts/token" ∷ [])
+    row Impersonate names.Own counted.ClusterWide (codes "impersonate" ∷ []) core
+    (codes "users" ∷ []) over.Users
+    ∷ row Impersonate names.Own counted.ClusterWide (codes "impersonate" ∷ []) core
+    (codes "groups" ∷ []) over.Groups
+    ∷ row Impersonate names.Own counted.InNamespaces (codes "impersonate" ∷ []) core
+    (codes "serviceaccounts" ∷ []) over.Accounts
+    ∷ row Token names.Own counted.InNamespaces (codes "create" ∷ []) core
+    (codes "serviceaccounts/token" ∷ []) over.Accounts
     ∷ row Run names.None counted.InNamespaces (codes "create" ∷ []) core
-    (codes "pods" ∷ [])
+    (codes "pods" ∷ []) over.Accounts
     ∷ row Run names.None counted.InNamespaces (codes "create" ∷ []) (codes "batch")
-    (codes "jobs" ∷ [])
+    (codes "jobs" ∷ []) over.Accounts
     ∷ row Run names.None counted.InNamespaces write core
-    (codes "replicationcontrollers" ∷ [])
+    (codes "replicationcontrollers" ∷ []) over.Accounts
     ∷ row Run names.None counted.InNamespaces write (codes "apps")
     (codes "daemonsets" ∷ codes "deployments" ∷ codes "replicasets" ∷ codes "statefulsets" ∷ [])
+    over.Accounts
     ∷ row Run names.None counted.InNamespaces write (codes "batch")
-    (codes "cronjobs" ∷ [])
+    (codes "cronjobs" ∷ []) over.Accounts
     ∷ row Exec names.None counted.InNamespaces (codes "create" ∷ codes "get" ∷ []) core
-    (codes "pods/attach" ∷ codes "pods/exec" ∷ [])
+    (codes "pods/attach" ∷ codes "pods/exec" ∷ []) over.Accounts
     ∷ row Exec names.None counted.InNamespaces (codes "update" ∷ codes "patch" ∷ []) core
-    (codes "pods" ∷ codes "pods/ephemeralcontainers" ∷ [])
+    (codes "pods" ∷ codes "pods/ephemeralcontainers" ∷ []) over.Accounts
     ∷ row Secrets names.None counted.InNamespaces (codes "get" ∷ codes "list" ∷ codes "watch" ∷ []) core
-    (codes "secrets" ∷ [])
+    (codes "secrets" ∷ []) over.Accounts
     ∷ row Nodes names.None counted.ClusterWide (codes "create" ∷ codes "get" ∷ []) core
-    (codes "nodes/proxy" ∷ [])
-    ∷ row Bind names.Any counted.InNamespaces (codes "bind" ∷ []) rbac
-    (codes "clusterroles" ∷ codes "roles" ∷ [])
+    (codes "nodes/proxy" ∷ []) over.Accounts
+    ∷ row Bind names.None counted.InNamespaces (codes "bind" ∷ []) rbac
+    (codes "clusterroles" ∷ codes "roles" ∷ []) over.Everything
+    ∷ row Bind names.Own counted.InNamespaces (codes "bind" ∷ []) rbac
+    (codes "clusterroles" ∷ []) over.ClusterRoles
+    ∷ row Bind names.Own counted.InNamespaces (codes "bind" ∷ []) rbac
+    (codes "roles" ∷ []) over.Roles
     ∷ row Escalate names.Any counted.ClusterWide (codes "escalate" ∷ []) rbac
-    (codes "clusterroles" ∷ [])
+    (codes "clusterroles" ∷ []) over.Everything
     ∷ row Escalate names.Any counted.InNamespaces (codes "escalate" ∷ []) rbac
-    (codes "roles" ∷ [])
+    (codes "roles" ∷ []) over.Everything
     ∷ row Certificates names.None counted.ClusterWide (codes "update" ∷ codes "patch" ∷ [])
     (codes "certificates.k8s.io") (codes "certificatesigningrequests/approval" ∷ [])
+    over.Everything
     ∷ row Webhooks names.None counted.ClusterWide write (codes "admissionregistration.k8s.io")
     (codes "mutatingwebhookconfigurations" ∷ codes "validatingwebhookconfigurations" ∷ [])
+    over.Everything
     ∷ []
 
--- the object name is one that a request of the row has: any, or none
-abbrev pub IsNamed : Names → Text → Type 0
-IsNamed names.Any name = Unit {0}
-IsNamed names.None name = name ≡ []
+-- where a request of a row is asked: in no namespace, if it counts in the whole cluster alone
+abbrev pub asked_in : Counts → Text → Text
+asked_in counted.ClusterWide namespace = []
+asked_in counted.InNamespaces namespace = namespace
+
+-- the object name of a request of the row, where what is taken over has a name of its own: none, that
+-- name, or any
+abbrev pub IsNamed : Names → Text → Text → Type 0
+IsNamed names.None own name = name ≡ []
+IsNamed names.Own own name = name ≡ own
+IsNamed names.Any own name = Unit {0}
+
+-- a request of the row can have that object name
+abbrev pub CanBeNamed : Names → Text → Type 0
+CanBeNamed names name = (own : Text) × IsNamed names own name
 
 -- the rule allows some request of the row
 pub record AllowsRow (r : RowView) (rule : Rule) : Type 0 where
@@ -113,7 +137,7 @@ pub record AllowsRow (r : RowView) (rule : Rule) : Type 0 where
   pub name : Text
   pub of_verbs : Contains r.verbs verb
   pub of_resources : Contains r.resources text
-  pub named : IsNamed r.names name
+  pub named : CanBeNamed r.names name
   pub allows : RuleAllows rule verb (Resource r.group text name)
 
 -- the row counts where a binding in that namespace, or in none, is live: in the whole cluster each

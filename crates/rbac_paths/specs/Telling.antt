@@ -1,20 +1,13 @@
 -- What powers tell of requests.
-use Rattle.std.specs.Prelude.{◌≡◌, ◌↔◌, List, [], Option, Some, None, Any, Contains}
+use Rattle.std.specs.Prelude.{◌≡◌, ◌↔◌, List, Option, Some, None, Any, Contains}
 use Rattle.rbac_terms.specs.Text.{Text}
 use Rattle.rbac_terms.specs.Targets.{Resource}
 use Rattle.rbac_terms.specs.Principals.{Who}
 use Rattle.rbac_model.specs.Policies.{Allows, PolicyView}
 use Rattle.rbac_model.specs.Holders.{IsKeyFor}
 use Rattle.rbac_paths.specs.Powers.{PowerView}
-use Rattle.rbac_paths.specs.Steps.{IsNamed, RowView, table}
+use Rattle.rbac_paths.specs.Steps.{CanBeNamed, RowView, asked_in, table}
 use Rattle.rbac_paths.specs.declared.steps.Step.{Step}
-use Rattle.rbac_paths.specs.declared.table.Counts.{Counts}
-use Rattle.rbac_paths.specs.declared.table.Counts.TheVariants as counted
-
--- where a request of a row is asked: in no namespace, if it counts in the whole cluster alone
-abbrev pub asked_in : Counts → Text → Text
-asked_in counted.ClusterWide namespace = []
-asked_in counted.InNamespaces namespace = namespace
 
 -- somebody is allowed some request of the step in that namespace, or, if it is the empty one, in the
 -- whole cluster
@@ -27,7 +20,7 @@ pub record CanTake (p : PolicyView) (who : Who) (step : Step) (namespace : Text)
   pub of_step : row.step ≡ step
   pub of_verbs : Contains row.verbs verb
   pub of_resources : Contains row.resources text
-  pub named : IsNamed row.names name
+  pub named : CanBeNamed row.names name
   pub allowed : Allows p.held who (asked_in row.counts namespace) verb (Resource row.group text name)
 
 -- what holds where a binding of that namespace, or of none, is live also holds there

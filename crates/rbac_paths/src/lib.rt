@@ -6,13 +6,16 @@ mod all_steps;
 mod finding;
 mod laws;
 mod line;
+mod node;
 mod power;
 mod rows;
 mod steps;
 mod table;
+mod taking;
 
 pub use all_steps::powers;
 pub use laws::powers_are_one;
 pub use line::put_power;
+pub use node::Node;
 pub use power::{Power, Powers};
 pub use steps::Step;

@@ -2,12 +2,22 @@
 
 ghost use Rattle.std.specs.Prelude.{◌≡◌, ◌↔◌, IsTrue, IfOk, OnOk, Any, map};
 ghost use Rattle.std.specs.Option.{option_copied};
-ghost use Rattle.rbac_terms.specs.Matching.{VerbOk};
+ghost use Rattle.rbac_terms.specs.Matching.{NameMatches, VerbOk};
+ghost use Rattle.rbac_terms.specs.Targets.{Resource};
+ghost use Rattle.rbac_terms.specs.Text.{Text};
+ghost use Rattle.rbac_model.specs.Policies.{Live};
+ghost use Rattle.rbac_paths.specs.Asked.{AllowsRowFor, Asks, HasNameFor};
+ghost use Rattle.rbac_paths.specs.Nodes.{node_of};
 ghost use Rattle.rbac_paths.specs.Rows.{AddsRow, AreOfStep, HasName, HasResource, row_of};
-ghost use Rattle.rbac_paths.specs.Steps.{AllowsRow, CountsIn, table};
+ghost use Rattle.rbac_paths.specs.Steps.{AllowsRow, CountsIn, asked_in, table};
+ghost use Rattle.rbac_paths.specs.Taking.{IsOver, RowTakes};
 
+use crate::node::Node;
 use crate::steps::Step;
-use crate::table::{Counts, Names, Row, TABLE};
+use crate::table::{Counts, Names, Over, Row, TABLE};
+use crate::taking::{
+    Asked, for_account, for_cluster_role, for_everything, for_group, for_role, for_user,
+};
 use rbac_terms::{Rule, Word, Words, group_matches, resource_matches, verb_matches};
 use std::alloc::{AllocError, Global};
 use std::marker::Model;
@@ -21,6 +31,7 @@ pub(crate) struct WordRow {
     verbs: Words,
     group: Word,
     resources: Words,
+    over: Over,
 }
 
 impl Model for WordRow {
@@ -35,6 +46,7 @@ impl Model for WordRow {
       verbs = r.verbs;
       group = r.group;
       resources = r.resources;
+      over = r.over;
     } };
 }
 
@@ -49,6 +61,7 @@ impl WordRow {
             verbs: words_of(alloc, row.verbs)?,
             group: Word::from_slice(alloc, row.group.as_bytes())?,
             resources: words_of(alloc, row.resources)?,
+            over: row.over,
         })
     }
 
@@ -70,6 +83,68 @@ impl WordRow {
             && group_matches(rule, &self.group)
             && self.has_resource_of(rule)
             && self.has_name_of(rule)
+    }
+
+    // Whether a rule that counts in this namespace, or, if there is none, in the whole cluster, allows
+    // some request of the row that takes over the node.
+    pub(crate) fn is_taken_by(&self, home: Option<&Word>, rule: &Rule, node: Node<'_>) -> bool
+        ensures { IsTrue result
+            ↔ RowTakes self.now (option_copied home.entry) rule.now (node_of node.entry) }
+    {
+        match self.asked_of(node) {
+            Some(asked) => self.is_live(home, asked.namespace) && self.is_allowed_for(rule, asked.own),
+            None => false,
+        }
+    }
+
+    // What requests of the row that take over the node ask.
+    fn asked_of<'p>(&self, node: Node<'p>) -> Option<Asked<'p>>
+        ensures { Asks (IsOver self.now.over self.now.counts (node_of node.entry)) result }
+    {
+        match self.over {
+            Over::Users => for_user(self.counts, node),
+            Over::Groups => for_group(self.counts, node),
+            Over::Accounts => for_account(self.counts, node),
+            Over::Everything => for_everything(self.counts, node),
+            Over::ClusterRoles => for_cluster_role(self.counts, node),
+            Over::Roles => for_role(self.counts, node),
+        }
+    }
+
+    // Whether a binding in that namespace, or in none, is live where the row's requests are asked.
+    fn is_live(&self, home: Option<&Word>, namespace: &[u8]) -> bool
+        ensures { (text name : Text) → IsTrue result ↔ Live (option_copied home.entry)
+            (asked_in self.now.counts namespace.now) (Resource self.now.group text name) }
+    {
+        match home {
+            None => true,
+            Some(own) => {
+                self.counts == Counts::InNamespaces
+                    && !namespace.is_empty()
+                    && own.as_bytes() == namespace
+            }
+        }
+    }
+
+    // Whether the rule allows some request of the row for what has that name.
+    fn is_allowed_for(&self, rule: &Rule, own: &[u8]) -> bool
+        ensures { IsTrue result ↔ AllowsRowFor self.now own.now rule.now }
+    {
+        self.has_verb_of(rule)
+            && group_matches(rule, &self.group)
+            && self.has_resource_of(rule)
+            && self.has_name_for(rule, own)
+    }
+
+    // Whether the rule's names match the object name of a request of the row for what has that name.
+    fn has_name_for(&self, rule: &Rule, own: &[u8]) -> bool
+        ensures { IsTrue result ↔ HasNameFor self.now.names own.now rule.now }
+    {
+        match self.names {
+            Names::Any => true,
+            Names::Own => has_name(rule, own),
+            Names::None => has_name(rule, b""),
+        }
     }
 
     // Whether the rule matches some verb of the row.
@@ -97,12 +172,17 @@ impl WordRow {
         ensures { IsTrue result ↔ HasName self.now.names rule.now }
     {
         match self.names {
-            Names::Any => true,
-            Names::None => {
-                rule.resource_names.is_empty() || rule.resource_names.contains_bytes(b"")
-            }
+            Names::Own | Names::Any => true,
+            Names::None => has_name(rule, b""),
         }
     }
+}
+
+// Whether the rule's names match this object name.
+fn has_name(rule: &Rule, name: &[u8]) -> bool
+    ensures { IsTrue result ↔ NameMatches rule.now.resource_names name.now }
+{
+    rule.resource_names.is_empty() || rule.resource_names.contains_bytes(name)
 }
 
 // The texts as words.

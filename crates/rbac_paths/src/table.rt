@@ -5,10 +5,29 @@ use crate::steps::Step;
 /// Which object names the requests of a row have.
 #[derive(Clone, Copy, PartialEq, Eq, Debug, Drop)]
 pub(crate) enum Names {
-    /// Any: a rule counts whatever its names are.
-    Any,
     /// None: a rule that is limited to names doesn't count.
     None,
+    /// The name of what is taken over.
+    Own,
+    /// Any: a rule counts whatever its names are.
+    Any,
+}
+
+/// What a row takes over.
+#[derive(Clone, Copy, PartialEq, Eq, Debug, Drop)]
+pub(crate) enum Over {
+    /// Users, but for service accounts.
+    Users,
+    /// Groups.
+    Groups,
+    /// Service accounts.
+    Accounts,
+    /// Everything in a scope.
+    Everything,
+    /// Cluster roles, bound in a scope.
+    ClusterRoles,
+    /// Roles of a namespace, bound there.
+    Roles,
 }
 
 /// Where the requests of a row count.
@@ -28,6 +47,7 @@ pub(crate) struct Row {
     pub(crate) verbs: &'static [&'static str],
     pub(crate) group: &'static str,
     pub(crate) resources: &'static [&'static str],
+    pub(crate) over: Over,
 }
 
 // The API group of roles and bindings.
@@ -37,30 +57,42 @@ const RBAC: &str = "rbac.authorization.k8s.io";
 const WRITE: &[&str] = &["create", "update", "patch"];
 
 // The table of steps (Role Based Access Control Good Practices; own).
-pub(crate) const TABLE: [Row; 17] = [
+pub(crate) const TABLE: [Row; 20] = [
     Row {
         step: Step::Impersonate,
-        names: Names::Any,
+        names: Names::Own,
         counts: Counts::ClusterWide,
         verbs: &["impersonate"],
         group: "",
-        resources: &["users", "groups"],
+        resources: &["users"],
+        over: Over::Users,
     },
     Row {
         step: Step::Impersonate,
-        names: Names::Any,
+        names: Names::Own,
+        counts: Counts::ClusterWide,
+        verbs: &["impersonate"],
+        group: "",
+        resources: &["groups"],
+        over: Over::Groups,
+    },
+    Row {
+        step: Step::Impersonate,
+        names: Names::Own,
         counts: Counts::InNamespaces,
         verbs: &["impersonate"],
         group: "",
         resources: &["serviceaccounts"],
+        over: Over::Accounts,
     },
     Row {
         step: Step::Token,
-        names: Names::Any,
+        names: Names::Own,
         counts: Counts::InNamespaces,
         verbs: &["create"],
         group: "",
         resources: &["serviceaccounts/token"],
+        over: Over::Accounts,
     },
     Row {
         step: Step::Run,
@@ -69,6 +101,7 @@ pub(crate) const TABLE: [Row; 17] = [
         verbs: &["create"],
         group: "",
         resources: &["pods"],
+        over: Over::Accounts,
     },
     Row {
         step: Step::Run,
@@ -77,6 +110,7 @@ pub(crate) const TABLE: [Row; 17] = [
         verbs: &["create"],
         group: "batch",
         resources: &["jobs"],
+        over: Over::Accounts,
     },
     Row {
         step: Step::Run,
@@ -85,6 +119,7 @@ pub(crate) const TABLE: [Row; 17] = [
         verbs: WRITE,
         group: "",
         resources: &["replicationcontrollers"],
+        over: Over::Accounts,
     },
     Row {
         step: Step::Run,
@@ -93,6 +128,7 @@ pub(crate) const TABLE: [Row; 17] = [
         verbs: WRITE,
         group: "apps",
         resources: &["daemonsets", "deployments", "replicasets", "statefulsets"],
+        over: Over::Accounts,
     },
     Row {
         step: Step::Run,
@@ -101,6 +137,7 @@ pub(crate) const TABLE: [Row; 17] = [
         verbs: WRITE,
         group: "batch",
         resources: &["cronjobs"],
+        over: Over::Accounts,
     },
     Row {
         step: Step::Exec,
@@ -109,6 +146,7 @@ pub(crate) const TABLE: [Row; 17] = [
         verbs: &["create", "get"],
         group: "",
         resources: &["pods/attach", "pods/exec"],
+        over: Over::Accounts,
     },
     Row {
         step: Step::Exec,
@@ -117,6 +155,7 @@ pub(crate) const TABLE: [Row; 17] = [
         verbs: &["update", "patch"],
         group: "",
         resources: &["pods", "pods/ephemeralcontainers"],
+        over: Over::Accounts,
     },
     Row {
         step: Step::Secrets,
@@ -125,6 +164,7 @@ pub(crate) const TABLE: [Row; 17] = [
         verbs: &["get", "list", "watch"],
         group: "",
         resources: &["secrets"],
+        over: Over::Accounts,
     },
     Row {
         step: Step::Nodes,
@@ -133,14 +173,34 @@ pub(crate) const TABLE: [Row; 17] = [
         verbs: &["create", "get"],
         group: "",
         resources: &["nodes/proxy"],
+        over: Over::Accounts,
     },
     Row {
         step: Step::Bind,
-        names: Names::Any,
+        names: Names::None,
         counts: Counts::InNamespaces,
         verbs: &["bind"],
         group: RBAC,
         resources: &["clusterroles", "roles"],
+        over: Over::Everything,
+    },
+    Row {
+        step: Step::Bind,
+        names: Names::Own,
+        counts: Counts::InNamespaces,
+        verbs: &["bind"],
+        group: RBAC,
+        resources: &["clusterroles"],
+        over: Over::ClusterRoles,
+    },
+    Row {
+        step: Step::Bind,
+        names: Names::Own,
+        counts: Counts::InNamespaces,
+        verbs: &["bind"],
+        group: RBAC,
+        resources: &["roles"],
+        over: Over::Roles,
     },
     Row {
         step: Step::Escalate,
@@ -149,6 +209,7 @@ pub(crate) const TABLE: [Row; 17] = [
         verbs: &["escalate"],
         group: RBAC,
         resources: &["clusterroles"],
+        over: Over::Everything,
     },
     Row {
         step: Step::Escalate,
@@ -157,6 +218,7 @@ pub(crate) const TABLE: [Row; 17] = [
         verbs: &["escalate"],
         group: RBAC,
         resources: &["roles"],
+        over: Over::Everything,
     },
     Row {
         step: Step::Certificates,
@@ -165,6 +227,7 @@ pub(crate) const TABLE: [Row; 17] = [
         verbs: &["update", "patch"],
         group: "certificates.k8s.io",
         resources: &["certificatesigningrequests/approval"],
+        over: Over::Everything,
     },
     Row {
         step: Step::Webhooks,
@@ -176,5 +239,6 @@ pub(crate) const TABLE: [Row; 17] = [
             "mutatingwebhookconfigurations",
             "validatingwebhookconfigurations",
         ],
+        over: Over::Everything,
     },
 ];

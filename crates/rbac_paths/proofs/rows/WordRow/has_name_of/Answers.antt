@@ -1,12 +1,15 @@
-use Rattle.std.proofs.Common.{◌≡◌, ◌∙◌, ap, refl, subst, sym}
+use Rattle.std.proofs.Common.{◌≡◌, ◌∙◌, ap, inl, inr, refl, subst, sym}
 use Rattle.rbac_paths.specs.Rows.{HasName}
 use Rattle.rbac_paths.specs.Steps.{RowView}
 use Rattle.rbac_paths.specs.declared.table.Names.{Names}
-use Rattle.rbac_paths.specs.declared.table.Names.TheVariants as names
-use Rattle.rbac_paths.proofs.Allowing.{any_has_name}
+use Rattle.rbac_paths.proofs.Allowing.{any_has_name, own_has_name}
 use Rattle.rbac_paths.proofs.rows.WordRow.has_name_of.Goals as goal
 
-pub returns-in-Any : goal.returns-in-Any
-returns-in-Any c =
-    let is : c.args.self.now.names ≡ names.Any = sym (ap (λ (r : RowView). r.names) c.self.view_is) ∙ c.in-Any.is in
-    (λ t. subst (λ (n : Names). HasName n c.args.rule.now) (sym is) (any_has_name c.args.rule.now), λ h. refl)
+pub returns-in-Own : goal.returns-in-Own
+returns-in-Own c =
+    let is = ap (λ (r : RowView). r.names) c.self.view_is in
+    let some : HasName c.args.self.now.names c.args.rule.now = elim c.in-Own.is [
+      | inl own ↦ subst (λ (n : Names). HasName n c.args.rule.now) (sym own ∙ is) (own_has_name c.args.rule.now)
+      | inr any ↦ subst (λ (n : Names). HasName n c.args.rule.now) (sym any ∙ is) (any_has_name c.args.rule.now)
+    ] in
+    (λ t. some, λ h. refl)

@@ -1,0 +1,60 @@
+-- Which rules take over which nodes, by the rows of the table.
+use Rattle.std.specs.Prelude.{◌≡◌, [], Option, Some, None, Any, Contains}
+use Rattle.rbac_terms.specs.Text.{Text}
+use Rattle.rbac_terms.specs.Principals.{AsUser, AsMember}
+use Rattle.rbac_terms.specs.Targets.{Resource}
+use Rattle.rbac_terms.specs.Matching.{RuleAllows}
+use Rattle.rbac_terms.specs.declared.matching.Rule.{Rule}
+use Rattle.rbac_model.specs.Policies.{Live}
+use Rattle.rbac_paths.specs.Nodes.{NodeView, Somebody, ClusterRoleIn, OwnRole, EverythingIn}
+use Rattle.rbac_paths.specs.Nodes.{IsAccountNamed}
+use Rattle.rbac_paths.specs.Steps.{IsNamed, RowView, asked_in, table}
+use Rattle.rbac_paths.specs.declared.steps.Step.{Step}
+use Rattle.rbac_paths.specs.declared.table.Counts.{Counts}
+use Rattle.rbac_paths.specs.declared.table.Counts.TheVariants as counted
+use Rattle.rbac_paths.specs.declared.table.Over.{Over}
+use Rattle.rbac_paths.specs.declared.table.Over.TheVariants as over
+
+-- the namespace that stands for a scope; the empty one stands for the whole cluster
+abbrev pub scope_text : Option Text → Text
+scope_text None = []
+scope_text (Some namespace) = namespace
+
+-- what counts in the whole cluster alone takes over everything there, and nothing of a namespace
+abbrev pub IsInReach : Counts → Option Text → Type 0
+IsInReach counted.ClusterWide scope = scope ≡ None
+IsInReach counted.InNamespaces scope = Unit {0}
+
+-- the row takes over the node by requests in that namespace for what has that name
+abbrev pub IsOver : Over → Counts → NodeView → Text → Text → Type 0
+IsOver over.Users counts (Somebody (AsUser user given)) namespace name = (namespace ≡ [])
+    × (name ≡ user) × ((n m : Text) → ¬ IsAccountNamed (AsUser user given) n m)
+IsOver over.Groups counts (Somebody (AsMember group)) namespace name = (namespace ≡ [])
+    × (name ≡ group)
+IsOver over.Accounts counts (Somebody who) namespace name = IsAccountNamed who namespace name
+IsOver over.Everything counts (EverythingIn scope) namespace name =
+    (namespace ≡ scope_text scope) × (name ≡ []) × IsInReach counts scope
+IsOver over.ClusterRoles counts (ClusterRoleIn role scope) namespace name =
+    (namespace ≡ scope_text scope) × (name ≡ role.name)
+IsOver over.Roles counts (OwnRole role) namespace name = (namespace ≡ role.namespace)
+    × (name ≡ role.name)
+IsOver _ _ _ namespace name = ⊥
+
+-- a rule that counts in that namespace, or, if there is none, in the whole cluster, allows some request
+-- of the row that takes over the node
+pub record RowTakes (row : RowView) (home : Option Text) (rule : Rule) (y : NodeView) : Type 0 where
+  pub namespace : Text
+  pub own : Text
+  pub verb : Text
+  pub text : Text
+  pub name : Text
+  pub over : IsOver row.over row.counts y namespace own
+  pub of_verbs : Contains row.verbs verb
+  pub of_resources : Contains row.resources text
+  pub named : IsNamed row.names own name
+  pub live : Live home (asked_in row.counts namespace) (Resource row.group text name)
+  pub allows : RuleAllows rule verb (Resource row.group text name)
+
+-- such a rule allows some request of the step that takes over the node
+abbrev pub RuleTakes : Step → Option Text → Rule → NodeView → Type 0
+RuleTakes step home rule y = Any (λ row. (row.step ≡ step) × RowTakes row home rule y) table

@@ -1,0 +1,144 @@
+//! Which rules take over which nodes, by the rows of the table.
+
+ghost use Rattle.std.specs.Prelude.{◌≡◌, ◌↔◌, IsTrue, MatchOption};
+ghost use Rattle.std.specs.Option.{option_copied};
+ghost use Rattle.rbac_terms.specs.Text.{Text};
+ghost use Rattle.rbac_paths.specs.Asked.{Asks, IsUser};
+ghost use Rattle.rbac_paths.specs.Nodes.{IsAccountNamed, Somebody, node_of};
+ghost use Rattle.rbac_paths.specs.Taking.{IsOver, scope_text};
+ghost use Rattle.rbac_paths.specs.declared.table.Counts.{Counts};
+ghost use Rattle.rbac_paths.specs.declared.table.Over.TheVariants as over;
+
+use crate::node::Node;
+use crate::table::Counts;
+use rbac_terms::{Principal, Word};
+
+// What the requests that take over a node ask: where (in the empty namespace: in the whole cluster),
+// and for what name.
+#[derive(Clone, Copy)]
+pub(crate) struct Asked<'p> {
+    pub(crate) namespace: &'p [u8],
+    pub(crate) own: &'p [u8],
+}
+
+// What is asked for a user who is no service account.
+pub(crate) fn for_user(counts: Counts, node: Node<'_>) -> Option<Asked<'_>>
+    ensures { Asks (IsOver over.Users counts (node_of node.entry)) result }
+{
+    match node {
+        Node::Somebody(who) => for_plain_user(who),
+        _ => None,
+    }
+}
+
+// What is asked for this user, if it is one and no service account.
+fn for_plain_user(who: &Principal) -> Option<Asked<'_>>
+    ensures { (counts : Counts) → Asks (IsOver over.Users counts (Somebody who.now)) result }
+{
+    if is_user(who) && account_parts(who).is_none() {
+        Some(Asked {
+            namespace: b"",
+            own: who.name(),
+        })
+    } else {
+        None
+    }
+}
+
+// What is asked for a group.
+pub(crate) fn for_group(counts: Counts, node: Node<'_>) -> Option<Asked<'_>>
+    ensures { Asks (IsOver over.Groups counts (node_of node.entry)) result }
+{
+    match node {
+        Node::Somebody(who) if !is_user(who) => Some(Asked {
+            namespace: b"",
+            own: who.name(),
+        }),
+        _ => None,
+    }
+}
+
+// What is asked for a service account.
+pub(crate) fn for_account(counts: Counts, node: Node<'_>) -> Option<Asked<'_>>
+    ensures { Asks (IsOver over.Accounts counts (node_of node.entry)) result }
+{
+    match node {
+        Node::Somebody(who) => {
+            let (namespace, own) = account_parts(who)?;
+            Some(Asked { namespace, own })
+        }
+        _ => None,
+    }
+}
+
+// What is asked for everything in a scope.
+pub(crate) fn for_everything(counts: Counts, node: Node<'_>) -> Option<Asked<'_>>
+    ensures { Asks (IsOver over.Everything counts (node_of node.entry)) result }
+{
+    match node {
+        Node::Everything(scope) if counts == Counts::InNamespaces || scope.is_none() => {
+            Some(Asked {
+                namespace: scope_text(scope),
+                own: b"",
+            })
+        }
+        _ => None,
+    }
+}
+
+// What is asked for a cluster role in a scope.
+pub(crate) fn for_cluster_role(counts: Counts, node: Node<'_>) -> Option<Asked<'_>>
+    ensures { Asks (IsOver over.ClusterRoles counts (node_of node.entry)) result }
+{
+    match node {
+        Node::ClusterRole(role, scope) => Some(Asked {
+            namespace: scope_text(scope),
+            own: role.name.as_bytes(),
+        }),
+        _ => None,
+    }
+}
+
+// What is asked for a role in its namespace.
+pub(crate) fn for_role(counts: Counts, node: Node<'_>) -> Option<Asked<'_>>
+    ensures { Asks (IsOver over.Roles counts (node_of node.entry)) result }
+{
+    match node {
+        Node::Role(role) => Some(Asked {
+            namespace: role.namespace.as_bytes(),
+            own: role.name.as_bytes(),
+        }),
+        _ => None,
+    }
+}
+
+// The namespace that stands for a scope; the empty one stands for the whole cluster.
+fn scope_text(scope: Option<&Word>) -> &[u8]
+    ensures { result.now ≡ scope_text (option_copied scope.entry) }
+{
+    match scope {
+        Some(namespace) => namespace.as_bytes(),
+        None => b"",
+    }
+}
+
+// Whether this is a user, and not a member of a group.
+fn is_user(who: &Principal) -> bool
+    ensures { IsTrue result ↔ IsUser who.now }
+{
+    who.key().as_bytes().first() == Some(&b'u')
+}
+
+// The namespace and the name of a service account.
+fn account_parts(who: &Principal) -> Option<(&[u8], &[u8])>
+    ensures { MatchOption result
+        ((n m : Text) → ¬ IsAccountNamed who.now n m)
+        (λ parts. (n m : Text) → IsAccountNamed who.now n m ↔ ((n ≡ parts.0.now) × (m ≡ parts.1.now))) }
+{
+    let namespace = who.account_namespace()?;
+    let parts = who.name().get(ACCOUNT + namespace.len() + 1..)?;
+    Some((namespace, parts))
+}
+
+// How long the prefix of a service account's user name is.
+const ACCOUNT: usize = b"system:serviceaccount:".len();
