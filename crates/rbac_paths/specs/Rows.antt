@@ -1,7 +1,7 @@
 -- The rows of the table, as the program has them, and what of a rule matches them.
 use Rattle.std.specs.Prelude.{◌≡◌, ◌↔◌, ◌⊎◌, List, [], ◌∷◌, ◌++◌, Any, Contains, map}
 use Rattle.rbac_terms.specs.Text.{Text}
-use Rattle.rbac_terms.specs.Matching.{NameMatches, ResourceWordMatches}
+use Rattle.rbac_terms.specs.Matching.{NameMatches, ResourceWordMatches, VerbOk, WordMatches}
 use Rattle.rbac_terms.specs.declared.matching.Rule.{Rule}
 use Rattle.rbac_paths.specs.Steps.{CanBeNamed, RowView}
 use Rattle.rbac_paths.specs.declared.steps.Step.{Step}
@@ -23,6 +23,11 @@ row_of r = record {
 -- some resource word of the rule matches the resource text
 abbrev pub HasResource : Rule → Text → Type 0
 HasResource rule text = Any (λ w. ResourceWordMatches w text) rule.resources
+
+-- the rule matches a verb, the API group and a resource of the row
+abbrev pub MatchesRow : RowView → Rule → Type 0
+MatchesRow r rule = Any (VerbOk rule) r.verbs × Any (λ w. WordMatches w r.group) rule.groups
+    × Any (HasResource rule) r.resources
 
 -- the rule's names match some object name of the row's requests
 abbrev pub HasName : Names → Rule → Type 0

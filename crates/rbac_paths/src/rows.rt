@@ -8,7 +8,7 @@ ghost use Rattle.rbac_terms.specs.Text.{Text};
 ghost use Rattle.rbac_model.specs.Policies.{Live};
 ghost use Rattle.rbac_paths.specs.Asked.{AllowsRowFor, Asks, HasNameFor};
 ghost use Rattle.rbac_paths.specs.Nodes.{node_of};
-ghost use Rattle.rbac_paths.specs.Rows.{AddsRow, AreOfStep, HasName, HasResource, row_of};
+ghost use Rattle.rbac_paths.specs.Rows.{AddsRow, AreOfStep, HasName, HasResource, MatchesRow, row_of};
 ghost use Rattle.rbac_paths.specs.Steps.{AllowsRow, CountsIn, asked_in, table};
 ghost use Rattle.rbac_paths.specs.Taking.{IsOver, RowTakes};
 
@@ -79,10 +79,7 @@ impl WordRow {
     pub(crate) fn is_allowed_by(&self, rule: &Rule) -> bool
         ensures { IsTrue result ↔ AllowsRow self.now rule.now }
     {
-        self.has_verb_of(rule)
-            && group_matches(rule, &self.group)
-            && self.has_resource_of(rule)
-            && self.has_name_of(rule)
+        self.matches(rule) && self.has_name_of(rule)
     }
 
     // Whether a rule that counts in this namespace, or, if there is none, in the whole cluster, allows
@@ -130,10 +127,7 @@ impl WordRow {
     fn is_allowed_for(&self, rule: &Rule, own: &[u8]) -> bool
         ensures { IsTrue result ↔ AllowsRowFor self.now own.now rule.now }
     {
-        self.has_verb_of(rule)
-            && group_matches(rule, &self.group)
-            && self.has_resource_of(rule)
-            && self.has_name_for(rule, own)
+        self.matches(rule) && self.has_name_for(rule, own)
     }
 
     // Whether the rule's names match the object name of a request of the row for what has that name.
@@ -145,6 +139,13 @@ impl WordRow {
             Names::Own => has_name(rule, own),
             Names::None => has_name(rule, b""),
         }
+    }
+
+    // Whether the rule matches a verb, the API group and a resource of the row.
+    fn matches(&self, rule: &Rule) -> bool
+        ensures { IsTrue result ↔ MatchesRow self.now rule.now }
+    {
+        self.has_verb_of(rule) && group_matches(rule, &self.group) && self.has_resource_of(rule)
     }
 
     // Whether the rule matches some verb of the row.
