@@ -1,5 +1,5 @@
 -- The parts of a service account's user name.
-use Rattle.std.proofs.Common.{◌≡◌, ◌+◌, ◌≤◌, ◌∙◌, ℕ, ◌++◌, ap, arith, drop, length, subst, sym}
+use Rattle.std.proofs.Common.{◌≡◌, ◌+◌, ◌≤◌, ◌∙◌, ℕ, ◌++◌, ap, arith, length, subst, sym}
 use Rattle.std.specs.Prelude.{codes, slice_range}
 use Rattle.std.proofs.lemmas.List.{drop_at, length-append, take_all}
 use Rattle.rbac_terms.specs.Text.{Text}

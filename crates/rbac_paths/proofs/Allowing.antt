@@ -4,7 +4,7 @@ use Rattle.rbac_terms.specs.Text.{Text}
 use Rattle.rbac_terms.specs.Matching.{NameMatches, VerbOk, WordMatches}
 use Rattle.rbac_terms.specs.declared.matching.Rule.{Rule}
 use Rattle.rbac_model.proofs.OwnWords.{any_from}
-use Rattle.rbac_paths.specs.Asked.{AllowsRowFor, Asks, HasNameFor}
+use Rattle.rbac_paths.specs.Asked.{HasNameFor}
 use Rattle.rbac_paths.specs.Rows.{HasName, HasResource}
 use Rattle.rbac_paths.specs.Steps.{AllowsRow, RowView}
 use Rattle.rbac_paths.specs.declared.table.Names.TheVariants as names

@@ -3,7 +3,7 @@ use Rattle.std.proofs.Common.{◌≡◌, ◌↔◌, ◌∙◌, [], Option, Some,
 use Rattle.rbac_terms.specs.Text.{Text}
 use Rattle.rbac_terms.specs.Principals.{Who, AsUser, AsMember, name_of}
 use Rattle.rbac_paths.specs.Asked.{IsUser}
-use Rattle.rbac_paths.specs.Nodes.{IsAccountNamed, NodeView, Somebody}
+use Rattle.rbac_paths.specs.Nodes.{IsAccountNamed, Somebody}
 use Rattle.rbac_paths.specs.Taking.{IsOver}
 use Rattle.rbac_paths.specs.declared.table.Counts.{Counts}
 use Rattle.rbac_paths.specs.declared.table.Over.TheVariants as over

@@ -7,6 +7,7 @@ pub mod Asking
 pub mod Choosing
 pub mod Gathering
 pub mod Giving
+pub mod Grants
 pub mod OnePowers
 pub mod Taken
 pub mod Telling

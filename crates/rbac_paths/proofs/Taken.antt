@@ -1,5 +1,5 @@
 -- A rule takes over a node by a row exactly if it is live where that is asked, and allows it by the node's name.
-use Rattle.std.proofs.Common.{◌≡◌, ◌↔◌, [], Bool, IsTrue, Option, refl, subst, sym}
+use Rattle.std.proofs.Common.{◌≡◌, ◌↔◌, Bool, IsTrue, Option, refl, subst}
 use Rattle.rbac_terms.specs.Text.{Text}
 use Rattle.rbac_terms.specs.Targets.{Resource}
 use Rattle.rbac_terms.specs.declared.matching.Rule.{Rule}

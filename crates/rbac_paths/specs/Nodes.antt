@@ -1,5 +1,5 @@
 -- Whom and what one can take over.
-use Rattle.std.specs.Prelude.{◌≡◌, [], Option, Some}
+use Rattle.std.specs.Prelude.{◌≡◌, Option}
 use Rattle.std.specs.Option.{option_copied}
 use Rattle.rbac_terms.specs.Text.{Text}
 use Rattle.rbac_terms.specs.Principals.{Who, AsUser, AsMember, account_user, IsPart}

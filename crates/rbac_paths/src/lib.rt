@@ -12,6 +12,7 @@ mod rows;
 mod steps;
 mod table;
 mod taking;
+mod taking_over;
 
 pub use all_steps::powers;
 pub use laws::powers_are_one;
@@ -19,3 +20,4 @@ pub use line::put_power;
 pub use node::Node;
 pub use power::{Power, Powers};
 pub use steps::Step;
+pub use taking_over::taking_grant;

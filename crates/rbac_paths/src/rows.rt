@@ -89,7 +89,8 @@ impl WordRow {
             ↔ RowTakes self.now (option_copied home.entry) rule.now (node_of node.entry) }
     {
         match self.asked_of(node) {
-            Some(asked) => self.is_live(home, asked.namespace) && self.is_allowed_for(rule, asked.own),
+            Some(asked) => self.is_live(home, asked.namespace)
+                && self.is_allowed_for(rule, asked.own),
             None => false,
         }
     }

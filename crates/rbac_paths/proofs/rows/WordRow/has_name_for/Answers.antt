@@ -1,5 +1,4 @@
-use Rattle.std.proofs.Common.{◌≡◌, ◌↔◌, ◌∙◌, [], IsTrue, ap, refl, subst, sym}
-use Rattle.rbac_terms.specs.Matching.{NameMatches}
+use Rattle.std.proofs.Common.{◌↔◌, ◌∙◌, IsTrue, ap, refl, subst, sym}
 use Rattle.rbac_paths.specs.Asked.{HasNameFor}
 use Rattle.rbac_paths.specs.Steps.{RowView}
 use Rattle.rbac_paths.specs.declared.table.Names.{Names}

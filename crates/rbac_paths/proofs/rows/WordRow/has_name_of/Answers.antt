@@ -1,4 +1,4 @@
-use Rattle.std.proofs.Common.{◌≡◌, ◌∙◌, ap, inl, inr, refl, subst, sym}
+use Rattle.std.proofs.Common.{◌∙◌, ap, inl, inr, refl, subst, sym}
 use Rattle.rbac_paths.specs.Rows.{HasName}
 use Rattle.rbac_paths.specs.Steps.{RowView}
 use Rattle.rbac_paths.specs.declared.table.Names.{Names}
