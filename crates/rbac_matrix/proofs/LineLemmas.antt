@@ -64,7 +64,7 @@ mapped_at [] place t e = cc
 mapped_at (x ∷ ts) zero t e = let same : x ≡ t = same_Some x t e in ap (λ (y : Listed). Some y.0) same
 mapped_at (x ∷ ts) (suc place) t e = mapped_at ts place t e
 
-flag_at : (ts : List Listed) (place : ℕ) (t : Listed) (b : Bool) → slice_get ts place ≡ Some t → slice_get (map (λ (x : Listed). x.1) ts) place ≡ Some b → t.1 ≡ b
+pub flag_at : (ts : List Listed) (place : ℕ) (t : Listed) (b : Bool) → slice_get ts place ≡ Some t → slice_get (map (λ (x : Listed). x.1) ts) place ≡ Some b → t.1 ≡ b
 flag_at [] place t b e f = cc
 flag_at (x ∷ ts) zero t b e f = let same : x ≡ t = same_Some x t e in let flag : x.1 ≡ b = same_Some x.1 b f in ap (λ (y : Listed). y.1) (sym same) ∙ flag
 flag_at (x ∷ ts) (suc place) t b e f = flag_at ts place t b e f

@@ -140,7 +140,7 @@ module _ (s t : Rows) (policy : IsPolicy s.index.now) (same : GoesOn s t) where
     ended_first = none_first t.index.now.held (cells t) (rw ended_cells refl)
 
   module _ (place no : ℕ) (from : t.from ≡ place) (f : FindsCell s.index.now s.universe.now s.reaches.now s.at s.from 0 t.at t.seats.now place no) where
-    abbrev row : RowView
+    abbrev pub row : RowView
     row = row_on s.index.now s.universe.now f.line place no f.found.next.hit
 
     pub come_passes : Passes s.index.now.held (cells s) (cells t) []

@@ -1,5 +1,5 @@
 -- the rows of lines that have only repeats
-use Rattle.std.proofs.Common.{◌≡◌, ℕ, ◌<◌, List, [], ◌∷◌, ◌++◌, true, Contains, drop, get_or, map, length, length-append, ap, ◌∙◌, sym, arith, append_assoc, subst, inl, inr}
+use Rattle.std.proofs.Common.{◌≡◌, ℕ, ◌<◌, ◌≤◌, List, [], ◌∷◌, ◌++◌, true, Contains, drop, get_or, map, length, length-append, ap, ◌∙◌, sym, arith, append_assoc, subst, inl, inr}
 use Rattle.std.specs.Prelude.{Some}
 use Rattle.std.specs.List.{flat_map}
 use Rattle.std.proofs.lemmas.List.Elements.{Contains-append_cases, Contains-get_or}
@@ -10,7 +10,7 @@ use Rattle.rbac_terms.proofs.Reading.{read_some}
 use Rattle.rbac_model.specs.Policies.{PolicyView, IsPolicy}
 use Rattle.rbac_model.specs.Universes.{UniverseView, Cell, RowView}
 use Rattle.rbac_universe.proofs.Flattened.{contains_flat, contains_map, here, there}
-use Rattle.rbac_matrix.specs.RepeatedLines.{PassesLines}
+use Rattle.rbac_matrix.specs.RepeatedLines.{HasRepeatsLeft, PassesLines}
 use Rattle.rbac_matrix.specs.Cells.{AreRowsOf}
 use Rattle.rbac_matrix.specs.Enumeration.{AreLeft, GoesOn, requests_left}
 use Rattle.rbac_matrix.specs.EveryLeft.{AreEveryLeft, pairs_from, pairs_left}
@@ -23,7 +23,7 @@ use Rattle.rbac_matrix.specs.declared.every_rows.EveryRows.{EveryRows}
 use Rattle.rbac_matrix.specs.declared.line.Place.{Place}
 use Rattle.rbac_matrix.proofs.EnumLemmas.{cells_at, whole_cells}
 use Rattle.rbac_matrix.proofs.LinesLemmas.{drop_at}
-use Rattle.rbac_matrix.proofs.OnceLemmas.{AreRepeats, cells, left_passes}
+use Rattle.rbac_matrix.proofs.OnceLemmas.{AreRepeats, cells, left_passes, passes_few}
 use Rattle.rbac_matrix.proofs.OneEvery.{decided_pair}
 use Rattle.rbac_matrix.proofs.PairLemmas.{first_in, others_in, pairs_append, pairs_zero}
 use Rattle.rbac_matrix.proofs.PassLemmas.{line_step}
@@ -32,7 +32,7 @@ use Rattle.rbac_matrix.proofs.SearchLemmas.{in_drop}
 use Rattle.rbac_matrix.proofs.SomeMatrix.{some_rows}
 use Rattle.rbac_matrix.proofs.ThoseLemmas.{some_those, those_append, those_one, those_sound, those_split}
 
-module _ (p : PolicyView) (policy : IsPolicy p) (u : UniverseView) (at to : Place) (from : ℕ) (q : PassesLines p u at to) where
+module _ (p : PolicyView) (policy : IsPolicy p) (u : UniverseView) (at to : Place) (from : ℕ) (q : PassesLines p u at from to) where
   -- the requests that are passed
   abbrev pub between_cells : List Cell
   between_cells = line_cells_from u from q.line ++ flat_map (line_cells_from u 0) q.more
@@ -43,20 +43,20 @@ module _ (p : PolicyView) (policy : IsPolicy p) (u : UniverseView) (at to : Plac
       ∙ ap (λ (cs : List Cell). line_cells_from u from q.line ++ cs) (flat_map-append (line_cells_from u 0) q.more (lines_from u to) ∙ ap (λ (cs : List Cell). flat_map (line_cells_from u 0) q.more ++ cs) (sym (whole_cells p.held u (lines_from u to))))
       ∙ sym (append_assoc (line_cells_from u from q.line) (flat_map (line_cells_from u 0) q.more) (cells_left u to 0))
 
-  on_line : (n : ℕ) (l : LineView) → Contains (q.line ∷ q.more) l → (c : Cell) (b : Binding) → Contains (line_cells_from u n l) c → Contains p.held.bindings b → IsGranted p.held (pair_of c b) → is_repeat (pair_of c b) ≡ true
+  on_line : (n : ℕ) (l : LineView) → HasRepeatsLeft p u l n → (c : Cell) (b : Binding) → Contains (line_cells_from u n l) c → Contains p.held.bindings b → IsGranted p.held (pair_of c b) → is_repeat (pair_of c b) ≡ true
   unfolding line_cells_from
-  on_line n l v c b w bound granted =
+  on_line n l left c b w bound granted =
       let m = contains_map (cell_of l) (drop n u.targets) c w in
       let t = in_drop u.targets n m.0 m.1 in
-      subst (λ (d : Cell). is_repeat (pair_of d b) ≡ true) m.2 (q.repeats l v t.0 bound.0 m.0 b t.2 (slice_get-get_or p.held.bindings bound.0 b bound.1 ∙ ap (λ (x : Binding). Some x) bound.2) (subst (λ (d : Cell). IsGranted p.held (pair_of d b)) (sym m.2) granted))
+      subst (λ (d : Cell). is_repeat (pair_of d b) ≡ true) m.2 (left t.0 t.1 (slice_get_within u.targets t.0 m.0 t.2) bound.0 m.0 b t.2 (slice_get-get_or p.held.bindings bound.0 b bound.1 ∙ ap (λ (x : Binding). Some x) bound.2) (subst (λ (d : Cell). IsGranted p.held (pair_of d b)) (sym m.2) granted))
 
   -- each of their pairs that is granted is a repeat
   pub between_repeats : (c : Cell) (b : Binding) → Contains between_cells c → Contains p.held.bindings b → IsGranted p.held (pair_of c b) → is_repeat (pair_of c b) ≡ true
   between_repeats c b w bound granted = elim (Contains-append_cases (line_cells_from u from q.line) (flat_map (line_cells_from u 0) q.more) c w) [
-    | inl v ↦ on_line from q.line (here q.line q.more) c b v bound granted
+    | inl v ↦ on_line from q.line q.rest c b v bound granted
     | inr v ↦
         let f = contains_flat (line_cells_from u 0) q.more c v in
-        on_line 0 f.0 (there q.line q.more f.0 f.1) c b f.2 bound granted
+        on_line 0 f.0 (λ place low high. q.repeats f.0 f.1 place) c b f.2 bound granted
   ]
 
   pub some_between : from < length u.targets → 0 < length between_cells
@@ -81,12 +81,18 @@ module _ (p : PolicyView) (policy : IsPolicy p) (u : UniverseView) (at to : Plac
   pub between_passes : (rs : List RowView) × Passes p.held (cells_left u at from) (cells_left u to 0) rs × AreRepeats rs
   between_passes = (rows, record { between = between_cells; whole = between_whole; are = are_rows }, λ i d lt. row_is (get_or rows i d) (Contains-get_or rows i d lt))
 
-module _ (t v : Rows) (policy : IsPolicy t.index.now) (on : GoesOn t v) (q : PassesLines t.index.now t.universe.now t.at v.at) (none : v.from ≡ 0) where
+module _ (t v : Rows) (policy : IsPolicy t.index.now) (on : GoesOn t v) (q : PassesLines t.index.now t.universe.now t.at t.from v.at) (none : v.from ≡ 0) where
   lines_passes : (rs : List RowView) × Passes t.index.now.held (cells t) (cells v) rs × AreRepeats rs
   lines_passes = rw (on.universe, none) (between_passes t.index.now policy t.universe.now t.at v.at t.from q)
 
   pub lines_some : PassesSome (AreLeft t) (AreLeft v)
   lines_some = left_passes t v on lines_passes.0 lines_passes.1 lines_passes.2
+
+  pub lines_few : requests_left v ≤ requests_left t
+  lines_few = passes_few t v on lines_passes.0 lines_passes.1
+
+  pub lines_on : length (lines_from v.universe.now v.at) < length (lines_from t.universe.now t.at)
+  lines_on = rw on.universe (omega (arith, ap length q.whole, length-append q.more (lines_from t.universe.now v.at)))
 
   pub lines_fewer : t.from < length t.universe.now.targets → requests_left v < requests_left t
   unfolding requests_left
@@ -121,7 +127,7 @@ module _ (bs : List Binding) where
       let x = read_some bs b lt in
       rw (drop_at bs b x.0 x.1) (omega arith)
 
-module _ (t v : EveryRows) (policy : IsPolicy t.rows.index.now) (on : GoesOn t.rows v.rows) (q : PassesLines t.rows.index.now t.rows.universe.now t.rows.at v.rows.at) (none : (v.rows.from ≡ 0) × (v.binding ≡ 0)) (within : t.rows.from < length t.rows.universe.now.targets) where
+module _ (t v : EveryRows) (policy : IsPolicy t.rows.index.now) (on : GoesOn t.rows v.rows) (q : PassesLines t.rows.index.now t.rows.universe.now t.rows.at t.rows.from v.rows.at) (none : (v.rows.from ≡ 0) × (v.binding ≡ 0)) (within : t.rows.from < length t.rows.universe.now.targets) where
   abbrev p : PolicyView
   p = t.rows.index.now
 

@@ -1,5 +1,5 @@
 -- repeated lines, and what is passed over them
-use Rattle.std.proofs.Common.{◌≡◌, ◌≢◌, ℕ, ◌+◌, ◌-◌, ◌<◌, ◌≤◌, ◌⊎◌, List, [], ◌∷◌, ◌++◌, length, true, false, Contains, refl, ap, ◌∙◌, sym, arith, append_assoc, subst, inl, inr, ◌↔◌}
+use Rattle.std.proofs.Common.{◌≡◌, ◌≢◌, ℕ, ◌+◌, ◌-◌, ◌<◌, ◌≤◌, ◌⊎◌, List, [], ◌∷◌, ◌++◌, length, map, true, false, Bool, IsTrue, Contains, refl, ap, ◌∙◌, sym, arith, append_assoc, subst, inl, inr, ◌↔◌}
 use Rattle.std.specs.Prelude.{Option, Some, None, is_none, slice_get}
 use Rattle.std.specs.List.{flat_map}
 use Rattle.std.specs.List.Sorted.{IsPartitionPoint}
@@ -11,13 +11,13 @@ use Rattle.rbac_terms.specs.declared.granting.Binding.{Binding}
 use Rattle.rbac_terms.specs.Principals.{Who}
 use Rattle.rbac_terms.specs.Text.{Text, text_cmp}
 use Rattle.rbac_model.specs.Policies.{PolicyView, IsPolicy, GrantView, IsOfBinding}
-use Rattle.rbac_model.specs.Universes.{UniverseView, IsUniverse, LiveForSome}
+use Rattle.rbac_model.specs.Universes.{UniverseView, IsUniverse, Listed, LiveForSome}
 use Rattle.rbac_subjects.specs.Bound.{IsNamedIn}
 use Rattle.rbac_model.proofs.BindingPlaces.{of_some_binding}
 use Rattle.rbac_subjects.proofs.LivingLemmas.{cluster_first}
-use Rattle.rbac_universe.proofs.Flattened.{flat_contains, in_cons, map_contains}
+use Rattle.rbac_universe.proofs.Flattened.{flat_contains, map_contains}
 use Rattle.rbac_reaches.specs.Reaches.{AreReaches}
-use Rattle.rbac_matrix.specs.RepeatedLines.{AreClusterWide, HasRepeats, HasRepeatsAt, HasRepeatsFrom, IsRepeated, PassesRepeated, PassesLines}
+use Rattle.rbac_matrix.specs.RepeatedLines.{AreClusterWide, HasRepeats, HasRepeatsAt, HasRepeatsFrom, HasRepeatsLeft, IsRepeated, PassesRepeated, PassesLines}
 use Rattle.rbac_matrix.specs.Cells.{AreRowsOf}
 use Rattle.rbac_matrix.specs.Cursors.{AreKnownAt, AreRunsOf, IsCursorAt}
 use Rattle.rbac_matrix.specs.Lines.{IsLineAt, LineView, line_cells_from, lines_from, next_verb}
@@ -33,7 +33,7 @@ use Rattle.rbac_matrix.specs.declared.line.Place.{Place}
 use Rattle.rbac_matrix.specs.declared.seat.Seat.{Seat}
 use Rattle.rbac_matrix.proofs.GoingLemmas.{fits_namespace}
 use Rattle.rbac_matrix.proofs.HitLemmas.{from_zero}
-use Rattle.rbac_matrix.proofs.LineLemmas.{hit_cursor, seat_first}
+use Rattle.rbac_matrix.proofs.LineLemmas.{flag_at, hit_cursor, seat_first}
 use Rattle.rbac_matrix.proofs.LoopLemmas.{cursor_within}
 use Rattle.rbac_matrix.proofs.PairLemmas.{granted_hit, rowless_pairs}
 use Rattle.rbac_matrix.proofs.TouchLemmas.{metered_end, metered_on, metered_skip}
@@ -122,6 +122,19 @@ module _ (p : PolicyView) (policy : IsPolicy p) (u : UniverseView) where
   pub lines_repeat : IsUniverse u → (l : LineView) → IsRepeated p l → HasRepeats p u l
   lines_repeat is l repeated q = hits_repeat is l repeated.some q (λ k hit. repeated.cursors k)
 
+  -- a request that doesn't fit has no row
+  unfit_flag : (flag : Bool) (namespace : Text) → flag ≡ false → namespace ≢ [] → IsTrue flag ⊎ (namespace ≡ []) → ⊥
+  unfit_flag flag namespace none some (inl fits) = cc
+  unfit_flag flag namespace none some (inr bare) = some bare
+
+  pub past_unfit : (l : LineView) → l.namespace ≢ [] → (from place : ℕ) → slice_get (map (λ (t : Listed). t.1) u.targets) place ≡ Some false → HasRepeatsFrom p u l from place → HasRepeatsFrom p u l from (place + 1)
+  past_unfit l some from place told before q low high = elim (cases_lt q place) [
+    | inl lt ↦ before q low lt
+    | inr ge ↦ λ at t b read bound granted. absurd (
+        let same : q ≡ place = omega (arith, ge, high) in
+        unfit_flag t.1 l.namespace (flag_at u.targets place t false (subst (λ (n : ℕ). slice_get u.targets n ≡ Some t) same read) told) some granted.0)
+  ]
+
   -- before the least place from which on RoleBindings have entries there are only repeats
   module _ (rs : List (List ℕ)) (l : LineView) (is : IsUniverse u) (reaches : AreReaches p u rs) (some : l.namespace ≢ []) (from upto : ℕ) (none : upto ≡ 0) (seats : List Seat) (seated : AreSeated p l rs from upto seats) (runs : Runs) (bs : List Block) (blocks : AreBlocks p l runs seats bs) (count : ℕ) (cluster : AreClusterWide p count) where
     pub repeats_before : (to : ℕ) → to ≤ past_all → ((i : ℕ) → i < length bs → count < (block_at bs i).end → to ≤ (block_at bs i).place) → HasRepeatsFrom p u l from to
@@ -141,17 +154,15 @@ module _ (p : PolicyView) (policy : IsPolicy p) (u : UniverseView) where
       (flat_contains (line_cells_from u 0) ls l (cell_of l t) w (map_contains (cell_of l) u.targets t (q, slice_get_within u.targets q t read, get_or_from_slice_get u.targets q t t read)))
       (at, slice_get_within p.held.bindings at b bound, get_or_from_slice_get p.held.bindings at b b bound) granted)
 
-  pub passes_lines : IsUniverse u → (at next past to : Place) (l : LineView) → lines_from u at ≡ l ∷ lines_from u next → IsRepeated p l → PassesRepeated p u next past → Skips p.held u past to → PassesLines p u at to
-  passes_lines is at next past to l e repeated passes skips = record {
+  pub passes_lines : IsUniverse u → (at next past to : Place) (l : LineView) (from : ℕ) → lines_from u at ≡ l ∷ lines_from u next → HasRepeatsLeft p u l from → PassesRepeated p u next past → Skips p.held u past to → PassesLines p u at from to
+  passes_lines is at next past to l from e rest passes skips = record {
     line = l;
     more = passes.between ++ skips.between;
     whole = e ∙ ap (λ (ls : List LineView). l ∷ ls) (passes.whole ∙ ap (λ (ls : List LineView). passes.between ++ ls) skips.whole ∙ sym (append_assoc passes.between skips.between (lines_from u to)));
-    repeats = λ m w. elim (in_cons l (passes.between ++ skips.between) m w) [
-      | inl same ↦ subst (HasRepeats p u) same (lines_repeat is l repeated)
-      | inr v ↦ elim (Contains-append_cases passes.between skips.between m v) [
-        | inl x ↦ lines_repeat is m (passes.repeated m x)
-        | inr x ↦ rowless_repeats skips.between skips.none m x
-      ]
+    rest = rest;
+    repeats = λ m w. elim (Contains-append_cases passes.between skips.between m w) [
+      | inl x ↦ lines_repeat is m (passes.repeated m x)
+      | inr x ↦ rowless_repeats skips.between skips.none m x
     ];
   }
 

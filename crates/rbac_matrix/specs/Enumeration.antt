@@ -1,5 +1,5 @@
 -- An enumeration: the rows that it has left, and what holds between two calls.
-use Rattle.std.specs.Prelude.{◌≡◌, ℕ, ◌↔◌, List, [], ◌∷◌, ◌++◌, Option, MatchOption, length}
+use Rattle.std.specs.Prelude.{◌≡◌, ℕ, ◌+◌, ◌↔◌, List, [], ◌∷◌, ◌++◌, Option, MatchOption, length}
 use Rattle.std.specs.Iterator.{Count, at_most}
 use Rattle.rbac_model.specs.Policies.{IsPolicy}
 use Rattle.rbac_model.specs.Universes.{Cell, IsUniverse, RowView}
@@ -9,7 +9,7 @@ use Rattle.rbac_matrix.specs.Cursors.{AreRunsAt}
 use Rattle.rbac_matrix.specs.Lines.{LineView, line, lines_from}
 use Rattle.rbac_matrix.specs.Metering.{AreSought, IsMetered, IsReady}
 use Rattle.rbac_matrix.specs.Passing.{cells_left}
-use Rattle.rbac_matrix.specs.RepeatedLines.{AreClusterWide}
+use Rattle.rbac_matrix.specs.RepeatedLines.{AreClusterWide, HasRepeatsLeft}
 use Rattle.rbac_reaches.specs.Reaches.{AreReaches, raised}
 use Rattle.rbac_matrix.specs.RowTexts.{Shows}
 use Rattle.rbac_matrix.specs.declared.row.Row.{Row}
@@ -23,6 +23,10 @@ AreLeft s rows = AreRowsOf s.index.now.held (cells_left s.universe.now s.at s.fr
 -- how many requests are left; at most as many rows are left
 unfoldable pub requests_left : Rows → ℕ
 requests_left s = length (cells_left s.universe.now s.at s.from)
+
+-- how many requests and lines are left to pass
+abbrev pub left_to_pass : Rows → ℕ
+left_to_pass s = requests_left s + length (lines_from s.universe.now s.at)
 
 abbrev pub left_at_most : Rows → Count
 left_at_most s = at_most (requests_left s)
@@ -66,6 +70,11 @@ pub record IsUnderWay (s : Rows) (upto : ℕ) : Type 0 where
 -- what holds between two calls
 abbrev pub IsGoing : Rows → Type 0
 IsGoing s = IsUnderWay s 0
+
+-- there is a line, and only repeats are left of it
+abbrev pub HasRest : Rows → Type 0
+HasRest s = (l : LineView) × (ls : List LineView) × (lines_from s.universe.now s.at ≡ l ∷ ls)
+    × HasRepeatsLeft s.index.now s.universe.now l s.from
 
 -- the enumeration begins at `start`, with no row given; no more cursors were sought than that line
 -- has, and none if all of its rows are included

@@ -1,6 +1,6 @@
 -- Lines of which each row, of whichever granting binding, is a repeat.
 use Rattle.std.specs.Prelude.{◌≡◌, ◌≢◌, ℕ, ◌<◌, ◌≤◌, List, [], ◌∷◌, ◌++◌, Some, None, Contains}
-use Rattle.std.specs.Prelude.{slice_get, true}
+use Rattle.std.specs.Prelude.{length, slice_get, true}
 use Rattle.rbac_terms.specs.declared.granting.Binding.{Binding}
 use Rattle.rbac_model.specs.Policies.{PolicyView, GrantView}
 use Rattle.rbac_model.specs.Universes.{UniverseView, Listed}
@@ -42,9 +42,16 @@ abbrev pub AreClusterWide : PolicyView → ℕ → Type 0
 AreClusterWide p count = (k : ℕ) (g : GrantView) → slice_get p.grants k ≡ Some g → k < count
     → g.binding.namespace ≡ None
 
--- from the line at one place up to another place there are only lines that have only repeats
-pub record PassesLines (p : PolicyView) (u : UniverseView) (at to : Place) : Type 0 where
+-- each pair of the line's requests for the targets from that place on is so: only repeats are left
+abbrev pub HasRepeatsLeft : PolicyView → UniverseView → LineView → ℕ → Type 0
+HasRepeatsLeft p u l from = HasRepeatsFrom p u l from (length u.targets)
+
+-- from a target's place on the line at one place up to another place there are only repeats: on
+-- that line from there on, and on the lines after it
+pub record PassesLines (p : PolicyView) (u : UniverseView) (at : Place) (from : ℕ)
+    (to : Place) : Type 0 where
   pub line : LineView
   pub more : List LineView
   pub whole : lines_from u at ≡ line ∷ more ++ lines_from u to
-  pub repeats : (l : LineView) → Contains (line ∷ more) l → HasRepeats p u l
+  pub rest : HasRepeatsLeft p u line from
+  pub repeats : (l : LineView) → Contains more l → HasRepeats p u l

@@ -1,7 +1,7 @@
 //! The grants of the bindings that name a principal and may be live in a namespace, in runs.
 
 ghost use Rattle.std.specs.Prelude.{◌≡◌, ◌<◌, ◌≤◌, ◌↔◌, [], IsTrue, length, slice_index_or};
-ghost use Rattle.std.specs.Prelude.{true, false};
+ghost use Rattle.std.specs.Prelude.{Any, true, false};
 ghost use Rattle.rbac_matrix.specs.Shown.{line_of};
 ghost use Rattle.rbac_subjects.specs.Bound.{HasRoleBindings};
 ghost use Rattle.rbac_model.specs.Policies.{IsPolicy};
@@ -125,6 +125,13 @@ impl Runs {
         ensures { result.now ≡ self.now.grants.items }
     {
         self.grants.as_slice()
+    }
+
+    // Whether one of the runs that are kept has grants from this number on.
+    pub(crate) fn have_from(&self, first: u32) -> bool
+        ensures { IsTrue result ↔ Any (λ run. first < run.end) self.now.kept.items }
+    {
+        self.kept.as_slice().iter().any(|run| first < run.end)
     }
 
     // Whether these are all the runs.

@@ -94,7 +94,7 @@ impl EveryRows<'_, '_> {
             × IsRepeated self.old.rows.index.now l }
         ensures going { IsGoingEvery self.new }
         ensures passes { PassesLines self.old.rows.index.now self.old.rows.universe.now
-            self.old.rows.at self.new.rows.at }
+            self.old.rows.at self.old.rows.from self.new.rows.at }
         ensures from { (self.new.rows.from ≡ 0) × (self.new.binding ≡ 0) }
         ensures returned { self.new.rows.returned ≡ self.old.rows.returned }
         ensures same { GoesOn self.old.rows self.new.rows }

@@ -1,17 +1,19 @@
 //! Lines of a namespace on which no RoleBinding has a cursor: each of their rows is a repeat.
 
-ghost use Rattle.std.specs.Prelude.{◌≡◌, ◌≤◌, ◌⊎◌, ℕ, IsTrue};
+ghost use Rattle.std.specs.Prelude.{◌≡◌, ◌<◌, ◌≤◌, ◌⊎◌, ◌↔◌, ℕ, IsTrue, MatchOption, Some};
+ghost use Rattle.std.specs.Prelude.{false, option_copied};
 ghost use Rattle.rbac_matrix.specs.RepeatedLines.{AreClusterWide, PassesRepeated};
 ghost use Rattle.rbac_matrix.specs.Cursors.{AreRuns, IsCursorAt};
-ghost use Rattle.rbac_matrix.specs.Lines.{IsSettled};
+ghost use Rattle.rbac_model.specs.Universes.{most_words};
+ghost use Rattle.rbac_matrix.specs.Lines.{IsSettled, next_verb};
 ghost use Rattle.rbac_matrix.specs.Shown.{line_of};
 
 use crate::bound_runs::Runs;
-use crate::line::{Line, Place, line_at, settled};
+use crate::line::{Line, Place, after, line_at, settled};
 use crate::unnamed::past_unnamed;
 use crate::walk::{next_bound, whole_walk};
 use rbac_index::Index;
-use rbac_terms::verb_matches;
+use rbac_terms::{Word, verb_matches};
 use rbac_universe::Universe;
 
 // How many grants ClusterRoleBindings bring; they come first.
@@ -46,6 +48,21 @@ pub(crate) fn has_cursor_from(index: &Index<'_>, line: Line<'_>, runs: &Runs, fi
     false
 }
 
+// The place of a line from which on rows are to be sought after a line that has a namespace is
+// left: the next line, if it is in a namespace where a RoleBinding names who asks, as in that of the
+// line that is left. So nothing is looked up within a namespace.
+pub(crate) fn after_repeats(index: &Index<'_>, universe: &Universe, at: Place, named: bool) -> Place
+    requires few { at.verb < most_words }
+    ensures passes { PassesRepeated index.now universe.now (next_verb at) result }
+    ensures moved { (result ≡ next_verb at) ⊎ (result.verb ≡ 0) }
+{
+    let next = after(at);
+    if named && next.verb < universe.verbs().len() {
+        return next;
+    }
+    past_repeated(index, universe, next)
+}
+
 // The place of the first line, from this one on, that is in the empty namespace, or in a namespace
 // where a RoleBinding names who asks; past all lines, if there is none.
 pub(crate) fn past_repeated(index: &Index<'_>, universe: &Universe, at: Place) -> Place
@@ -66,6 +83,20 @@ pub(crate) fn past_repeated(index: &Index<'_>, universe: &Universe, at: Place) -
             return at;
         }
         at = settled(universe, past);
+        if is_named(universe.namespaces().get(past.namespace), named) {
+            return at;
+        }
     }
     at
+}
+
+// Whether a namespace is that where somebody is named, if there are both.
+fn is_named(here: Option<&Word>, named: Option<&Word>) -> bool
+    ensures { MatchOption (option_copied named.entry) (result ≡ false)
+        (λ text. IsTrue result ↔ (option_copied here.entry ≡ Some text)) }
+{
+    match (here, named) {
+        (Some(here), Some(named)) => here == named,
+        _ => false,
+    }
 }

@@ -5,8 +5,8 @@ ghost use Rattle.std.specs.Prelude.{Some, false, length, slice_get};
 ghost use Rattle.rbac_model.specs.Policies.{GrantView};
 ghost use Rattle.rbac_universe.specs.Sets.{IsWithinLimits};
 ghost use Rattle.rbac_matrix.specs.RepeatedLines.{HasRepeatsFrom, IsRepeated, PassesLines};
-ghost use Rattle.rbac_matrix.specs.Enumeration.{AreLeft, GoesOn, IsGoing, IsUnderWay};
-ghost use Rattle.rbac_matrix.specs.Enumeration.{requests_left};
+ghost use Rattle.rbac_matrix.specs.Enumeration.{AreLeft, GoesOn, HasRest, IsGoing, IsUnderWay};
+ghost use Rattle.rbac_matrix.specs.Enumeration.{requests_left, left_to_pass};
 ghost use Rattle.rbac_matrix.specs.Lines.{IsSettled, LineView, lines_from};
 ghost use Rattle.rbac_matrix.specs.Metering.{IsReady};
 ghost use Rattle.rbac_matrix.specs.Once.{PassesRepeats, PassesSome, StaysFirst, repeats_at};
@@ -15,8 +15,8 @@ ghost use Rattle.rbac_matrix.specs.Passing.{EndsAll, FindsCell};
 use crate::advance::advance_to;
 use crate::basis::Basis;
 use crate::enumeration::Rows;
-use crate::line::{after, line_at};
-use crate::repeated_lines::{has_cursor_from, past_repeated};
+use crate::line::line_at;
+use crate::repeated_lines::{after_repeats, has_cursor_from};
 use crate::row::is_repeat_in;
 use crate::seats::empty_line;
 use crate::steps::{next_cell, next_line};
@@ -71,7 +71,54 @@ impl Rows<'_, '_> {
         ensures returned { self.new.returned ≡ self.old.returned }
         ensures same { GoesOn self.old self.new }
     {
-        while self.pass_repeat() {}
+        self.pass_rest();
+        while self.pass_repeat() {
+            self.pass_rest();
+        }
+    }
+
+    // Passes the repeats that stand before the next entry of a RoleBinding, on whichever line.
+    fn pass_rest(&mut self)
+        requires { IsGoing self.old }
+        ensures same { GoesOn self.old self.new }
+        ensures returned { self.new.returned ≡ self.old.returned }
+        ensures some { PassesSome (AreLeft self.old) (AreLeft self.new) }
+        ensures few { requests_left self.new ≤ requests_left self.old }
+        ensures going { IsGoing self.new }
+    {
+        while self.pass_ahead() {}
+    }
+
+    // Passes the repeats on the line before the next entry of a RoleBinding, and that entry if its
+    // request doesn't fit. Leaves the line if there is no such entry: so the lines after it that have
+    // only repeats are passed by the index alone, without a seat on any of them. Answers whether it
+    // did one or the other.
+    #[tactic(auto, using(crate::proofs::OnceLemmas::some_none, crate::proofs::OnceLemmas::goes_none))]
+    fn pass_ahead(&mut self) -> bool
+        requires { IsGoing self.old }
+        ensures some { PassesSome (AreLeft self.old) (AreLeft self.new) }
+        ensures going { IsGoing self.new }
+        ensures few { requests_left self.new ≤ requests_left self.old }
+        ensures fewer { IsTrue result → left_to_pass self.new < left_to_pass self.old }
+        ensures returned { self.new.returned ≡ self.old.returned }
+        ensures same { GoesOn self.old self.new }
+    {
+        let Some(line) = line_at(self.universe, self.at) else {
+            return false;
+        };
+        if line.namespace.is_empty() {
+            return false;
+        }
+        let end = self.repeats_end();
+        if end as usize == self.universe.targets().len() {
+            self.pass_lines();
+            return true;
+        }
+        if end <= self.from {
+            return false;
+        }
+        self.pass_to(end);
+        true
     }
 
     // Passes the next row if it is a repeat, and answers whether it is.
@@ -91,11 +138,7 @@ impl Rows<'_, '_> {
         if !self.repeats_by(no) {
             return false;
         }
-        if self.is_repeated() {
-            self.pass_lines();
-            return true;
-        }
-        self.pass_to(self.repeats_end().max(self.from + 1));
+        self.pass_to(self.from + 1);
         true
     }
 
@@ -132,16 +175,14 @@ impl Rows<'_, '_> {
         !line.namespace.is_empty() && !has_cursor_from(self.index, line, runs, self.cluster_wide)
     }
 
-    // Leaves the line, whose rows are repeats, and passes lines after it of which the index says
-    // the same.
+    // Leaves the line, of which only repeats are left, and passes lines after it that have only
+    // repeats, as the index says.
     pub(crate) fn pass_lines(&mut self)
         requires way { (low : ℕ) × IsUnderWay self.old low }
-        requires repeated { (l : LineView) × (ls : List LineView)
-            × (lines_from self.old.universe.now self.old.at ≡ l ∷ ls)
-            × IsRepeated self.old.index.now l }
+        requires rest { HasRest self.old }
         ensures going { IsGoing self.new }
         ensures passes { PassesLines self.old.index.now self.old.universe.now
-            self.old.at self.new.at }
+            self.old.at self.old.from self.new.at }
         ensures from { self.new.from ≡ 0 }
         ensures returned { self.new.returned ≡ self.old.returned }
         ensures same { GoesOn self.old self.new }
@@ -152,7 +193,8 @@ impl Rows<'_, '_> {
             return;
         };
         empty_line(index, line, &self.kept.runs, self.seats);
-        let next = past_repeated(index, universe, after(self.at));
+        let named = self.kept.runs.have_from(self.cluster_wide);
+        let next = after_repeats(index, universe, self.at, named);
         let basis = Basis {
             index,
             universe,
@@ -165,7 +207,7 @@ impl Rows<'_, '_> {
     }
 
     // A place up to which the rows that are left of the line, if it has a namespace, are repeats:
-    // before it no RoleBinding has an entry.
+    // before it no RoleBinding has an entry whose request fits.
     fn repeats_end(&self) -> u32
         requires { IsGoing self.now }
         ensures within { result ≤ length self.now.universe.now.targets }
@@ -174,7 +216,14 @@ impl Rows<'_, '_> {
             → HasRepeatsFrom self.now.index.now self.now.universe.now l self.now.from result }
     {
         let targets = self.universe.targets().len() as u32;
-        targets.min(self.kept.blocks.least_from(self.cluster_wide))
+        let place = self.kept.blocks.least_from(self.cluster_wide);
+        if targets <= place {
+            return targets;
+        }
+        if self.universe.namespaced(place as usize) {
+            return place;
+        }
+        place + 1
     }
 
     // Passes the targets before this place, on a line where a RoleBinding has a cursor.
@@ -192,7 +241,6 @@ impl Rows<'_, '_> {
             reaches: self.reaches,
         };
         self.from = place;
-        self.mixed = Some(self.at);
         let Some(line) = line_at(self.universe, self.at) else {
             return;
         };

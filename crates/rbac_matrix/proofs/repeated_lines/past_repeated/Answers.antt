@@ -1,6 +1,12 @@
-use Rattle.std.proofs.Common.{◌≡◌, arith, ap, length, inl, inr}
+use Rattle.std.proofs.Common.{◌≡◌, ◌≢◌, [], arith, ap, length, inl, inr}
 use Rattle.std.proofs.lemmas.Bool.{both_ways}
-use Rattle.rbac_matrix.specs.Lines.{IsMoved}
+use Rattle.rbac_terms.specs.Principals.{Who}
+use Rattle.rbac_terms.specs.Text.{Text}
+use Rattle.rbac_model.specs.Policies.{PolicyView}
+use Rattle.rbac_model.specs.Universes.{UniverseView}
+use Rattle.rbac_matrix.specs.RepeatedLines.{PassesRepeated}
+use Rattle.rbac_matrix.specs.Unnamed.{PassesUnnamed}
+use Rattle.rbac_matrix.specs.Lines.{IsMoved, lines_from}
 use Rattle.rbac_matrix.specs.declared.line.Place.{Place}
 use Rattle.rbac_matrix.specs.Shown.{line_of}
 use Rattle.rbac_matrix.proofs.RepeatedLemmas.{repeated_from, repeated_none, repeated_then}
@@ -16,6 +22,15 @@ first_verb : (at to : Place) → at.verb ≡ 0 → IsMoved at to → to.verb ≡
 first_verb at to e (inl same) = rw same e
 first_verb at to e (inr moved) = moved.0
 
+-- past the lines of namespaces where nobody is named
+onward : (p : PolicyView) (u : UniverseView) (first at past to : Place) (who : Who) (namespace : Text) → namespace ≢ [] → PassesRepeated p u first at → PassesUnnamed p u who namespace at past → lines_from u to ≡ lines_from u past → PassesRepeated p u first to
+onward p u first at past to who namespace some before unnamed same = repeated_then p u first at to before (repeated_then p u at past to (repeated_from p u who namespace at past some unnamed) (repeated_none p u past to same))
+
+pub returns-then-is_named-clause-passes : goal.returns-then-is_named-clause-passes
+returns-then-is_named-clause-passes c =
+    let l = line_of c.in-Some.line in
+    onward c.args.index.now c.args.universe.now c.args.at c.loop-line.at c.past_unnamed-past.result c.settled-at-in-Some.result l.who l.namespace (λ none. both_ways _ c.if-is_empty.false (c.is_empty.ensures.1 none)) c.loop-line.invariant.passes c.past_unnamed-past.ensures.passes c.settled-at-in-Some.ensures.same
+
 pub loop-line-preserved : goal.loop-line-preserved
 loop-line-preserved c =
     let p = c.args.index.now in
@@ -26,7 +41,7 @@ loop-line-preserved c =
     let first : past.verb ≡ 0 = elim c.past_unnamed-past.ensures.moved [ inl same ↦ absurd (c.if-past-at.false (ap (λ (at : Place). at.namespace) same)) | inr verb ↦ verb ] in
     record {
       settled = c.settled-at-in-Some.ensures.settled;
-      passes = repeated_then p u c.args.at c.loop-line.at to c.loop-line.invariant.passes (repeated_then p u c.loop-line.at past to (repeated_from p u l.who l.namespace c.loop-line.at past (λ none. both_ways _ c.if-is_empty.false (c.is_empty.ensures.1 none)) c.past_unnamed-past.ensures.passes) (repeated_none p u past to c.settled-at-in-Some.ensures.same));
+      passes = onward p u c.args.at c.loop-line.at past to l.who l.namespace (λ none. both_ways _ c.if-is_empty.false (c.is_empty.ensures.1 none)) c.loop-line.invariant.passes c.past_unnamed-past.ensures.passes c.settled-at-in-Some.ensures.same;
       moved = inr (first_verb past to first c.settled-at-in-Some.ensures.moved);
     }
 

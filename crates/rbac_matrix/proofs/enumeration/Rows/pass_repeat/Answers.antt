@@ -1,14 +1,7 @@
-use Rattle.std.proofs.Common.{◌≡◌, ◌+◌, ◌<◌, ◌≤◌, [], ◌∷◌, ◌∙◌, arith, inl, inr, length, refl, sym}
-use Rattle.std.proofs.lemmas.Bool.{cases_lt}
-use Rattle.rbac_model.specs.Policies.{IsPolicy}
-use Rattle.rbac_matrix.specs.RepeatedLines.{HasRepeatsFrom}
-use Rattle.rbac_matrix.specs.Enumeration.{AreLeft, requests_left}
-use Rattle.rbac_matrix.specs.Lines.{lines_from}
-use Rattle.rbac_matrix.specs.Once.{PassesSome}
-use Rattle.rbac_matrix.proofs.OnceLemmas.{come_first, come_grant, come_over, come_passes, come_ready, come_repeat, come_within, ended_first, ended_passes, left_passes, no_repeats, one_repeat, passes_few, passes_fewer, some_then}
-use Rattle.rbac_matrix.proofs.OnceLines.{lines_fewer, lines_some}
-use Rattle.rbac_matrix.proofs.OncePlaces.{places_fewer, places_some}
-use Rattle.rbac_matrix.proofs.RepeatedLemmas.{repeat_somewhere}
+use Rattle.std.proofs.Common.{[], ◌∷◌, ◌∙◌, arith, length, refl}
+use Rattle.rbac_matrix.specs.Enumeration.{AreLeft}
+use Rattle.rbac_matrix.specs.Passing.{Passes}
+use Rattle.rbac_matrix.proofs.OnceLemmas.{cells, row, come_first, come_grant, come_over, come_passes, come_ready, come_repeat, come_within, ended_first, ended_passes, left_passes, no_repeats, one_repeat, passes_few, passes_fewer, some_then}
 use Rattle.rbac_matrix.proofs.enumeration.Rows.pass_repeat.Goals as goal
 
 pub returns-in_default-clause-some : goal.returns-in_default-clause-some
@@ -41,34 +34,9 @@ returns-then-not-repeats_by-clause-few c = passes_few c.args.self.now c.come.new
 pub returns-then-not-repeats_by-clause-first : goal.returns-then-not-repeats_by-clause-first
 returns-then-not-repeats_by-clause-first c = λ none. come_first c.args.self.now c.come.new.self c.requires.policy c.come.ensures.same c.in-Some.field-0-0 c.in-Some.no c.in-Some.ensures.place c.in-Some.ensures.found c.requires.universe c.repeats_by.result c.repeats_by.ensures.repeats search
 
--- the rows that are passed on the line: those up to where the repeats end, or the next one alone
-passed : (c : goal.After-pass_to) → PassesSome (AreLeft c.come.new.self) (AreLeft c.pass_to.new.self) × (requests_left c.pass_to.new.self < requests_left c.come.new.self)
-passed c =
-    let s = c.args.self.now in
-    let t = c.come.new.self in
-    let v = c.pass_to.new.self in
-    let f = c.in-Some.ensures.found in
-    let same = c.come.ensures.same in
-    let on = c.pass_to.ensures.same in
-    let row = come_repeat s t c.requires.policy same c.in-Some.field-0-0 c.in-Some.no c.in-Some.ensures.place f c.requires.universe c.repeats_by.result c.repeats_by.ensures.repeats in
-    elim (cases_lt t.from c.repeats_end.result) [
-      | inl lt ↦
-          let to : v.from ≡ c.repeats_end.result = omega (arith, c.pass_to.ensures.place.1, c.max.ensures) in
-          let policy : IsPolicy t.index.now = rw same.index c.requires.policy in
-          let line : lines_from t.universe.now t.at ≡ f.line ∷ f.others = rw same.universe f.line_at in
-          let repeats : HasRepeatsFrom t.index.now t.universe.now f.line t.from v.from = rw to (c.repeats_end.ensures.repeats f.line f.others line (repeat_somewhere f.line.namespace f.found.next.hit.grant.binding.namespace (sym (c.repeats_by.ensures.repeats f.line f.others f.found.next.hit.grant line (rw same.index f.found.next.hit.grant_at)) ∙ c.if-not-repeats_by.false))) in
-          let later : t.from < v.from = omega arith in
-          let few : v.from ≤ length t.universe.now.targets = omega (arith, c.repeats_end.ensures.within) in (
-            places_some t v policy on f.line f.others line c.pass_to.ensures.place.0 later few repeats,
-            places_fewer t v policy on f.line f.others line c.pass_to.ensures.place.0 later few repeats,
-          )
-      | inr ge ↦
-          let next : v.from ≡ t.from + 1 = omega (arith, c.pass_to.ensures.place.1, c.max.ensures) in
-          let over = come_over s t c.requires.policy same c.in-Some.field-0-0 c.in-Some.no c.in-Some.ensures.place f v on c.pass_to.ensures.place.0 next in (
-            left_passes t v on _ over (one_repeat _ (row ∙ c.if-not-repeats_by.false)),
-            passes_fewer t v _ over,
-          )
-    ]
+-- the row is passed alone
+over : (c : goal.After-pass_to) → Passes c.come.new.self.index.now.held (cells c.come.new.self) (cells c.pass_to.new.self) (row c.args.self.now c.come.new.self c.requires.policy c.come.ensures.same c.in-Some.field-0-0 c.in-Some.no c.in-Some.ensures.place c.in-Some.ensures.found ∷ [])
+over c = come_over c.args.self.now c.come.new.self c.requires.policy c.come.ensures.same c.in-Some.field-0-0 c.in-Some.no c.in-Some.ensures.place c.in-Some.ensures.found c.pass_to.new.self c.pass_to.ensures.same c.pass_to.ensures.place.0 (omega (arith, c.pass_to.ensures.place.1))
 
 pub returns-clause-some : goal.returns-clause-some
 returns-clause-some c =
@@ -77,10 +45,8 @@ returns-clause-some c =
     let v = c.pass_to.new.self in
     let f = c.in-Some.ensures.found in
     let before = left_passes s t c.come.ensures.same [] (come_passes s t c.requires.policy c.come.ensures.same c.in-Some.field-0-0 c.in-Some.no c.in-Some.ensures.place f) no_repeats in
-    some_then (AreLeft s) (AreLeft t) (AreLeft v) before (passed c).0
-
-pub repeats_end-requires : goal.repeats_end-requires
-repeats_end-requires c = c.come.ensures.way 0 (come_ready c.args.self.now c.come.new.self c.requires.policy c.come.ensures.same c.in-Some.field-0-0 c.in-Some.no c.in-Some.ensures.place c.in-Some.ensures.found)
+    let repeat = come_repeat s t c.requires.policy c.come.ensures.same c.in-Some.field-0-0 c.in-Some.no c.in-Some.ensures.place f c.requires.universe c.repeats_by.result c.repeats_by.ensures.repeats in
+    some_then (AreLeft s) (AreLeft t) (AreLeft v) before (left_passes t v c.pass_to.ensures.same _ (over c) (one_repeat _ (repeat ∙ c.if-not-repeats_by.false)))
 
 pub overflow_add-self : goal.overflow_add-self
 overflow_add-self c = omega (arith, c.repeats_by.ensures.limits.targets, come_within c.args.self.now c.come.new.self c.requires.policy c.come.ensures.same c.in-Some.field-0-0 c.in-Some.no c.in-Some.ensures.place c.in-Some.ensures.found)
@@ -90,35 +56,8 @@ returns-clause-fewer c =
     let s = c.args.self.now in
     let t = c.come.new.self in
     let few = passes_few s t c.come.ensures.same [] (come_passes s t c.requires.policy c.come.ensures.same c.in-Some.field-0-0 c.in-Some.no c.in-Some.ensures.place c.in-Some.ensures.found) in
-    let fewer = (passed c).1 in
+    let fewer = passes_fewer t c.pass_to.new.self _ (over c) in
     λ yes. omega (arith, few, fewer)
 
 pub returns-clause-few : goal.returns-clause-few
 returns-clause-few c = let fewer = returns-clause-fewer c refl in omega (arith, fewer)
-
-pub pass_lines-requires-clause-way : goal.pass_lines-requires-clause-way
-pass_lines-requires-clause-way c = (0, c.come.ensures.way 0 (come_ready c.args.self.now c.come.new.self c.requires.policy c.come.ensures.same c.in-Some.field-0-0 c.in-Some.no c.in-Some.ensures.place c.in-Some.ensures.found))
-
-pub returns-then-is_repeated-clause-some : goal.returns-then-is_repeated-clause-some
-returns-then-is_repeated-clause-some c =
-    let s = c.args.self.now in
-    let t = c.come.new.self in
-    let v = c.pass_lines.new.self in
-    let before = left_passes s t c.come.ensures.same [] (come_passes s t c.requires.policy c.come.ensures.same c.in-Some.field-0-0 c.in-Some.no c.in-Some.ensures.place c.in-Some.ensures.found) no_repeats in
-    some_then (AreLeft s) (AreLeft t) (AreLeft v) before (lines_some t v (rw c.come.ensures.same.index c.requires.policy) c.pass_lines.ensures.same c.pass_lines.ensures.passes c.pass_lines.ensures.from)
-
-pub returns-then-is_repeated-clause-fewer : goal.returns-then-is_repeated-clause-fewer
-returns-then-is_repeated-clause-fewer c =
-    let s = c.args.self.now in
-    let t = c.come.new.self in
-    let v = c.pass_lines.new.self in
-    let few = passes_few s t c.come.ensures.same [] (come_passes s t c.requires.policy c.come.ensures.same c.in-Some.field-0-0 c.in-Some.no c.in-Some.ensures.place c.in-Some.ensures.found) in
-    let within = come_within s t c.requires.policy c.come.ensures.same c.in-Some.field-0-0 c.in-Some.no c.in-Some.ensures.place c.in-Some.ensures.found in
-    let fewer = lines_fewer t v (rw c.come.ensures.same.index c.requires.policy) c.pass_lines.ensures.same c.pass_lines.ensures.passes c.pass_lines.ensures.from within in
-    λ yes. omega (arith, few, fewer)
-
-pub returns-then-is_repeated-clause-few : goal.returns-then-is_repeated-clause-few
-returns-then-is_repeated-clause-few c = let fewer = returns-then-is_repeated-clause-fewer c refl in omega (arith, fewer)
-
-pub is_repeated-requires : goal.is_repeated-requires
-is_repeated-requires c = (0, c.come.ensures.way 0 (come_ready c.args.self.now c.come.new.self c.requires.policy c.come.ensures.same c.in-Some.field-0-0 c.in-Some.no c.in-Some.ensures.place c.in-Some.ensures.found))

@@ -3,8 +3,8 @@ use Rattle.rbac_matrix.specs.Enumeration.{AreLeft, GoesOn, IsGoing, requests_lef
 use Rattle.rbac_matrix.specs.Once.{PassesSome}
 use Rattle.rbac_matrix.proofs.enumeration.Rows.pass_repeats.Given as goal
 
-abbrev pub invariant-loop : goal.invariant-loop
-invariant-loop l = record {
+abbrev pub invariant-loop-self : goal.invariant-loop-self
+invariant-loop-self l = record {
   going : IsGoing l.self;
   some : PassesSome (AreLeft l.initial.self) (AreLeft l.self);
   few : requests_left l.self ≤ requests_left l.initial.self;
@@ -12,5 +12,5 @@ invariant-loop l = record {
   same : GoesOn l.initial.self l.self;
 }
 
-abbrev pub decreases-loop : goal.decreases-loop
-decreases-loop l = requests_left l.self
+abbrev pub decreases-loop-self : goal.decreases-loop-self
+decreases-loop-self l = requests_left l.self
