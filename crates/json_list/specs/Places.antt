@@ -1,10 +1,9 @@
 -- Where a reader is in an object or in its list of items; for private clauses.
-use Rattle.std.specs.Prelude.{◌≡◌, ℕ, List, [], Option, Some, None, option_and_then, option_map}
+use Rattle.std.specs.Prelude.{◌≡◌, ℕ, List, [], Option, Some, None, option_and_then}
 use Rattle.std.specs.Prelude.{MatchOption}
 use Rattle.json.specs.Token.{Token}
 use Rattle.json.specs.Json as json
-use Rattle.serde_json.specs.Data.{Data, array, object, Items, Members, no_members, put}
-use Rattle.serde_json.specs.Read.{of_members}
+use Rattle.serde_json.specs.Data.{Data, array, Items, Members, no_members, put}
 use Rattle.json_list.specs.Lean.{lean}
 use Rattle.json_list.specs.List.{items_name, HaveOneList}
 use Rattle.json_list.specs.OnePass.{items_and_rest, members_in, object_from, OthersFollow}

@@ -1,10 +1,10 @@
 -- A document less the members that aren't read says the same.
-use Rattle.std.proofs.Common.{◌≡◌, ℕ, ◌+◌, true, false, List, [], ◌∷◌, Bool, Option, Some, None, option_map, option_and_then, codes, refl, ap, ap₂, ◌∙◌}
-use Rattle.serde_json.specs.Data.{Data, null, boolean, number, string, array, object, Items, item}
+use Rattle.std.proofs.Common.{◌≡◌, ℕ, true, false, List, [], ◌∷◌, Bool, Option, Some, None, option_map, option_and_then, codes, refl, ap, ap₂, ◌∙◌}
+use Rattle.serde_json.specs.Data.{Data, null, boolean, number, string, array, object}
 use Rattle.serde_json.specs.Find.{get}
 use Rattle.json_list.specs.Lean.{lean}
 use Rattle.json_list.proofs.Lean.{member_kept, whole}
-use Rattle.rbac_manifest.specs.Fields.{elements, field, present, is_object, list_field, list_or_empty, all_texts, texts_field, text_at, text_or_empty, name_at, non_empty, missing_or}
+use Rattle.rbac_manifest.specs.Fields.{field, present, is_object, list_field, list_or_empty, all_texts, texts_field, text_at, text_or_empty, name_at, non_empty, missing_or}
 use Rattle.rbac_manifest.specs.Kinds.{kind_at, version_at, kind_of}
 use Rattle.rbac_manifest.specs.Part.{read_under, read_of}
 use Rattle.rbac_manifest.specs.Metadata.{is_bad_metadata, metadata_from, metadata_at}
@@ -14,7 +14,6 @@ use Rattle.rbac_manifest.specs.Binding.{role_ref_at, subjects_in}
 use Rattle.rbac_manifest.specs.ApiList.{is_bad_api_list, entries_at}
 use Rattle.rbac_manifest.specs.UniverseDocument.{is_bad_universe, given_lists_at}
 use Rattle.rbac_manifest.specs.Document.{fault, stands, first_of, when, not_an_object, bad_version, bad_metadata, bad_rules, bad_role_ref, bad_subjects, bad_selector, bad_catalogue, bad_universe, bad_header, refusals, bad_body, role_in, cluster_role_in, binding_in, content_in}
-use Rattle.rbac_manifest.specs.Load.{item_or, first_refusal}
 use Rattle.rbac_manifest.specs.declared.part.Part.{Part}
 use Rattle.rbac_manifest.specs.declared.part.Part.TheVariants.{Document, Metadata, Whole}
 use Rattle.rbac_manifest.specs.declared.kind.Kind.{Kind}

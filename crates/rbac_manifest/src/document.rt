@@ -157,11 +157,7 @@ fn content_of(alloc: Global, kind: Kind, document: &Value) -> Result<Option<Cont
 
 // What a document gives. A bad kind or version is refused before anything is allocated.
 #[tactic(auto, unfolding(crate::specs::Document::fault, crate::specs::Document::stands))]
-fn document_of(
-    alloc: Global,
-    document: &Value,
-    implied: Implied,
-) -> Result<Option<Content>, Cause>
+fn document_of(alloc: Global, document: &Value, implied: Implied) -> Result<Option<Content>, Cause>
     ensures loads { Loads result (fault implied (view document.now))
         (stands implied (view document.now)) }
     ensures header { (cause : Cause) → bad_header implied (view document.now) ≡ Some cause

@@ -132,11 +132,7 @@ fn read_on(
 
 // The list that a text is, if it is an object with one list under `items`. If what the list implies
 // about its items isn't told, it is guessed.
-fn list_of(
-    alloc: Global,
-    text: &str,
-    told: Option<Implied>,
-) -> Result<Option<ReadList>, ReadFault>
+fn list_of(alloc: Global, text: &str, told: Option<Implied>) -> Result<Option<ReadList>, ReadFault>
     ensures list { IfOk result (λ o. MatchOption o (¬ IsList text.now) (λ list.
         IsReadAs text.now list.implied list.given (members_view list.others.entries))) }
     ensures told { IfOk result (λ o. IfSome o
@@ -152,11 +148,7 @@ fn list_of(
 }
 
 // What a text gives, if it implies this about its items.
-fn contents_as(
-    alloc: Global,
-    text: &str,
-    implied: Implied,
-) -> Result<Vec<Content>, Refusal>
+fn contents_as(alloc: Global, text: &str, implied: Implied) -> Result<Vec<Content>, Refusal>
     requires { (d : Data) → read text.now ≡ Some d → IsListOf implied d }
     ensures { Yields result (refusal_of (read text.now)) (contents_of_value (read text.now)) }
 {

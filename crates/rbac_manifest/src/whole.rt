@@ -34,10 +34,7 @@ fn parse(alloc: Global, text: &str) -> Result<Value, Cause>
 }
 
 // What a document gives.
-pub(crate) fn document_contents(
-    alloc: Global,
-    document: &Value,
-) -> Result<Vec<Content>, Refusal>
+pub(crate) fn document_contents(alloc: Global, document: &Value) -> Result<Vec<Content>, Refusal>
     ensures { Yields result (option_map as_whole (fault Implied.Nothing (view document.now)))
         (option_to_list (stands Implied.Nothing (view document.now))) }
 {
@@ -49,11 +46,7 @@ pub(crate) fn document_contents(
 }
 
 // What the items of a list give. Fails at the first item with a fault.
-fn items_contents(
-    alloc: Global,
-    items: &[Value],
-    implied: Implied,
-) -> Result<Vec<Content>, Refusal>
+fn items_contents(alloc: Global, items: &[Value], implied: Implied) -> Result<Vec<Content>, Refusal>
     ensures { Yields result (first_refusal implied 0 (map view items.now))
         (contents_of_items implied (map view items.now)) }
 {
