@@ -4,7 +4,6 @@ ghost use Rattle.std.specs.Prelude.{◌≡◌};
 ghost use Rattle.rbac_cli.specs.Printing.{fault_at};
 
 use crate::outcome::RunFault;
-use rbac_diff::DiffFault;
 use rbac_index::IndexFault;
 use rbac_lint::LintFault;
 use rbac_matrix::MatrixFault;
@@ -90,16 +89,6 @@ impl From<IndexFault> for Stop {
     ghost from_gives = { λ _ stop. stop ≡ NoMemory };
 
     fn from(_: IndexFault) -> Self {
-        Stop::NoMemory
-    }
-}
-
-impl From<DiffFault> for Stop {
-    ghost use Rattle.rbac_cli.specs.declared.stop.Stop.TheVariants.{NoMemory};
-
-    ghost from_gives = { λ _ stop. stop ≡ NoMemory };
-
-    fn from(_: DiffFault) -> Self {
         Stop::NoMemory
     }
 }

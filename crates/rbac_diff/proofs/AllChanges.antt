@@ -21,10 +21,10 @@ use Rattle.rbac_model.specs.Policies.{PolicyView, GrantView, IsPolicy}
 use Rattle.rbac_diff.specs.Permissions.{PermissionView, HasPermission, HasBy, IsFirstWith}
 use Rattle.rbac_diff.specs.Requests.{IsGained}
 use Rattle.rbac_diff.specs.Covering.{IsAskedFor, IsCovered}
-use Rattle.rbac_diff.specs.Changes.{ChangeView, IsChange, IsChangeOf, AreChanges}
+use Rattle.rbac_diff.specs.Changes.{ChangeView, IsChangeBetween, IsChangeOf, AreChanges}
 use Rattle.rbac_diff.specs.Texts.{permission_text}
-use Rattle.rbac_diff.specs.Listed.{FoundView, entry_change}
-use Rattle.rbac_diff.specs.Finding.{IsGainedAt, Findings, FindsGained}
+use Rattle.rbac_diff.specs.Listed.{OriginView, entry_change}
+use Rattle.rbac_diff.specs.Finding.{IsGainedAt, FoundChanges, FindsGained}
 use Rattle.rbac_diff.specs.declared.change.ChangeKind.{ChangeKind}
 use Rattle.rbac_diff.specs.declared.change.ChangeKind.TheVariants.{Gained, Lost}
 use Rattle.rbac_diff.proofs.Bindings.{none_given}
@@ -102,39 +102,39 @@ module _ (before after : PolicyView) (ok : IsPolicy before) (also : IsPolicy aft
 
 -- ---- entries in order
 
-below : (k : Text) (es : List (Text × FoundView)) → AllByRecursion (λ q. text_cmp k q ≡ Less) (keys_of es) → AllByRecursion (λ x. text_cmp k x.permission ≡ Less) (map entry_change es)
+below : (k : Text) (es : List (Text × OriginView)) → AllByRecursion (λ q. text_cmp k q ≡ Less) (keys_of es) → AllByRecursion (λ x. text_cmp k x.permission ≡ Less) (map entry_change es)
 below k [] h = h
 below k (e ∷ es) h = (h.0, below k es h.1)
 
-strict : (es : List (Text × FoundView)) → IsStrictlySortedBy text_cmp (keys_of es) → AllPairs (λ x y. text_cmp x.permission y.permission ≡ Less) (map entry_change es)
+strict : (es : List (Text × OriginView)) → IsStrictlySortedBy text_cmp (keys_of es) → AllPairs (λ x y. text_cmp x.permission y.permission ≡ Less) (map entry_change es)
 unfolding IsStrictlySortedBy
 strict [] h = λ i j d l k. absurd (omega (arith, k))
 strict (e ∷ es) h = AllPairs-cons (λ x y. text_cmp x.permission y.permission ≡ Less) (entry_change e) (map entry_change es)
     (All-from_recursion (λ x. text_cmp e.0 x.permission ≡ Less) (map entry_change es) (below e.0 es h.0)) (strict es h.1)
 
-mapped : (o : Option (Text × FoundView)) (x : ChangeView) → option_map entry_change o ≡ Some x → (e : Text × FoundView) × (o ≡ Some e) × (entry_change e ≡ x)
+mapped : (o : Option (Text × OriginView)) (x : ChangeView) → option_map entry_change o ≡ Some x → (e : Text × OriginView) × (o ≡ Some e) × (entry_change e ≡ x)
 mapped None x e = absurd (let both : None ≡ Some x = e in cc)
 mapped (Some y) x e = (y, refl, same_Some (entry_change y) x e)
 
 -- ---- both sides
 
-module _ (before after : PolicyView) (ok : IsPolicy before) (also : IsPolicy after) (none m n : Findings) (empty : (t : Text) (y : FoundView) → get text_cmp none t ≡ Some y → ⊥)
+module _ (before after : PolicyView) (ok : IsPolicy before) (also : IsPolicy after) (none m n : FoundChanges) (empty : (t : Text) (y : OriginView) → get text_cmp none t ≡ Some y → ⊥)
     (gained : FindsGained Gained before after (length after.held.bindings) none m) (lost : FindsGained Lost after before (length before.held.bindings) m n) where
-  is_change : (t : Text) (y : FoundView) → get text_cmp n t ≡ Some y → IsChange before after (entry_change (t, y))
+  is_change : (t : Text) (y : OriginView) → get text_cmp n t ≡ Some y → IsChangeBetween before after (entry_change (t, y))
   is_change t y e = elim (lost.only t y e) [
     | inl mid ↦ elim (gained.only t y mid) [
       | inl first ↦ absurd (empty t y first)
       | inr new ↦ (let w = new.2 in
-          subst (λ (kind : ChangeKind). IsChange before after (record { kind = kind; permission = t; binding = y.binding })) (sym new.1)
+          subst (λ (kind : ChangeKind). IsChangeBetween before after (record { kind = kind; permission = t; binding = y.binding })) (sym new.1)
           (w.1, w.5, (gained_at_is before after ok also w.0 w.1 w.3, first_found before after ok also t y.binding w.0 w.1 w.3 w.4 w.5 w.6)))
     ]
     | inr new ↦ (let w = new.2 in
-        subst (λ (kind : ChangeKind). IsChange before after (record { kind = kind; permission = t; binding = y.binding })) (sym new.1)
+        subst (λ (kind : ChangeKind). IsChangeBetween before after (record { kind = kind; permission = t; binding = y.binding })) (sym new.1)
         (w.1, w.5, (gained_at_is after before also ok w.0 w.1 w.3, first_found after before also ok t y.binding w.0 w.1 w.3 w.4 w.5 w.6)))
   ]
 
   -- what is gained is found
-  gained_found : (t : Text) (b : Binding) (p : PermissionView) → t ≡ permission_text p → IsGained before after p → IsFirstWith after p b → (y : FoundView) × (get text_cmp n t ≡ Some y) × (y.kind ≡ Gained) × (b ≡ y.binding)
+  gained_found : (t : Text) (b : Binding) (p : PermissionView) → t ≡ permission_text p → IsGained before after p → IsFirstWith after p b → (y : OriginView) × (get text_cmp n t ≡ Some y) × (y.kind ≡ Gained) × (b ≡ y.binding)
   gained_found t b p same is w =
       let mine : IsGainedAt before after w.0 p = gains_at before after ok also w.0 b p is w.1.here w.1.holds in
       let some = some_is (get text_cmp m t) (subst (λ (s : Text). IsSome (get text_cmp m s)) (sym same) (gained.has w.0 p (slice_get_within after.held.bindings w.0 b w.1.here) mine)) in
@@ -147,7 +147,7 @@ module _ (before after : PolicyView) (ok : IsPolicy before) (also : IsPolicy aft
   not_gained : (p : PermissionView) (b : Binding) → IsAskedFor p.target → HasBy before p b → IsCovered before p
   not_gained p b asked a = (a.0, a.1, a.2, a.3, no_more_covers p a.1 a.1 a.4.1 asked refl (λ s is. is) (covers_itself a.1.rule.rule))
 
-  lost_found : (t : Text) (b : Binding) (p : PermissionView) → t ≡ permission_text p → IsGained after before p → IsFirstWith before p b → (y : FoundView) × (get text_cmp n t ≡ Some y) × (y.kind ≡ Lost) × (b ≡ y.binding)
+  lost_found : (t : Text) (b : Binding) (p : PermissionView) → t ≡ permission_text p → IsGained after before p → IsFirstWith before p b → (y : OriginView) × (get text_cmp n t ≡ Some y) × (y.kind ≡ Lost) × (b ≡ y.binding)
   lost_found t b p same is w =
       let mine : IsGainedAt after before w.0 p = gains_at after before also ok w.0 b p is w.1.here w.1.holds in
       let some = some_is (get text_cmp n t) (subst (λ (s : Text). IsSome (get text_cmp n s)) (sym same) (lost.has w.0 p (slice_get_within before.held.bindings w.0 b w.1.here) mine)) in
@@ -164,7 +164,7 @@ module _ (before after : PolicyView) (ok : IsPolicy before) (also : IsPolicy aft
 
   -- ---- the list
 
-  in_list : (t : Text) (y : FoundView) → get text_cmp n t ≡ Some y → Contains (map entry_change n.entries) (entry_change (t, y))
+  in_list : (t : Text) (y : OriginView) → get text_cmp n t ≡ Some y → Contains (map entry_change n.entries) (entry_change (t, y))
   in_list t y e =
       let at = place_from_lookup (λ k. is_eq (text_cmp t k)) n.entries y e in
       let same : t ≡ at.1 = exact_bytes t at.1 (equal_from_test (text_cmp t at.1) at.3) in
@@ -172,7 +172,7 @@ module _ (before after : PolicyView) (ok : IsPolicy before) (also : IsPolicy aft
       slice_get-map entry_change n.entries at.0 ∙ ap (option_map entry_change) at.2 ∙ ap (λ (k : Text). Some (entry_change (k, y))) (sym same) in
       (at.0, slice_get_within (map entry_change n.entries) at.0 (entry_change (t, y)) there, get_or_from_slice_get (map entry_change n.entries) at.0 (entry_change (t, y)) (entry_change (t, y)) there)
 
-  in_list_as : (x : ChangeView) (kind : ChangeKind) (y : FoundView) → x.kind ≡ kind → get text_cmp n x.permission ≡ Some y → y.kind ≡ kind → x.binding ≡ y.binding → Contains (map entry_change n.entries) x
+  in_list_as : (x : ChangeView) (kind : ChangeKind) (y : OriginView) → x.kind ≡ kind → get text_cmp n x.permission ≡ Some y → y.kind ≡ kind → x.binding ≡ y.binding → Contains (map entry_change n.entries) x
   in_list_as x kind y is e also_is same =
       let of : ChangeKind → Binding → ChangeView = λ k b. record { kind = k; permission = x.permission; binding = b } in
       let made : entry_change (x.permission, y) ≡ x = ap (λ (k : ChangeKind). of k y.binding) (also_is ∙ sym is) ∙ ap (λ (b : Binding). of x.kind b) (sym same) in
@@ -182,10 +182,10 @@ module _ (before after : PolicyView) (ok : IsPolicy before) (also : IsPolicy aft
   listed_as x Gained p is same h = let w = gained_found x.permission x.binding p same h.0 h.1 in in_list_as x Gained w.0 is w.1 w.2 w.3
   listed_as x Lost p is same h = let w = lost_found x.permission x.binding p same h.0 h.1 in in_list_as x Lost w.0 is w.1 w.2 w.3
 
-  is_listed : IsOrdered text_cmp n → (x : ChangeView) → Contains (map entry_change n.entries) x → IsChange before after x
+  is_listed : IsOrdered text_cmp n → (x : ChangeView) → Contains (map entry_change n.entries) x → IsChangeBetween before after x
   is_listed up x c =
       let e = mapped (slice_get n.entries c.0) x (sym (slice_get-map entry_change n.entries c.0) ∙ slice_get_read (map entry_change n.entries) (length (map entry_change n.entries)) c.0 x refl c.1 (sym c.2)) in
-      subst (λ (z : ChangeView). IsChange before after z) e.2 (is_change e.0.0 e.0.1 (btree_map_get_place nat_list_cmp_total n c.0 e.0.0 e.0.1 up e.1))
+      subst (λ (z : ChangeView). IsChangeBetween before after z) e.2 (is_change e.0.0 e.0.1 (btree_map_get_place nat_list_cmp_total n c.0 e.0.0 e.0.1 up e.1))
 
   pub all_changes : IsOrdered text_cmp n → AreChanges before after (map entry_change n.entries)
   all_changes up = record { ordered = strict n.entries up; exact = λ x. (is_listed up x, λ h. listed_as x x.kind h.0 refl h.1 h.2) }

@@ -12,9 +12,9 @@ use Rattle.rbac_model.specs.Policies.{PolicyView, GrantView, IsOfBinding}
 use Rattle.rbac_model.proofs.LabelSets.{any_push}
 use Rattle.rbac_diff.specs.Permissions.{PermissionView, Permitted, OnResource, OnUrl, Permits}
 use Rattle.rbac_diff.specs.Covering.{IsAskedFor, IsCovered, IsAsWide, CoversWords}
-use Rattle.rbac_diff.specs.StandIns.{AreRulesOf, IsWider}
-use Rattle.rbac_diff.specs.Finding.{IsByGrants, IsMissing, IsGainedAt, IsUncovered, Findings, Finds}
-use Rattle.rbac_diff.specs.Listed.{FoundView}
+use Rattle.rbac_diff.specs.StandIns.{AreStandInRules, IsWider}
+use Rattle.rbac_diff.specs.Finding.{IsByGrants, IsMissing, IsGainedAt, IsUncovered, FoundChanges, Finds}
+use Rattle.rbac_diff.specs.Listed.{OriginView}
 use Rattle.rbac_diff.proofs.Searching.{finds_none, finds_more, finds_same}
 
 -- the principal that a subject stands for is given no groups
@@ -41,7 +41,7 @@ wider_from o own r (OnResource namespace group resource name) h (inr e) = inr (e
 wider_from o own r (OnUrl url) h e = inl e
 
 -- the rules that everybody has whom a principal stands for decide what is covered
-module _ (before : PolicyView) (own : Option Text) (rules : List (Bor Rule)) (p : PermissionView) (are : AreRulesOf before p.principal own rules) (r : Rule) (permits : Permits own r p.target) where
+module _ (before : PolicyView) (own : Option Text) (rules : List (Bor Rule)) (p : PermissionView) (are : AreStandInRules before p.principal own rules) (r : Rule) (permits : Permits own r p.target) where
   covered_by_rule : Any (λ x. CoversWords p.verb p.target x.now) rules → IsCovered before p
   covered_by_rule a =
       let g = (are a.1.now).0 (a.0, a.1, a.2, a.3, refl) in
@@ -69,14 +69,14 @@ module _ (before : PolicyView) (own : Option Text) (rules : List (Bor Rule)) (p 
     λ h. record { asked = h.0; missing = λ a. h.1 (covered_by_rule a) },
   )
 
-module _ (before after : PolicyView) (place : ℕ) (own : Option Text) (x : FoundView) where
+module _ (before after : PolicyView) (place : ℕ) (own : Option Text) (x : OriginView) where
   abbrev pub IsBySubject : Subject → PermissionView → Type 0
   IsBySubject s p = subject_principal own s ≡ Some p.principal
 
   abbrev pub IsBySubjects : List Subject → PermissionView → Type 0
   IsBySubjects subjects p = Any (λ s. IsBySubject s p) subjects × IsByGrants after place own p × IsUncovered before p
 
-  pub subjects_none : (m : Findings) → Finds (IsBySubjects []) x m m
+  pub subjects_none : (m : FoundChanges) → Finds (IsBySubjects []) x m m
   subjects_none m = finds_none (IsBySubjects []) x m (λ p h. omega (arith, h.0.2))
 
   one_more : (s : Subject) (subjects : List Subject) (p : PermissionView) → IsBySubjects (subjects ++ s ∷ []) p ↔ (IsBySubjects subjects p ⊎ (IsBySubject s p × IsByGrants after place own p × IsUncovered before p))
@@ -89,7 +89,7 @@ module _ (before after : PolicyView) (place : ℕ) (own : Option Text) (x : Foun
   )
 
   -- a subject that stands for nobody
-  pub subjects_nobody : (s : Subject) (subjects : List Subject) (a b : Findings) → subject_principal own s ≡ None → Finds (IsBySubjects subjects) x a b → Finds (IsBySubjects (subjects ++ s ∷ [])) x a b
+  pub subjects_nobody : (s : Subject) (subjects : List Subject) (a b : FoundChanges) → subject_principal own s ≡ None → Finds (IsBySubjects subjects) x a b → Finds (IsBySubjects (subjects ++ s ∷ [])) x a b
   subjects_nobody s subjects a b nobody f = finds_same (IsBySubjects subjects) (IsBySubjects (subjects ++ s ∷ [])) x a b
       (λ p. (
         λ h. (one_more s subjects p).1 (inl h),
@@ -100,16 +100,16 @@ module _ (before after : PolicyView) (place : ℕ) (own : Option Text) (x : Foun
   abbrev pub IsByPrincipal : Who → PermissionView → Type 0
   IsByPrincipal who p = (p.principal ≡ who) × IsByGrants after place own p × IsUncovered before p
 
-  pub principal_finds : (who : Who) (rules : List (Bor Rule)) (a b : Findings) → AreRulesOf before who own rules
+  pub principal_finds : (who : Who) (rules : List (Bor Rule)) (a b : FoundChanges) → AreStandInRules before who own rules
       → Finds (λ p. (p.principal ≡ who) × IsByGrants after place own p × IsMissing rules p) x a b → Finds (IsByPrincipal who) x a b
   principal_finds who rules a b are = finds_same (λ p. (p.principal ≡ who) × IsByGrants after place own p × IsMissing rules p) (IsByPrincipal who) x a b
       (λ p. (
-        λ h. (h.0, h.1, (missing_exactly before own rules p (subst (λ (w : Who). AreRulesOf before w own rules) (sym h.0) are) h.1.1.rule.rule h.1.5).0 h.2),
-        λ h. (h.0, h.1, (missing_exactly before own rules p (subst (λ (w : Who). AreRulesOf before w own rules) (sym h.0) are) h.1.1.rule.rule h.1.5).1 h.2),
+        λ h. (h.0, h.1, (missing_exactly before own rules p (subst (λ (w : Who). AreStandInRules before w own rules) (sym h.0) are) h.1.1.rule.rule h.1.5).0 h.2),
+        λ h. (h.0, h.1, (missing_exactly before own rules p (subst (λ (w : Who). AreStandInRules before w own rules) (sym h.0) are) h.1.1.rule.rule h.1.5).1 h.2),
       ))
 
   -- a subject that stands for a principal
-  pub subjects_more : (s : Subject) (subjects : List Subject) (who : Who) (a b c : Findings) → subject_principal own s ≡ Some who
+  pub subjects_more : (s : Subject) (subjects : List Subject) (who : Who) (a b c : FoundChanges) → subject_principal own s ≡ Some who
       → Finds (IsBySubjects subjects) x a b → Finds (IsByPrincipal who) x b c → Finds (IsBySubjects (subjects ++ s ∷ [])) x a c
   subjects_more s subjects who a b c is f g =
       finds_more (IsBySubjects subjects) (λ p. IsBySubject s p × IsByGrants after place own p × IsUncovered before p) (IsBySubjects (subjects ++ s ∷ [])) x a b c (one_more s subjects) f
@@ -119,7 +119,7 @@ module _ (before after : PolicyView) (place : ℕ) (own : Option Text) (x : Foun
         λ h. (same_Some p.principal who (sym h.0 ∙ is), h.1, h.2),
       )) g)
 
-module _ (before after : PolicyView) (place : ℕ) (b : Binding) (x : FoundView) (there : slice_get after.held.bindings place ≡ Some b) where
+module _ (before after : PolicyView) (place : ℕ) (b : Binding) (x : OriginView) (there : slice_get after.held.bindings place ≡ Some b) where
   binding_is : (n : ℕ) (g : GrantView) → slice_get after.grants n ≡ Some g → IsOfBinding after n place → g.binding ≡ b
   binding_is n g is at =
       let same : at.0 ≡ g = same_Some at.0 g (sym at.1 ∙ is) in

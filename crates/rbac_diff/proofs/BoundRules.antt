@@ -13,7 +13,7 @@ use Rattle.rbac_model.specs.Policies.{PolicyView, GrantView, BindingNames}
 use Rattle.rbac_model.specs.Universes.{LiveForSome}
 use Rattle.rbac_subjects.specs.Bound.{IsBoundTo, IsNextRun}
 use Rattle.rbac_diff.specs.Covering.{stand_ins}
-use Rattle.rbac_diff.specs.StandIns.{HasRule, IsBoundRule, AddsRules, AddsRulesIn, AreRulesOf, IsWider, one_or_two}
+use Rattle.rbac_diff.specs.StandIns.{HasRule, IsBoundRule, AddsRules, AddsRulesIn, AreStandInRules, IsWider, one_or_two}
 
 any_last : {X : Type 0} (P : X → Type 0) (xs : List X) (x : X) → P x → Any P (xs ++ x ∷ [])
 any_last P xs x h = (length xs, x, omega (arith, length_push xs x), get_or_push xs x x (length xs) refl, h)
@@ -48,35 +48,35 @@ run_within p who namespace from start end run =
     let within = slice_get_within p.grants (end - 1) bound.0 bound.1 in
     omega (arith, within, some)
 
-pub none_bound : (p : PolicyView) (who : Who) (namespace : Text) (old : List (Bor Rule)) → AddsRules p who namespace 0 0 old old
-none_bound p who namespace old r = (λ h. inl h, λ h. elim h [ inl o ↦ o | inr w ↦ absurd (omega (arith, w.2, w.3)) ])
+pub none_bound : (p : PolicyView) (who : Who) (namespace : Text) (old : List (Bor Rule)) → AddsRules p who namespace 0 old old
+none_bound p who namespace old r = (λ h. inl h, λ h. elim h [ inl o ↦ o | inr w ↦ absurd (omega (arith, w.2)) ])
 
-pub run_more : (p : PolicyView) (who : Who) (namespace : Text) (from start end : ℕ) (old mid new : List (Bor Rule)) → IsNextRun p who namespace from start end → AddsRules p who namespace 0 from old mid → AddsRulesIn p start end mid new → AddsRules p who namespace 0 end old new
+pub run_more : (p : PolicyView) (who : Who) (namespace : Text) (from start end : ℕ) (old mid new : List (Bor Rule)) → IsNextRun p who namespace from start end → AddsRules p who namespace from old mid → AddsRulesIn p start end mid new → AddsRules p who namespace end old new
 run_more p who namespace from start end old mid new run adds more r = (
   λ h. elim ((more r).0 h) [
-    | inl m ↦ elim ((adds r).0 m) [ inl o ↦ inl o | inr w ↦ inr (w.0, w.1, w.2, omega (arith, w.3, run.after, run.some), w.4, w.5, w.6) ]
-    | inr w ↦ inr (w.0, w.1, omega arith, w.3, w.4, run.bound w.0 w.2 w.3, w.5)
+    | inl m ↦ elim ((adds r).0 m) [ inl o ↦ inl o | inr w ↦ inr (w.0, w.1, omega (arith, w.2, run.after, run.some), w.3, w.4, w.5) ]
+    | inr w ↦ inr (w.0, w.1, w.3, w.4, run.bound w.0 w.2 w.3, w.5)
   ],
   λ h. elim h [
     | inl o ↦ (more r).1 (inl ((adds r).1 (inl o)))
     | inr w ↦ elim (cases_lt w.0 from) [
-      | inl l ↦ (more r).1 (inl ((adds r).1 (inr (w.0, w.1, w.2, l, w.4, w.5, w.6))))
+      | inl l ↦ (more r).1 (inl ((adds r).1 (inr (w.0, w.1, l, w.3, w.4, w.5))))
       | inr ge ↦ elim (cases_lt w.0 start) [
-        | inl l ↦ absurd (run.none_before w.0 ge l w.5)
-        | inr later ↦ (more r).1 (inr (w.0, w.1, later, w.3, w.4, w.6))
+        | inl l ↦ absurd (run.none_before w.0 ge l w.4)
+        | inr later ↦ (more r).1 (inr (w.0, w.1, later, w.2, w.3, w.5))
       ]
     ]
   ],
 )
 
-pub runs_end : (p : PolicyView) (who : Who) (namespace : Text) (from : ℕ) (old new : List (Bor Rule)) → ((number : ℕ) → from ≤ number → IsBoundTo p who namespace number → ⊥) → AddsRules p who namespace 0 from old new → AddsRules p who namespace 0 (length p.grants) old new
+pub runs_end : (p : PolicyView) (who : Who) (namespace : Text) (from : ℕ) (old new : List (Bor Rule)) → ((number : ℕ) → from ≤ number → IsBoundTo p who namespace number → ⊥) → AddsRules p who namespace from old new → AddsRules p who namespace (length p.grants) old new
 runs_end p who namespace from old new none adds r = (
-  λ h. elim ((adds r).0 h) [ inl o ↦ inl o | inr w ↦ inr (w.0, w.1, w.2, slice_get_within p.grants w.0 w.1 w.4, w.4, w.5, w.6) ],
+  λ h. elim ((adds r).0 h) [ inl o ↦ inl o | inr w ↦ inr (w.0, w.1, slice_get_within p.grants w.0 w.1 w.3, w.3, w.4, w.5) ],
   λ h. elim h [
     | inl o ↦ (adds r).1 (inl o)
     | inr w ↦ elim (cases_lt w.0 from) [
-      | inl l ↦ (adds r).1 (inr (w.0, w.1, w.2, l, w.4, w.5, w.6))
-      | inr ge ↦ absurd (none w.0 ge w.5)
+      | inl l ↦ (adds r).1 (inr (w.0, w.1, l, w.3, w.4, w.5))
+      | inr ge ↦ absurd (none w.0 ge w.4)
     ]
   ],
 )
@@ -106,17 +106,17 @@ wider_live (Some own) (Some namespace) asked is some = (
 abbrev Gives : Option Text → Who → Rule → GrantView → Type 0
 Gives namespace who r g = IsWider g.binding.namespace namespace × BindingNames g.binding who × (g.rule.rule ≡ r)
 
-bound_gives : (p : PolicyView) (who : Who) (namespace : Option Text) (asked : Text) → IsAskedIn namespace asked → (namespace ≡ Some [] → ⊥) → (r : Rule) → (IsBoundRule p who asked 0 (length p.grants) r ↔ Any (Gives namespace who r) p.grants)
+bound_gives : (p : PolicyView) (who : Who) (namespace : Option Text) (asked : Text) → IsAskedIn namespace asked → (namespace ≡ Some [] → ⊥) → (r : Rule) → (IsBoundRule p who asked (length p.grants) r ↔ Any (Gives namespace who r) p.grants)
 bound_gives p who namespace asked is some r = (
   λ w.
-      let b = w.5 in
+      let b = w.4 in
       let g = b.0 in
-      let grant : g ≡ w.1 = same_Some g w.1 (sym b.1 ∙ w.4) in
-      (w.0, g, slice_get_within p.grants w.0 g b.1, get_or_from_slice_get p.grants w.0 g g b.1, ((wider_live g.binding.namespace namespace asked is some).1 b.3, b.2, ap (λ (v : GrantView). v.rule.rule) grant ∙ w.6)),
+      let grant : g ≡ w.1 = same_Some g w.1 (sym b.1 ∙ w.3) in
+      (w.0, g, slice_get_within p.grants w.0 g b.1, get_or_from_slice_get p.grants w.0 g g b.1, ((wider_live g.binding.namespace namespace asked is some).1 b.3, b.2, ap (λ (v : GrantView). v.rule.rule) grant ∙ w.5)),
   λ a.
       let g = a.1 in
       let read : slice_get p.grants a.0 ≡ Some g = slice_get-get_or p.grants a.0 g a.2 ∙ ap (λ (v : GrantView). Some v) a.3 in
-      (a.0, g, omega arith, a.2, read, (g, read, a.4.1, (wider_live g.binding.namespace namespace asked is some).0 a.4.0), a.4.2),
+      (a.0, g, a.2, read, (g, read, a.4.1, (wider_live g.binding.namespace namespace asked is some).0 a.4.0), a.4.2),
 )
 
 any_one : {X : Type 0} (P : X → Type 0) (x : X) → Any P (x ∷ []) → P x
@@ -139,7 +139,7 @@ nothing : (r : Rule) → HasRule [] r → ⊥
 nothing r h = omega (arith, h.2)
 
 module _ (p : PolicyView) (namespace : Option Text) (asked : Text) (is : IsAskedIn namespace asked) (some : namespace ≡ Some [] → ⊥) where
-  pub rules_of_one : (who first : Who) (rules : List (Bor Rule)) → one_or_two first None ≡ stand_ins who → AddsRules p first asked 0 (length p.grants) [] rules → AreRulesOf p who namespace rules
+  pub rules_of_one : (who first : Who) (rules : List (Bor Rule)) → one_or_two first None ≡ stand_ins who → AddsRules p first asked (length p.grants) [] rules → AreStandInRules p who namespace rules
   rules_of_one who first rules same adds r =
       let both = bound_gives p first namespace asked is some r in
       let P : List Who → Type 0 = λ whos. HasRule rules r ↔ Any (GivesOne namespace whos r) p.grants in
@@ -151,7 +151,7 @@ module _ (p : PolicyView) (namespace : Option Text) (asked : Text) (is : IsAsked
         λ a. (adds r).1 (inr (both.1 (any_of (GivesOne namespace (first ∷ []) r) (Gives namespace first r) p.grants (λ g f. (f.0, any_one (BindingNames g.binding) first f.1, f.2)) a))),
       )
 
-  pub rules_of_two : (who first second : Who) (mid rules : List (Bor Rule)) → one_or_two first (Some second) ≡ stand_ins who → AddsRules p first asked 0 (length p.grants) [] mid → AddsRules p second asked 0 (length p.grants) mid rules → AreRulesOf p who namespace rules
+  pub rules_of_two : (who first second : Who) (mid rules : List (Bor Rule)) → one_or_two first (Some second) ≡ stand_ins who → AddsRules p first asked (length p.grants) [] mid → AddsRules p second asked (length p.grants) mid rules → AreStandInRules p who namespace rules
   rules_of_two who first second mid rules same adds more r =
       let both = bound_gives p first namespace asked is some r in
       let others = bound_gives p second namespace asked is some r in

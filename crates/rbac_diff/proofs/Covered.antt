@@ -7,6 +7,7 @@ use Rattle.rbac_terms.specs.Targets.{What, Resource, Url, IsProper}
 use Rattle.rbac_terms.specs.Matching.{WordMatches, ResourceWordMatches, UrlWordMatches, NameMatches, TargetOk}
 use Rattle.rbac_terms.specs.declared.matching.Rule.{Rule}
 use Rattle.rbac_terms.specs.declared.granting.Subject.{Subject}
+use Rattle.rbac_model.specs.OwnWords.{GivesPath}
 use Rattle.rbac_model.specs.Policies.{PolicyView, IsPolicy, GrantView, GrantAllows, Live}
 use Rattle.rbac_covering.specs.Covering.{CoversAll}
 use Rattle.rbac_model.proofs.GrantNumbers.{grant_allows}
@@ -14,8 +15,8 @@ use Rattle.rbac_model.proofs.OwnWords.{WordMatches-through, ResourceWordMatches-
 use Rattle.rbac_model.proofs.UrlSamples.{Through, sample-through}
 use Rattle.rbac_diff.specs.Unchanged.{AreAmong}
 use Rattle.rbac_diff.specs.Permissions.{Permitted, OnResource, OnUrl, PermissionView, HasPermission, Permits}
-use Rattle.rbac_diff.specs.Requests.{RequestView, IsRequest, AllowsRequest, StandsFor, IsPermitted, IsNamed, IsGained}
-use Rattle.rbac_diff.specs.Covering.{Covers, CoversTarget, CoversName, IsAsWide, IsAskedFor}
+use Rattle.rbac_diff.specs.Requests.{RequestView, IsRequest, AllowsRequest, StandsFor, IsPermitted, IsNameOrAny, IsGained}
+use Rattle.rbac_diff.specs.Covering.{CoversPermission, CoversTarget, CoversName, IsAsWide, IsAskedFor}
 use Rattle.rbac_diff.proofs.CoveredWords.{covers_itself, words_covered}
 use Rattle.rbac_diff.proofs.Whom.{names_all, named_by_own}
 
@@ -28,7 +29,7 @@ as_live own (OnUrl url) namespace (Url path) e is = subst (λ (o : Option Text).
 as_live own (OnResource asked group resource name) namespace (Url path) wide is = absurd is
 as_live own (OnUrl url) namespace (Resource g text n) wide is = absurd is
 
-name_through : (names : List Text) (name : Option Text) (n : Text) → CoversName names name → IsNamed name n → NameMatches names n
+name_through : (names : List Text) (name : Option Text) (n : Text) → CoversName names name → IsNameOrAny name n → NameMatches names n
 name_through names None n e is = inl e
 name_through names (Some own) n h e = subst (NameMatches names) e h
 
@@ -44,7 +45,7 @@ target_through r (OnUrl url) namespace (Url path) proper h is =
 target_through r (OnResource own group resource name) namespace (Url path) proper h is = absurd is
 target_through r (OnUrl url) namespace (Resource g text n) proper h is = absurd is
 
-pub covered_allows : (before : PolicyView) → IsPolicy before → (p : PermissionView) (g : GrantView) → Contains before.grants g → Covers p g → (r : RequestView) → IsRequest r → StandsFor p r → AllowsRequest before r
+pub covered_allows : (before : PolicyView) → IsPolicy before → (p : PermissionView) (g : GrantView) → Contains before.grants g → CoversPermission p g → (r : RequestView) → IsRequest r → StandsFor p r → AllowsRequest before r
 covered_allows before is p g c covers r request stands =
     let allows : GrantAllows r.who r.namespace r.verb r.target g = (
       as_live g.binding.namespace p.target r.namespace r.target covers.wide stands.target,
@@ -59,6 +60,7 @@ covered_allows before is p g c covers r request stands =
 -- ---- what is permitted is asked for
 
 asked_for : (t : Permitted) (namespace : Text) (what : What) → IsProper what → IsPermitted t namespace what → IsAskedFor t
+unfolding GivesPath
 asked_for (OnResource own group resource name) namespace (Resource g text n) proper is = (
   (λ e. let live = subst (λ (o : Option Text). Live o namespace (Resource g text n)) e is.0 in live.0 (sym live.1)),
   ResourceText-word resource text proper is.2,
@@ -83,7 +85,7 @@ wide_of_rule own r (OnUrl url) h = h.0
 any_among : (P : Subject → Type 0) (xs ys : List Subject) → AreAmong xs ys → Any P xs → Any P ys
 any_among P xs ys among w = let c = among w.1 (w.0, w.2, w.3) in (c.0, w.1, c.1, c.2, w.4)
 
-pub no_more_covers : (p : PermissionView) (g h : GrantView) → HasPermission p g → IsAskedFor p.target → h.binding.namespace ≡ g.binding.namespace → AreAmong g.binding.subjects h.binding.subjects → CoversAll h.rule.rule g.rule.rule → Covers p h
+pub no_more_covers : (p : PermissionView) (g h : GrantView) → HasPermission p g → IsAskedFor p.target → h.binding.namespace ≡ g.binding.namespace → AreAmong g.binding.subjects h.binding.subjects → CoversAll h.rule.rule g.rule.rule → CoversPermission p h
 no_more_covers p g h has is here subjects rule =
     let named : Any (λ s. subject_principal h.binding.namespace s ≡ Some p.principal) h.binding.subjects =
     subst (λ (own : Option Text). Any (λ s. subject_principal own s ≡ Some p.principal) h.binding.subjects) (sym here) (any_among (λ s. subject_principal g.binding.namespace s ≡ Some p.principal) g.binding.subjects h.binding.subjects subjects has.principal) in

@@ -8,7 +8,7 @@ use Rattle.rbac_model.proofs.OwnWords.{any_weaker}
 use Rattle.rbac_covering.specs.Covering.{CoversAll}
 use Rattle.rbac_terms.specs.declared.matching.Rule.{Rule}
 use Rattle.rbac_diff.specs.Covering.{CoversWords}
-use Rattle.rbac_diff.specs.Finding.{Findings, IsByRule, IsMissing, SearchFinds}
+use Rattle.rbac_diff.specs.Finding.{FoundChanges, IsOfRule, IsMissing, SearchFinds}
 use Rattle.rbac_diff.specs.Permissions.{PermissionView}
 use Rattle.rbac_diff.specs.StandIns.{HasCoveringRule, HasRule}
 use Rattle.rbac_diff.specs.declared.finding.Search.{Search}
@@ -20,12 +20,12 @@ pub stands_covers : (rules : List (Bor Rule)) (r : Rule) → HasRule rules r →
 stands_covers rules r stands = any_weaker (λ (held : Bor Rule). held.now ≡ r) (λ held. CoversAll held.now r) rules (λ held e. subst (CoversAll held.now) e (covers_itself held.now)) stands
 
 -- so none of its permissions is missing
-covered_misses_nothing : (s : Search) (r : Rule) → HasCoveringRule s.others.now r → (p : PermissionView) → IsByRule s r p → IsMissing s.others.now p → ⊥
+covered_misses_nothing : (s : Search) (r : Rule) → HasCoveringRule s.others.now r → (p : PermissionView) → IsOfRule s r p → IsMissing s.others.now p → ⊥
 covered_misses_nothing s r covered p by missing =
     missing.missing (any_weaker (λ (held : Bor Rule). CoversAll held.now r) (λ held. CoversWords p.verb p.target held.now) s.others.now (λ held covers. words_covered (option_copied s.namespace) held.now r p covers by.0 by.1 missing.asked) covered)
 
-pub search_covered : (s : Search) (r : Rule) (m : Findings) → HasCoveringRule s.others.now r → SearchFinds s (IsByRule s r) m m
-search_covered s r m covered = finds_none (λ p. (p.principal ≡ s.principal.now) × IsByRule s r p × IsMissing s.others.now p) s.found.now m (λ p h. covered_misses_nothing s r covered p h.1 h.2)
+pub search_covered : (s : Search) (r : Rule) (m : FoundChanges) → HasCoveringRule s.others.now r → SearchFinds s (IsOfRule s r) m m
+search_covered s r m covered = finds_none (λ p. (p.principal ≡ s.principal.now) × IsOfRule s r p × IsMissing s.others.now p) s.found.now m (λ p h. covered_misses_nothing s r covered p h.1 h.2)
 
 -- rules that cover others one by one, up to some place
 abbrev pub CoverUpTo : List Rule → List Rule → ℕ → Type 0

@@ -9,13 +9,13 @@ use Rattle.rbac_terms.specs.Principals.{Who}
 use Rattle.rbac_terms.specs.Matching.{EndsInStar, UrlWordMatches}
 use Rattle.rbac_terms.specs.declared.matching.Rule.{Rule}
 use Rattle.rbac_terms.specs.declared.granting.Binding.{Binding}
-use Rattle.rbac_model.specs.OwnWords.{IsUrlSample, sample_prefix}
+use Rattle.rbac_model.specs.OwnWords.{GivesPath, IsUrlSample, sample_prefix}
 use Rattle.rbac_model.specs.Policies.{PolicyView, IsPolicy, GrantView, BindingNames}
 use Rattle.rbac_model.proofs.Decided.{Decided, both, either, not_so, any, same_text, is_nil, names, rule}
 use Rattle.rbac_model.proofs.UrlSamples.{IsUrlSample-one, unstarred}
 use Rattle.rbac_diff.specs.Permissions.{Permitted, OnResource, OnUrl, PermissionView, HasPermission, IsFirstWith}
 use Rattle.rbac_diff.specs.Requests.{IsGained}
-use Rattle.rbac_diff.specs.Covering.{stand_ins, IsAsWide, CoversWords, Covers, IsAskedFor}
+use Rattle.rbac_diff.specs.Covering.{stand_ins, IsAsWide, CoversWords, CoversPermission, IsAskedFor}
 use Rattle.rbac_diff.proofs.FirstWith.{same_option, has, first_with}
 use Rattle.rbac_diff.proofs.Gained.{gained_exactly}
 
@@ -52,7 +52,7 @@ as_wide own (OnUrl url) = same_option same_text own None
 binding_names : (b : Binding) (who : Who) → Decided (BindingNames b who)
 binding_names b who = any (λ s. Names s b.namespace who) (λ s. names s b.namespace who) b.subjects
 
-covers : (p : PermissionView) (g : GrantView) → Decided (Covers p g)
+covers : (p : PermissionView) (g : GrantView) → Decided (CoversPermission p g)
 covers p g =
     elim (both (as_wide g.binding.namespace p.target) (both (any (BindingNames g.binding) (binding_names g.binding) (stand_ins p.principal)) (covers_words p.verb p.target g.rule.rule))) [
       | inl h ↦ inl (record { wide = h.0; names = h.1.0; words = h.1.1 })
@@ -69,6 +69,7 @@ path (c ∷ t) = elim (cases_eq c 47) [
 ]
 
 asked_for : (t : Permitted) → Decided (IsAskedFor t)
+unfolding GivesPath
 asked_for (OnResource namespace group resource name) =
     both (not_so (same_option same_text namespace (Some []))) (both (not_so (is_nil resource)) (not_so (path resource)))
 asked_for (OnUrl url) =
@@ -86,7 +87,7 @@ gained before after ok also p = elim (any (HasPermission p) (has p) after.grants
       let g = a.1 in
       let c : Contains after.grants g = (a.0, a.2, a.3) in
       let exactly = gained_exactly before after ok also p g c a.4 in
-      elim (both (asked_for p.target) (not_so (any (Covers p) (covers p) before.grants))) [
+      elim (both (asked_for p.target) (not_so (any (CoversPermission p) (covers p) before.grants))) [
         | inl h ↦ (let first = first_with after also p g c a.4 in inl (first.0, (exactly.1 h, first.1)))
         | inr n ↦ inr (λ w. n (exactly.0 w.1.0))
       ]

@@ -4,7 +4,7 @@ use Rattle.std.proofs.lemmas.List.{get_or-map, length-map}
 use Rattle.rbac_terms.specs.declared.granting.Binding.{Binding}
 use Rattle.rbac_model.specs.Policies.{PolicyView}
 use Rattle.rbac_diff.specs.Permissions.{PermissionView}
-use Rattle.rbac_diff.specs.Changes.{ChangeView, IsChangeOf, IsChange, AreChanges, exchanged_kind, exchanged}
+use Rattle.rbac_diff.specs.Changes.{ChangeView, IsChangeOf, IsChangeBetween, AreChanges, exchanged_kind, exchanged}
 use Rattle.rbac_diff.specs.declared.change.ChangeKind.{ChangeKind}
 use Rattle.rbac_diff.specs.declared.change.ChangeKind.TheVariants.{Gained, Lost}
 
@@ -28,7 +28,7 @@ change_of : (before after : PolicyView) (k : ChangeKind) (p : PermissionView) (b
 change_of before after Gained p b is = is
 change_of before after Lost p b is = is
 
-change : (before after : PolicyView) (x : ChangeView) → IsChange before after x → IsChange after before (exchanged x)
+change : (before after : PolicyView) (x : ChangeView) → IsChangeBetween before after x → IsChangeBetween after before (exchanged x)
 change before after x is = (is.0, is.1, change_of before after x.kind is.0 x.binding is.2)
 
 pub exchanged_changes : (before after : PolicyView) (xs : List ChangeView) → AreChanges before after xs → AreChanges after before (map exchanged xs)
@@ -37,7 +37,7 @@ exchanged_changes before after xs are = record {
       let within : j < length xs = omega (arith, l, length-map xs exchanged) in
       rw (get_or-map exchanged xs i d d (omega arith), get_or-map exchanged xs j d d within) (are.ordered i j d lt within);
   exact = λ x. (
-    λ c. subst (IsChange after before) (twice x) (change before after (exchanged x) ((are.exact (exchanged x)).0 (back xs x c))),
+    λ c. subst (IsChangeBetween after before) (twice x) (change before after (exchanged x) ((are.exact (exchanged x)).0 (back xs x c))),
     λ is. subst (Contains (map exchanged xs)) (twice x) (there xs (exchanged x) ((are.exact (exchanged x)).1 (change after before x is))),
   );
 }

@@ -12,8 +12,8 @@ use Rattle.rbac_model.specs.Policies.{PolicyView, IsPolicy, GrantView, GrantAllo
 use Rattle.rbac_model.proofs.GrantNumbers.{some_grant}
 use Rattle.rbac_model.proofs.OwnWords.{WordMatches-own}
 use Rattle.rbac_diff.specs.Permissions.{Permitted, OnResource, OnUrl, PermissionView, HasPermission, IsNameOf, Permits, one_star}
-use Rattle.rbac_diff.specs.Requests.{RequestView, IsRequest, IsUser, IsFor, AllowsRequest, StandsFor, IsPermitted, IsNamed, IsGained}
-use Rattle.rbac_diff.specs.Covering.{Covers, IsCovered, IsAskedFor}
+use Rattle.rbac_diff.specs.Requests.{RequestView, IsRequest, IsUser, IsFor, AllowsRequest, StandsFor, IsPermitted, IsNameOrAny, IsGained}
+use Rattle.rbac_diff.specs.Covering.{CoversPermission, IsCovered, IsAskedFor}
 use Rattle.rbac_diff.proofs.OneStar.{one_star-matches}
 use Rattle.rbac_diff.proofs.Whom.{IsOwn, own_principal, principal_named}
 use Rattle.rbac_diff.proofs.Strangers.{Asker, asker, Asked, asked}
@@ -26,7 +26,7 @@ module _ (before after : PolicyView) (is_before : IsPolicy before) (is_after : I
       let r : RequestView = record { who = who.who; namespace = what.namespace; verb = p.verb; target = what.target } in
       let request : IsRequest r = (who.user, what.proper) in
       let stands : StandsFor p r = record { principal = who.is_for; verb = WordMatches-own p.verb; target = what.permitted } in
-      let covering : (h : GrantView) → Contains before.grants h → GrantAllows r.who r.namespace r.verb r.target h → Covers p h = λ h d a. (record {
+      let covering : (h : GrantView) → Contains before.grants h → GrantAllows r.who r.namespace r.verb r.target h → CoversPermission p h = λ h d a. (record {
         wide = what.wide h.binding.namespace a.0;
         names = who.named h d a.1;
         words = (a.2.0, what.covers h d a.2.1);
@@ -59,7 +59,7 @@ gained_exactly before after is_before is_after p g c has = (
 
 -- ---- what is allowed, some permission stands for
 
-name_for : (names : List Text) (n : Text) → NameMatches names n → (name : Option Text) × IsNameOf names name × IsNamed name n
+name_for : (names : List Text) (n : Text) → NameMatches names n → (name : Option Text) × IsNameOf names name × IsNameOrAny name n
 name_for names n (inl e) = (None, e, tt)
 name_for names n (inr c) = (Some n, c, refl)
 

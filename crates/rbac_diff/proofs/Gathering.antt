@@ -7,8 +7,8 @@ use Rattle.rbac_model.specs.Policies.{PolicyView}
 use Rattle.rbac_diff.specs.Permissions.{PermissionView}
 use Rattle.rbac_diff.specs.Texts.{permission_text}
 use Rattle.rbac_diff.specs.Unchanged.{GrantsNoMore}
-use Rattle.rbac_diff.specs.Finding.{IsGainedAt, Findings, Finds, FindsGained}
-use Rattle.rbac_diff.specs.Listed.{FoundView}
+use Rattle.rbac_diff.specs.Finding.{IsGainedAt, FoundChanges, Finds, FindsGained}
+use Rattle.rbac_diff.specs.Listed.{OriginView}
 use Rattle.rbac_diff.specs.declared.change.ChangeKind.{ChangeKind}
 use Rattle.rbac_diff.proofs.Searching.{still_some, none_before, none_some}
 use Rattle.rbac_diff.proofs.Covered.{no_more_covers}
@@ -21,13 +21,13 @@ unchanged_gains_nothing before after place same p h =
     h.missing (there.1.0, there.0, there.1.1, there.1.2, no_more_covers p g.1 there.0 g.4 h.asked there.2 there.3 there.4)
 
 module _ (kind : ChangeKind) (before after : PolicyView) where
-  pub gathered_nothing : (count : ℕ) (m : Findings) → ((at : ℕ) → at < count → (p : PermissionView) → IsGainedAt before after at p → ⊥) → FindsGained kind before after count m m
+  pub gathered_nothing : (count : ℕ) (m : FoundChanges) → ((at : ℕ) → at < count → (p : PermissionView) → IsGainedAt before after at p → ⊥) → FindsGained kind before after count m m
   gathered_nothing count m none = record { kept = λ t y e. e; has = λ at p l h. absurd (none at l p h); only = λ t y e. inl e }
 
-  pub gathered_none : (m : Findings) → FindsGained kind before after 0 m m
+  pub gathered_none : (m : FoundChanges) → FindsGained kind before after 0 m m
   gathered_none m = gathered_nothing 0 m (λ at l. absurd (omega (arith, l)))
 
-  pub gathered_same : (k : ℕ) (a b : Findings) → ((p : PermissionView) → IsGainedAt before after k p → ⊥) → FindsGained kind before after k a b → FindsGained kind before after (k + 1) a b
+  pub gathered_same : (k : ℕ) (a b : FoundChanges) → ((p : PermissionView) → IsGainedAt before after k p → ⊥) → FindsGained kind before after k a b → FindsGained kind before after (k + 1) a b
   gathered_same k a b none f = record {
     kept = f.kept;
     has = λ at p l h. elim (cases_lt at k) [
@@ -40,7 +40,7 @@ module _ (kind : ChangeKind) (before after : PolicyView) where
     ];
   }
 
-  pub gathered_more : (k : ℕ) (x : FoundView) (a b c : Findings) → x.kind ≡ kind → slice_get after.held.bindings k ≡ Some x.binding → FindsGained kind before after k a b → Finds (IsGainedAt before after k) x b c
+  pub gathered_more : (k : ℕ) (x : OriginView) (a b c : FoundChanges) → x.kind ≡ kind → slice_get after.held.bindings k ≡ Some x.binding → FindsGained kind before after k a b → Finds (IsGainedAt before after k) x b c
       → FindsGained kind before after (k + 1) a c
   gathered_more k x a b c is there f g = record {
     kept = λ t y e. g.kept t y (f.kept t y e);
@@ -55,13 +55,13 @@ module _ (kind : ChangeKind) (before after : PolicyView) where
       ]
       | inr new ↦ inr (
         none_before (get text_cmp a t) (get text_cmp b t) (f.kept t) new.0,
-        ap (λ (z : FoundView). z.kind) new.1 ∙ is,
+        ap (λ (z : OriginView). z.kind) new.1 ∙ is,
         (
           k,
           new.2.0,
           omega arith,
           new.2.1,
-          there ∙ ap (λ (z : FoundView). Some z.binding) (sym new.1),
+          there ∙ ap (λ (z : OriginView). Some z.binding) (sym new.1),
           new.2.2,
           λ j q l h same. none_some (get text_cmp b t) new.0 (subst (λ (w : Text). IsSome (get text_cmp b w)) (sym same) (f.has j q l h)),
         ),
@@ -70,7 +70,7 @@ module _ (kind : ChangeKind) (before after : PolicyView) where
   }
 
   -- the same, by another name of the policy that is asked
-  pub gathered_by : (k : ℕ) (asked : PolicyView) (x : FoundView) (a b c : Findings) → asked ≡ before → x.kind ≡ kind → slice_get after.held.bindings k ≡ Some x.binding → FindsGained kind before after k a b → Finds (IsGainedAt asked after k) x b c
+  pub gathered_by : (k : ℕ) (asked : PolicyView) (x : OriginView) (a b c : FoundChanges) → asked ≡ before → x.kind ≡ kind → slice_get after.held.bindings k ≡ Some x.binding → FindsGained kind before after k a b → Finds (IsGainedAt asked after k) x b c
       → FindsGained kind before after (k + 1) a c
   gathered_by k asked x a b c same is there f g =
       gathered_more k x a b c is there f (subst (λ (policy : PolicyView). Finds (IsGainedAt policy after k) x b c) same g)

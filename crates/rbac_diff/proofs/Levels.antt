@@ -4,7 +4,7 @@ use Rattle.std.specs.Option.{option_copied}
 use Rattle.rbac_terms.specs.Text.{Text}
 use Rattle.rbac_terms.specs.declared.matching.Rule.{Rule}
 use Rattle.rbac_diff.specs.Permissions.{PermissionView, Permitted, OnResource, OnUrl, Permits}
-use Rattle.rbac_diff.specs.Finding.{IsOnResource, IsOnUrl, IsOnTarget, IsByRule}
+use Rattle.rbac_diff.specs.Finding.{IsOnResource, IsOnUrl, IsOnTarget, IsOfRule}
 use Rattle.rbac_diff.specs.declared.finding.Search.{Search}
 
 -- a namespace that is lent, or none
@@ -69,7 +69,7 @@ module _ (s : Search) (r : Rule) (verb : Text) where
   without_urls some p = (from_resources p, λ h. elim (split p p.target refl h.0 h.1) [ inl k ↦ k | inr k ↦ absurd (some k.0) ])
 
 -- each verb
-pub each_verb : (s : Search) (r : Rule) (p : PermissionView) → Any (λ v. IsOnTarget s r v p) r.verbs ↔ IsByRule s r p
+pub each_verb : (s : Search) (r : Rule) (p : PermissionView) → Any (λ v. IsOnTarget s r v p) r.verbs ↔ IsOfRule s r p
 each_verb s r p = (
   λ a. ((let P : Text → Type 0 = λ v. Contains r.verbs v in subst P (sym a.4.0) (a.0, a.2, a.3)), a.4.1),
   λ h. (h.0.0, p.verb, h.0.1, h.0.2, (refl, h.1)),

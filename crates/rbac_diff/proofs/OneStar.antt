@@ -7,7 +7,7 @@ use Rattle.rbac_terms.proofs.Texts.{one_more_star}
 use Rattle.rbac_terms.specs.declared.matching.Rule.{Rule}
 use Rattle.rbac_model.specs.OwnWords.{AllowsUrlWord, GivesPath, IsUrlSample, sample_prefix}
 use Rattle.rbac_model.proofs.UrlSamples.{Unstarred, unstarred, no_stars, starred_sample, prefix_of_match, IsUrlSample-one}
-use Rattle.rbac_diff.specs.Covering.{CoversTarget, GivesPath as GivesOnePath}
+use Rattle.rbac_diff.specs.Covering.{CoversTarget}
 use Rattle.rbac_diff.specs.Permissions.{OnUrl, are_stars, one_star}
 
 -- so many stars are nothing but stars, and the other way round
@@ -86,6 +86,6 @@ pub covers-one_star : (r : Rule) (w : Text) → (AllowsUrlWord r w ↔ CoversTar
 unfolding AllowsUrlWord
 covers-one_star r w = (λ h x is. h x (one_star-sample w x is), λ h x is. h x (sample-one_star w x is))
 
-pub gives-one_star : (w : Text) → (GivesPath w ↔ GivesOnePath (one_star w))
+pub gives-one_star : (w : Text) → (GivesPath w ↔ GivesPath (one_star w))
 unfolding GivesPath
 gives-one_star w = (λ g. (g.0, sample-one_star w g.0 g.1, g.2), λ g. (g.0, one_star-sample w g.0 g.1, g.2))

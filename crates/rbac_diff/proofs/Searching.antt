@@ -15,10 +15,10 @@ use Rattle.rbac_terms.specs.Text.{Text, text_cmp}
 use Rattle.rbac_terms.specs.Principals.{Who}
 use Rattle.rbac_terms.specs.declared.matching.Rule.{Rule}
 use Rattle.rbac_diff.specs.Permissions.{PermissionView, Permitted}
-use Rattle.rbac_diff.specs.Finding.{Findings, Finds, IsMissing, SearchFinds}
+use Rattle.rbac_diff.specs.Finding.{FoundChanges, Finds, IsMissing, SearchFinds}
 use Rattle.rbac_diff.specs.declared.finding.Search.{Search}
 use Rattle.rbac_diff.specs.Texts.{permission_text}
-use Rattle.rbac_diff.specs.Listed.{FoundView}
+use Rattle.rbac_diff.specs.Listed.{OriginView}
 
 -- what is there stays there
 module _ {X : Type 0} where
@@ -34,10 +34,10 @@ module _ {X : Type 0} where
   none_before None now kept is = refl
   none_before (Some y) now kept is = absurd (let both : Some y ≡ None = sym (kept y refl) ∙ is in cc)
 
-pub finds_none : (P : PermissionView → Type 0) (x : FoundView) (m : Findings) → ((p : PermissionView) → P p → ⊥) → Finds P x m m
+pub finds_none : (P : PermissionView → Type 0) (x : OriginView) (m : FoundChanges) → ((p : PermissionView) → P p → ⊥) → Finds P x m m
 finds_none P x m none = record { kept = λ t y e. e; has = λ p h. absurd (none p h); only = λ t y e. inl e }
 
-pub finds_more : (P Q R : PermissionView → Type 0) (x : FoundView) (a b c : Findings) → ((p : PermissionView) → R p ↔ (P p ⊎ Q p)) → Finds P x a b → Finds Q x b c → Finds R x a c
+pub finds_more : (P Q R : PermissionView → Type 0) (x : OriginView) (a b c : FoundChanges) → ((p : PermissionView) → R p ↔ (P p ⊎ Q p)) → Finds P x a b → Finds Q x b c → Finds R x a c
 finds_more P Q R x a b c either f g = record {
   kept = λ t y e. g.kept t y (f.kept t y e);
   has = λ p r. elim ((either p).0 r) [
@@ -53,7 +53,7 @@ finds_more P Q R x a b c either f g = record {
   ];
 }
 
-pub finds_same : (P Q : PermissionView → Type 0) (x : FoundView) (a b : Findings) → ((p : PermissionView) → P p ↔ Q p) → Finds P x a b → Finds Q x a b
+pub finds_same : (P Q : PermissionView → Type 0) (x : OriginView) (a b : FoundChanges) → ((p : PermissionView) → P p ↔ Q p) → Finds P x a b → Finds Q x a b
 finds_same P Q x a b same f = record {
   kept = f.kept;
   has = λ p h. f.has p ((same p).1 h);
@@ -64,14 +64,14 @@ finds_same P Q x a b same f = record {
 }
 
 -- what is put under a text that had nothing
-finds_put : (q : PermissionView) (x : FoundView) (a b : Findings) (t : Text) → t ≡ permission_text q → get text_cmp a t ≡ None → ((k : Text) → get text_cmp b k ≡ cond (is_eq (text_cmp t k)) (Some x) (get text_cmp a k)) → Finds (λ p. p ≡ q) x a b
+finds_put : (q : PermissionView) (x : OriginView) (a b : FoundChanges) (t : Text) → t ≡ permission_text q → get text_cmp a t ≡ None → ((k : Text) → get text_cmp b k ≡ cond (is_eq (text_cmp t k)) (Some x) (get text_cmp a k)) → Finds (λ p. p ≡ q) x a b
 finds_put q x a b t same none reads = record {
   kept = λ k y e. by_bool (is_eq (text_cmp t k))
       (λ h. (let at : t ≡ k = exact_bytes t k (equal_from_test (text_cmp t k) h) in let both : None ≡ Some y = sym none ∙ ap (λ (w : Text). get text_cmp a w) at ∙ e in absurd (cc both)))
       (λ h. reads k ∙ ap (λ (c : Bool). cond c (Some x) (get text_cmp a k)) h ∙ e);
   has = λ p e. (let is : get text_cmp b t ≡ Some x = reads t ∙ ap (λ (c : Bool). cond c (Some x) (get text_cmp a t)) (ap is_eq (tied_itself nat_list_cmp_total t)) in
       let there : t ≡ permission_text p = same ∙ ap permission_text (sym e) in
-      subst (λ (o : Option FoundView). IsSome o) (sym is ∙ ap (λ (w : Text). get text_cmp b w) there) refl);
+      subst (λ (o : Option OriginView). IsSome o) (sym is ∙ ap (λ (w : Text). get text_cmp b w) there) refl);
   only = λ k y e. by_bool (is_eq (text_cmp t k))
       (λ h. (let at : t ≡ k = exact_bytes t k (equal_from_test (text_cmp t k) h) in
       let is : Some x ≡ Some y = sym (reads k ∙ ap (λ (c : Bool). cond c (Some x) (get text_cmp a k)) h) ∙ e in
@@ -80,7 +80,7 @@ finds_put q x a b t same none reads = record {
 }
 
 -- what is there under a text stays as it is put there again
-finds_kept : (q : PermissionView) (x y : FoundView) (a b : Findings) (t : Text) → t ≡ permission_text q → get text_cmp a t ≡ Some y → ((k : Text) → get text_cmp b k ≡ cond (is_eq (text_cmp t k)) (Some y) (get text_cmp a k)) → Finds (λ p. p ≡ q) x a b
+finds_kept : (q : PermissionView) (x y : OriginView) (a b : FoundChanges) (t : Text) → t ≡ permission_text q → get text_cmp a t ≡ Some y → ((k : Text) → get text_cmp b k ≡ cond (is_eq (text_cmp t k)) (Some y) (get text_cmp a k)) → Finds (λ p. p ≡ q) x a b
 finds_kept q x y a b t same there reads =
     let as_before : (k : Text) → get text_cmp b k ≡ get text_cmp a k = λ k. by_bool (is_eq (text_cmp t k))
     (λ h. (let at : t ≡ k = exact_bytes t k (equal_from_test (text_cmp t k) h) in
@@ -89,17 +89,17 @@ finds_kept q x y a b t same there reads =
     record {
       kept = λ k z e. as_before k ∙ e;
       has = λ p e. (let at : t ≡ permission_text p = same ∙ ap permission_text (sym e) in
-          subst (λ (o : Option FoundView). IsSome o) (sym (as_before t ∙ there) ∙ ap (λ (w : Text). get text_cmp b w) at) refl);
+          subst (λ (o : Option OriginView). IsSome o) (sym (as_before t ∙ there) ∙ ap (λ (w : Text). get text_cmp b w) at) refl);
       only = λ k z e. inl (sym (as_before k) ∙ e);
     }
 
 -- what is put under a text unless something is there already
-pub finds_entry : (q : PermissionView) (x v : FoundView) (a b : Findings) (t : Text) → t ≡ permission_text q → (o : Option FoundView) → get text_cmp a t ≡ o → v ≡ unwrap_or o x
+pub finds_entry : (q : PermissionView) (x v : OriginView) (a b : FoundChanges) (t : Text) → t ≡ permission_text q → (o : Option OriginView) → get text_cmp a t ≡ o → v ≡ unwrap_or o x
     → ((k : Text) → get text_cmp b k ≡ cond (is_eq (text_cmp t k)) (Some v) (get text_cmp a k)) → Finds (λ p. p ≡ q) x a b
 finds_entry q x v a b t same None none is reads =
-    finds_put q x a b t same none (subst (λ (w : FoundView). (k : Text) → get text_cmp b k ≡ cond (is_eq (text_cmp t k)) (Some w) (get text_cmp a k)) is reads)
+    finds_put q x a b t same none (subst (λ (w : OriginView). (k : Text) → get text_cmp b k ≡ cond (is_eq (text_cmp t k)) (Some w) (get text_cmp a k)) is reads)
 finds_entry q x v a b t same (Some y) there is reads =
-    finds_kept q x y a b t same there (subst (λ (w : FoundView). (k : Text) → get text_cmp b k ≡ cond (is_eq (text_cmp t k)) (Some w) (get text_cmp a k)) is reads)
+    finds_kept q x y a b t same there (subst (λ (w : OriginView). (k : Text) → get text_cmp b k ≡ cond (is_eq (text_cmp t k)) (Some w) (get text_cmp a k)) is reads)
 
 -- one permission that is missing
 pub exactly_one : (rules : List (Bor Rule)) (q : PermissionView) → IsMissing rules q → (p : PermissionView) → (p ≡ q) ↔ ((p.principal ≡ q.principal) × ((p.verb ≡ q.verb) × (p.target ≡ q.target)) × IsMissing rules p)
@@ -114,10 +114,10 @@ exactly_one rules q m p = (
 -- ---- a search, word by word
 
 module _ (s : Search) {X : Type 0} (Q : X → PermissionView → Type 0) where
-  pub loop_start : (xs : List X) (m : Findings) → SearchFinds s (λ p. Any (λ x. Q x p) (take 0 xs)) m m
+  pub loop_start : (xs : List X) (m : FoundChanges) → SearchFinds s (λ p. Any (λ x. Q x p) (take 0 xs)) m m
   loop_start xs m = finds_none (λ p. (p.principal ≡ s.principal.now) × Any (λ x. Q x p) (take 0 xs) × IsMissing s.others.now p) s.found.now m (λ p h. none_any (λ x. Q x p) h.1)
 
-  pub loop_next : (xs : List X) (i : ℕ) (x : X) (a b c : Findings) → i < length xs → x ≡ get_or xs i x → SearchFinds s (λ p. Any (λ x. Q x p) (take i xs)) a b → SearchFinds s (Q x) b c → SearchFinds s (λ p. Any (λ x. Q x p) (take (i + 1) xs)) a c
+  pub loop_next : (xs : List X) (i : ℕ) (x : X) (a b c : FoundChanges) → i < length xs → x ≡ get_or xs i x → SearchFinds s (λ p. Any (λ x. Q x p) (take i xs)) a b → SearchFinds s (Q x) b c → SearchFinds s (λ p. Any (λ x. Q x p) (take (i + 1) xs)) a c
   loop_next xs i x a b c l read f g =
       let more : take (i + 1) xs ≡ take i xs ++ x ∷ [] = take_read xs i x l read in
       rw more (finds_more (λ p. (p.principal ≡ s.principal.now) × Any (λ x. Q x p) (take i xs) × IsMissing s.others.now p) (λ p. (p.principal ≡ s.principal.now) × Q x p × IsMissing s.others.now p)
@@ -130,16 +130,16 @@ module _ (s : Search) {X : Type 0} (Q : X → PermissionView → Type 0) where
         ],
       )) f g)
 
-  pub loop_all : (xs : List X) (i : ℕ) (a b : Findings) → length xs ≤ i → SearchFinds s (λ p. Any (λ x. Q x p) (take i xs)) a b → SearchFinds s (λ p. Any (λ x. Q x p) xs) a b
+  pub loop_all : (xs : List X) (i : ℕ) (a b : FoundChanges) → length xs ≤ i → SearchFinds s (λ p. Any (λ x. Q x p) (take i xs)) a b → SearchFinds s (λ p. Any (λ x. Q x p) xs) a b
   loop_all xs i a b l f = let all : take i xs ≡ xs = take_all i xs l in rw all at f
 
 -- a search for the same, told in other words
-pub search_same : (s : Search) (P Q : PermissionView → Type 0) (a b : Findings) → ((p : PermissionView) → P p ↔ Q p) → SearchFinds s P a b → SearchFinds s Q a b
+pub search_same : (s : Search) (P Q : PermissionView → Type 0) (a b : FoundChanges) → ((p : PermissionView) → P p ↔ Q p) → SearchFinds s P a b → SearchFinds s Q a b
 search_same s P Q a b same f =
     finds_same (λ p. (p.principal ≡ s.principal.now) × P p × IsMissing s.others.now p) (λ p. (p.principal ≡ s.principal.now) × Q p × IsMissing s.others.now p) s.found.now a b
     (λ p. (λ h. (h.0, (same p).0 h.1, h.2), λ h. (h.0, (same p).1 h.1, h.2))) f
 
-pub search_more : (s : Search) (P Q R : PermissionView → Type 0) (a b c : Findings) → ((p : PermissionView) → R p ↔ (P p ⊎ Q p)) → SearchFinds s P a b → SearchFinds s Q b c → SearchFinds s R a c
+pub search_more : (s : Search) (P Q R : PermissionView → Type 0) (a b c : FoundChanges) → ((p : PermissionView) → R p ↔ (P p ⊎ Q p)) → SearchFinds s P a b → SearchFinds s Q b c → SearchFinds s R a c
 search_more s P Q R a b c either f g =
     finds_more (λ p. (p.principal ≡ s.principal.now) × P p × IsMissing s.others.now p) (λ p. (p.principal ≡ s.principal.now) × Q p × IsMissing s.others.now p) (λ p. (p.principal ≡ s.principal.now) × R p × IsMissing s.others.now p) s.found.now a b c
     (λ p. (
@@ -147,5 +147,5 @@ search_more s P Q R a b c either f g =
       λ h. elim h [ inl k ↦ (k.0, (either p).1 (inl k.1), k.2) | inr k ↦ (k.0, (either p).1 (inr k.1), k.2) ],
     )) f g
 
-pub search_none : (s : Search) (P : PermissionView → Type 0) (m : Findings) → ((p : PermissionView) → P p → ⊥) → SearchFinds s P m m
+pub search_none : (s : Search) (P : PermissionView → Type 0) (m : FoundChanges) → ((p : PermissionView) → P p → ⊥) → SearchFinds s P m m
 search_none s P m none = finds_none (λ p. (p.principal ≡ s.principal.now) × P p × IsMissing s.others.now p) s.found.now m (λ p h. none p h.1)

@@ -13,11 +13,12 @@ use Rattle.rbac_terms.specs.Matching.{UrlWordMatches, NameMatches, TargetOk}
 use Rattle.rbac_terms.specs.declared.granting.Subject.{Subject}
 use Rattle.rbac_terms.specs.declared.granting.Subject.TheVariants.{User, Group, Account}
 use Rattle.rbac_terms.proofs.Accounts.{IsAccountOf-begins}
+use Rattle.rbac_model.specs.OwnWords.{GivesPath}
 use Rattle.rbac_model.specs.Policies.{GrantView, BindingNames, Live}
 use Rattle.rbac_model.proofs.OwnWords.{UrlWordMatches-own, ResourceWordMatches-own, WordMatches-own}
 use Rattle.rbac_model.proofs.UrlSamples.{IsUrlSample-one}
 use Rattle.rbac_diff.specs.Permissions.{Permitted, OnResource, OnUrl}
-use Rattle.rbac_diff.specs.Requests.{IsUser, IsFor, IsNamed, IsPermitted}
+use Rattle.rbac_diff.specs.Requests.{IsUser, IsFor, IsNameOrAny, IsPermitted}
 use Rattle.rbac_diff.specs.Covering.{stand_ins, IsAsWide, CoversName, CoversTarget, IsAskedFor}
 use Rattle.rbac_diff.proofs.Whom.{anonymous, unauthenticated, authenticated, any_first, any_second, nothing_in, only_in, byte, IsOwn}
 
@@ -170,7 +171,7 @@ url_wide path (Some m) live = absurd live
 
 module _ (gs : List GrantView) where
   -- the object name, or one that is longer than all names of rules
-  pub asked_name : (name : Option Text) → (n : Text) × IsNamed name n × ((g : GrantView) → Contains gs g → NameMatches g.rule.rule.resource_names n → CoversName g.rule.rule.resource_names name)
+  pub asked_name : (name : Option Text) → (n : Text) × IsNameOrAny name n × ((g : GrantView) → Contains gs g → NameMatches g.rule.rule.resource_names n → CoversName g.rule.rule.resource_names name)
   asked_name (Some own) = (own, refl, λ g c h. h)
   asked_name None =
       let bound = all_bounded (λ g. g.rule.rule.resource_names) (λ n. n) gs in (
@@ -183,6 +184,7 @@ module _ (gs : List GrantView) where
       )
 
   pub asked : (t : Permitted) → IsAskedFor t → Asked gs t
+  unfolding GivesPath
   asked (OnResource namespace group resource name) is =
       let n = asked_name name in
       record {

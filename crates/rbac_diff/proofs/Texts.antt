@@ -1,7 +1,7 @@
 -- No two permissions are printed alike.
-use Rattle.std.proofs.Common.{◌≡◌, ◌≢◌, ℕ, List, [], ◌∷◌, ◌++◌, refl, sym, ap, ap₂, ◌∙◌, arith, Option, Some, None, codes, Contains, append_assoc}
+use Rattle.std.proofs.Common.{◌≡◌, List, [], ◌∷◌, ◌++◌, sym, ap, ap₂, ◌∙◌, arith, Option, append_assoc}
 use Rattle.std.proofs.lemmas.List.{same_from_push}
-use Rattle.rbac_terms.specs.Text.{Text, star}
+use Rattle.rbac_terms.specs.Text.{Text}
 use Rattle.rbac_terms.specs.Principals.{Who, AsUser, AsMember, who_key, given_of}
 use Rattle.rbac_text.specs.Choice.{choice_text, choice_and_tab}
 use Rattle.rbac_text.specs.Row.{tab, field_and_tab}

@@ -19,7 +19,7 @@ use Rattle.rbac_model.proofs.Decided.{Decided}
 use Rattle.rbac_diff.specs.Permissions.{PermissionView, HasPermission, IsFirstWith}
 use Rattle.rbac_diff.specs.Requests.{IsGained}
 use Rattle.rbac_diff.specs.Covering.{IsCovered}
-use Rattle.rbac_diff.specs.Changes.{ChangeView, IsChange, IsChangeOf, AreChanges}
+use Rattle.rbac_diff.specs.Changes.{ChangeView, IsChangeBetween, IsChangeOf, AreChanges}
 use Rattle.rbac_diff.specs.Texts.{permission_text}
 use Rattle.rbac_diff.specs.declared.change.ChangeKind.{ChangeKind}
 use Rattle.rbac_diff.specs.declared.change.ChangeKind.TheVariants.{Gained, Lost}
@@ -84,7 +84,7 @@ module _ (before after : PolicyView) (ok : IsPolicy before) (also : IsPolicy aft
   of_parts Lost Gained p q b c x y e = absurd (not_both before after ok also q p c b y.0 y.1 x.0 x.1 (sym e))
   of_parts Lost Lost p q b c x y e = λ i. change_as Lost (e i) (one_gained after before also ok p q b c x.0 x.1 y.0 y.1 e i)
 
-  one_change : (x y : ChangeView) → IsChange before after x → IsChange before after y → x.permission ≡ y.permission → x ≡ y
+  one_change : (x y : ChangeView) → IsChangeBetween before after x → IsChangeBetween before after y → x.permission ≡ y.permission → x ≡ y
   one_change x y is are e =
       ap (λ t. change_as x.kind t x.binding) is.1
       ∙ of_parts x.kind y.kind is.0 are.0 x.binding y.binding is.2 are.2 (sym is.1 ∙ e ∙ are.1)
@@ -186,16 +186,16 @@ first_or_later p ps q (suc k, l, e) = inr (k, omega arith, e)
 module _ (before after : PolicyView) (ok : IsPolicy before) (also : IsPolicy after) where
   record Built (xs : List ChangeView) : Type 0 where
     up : Ascend xs
-    only : (x : ChangeView) → IsIn x xs → IsChange before after x
+    only : (x : ChangeView) → IsIn x xs → IsChangeBetween before after x
 
   decide : (k : ChangeKind) (p : PermissionView) → Decided ((b : Binding) × IsChangeOf k before after p b)
   decide Gained p = gained before after ok also p
   decide Lost p = gained after before also ok p
 
-  built_more : (x : ChangeView) (xs : List ChangeView) → IsChange before after x → Built xs → Built (put x xs)
+  built_more : (x : ChangeView) (xs : List ChangeView) → IsChangeBetween before after x → Built xs → Built (put x xs)
   built_more x xs is b = record {
     up = ascend_put x xs b.up;
-    only = λ z w. elim (put_only x z xs w) [ inl e ↦ subst (IsChange before after) e is | inr v ↦ b.only z v ];
+    only = λ z w. elim (put_only x z xs w) [ inl e ↦ subst (IsChangeBetween before after) e is | inr v ↦ b.only z v ];
   }
 
   -- what the permissions of a list give, besides what was there
@@ -210,7 +210,7 @@ module _ (before after : PolicyView) (ok : IsPolicy before) (also : IsPolicy aft
   gather k (p ∷ ps) old b = elim (decide k p) [
     | inl w ↦
         let x = change_as k (permission_text p) w.0 in
-        let is : IsChange before after x = (p, refl, w.1) in
+        let is : IsChangeBetween before after x = (p, refl, w.1) in
         let rest = gather k ps (put x old) (built_more x old is b) in
         let here : IsIn x rest.changes = rest.kept x (put_has x old (λ y own same. one_change before after ok also x y is (b.only y own) same)) in
         record {
@@ -253,6 +253,6 @@ module _ (before after : PolicyView) (ok : IsPolicy before) (also : IsPolicy aft
       listed_as new both Lost p b is =
           let h = has_one before p b is.1 in both.all p b (is_candidate before.grants h.grant p h.among h.has) is
 
-      listed : (new : More Gained (flat_map candidates after.grants) []) (both : More Lost (flat_map candidates before.grants) new.changes) (x : ChangeView) → IsChange before after x → IsIn x both.changes
+      listed : (new : More Gained (flat_map candidates after.grants) []) (both : More Lost (flat_map candidates before.grants) new.changes) (x : ChangeView) → IsChangeBetween before after x → IsIn x both.changes
       listed new both x is =
           subst (λ y. IsIn y both.changes) (ap (λ t. change_as x.kind t x.binding) (sym is.1)) (listed_as new both x.kind is.0 x.binding is.2)

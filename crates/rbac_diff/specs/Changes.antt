@@ -23,14 +23,14 @@ abbrev pub IsChangeOf : ChangeKind → PolicyView → PolicyView → PermissionV
 IsChangeOf Gained before after p b = IsGained before after p × IsFirstWith after p b
 IsChangeOf Lost before after p b = IsGained after before p × IsFirstWith before p b
 
-abbrev pub IsChange : PolicyView → PolicyView → ChangeView → Type 0
-IsChange before after x = (p : PermissionView) × (x.permission ≡ permission_text p)
+abbrev pub IsChangeBetween : PolicyView → PolicyView → ChangeView → Type 0
+IsChangeBetween before after x = (p : PermissionView) × (x.permission ≡ permission_text p)
     × IsChangeOf x.kind before after p x.binding
 
 -- all changes, each once, in order of how their permissions are printed (own)
 pub record AreChanges (before after : PolicyView) (xs : List ChangeView) : Type 0 where
   pub ordered : AllPairs (λ x y. text_cmp x.permission y.permission ≡ Less) xs
-  pub exact : (x : ChangeView) → Contains xs x ↔ IsChange before after x
+  pub exact : (x : ChangeView) → Contains xs x ↔ IsChangeBetween before after x
 
 -- a change as it is with the sides exchanged: what was gained is lost, and what was lost is gained
 abbrev pub exchanged_kind : ChangeKind → ChangeKind

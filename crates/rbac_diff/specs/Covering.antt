@@ -5,12 +5,12 @@ use Rattle.std.specs.Prelude.{codes}
 use Rattle.std.specs.Str.{bytes_eq}
 use Rattle.std.specs.Prelude.{if◌then◌else◌}
 use Rattle.rbac_terms.specs.Text.{Text}
-use Rattle.rbac_terms.specs.Targets.{IsPath, IsResourceText}
+use Rattle.rbac_terms.specs.Targets.{IsResourceText}
 use Rattle.rbac_terms.specs.Principals.{Who, AsUser, AsMember}
 use Rattle.rbac_terms.specs.Matching.{VerbOk, WordMatches, ResourceWordMatches, NameMatches}
 use Rattle.rbac_terms.specs.Matching.{UrlWordMatches}
 use Rattle.rbac_terms.specs.declared.matching.Rule.{Rule}
-use Rattle.rbac_model.specs.OwnWords.{IsUrlSample}
+use Rattle.rbac_model.specs.OwnWords.{IsUrlSample, GivesPath}
 use Rattle.rbac_model.specs.Policies.{PolicyView, GrantView, BindingNames}
 use Rattle.rbac_diff.specs.Permissions.{Permitted, OnResource, OnUrl, PermissionView}
 
@@ -46,18 +46,14 @@ abbrev pub CoversWords : Text → Permitted → Rule → Type 0
 CoversWords verb target r = VerbOk r verb × CoversTarget r target
 
 -- a grant allows all that a permission stands for
-pub record Covers (p : PermissionView) (g : GrantView) : Type 0 where
+pub record CoversPermission (p : PermissionView) (g : GrantView) : Type 0 where
   pub wide : IsAsWide g.binding.namespace p.target
   pub names : Any (BindingNames g.binding) (stand_ins p.principal)
   pub words : CoversWords p.verb p.target g.rule.rule
 
 -- some grant of the policy does
 abbrev pub IsCovered : PolicyView → PermissionView → Type 0
-IsCovered policy p = Any (Covers p) policy.grants
-
--- a URL word has a sample that is a path: without one it matches no path
-abbrev pub GivesPath : Text → Type 0
-GivesPath url = (x : Text) × IsUrlSample url x × IsPath x
+IsCovered policy p = Any (CoversPermission p) policy.grants
 
 -- some request is for what is permitted: a RoleBinding in the empty namespace is live nowhere, and
 -- words that match no proper target permit nothing

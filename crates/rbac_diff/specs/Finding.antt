@@ -11,21 +11,22 @@ use Rattle.rbac_diff.specs.Permissions.{PermissionView, OnResource, OnUrl, one_s
 use Rattle.rbac_diff.specs.Permissions.{IsNameOf, Permits, HasPermission}
 use Rattle.rbac_diff.specs.Covering.{CoversWords, IsAskedFor, IsCovered}
 use Rattle.rbac_diff.specs.Texts.{permission_text}
-use Rattle.rbac_diff.specs.Listed.{FoundView}
+use Rattle.rbac_diff.specs.Listed.{OriginView}
 use Rattle.rbac_diff.specs.declared.change.ChangeKind.{ChangeKind}
 use Rattle.rbac_diff.specs.declared.finding.Search.{Search}
 
 -- what was found, under the texts of permissions
-abbrev pub Findings : Type 0
-Findings = BTreeMap Text FoundView
+abbrev pub FoundChanges : Type 0
+FoundChanges = BTreeMap Text OriginView
 
 -- new has what old has, and x under the text of each permission with the property, unless something
 -- was there already
-pub record Finds (P : PermissionView → Type 0) (x : FoundView) (old new : Findings) : Type 0 where
-  pub kept : (t : Text) (y : FoundView) → get text_cmp old t ≡ Some y → get text_cmp new t ≡ Some y
+pub record Finds (P : PermissionView → Type 0) (x : OriginView) (old new : FoundChanges)
+    : Type 0 where
+  pub kept : (t : Text) (y : OriginView) → get text_cmp old t ≡ Some y → get text_cmp new t ≡ Some y
   pub has : (p : PermissionView) → P p → IsSome (get text_cmp new (permission_text p))
-  pub only : (t : Text) (y : FoundView) → get text_cmp new t ≡ Some y → (get text_cmp old t ≡ Some y)
-      ⊎ ((get text_cmp old t ≡ None) × (y ≡ x)
+  pub only : (t : Text) (y : OriginView) → get text_cmp new t ≡ Some y
+      → (get text_cmp old t ≡ Some y) ⊎ ((get text_cmp old t ≡ None) × (y ≡ x)
       × ((p : PermissionView) × P p × (t ≡ permission_text p)))
 
 -- some request is for the permission, and none of these rules allows all that it stands for
@@ -38,7 +39,7 @@ abbrev pub IsOrdered : Search → Type 0
 IsOrdered s = s.ordered.now ≡ map (λ r. r.now) s.others.now
 
 -- a search finds its principal's permissions with the property, if the others' rules lack them
-abbrev pub SearchFinds : Search → (PermissionView → Type 0) → Findings → Findings → Type 0
+abbrev pub SearchFinds : Search → (PermissionView → Type 0) → FoundChanges → FoundChanges → Type 0
 SearchFinds s P = Finds
     (λ p. (p.principal ≡ s.principal.now) × P p × IsMissing s.others.now p) s.found.now
 
@@ -57,8 +58,8 @@ abbrev pub IsOnTarget : Search → Rule → Text → PermissionView → Type 0
 IsOnTarget s r verb p = (p.verb ≡ verb) × Permits (option_copied s.namespace) r p.target
 
 -- the permissions of the rule
-abbrev pub IsByRule : Search → Rule → PermissionView → Type 0
-IsByRule s r p = Contains r.verbs p.verb × Permits (option_copied s.namespace) r p.target
+abbrev pub IsOfRule : Search → Rule → PermissionView → Type 0
+IsOfRule s r p = Contains r.verbs p.verb × Permits (option_copied s.namespace) r p.target
 
 -- a grant of the binding at that place, which is in that namespace or in none, has the verb and
 -- permits the target
@@ -81,12 +82,12 @@ pub record IsGainedAt (before after : PolicyView) (at : ℕ) (p : PermissionView
 -- new has what old has, and the permissions by the first `count` bindings that before doesn't
 -- allow, each with the first of these bindings that has it, unless something was there already
 pub record FindsGained (kind : ChangeKind) (before after : PolicyView) (count : ℕ)
-    (old new : Findings) : Type 0 where
-  pub kept : (t : Text) (y : FoundView) → get text_cmp old t ≡ Some y → get text_cmp new t ≡ Some y
+    (old new : FoundChanges) : Type 0 where
+  pub kept : (t : Text) (y : OriginView) → get text_cmp old t ≡ Some y → get text_cmp new t ≡ Some y
   pub has : (at : ℕ) (p : PermissionView) → at < count → IsGainedAt before after at p
       → IsSome (get text_cmp new (permission_text p))
-  pub only : (t : Text) (y : FoundView) → get text_cmp new t ≡ Some y → (get text_cmp old t ≡ Some y)
-      ⊎ ((get text_cmp old t ≡ None) × (y.kind ≡ kind)
+  pub only : (t : Text) (y : OriginView) → get text_cmp new t ≡ Some y
+      → (get text_cmp old t ≡ Some y) ⊎ ((get text_cmp old t ≡ None) × (y.kind ≡ kind)
       × ((at : ℕ) × (p : PermissionView) × (at < count) × IsGainedAt before after at p
       × (slice_get after.held.bindings at ≡ Some y.binding) × (t ≡ permission_text p)
       × ((k : ℕ) (q : PermissionView) → k < at → IsGainedAt before after k q

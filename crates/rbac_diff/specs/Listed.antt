@@ -10,10 +10,10 @@ abbrev pub change_of : Change → ChangeView
 change_of x = record { kind = x.kind; permission = x.permission; binding = x.binding.now }
 
 -- what was found under a permission's text: whether it is gained or lost, and by which binding
-pub record FoundView : Type 0 where
+pub record OriginView : Type 0 where
   pub kind : ChangeKind
   pub binding : Binding
 
 -- what was found under a text, as a change
-abbrev pub entry_change : Text × FoundView → ChangeView
+abbrev pub entry_change : Text × OriginView → ChangeView
 entry_change e = record { kind = e.1.kind; permission = e.0; binding = e.1.binding }

@@ -37,15 +37,15 @@ IsFor (AsUser name given) who = IsUserNamed who name
 IsFor (AsMember group) who = IsInGroup who group
 
 -- an object name, or any
-abbrev pub IsNamed : Option Text → Text → Type 0
-IsNamed None name = Unit {0}
-IsNamed (Some own) name = own ≡ name
+abbrev pub IsNameOrAny : Option Text → Text → Type 0
+IsNameOrAny None name = Unit {0}
+IsNameOrAny (Some own) name = own ≡ name
 
 -- what is asked for in that namespace, or in none, is permitted: where, and by each word
 abbrev pub IsPermitted : Permitted → Text → What → Type 0
 IsPermitted (OnResource own group resource name) namespace (Resource g text n) =
     Live own namespace (Resource g text n) × WordMatches group g × ResourceWordMatches resource text
-    × IsNamed name n
+    × IsNameOrAny name n
 IsPermitted (OnUrl url) namespace (Url path) = UrlWordMatches url path
 IsPermitted _ _ _ = ⊥
 

@@ -9,25 +9,24 @@ use Rattle.rbac_diff.specs.Covering.{CoversWords}
 use Rattle.rbac_diff.specs.Permissions.{PermissionView, Permits}
 
 -- a held rule allows this word, taken as a text
-unfoldable pub HasVerb : Rule → Text → Type 0
-HasVerb held verb = VerbOk held verb
+unfoldable pub AllowsVerbWord : Rule → Text → Type 0
+AllowsVerbWord held verb = VerbOk held verb
 
-unfoldable pub HasGroup : Rule → Text → Type 0
-HasGroup held group = Any (λ w. WordMatches w group) held.groups
+unfoldable pub AllowsGroupWord : Rule → Text → Type 0
+AllowsGroupWord held group = Any (λ w. WordMatches w group) held.groups
 
-unfoldable pub HasResource : Rule → Text → Type 0
-HasResource held text = Any (λ w. ResourceWordMatches w text) held.resources
-
-unfoldable pub HasUrl : Rule → Text → Type 0
-HasUrl held word = AllowsUrlWord held word
+unfoldable pub AllowsResourceWord : Rule → Text → Type 0
+AllowsResourceWord held text = Any (λ w. ResourceWordMatches w text) held.resources
 
 -- it allows a resource of the rule, in some API group of it
 abbrev pub SharesResource : Rule → Rule → Type 0
-SharesResource held r = Any (HasResource held) r.resources × Any (HasGroup held) r.groups
+SharesResource held r = Any (AllowsResourceWord held) r.resources
+    × Any (AllowsGroupWord held) r.groups
 
 -- it allows a verb of the rule, and a resource or a URL of it
 abbrev pub SharesWords : Rule → Rule → Type 0
-SharesWords held r = Any (HasVerb held) r.verbs × (SharesResource held r ⊎ Any (HasUrl held) r.urls)
+SharesWords held r = Any (AllowsVerbWord held) r.verbs
+    × (SharesResource held r ⊎ Any (AllowsUrlWord held) r.urls)
 
 -- a rule among near covers a permission of the rule exactly if one of these rules does
 abbrev pub AreSharing : List (Bor Rule) → Rule → List (Bor Rule) → Type 0

@@ -23,16 +23,15 @@ HasCoveringRule rules r = Any (λ held. CoversAll held.now r) rules
 abbrev pub IsCoveringPlace : List (Bor Rule) → Rule → ℕ → Type 0
 IsCoveringPlace rules r at = (at < length rules) × HasCoveringRule rules r
 
--- the rule is that of a grant, one of those numbered from `from` up to `end`, that is bound to who
--- asks in that namespace
-abbrev pub IsBoundRule : PolicyView → Who → Text → ℕ → ℕ → Rule → Type 0
-IsBoundRule policy who namespace from end r = (no : ℕ) × (g : GrantView) × (from ≤ no) × (no < end)
+-- the rule is that of a grant, one of the first `count`, that is bound to who asks in that namespace
+abbrev pub IsBoundRule : PolicyView → Who → Text → ℕ → Rule → Type 0
+IsBoundRule policy who namespace count r = (no : ℕ) × (g : GrantView) × (no < count)
     × (slice_get policy.grants no ≡ Some g) × IsBoundTo policy who namespace no × (g.rule.rule ≡ r)
 
 -- new has old's rules and these
-abbrev pub AddsRules : PolicyView → Who → Text → ℕ → ℕ → List (Bor Rule) → List (Bor Rule) → Type 0
-AddsRules policy who namespace from end old new = (r : Rule) → HasRule new r
-    ↔ (HasRule old r ⊎ IsBoundRule policy who namespace from end r)
+abbrev pub AddsRules : PolicyView → Who → Text → ℕ → List (Bor Rule) → List (Bor Rule) → Type 0
+AddsRules policy who namespace count old new = (r : Rule) → HasRule new r
+    ↔ (HasRule old r ⊎ IsBoundRule policy who namespace count r)
 
 -- the rule is that of a grant numbered from `start` up to `end`
 abbrev pub IsRuleIn : PolicyView → ℕ → ℕ → Rule → Type 0
@@ -55,7 +54,7 @@ IsWider own asked = (own ≡ None) ⊎ (own ≡ asked)
 
 -- the rules of the grants that name everybody whom the principal stands for, wherever a binding in
 -- that namespace, or in none, is live
-abbrev pub AreRulesOf : PolicyView → Who → Option Text → List (Bor Rule) → Type 0
-AreRulesOf policy who namespace rules = (r : Rule) → HasRule rules r
+abbrev pub AreStandInRules : PolicyView → Who → Option Text → List (Bor Rule) → Type 0
+AreStandInRules policy who namespace rules = (r : Rule) → HasRule rules r
     ↔ Any (λ g. IsWider g.binding.namespace namespace
     × Any (BindingNames g.binding) (stand_ins who) × (g.rule.rule ≡ r)) policy.grants

@@ -5,13 +5,12 @@ ghost use Rattle.rbac_model.specs.Policies.{IsPolicy};
 ghost use Rattle.rbac_diff.specs.Changes.{AreChanges};
 
 use crate::changed::Changed;
-use crate::fault::DiffFault;
 use crate::finding::add_gained;
-use crate::found::Found;
 use crate::listing::Changes;
+use crate::origin::Origin;
 use rbac_model::Policy;
 use rbac_terms::{Binding, Word};
-use std::alloc::Global;
+use std::alloc::{AllocError, Global};
 use std::collections::BTreeMap;
 
 /// Whether a permission is gained or lost.
@@ -36,7 +35,7 @@ pub struct Change<'p> {
 }
 
 // The changes that were found, under their permissions' texts.
-pub(crate) type Findings<'p> = BTreeMap<Word, Found<'p>>;
+pub(crate) type FoundChanges<'p> = BTreeMap<Word, Origin<'p>>;
 
 /// What changes for users when one policy takes the place of another: each permission that the
 /// second one has and the first one doesn't allow, and the other way round, in order of how they
@@ -45,7 +44,7 @@ pub fn changes<'p>(
     alloc: Global,
     before: &'p Policy,
     after: &'p Policy,
-) -> Result<Changes<'p>, DiffFault>
+) -> Result<Changes<'p>, AllocError>
     ensures changes { IfOk result (λ xs. AreChanges before.now after.now xs) }
     ensures before { IsPolicy before.now }
     ensures after { IsPolicy after.now }

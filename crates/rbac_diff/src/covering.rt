@@ -3,9 +3,9 @@
 ghost use Rattle.std.specs.Prelude.{◌≡◌, ◌↔◌, IfOk, IsTrue, Any, Some, []};
 ghost use Rattle.std.specs.Option.{option_copied};
 ghost use Rattle.rbac_terms.specs.Matching.{ResourceWordMatches};
+ghost use Rattle.rbac_model.specs.OwnWords.{GivesPath};
 ghost use Rattle.rbac_covering.specs.Covering.{CoversAll};
-ghost use Rattle.rbac_diff.specs.Covering.{CoversName, CoversTarget, CoversWords, GivesPath};
-ghost use Rattle.rbac_diff.specs.Covering.{IsAskedFor};
+ghost use Rattle.rbac_diff.specs.Covering.{CoversName, CoversTarget, CoversWords, IsAskedFor};
 ghost use Rattle.rbac_diff.specs.Permissions.{OnUrl, one_star};
 ghost use Rattle.rbac_diff.specs.Shown.{permitted_of};
 

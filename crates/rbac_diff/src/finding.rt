@@ -5,20 +5,19 @@ ghost use Rattle.std.specs.Prelude.{map, slice_get};
 ghost use Rattle.rbac_terms.specs.Principals.{given_of};
 ghost use Rattle.std.specs.Option.{option_copied};
 ghost use Rattle.rbac_diff.specs.Covering.{CoversWords};
-ghost use Rattle.rbac_diff.specs.Finding.{Finds, FindsGained, IsByGrants, IsByRule, IsGainedAt};
+ghost use Rattle.rbac_diff.specs.Finding.{Finds, FindsGained, IsByGrants, IsOfRule, IsGainedAt};
 ghost use Rattle.rbac_diff.specs.Finding.{IsOnResource, IsOnTarget, IsOnUrl, IsUncovered};
 ghost use Rattle.rbac_diff.specs.Finding.{IsOrdered, SearchFinds};
 ghost use Rattle.rbac_diff.specs.Shown.{permitted_of};
 ghost use Rattle.rbac_diff.specs.Unchanged.{AreFlags};
 
-use crate::change::{ChangeKind, Findings};
+use crate::change::{ChangeKind, FoundChanges};
 use crate::covering::{is_asked_for, is_covered};
-use crate::fault::DiffFault;
-use crate::found::Found;
+use crate::origin::Origin;
 use crate::permission::{Permission, Permitted, permission_text};
 use crate::sharing::sharing;
 use crate::spread::spread;
-use crate::stand_ins::Asked;
+use crate::stand_ins::AskedPolicy;
 use crate::standing::covering_place;
 use rbac_covering::OrderedRule;
 use rbac_model::Policy;
@@ -33,8 +32,8 @@ pub(crate) fn add_gained<'p>(
     before: &Policy,
     after: &'p Policy,
     flags: &[bool],
-    findings: &mut Findings<'p>,
-) -> Result<(), DiffFault>
+    findings: &mut FoundChanges<'p>,
+) -> Result<(), AllocError>
     requires { AreFlags after.now flags.now before.now }
     ensures { OnOk result
         (FindsGained kind before.now after.now (length after.now.held.bindings) findings.old
@@ -43,7 +42,7 @@ pub(crate) fn add_gained<'p>(
     if !flags.contains(&true) {
         return Ok(());
     }
-    let asked = Asked::of(alloc, before)?;
+    let asked = AskedPolicy::of(alloc, before)?;
     add_of_flagged(alloc, kind, &asked, after, flags, findings)
 }
 
@@ -51,11 +50,11 @@ pub(crate) fn add_gained<'p>(
 fn add_of_flagged<'p>(
     alloc: Global,
     kind: ChangeKind,
-    asked: &Asked<'_>,
+    asked: &AskedPolicy<'_>,
     after: &'p Policy,
     flags: &[bool],
-    findings: &mut Findings<'p>,
-) -> Result<(), DiffFault>
+    findings: &mut FoundChanges<'p>,
+) -> Result<(), AllocError>
     requires { AreFlags after.now flags.now asked.now }
     ensures { OnOk result
         (FindsGained kind asked.now after.now (length after.now.held.bindings) findings.old
@@ -64,7 +63,7 @@ fn add_of_flagged<'p>(
     let bindings: &'p [Binding] = after.bindings();
     for (place, binding) in bindings.iter().enumerate() {
         if flags[place] {
-            let found = Found::new(alloc, kind, binding)?;
+            let found = Origin::new(alloc, kind, binding)?;
             add_of_binding(alloc, asked, after, place, &found, findings)?;
         }
     }
@@ -74,12 +73,12 @@ fn add_of_flagged<'p>(
 // Adds the permissions of the binding at this place that the policy asked doesn't allow.
 fn add_of_binding<'p>(
     alloc: Global,
-    asked: &Asked<'_>,
+    asked: &AskedPolicy<'_>,
     after: &'p Policy,
     place: usize,
-    found: &Found<'p>,
-    findings: &mut Findings<'p>,
-) -> Result<(), DiffFault>
+    found: &Origin<'p>,
+    findings: &mut FoundChanges<'p>,
+) -> Result<(), AllocError>
     requires { slice_get after.now.held.bindings place ≡ Some found.now.binding }
     ensures gained { OnOk result
         (Finds (IsGainedAt asked.now after.now place) found.now findings.old findings.new) }
@@ -101,13 +100,13 @@ fn add_of_binding<'p>(
 // asked doesn't allow.
 fn add_of_principal<'p>(
     alloc: Global,
-    asked: &Asked<'_>,
+    asked: &AskedPolicy<'_>,
     after: &'p Policy,
     place: usize,
-    found: &Found<'p>,
+    found: &Origin<'p>,
     principal: &Principal,
-    findings: &mut Findings<'p>,
-) -> Result<(), DiffFault>
+    findings: &mut FoundChanges<'p>,
+) -> Result<(), AllocError>
     requires somewhere { ¬ (found.now.binding.namespace ≡ Some []) }
     requires alone { given_of principal.now ≡ [] }
     ensures { OnOk result
@@ -125,14 +124,14 @@ fn add_of_principal<'p>(
         others: others.as_slice(),
         ordered: &[],
     };
-    Ok(add_of_grants(alloc, &search, after, place, findings)?)
+    add_of_grants(alloc, &search, after, place, findings)
 }
 
 // A search for the permissions that a principal has by a binding, and that these rules of the other
 // policy don't allow.
 #[derive(Clone, Copy)]
 struct Search<'a, 'p> {
-    found: &'a Found<'p>,
+    found: &'a Origin<'p>,
     // The binding's namespace.
     namespace: Option<&'a Word>,
     principal: &'a Principal,
@@ -153,7 +152,7 @@ fn add_of_grants<'a, 'p>(
     search: &'a Search<'a, 'p>,
     after: &'a Policy,
     place: usize,
-    findings: &mut Findings<'p>,
+    findings: &mut FoundChanges<'p>,
 ) -> Result<(), AllocError>
     ensures { OnOk result
         (SearchFinds search.now (IsByGrants after.now place (option_copied search.now.namespace))
@@ -178,10 +177,10 @@ fn add_of_rule<'a, 'p>(
     alloc: Global,
     search: &'a Search<'a, 'p>,
     rule: &'a Rule,
-    findings: &mut Findings<'p>,
+    findings: &mut FoundChanges<'p>,
 ) -> Result<(), AllocError>
     ensures { OnOk result
-        (SearchFinds search.now (IsByRule search.now rule.now) findings.old findings.new) }
+        (SearchFinds search.now (IsOfRule search.now rule.now) findings.old findings.new) }
 {
     let near = sharing(alloc, search.others, rule)?;
     let ordered = in_order(alloc, near.as_slice())?;
@@ -211,11 +210,11 @@ fn add_of_verbs<'a, 'p>(
     alloc: Global,
     search: &'a Search<'a, 'p>,
     rule: &'a Rule,
-    findings: &mut Findings<'p>,
+    findings: &mut FoundChanges<'p>,
 ) -> Result<(), AllocError>
     requires { IsOrdered search.now }
     ensures { OnOk result
-        (SearchFinds search.now (IsByRule search.now rule.now) findings.old findings.new) }
+        (SearchFinds search.now (IsOfRule search.now rule.now) findings.old findings.new) }
 {
     for verb in rule.verbs.as_slice() {
         add_of_verb(alloc, search, rule, verb, findings)?;
@@ -229,7 +228,7 @@ fn add_of_verb<'a, 'p>(
     search: &'a Search<'a, 'p>,
     rule: &'a Rule,
     verb: &Word,
-    findings: &mut Findings<'p>,
+    findings: &mut FoundChanges<'p>,
 ) -> Result<(), AllocError>
     requires { IsOrdered search.now }
     ensures { OnOk result
@@ -252,7 +251,7 @@ fn add_of_group<'a, 'p>(
     rule: &'a Rule,
     verb: &Word,
     group: &'a Word,
-    findings: &mut Findings<'p>,
+    findings: &mut FoundChanges<'p>,
 ) -> Result<(), AllocError>
     requires { IsOrdered search.now }
     ensures { OnOk result
@@ -276,7 +275,7 @@ fn add_of_resource<'a, 'p>(
     verb: &Word,
     group: &'a Word,
     resource: &'a Word,
-    findings: &mut Findings<'p>,
+    findings: &mut FoundChanges<'p>,
 ) -> Result<(), AllocError>
     requires { IsOrdered search.now }
     ensures { OnOk result
@@ -313,7 +312,7 @@ fn add_urls<'a, 'p>(
     search: &'a Search<'a, 'p>,
     rule: &'a Rule,
     verb: &Word,
-    findings: &mut Findings<'p>,
+    findings: &mut FoundChanges<'p>,
 ) -> Result<(), AllocError>
     requires { IsOrdered search.now }
     ensures { OnOk result
@@ -333,7 +332,7 @@ fn add<'p>(
     search: &Search<'_, 'p>,
     verb: &Word,
     target: Permitted<'_>,
-    findings: &mut Findings<'p>,
+    findings: &mut FoundChanges<'p>,
 ) -> Result<(), AllocError>
     requires { IsOrdered search.now }
     ensures { OnOk result

@@ -7,13 +7,12 @@ mod change;
 mod changed;
 mod covered_roles;
 mod covering;
-mod fault;
 mod finding;
-mod found;
 mod laws;
 mod line;
 mod listing;
 mod named;
+mod origin;
 mod permission;
 mod sharing;
 mod spread;
@@ -23,7 +22,6 @@ mod subjects;
 mod unchanged;
 
 pub use change::{Change, ChangeKind, changes};
-pub use fault::DiffFault;
 pub use laws::{
     a_list_of_changes_is_there, changes_are_one, changes_tell_all, losses_are_gains_exchanged,
 };

@@ -5,8 +5,8 @@ ghost use Rattle.std.specs.BTreeMap.{IsOrdered};
 ghost use Rattle.rbac_terms.specs.Text.{text_cmp};
 ghost use Rattle.rbac_diff.specs.Listed.{entry_change};
 
-use crate::change::{Change, Findings};
-use crate::found::Found;
+use crate::change::{Change, FoundChanges};
+use crate::origin::Origin;
 use rbac_terms::Word;
 use std::alloc::Global;
 use std::collections::btree_map::IntoIter;
@@ -16,7 +16,7 @@ use std::marker::Model;
 /// change takes in memory is freed as soon as the change itself is. Contracts see the list of them.
 #[derive(Drop)]
 pub struct Changes<'p> {
-    left: IntoIter<Word, Found<'p>, Global>,
+    left: IntoIter<Word, Origin<'p>, Global>,
 }
 
 impl<'p> Model for Changes<'p> {
@@ -31,7 +31,7 @@ impl<'p> Model for Changes<'p> {
 
 impl<'p> Changes<'p> {
     // The changes that were found.
-    pub(crate) fn of(findings: Findings<'p>) -> Self
+    pub(crate) fn of(findings: FoundChanges<'p>) -> Self
         ensures changes { result ≡ map entry_change findings.entry.entries }
         ensures ordered { IsOrdered text_cmp findings.entry }
     {

@@ -1,8 +1,9 @@
 //! Rules of the other policy that share words with a rule: no other one covers a permission of it.
 
 ghost use Rattle.std.specs.Prelude.{◌↔◌, Any, IfOk, IsTrue};
-ghost use Rattle.rbac_diff.specs.Sharing.{AreSharing, HasGroup, HasResource, HasUrl, HasVerb};
-ghost use Rattle.rbac_diff.specs.Sharing.{SharesResource, SharesWords};
+ghost use Rattle.rbac_model.specs.OwnWords.{AllowsUrlWord};
+ghost use Rattle.rbac_diff.specs.Sharing.{AllowsGroupWord, AllowsResourceWord, AllowsVerbWord};
+ghost use Rattle.rbac_diff.specs.Sharing.{AreSharing, SharesResource, SharesWords};
 
 use rbac_model::allows_url_word;
 use rbac_terms::{Rule, Word, group_matches, resource_matches, verb_matches};
@@ -33,17 +34,17 @@ fn shares_words(held: &Rule, rule: &Rule) -> bool
 }
 
 fn shares_verb(held: &Rule, rule: &Rule) -> bool
-    ensures { IsTrue result ↔ Any (HasVerb held.now) rule.now.verbs }
+    ensures { IsTrue result ↔ Any (AllowsVerbWord held.now) rule.now.verbs }
 {
     rule.verbs
         .as_slice()
         .iter()
-        .any(|verb| has_verb(held, verb))
+        .any(|verb| allows_verb(held, verb))
 }
 
-#[tactic(auto, unfolding(crate::specs::Sharing::HasVerb))]
-fn has_verb(held: &Rule, verb: &Word) -> bool
-    ensures { IsTrue result ↔ HasVerb held.now verb.now }
+#[tactic(auto, unfolding(crate::specs::Sharing::AllowsVerbWord))]
+fn allows_verb(held: &Rule, verb: &Word) -> bool
+    ensures { IsTrue result ↔ AllowsVerbWord held.now verb.now }
 {
     verb_matches(held, verb)
 }
@@ -55,46 +56,42 @@ fn shares_resource(held: &Rule, rule: &Rule) -> bool
 }
 
 fn shares_text(held: &Rule, rule: &Rule) -> bool
-    ensures { IsTrue result ↔ Any (HasResource held.now) rule.now.resources }
+    ensures { IsTrue result ↔ Any (AllowsResourceWord held.now) rule.now.resources }
 {
     rule.resources
         .as_slice()
         .iter()
-        .any(|text| has_resource(held, text))
+        .any(|text| allows_resource(held, text))
 }
 
-#[tactic(auto, unfolding(crate::specs::Sharing::HasResource))]
-fn has_resource(held: &Rule, text: &Word) -> bool
-    ensures { IsTrue result ↔ HasResource held.now text.now }
+#[tactic(auto, unfolding(crate::specs::Sharing::AllowsResourceWord))]
+fn allows_resource(held: &Rule, text: &Word) -> bool
+    ensures { IsTrue result ↔ AllowsResourceWord held.now text.now }
 {
     resource_matches(held, text)
 }
 
 fn shares_group(held: &Rule, rule: &Rule) -> bool
-    ensures { IsTrue result ↔ Any (HasGroup held.now) rule.now.groups }
+    ensures { IsTrue result ↔ Any (AllowsGroupWord held.now) rule.now.groups }
 {
     rule.groups
         .as_slice()
         .iter()
-        .any(|group| has_group(held, group))
+        .any(|group| allows_group(held, group))
 }
 
-#[tactic(auto, unfolding(crate::specs::Sharing::HasGroup))]
-fn has_group(held: &Rule, group: &Word) -> bool
-    ensures { IsTrue result ↔ HasGroup held.now group.now }
+#[tactic(auto, unfolding(crate::specs::Sharing::AllowsGroupWord))]
+fn allows_group(held: &Rule, group: &Word) -> bool
+    ensures { IsTrue result ↔ AllowsGroupWord held.now group.now }
 {
     group_matches(held, group)
 }
 
 fn shares_url(held: &Rule, rule: &Rule) -> bool
-    ensures { IsTrue result ↔ Any (HasUrl held.now) rule.now.urls }
+    ensures { IsTrue result ↔ Any (AllowsUrlWord held.now) rule.now.urls }
 {
-    rule.urls.as_slice().iter().any(|word| has_url(held, word))
-}
-
-#[tactic(auto, unfolding(crate::specs::Sharing::HasUrl))]
-fn has_url(held: &Rule, word: &Word) -> bool
-    ensures { IsTrue result ↔ HasUrl held.now word.now }
-{
-    allows_url_word(held, word)
+    rule.urls
+        .as_slice()
+        .iter()
+        .any(|word| allows_url_word(held, word))
 }

@@ -1,14 +1,13 @@
 //! Who stands in for everybody that a permission is for.
 
 ghost use Rattle.std.specs.Prelude.{◌≡◌, ◌≤◌, [], IfOk, OnOk, Some};
-ghost use Rattle.std.specs.Prelude.{length, MatchOption};
+ghost use Rattle.std.specs.Prelude.{codes, length, MatchOption};
 ghost use Rattle.std.specs.Option.{option_copied};
 ghost use Rattle.rbac_terms.specs.Text.{Text};
-ghost use Rattle.rbac_terms.specs.Principals.{AsMember, given_of};
+ghost use Rattle.rbac_terms.specs.Principals.{AsMember, AsUser, given_of};
 ghost use Rattle.rbac_diff.specs.Covering.{stand_ins};
-ghost use Rattle.rbac_diff.specs.StandIns.{AddsRulesIn, AddsRules, AreRulesOf, one_or_two};
+ghost use Rattle.rbac_diff.specs.StandIns.{AddsRulesIn, AddsRules, AreStandInRules, one_or_two};
 
-use crate::fault::DiffFault;
 use rbac_model::Policy;
 use rbac_subjects::SubjectIndex;
 use rbac_terms::{Principal, Rule, Word, Words};
@@ -24,21 +23,20 @@ const AUTHENTICATED: &[u8] = b"system:authenticated";
 // The group of the anonymous user alone.
 const UNAUTHENTICATED: &[u8] = b"system:unauthenticated";
 
-// The user of a request without credentials.
+// The name of a user without credentials.
 const ANONYMOUS: &[u8] = b"system:anonymous";
 
 // A policy, with the principals that stand in for members of groups.
 #[derive(Drop)]
-pub(crate) struct Asked<'p> {
+pub(crate) struct AskedPolicy<'p> {
     policy: &'p Policy,
     subjects: SubjectIndex<'p>,
-    // A member of the group of all that have signed in.
     signed_in: Principal,
     anonymous: Principal,
     nowhere: Word,
 }
 
-impl<'p> Model for Asked<'p> {
+impl<'p> Model for AskedPolicy<'p> {
     ghost use Rattle.std.specs.Prelude.{◌≡◌, [], codes};
     ghost use Rattle.rbac_terms.specs.Principals.{AsUser, AsMember};
     ghost use Rattle.rbac_model.specs.Policies.{PolicyView};
@@ -52,18 +50,15 @@ impl<'p> Model for Asked<'p> {
         × (a.subjects ≡ a.policy.now) };
 }
 
-impl<'p> Asked<'p> {
-    pub(crate) fn of(alloc: Global, policy: &'p Policy) -> Result<Self, DiffFault>
+impl<'p> AskedPolicy<'p> {
+    pub(crate) fn of(alloc: Global, policy: &'p Policy) -> Result<Self, AllocError>
         ensures { IfOk result (λ a. a ≡ policy.now) }
     {
-        let subjects = SubjectIndex::build(alloc, policy)?;
-        let signed_in = Word::from_slice(alloc, AUTHENTICATED)?;
-        let anonymous = Word::from_slice(alloc, ANONYMOUS)?;
-        Ok(Asked {
+        Ok(AskedPolicy {
             policy,
-            subjects,
-            signed_in: Principal::group(alloc, &signed_in)?,
-            anonymous: Principal::user(alloc, &anonymous, &Words::new(alloc))?,
+            subjects: subjects_of(alloc, policy)?,
+            signed_in: signed_in(alloc)?,
+            anonymous: anonymous(alloc)?,
             nowhere: Word::new(alloc),
         })
     }
@@ -75,10 +70,10 @@ impl<'p> Asked<'p> {
         alloc: Global,
         principal: &Principal,
         namespace: Option<&Word>,
-    ) -> Result<Vec<&'p Rule>, DiffFault>
+    ) -> Result<Vec<&'p Rule>, AllocError>
         requires { ¬ (option_copied namespace ≡ Some []) }
         ensures { given_of principal.now ≡ [] → IfOk result
-            (λ rules. AreRulesOf self.now principal.now (option_copied namespace.entry)
+            (λ rules. AreStandInRules self.now principal.now (option_copied namespace.entry)
             rules.items) }
     {
         let namespace = namespace.unwrap_or(&self.nowhere);
@@ -109,6 +104,38 @@ impl<'p> Asked<'p> {
     }
 }
 
+// The bindings of a policy by their subjects.
+fn subjects_of<'p>(alloc: Global, policy: &'p Policy) -> Result<SubjectIndex<'p>, AllocError>
+    ensures { IfOk result (λ subjects. subjects ≡ policy.now) }
+{
+    match SubjectIndex::build(alloc, policy) {
+        Ok(subjects) => Ok(subjects),
+        Err(_) => Err(AllocError),
+    }
+}
+
+// A member of the group of all that have signed in.
+fn signed_in(alloc: Global) -> Result<Principal, AllocError>
+    ensures { IfOk result (λ member. member ≡ AsMember (codes "system:authenticated")) }
+{
+    let group = Word::from_slice(alloc, AUTHENTICATED)?;
+    match Principal::group(alloc, &group) {
+        Ok(member) => Ok(member),
+        Err(_) => Err(AllocError),
+    }
+}
+
+// The user of a request without credentials.
+fn anonymous(alloc: Global) -> Result<Principal, AllocError>
+    ensures { IfOk result (λ user. user ≡ AsUser (codes "system:anonymous") []) }
+{
+    let name = Word::from_slice(alloc, ANONYMOUS)?;
+    match Principal::user(alloc, &name, &Words::new(alloc)) {
+        Ok(user) => Ok(user),
+        Err(_) => Err(AllocError),
+    }
+}
+
 // The group whose member the principal is; a user is the member of none.
 fn group_of(principal: &Principal) -> Option<&[u8]>
     ensures { MatchOption result ((group : Text) → ¬ (principal.now ≡ AsMember group))
@@ -129,7 +156,7 @@ fn add_rules<'p>(
 ) -> Result<(), AllocError>
     requires { subjects.now ≡ policy.now }
     ensures { OnOk result
-        (AddsRules policy.now principal.now namespace.now 0 (length policy.now.grants)
+        (AddsRules policy.now principal.now namespace.now (length policy.now.grants)
         rules.old.items rules.new.items) }
 {
     let mut from = 0;

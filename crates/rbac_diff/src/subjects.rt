@@ -9,7 +9,7 @@ use std::alloc::{AllocError, Global};
 use std::collections::BTreeMap;
 
 // The places of subjects, each under what it says.
-type Places = BTreeMap<Vec<u8>, usize>;
+type SubjectPlaces = BTreeMap<Vec<u8>, usize>;
 
 // Whether each of these subjects is among the others. They are mostly found in one order.
 pub(crate) fn are_among(
@@ -44,7 +44,7 @@ fn are_among_in_order(subjects: &[Subject], others: &[Subject]) -> bool
 }
 
 // Where these subjects stand.
-fn places_of(alloc: Global, subjects: &[Subject]) -> Result<Places, AllocError> {
+fn places_of(alloc: Global, subjects: &[Subject]) -> Result<SubjectPlaces, AllocError> {
     let mut places = BTreeMap::new(alloc);
     for (place, subject) in subjects.iter().enumerate() {
         places.insert(subject_text(alloc, subject)?, place)?;
@@ -56,7 +56,7 @@ fn places_of(alloc: Global, subjects: &[Subject]) -> Result<Places, AllocError> 
 fn are_at(
     alloc: Global,
     subjects: &[Subject],
-    places: &Places,
+    places: &SubjectPlaces,
     others: &[Subject],
 ) -> Result<bool, AllocError>
     ensures { IfOk result (λ are. IsTrue are → AreAmong subjects.now others.now) }
@@ -73,7 +73,7 @@ fn are_at(
 fn is_at(
     alloc: Global,
     subject: &Subject,
-    places: &Places,
+    places: &SubjectPlaces,
     others: &[Subject],
 ) -> Result<bool, AllocError>
     ensures { IfOk result (λ is. IsTrue is → Contains others.now subject.now) }

@@ -4,8 +4,8 @@ use Rattle.std.specs.BTreeMap.Entry.{map_with_value}
 use Rattle.std.specs.Option.{unwrap_or}
 use Rattle.rbac_terms.specs.Text.{text_cmp}
 use Rattle.rbac_diff.specs.Permissions.{PermissionView}
-use Rattle.rbac_diff.specs.Listed.{FoundView}
-use Rattle.rbac_diff.specs.Finding.{Findings, Finds, IsMissing}
+use Rattle.rbac_diff.specs.Listed.{OriginView}
+use Rattle.rbac_diff.specs.Finding.{FoundChanges, Finds, IsMissing}
 use Rattle.rbac_diff.specs.Shown.{permitted_of}
 use Rattle.rbac_diff.proofs.Searching.{finds_entry, finds_same, exactly_one}
 use Rattle.rbac_diff.proofs.finding.add.Goals as goal
@@ -23,8 +23,8 @@ returns c =
     let text = c.in_ok-text.text in
     let old = c.args.findings.now in
     let v = c.or_insert.result.now in
-    subst (λ (new : Findings). Finds P s.found.now old new) (search rules)
+    subst (λ (new : FoundChanges). Finds P s.found.now old new) (search rules)
     (finds_same (λ p. p ≡ q) P s.found.now old (map_with_value entry v) (exactly_one s.others.now q missing)
     (finds_entry q s.found.now v old (map_with_value entry v) text c.in_ok-text.ensures (get text_cmp old text) refl
-    (c.or_insert.ensures.value ∙ ap (λ o. unwrap_or o c.in_ok-found.found) c.in_ok-findings.ensures.value ∙ ap (λ (x : FoundView). unwrap_or (get text_cmp old text) x) c.in_ok-found.ensures.cases)
+    (c.or_insert.ensures.value ∙ ap (λ o. unwrap_or o c.in_ok-found.found) c.in_ok-findings.ensures.value ∙ ap (λ (x : OriginView). unwrap_or (get text_cmp old text) x) c.in_ok-found.ensures.cases)
     (c.in_ok-findings.ensures.update.0 v).0))

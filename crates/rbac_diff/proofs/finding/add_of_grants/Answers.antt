@@ -1,7 +1,7 @@
 use Rattle.std.proofs.Common.{◌+◌}
 use Rattle.std.specs.Option.{option_copied}
 use Rattle.rbac_model.specs.Sources.{grant_of}
-use Rattle.rbac_diff.specs.Finding.{Findings, SearchFinds, IsByGrants, IsByRule}
+use Rattle.rbac_diff.specs.Finding.{FoundChanges, SearchFinds, IsByGrants, IsOfRule}
 use Rattle.rbac_diff.proofs.Grants.{IsByNumbers, no_numbers, one_number, all_numbers}
 use Rattle.rbac_diff.proofs.Searching.{search_none, search_same, search_more}
 use Rattle.rbac_diff.proofs.CoveringRules.{search_covered}
@@ -21,8 +21,8 @@ loop-no-preserved c =
     let from = c.grants_of-from.result.0 in
     let n = c.loop-no.no in
     let r = c.grant.result.rule.now in
-    let more : (m : Findings) → SearchFinds s (IsByRule s r) c.loop-no.findings m → SearchFinds s (IsByNumbers after own from (n + 1)) c.args.findings.now m =
-    λ m. search_more s (IsByNumbers after own from n) (IsByRule s r) (IsByNumbers after own from (n + 1)) c.args.findings.now c.loop-no.findings m
+    let more : (m : FoundChanges) → SearchFinds s (IsOfRule s r) c.loop-no.findings m → SearchFinds s (IsByNumbers after own from (n + 1)) c.args.findings.now m =
+    λ m. search_more s (IsByNumbers after own from n) (IsOfRule s r) (IsByNumbers after own from (n + 1)) c.args.findings.now c.loop-no.findings m
     (one_number after own from n (grant_of c.grant.result) c.loop-no.auto.no c.grant.ensures.grant) c.loop-no.invariant in
     elim c.match-branch-2.branch [
       | in-Some w ↦ rw w.findings-is (more c.loop-no.findings (search_covered s r c.loop-no.findings (rw w.in-Some.is at c.in_ok-at.ensures).1))

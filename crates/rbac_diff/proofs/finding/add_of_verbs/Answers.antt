@@ -1,5 +1,5 @@
 use Rattle.std.proofs.Common.{arith, Any}
-use Rattle.rbac_diff.specs.Finding.{IsOnTarget, IsByRule}
+use Rattle.rbac_diff.specs.Finding.{IsOnTarget, IsOfRule}
 use Rattle.rbac_diff.proofs.Levels.{each_verb}
 use Rattle.rbac_diff.proofs.Searching.{loop_start, loop_next, loop_all, search_same}
 use Rattle.rbac_diff.proofs.finding.add_of_verbs.Goals as goal
@@ -17,4 +17,4 @@ returns c =
     let s = c.args.search.now in
     let all = rw c.as_slice-verb-items.ensures at
     (loop_all s (λ v p. IsOnTarget s c.args.rule.now v p) c.as_slice-verb-items.result.now c.loop-verb.verb-index c.args.findings.now c.loop-verb.findings (omega arith) c.loop-verb.invariant) in
-    search_same s (λ p. Any (λ v. IsOnTarget s c.args.rule.now v p) c.args.rule.now.verbs) (IsByRule s c.args.rule.now) c.args.findings.now c.loop-verb.findings (each_verb s c.args.rule.now) all
+    search_same s (λ p. Any (λ v. IsOnTarget s c.args.rule.now v p) c.args.rule.now.verbs) (IsOfRule s c.args.rule.now) c.args.findings.now c.loop-verb.findings (each_verb s c.args.rule.now) all

@@ -1,4 +1,4 @@
-//! What was found under a permission's text.
+//! Where a change comes from.
 
 ghost use Rattle.std.specs.Prelude.{◌≡◌, IfOk};
 
@@ -11,7 +11,7 @@ use std::rc::Rc;
 // Whether a permission is gained or lost, and by which binding. A binding can have millions of
 // permissions, so each holds no more than a pointer to what is the same for all of them.
 #[derive(Drop)]
-pub(crate) struct Found<'p> {
+pub(crate) struct Origin<'p> {
     shared: Rc<Shared<'p>>,
 }
 
@@ -22,10 +22,10 @@ struct Shared<'p> {
     binding: &'p Binding,
 }
 
-impl<'p> Model for Found<'p> {
-    ghost use Rattle.rbac_diff.specs.Listed.{FoundView};
+impl<'p> Model for Origin<'p> {
+    ghost use Rattle.rbac_diff.specs.Listed.{OriginView};
 
-    ghost Value = { FoundView };
+    ghost Value = { OriginView };
 
     ghost view = { λ found. record {
       kind = found.shared.value.kind;
@@ -33,7 +33,7 @@ impl<'p> Model for Found<'p> {
     } };
 }
 
-impl<'p> Found<'p> {
+impl<'p> Origin<'p> {
     pub(crate) fn new(
         alloc: Global,
         kind: ChangeKind,
@@ -42,7 +42,7 @@ impl<'p> Found<'p> {
         ensures { IfOk result (λ found. found ≡ record { kind = kind; binding = binding.now }) }
     {
         let shared = Rc::new(alloc, Shared { kind, binding })?;
-        Ok(Found { shared })
+        Ok(Origin { shared })
     }
 
     pub(crate) fn kind(&self) -> ChangeKind
@@ -58,11 +58,11 @@ impl<'p> Found<'p> {
     }
 }
 
-impl<'p> Clone for Found<'p> {
+impl<'p> Clone for Origin<'p> {
     ghost is_clone = { λ found copy. copy ≡ found };
 
     fn clone(&self) -> Result<Self, AllocError> {
-        Ok(Found {
+        Ok(Origin {
             shared: self.shared.clone()?,
         })
     }
