@@ -1,7 +1,7 @@
 -- The first grant that lets somebody take over a node.
-use Rattle.std.proofs.Common.{◌≡◌, ◌<◌, ◌+◌, ◌∙◌, ℕ, List, Option, Some, None, MatchOption, Any, is_some, true, slice_get, arith, inl, inr, subst, sym}
+use Rattle.std.proofs.Common.{◌≡◌, ◌<◌, ◌+◌, ◌∙◌, ℕ, List, Option, Some, None, MatchOption, Any, IsSome, ◌↔◌, ap, refl, is_some, false, true, slice_get, arith, inl, inr, subst, sym}
 use Rattle.std.proofs.lemmas.Bool.{cases_lt}
-use Rattle.std.proofs.lemmas.Option.{same_Some, slice_get_within, get_or_from_slice_get}
+use Rattle.std.proofs.lemmas.Option.{same_Some, slice_get-get_or, slice_get_within, get_or_from_slice_get}
 use Rattle.rbac_terms.specs.Text.{Text}
 use Rattle.rbac_terms.specs.Principals.{Who}
 use Rattle.rbac_terms.specs.Granting.{Names}
@@ -10,11 +10,13 @@ use Rattle.rbac_terms.specs.declared.granting.Subject.{Subject}
 use Rattle.rbac_terms.specs.declared.matching.Rule.{Rule}
 use Rattle.rbac_model.proofs.OwnWords.{any_from}
 use Rattle.rbac_model.specs.Lists.{IsFirstAt}
-use Rattle.rbac_model.specs.Policies.{BindingNames, GrantView, PolicyView}
+use Rattle.rbac_model.specs.Policies.{BindingNames, GrantView, IsPolicy, PolicyView}
+use Rattle.rbac_model.proofs.GrantNumbers.{grant_allows, some_grant}
+use Rattle.rbac_terms.specs.Targets.{Resource}
 use Rattle.rbac_paths.specs.Nodes.{NodeView}
 use Rattle.rbac_paths.specs.Rows.{AreOfStep}
-use Rattle.rbac_paths.specs.Steps.{RowView, table}
-use Rattle.rbac_paths.specs.Taking.{IsFirstTaking, RowTakes, RuleTakes, TakesNone}
+use Rattle.rbac_paths.specs.Steps.{RowView, asked_in, table}
+use Rattle.rbac_paths.specs.Taking.{CanTakeOver, GrantTakes, IsFirstTaking, RowTakes, RuleTakes, TakesNone}
 use Rattle.rbac_paths.specs.declared.steps.Step.{Step}
 
 -- a binding names who asks exactly if some place was found
@@ -64,3 +66,51 @@ module _ (p : PolicyView) (who : Who) (rows : List RowView) (y : NodeView) where
         none_before = λ k h low there other. none k h low there (other.0, in_rows step rows of h.binding.namespace h.rule.rule y other.1);
       },
     )
+
+-- what grants let somebody do is what they are allowed
+module _ (p : PolicyView) (ok : IsPolicy p) (who : Who) (step : Step) (y : NodeView) where
+  by_grant : (n : ℕ) (g : GrantView) → slice_get p.grants n ≡ Some g → GrantTakes who step y g → CanTakeOver p who step y
+  by_grant n g here (named, gives) =
+      let row = gives.1 in
+      let takes = gives.4.1 in
+      let t = Resource row.group takes.text takes.name in
+      record {
+        row = row;
+        namespace = takes.namespace;
+        own = takes.own;
+        verb = takes.verb;
+        text = takes.text;
+        name = takes.name;
+        of_table = (gives.0, gives.2, gives.3);
+        of_step = gives.4.0;
+        over = takes.over;
+        of_verbs = takes.of_verbs;
+        of_resources = takes.of_resources;
+        named = takes.named;
+        allowed = grant_allows p ok who (asked_in row.counts takes.namespace) takes.verb t (n, g, slice_get_within p.grants n g here, get_or_from_slice_get p.grants n g g here, (takes.live, named, takes.allows));
+      }
+
+  some_takes : CanTakeOver p who step y → (n : ℕ) × (g : GrantView) × (slice_get p.grants n ≡ Some g) × GrantTakes who step y g
+  some_takes c =
+      let t = Resource c.row.group c.text c.name in
+      let by = some_grant p.held p.grants who (asked_in c.row.counts c.namespace) c.verb t ok.0 ok.1 c.allowed in
+      let g = by.1 in
+      let here : slice_get p.grants by.0 ≡ Some g = slice_get-get_or p.grants by.0 g by.2 ∙ ap (λ (v : GrantView). Some v) by.3 in
+      let takes : RowTakes c.row g.binding.namespace g.rule.rule y = record {
+        namespace = c.namespace;
+        own = c.own;
+        verb = c.verb;
+        text = c.text;
+        name = c.name;
+        over = c.over;
+        of_verbs = c.of_verbs;
+        of_resources = c.of_resources;
+        named = c.named;
+        live = by.4.0;
+        allows = by.4.2;
+      } in
+      (by.0, g, here, (by.4.1, any_from (λ row. (row.step ≡ step) × RowTakes row g.binding.namespace g.rule.rule y) table c.row c.of_table (c.of_step, takes)))
+
+  pub tells : (first : Option ℕ) → MatchOption first (TakesNone p who step y) (IsFirstTaking p who step y) → IsSome first ↔ CanTakeOver p who step y
+  tells None none = (λ some. absurd (let both : false ≡ true = some in cc), λ c. absurd (let w = some_takes c in none w.0 w.1 w.2 w.3))
+  tells (Some n) (g, is) = (λ some. by_grant n g is.here is.holds, λ c. refl)

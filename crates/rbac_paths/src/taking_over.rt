@@ -1,13 +1,13 @@
 //! Whether somebody takes over a node, and by which grant.
 
-ghost use Rattle.std.specs.Prelude.{◌↔◌, Any, IfOk, IsTrue, MatchOption};
+ghost use Rattle.std.specs.Prelude.{◌↔◌, Any, IfOk, IsSome, IsTrue, MatchOption};
 ghost use Rattle.std.specs.Option.{option_copied};
-ghost use Rattle.rbac_model.specs.Policies.{BindingNames};
+ghost use Rattle.rbac_model.specs.Policies.{BindingNames, IsPolicy};
 ghost use Rattle.rbac_model.specs.Sources.{grant_of};
 ghost use Rattle.rbac_paths.specs.Nodes.{node_of};
 ghost use Rattle.rbac_paths.specs.Rows.{AreOfStep};
 ghost use Rattle.rbac_paths.specs.Steps.{table};
-ghost use Rattle.rbac_paths.specs.Taking.{IsFirstTaking, RowTakes, TakesNone};
+ghost use Rattle.rbac_paths.specs.Taking.{CanTakeOver, IsFirstTaking, RowTakes, TakesNone};
 ghost use Rattle.rbac_paths.specs.declared.steps.Step.{Step};
 
 use crate::node::Node;
@@ -18,8 +18,8 @@ use rbac_terms::{Principal, Rule, Word};
 use std::alloc::{AllocError, Global};
 
 /// The number of the first grant by which a user with the groups given and implied, or a member of
-/// one group, takes over a node by a step (own); `None` if no grant lets them. Fails only if it runs
-/// out of memory.
+/// one group, takes over a node by a step (own); `None` exactly if they are allowed no request of the
+/// step that takes it over. Fails only if it runs out of memory.
 pub fn taking_grant(
     alloc: Global,
     policy: &Policy,
@@ -27,9 +27,11 @@ pub fn taking_grant(
     step: Step,
     node: Node<'_>,
 ) -> Result<Option<u32>, AllocError>
-    ensures { IfOk result (λ first. MatchOption first
+    ensures first { IfOk result (λ first. MatchOption first
         (TakesNone policy.now who.now step (node_of node.entry))
         (IsFirstTaking policy.now who.now step (node_of node.entry))) }
+    ensures tells { IfOk result (λ first.
+        IsSome first ↔ CanTakeOver policy.now who.now step (node_of node.entry)) }
 {
     let rows = rows_of(alloc, step)?;
     Ok(first_taking(policy, who, rows.as_slice(), node))
@@ -37,9 +39,10 @@ pub fn taking_grant(
 
 // The number of the first grant by which somebody takes over a node by the step of these rows.
 fn first_taking(policy: &Policy, who: &Principal, rows: &[WordRow], node: Node<'_>) -> Option<u32>
-    ensures { (step : Step) → AreOfStep step table rows.now → MatchOption result
+    ensures first { (step : Step) → AreOfStep step table rows.now → MatchOption result
         (TakesNone policy.now who.now step (node_of node.entry))
         (IsFirstTaking policy.now who.now step (node_of node.entry)) }
+    ensures policy { IsPolicy policy.now }
 {
     for no in 0..policy.len() {
         if takes(policy.grant(no), who, rows, node) {
