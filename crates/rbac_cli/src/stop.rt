@@ -5,7 +5,6 @@ ghost use Rattle.rbac_cli.specs.Printing.{fault_at};
 
 use crate::outcome::RunFault;
 use rbac_index::IndexFault;
-use rbac_lint::LintFault;
 use rbac_matrix::MatrixFault;
 use rbac_streams::{Page, PrintFault};
 use rbac_token::TokenFault;
@@ -89,16 +88,6 @@ impl From<IndexFault> for Stop {
     ghost from_gives = { λ _ stop. stop ≡ NoMemory };
 
     fn from(_: IndexFault) -> Self {
-        Stop::NoMemory
-    }
-}
-
-impl From<LintFault> for Stop {
-    ghost use Rattle.rbac_cli.specs.declared.stop.Stop.TheVariants.{NoMemory};
-
-    ghost from_gives = { λ _ stop. stop ≡ NoMemory };
-
-    fn from(_: LintFault) -> Self {
         Stop::NoMemory
     }
 }

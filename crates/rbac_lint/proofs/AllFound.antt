@@ -4,10 +4,10 @@ use Rattle.rbac_model.specs.Policies.{Held}
 use Rattle.rbac_manifest.specs.declared.replacement.Replaced.{Replaced}
 use Rattle.rbac_lint.specs.Replaced.{IsReplaced}
 use Rattle.rbac_lint.specs.declared.finding.Finding.{Finding}
-use Rattle.rbac_lint.specs.Lines.{Line, Adds}
+use Rattle.rbac_lint.specs.Lines.{Line, AddsLines}
 use Rattle.rbac_lint.specs.Findings.{IsDangling, IsUnused, IsRedundant, IsEscalation, IsAccountWithout, IsStale, IsFinding}
 use Rattle.rbac_lint.specs.Wanted.{WantedView, IsWanted, AreWanted, OfWanted}
-use Rattle.rbac_lint.proofs.Exact.{Adds-code, AreShown-all}
+use Rattle.rbac_lint.proofs.Exact.{AddsLines-code, AreShown-all}
 use Rattle.rbac_lint.proofs.Named.{dangling_names, unused_names, redundant_names, escalation_names, account_names, stale_names, replaced_names}
 
 abbrev pub After6 : Held → List Replaced → Line → Type 0
@@ -69,14 +69,14 @@ past1 : (h : Held) (rs : List Replaced) (x : Line) → After2 h rs x → 1 < x.c
 past1 h rs x (inl p) = omega (arith, unused_code h x p)
 past1 h rs x (inr p) = omega (arith, past2 h rs x p)
 
-pub all_found : (w : WantedView) (h : Held) (rs : List Replaced) (a b c d e f g k : List Finding) → a ≡ [] → Adds (OfWanted w (IsDangling h)) a b → Adds (OfWanted w (IsUnused h)) b c → Adds (OfWanted w (IsRedundant h)) c d → Adds (OfWanted w (IsEscalation h)) d e → Adds (OfWanted w (IsAccountWithout h)) e f → Adds (OfWanted w (IsStale h)) f g → Adds (OfWanted w (IsReplaced rs)) g k → AreWanted w h rs k
+pub all_found : (w : WantedView) (h : Held) (rs : List Replaced) (a b c d e f g k : List Finding) → a ≡ [] → AddsLines (OfWanted w (IsDangling h)) a b → AddsLines (OfWanted w (IsUnused h)) b c → AddsLines (OfWanted w (IsRedundant h)) c d → AddsLines (OfWanted w (IsEscalation h)) d e → AddsLines (OfWanted w (IsAccountWithout h)) e f → AddsLines (OfWanted w (IsStale h)) f g → AddsLines (OfWanted w (IsReplaced rs)) g k → AreWanted w h rs k
 all_found w h rs a b c d e f g k none p1 p2 p3 p4 p5 p6 p7 =
     let W = IsWanted w in
-    let q6 = Adds-code W (IsStale h) (IsReplaced rs) 6 f g k (stale_code h) (past6 rs) p6 p7 in
-    let q5 = Adds-code W (IsAccountWithout h) (After6 h rs) 5 e f k (account_code h) (past5 h rs) p5 q6 in
-    let q4 = Adds-code W (IsEscalation h) (After5 h rs) 4 d e k (escalation_code h) (past4 h rs) p4 q5 in
-    let q3 = Adds-code W (IsRedundant h) (After4 h rs) 3 c d k (redundant_code h) (past3 h rs) p3 q4 in
-    let q2 = Adds-code W (IsUnused h) (After3 h rs) 2 b c k (unused_code h) (past2 h rs) p2 q3 in
-    let q1 = Adds-code W (IsDangling h) (After2 h rs) 1 a b k (dangling_code h) (past1 h rs) p1 q2 in
-    let P : List Finding → Type 0 = λ fs. Adds (OfWanted w (IsFinding h rs)) fs k in
+    let q6 = AddsLines-code W (IsStale h) (IsReplaced rs) 6 f g k (stale_code h) (past6 rs) p6 p7 in
+    let q5 = AddsLines-code W (IsAccountWithout h) (After6 h rs) 5 e f k (account_code h) (past5 h rs) p5 q6 in
+    let q4 = AddsLines-code W (IsEscalation h) (After5 h rs) 4 d e k (escalation_code h) (past4 h rs) p4 q5 in
+    let q3 = AddsLines-code W (IsRedundant h) (After4 h rs) 3 c d k (redundant_code h) (past3 h rs) p3 q4 in
+    let q2 = AddsLines-code W (IsUnused h) (After3 h rs) 2 b c k (unused_code h) (past2 h rs) p2 q3 in
+    let q1 = AddsLines-code W (IsDangling h) (After2 h rs) 1 a b k (dangling_code h) (past1 h rs) p1 q2 in
+    let P : List Finding → Type 0 = λ fs. AddsLines (OfWanted w (IsFinding h rs)) fs k in
     AreShown-all (OfWanted w (IsFinding h rs)) k (subst P none q1)

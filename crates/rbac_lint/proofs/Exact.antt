@@ -7,7 +7,7 @@ use Rattle.std.proofs.lemmas.Option.{slice_get_within}
 use Rattle.std.proofs.lemmas.List.Elements.{All-append, Contains-append_cases, Contains-append_left, Contains-append_right, Contains-get_or}
 use Rattle.std.proofs.lemmas.List.Kept.{AllPairs-cons}
 use Rattle.rbac_lint.specs.declared.finding.Finding.{Finding}
-use Rattle.rbac_lint.specs.Lines.{Line, shown, IsBefore, AreExactly, Adds, AreShown, OfFirst, OfEach}
+use Rattle.rbac_lint.specs.Lines.{Line, shown, IsLineBefore, AreExactly, AddsLines, AreShown, OfFirst, OfEach}
 
 module _ {X : Type 0} (R : X → X → Type 0) where
   head_pairs : (x : X) (xs : List X) → AllPairs R (x ∷ xs) → All (R x) xs
@@ -39,9 +39,9 @@ one_exactly P x p one = record {
   exact = λ y. (λ c. subst P (only_one x y c.0 c.1 c.2) p, λ q. (0, omega arith, sym (one y q)));
 }
 
-append_exactly : (P Q R : Line → Type 0) (xs ys : List Line) → AreExactly P xs → AreExactly Q ys → ((a b : Line) → P a → Q b → IsBefore a b) → ((x : Line) → R x ↔ (P x ⊎ Q x)) → AreExactly R (xs ++ ys)
+append_exactly : (P Q R : Line → Type 0) (xs ys : List Line) → AreExactly P xs → AreExactly Q ys → ((a b : Line) → P a → Q b → IsLineBefore a b) → ((x : Line) → R x ↔ (P x ⊎ Q x)) → AreExactly R (xs ++ ys)
 append_exactly P Q R xs ys p q before parts = record {
-  ordered = all_pairs_append IsBefore xs ys p.ordered q.ordered (λ a b c d. before a b ((p.exact a).0 c) ((q.exact b).0 d));
+  ordered = all_pairs_append IsLineBefore xs ys p.ordered q.ordered (λ a b c d. before a b ((p.exact a).0 c) ((q.exact b).0 d));
   exact = λ x. (
     λ c. (parts x).1 (elim (Contains-append_cases xs ys x c) [ inl l ↦ inl ((p.exact x).0 l) | inr r ↦ inr ((q.exact x).0 r) ]),
     λ r. elim ((parts x).0 r) [ inl l ↦ Contains-append_left xs ys x ((p.exact x).1 l) | inr d ↦ Contains-append_right xs ys x ((q.exact x).1 d) ],
@@ -54,25 +54,25 @@ same_exactly P Q xs p same = record {
   exact = λ x. (λ c. (same x).1 ((p.exact x).0 c), λ q. (p.exact x).1 ((same x).0 q));
 }
 
-pub Adds-none : (P : Line → Type 0) (old : List Finding) → ((x : Line) → P x → ⊥) → Adds P old old
-unfolding Adds
-Adds-none P old none = ([], none_exactly P none, sym (append-nil old))
+pub AddsLines-none : (P : Line → Type 0) (old : List Finding) → ((x : Line) → P x → ⊥) → AddsLines P old old
+unfolding AddsLines
+AddsLines-none P old none = ([], none_exactly P none, sym (append-nil old))
 
-pub Adds-one : (P : Line → Type 0) (old new : List Finding) (f : Finding) (x : Line) → new ≡ old ++ f ∷ [] → f ≡ shown x → P x → ((y : Line) → P y → y ≡ x) → Adds P old new
-unfolding Adds
-Adds-one P old new f x e same p one = (x ∷ [], one_exactly P x p one, e ∙ ap (λ g. old ++ g ∷ []) same)
+pub AddsLines-one : (P : Line → Type 0) (old new : List Finding) (f : Finding) (x : Line) → new ≡ old ++ f ∷ [] → f ≡ shown x → P x → ((y : Line) → P y → y ≡ x) → AddsLines P old new
+unfolding AddsLines
+AddsLines-one P old new f x e same p one = (x ∷ [], one_exactly P x p one, e ∙ ap (λ g. old ++ g ∷ []) same)
 
-pub Adds-append : (P Q R : Line → Type 0) (old mid new : List Finding) → Adds P old mid → Adds Q mid new → ((a b : Line) → P a → Q b → IsBefore a b) → ((x : Line) → R x ↔ (P x ⊎ Q x)) → Adds R old new
-unfolding Adds
-Adds-append P Q R old mid new p q before parts = (
+pub AddsLines-append : (P Q R : Line → Type 0) (old mid new : List Finding) → AddsLines P old mid → AddsLines Q mid new → ((a b : Line) → P a → Q b → IsLineBefore a b) → ((x : Line) → R x ↔ (P x ⊎ Q x)) → AddsLines R old new
+unfolding AddsLines
+AddsLines-append P Q R old mid new p q before parts = (
   p.0 ++ q.0,
   append_exactly P Q R p.0 q.0 p.1 q.1 before parts,
   q.2 ∙ ap (λ t. t ++ map shown q.0) p.2 ∙ append_assoc old (map shown p.0) (map shown q.0) ∙ ap (λ t. old ++ t) (sym (map-append shown p.0 q.0)),
 )
 
-pub Adds-same : (P Q : Line → Type 0) (old new : List Finding) → Adds P old new → ((x : Line) → Q x ↔ P x) → Adds Q old new
-unfolding Adds
-Adds-same P Q old new p same = (p.0, same_exactly P Q p.0 p.1 same, p.2)
+pub AddsLines-same : (P Q : Line → Type 0) (old new : List Finding) → AddsLines P old new → ((x : Line) → Q x ↔ P x) → AddsLines Q old new
+unfolding AddsLines
+AddsLines-same P Q old new p same = (p.0, same_exactly P Q p.0 p.1 same, p.2)
 
 module _ {X : Type 0} (P : ℕ → X → Line → Type 0) (xs : List X) where
   at_place : (k i : ℕ) (z y : X) (x : Line) → k ≡ i → slice_get xs k ≡ Some z → slice_get xs i ≡ Some y → P k z x → P i y x
@@ -94,30 +94,30 @@ module _ {X : Type 0} (P : ℕ → X → Line → Type 0) (xs : List X) where
     ],
   )
 
-  pub Adds-start : (old : List Finding) → Adds (OfFirst P xs 0) old old
-  Adds-start old = Adds-none (OfFirst P xs 0) old (λ x h. omega (arith, h.2))
+  pub AddsLines-start : (old : List Finding) → AddsLines (OfFirst P xs 0) old old
+  AddsLines-start old = AddsLines-none (OfFirst P xs 0) old (λ x h. omega (arith, h.2))
 
-  pub Adds-more : (i : ℕ) (y : X) (old mid new : List Finding) → slice_get xs i ≡ Some y → Adds (OfFirst P xs i) old mid → Adds (P i y) mid new → ((k : ℕ) (z : X) (a b : Line) → k < i → slice_get xs k ≡ Some z → P k z a → P i y b → IsBefore a b) → Adds (OfFirst P xs (i + 1)) old new
-  Adds-more i y old mid new e p q before =
-      Adds-append (OfFirst P xs i) (P i y) (OfFirst P xs (i + 1)) old mid new p q (λ a b h g. before h.0 h.1 a b h.2 h.3 h.4 g) (one_more i y e)
+  pub AddsLines-more : (i : ℕ) (y : X) (old mid new : List Finding) → slice_get xs i ≡ Some y → AddsLines (OfFirst P xs i) old mid → AddsLines (P i y) mid new → ((k : ℕ) (z : X) (a b : Line) → k < i → slice_get xs k ≡ Some z → P k z a → P i y b → IsLineBefore a b) → AddsLines (OfFirst P xs (i + 1)) old new
+  AddsLines-more i y old mid new e p q before =
+      AddsLines-append (OfFirst P xs i) (P i y) (OfFirst P xs (i + 1)) old mid new p q (λ a b h g. before h.0 h.1 a b h.2 h.3 h.4 g) (one_more i y e)
 
-  pub Adds-each : (n : ℕ) (old new : List Finding) → n ≡ length xs → Adds (OfFirst P xs n) old new → Adds (OfEach P xs) old new
-  Adds-each n old new e p =
-      Adds-same (OfFirst P xs n) (OfEach P xs) old new p (λ x. (
+  pub AddsLines-each : (n : ℕ) (old new : List Finding) → n ≡ length xs → AddsLines (OfFirst P xs n) old new → AddsLines (OfEach P xs) old new
+  AddsLines-each n old new e p =
+      AddsLines-same (OfFirst P xs n) (OfEach P xs) old new p (λ x. (
         λ h. (h.0, h.1, omega (arith, e, slice_get_within xs h.0 h.1 h.2), h.2, h.3),
         λ h. (h.0, h.1, h.3, h.4),
       ))
 
 -- one code before all later ones, under a condition on the lines
-pub Adds-code : (W P Q : Line → Type 0) (n : ℕ) (old mid new : List Finding) → ((x : Line) → P x → x.code ≡ n) → ((x : Line) → Q x → n < x.code) → Adds (λ x. P x × W x) old mid → Adds (λ x. Q x × W x) mid new → Adds (λ x. (P x ⊎ Q x) × W x) old new
-Adds-code W P Q n old mid new f g p q =
-    Adds-append (λ x. P x × W x) (λ x. Q x × W x) (λ x. (P x ⊎ Q x) × W x) old mid new p q (λ a b h k. inl (omega (arith, f a h.0, g b k.0))) (λ x. (
+pub AddsLines-code : (W P Q : Line → Type 0) (n : ℕ) (old mid new : List Finding) → ((x : Line) → P x → x.code ≡ n) → ((x : Line) → Q x → n < x.code) → AddsLines (λ x. P x × W x) old mid → AddsLines (λ x. Q x × W x) mid new → AddsLines (λ x. (P x ⊎ Q x) × W x) old new
+AddsLines-code W P Q n old mid new f g p q =
+    AddsLines-append (λ x. P x × W x) (λ x. Q x × W x) (λ x. (P x ⊎ Q x) × W x) old mid new p q (λ a b h k. inl (omega (arith, f a h.0, g b k.0))) (λ x. (
       λ h. elim h.0 [ inl l ↦ inl (l, h.1) | inr r ↦ inr (r, h.1) ],
       λ h. elim h [ inl l ↦ (inl l.0, l.1) | inr r ↦ (inr r.0, r.1) ],
     ))
 
-pub AreShown-all : (P : Line → Type 0) (new : List Finding) → Adds P [] new → AreShown P new
-unfolding Adds AreShown
+pub AreShown-all : (P : Line → Type 0) (new : List Finding) → AddsLines P [] new → AreShown P new
+unfolding AddsLines AreShown
 AreShown-all P new h = h
 
 pub AreShown-same : (P Q : Line → Type 0) (found : List Finding) → AreShown P found → ((x : Line) → Q x ↔ P x) → AreShown Q found
@@ -125,12 +125,12 @@ unfolding AreShown
 AreShown-same P Q found p same = (p.0, same_exactly P Q p.0 p.1 same, p.2)
 
 -- lines under a condition: all of them, or none
-pub Adds-nowhere : (C : Type 0) (P : Line → Type 0) (old : List Finding) → (C → ⊥) → Adds (λ x. C × P x) old old
-Adds-nowhere C P old other = Adds-none (λ x. C × P x) old (λ x h. other h.0)
+pub AddsLines-nowhere : (C : Type 0) (P : Line → Type 0) (old : List Finding) → (C → ⊥) → AddsLines (λ x. C × P x) old old
+AddsLines-nowhere C P old other = AddsLines-none (λ x. C × P x) old (λ x h. other h.0)
 
-pub Adds-where : (C : Type 0) (P : Line → Type 0) (old new : List Finding) → C → Adds P old new → Adds (λ x. C × P x) old new
-Adds-where C P old new is p = Adds-same P (λ x. C × P x) old new p (λ x. (λ h. h.1, λ h. (is, h)))
+pub AddsLines-where : (C : Type 0) (P : Line → Type 0) (old new : List Finding) → C → AddsLines P old new → AddsLines (λ x. C × P x) old new
+AddsLines-where C P old new is p = AddsLines-same P (λ x. C × P x) old new p (λ x. (λ h. h.1, λ h. (is, h)))
 
 -- one line under a condition
-pub Adds-if : (C : Type 0) (line : Line) (old new : List Finding) (f : Finding) → C → f ≡ shown line → new ≡ old ++ f ∷ [] → Adds (λ x. C × (x ≡ line)) old new
-Adds-if C line old new f is same e = Adds-where C (λ x. x ≡ line) old new is (Adds-one (λ x. x ≡ line) old new f line e same refl (λ y h. h))
+pub AddsLines-if : (C : Type 0) (line : Line) (old new : List Finding) (f : Finding) → C → f ≡ shown line → new ≡ old ++ f ∷ [] → AddsLines (λ x. C × (x ≡ line)) old new
+AddsLines-if C line old new f is same e = AddsLines-where C (λ x. x ≡ line) old new is (AddsLines-one (λ x. x ≡ line) old new f line e same refl (λ y h. h))

@@ -21,8 +21,8 @@ use Rattle.rbac_model.specs.declared.places.RolePlace.TheVariants.{RoleAt, Clust
 use Rattle.rbac_model.specs.Policies.{Held, IsHeld, Source, InRole, InClusterRole, IsPlain, IsRefTo, Reaches, Step, IsPath, Gathers}
 use Rattle.rbac_model.proofs.NamePlaces.{total}
 use Rattle.rbac_lint.specs.Roles.{roles_in}
-use Rattle.rbac_lint.specs.NamedRoles.{AreFlags, AreNamed, AreGatherers, AreFlagsWith, IsReachedByNamedAt}
-use Rattle.rbac_lint.specs.Findings.{IsNamed, IsUsed}
+use Rattle.rbac_lint.specs.NamedRoles.{AreRoleFlags, AreNamed, AreGatherers, AreFlagsWith, IsReachedByNamedAt}
+use Rattle.rbac_lint.specs.Findings.{IsNamedByBinding, IsUsed}
 use Rattle.rbac_lint.proofs.Order.{ascends}
 use Rattle.rbac_lint.proofs.RoleLines.{source_texts, roles_ascend, cluster_role_there, cluster_role_at, there, slice_get-left, slice_get-right}
 
@@ -80,7 +80,7 @@ flagged_ref h b p t old new held here ref len e = record {
 abbrev pub IsNamedBy : Held → List Binding → ℕ → Source → Type 0
 IsNamedBy h bs n s = (j : ℕ) × (b : Binding) × (j < n) × (slice_get bs j ≡ Some b) × IsRefTo h b.namespace b.role s
 
-pub flags_more : (h : Held) (bs : List Binding) (i : ℕ) (b : Binding) (old new : List Bool) → slice_get bs i ≡ Some b → AreFlags h (IsNamedBy h bs i) old → AreFlagsWith h b old new → AreFlags h (IsNamedBy h bs (i + 1)) new
+pub flags_more : (h : Held) (bs : List Binding) (i : ℕ) (b : Binding) (old new : List Bool) → slice_get bs i ≡ Some b → AreRoleFlags h (IsNamedBy h bs i) old → AreFlagsWith h b old new → AreRoleFlags h (IsNamedBy h bs (i + 1)) new
 flags_more h bs i b old new here was is = record {
   len = is.len ∙ was.len;
   exact = λ k s there. (
@@ -99,7 +99,7 @@ flags_more h bs i b old new here was is = record {
   );
 }
 
-pub flags_named : (h : Held) (bs : List Binding) (n : ℕ) (flags : List Bool) → bs ≡ h.bindings → n ≡ length bs → AreFlags h (IsNamedBy h bs n) flags → AreNamed h flags
+pub flags_named : (h : Held) (bs : List Binding) (n : ℕ) (flags : List Bool) → bs ≡ h.bindings → n ≡ length bs → AreRoleFlags h (IsNamedBy h bs n) flags → AreNamed h flags
 flags_named h bs n flags same all was =
     let P : List Binding → Type 0 = λ cs. (k : ℕ) (s : Source) → slice_get (roles_in h) k ≡ Some s → (get_or flags k false ≡ true) ↔ Any (λ b. IsRefTo h b.namespace b.role s) cs in
     record {
@@ -122,12 +122,12 @@ reached_role h k (InClusterRole r) there w =
     let P : ClusterRole → Type 0 = λ v. Reaches h w.0 v in
     inr (w.0, w.1, subst P same w.2.2)
 
-named_used : (h : Held) (s : Source) → IsNamed h s → IsUsed h s
+named_used : (h : Held) (s : Source) → IsNamedByBinding h s → IsUsed h s
 unfolding IsUsed
 named_used h (InRole r) n = n
 named_used h (InClusterRole r) n = inl n
 
-used_from : (h : Held) (k : ℕ) (s : Source) → slice_get (roles_in h) k ≡ Some s → IsUsed h s → IsNamed h s ⊎ IsReachedByNamedAt h k
+used_from : (h : Held) (k : ℕ) (s : Source) → slice_get (roles_in h) k ≡ Some s → IsUsed h s → IsNamedByBinding h s ⊎ IsReachedByNamedAt h k
 unfolding IsReachedByNamedAt IsUsed
 used_from h k (InRole r) there u = inl u
 used_from h k (InClusterRole r) there (inl u) = inl u
@@ -146,7 +146,7 @@ to_held h (Some namespace) (ToClusterRole name) c p = p.0
 to_held h None (ToRole name) c p = absurd p
 to_held h (Some namespace) (ToRole name) c p = absurd p
 
-named_there : (h : Held) (c : ClusterRole) → IsNamed h (InClusterRole c) → (j : ℕ) × (slice_get h.cluster_roles j ≡ Some c)
+named_there : (h : Held) (c : ClusterRole) → IsNamedByBinding h (InClusterRole c) → (j : ℕ) × (slice_get h.cluster_roles j ≡ Some c)
 named_there h c n =
     let w = to_held h n.1.namespace n.1.role c n.4 in
     (w.0, slice_get-get_or h.cluster_roles w.0 c w.1 ∙ ap (λ (v : ClusterRole). Some v) w.2)
@@ -162,10 +162,10 @@ reaching_gathers h c (m ∷ ms) s p plain = step_gathers h c m p.0 plain
 -- the places of those that are named, and aggregated
 abbrev pub AreGatherersBelow : Held → ℕ → List ℕ → Type 0
 AreGatherersBelow h n places =
-    ((k : ℕ) → Contains places k → (c : ClusterRole) × (slice_get h.cluster_roles k ≡ Some c) × IsNamed h (InClusterRole c))
-    × ((k : ℕ) (c : ClusterRole) → k < n → slice_get h.cluster_roles k ≡ Some c → IsNamed h (InClusterRole c) → (IsPlain c → ⊥) → Contains places k)
+    ((k : ℕ) → Contains places k → (c : ClusterRole) × (slice_get h.cluster_roles k ≡ Some c) × IsNamedByBinding h (InClusterRole c))
+    × ((k : ℕ) (c : ClusterRole) → k < n → slice_get h.cluster_roles k ≡ Some c → IsNamedByBinding h (InClusterRole c) → (IsPlain c → ⊥) → Contains places k)
 
-pub gatherers_more : (h : Held) (i : ℕ) (r : ClusterRole) (old new : List ℕ) → slice_get h.cluster_roles i ≡ Some r → IsNamed h (InClusterRole r) → new ≡ old ++ i ∷ [] → AreGatherersBelow h i old → AreGatherersBelow h (i + 1) new
+pub gatherers_more : (h : Held) (i : ℕ) (r : ClusterRole) (old new : List ℕ) → slice_get h.cluster_roles i ≡ Some r → IsNamedByBinding h (InClusterRole r) → new ≡ old ++ i ∷ [] → AreGatherersBelow h i old → AreGatherersBelow h (i + 1) new
 gatherers_more h i r old new here named e was = (
   λ k w. elim (Contains-push_cases old i k (subst (λ (ks : List ℕ). Contains ks k) e w)) [
     | inl o ↦ was.0 k o
@@ -177,7 +177,7 @@ gatherers_more h i r old new here named e was = (
   ]),
 )
 
-pub gatherers_same : (h : Held) (i : ℕ) (r : ClusterRole) (places : List ℕ) → slice_get h.cluster_roles i ≡ Some r → (IsNamed h (InClusterRole r) → (IsPlain r → ⊥) → ⊥) → AreGatherersBelow h i places → AreGatherersBelow h (i + 1) places
+pub gatherers_same : (h : Held) (i : ℕ) (r : ClusterRole) (places : List ℕ) → slice_get h.cluster_roles i ≡ Some r → (IsNamedByBinding h (InClusterRole r) → (IsPlain r → ⊥) → ⊥) → AreGatherersBelow h i places → AreGatherersBelow h (i + 1) places
 gatherers_same h i r places here never was = (
   was.0,
   λ k c lt at is gathers. elim (cases_lt k i) [
@@ -185,7 +185,7 @@ gatherers_same h i r places here never was = (
     | inr le ↦
         let same : k ≡ i = omega (arith, le, lt) in
         let one : c ≡ r = same_Some c r (sym at ∙ ap (slice_get h.cluster_roles) same ∙ here) in
-        absurd (never (subst (λ (v : ClusterRole). IsNamed h (InClusterRole v)) one is) (λ plain. gathers (subst IsPlain (sym one) plain)))
+        absurd (never (subst (λ (v : ClusterRole). IsNamedByBinding h (InClusterRole v)) one is) (λ plain. gathers (subst IsPlain (sym one) plain)))
   ],
 )
 

@@ -6,10 +6,10 @@ use Rattle.rbac_terms.specs.Text.{Text}
 use Rattle.rbac_model.specs.Policies.{Held}
 use Rattle.rbac_manifest.specs.declared.replacement.Replaced.{Replaced}
 use Rattle.rbac_lint.specs.declared.finding.Finding.{Finding}
-use Rattle.rbac_lint.specs.Lines.{Line, ObjectName, object_texts, Adds, OfFirst, OfEach}
+use Rattle.rbac_lint.specs.Lines.{Line, ObjectName, object_texts, AddsLines, OfFirst, OfEach}
 use Rattle.rbac_lint.specs.Findings.{IsFinding, AreFindings}
 use Rattle.rbac_lint.specs.Wanted.{WantedView, IsUserFacing, IsSystem, HasCode, IsKept, IsWanted, AreWanted, OfKept, OfWanted}
-use Rattle.rbac_lint.proofs.Exact.{Adds-none, Adds-same, AreShown-same}
+use Rattle.rbac_lint.proofs.Exact.{AddsLines-none, AddsLines-same, AreShown-same}
 use Rattle.rbac_lint.proofs.Order.{Names}
 
 -- whether an object is kept depends on its texts alone
@@ -31,25 +31,25 @@ module _ {X : Type 0} (name : X → List Text) (P : X → Line → Type 0) (code
   }
 
   -- the lines of an element whose object is left out, and of one whose object is kept
-  pub Adds-dropped : (y : X) (o : ObjectName) (old : List Finding) → object_texts o ≡ name y → (IsKept w o → ⊥) → Adds (OfKept w (P y)) old old
-  Adds-dropped y o old texts never =
-      Adds-none (OfKept w (P y)) old (λ x p. never (kept_texts w x.object o (names.object_is y x p.0 ∙ sym texts) p.1))
+  pub AddsLines-dropped : (y : X) (o : ObjectName) (old : List Finding) → object_texts o ≡ name y → (IsKept w o → ⊥) → AddsLines (OfKept w (P y)) old old
+  AddsLines-dropped y o old texts never =
+      AddsLines-none (OfKept w (P y)) old (λ x p. never (kept_texts w x.object o (names.object_is y x p.0 ∙ sym texts) p.1))
 
-  pub Adds-kept : (y : X) (o : ObjectName) (old new : List Finding) → object_texts o ≡ name y → IsKept w o → Adds (P y) old new → Adds (OfKept w (P y)) old new
-  Adds-kept y o old new texts kept p =
-      Adds-same (P y) (OfKept w (P y)) old new p (λ x. (λ h. h.0, λ h. (h, kept_texts w o x.object (texts ∙ sym (names.object_is y x h)) kept)))
+  pub AddsLines-kept : (y : X) (o : ObjectName) (old new : List Finding) → object_texts o ≡ name y → IsKept w o → AddsLines (P y) old new → AddsLines (OfKept w (P y)) old new
+  AddsLines-kept y o old new texts kept p =
+      AddsLines-same (P y) (OfKept w (P y)) old new p (λ x. (λ h. h.0, λ h. (h, kept_texts w o x.object (texts ∙ sym (names.object_is y x h)) kept)))
 
   -- the lines of all elements whose objects are kept, if the code is asked for; otherwise none
-  pub Adds-wanted : (xs : List X) (n : ℕ) (old new : List Finding) → n ≡ length xs → HasCode w code → Adds (OfFirst (λ k y. OfKept w (P y)) xs n) old new → Adds (OfWanted w (OfEach (λ k y. P y) xs)) old new
-  Adds-wanted xs n old new e has p =
-      Adds-same (OfFirst (λ k y. OfKept w (P y)) xs n) (OfWanted w (OfEach (λ k y. P y) xs)) old new p (λ x. (
+  pub AddsLines-wanted : (xs : List X) (n : ℕ) (old new : List Finding) → n ≡ length xs → HasCode w code → AddsLines (OfFirst (λ k y. OfKept w (P y)) xs n) old new → AddsLines (OfWanted w (OfEach (λ k y. P y) xs)) old new
+  AddsLines-wanted xs n old new e has p =
+      AddsLines-same (OfFirst (λ k y. OfKept w (P y)) xs n) (OfWanted w (OfEach (λ k y. P y) xs)) old new p (λ x. (
         λ h. (h.0.0, h.0.1, omega (arith, e, slice_get_within xs h.0.0 h.0.1 h.0.2), h.0.2, (h.0.3, h.1.1)),
         λ h. ((h.0, h.1, h.3, h.4.0), (subst (λ c. HasCode w c) (sym (names.code_is h.1 x h.4.0)) has, h.4.1)),
       ))
 
-  pub Adds-unwanted : (xs : List X) (old : List Finding) → (HasCode w code → ⊥) → Adds (OfWanted w (OfEach (λ k y. P y) xs)) old old
-  Adds-unwanted xs old never =
-      Adds-none (OfWanted w (OfEach (λ k y. P y) xs)) old (λ x h. never (subst (λ c. HasCode w c) (names.code_is h.0.1 x h.0.3) h.1.0))
+  pub AddsLines-unwanted : (xs : List X) (old : List Finding) → (HasCode w code → ⊥) → AddsLines (OfWanted w (OfEach (λ k y. P y) xs)) old old
+  AddsLines-unwanted xs old never =
+      AddsLines-none (OfWanted w (OfEach (λ k y. P y) xs)) old (λ x h. never (subst (λ c. HasCode w c) (names.code_is h.0.1 x h.0.3) h.1.0))
 
 -- everything is asked for
 pub all_wanted : (h : Held) (rs : List Replaced) (found : List Finding) → AreWanted (record { only = None; skip_system = false }) h rs found ↔ AreFindings h rs found

@@ -20,8 +20,8 @@ use Rattle.std.proofs.lemmas.Map.Views.{btree_map_get_iff}
 use Rattle.std.proofs.lemmas.Option.{slice_get_within, slice_get-get_or, slice_get-map, get_or_from_slice_get, same_Some}
 use Rattle.rbac_terms.specs.Text.{Text, text_cmp, BeginsWith}
 use Rattle.rbac_lint.specs.declared.prefixes.Prefix.{Prefix}
-use Rattle.rbac_lint.specs.RulesByWord.{Lists, listed, IsAscending, AreAscending}
-use Rattle.rbac_lint.specs.Prefixes.{entry_of, prefix, IsOnWay, LeadsTo, IsLinkedAt, AreLinked, ArePrefixes, PutsPrefix}
+use Rattle.rbac_lint.specs.RulesByWord.{PlaceLists, places_under, IsAscending, AreAscending}
+use Rattle.rbac_lint.specs.Prefixes.{entry_of, prefix, IsOnWay, LinksTo, IsLinkedAt, AreLinked, ArePrefixes, PutsPrefix}
 
 -- ---- the order of texts
 
@@ -104,7 +104,7 @@ shorter_within prefixes p f linked here = widen f.shorter p (length prefixes) (s
 
 -- the last that isn't after the text leads to all with which it begins
 pub leads_from : (prefixes : List Prefix) (p : ℕ) (f : Prefix) (count : ℕ) (text : Text) → ArePrefixes prefixes → slice_get prefixes p ≡ Some f → is_le (text_cmp f.text text) ≡ true
-    → ((j : ℕ) (g : Prefix) → j < count → slice_get prefixes j ≡ Some g → p < j → is_le (text_cmp g.text text) ≡ true → ⊥) → LeadsTo prefixes count text (Some p)
+    → ((j : ℕ) (g : Prefix) → j < count → slice_get prefixes j ≡ Some g → p < j → is_le (text_cmp g.text text) ≡ true → ⊥) → LinksTo prefixes count text (Some p)
 leads_from prefixes p f count text are here up last j g lt at begins = elim (cases_lt p j) [
   | inl after ↦ absurd (last j g lt at after (subst (λ (t : Text). is_le (text_cmp g.text t) ≡ true) (sym begins.1) (prefix_le g.text begins.0)))
   | inr le ↦ (f, here, le, between g.text f.text begins.0 (are.order j p g f le at here) (subst (λ (t : Text). is_le (text_cmp f.text t) ≡ true) begins.1 up))
@@ -123,21 +123,21 @@ here_or_on prefixes p f j g linked here at way =
     ]
 
 pub leads_on : (prefixes : List Prefix) (p : ℕ) (f : Prefix) (count : ℕ) (text : Text) → AreLinked prefixes → slice_get prefixes p ≡ Some f → (BeginsWith text f.text → ⊥)
-    → LeadsTo prefixes count text (Some p) → LeadsTo prefixes count text f.shorter
+    → LinksTo prefixes count text (Some p) → LinksTo prefixes count text f.shorter
 leads_on prefixes p f count text linked here other leads j g lt at begins = elim (here_or_on prefixes p f j g linked here at (leads j g lt at begins)) [
   | inl e ↦ absurd (other (subst (λ (x : Prefix). BeginsWith text x.text) e begins))
   | inr way ↦ way
 ]
 
 pub leads_none : (prefixes : List Prefix) (count : ℕ) (text : Text) → ((j : ℕ) (g : Prefix) → j < count → slice_get prefixes j ≡ Some g → is_le (text_cmp g.text text) ≡ true → ⊥)
-    → LeadsTo prefixes count text None
+    → LinksTo prefixes count text None
 leads_none prefixes count text never j g lt at begins =
     never j g lt at (subst (λ (t : Text). is_le (text_cmp g.text t) ≡ true) (sym begins.1) (prefix_le g.text begins.0))
 
 -- the last of so many that aren't after the text leads to all, where none of the others comes before it
 leads_last : (prefixes : List Prefix) (n : ℕ) (way : Option ℕ) (text : Text) → ArePrefixes prefixes → n ≤ length prefixes → SomeIff way (1 ≤ n) (n - 1)
     → ((i : ℕ) (f : Prefix) → i < n → slice_get prefixes i ≡ Some f → is_le (text_cmp f.text text) ≡ true)
-    → ((j : ℕ) (g : Prefix) → j < length prefixes → n ≤ j → slice_get prefixes j ≡ Some g → is_le (text_cmp g.text text) ≡ true → ⊥) → LeadsTo prefixes (length prefixes) text way
+    → ((j : ℕ) (g : Prefix) → j < length prefixes → n ≤ j → slice_get prefixes j ≡ Some g → is_le (text_cmp g.text text) ≡ true → ⊥) → LinksTo prefixes (length prefixes) text way
 leads_last prefixes n None text are within none up past = leads_none prefixes (length prefixes) text (λ j g lt at e. elim (cases_lt 0 n) [
   | inl some ↦ none (omega (arith, some))
   | inr empty ↦ past j g lt (omega (arith, empty)) at e
@@ -149,7 +149,7 @@ leads_last prefixes n (Some p) text are within is up past =
     leads_from prefixes p f (length prefixes) text are here (up p f lt here) (λ j g below at after e. past j g below (omega (arith, after, is.0, is.1)) at e)
 
 pub last_leads : (prefixes : List Prefix) (text : Text) (n : ℕ) (way : Option ℕ) → ArePrefixes prefixes → n ≡ length prefixes → SomeIff way (1 ≤ n) (n - 1)
-    → ((i : ℕ) (f : Prefix) → slice_get prefixes i ≡ Some f → is_le (text_cmp f.text text) ≡ true) → LeadsTo prefixes (length prefixes) text way
+    → ((i : ℕ) (f : Prefix) → slice_get prefixes i ≡ Some f → is_le (text_cmp f.text text) ≡ true) → LinksTo prefixes (length prefixes) text way
 last_leads prefixes text n way are all is next = leads_last prefixes n way text are (omega (arith, all)) is (λ i f lt at. next i f at) (λ j g lt ge at e. absurd (omega (arith, lt, ge, all)))
 
 -- where a search among them ends
@@ -163,7 +163,7 @@ parted_up_to prefixes text are i j d le lt e =
     le_through f.text g.text text (text_cmp g.text text) refl (are.order i j f g le (slice_get-get_or prefixes i d (omega (arith, le, lt))) (slice_get-get_or prefixes j d lt)) e
 
 pub point_leads : (prefixes : List Prefix) (text : Text) (at : ℕ) (way : Option ℕ) → ArePrefixes prefixes → IsPartitionPoint (λ f. up_to text f ≡ true) (λ f. up_to text f ≡ false) prefixes at
-    → at ≤ length prefixes → SomeIff way (1 ≤ at) (at - 1) → LeadsTo prefixes (length prefixes) text way
+    → at ≤ length prefixes → SomeIff way (1 ≤ at) (at - 1) → LinksTo prefixes (length prefixes) text way
 point_leads prefixes text at way are point within is = leads_last prefixes at way text are within is
     (λ i f lt here. subst (λ (x : Prefix). up_to text x ≡ true) (get_or_from_slice_get prefixes i f f here) (point.0 i f (omega arith) lt))
     (λ j g lt ge here e. let after = subst (λ (x : Prefix). up_to text x ≡ false) (get_or_from_slice_get prefixes j g g here) (point.1 j g ge lt) in cc)
@@ -173,7 +173,7 @@ point_leads prefixes text at way are point within is = leads_last prefixes at wa
 abbrev pub IsNext : List Prefix → Text → Type 0
 IsNext prefixes text = (i : ℕ) (f : Prefix) → slice_get prefixes i ≡ Some f → is_le (text_cmp f.text text) ≡ true
 
-pub puts : (old new : List Prefix) (text : Text) (places : List ℕ) (way : Option ℕ) → ArePrefixes old → IsNext old text → LeadsTo old (length old) text way
+pub puts : (old new : List Prefix) (text : Text) (places : List ℕ) (way : Option ℕ) → ArePrefixes old → IsNext old text → LinksTo old (length old) text way
     → IfSome way (λ i. i < length old) → new ≡ old ++ prefix text places way ∷ [] → PutsPrefix old new text places
 puts old new text places way are next leads within e =
     let x : Prefix = prefix text places way in
@@ -238,11 +238,11 @@ entries_more old new text places way rest entries e was =
     ap (λ (fs : List Prefix). map entry_of fs ++ rest) e ∙ ap (λ (es : List (Text × List ℕ)). es ++ rest) (map-append entry_of old (prefix text places way ∷ []))
     ∙ append_assoc (map entry_of old) ((text, places) ∷ []) rest ∙ was
 
-module _ (m : Lists) (ordered : IsOrdered text_cmp m) (prefixes : List Prefix) (e : map entry_of prefixes ≡ m.entries) where
+module _ (m : PlaceLists) (ordered : IsOrdered text_cmp m) (prefixes : List Prefix) (e : map entry_of prefixes ≡ m.entries) where
   entry_at : (k : ℕ) (f : Prefix) → slice_get prefixes k ≡ Some f → slice_get m.entries k ≡ Some (f.text, f.places)
   entry_at k f at = ap (λ (es : List (Text × List ℕ)). slice_get es k) (sym e) ∙ slice_get-map entry_of prefixes k ∙ ap (option_map entry_of) at
 
-  listed_at : (k : ℕ) (f : Prefix) → slice_get prefixes k ≡ Some f → listed m f.text ≡ f.places
+  listed_at : (k : ℕ) (f : Prefix) → slice_get prefixes k ≡ Some f → places_under m f.text ≡ f.places
   listed_at k f at = ap (λ (o : Option (List ℕ)). unwrap_or o []) (btree_map_get_place nat_list_cmp_total m k f.text f.places ordered (entry_at k f at))
 
   prefix_got : (text : Text) (n : ℕ) (o : Option (List ℕ)) → get text_cmp m text ≡ o → Contains (unwrap_or o []) n
@@ -259,7 +259,7 @@ module _ (m : Lists) (ordered : IsOrdered text_cmp m) (prefixes : List Prefix) (
       (k, f, at, ap (λ (p : Text × List ℕ). p.0) same, subst (λ (ns : List ℕ). Contains ns n) (sym (ap (λ (p : Text × List ℕ). p.1) same)) c)
 
   -- what is listed under a text stands at the prefix of that text
-  pub prefix_listed : (text : Text) (n : ℕ) → Contains (listed m text) n → (j : ℕ) × (f : Prefix) × (slice_get prefixes j ≡ Some f) × (f.text ≡ text) × Contains f.places n
+  pub prefix_listed : (text : Text) (n : ℕ) → Contains (places_under m text) n → (j : ℕ) × (f : Prefix) × (slice_get prefixes j ≡ Some f) × (f.text ≡ text) × Contains f.places n
   prefix_listed text n c = prefix_got text n (get text_cmp m text) refl c
 
   pub places_ascend : AreAscending m → All (λ f. IsAscending f.places) prefixes

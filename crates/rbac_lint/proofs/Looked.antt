@@ -17,10 +17,10 @@ use Rattle.rbac_lint.specs.declared.rules_by_word.Field.{Field}
 use Rattle.rbac_lint.specs.declared.rules_by_word.Field.TheVariants.{Verbs, Groups, Resources, Names, Urls, Prefixes}
 use Rattle.rbac_lint.specs.declared.rules_by_word.RulesByWord.{RulesByWord}
 use Rattle.rbac_lint.specs.declared.candidates.Candidates.{Candidates}
-use Rattle.rbac_lint.specs.RulesByWord.{Lists, listed, lists_in, words_in, names_or_star, IsAscending, IsStem, AreRulesByWord}
-use Rattle.rbac_lint.specs.Candidates.{IsAsked, Binds, IsFound, StandsIn, IsAmong, Ascend, Finds, AddsUnder, AddsPrefixes, IsOfEach, AreMatching, CoversAt, AreCandidates, IsLeastCoverIfAny, IsRedundantBy, IsSoonest}
+use Rattle.rbac_lint.specs.RulesByWord.{PlaceLists, places_under, lists_in, words_in, names_or_star, IsAscending, IsUrlStem, AreRulesByWord}
+use Rattle.rbac_lint.specs.Candidates.{IsAsked, Binds, IsUnderMatch, StandsIn, IsAmong, Ascend, FindsEach, AddsUnder, AddsPrefixes, IsOfEach, AreMatching, CoversAt, IncludeCovers, IsLeastCoverIfAny, IsRedundantBy, IsSoonest}
 use Rattle.rbac_lint.specs.declared.prefixes.Prefix.{Prefix}
-use Rattle.rbac_lint.specs.Prefixes.{IsOnWay, LeadsTo, ArePrefixes}
+use Rattle.rbac_lint.specs.Prefixes.{IsOnWay, LinksTo, ArePrefixes}
 use Rattle.rbac_covering.proofs.Samples.{samples_from_Covers, resources_from_samples, urls_from_samples}
 use Rattle.rbac_model.proofs.UrlSamples.{below_stars}
 use Rattle.rbac_model.proofs.UrlWords.{GivesPath-path}
@@ -30,14 +30,14 @@ use Rattle.rbac_lint.proofs.Linked.{prefix_listed, places_ascend, here_or_on, sh
 -- ---- the words that match
 
 -- each place of a rule's words is listed under them
-abbrev pub IsListedAll : List Text → Lists → ℕ → Type 0
-IsListedAll words m n = (u : Text) → Contains words u → Contains (listed m u) n
+abbrev pub IsListedAll : List Text → PlaceLists → ℕ → Type 0
+IsListedAll words m n = (u : Text) → Contains words u → Contains (places_under m u) n
 
 -- a place is listed under a word that matches
-abbrev pub IsMatched : Lists → Text → ℕ → Type 0
-IsMatched m w n = (u : Text) × ResourceWordMatches u w × Contains (listed m u) n
+abbrev pub IsMatched : PlaceLists → Text → ℕ → Type 0
+IsMatched m w n = (u : Text) × ResourceWordMatches u w × Contains (places_under m u) n
 
-matched_star : (m : Lists) (a : Rule) (w : Text) (n : ℕ) → a.resource_names ≡ [] → IsListedAll (names_or_star a.resource_names) m n → IsMatched m w n
+matched_star : (m : PlaceLists) (a : Rule) (w : Text) (n : ℕ) → a.resource_names ≡ [] → IsListedAll (names_or_star a.resource_names) m n → IsMatched m w n
 matched_star m a w n e under =
     let has : Contains (names_or_star a.resource_names) (codes "*") = subst (λ (ns : List Text). Contains (names_or_star ns) (codes "*")) (sym e) (0, omega arith, refl) in
     (codes "*", inl (inl refl), under (codes "*") has)
@@ -46,7 +46,7 @@ named : (names : List Text) (w : Text) → Contains names w → Contains (names_
 named [] w c = absurd (omega (arith, c.1))
 named (n ∷ ns) w c = c
 
-matched_name : (m : Lists) (a b : Rule) (names : List Text) (w : Text) (n : ℕ) → names ≡ b.resource_names → AllowsNames a b → Contains (names_or_star names) w
+matched_name : (m : PlaceLists) (a b : Rule) (names : List Text) (w : Text) (n : ℕ) → names ≡ b.resource_names → AllowsNames a b → Contains (names_or_star names) w
     → IsListedAll (names_or_star a.resource_names) m n → IsMatched m w n
 unfolding AllowsNames AllowsName
 matched_name m a b [] w n e h c under = matched_star m a w n (h.0 (sym e)) under
@@ -60,7 +60,7 @@ verbs_of a b c (inl has) = (resources_from_samples a b (samples_from_Covers a b 
 verbs_of a b c (inr has) = (urls_from_samples a b (samples_from_Covers a b c) has).0
 
 found_url : (rules : List Rule) (l : RulesByWord) (w u : Text) (n : ℕ) (a : Rule) → AreRulesByWord rules l → slice_get rules n ≡ Some a → Contains a.urls u
-    → (u ≡ w) ⊎ ((prefix : Text) × IsBeforeStars u prefix × BeginsWith w prefix) → IsFound Urls l w n
+    → (u ≡ w) ⊎ ((prefix : Text) × IsBeforeStars u prefix × BeginsWith w prefix) → IsUnderMatch Urls l w n
 found_url rules l w u n a is at has (inl e) = inl (is.urls.complete n a u w (slice_get_within rules n a at) at has e)
 found_url rules l w u n a is at has (inr f) =
     let m = is.prefixes.0 in
@@ -69,7 +69,7 @@ found_url rules l w u n a is at has (inr f) =
 
 -- what covers a rule is found for each of its words that is asked
 pub found : (field : Field) (rules : List Rule) (l : RulesByWord) (b : Rule) (w : Text) (n : ℕ) → AreRulesByWord rules l → Binds field b → IsAsked field w → Contains (words_in field b) w
-    → CoversAt rules b n → IsFound field l w n
+    → CoversAt rules b n → IsUnderMatch field l w n
 unfolding AllowsVerbs AllowsVerb AllowsGroups AllowsGroup AllowsResources AllowsResource AllowsUrls AllowsUrl AllowsUrlWord GivesPath
 found Verbs rules l b w n is has asked at c =
     let any = All-contains (AllowsVerb c.0) b.verbs w (verbs_of c.0 b c.2 has) at in
@@ -90,8 +90,8 @@ found Urls rules l b w n is has asked at c =
 found Prefixes rules l b w n is has asked at c = absurd has
 
 pub are_candidates : (field : Field) (rules : List Rule) (l : RulesByWord) (b : Rule) (w : Text) (c : Candidates) → AreRulesByWord rules l → Binds field b → IsAsked field w → Contains (words_in field b) w
-    → Finds field l w c → AreCandidates rules b c
-unfolding AreCandidates
+    → FindsEach field l w c → IncludeCovers rules b c
+unfolding IncludeCovers
 are_candidates field rules l b w c is has asked at finds = (finds.0, λ n covers. finds.1 n (found field rules l b w n is has asked at covers))
 
 -- ---- lists of places
@@ -109,23 +109,23 @@ stands_cases lists places n s = elim (Contains-push_cases lists places s.1 (s.0,
 ]
 
 -- what is added to candidates
-pub adds_under : (m : Lists) (w : Text) (old new : Candidates) (p : Bor (List ℕ)) → new.lists.items ≡ old.lists.items ++ p ∷ [] → p.now ≡ listed m w → AddsUnder m (λ u. u ≡ w) old new
+pub adds_under : (m : PlaceLists) (w : Text) (old new : Candidates) (p : Bor (List ℕ)) → new.lists.items ≡ old.lists.items ++ p ∷ [] → p.now ≡ places_under m w → AddsUnder m (λ u. u ≡ w) old new
 adds_under m w old new p e same =
     let here : (P : List (Bor (List ℕ)) → Type 0) → P (old.lists.items ++ p ∷ []) → P new.lists.items = λ P h. subst P (sym e) h in
     record {
       kept = λ n c. here (λ ls. StandsIn ls n) (stands_kept old.lists.items (p ∷ []) n c);
-      has = λ u n is c. here (λ ls. StandsIn ls n) (stands_push old.lists.items p n (subst (λ (ns : List ℕ). Contains ns n) (ap (listed m) is ∙ sym same) c));
+      has = λ u n is c. here (λ ls. StandsIn ls n) (stands_push old.lists.items p n (subst (λ (ns : List ℕ). Contains ns n) (ap (places_under m) is ∙ sym same) c));
       ascending = λ up was. here (λ ls. All (λ x. IsAscending x.now) ls) (All-push (λ x. IsAscending x.now) old.lists.items p was (subst IsAscending (sym same) (up w)));
     }
 
-pub adds_none : (m : Lists) (P : Text → Type 0) (c : Candidates) → ((u : Text) → P u → ⊥) → AddsUnder m P c c
+pub adds_none : (m : PlaceLists) (P : Text → Type 0) (c : Candidates) → ((u : Text) → P u → ⊥) → AddsUnder m P c c
 adds_none m P c none = record {
   kept = λ n s. s;
   has = λ u n is s. absurd (none u is);
   ascending = λ up was. was;
 }
 
-pub adds_fewer : (m : Lists) (P Q : Text → Type 0) (old new : Candidates) → ((u : Text) → Q u → P u) → AddsUnder m P old new → AddsUnder m Q old new
+pub adds_fewer : (m : PlaceLists) (P Q : Text → Type 0) (old new : Candidates) → ((u : Text) → Q u → P u) → AddsUnder m P old new → AddsUnder m Q old new
 adds_fewer m P Q old new f a = record {
   kept = a.kept;
   has = λ u n is s. a.has u n (f u is) s;
@@ -138,7 +138,7 @@ of_each_one w prefix rest word cut is u of =
     of.1 ∙ ap (λ (s : Text). codes "*/" ++ s) (IsCutAtFirst-one w of.2.0 prefix of.0 rest slash of.2.1 cut) ∙ sym is
 
 -- a word without a slash has none
-pub no_of_each : (m : Lists) (w : Text) (c : Candidates) → ¬ Contains w slash → AddsUnder m (IsOfEach w) c c
+pub no_of_each : (m : PlaceLists) (w : Text) (c : Candidates) → ¬ Contains w slash → AddsUnder m (IsOfEach w) c c
 no_of_each m w c none = record {
   kept = λ n s. s;
   has = λ u n of s. absurd (none (subst (λ (t : Text). Contains t slash) (sym of.2.1.0) (Contains-append_right of.2.0 (slash ∷ of.0) slash (0, omega arith, refl))));
@@ -146,7 +146,7 @@ no_of_each m w c none = record {
 }
 
 -- those under the words that match a resource text
-pub all_matching : (m : Lists) (w : Text) (none own every c : Candidates) → none.lists.items ≡ [] → AddsUnder m (λ u. u ≡ w) none own → AddsUnder m (λ u. u ≡ codes "*") own every
+pub all_matching : (m : PlaceLists) (w : Text) (none own every c : Candidates) → none.lists.items ≡ [] → AddsUnder m (λ u. u ≡ w) none own → AddsUnder m (λ u. u ≡ codes "*") own every
     → AddsUnder m (IsOfEach w) every c → AreMatching m w c
 all_matching m w none own every c e a b d = (
   λ up. d.ascending up (b.ascending up (a.ascending up (subst (λ (ls : List (Bor (List ℕ))). All (λ x. IsAscending x.now) ls) (sym e) (All-nil (λ x. IsAscending x.now))))),
@@ -156,7 +156,7 @@ all_matching m w none own every c e a b d = (
   ],
 )
 
-pub matching_found : (field : Field) (rules : List Rule) (l : RulesByWord) (w : Text) (c : Candidates) → (field ≡ Urls → ⊥) → AreRulesByWord rules l → AreMatching (lists_in field l) w c → Finds field l w c
+pub matching_found : (field : Field) (rules : List Rule) (l : RulesByWord) (w : Text) (c : Candidates) → (field ≡ Urls → ⊥) → AreRulesByWord rules l → AreMatching (lists_in field l) w c → FindsEach field l w c
 matching_found Verbs rules l w c other is m = (m.0 is.verbs.ascending, λ n s. m.1 s.0 n s.1 s.2)
 matching_found Groups rules l w c other is m = (m.0 is.groups.ascending, λ n s. m.1 s.0 n s.1 s.2)
 matching_found Resources rules l w c other is m = (m.0 is.resources.ascending, λ n s. m.1 s.0 n s.1 s.2)
@@ -165,8 +165,8 @@ matching_found Urls rules l w c other is m = absurd (other refl)
 matching_found Prefixes rules l w c other is m = (m.0 is.urls.ascending, λ n s. m.1 s.0 n s.1 s.2)
 
 -- those of a URL, and of the prefixes with which it begins
-pub prefixes_found : (rules : List Rule) (l : RulesByWord) (w stem : Text) (none own c : Candidates) → AreRulesByWord rules l → none.lists.items ≡ [] → IsStem w stem
-    → AddsUnder l.urls (λ u. u ≡ w) none own → AddsPrefixes l.prefixes.items stem own c → Finds Urls l w c
+pub prefixes_found : (rules : List Rule) (l : RulesByWord) (w stem : Text) (none own c : Candidates) → AreRulesByWord rules l → none.lists.items ≡ [] → IsUrlStem w stem
+    → AddsUnder l.urls (λ u. u ≡ w) none own → AddsPrefixes l.prefixes.items stem own c → FindsEach Urls l w c
 prefixes_found rules l w stem none own c is e of a b = (
   b.ascending (places_ascend is.prefixes.0 is.prefixes.2.0 l.prefixes.items is.prefixes.2.1 is.prefixes.1.ascending)
       (a.ascending is.urls.ascending (subst (λ (ls : List (Bor (List ℕ))). All (λ x. IsAscending x.now) ls) (sym e) (All-nil (λ x. IsAscending x.now)))),
@@ -183,7 +183,7 @@ pub record HasPrefixes (prefixes : List Prefix) (text : Text) (old new : Candida
   pub ascending : All (λ f. IsAscending f.places) prefixes → Ascend old → Ascend new
   pub within : IfSome way (λ i. i < length prefixes)
 
-pub prefixes_start : (prefixes : List Prefix) (text : Text) (old : Candidates) (way : Option ℕ) → LeadsTo prefixes (length prefixes) text way → IfSome way (λ i. i < length prefixes)
+pub prefixes_start : (prefixes : List Prefix) (text : Text) (old : Candidates) (way : Option ℕ) → LinksTo prefixes (length prefixes) text way → IfSome way (λ i. i < length prefixes)
     → HasPrefixes prefixes text old old way
 prefixes_start prefixes text old way leads lt = record {
   kept = λ n s. s;
@@ -240,8 +240,8 @@ pub record Narrows (rules : List Rule) (i : ℕ) (lists : List (Bor (List ℕ)))
   pub least : (n : ℕ) → MakesRedundant rules i n → StandsIn lists n ⊎ (first ≤ n)
   pub ascending : All (λ places. IsAscending places.now) lists
 
-pub narrows_start : (rules : List Rule) (i : ℕ) (b : Rule) (c : Candidates) → slice_get rules i ≡ Some b → AreCandidates rules b c → Narrows rules i c.lists.items (length rules)
-unfolding AreCandidates
+pub narrows_start : (rules : List Rule) (i : ℕ) (b : Rule) (c : Candidates) → slice_get rules i ≡ Some b → IncludeCovers rules b c → Narrows rules i c.lists.items (length rules)
+unfolding IncludeCovers
 narrows_start rules i b c here are = record {
   holds = inl refl;
   least = λ n m. inl (are.1 n (covers_at rules i n b here m));
@@ -352,6 +352,6 @@ soonest_none rules i listed count limit all before = record {
 -- ---- the fewest places
 
 pub fewer_of : (rules : List Rule) (b : Rule) (best : Option Candidates) (other c : Candidates) → (best ≡ Some c) ⊎ (c ≡ other)
-    → IfSome best (AreCandidates rules b) → AreCandidates rules b other → AreCandidates rules b c
-fewer_of rules b best other c (inl e) was is = subst (λ (o : Option Candidates). IfSome o (AreCandidates rules b)) e was
-fewer_of rules b best other c (inr e) was is = subst (AreCandidates rules b) (sym e) is
+    → IfSome best (IncludeCovers rules b) → IncludeCovers rules b other → IncludeCovers rules b c
+fewer_of rules b best other c (inl e) was is = subst (λ (o : Option Candidates). IfSome o (IncludeCovers rules b)) e was
+fewer_of rules b best other c (inr e) was is = subst (IncludeCovers rules b) (sym e) is

@@ -7,12 +7,12 @@ use Rattle.rbac_terms.specs.declared.granting.Binding.{Binding}
 use Rattle.rbac_model.specs.Policies.{Held, Source, binding_name, cluster_role_name}
 use Rattle.rbac_manifest.specs.Replaced.{replaced_name}
 use Rattle.rbac_manifest.specs.declared.replacement.Replaced.{Replaced}
-use Rattle.rbac_lint.specs.Replaced.{scope_of, replaced_object, IsReplacedOf}
+use Rattle.rbac_lint.specs.Replaced.{namespace_if_any, replaced_object, IsReplacedOf}
 use Rattle.rbac_lint.specs.declared.finding.Finding.{Finding}
-use Rattle.rbac_lint.specs.Lines.{Line, object_texts, Adds}
+use Rattle.rbac_lint.specs.Lines.{Line, object_texts, AddsLines}
 use Rattle.rbac_lint.specs.Roles.{source_object, binding_object}
-use Rattle.rbac_lint.specs.Findings.{IsDanglingOf, IsUnusedOf, IsRedundantAt, IsRedundantOf, IsEscalationBy, IsEscalationAt, IsEscalationOf, IsAccountAt, IsAccountOf, IsStaleOf, role_line}
-use Rattle.rbac_lint.proofs.Exact.{Adds-append}
+use Rattle.rbac_lint.specs.Findings.{IsDanglingOf, IsUnusedOf, IsRedundantAt, IsRedundantOf, IsEscalationBy, IsEscalationAt, IsEscalationOf, IsAccountWithoutAt, IsAccountWithoutOf, IsStaleOf, role_line}
+use Rattle.rbac_lint.proofs.Exact.{AddsLines-append}
 use Rattle.rbac_lint.proofs.Order.{Names, Places, binding_object-name}
 use Rattle.rbac_lint.proofs.RoleLines.{source_texts}
 
@@ -66,10 +66,10 @@ escalation_names = record {
 }
 
 -- bind comes before escalate
-pub Adds-powers : (s : Source) (i : ℕ) (r : Rule) (old mid new : List Finding) → Adds (IsEscalationBy (codes "bind") s i r) old mid → Adds (IsEscalationBy (codes "escalate") s i r) mid new → Adds (IsEscalationAt s i r) old new
+pub AddsLines-verbs : (s : Source) (i : ℕ) (r : Rule) (old mid new : List Finding) → AddsLines (IsEscalationBy (codes "bind") s i r) old mid → AddsLines (IsEscalationBy (codes "escalate") s i r) mid new → AddsLines (IsEscalationAt s i r) old new
 unfolding IsEscalationAt IsEscalationBy
-Adds-powers s i r old mid new p q =
-    Adds-append (IsEscalationBy (codes "bind") s i r) (IsEscalationBy (codes "escalate") s i r) (IsEscalationAt s i r) old mid new p q
+AddsLines-verbs s i r old mid new p q =
+    AddsLines-append (IsEscalationBy (codes "bind") s i r) (IsEscalationBy (codes "escalate") s i r) (IsEscalationAt s i r) old mid new p q
     (λ a b h k. inr (
       ap (λ t. t.code) h.1 ∙ sym (ap (λ t. t.code) k.1),
       inr (
@@ -79,16 +79,16 @@ Adds-powers s i r old mid new p q =
     ))
     (λ x. (λ h. h, λ h. h))
 
-pub account_places : (b : Binding) → Places (IsAccountAt b) 5 (binding_object b)
-unfolding IsAccountAt
+pub account_places : (b : Binding) → Places (IsAccountWithoutAt b) 5 (binding_object b)
+unfolding IsAccountWithoutAt
 account_places b = record {
   code_is = λ i s x p. ap (λ t. t.code) p.2;
   object_is = λ i s x p. ap (λ t. t.object) p.2;
   place_is = λ i s x p. ap (λ t. t.place) p.2;
 }
 
-pub account_names : Names binding_name IsAccountOf 5
-unfolding IsAccountOf IsAccountAt
+pub account_names : Names binding_name IsAccountWithoutOf 5
+unfolding IsAccountWithoutOf IsAccountWithoutAt
 account_names = record {
   code_is = λ b x p. ap (λ t. t.code) p.1.3.2;
   object_is = λ b x p. ap (λ t. object_texts t.object) p.1.3.2 ∙ binding_object-name b;
@@ -101,7 +101,7 @@ stale_names h = record {
   object_is = λ s x p. ap (λ t. object_texts t.object) p.1;
 }
 
-scope_texts : (namespace : Text) → unwrap_or (scope_of namespace) [] ≡ namespace
+scope_texts : (namespace : Text) → unwrap_or (namespace_if_any namespace) [] ≡ namespace
 scope_texts [] = refl
 scope_texts (c ∷ namespace) = refl
 

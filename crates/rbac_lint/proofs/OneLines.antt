@@ -10,7 +10,7 @@ use Rattle.rbac_terms.specs.Text.{text_cmp}
 use Rattle.rbac_model.specs.Policies.{Held}
 use Rattle.rbac_manifest.specs.declared.replacement.Replaced.{Replaced}
 use Rattle.rbac_lint.specs.declared.finding.Finding.{Finding}
-use Rattle.rbac_lint.specs.Lines.{Line, object_texts, place_key, IsBefore, AreShown, shown}
+use Rattle.rbac_lint.specs.Lines.{Line, object_texts, place_key, IsLineBefore, AreShown, shown}
 use Rattle.rbac_lint.specs.Findings.{IsFinding, AreFindings}
 use Rattle.rbac_lint.specs.Wanted.{WantedView, AreWanted, OfWanted}
 
@@ -43,7 +43,7 @@ objects_only a b (inr p) (inl q) = never_less (slice_cmp text_cmp) objects_total
 objects_only a b (inr p) (inr q) = places_only a b p.1 q.1
 
 -- of two lines at most one is before the other
-before_once : (a b : Line) → IsBefore a b → IsBefore b a → ⊥
+before_once : (a b : Line) → IsLineBefore a b → IsLineBefore b a → ⊥
 before_once a b (inl p) (inl q) = omega (arith, p, q)
 before_once a b (inl p) (inr q) = omega (arith, p, q.0)
 before_once a b (inr p) (inl q) = omega (arith, p.0, q)
@@ -53,13 +53,13 @@ in_cons : (x : Line) (xs : List Line) (y : Line) → Contains (x ∷ xs) y → (
 in_cons x xs y (zero, l, e) = inl e
 in_cons x xs y (suc k, l, e) = inr (k, omega arith, e)
 
-tail_ordered : (x : Line) (xs : List Line) → AllPairs IsBefore (x ∷ xs) → AllPairs IsBefore xs
+tail_ordered : (x : Line) (xs : List Line) → AllPairs IsLineBefore (x ∷ xs) → AllPairs IsLineBefore xs
 tail_ordered x xs up i j d lt l = up (suc i) (suc j) d (omega arith) (omega arith)
 
-head_before : (x : Line) (xs : List Line) (y : Line) → AllPairs IsBefore (x ∷ xs) → Contains xs y → IsBefore x y
+head_before : (x : Line) (xs : List Line) (y : Line) → AllPairs IsLineBefore (x ∷ xs) → Contains xs y → IsLineBefore x y
 head_before x xs y up w = rw w.2 at (up 0 (suc w.0) y (omega arith) (omega (arith, w.1)))
 
-one_list : (xs ys : List Line) → AllPairs IsBefore xs → AllPairs IsBefore ys → ((x : Line) → Contains xs x → Contains ys x) → ((x : Line) → Contains ys x → Contains xs x) → xs ≡ ys
+one_list : (xs ys : List Line) → AllPairs IsLineBefore xs → AllPairs IsLineBefore ys → ((x : Line) → Contains xs x → Contains ys x) → ((x : Line) → Contains ys x → Contains xs x) → xs ≡ ys
 one_list [] [] up vp f g = refl
 one_list [] (y ∷ ys) up vp f g = absurd (omega (arith, (g y (0, omega arith, refl)).1))
 one_list (x ∷ xs) [] up vp f g = absurd (omega (arith, (f x (0, omega arith, refl)).1))
@@ -71,8 +71,8 @@ one_list (x ∷ xs) (y ∷ ys) up vp f g =
         | inr v ↦ absurd (before_once x y (head_before x xs y up v) (head_before y ys x vp w))
       ]
     ] in
-    let P : Line → Type 0 = λ z. IsBefore x z in
-    let Q : Line → Type 0 = λ z. IsBefore y z in
+    let P : Line → Type 0 = λ z. IsLineBefore x z in
+    let Q : Line → Type 0 = λ z. IsLineBefore y z in
     let rest = one_list xs ys (tail_ordered x xs up) (tail_ordered y ys vp)
     (λ z w. elim (in_cons y ys z (f z (suc w.0, omega (arith, w.1), w.2))) [
       | inl e ↦ (let same : x ≡ z = heads ∙ e in let b = subst P (sym same) (head_before x xs z up w) in absurd (before_once x x b b))

@@ -9,11 +9,11 @@ use Rattle.rbac_terms.specs.declared.granting.Binding.{Binding}
 use Rattle.rbac_model.specs.Lists.{IsAscendingBy}
 use Rattle.rbac_model.specs.Policies.{binding_name, binding_name_at}
 use Rattle.rbac_lint.specs.declared.finding.Finding.{Finding}
-use Rattle.rbac_lint.specs.Lines.{Line, ObjectName, object_texts, place_key, IsBefore, Adds, OfFirst}
+use Rattle.rbac_lint.specs.Lines.{Line, ObjectName, object_texts, place_key, IsLineBefore, AddsLines, OfFirst}
 use Rattle.rbac_lint.specs.Roles.{binding_object, binding_kind}
-use Rattle.rbac_lint.proofs.Exact.{Adds-more}
+use Rattle.rbac_lint.proofs.Exact.{AddsLines-more}
 
-later_place : (a b : Line) → a.code ≡ b.code → a.object ≡ b.object → place_key a.place < place_key b.place → IsBefore a b
+later_place : (a b : Line) → a.code ≡ b.code → a.object ≡ b.object → place_key a.place < place_key b.place → IsLineBefore a b
 later_place a b e o l = inr (e, inr (ap object_texts o, inl l))
 
 -- ascending names, place by place
@@ -31,16 +31,16 @@ pub record Names {X : Type 0} (name : X → List Text) (P : X → Line → Type 
 
 -- and so the lines of one element after another are in order, where names ascend
 module _ {X : Type 0} (name : X → List Text) (P : X → Line → Type 0) (code : ℕ) (names : Names name P code) where
-  named_before : (z y : X) (a b : Line) → slice_cmp text_cmp (name z) (name y) ≡ Less → P z a → P y b → IsBefore a b
+  named_before : (z y : X) (a b : Line) → slice_cmp text_cmp (name z) (name y) ≡ Less → P z a → P y b → IsLineBefore a b
   named_before z y a b l p q =
       inr (
         names.code_is z a p ∙ sym (names.code_is y b q),
         inl (ap (λ t. slice_cmp text_cmp t (object_texts b.object)) (names.object_is z a p) ∙ ap (λ t. slice_cmp text_cmp (name z) t) (names.object_is y b q) ∙ l),
       )
 
-  pub Adds-next : (xs : List X) (i : ℕ) (y : X) (old mid new : List Finding) → IsAscendingBy name xs → slice_get xs i ≡ Some y → Adds (OfFirst (λ k z. P z) xs i) old mid → Adds (P y) mid new → Adds (OfFirst (λ k z. P z) xs (i + 1)) old new
-  Adds-next xs i y old mid new up here p q =
-      Adds-more (λ k z. P z) xs i y old mid new here p q
+  pub AddsLines-next : (xs : List X) (i : ℕ) (y : X) (old mid new : List Finding) → IsAscendingBy name xs → slice_get xs i ≡ Some y → AddsLines (OfFirst (λ k z. P z) xs i) old mid → AddsLines (P y) mid new → AddsLines (OfFirst (λ k z. P z) xs (i + 1)) old new
+  AddsLines-next xs i y old mid new up here p q =
+      AddsLines-more (λ k z. P z) xs i y old mid new here p q
       (λ k z a b l e f g. named_before z y a b (ascends name xs k i z y up l e here) f g)
 
 -- the lines of one place of an object have one code, and name the object and the place
@@ -50,9 +50,9 @@ pub record Places {X : Type 0} (P : ℕ → X → Line → Type 0) (code : ℕ) 
   pub place_is : (k : ℕ) (y : X) (x : Line) → P k y x → x.place ≡ Some k
 
 module _ {X : Type 0} (P : ℕ → X → Line → Type 0) (code : ℕ) (object : ObjectName) (places : Places P code object) where
-  pub Adds-next_place : (xs : List X) (i : ℕ) (y : X) (old mid new : List Finding) → slice_get xs i ≡ Some y → Adds (OfFirst P xs i) old mid → Adds (P i y) mid new → Adds (OfFirst P xs (i + 1)) old new
-  Adds-next_place xs i y old mid new here p q =
-      Adds-more P xs i y old mid new here p q
+  pub AddsLines-next_place : (xs : List X) (i : ℕ) (y : X) (old mid new : List Finding) → slice_get xs i ≡ Some y → AddsLines (OfFirst P xs i) old mid → AddsLines (P i y) mid new → AddsLines (OfFirst P xs (i + 1)) old new
+  AddsLines-next_place xs i y old mid new here p q =
+      AddsLines-more P xs i y old mid new here p q
       (λ k z a b l e f g. later_place a b (places.code_is k z a f ∙ sym (places.code_is i y b g)) (places.object_is k z a f ∙ sym (places.object_is i y b g))
       (omega (arith, l, ap place_key (places.place_is k z a f), ap place_key (places.place_is i y b g))))
 

@@ -10,7 +10,8 @@ use Rattle.rbac_model.specs.Universes.{Covers}
 use Rattle.rbac_terms.specs.Targets.{IsResourceText, IsPath}
 use Rattle.rbac_covering.specs.Covering.{HasResource, HasUrl}
 use Rattle.rbac_lint.specs.Findings.{MakesRedundant}
-use Rattle.rbac_lint.specs.RulesByWord.{Lists, listed, lists_in, IsAscending, AreAscending}
+use Rattle.rbac_lint.specs.RulesByWord.{PlaceLists, places_under, lists_in}
+use Rattle.rbac_lint.specs.RulesByWord.{IsAscending, AreAscending}
 use Rattle.rbac_lint.specs.declared.prefixes.Prefix.{Prefix}
 use Rattle.rbac_lint.specs.declared.rules_by_word.Field.{Field}
 use Rattle.rbac_lint.specs.declared.rules_by_word.Field.TheVariants.{Verbs, Groups, Resources, Names}
@@ -35,12 +36,12 @@ IsAsked field w = Unit {0}
 
 -- a place is listed under a word that matches this one: `*`, the word itself, or `*/` and what
 -- follows the word's first slash; for a URL, the word or a prefix of it
-abbrev pub IsFound : Field → RulesByWord → Text → ℕ → Type 0
-IsFound Urls l w n = Contains (listed l.urls w) n
+abbrev pub IsUnderMatch : Field → RulesByWord → Text → ℕ → Type 0
+IsUnderMatch Urls l w n = Contains (places_under l.urls w) n
     ⊎ ((j : ℕ) × (f : Prefix) × (slice_get l.prefixes.items j ≡ Some f) × BeginsWith w f.text
     × (¬ EndsInStar f.text) × Contains f.places n)
-IsFound field l w n = (u : Text) × ResourceWordMatches u w
-    × Contains (listed (lists_in field l) u) n
+IsUnderMatch field l w n = (u : Text) × ResourceWordMatches u w
+    × Contains (places_under (lists_in field l) u) n
 
 -- the place is in one of these lists
 abbrev pub StandsIn : List (Bor (List ℕ)) → ℕ → Type 0
@@ -53,13 +54,13 @@ abbrev pub Ascend : Candidates → Type 0
 Ascend c = All (λ places. IsAscending places.now) c.lists.items
 
 -- each place that is to be found is among the candidates
-abbrev pub Finds : Field → RulesByWord → Text → Candidates → Type 0
-Finds field l w c = Ascend c × ((n : ℕ) → IsFound field l w n → IsAmong c n)
+abbrev pub FindsEach : Field → RulesByWord → Text → Candidates → Type 0
+FindsEach field l w c = Ascend c × ((n : ℕ) → IsUnderMatch field l w n → IsAmong c n)
 
 -- new has old's places, and those under the words with the property
-pub record AddsUnder (m : Lists) (P : Text → Type 0) (old new : Candidates) : Type 0 where
+pub record AddsUnder (m : PlaceLists) (P : Text → Type 0) (old new : Candidates) : Type 0 where
   pub kept : (n : ℕ) → IsAmong old n → IsAmong new n
-  pub has : (u : Text) (n : ℕ) → P u → Contains (listed m u) n → IsAmong new n
+  pub has : (u : Text) (n : ℕ) → P u → Contains (places_under m u) n → IsAmong new n
   pub ascending : AreAscending m → Ascend old → Ascend new
 
 -- new has old's places, and those of the prefixes that the text begins with
@@ -74,17 +75,17 @@ abbrev pub IsOfEach : Text → Text → Type 0
 IsOfEach w u = (s : Text) × (u ≡ codes "*/" ++ s) × FollowsFirstSlash w s
 
 -- the places under the words that match a resource text, in ascending lists
-abbrev pub AreMatching : Lists → Text → Candidates → Type 0
+abbrev pub AreMatching : PlaceLists → Text → Candidates → Type 0
 AreMatching m w c = (AreAscending m → Ascend c)
-    × ((u : Text) (n : ℕ) → ResourceWordMatches u w → Contains (listed m u) n → IsAmong c n)
+    × ((u : Text) (n : ℕ) → ResourceWordMatches u w → Contains (places_under m u) n → IsAmong c n)
 
 -- the rule at the place covers this one
 abbrev pub CoversAt : List Rule → Rule → ℕ → Type 0
 CoversAt rules b n = (a : Rule) × (slice_get rules n ≡ Some a) × Covers a b
 
 -- each rule that covers this one is at one of these places
-unfoldable pub AreCandidates : List Rule → Rule → Candidates → Type 0
-AreCandidates rules b c = Ascend c × ((n : ℕ) → CoversAt rules b n → IsAmong c n)
+unfoldable pub IncludeCovers : List Rule → Rule → Candidates → Type 0
+IncludeCovers rules b c = Ascend c × ((n : ℕ) → CoversAt rules b n → IsAmong c n)
 
 -- the least number with the property, if one has it
 abbrev pub AnswersLeast : (ℕ → Type 0) → Option ℕ → Type 0

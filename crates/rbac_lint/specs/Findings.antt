@@ -50,13 +50,13 @@ IsDangling h = OfEach (λ k b. IsDanglingOf h b) h.bindings
 
 -- L2: no binding names the role, and no cluster role that a binding names reaches it by aggregation
 -- (own)
-abbrev pub IsNamed : Held → Source → Type 0
-IsNamed h s = Any (λ b. IsRefTo h b.namespace b.role s) h.bindings
+abbrev pub IsNamedByBinding : Held → Source → Type 0
+IsNamedByBinding h s = Any (λ b. IsRefTo h b.namespace b.role s) h.bindings
 
 unfoldable pub IsUsed : Held → Source → Type 0
-IsUsed h (InRole r) = IsNamed h (InRole r)
-IsUsed h (InClusterRole r) = IsNamed h (InClusterRole r)
-    ⊎ ((c : ClusterRole) × IsNamed h (InClusterRole c) × Reaches h c r)
+IsUsed h (InRole r) = IsNamedByBinding h (InRole r)
+IsUsed h (InClusterRole r) = IsNamedByBinding h (InClusterRole r)
+    ⊎ ((c : ClusterRole) × IsNamedByBinding h (InClusterRole c) × Reaches h c r)
 
 unfoldable pub IsUnusedOf : Held → Source → Line → Type 0
 IsUnusedOf h s x = (¬ IsUsed h s) × (x ≡ role_line 2 s None [])
@@ -112,14 +112,15 @@ abbrev pub IsEscalation : Held → Line → Type 0
 IsEscalation h = OfEach (λ k s. IsEscalationOf s) (roles_in h)
 
 -- L5: a ServiceAccount subject of a ClusterRoleBinding has no namespace, and so names nobody (own)
-unfoldable pub IsAccountAt : Binding → ℕ → Subject → Line → Type 0
-IsAccountAt b i s x = (name : Text) × (s ≡ Account None name) × (x ≡ binding_line 5 b (Some i) name)
+unfoldable pub IsAccountWithoutAt : Binding → ℕ → Subject → Line → Type 0
+IsAccountWithoutAt b i s x = (name : Text) × (s ≡ Account None name)
+    × (x ≡ binding_line 5 b (Some i) name)
 
-unfoldable pub IsAccountOf : Binding → Line → Type 0
-IsAccountOf b x = (b.namespace ≡ None) × OfEach (IsAccountAt b) b.subjects x
+unfoldable pub IsAccountWithoutOf : Binding → Line → Type 0
+IsAccountWithoutOf b x = (b.namespace ≡ None) × OfEach (IsAccountWithoutAt b) b.subjects x
 
 abbrev pub IsAccountWithout : Held → Line → Type 0
-IsAccountWithout h = OfEach (λ k b. IsAccountOf b) h.bindings
+IsAccountWithout h = OfEach (λ k b. IsAccountWithoutOf b) h.bindings
 
 -- L6: an aggregated role has written rules, which as a set aren't those that it gathers: the rules
 -- of the plain roles that it reaches (own)

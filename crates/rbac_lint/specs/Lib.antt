@@ -1,9 +1,9 @@
 pub mod Candidates
+pub mod Escalation
 pub mod Findings
 pub mod Gathering
 pub mod Lines
 pub mod NamedRoles
-pub mod Powers
 pub mod Prefixes
 pub mod Replaced
 pub mod Roles

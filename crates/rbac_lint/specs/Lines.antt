@@ -41,8 +41,8 @@ place_key None = 0
 place_key (Some i) = i + 1
 
 -- the order of lines: by code, then by object, then by place, then by the last field (own)
-abbrev pub IsBefore : Line → Line → Type 0
-IsBefore a b = (a.code < b.code)
+abbrev pub IsLineBefore : Line → Line → Type 0
+IsLineBefore a b = (a.code < b.code)
     ⊎ ((a.code ≡ b.code)
     × ((slice_cmp text_cmp (object_texts a.object) (object_texts b.object) ≡ Less)
     ⊎ ((object_texts a.object ≡ object_texts b.object) × ((place_key a.place < place_key b.place)
@@ -50,7 +50,7 @@ IsBefore a b = (a.code < b.code)
 
 -- exactly the lines that have the property, in order
 pub record AreExactly (P : Line → Type 0) (xs : List Line) : Type 0 where
-  pub ordered : AllPairs IsBefore xs
+  pub ordered : AllPairs IsLineBefore xs
   pub exact : (x : Line) → Contains xs x ↔ P x
 
 -- the findings are exactly those lines, in order
@@ -58,8 +58,8 @@ unfoldable pub AreShown : (Line → Type 0) → List Finding → Type 0
 AreShown P found = (xs : List Line) × AreExactly P xs × (found ≡ map shown xs)
 
 -- new is old followed by exactly those lines, in order
-unfoldable pub Adds : (Line → Type 0) → List Finding → List Finding → Type 0
-Adds P old new = (xs : List Line) × AreExactly P xs × (new ≡ old ++ map shown xs)
+unfoldable pub AddsLines : (Line → Type 0) → List Finding → List Finding → Type 0
+AddsLines P old new = (xs : List Line) × AreExactly P xs × (new ≡ old ++ map shown xs)
 
 -- a line of one of the first n elements, or of any element
 abbrev pub OfFirst : {X : Type 0} → (ℕ → X → Line → Type 0) → List X → ℕ → Line → Type 0

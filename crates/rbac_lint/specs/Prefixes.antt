@@ -21,13 +21,13 @@ IsOnWay prefixes (Some i) j text = (f : Prefix) × (slice_get prefixes i ≡ Som
     × BeginsWith f.text text
 
 -- the way has each of the first `count` prefixes that the text begins with
-abbrev pub LeadsTo : List Prefix → ℕ → Text → Option ℕ → Type 0
-LeadsTo prefixes count text way = (j : ℕ) (g : Prefix) → j < count → slice_get prefixes j ≡ Some g
+abbrev pub LinksTo : List Prefix → ℕ → Text → Option ℕ → Type 0
+LinksTo prefixes count text way = (j : ℕ) (g : Prefix) → j < count → slice_get prefixes j ≡ Some g
     → BeginsWith text g.text → IsOnWay prefixes way j g.text
 
 -- each prefix leads to all before it that it begins with
 abbrev pub IsLinkedAt : List Prefix → ℕ → Prefix → Type 0
-IsLinkedAt prefixes i f = LeadsTo prefixes i f.text f.shorter × IfSome f.shorter (λ p. p < i)
+IsLinkedAt prefixes i f = LinksTo prefixes i f.text f.shorter × IfSome f.shorter (λ p. p < i)
 
 abbrev pub AreLinked : List Prefix → Type 0
 AreLinked prefixes = (i : ℕ) (f : Prefix) → slice_get prefixes i ≡ Some f → IsLinkedAt prefixes i f

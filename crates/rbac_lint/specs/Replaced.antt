@@ -5,12 +5,16 @@ use Rattle.rbac_manifest.specs.declared.replacement.Replaced.{Replaced}
 use Rattle.rbac_lint.specs.Lines.{Line, ObjectName, OfEach}
 
 -- the namespace of an object; a cluster-scoped one has none
-abbrev pub scope_of : Text → Option Text
-scope_of [] = None
-scope_of (c ∷ namespace) = Some (c ∷ namespace)
+abbrev pub namespace_if_any : Text → Option Text
+namespace_if_any [] = None
+namespace_if_any (c ∷ namespace) = Some (c ∷ namespace)
 
 abbrev pub replaced_object : Replaced → ObjectName
-replaced_object r = record { kind = r.kind; namespace = scope_of r.namespace; name = r.name }
+replaced_object r = record {
+  kind = r.kind;
+  namespace = namespace_if_any r.namespace;
+  name = r.name;
+}
 
 -- the object was given by several documents; the line says how many earlier ones the last replaced
 -- (own)

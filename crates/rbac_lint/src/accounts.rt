@@ -2,8 +2,9 @@
 
 ghost use Rattle.std.specs.Prelude.{◌≡◌, ◌≢◌, None, OnOk, MatchOption};
 ghost use Rattle.rbac_terms.specs.Text.{Text};
-ghost use Rattle.rbac_lint.specs.Lines.{Adds};
-ghost use Rattle.rbac_lint.specs.Findings.{IsAccountAt, IsAccountOf, IsAccountWithout};
+ghost use Rattle.rbac_lint.specs.Lines.{AddsLines};
+ghost use Rattle.rbac_lint.specs.Findings.{IsAccountWithout, IsAccountWithoutAt};
+ghost use Rattle.rbac_lint.specs.Findings.{IsAccountWithoutOf};
 ghost use Rattle.rbac_lint.specs.Wanted.{OfKept, OfWanted};
 
 use crate::finding::{Finding, Findings, binding_word};
@@ -20,7 +21,7 @@ pub(crate) fn find_accounts(
     wanted: &Wanted<'_>,
 ) -> Result<(), AllocError>
     ensures { OnOk result
-        (Adds (OfWanted wanted.now (IsAccountWithout objects.now)) found.old found.new) }
+        (AddsLines (OfWanted wanted.now (IsAccountWithout objects.now)) found.old found.new) }
 {
     if !wanted.has_code(5) {
         return Ok(());
@@ -40,7 +41,7 @@ fn find_accounts_of(
     binding: &Binding,
 ) -> Result<(), AllocError>
     ensures { OnOk result
-        (Adds (OfKept wanted.now (IsAccountOf binding.now)) found.old found.new) }
+        (AddsLines (OfKept wanted.now (IsAccountWithoutOf binding.now)) found.old found.new) }
 {
     if !wanted.keeps_binding(binding) {
         return Ok(());
@@ -63,7 +64,8 @@ fn find_account(
     place: usize,
     subject: &Subject,
 ) -> Result<(), AllocError>
-    ensures { OnOk result (Adds (IsAccountAt binding.now place subject.now) found.old found.new) }
+    ensures { OnOk result
+        (AddsLines (IsAccountWithoutAt binding.now place subject.now) found.old found.new) }
 {
     let Some(name) = name_without_namespace(subject) else {
         return Ok(());

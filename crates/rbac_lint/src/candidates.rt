@@ -8,8 +8,8 @@ ghost use Rattle.rbac_terms.specs.declared.matching.Rule.{Rule as RuleView};
 ghost use Rattle.rbac_lint.specs.declared.rules_by_word.Field.TheVariants.{Urls};
 ghost use Rattle.rbac_lint.specs.RulesByWord.{AreRulesByWord};
 ghost use Rattle.rbac_lint.specs.Prefixes.{ArePrefixes};
-ghost use Rattle.rbac_lint.specs.Candidates.{IsAsked, Binds, Finds, AddsUnder, AddsPrefixes};
-ghost use Rattle.rbac_lint.specs.Candidates.{IsOfEach, AreMatching, AreCandidates};
+ghost use Rattle.rbac_lint.specs.Candidates.{IsAsked, Binds, FindsEach, AddsUnder, AddsPrefixes};
+ghost use Rattle.rbac_lint.specs.Candidates.{IsOfEach, AreMatching, IncludeCovers};
 
 use crate::prefixes::{Prefix, last_up_to};
 use crate::rules_by_word::{Field, Places, RulesByWord, star_word, stem_of, under, words_in};
@@ -66,7 +66,7 @@ pub(crate) fn fewest_for<'a>(
     requires { ArePrefixes by_word.now.prefixes.items }
     ensures { IfOk result
         (λ o. (rules : List RuleView) → AreRulesByWord rules by_word.now
-        → IfSome o (AreCandidates rules rule.now)) }
+        → IfSome o (IncludeCovers rules rule.now)) }
 {
     if has_resource(rule) {
         let best = fewest_in(alloc, by_word, rule, Field::Verbs, None)?;
@@ -92,8 +92,8 @@ fn fewest_in<'a>(
     requires { ArePrefixes by_word.now.prefixes.items }
     ensures { IfOk result
         (λ o. (rules : List RuleView) → AreRulesByWord rules by_word.now → Binds field rule.now
-        → IfSome best.entry (AreCandidates rules rule.now)
-        → IfSome o (AreCandidates rules rule.now)) }
+        → IfSome best.entry (IncludeCovers rules rule.now)
+        → IfSome o (IncludeCovers rules rule.now)) }
 {
     let mut fewest = best;
     for word in words_in(field, rule, &by_word.star) {
@@ -135,7 +135,7 @@ fn candidates_for<'a>(
     requires { ArePrefixes by_word.now.prefixes.items }
     ensures { IfOk result
         (λ c. (rules : List RuleView) → AreRulesByWord rules by_word.now
-        → Finds field by_word.now word.now c) }
+        → FindsEach field by_word.now word.now c) }
 {
     match field {
         Field::Urls => starting(alloc, by_word, word),
@@ -185,7 +185,7 @@ fn starting<'a>(
     requires { ArePrefixes by_word.now.prefixes.items }
     ensures { IfOk result
         (λ c. (rules : List RuleView) → AreRulesByWord rules by_word.now
-        → Finds Urls by_word.now word.now c) }
+        → FindsEach Urls by_word.now word.now c) }
 {
     let mut candidates = Candidates::new(alloc);
     candidates.add_under(by_word.lists(Field::Urls), word)?;

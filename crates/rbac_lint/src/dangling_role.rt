@@ -1,7 +1,7 @@
 //! Bindings whose role is missing.
 
 ghost use Rattle.std.specs.Prelude.{OnOk, IsTrue, ◌↔◌};
-ghost use Rattle.rbac_lint.specs.Lines.{Adds};
+ghost use Rattle.rbac_lint.specs.Lines.{AddsLines};
 ghost use Rattle.rbac_lint.specs.Findings.{Dangles, IsDanglingOf, IsDangling};
 ghost use Rattle.rbac_lint.specs.Wanted.{OfKept, OfWanted};
 
@@ -19,7 +19,7 @@ pub(crate) fn find_dangling(
     wanted: &Wanted<'_>,
 ) -> Result<(), AllocError>
     ensures { OnOk result
-        (Adds (OfWanted wanted.now (IsDangling objects.now)) found.old found.new) }
+        (AddsLines (OfWanted wanted.now (IsDangling objects.now)) found.old found.new) }
 {
     if !wanted.has_code(1) {
         return Ok(());
@@ -40,7 +40,7 @@ fn find_dangling_of(
     binding: &Binding,
 ) -> Result<(), AllocError>
     ensures { OnOk result
-        (Adds (OfKept wanted.now (IsDanglingOf objects.now binding.now)) found.old found.new) }
+        (AddsLines (OfKept wanted.now (IsDanglingOf objects.now binding.now)) found.old found.new) }
 {
     if !wanted.keeps_binding(binding) {
         return Ok(());

@@ -2,10 +2,10 @@
 
 ghost use Rattle.std.specs.Prelude.{◌≡◌, OnOk, IfOk, IsTrue, ◌↔◌, ◌⊎◌, codes};
 ghost use Rattle.rbac_model.specs.Sources.{source_of};
-ghost use Rattle.rbac_lint.specs.Lines.{Adds, OfEach};
+ghost use Rattle.rbac_lint.specs.Lines.{AddsLines, OfEach};
 ghost use Rattle.rbac_lint.specs.Findings.{Escalates, IsEscalationBy, IsEscalationAt};
 ghost use Rattle.rbac_lint.specs.Findings.{IsEscalationOf, IsEscalation, MatchesResource};
-ghost use Rattle.rbac_lint.specs.Powers.{the_powers};
+ghost use Rattle.rbac_lint.specs.Escalation.{escalation_words};
 ghost use Rattle.rbac_lint.specs.Wanted.{OfKept, OfWanted};
 
 use crate::finding::{Finding, Findings, role_word};
@@ -27,7 +27,7 @@ const ESCALATE: &[u8] = b"escalate";
 
 // The verbs that let a subject grant more than it has, and what they are used on.
 #[derive(Drop)]
-struct Powers {
+struct EscalationWords {
     bind: Word,
     escalate: Word,
     group: Word,
@@ -35,10 +35,10 @@ struct Powers {
     cluster_roles: Word,
 }
 
-fn named_powers(alloc: Global) -> Result<Powers, AllocError>
-    ensures { IfOk result (λ p. p ≡ the_powers) }
+fn escalation_words(alloc: Global) -> Result<EscalationWords, AllocError>
+    ensures { IfOk result (λ p. p ≡ escalation_words) }
 {
-    Ok(Powers {
+    Ok(EscalationWords {
         bind: Word::from_slice(alloc, BIND)?,
         escalate: Word::from_slice(alloc, ESCALATE)?,
         group: Word::from_slice(alloc, RBAC_GROUP)?,
@@ -55,14 +55,14 @@ pub(crate) fn find_escalations(
     wanted: &Wanted<'_>,
 ) -> Result<(), AllocError>
     ensures { OnOk result
-        (Adds (OfWanted wanted.now (IsEscalation objects.now)) found.old found.new) }
+        (AddsLines (OfWanted wanted.now (IsEscalation objects.now)) found.old found.new) }
 {
     if !wanted.has_code(4) {
         return Ok(());
     }
-    let powers = named_powers(alloc)?;
+    let words = escalation_words(alloc)?;
     for place in 0..role_count(objects) {
-        find_in_role(alloc, found, wanted, &powers, role_at(objects, place))?;
+        find_in_role(alloc, found, wanted, &words, role_at(objects, place))?;
     }
     Ok(())
 }
@@ -71,18 +71,19 @@ fn find_in_role(
     alloc: Global,
     found: &mut Findings,
     wanted: &Wanted<'_>,
-    powers: &Powers,
+    words: &EscalationWords,
     role: SourceRole<'_>,
 ) -> Result<(), AllocError>
-    requires { powers.now ≡ the_powers }
+    requires { words.now ≡ escalation_words }
     ensures { OnOk result
-        (Adds (OfKept wanted.now (IsEscalationOf (source_of role.entry))) found.old found.new) }
+        (AddsLines (OfKept wanted.now (IsEscalationOf (source_of role.entry)))
+        found.old found.new) }
 {
     if !wanted.keeps_role(role) {
         return Ok(());
     }
     match plain_rules(role) {
-        Some(rules) => find_in_rules(alloc, found, powers, role, rules),
+        Some(rules) => find_in_rules(alloc, found, words, role, rules),
         None => Ok(()),
     }
 }
@@ -91,16 +92,16 @@ fn find_in_role(
 fn find_in_rules(
     alloc: Global,
     found: &mut Findings,
-    powers: &Powers,
+    words: &EscalationWords,
     role: SourceRole<'_>,
     rules: &[Rule],
 ) -> Result<(), AllocError>
-    requires { powers.now ≡ the_powers }
+    requires { words.now ≡ escalation_words }
     ensures { OnOk result
-        (Adds (OfEach (IsEscalationAt (source_of role.entry)) rules.now) found.old found.new) }
+        (AddsLines (OfEach (IsEscalationAt (source_of role.entry)) rules.now) found.old found.new) }
 {
     for (place, rule) in rules.iter().enumerate() {
-        find_in_rule(alloc, found, powers, role, place, rule)?;
+        find_in_rule(alloc, found, words, role, place, rule)?;
     }
     Ok(())
 }
@@ -108,34 +109,35 @@ fn find_in_rules(
 fn find_in_rule(
     alloc: Global,
     found: &mut Findings,
-    powers: &Powers,
+    words: &EscalationWords,
     role: SourceRole<'_>,
     place: usize,
     rule: &Rule,
 ) -> Result<(), AllocError>
-    requires { powers.now ≡ the_powers }
+    requires { words.now ≡ escalation_words }
     ensures { OnOk result
-        (Adds (IsEscalationAt (source_of role.entry) place rule.now) found.old found.new) }
+        (AddsLines (IsEscalationAt (source_of role.entry) place rule.now) found.old found.new) }
 {
-    find_by_verb(alloc, found, powers, role, place, rule, &powers.bind)?;
-    find_by_verb(alloc, found, powers, role, place, rule, &powers.escalate)
+    find_by_verb(alloc, found, words, role, place, rule, &words.bind)?;
+    find_by_verb(alloc, found, words, role, place, rule, &words.escalate)
 }
 
 // Adds the finding for this verb, if there is one.
 fn find_by_verb(
     alloc: Global,
     found: &mut Findings,
-    powers: &Powers,
+    words: &EscalationWords,
     role: SourceRole<'_>,
     place: usize,
     rule: &Rule,
     verb: &Word,
 ) -> Result<(), AllocError>
-    requires { powers.now ≡ the_powers }
+    requires { words.now ≡ escalation_words }
     ensures { OnOk result
-        (Adds (IsEscalationBy verb.now (source_of role.entry) place rule.now) found.old found.new) }
+        (AddsLines (IsEscalationBy verb.now (source_of role.entry) place rule.now)
+        found.old found.new) }
 {
-    if !escalates(powers, rule, verb) {
+    if !escalates(words, rule, verb) {
         return Ok(());
     }
     let object = role_word(alloc, role)?;
@@ -150,18 +152,18 @@ fn find_by_verb(
 
 // Whether the rule allows the verb on roles or cluster roles, whatever their names.
 #[tactic(auto, unfolding(crate::specs::Findings::Escalates))]
-fn escalates(powers: &Powers, rule: &Rule, verb: &Word) -> bool
-    requires { powers.now ≡ the_powers }
+fn escalates(words: &EscalationWords, rule: &Rule, verb: &Word) -> bool
+    requires { words.now ≡ escalation_words }
     ensures { IsTrue result ↔ Escalates rule.now verb.now }
 {
-    verb_matches(rule, verb) && group_matches(rule, &powers.group) && has_roles(powers, rule)
+    verb_matches(rule, verb) && group_matches(rule, &words.group) && has_roles(words, rule)
 }
 
-fn has_roles(powers: &Powers, rule: &Rule) -> bool
-    requires { powers.now ≡ the_powers }
+fn has_roles(words: &EscalationWords, rule: &Rule) -> bool
+    requires { words.now ≡ escalation_words }
     ensures { IsTrue result
         ↔ (MatchesResource rule.now (codes "roles")
         ⊎ MatchesResource rule.now (codes "clusterroles")) }
 {
-    resource_matches(rule, &powers.roles) || resource_matches(rule, &powers.cluster_roles)
+    resource_matches(rule, &words.roles) || resource_matches(rule, &words.cluster_roles)
 }

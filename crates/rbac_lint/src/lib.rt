@@ -5,7 +5,6 @@ mod accounts;
 mod candidates;
 mod dangling_role;
 mod escalation;
-mod fault;
 mod finding;
 mod laws;
 mod linting;
@@ -19,7 +18,6 @@ mod stale_aggregate;
 mod unused_role;
 mod wanted;
 
-pub use fault::LintFault;
 pub use finding::{Finding, Findings};
 pub use laws::{findings_are_one_list, wanted_findings_are_one_list};
 pub use linting::{lint, lint_export};

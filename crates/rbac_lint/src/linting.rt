@@ -1,13 +1,12 @@
 //! Everything that lint finds.
 
-ghost use Rattle.std.specs.Prelude.{◌≡◌, [], IfOk, IfErr, OnOk};
+ghost use Rattle.std.specs.Prelude.{◌≡◌, [], IfOk, OnOk};
 ghost use Rattle.rbac_lint.specs.Findings.{AreFindings};
 ghost use Rattle.rbac_lint.specs.Wanted.{AreWanted};
 
 use crate::accounts::find_accounts;
 use crate::dangling_role::find_dangling;
 use crate::escalation::find_escalations;
-use crate::fault::LintFault;
 use crate::finding::Findings;
 use crate::redundant_rule::find_redundant;
 use crate::replaced_object::find_replaced;
@@ -24,12 +23,9 @@ use std::alloc::{AllocError, Global};
 /// ordered by code, as listed here, then by the object's kind, namespace and name, then by place,
 /// then by the last field.
 ///
-/// # Errors
-///
-/// N1 if it runs out of memory.
-pub fn lint(alloc: Global, loaded: &Loaded) -> Result<Findings, LintFault>
-    ensures ok { IfOk result (AreFindings loaded.now.policy.held loaded.now.replaced) }
-    ensures only_memory { IfErr result (λ e. e ≡ LintFault.NoMemory) }
+/// Fails only if it runs out of memory.
+pub fn lint(alloc: Global, loaded: &Loaded) -> Result<Findings, AllocError>
+    ensures { IfOk result (AreFindings loaded.now.policy.held loaded.now.replaced) }
 {
     let all = Wanted {
         only: None,
@@ -38,16 +34,14 @@ pub fn lint(alloc: Global, loaded: &Loaded) -> Result<Findings, LintFault>
     lint_export(alloc, loaded.export(), all)
 }
 
-/// The findings that are asked for, of those that [`lint`] finds in an export, whose lists of a
-/// universe aren't asked about. A code that isn't asked for isn't looked for. N1 if it runs out of
-/// memory.
+/// The wanted ones among the findings of [`lint`]. The lists of a universe aren't needed. A code
+/// that isn't wanted isn't looked for. Fails only if it runs out of memory.
 pub fn lint_export(
     alloc: Global,
     export: &Export,
     wanted: Wanted<'_>,
-) -> Result<Findings, LintFault>
-    ensures ok { IfOk result (AreWanted wanted.entry export.now.policy.held export.now.replaced) }
-    ensures only_memory { IfErr result (λ e. e ≡ LintFault.NoMemory) }
+) -> Result<Findings, AllocError>
+    ensures { IfOk result (AreWanted wanted.entry export.now.policy.held export.now.replaced) }
 {
     let mut found = Findings::new(alloc);
     find_all(alloc, &mut found, export, &wanted)?;

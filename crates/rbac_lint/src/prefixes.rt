@@ -8,7 +8,7 @@ ghost use Rattle.std.specs.Prelude.{OnOk, IsTrue};
 ghost use Rattle.std.specs.Ordering.{is_le};
 ghost use Rattle.rbac_terms.specs.Text.{text_cmp, BeginsWith};
 ghost use Rattle.rbac_lint.specs.declared.prefixes.Prefix.{Prefix as PrefixView};
-ghost use Rattle.rbac_lint.specs.Prefixes.{AreEntriesOf, LeadsTo, AreLinked, ArePrefixes};
+ghost use Rattle.rbac_lint.specs.Prefixes.{AreEntriesOf, LinksTo, AreLinked, ArePrefixes};
 ghost use Rattle.rbac_lint.specs.Prefixes.{PutsPrefix};
 
 use crate::rules_by_word::Places;
@@ -60,9 +60,9 @@ fn push_prefix(prefixes: &mut Vec<Prefix>, text: Word, places: Places) -> Result
 // The first prefix, on the way from this one, that the text begins with.
 fn longest_from(prefixes: &[Prefix], from: Option<usize>, text: &[u8]) -> Option<usize>
     requires linked { AreLinked prefixes.now }
-    requires leads { LeadsTo prefixes.now (length prefixes.now) text.now from }
+    requires leads { LinksTo prefixes.now (length prefixes.now) text.now from }
     requires within { IfSome from (λ i. i < length prefixes.now) }
-    ensures leads { LeadsTo prefixes.now (length prefixes.now) text.now result }
+    ensures leads { LinksTo prefixes.now (length prefixes.now) text.now result }
     ensures within { IfSome result (λ i. i < length prefixes.now) }
 {
     let mut next = from;
@@ -85,7 +85,7 @@ fn begins_with(text: &[u8], prefix: &[u8]) -> bool
 // The last prefix that isn't after the text.
 pub(crate) fn last_up_to(prefixes: &[Prefix], text: &[u8]) -> Option<usize>
     requires { ArePrefixes prefixes.now }
-    ensures leads { LeadsTo prefixes.now (length prefixes.now) text.now result }
+    ensures leads { LinksTo prefixes.now (length prefixes.now) text.now result }
     ensures within { IfSome result (λ i. i < length prefixes.now) }
 {
     let count = prefixes.partition_point(|prefix| is_up_to(prefix, text));

@@ -5,10 +5,10 @@ ghost use Rattle.std.specs.Prelude.{Some, IfSome, IfOk, OnOk};
 ghost use Rattle.std.specs.Option.{ForSome};
 ghost use Rattle.rbac_model.specs.Sources.{source_of};
 ghost use Rattle.rbac_terms.specs.declared.matching.Rule.{Rule as RuleView};
-ghost use Rattle.rbac_lint.specs.Lines.{Adds, OfEach};
+ghost use Rattle.rbac_lint.specs.Lines.{AddsLines, OfEach};
 ghost use Rattle.rbac_lint.specs.RulesByWord.{IsAscending, AreRulesByWord};
 ghost use Rattle.rbac_lint.specs.Prefixes.{ArePrefixes};
-ghost use Rattle.rbac_lint.specs.Candidates.{AreCandidates, IsLeastCoverIfAny, IsSoonest};
+ghost use Rattle.rbac_lint.specs.Candidates.{IncludeCovers, IsLeastCoverIfAny, IsSoonest};
 ghost use Rattle.rbac_covering.specs.Covering.{CoversAll};
 ghost use Rattle.rbac_lint.specs.Findings.{MakesRedundantAt, MakesRedundant};
 ghost use Rattle.rbac_lint.specs.Findings.{IsRedundantAt, IsRedundantOf, IsRedundant};
@@ -35,7 +35,7 @@ pub(crate) fn find_redundant(
     wanted: &Wanted<'_>,
 ) -> Result<(), AllocError>
     ensures { OnOk result
-        (Adds (OfWanted wanted.now (IsRedundant objects.now)) found.old found.new) }
+        (AddsLines (OfWanted wanted.now (IsRedundant objects.now)) found.old found.new) }
 {
     if !wanted.has_code(3) {
         return Ok(());
@@ -53,7 +53,7 @@ fn find_in_role(
     role: SourceRole<'_>,
 ) -> Result<(), AllocError>
     ensures { OnOk result
-        (Adds (OfKept wanted.now (IsRedundantOf (source_of role.entry))) found.old found.new) }
+        (AddsLines (OfKept wanted.now (IsRedundantOf (source_of role.entry))) found.old found.new) }
 {
     if !wanted.keeps_role(role) {
         return Ok(());
@@ -72,7 +72,7 @@ fn find_in_rules(
     rules: &[Rule],
 ) -> Result<(), AllocError>
     ensures { OnOk result
-        (Adds (OfEach
+        (AddsLines (OfEach
         (λ i r. IsRedundantAt (source_of role.entry) rules.now i) rules.now) found.old found.new) }
 {
     let by_word = by_word_if_many(alloc, rules)?;
@@ -90,7 +90,7 @@ fn find_in_ordered(
 ) -> Result<(), AllocError>
     requires { ForSome by_word (λ l. AreRulesByWord rules.now l.now) }
     ensures { OnOk result
-        (Adds (OfEach
+        (AddsLines (OfEach
         (λ i r. IsRedundantAt (source_of role.entry) rules.now i) rules.now) found.old found.new) }
 {
     for (place, rule) in rules.iter().enumerate() {
@@ -122,7 +122,7 @@ fn find_at(
     requires here { slice_get rules.now place ≡ Some rule.now }
     requires listed { ForSome by_word (λ l. AreRulesByWord rules.now l.now) }
     ensures { OnOk result
-        (Adds (IsRedundantAt (source_of role.entry) rules.now place) found.old found.new) }
+        (AddsLines (IsRedundantAt (source_of role.entry) rules.now place) found.old found.new) }
 {
     let Some(wide) = covering_rule(alloc, rules, by_word, place, rule)? else {
         return Ok(());
@@ -164,7 +164,7 @@ fn candidates_if_listed<'a>(
     requires { ForSome by_word (λ l. ArePrefixes l.now.prefixes.items) }
     ensures { IfOk result
         (λ o. (rules : List RuleView) → ForSome by_word.entry (λ l. AreRulesByWord rules l.now)
-        → IfSome o (AreCandidates rules rule.now)) }
+        → IfSome o (IncludeCovers rules rule.now)) }
 {
     match by_word {
         Some(by_word) => fewest_for(alloc, by_word, rule),
@@ -182,7 +182,7 @@ fn first_of(
     rule: &OrderedRule<'_>,
 ) -> Option<usize>
     requires here { slice_get rules.now place ≡ Some rule.now }
-    requires complete { AreCandidates rules.now rule.now candidates }
+    requires complete { IncludeCovers rules.now rule.now candidates }
     ensures least { IsLeastCoverIfAny rules.now place result }
     ensures within { IfSome result (λ j. j < length rules.now) }
 {

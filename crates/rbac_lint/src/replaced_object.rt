@@ -3,7 +3,7 @@
 ghost use Rattle.std.specs.Prelude.{◌≡◌, IfOk, OnOk};
 ghost use Rattle.rbac_model.specs.Lists.{IsAscendingBy};
 ghost use Rattle.rbac_manifest.specs.Replaced.{replaced_name};
-ghost use Rattle.rbac_lint.specs.Lines.{Adds, object_text};
+ghost use Rattle.rbac_lint.specs.Lines.{AddsLines, object_text};
 ghost use Rattle.rbac_lint.specs.Replaced.{replaced_object, IsReplacedOf, IsReplaced};
 ghost use Rattle.rbac_lint.specs.Wanted.{OfKept, OfWanted};
 
@@ -21,7 +21,8 @@ pub(crate) fn find_replaced(
     wanted: &Wanted<'_>,
 ) -> Result<(), AllocError>
     requires { IsAscendingBy replaced_name replaced.now }
-    ensures { OnOk result (Adds (OfWanted wanted.now (IsReplaced replaced.now)) found.old found.new) }
+    ensures { OnOk result
+        (AddsLines (OfWanted wanted.now (IsReplaced replaced.now)) found.old found.new) }
 {
     if !wanted.has_code(7) {
         return Ok(());
@@ -39,7 +40,7 @@ fn find_replaced_of(
     replaced: &Replaced,
 ) -> Result<(), AllocError>
     ensures { OnOk result
-        (Adds (OfKept wanted.now (IsReplacedOf replaced.now)) found.old found.new) }
+        (AddsLines (OfKept wanted.now (IsReplacedOf replaced.now)) found.old found.new) }
 {
     if !wanted.keeps_replaced(replaced) {
         return Ok(());

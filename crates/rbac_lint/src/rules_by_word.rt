@@ -3,9 +3,9 @@
 ghost use Rattle.std.specs.Prelude.{◌≡◌, ◌∷◌, [], Contains, IfOk, OnOk, IsTrue, MatchOption};
 ghost use Rattle.std.specs.Prelude.{codes, length};
 ghost use Rattle.rbac_terms.specs.Text.{Text};
-ghost use Rattle.rbac_lint.specs.RulesByWord.{listed, lists_in, words_in, IsKey, IsStem};
+ghost use Rattle.rbac_lint.specs.RulesByWord.{places_under, lists_in, words_in, IsListKey};
 ghost use Rattle.rbac_lint.specs.RulesByWord.{TakesIn, ListsPlace, ListsAll, IsListedAsBefore};
-ghost use Rattle.rbac_lint.specs.RulesByWord.{AreListed, AreRulesByWord};
+ghost use Rattle.rbac_lint.specs.RulesByWord.{IsUrlStem, AreRulesListed, AreRulesByWord};
 
 use crate::prefixes::{Prefix, prefixes_of};
 use rbac_terms::{Rule, Word, before_stars};
@@ -124,7 +124,7 @@ fn lists_of(
     field: Field,
 ) -> Result<BTreeMap<Word, Places>, AllocError>
     requires { star.now ≡ codes "*" }
-    ensures { IfOk result (AreListed field rules.now (length rules.now)) }
+    ensures { IfOk result (AreRulesListed field rules.now (length rules.now)) }
 {
     let mut lists = BTreeMap::new(alloc);
     for (place, rule) in rules.iter().enumerate() {
@@ -186,8 +186,8 @@ fn list_for(
 
 // What a word is listed under, if it is listed.
 fn key_of(field: Field, word: &[u8]) -> Option<&[u8]>
-    ensures { MatchOption result ((key : Text) → ¬ IsKey field word.now key)
-        (λ key. IsKey field word.now key.now) }
+    ensures { MatchOption result ((key : Text) → ¬ IsListKey field word.now key)
+        (λ key. IsListKey field word.now key.now) }
 {
     match field {
         Field::Prefixes => before_stars(word),
@@ -197,7 +197,7 @@ fn key_of(field: Field, word: &[u8]) -> Option<&[u8]>
 
 // A word without the stars at its end, if it has any.
 pub(crate) fn stem_of(word: &[u8]) -> &[u8]
-    ensures { IsStem word.now result.now }
+    ensures { IsUrlStem word.now result.now }
 {
     match before_stars(word) {
         Some(stem) => stem,
@@ -225,7 +225,7 @@ fn list_under(
     Ok(())
 }
 
-// Adds a word to those that have places, with no place of its own if it is new.
+// Makes sure that the word has a list of places, which is empty if the word is new.
 fn put_in(alloc: Global, lists: &mut BTreeMap<Word, Places>, word: &Word) -> Result<(), AllocError>
     ensures { OnOk result (IsListedAsBefore lists.old lists.new) }
 {
@@ -239,7 +239,7 @@ fn put_in(alloc: Global, lists: &mut BTreeMap<Word, Places>, word: &Word) -> Res
 
 // The places under a word.
 pub(crate) fn under<'a>(lists: &'a BTreeMap<Word, Places>, word: &Word) -> &'a [usize]
-    ensures { result.now ≡ listed lists.now word.now }
+    ensures { result.now ≡ places_under lists.now word.now }
 {
     match lists.get(word) {
         Some(places) => places.as_slice(),

@@ -4,7 +4,7 @@ ghost use Rattle.std.specs.Prelude.{◌≡◌, ◌≢◌, [], ◌+◌, ◌++◌,
 ghost use Rattle.std.specs.Prelude.{Contains, slice_get, length};
 ghost use Rattle.rbac_terms.specs.declared.matching.Rule.{Rule as RuleView};
 ghost use Rattle.rbac_terms.specs.declared.granting.ClusterRole.{ClusterRole as ClusterRoleView};
-ghost use Rattle.rbac_lint.specs.Lines.{Adds};
+ghost use Rattle.rbac_lint.specs.Lines.{AddsLines};
 ghost use Rattle.rbac_lint.specs.Gathering.{AreGatheredBy, rules_at};
 ghost use Rattle.rbac_lint.specs.Findings.{IsGathered, IsStaleRole, IsStaleOf, IsStale};
 ghost use Rattle.rbac_lint.specs.Wanted.{OfKept, OfWanted};
@@ -24,7 +24,7 @@ pub(crate) fn find_stale(
     wanted: &Wanted<'_>,
 ) -> Result<(), AllocError>
     ensures { OnOk result
-        (Adds (OfWanted wanted.now (IsStale policy.now.held)) found.old found.new) }
+        (AddsLines (OfWanted wanted.now (IsStale policy.now.held)) found.old found.new) }
 {
     if !wanted.has_code(6) {
         return Ok(());
@@ -47,7 +47,7 @@ fn find_stale_role<'p>(
 ) -> Result<(), AllocError>
     requires { slice_get policy.now.held.cluster_roles place ≡ Some role.now }
     ensures { OnOk result
-        (Adds (OfKept wanted.now (IsStaleOf policy.now.held role.now)) found.old found.new) }
+        (AddsLines (OfKept wanted.now (IsStaleOf policy.now.held role.now)) found.old found.new) }
 {
     if !wanted.keeps_role(SourceRole::ClusterRole(role)) {
         return Ok(());

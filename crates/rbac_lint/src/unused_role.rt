@@ -4,11 +4,11 @@ ghost use Rattle.std.specs.Prelude.{◌≡◌, ◌<◌, ◌↔◌, Some, IsSome,
 ghost use Rattle.std.specs.Prelude.{get_or, false, true, length};
 ghost use Rattle.rbac_model.specs.Places.{source_at};
 ghost use Rattle.rbac_model.specs.Policies.{Source, IsHeld, IsPlain};
-ghost use Rattle.rbac_lint.specs.Lines.{Adds};
+ghost use Rattle.rbac_lint.specs.Lines.{AddsLines};
 ghost use Rattle.rbac_lint.specs.Roles.{roles_in};
 ghost use Rattle.rbac_lint.specs.Findings.{IsUsed, IsUnusedOf, IsUnused};
-ghost use Rattle.rbac_lint.specs.NamedRoles.{AreNamed, AreGatherers, AreFlagsWith, IsReachedByNamedAt};
-ghost use Rattle.rbac_lint.specs.NamedRoles.{IsAddedAt};
+ghost use Rattle.rbac_lint.specs.NamedRoles.{AreNamed, AreGatherers, AreFlagsWith};
+ghost use Rattle.rbac_lint.specs.NamedRoles.{IsAddedAt, IsReachedByNamedAt};
 ghost use Rattle.rbac_lint.specs.Wanted.{OfKept, OfWanted};
 
 use crate::finding::{Finding, Findings, role_word};
@@ -26,7 +26,7 @@ pub(crate) fn find_unused(
     wanted: &Wanted<'_>,
 ) -> Result<(), AllocError>
     ensures { OnOk result
-        (Adds (OfWanted wanted.now (IsUnused policy.now.held)) found.old found.new) }
+        (AddsLines (OfWanted wanted.now (IsUnused policy.now.held)) found.old found.new) }
 {
     if !wanted.has_code(2) {
         return Ok(());

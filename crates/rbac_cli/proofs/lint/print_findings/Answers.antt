@@ -8,4 +8,4 @@ pub returns : goal.returns
 returns g c =
     let found = c.in_ok-findings.findings in
     c.print_lines.ensures (Single c.args.export.now) (Lint c.args.only.now c.args.skip_system) (findings_text found) (sym (ap findings_text (c.iter.ensures.rest ∙ c.as_slice-findings.ensures)))
-    (found, rw c.wanted_by.ensures at c.in_ok-findings.ensures.ok, refl, c.status_of.ensures ∙ ap findings_status c.as_slice-findings.ensures)
+    (found, rw c.wanted_by.ensures at c.in_ok-findings.ensures, refl, c.status_of.ensures ∙ ap findings_status c.as_slice-findings.ensures)

@@ -4,22 +4,22 @@ use Rattle.std.proofs.lemmas.Option.{slice_get_read}
 use Rattle.rbac_terms.specs.declared.granting.Binding.{Binding}
 use Rattle.rbac_model.specs.Lists.{IsAscendingBy}
 use Rattle.rbac_model.specs.Policies.{binding_name}
-use Rattle.rbac_lint.specs.Lines.{Adds, OfEach}
-use Rattle.rbac_lint.specs.Findings.{IsAccountOf}
+use Rattle.rbac_lint.specs.Lines.{AddsLines, OfEach}
+use Rattle.rbac_lint.specs.Findings.{IsAccountWithoutOf}
 use Rattle.rbac_lint.specs.Wanted.{OfKept, OfWanted}
-use Rattle.rbac_lint.proofs.Exact.{Adds-start}
-use Rattle.rbac_lint.proofs.Order.{Adds-next}
+use Rattle.rbac_lint.proofs.Exact.{AddsLines-start}
+use Rattle.rbac_lint.proofs.Order.{AddsLines-next}
 use Rattle.rbac_lint.proofs.Named.{account_names}
-use Rattle.rbac_lint.proofs.Kept.{kept_names, Adds-wanted, Adds-unwanted}
+use Rattle.rbac_lint.proofs.Kept.{kept_names, AddsLines-wanted, AddsLines-unwanted}
 use Rattle.rbac_lint.proofs.accounts.find_accounts.Goals as goal
 
 pub returns-then-not-has_code : goal.returns-then-not-has_code
 returns-then-not-has_code c =
-    Adds-unwanted binding_name IsAccountOf 5 account_names c.args.wanted.now c.args.objects.now.bindings c.args.found.now
+    AddsLines-unwanted binding_name IsAccountWithoutOf 5 account_names c.args.wanted.now c.args.objects.now.bindings c.args.found.now
     (λ has. both_ways _ c.if-not-has_code.true (c.has_code.ensures.1 has))
 
 pub loop-binding-init : goal.loop-binding-init
-loop-binding-init c = Adds-start (λ k b. OfKept c.args.wanted.now (IsAccountOf b)) c.bindings-bindings.result.now c.args.found.now
+loop-binding-init c = AddsLines-start (λ k b. OfKept c.args.wanted.now (IsAccountWithoutOf b)) c.bindings-bindings.result.now c.args.found.now
 
 pub loop-binding-preserved : goal.loop-binding-preserved
 loop-binding-preserved c =
@@ -29,13 +29,13 @@ loop-binding-preserved c =
     let b = c.binding-item.result in
     let A : List Binding → Type 0 = λ bs. IsAscendingBy binding_name bs in
     let up = subst A (sym c.bindings-bindings.ensures.bindings) c.bindings-bindings.ensures.held.bindings in
-    Adds-next binding_name (λ y. OfKept w (IsAccountOf y)) 5 (kept_names binding_name IsAccountOf 5 account_names w) bindings i b c.args.found.now c.loop-binding.found c.find_accounts_of.new.found
+    AddsLines-next binding_name (λ y. OfKept w (IsAccountWithoutOf y)) 5 (kept_names binding_name IsAccountWithoutOf 5 account_names w) bindings i b c.args.found.now c.loop-binding.found c.find_accounts_of.new.found
     up (slice_get_read bindings _ i b refl c.loop-binding-test.true c.binding-item.is) c.loop-binding.invariant c.in_ok-find_accounts_of.ensures
 
 pub returns : goal.returns
 returns c =
     let w = c.args.wanted.now in
-    let P : List Binding → Type 0 = λ bs. Adds (OfWanted w (OfEach (λ k b. IsAccountOf b) bs)) c.args.found.now c.loop-binding.found in
+    let P : List Binding → Type 0 = λ bs. AddsLines (OfWanted w (OfEach (λ k b. IsAccountWithoutOf b) bs)) c.args.found.now c.loop-binding.found in
     subst P c.bindings-bindings.ensures.bindings
-    (Adds-wanted binding_name IsAccountOf 5 account_names w c.bindings-bindings.result.now c.loop-binding.binding-index c.args.found.now c.loop-binding.found (omega arith)
+    (AddsLines-wanted binding_name IsAccountWithoutOf 5 account_names w c.bindings-bindings.result.now c.loop-binding.binding-index c.args.found.now c.loop-binding.found (omega arith)
     (c.has_code.ensures.0 c.if-not-has_code.false) c.loop-binding.invariant)

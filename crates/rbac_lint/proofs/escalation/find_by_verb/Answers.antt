@@ -6,14 +6,14 @@ use Rattle.rbac_model.specs.Sources.{source_of}
 use Rattle.rbac_lint.specs.declared.finding.Finding.{Finding}
 use Rattle.rbac_lint.specs.Lines.{Line, shown}
 use Rattle.rbac_lint.specs.Findings.{Escalates, IsEscalationBy, role_line}
-use Rattle.rbac_lint.proofs.Exact.{Adds-nowhere, Adds-if}
+use Rattle.rbac_lint.proofs.Exact.{AddsLines-nowhere, AddsLines-if}
 use Rattle.rbac_lint.proofs.escalation.find_by_verb.Goals as goal
 
 pub returns-then-not-escalates : goal.returns-then-not-escalates
 unfolding IsEscalationBy
 returns-then-not-escalates c =
     let verb = c.args.verb.now in
-    Adds-nowhere (Escalates c.args.rule.now verb) (λ x. x ≡ role_line 4 (source_of c.args.role) (Some c.args.place) verb) c.args.found.now
+    AddsLines-nowhere (Escalates c.args.rule.now verb) (λ x. x ≡ role_line 4 (source_of c.args.role) (Some c.args.place) verb) c.args.found.now
     (λ h. both_ways _ c.if-not-escalates.true (c.escalates.ensures.1 h))
 
 pub returns : goal.returns
@@ -25,5 +25,5 @@ returns c =
     let line : Line = role_line 4 (source_of c.args.role) (Some c.args.place) c.args.verb.now in
     let same : made ≡ shown line = cc (object, other, c.as_bytes.ensures) in
     on_ok c.push.result
-    (λ h. Adds-if (Escalates c.args.rule.now c.args.verb.now) line c.args.found.now c.push.new.self made (c.escalates.ensures.0 c.if-not-escalates.false) same h)
+    (λ h. AddsLines-if (Escalates c.args.rule.now c.args.verb.now) line c.args.found.now c.push.new.self made (c.escalates.ensures.0 c.if-not-escalates.false) same h)
     c.push.ensures

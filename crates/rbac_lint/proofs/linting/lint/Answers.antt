@@ -8,9 +8,9 @@ if_ok : {T E : Type 0} {P Q : T → Type 0} (r : Result T E) → ((x : T) → P 
 if_ok (Ok x) f p = f x p
 if_ok (Err e) f p = tt
 
-pub returns-clause-ok : goal.returns-clause-ok
-returns-clause-ok c =
+pub returns : goal.returns
+returns c =
     let v = c.export.result.now in
     if_ok c.lint_export.result
     (λ found p. subst (λ (l : LoadedView). AreFindings l.policy.held l.replaced found) c.export.ensures ((all_wanted v.policy.held v.replaced found).0 p))
-    c.lint_export.ensures.ok
+    c.lint_export.ensures

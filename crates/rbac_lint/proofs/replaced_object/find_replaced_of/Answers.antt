@@ -6,15 +6,15 @@ use Rattle.rbac_manifest.specs.Replaced.{replaced_name}
 use Rattle.rbac_lint.specs.declared.finding.Finding.{Finding}
 use Rattle.rbac_lint.specs.Lines.{Line, shown}
 use Rattle.rbac_lint.specs.Replaced.{replaced_object, IsReplacedOf}
-use Rattle.rbac_lint.proofs.Exact.{Adds-one}
+use Rattle.rbac_lint.proofs.Exact.{AddsLines-one}
 use Rattle.rbac_lint.proofs.Named.{replaced_names, replaced_object-name}
-use Rattle.rbac_lint.proofs.Kept.{Adds-dropped, Adds-kept}
+use Rattle.rbac_lint.proofs.Kept.{AddsLines-dropped, AddsLines-kept}
 use Rattle.rbac_lint.proofs.replaced_object.find_replaced_of.Goals as goal
 
 pub returns-then-not-keeps_replaced : goal.returns-then-not-keeps_replaced
 returns-then-not-keeps_replaced c =
     let r = c.args.replaced.now in
-    Adds-dropped replaced_name IsReplacedOf 7 replaced_names c.args.wanted.now r (replaced_object r) c.args.found.now (replaced_object-name r)
+    AddsLines-dropped replaced_name IsReplacedOf 7 replaced_names c.args.wanted.now r (replaced_object r) c.args.found.now (replaced_object-name r)
     (λ kept. both_ways _ c.if-not-keeps_replaced.true (c.keeps_replaced.ensures.1 kept))
 
 pub returns : goal.returns
@@ -29,6 +29,6 @@ returns c =
     let line : Line = record { code = 7; object = replaced_object r; place = None; other = decimal r.earlier } in
     let same : made ≡ shown line = cc (object, other) in
     on_ok c.push.result
-    (λ e. Adds-kept replaced_name IsReplacedOf 7 replaced_names c.args.wanted.now r (replaced_object r) old new (replaced_object-name r) (c.keeps_replaced.ensures.0 c.if-not-keeps_replaced.false)
-    (Adds-one (IsReplacedOf r) old new made line e same refl (λ y h. h)))
+    (λ e. AddsLines-kept replaced_name IsReplacedOf 7 replaced_names c.args.wanted.now r (replaced_object r) old new (replaced_object-name r) (c.keeps_replaced.ensures.0 c.if-not-keeps_replaced.false)
+    (AddsLines-one (IsReplacedOf r) old new made line e same refl (λ y h. h)))
     c.push.ensures

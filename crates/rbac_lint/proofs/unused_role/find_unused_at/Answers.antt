@@ -10,10 +10,10 @@ use Rattle.rbac_lint.specs.Lines.{Line, shown, object_text}
 use Rattle.rbac_lint.specs.Roles.{roles_in, source_object}
 use Rattle.rbac_lint.specs.Findings.{IsUsed, IsUnusedOf, role_line}
 use Rattle.rbac_lint.specs.Wanted.{IsKept}
-use Rattle.rbac_lint.proofs.Exact.{Adds-nowhere, Adds-if}
+use Rattle.rbac_lint.proofs.Exact.{AddsLines-nowhere, AddsLines-if}
 use Rattle.rbac_lint.proofs.RoleLines.{source_texts}
 use Rattle.rbac_lint.proofs.Named.{unused_names}
-use Rattle.rbac_lint.proofs.Kept.{Adds-dropped, Adds-kept}
+use Rattle.rbac_lint.proofs.Kept.{AddsLines-dropped, AddsLines-kept}
 use Rattle.rbac_lint.proofs.unused_role.find_unused_at.Goals as goal
 
 -- the role that was read is the one at the place
@@ -27,7 +27,7 @@ returns-then-not-keeps_role c = λ s here.
     let w = c.args.wanted.now in
     let r = source_of c.role_at-role.result in
     let one = the_role h c.objects.result.now c.args.place r s c.objects.ensures.held c.role_at-role.ensures here in
-    Adds-dropped source_texts (IsUnusedOf h) 2 (unused_names h) w s (source_object s) c.args.found.now refl
+    AddsLines-dropped source_texts (IsUnusedOf h) 2 (unused_names h) w s (source_object s) c.args.found.now refl
     (λ kept. both_ways _ c.if-not-keeps_role.true (c.keeps_role.ensures.1 (subst (λ (v : Source). IsKept w (source_object v)) (sym one) kept)))
 
 pub returns-then-is_used : goal.returns-then-is_used
@@ -39,8 +39,8 @@ returns-then-is_used c = λ s here.
     let r = source_of c.role_at-role.result in
     let one = the_role h c.objects.result.now c.args.place r s c.objects.ensures.held c.role_at-role.ensures here in
     let kept = subst (λ (v : Source). IsKept w (source_object v)) one (c.keeps_role.ensures.0 c.if-not-keeps_role.false) in
-    Adds-kept source_texts (IsUnusedOf h) 2 (unused_names h) w s (source_object s) old old refl kept
-    (Adds-nowhere (IsUsed h s → ⊥) (λ x. x ≡ role_line 2 s None []) old
+    AddsLines-kept source_texts (IsUnusedOf h) 2 (unused_names h) w s (source_object s) old old refl kept
+    (AddsLines-nowhere (IsUsed h s → ⊥) (λ x. x ≡ role_line 2 s None []) old
     (λ never. never ((c.is_used.ensures s here).0 c.if-is_used.true)))
 
 pub returns : goal.returns
@@ -60,8 +60,8 @@ returns c =
     let object = c.in_ok-object.ensures ∙ ap (λ (v : Source). object_text (source_object v)) one in
     let other = c.new.ensures in
     let same : made ≡ shown line = cc (object, other) in
-    Adds-kept source_texts (IsUnusedOf h) 2 (unused_names h) w s (source_object s) old new refl kept
-    (Adds-if (IsUsed h s → ⊥) line old new made
+    AddsLines-kept source_texts (IsUnusedOf h) 2 (unused_names h) w s (source_object s) old new refl kept
+    (AddsLines-if (IsUsed h s → ⊥) line old new made
     (λ used. both_ways _ c.if-is_used.false ((c.is_used.ensures s here).1 used)) same e)
     ))
     c.push.ensures

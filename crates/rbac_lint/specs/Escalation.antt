@@ -1,10 +1,10 @@
 -- The verbs that let a subject grant more than it has, and what they are used on (Using RBAC
 -- Authorization, Privilege escalation prevention and bootstrapping).
 use Rattle.std.specs.Prelude.{codes}
-use Rattle.rbac_lint.specs.declared.escalation.Powers.{Powers}
+use Rattle.rbac_lint.specs.declared.escalation.EscalationWords.{EscalationWords}
 
-abbrev pub the_powers : Powers
-the_powers = record {
+abbrev pub escalation_words : EscalationWords
+escalation_words = record {
   bind = codes "bind";
   escalate = codes "escalate";
   group = codes "rbac.authorization.k8s.io";
