@@ -1,6 +1,6 @@
 -- The cursors of a line: the grants that may allow something on it.
 use Rattle.std.specs.Prelude.{◌≡◌, ℕ, ◌+◌, ◌<◌, ◌≤◌, ◌-◌, ◌⊎◌, Bool, IsTrue, List, ◌∷◌, Some}
-use Rattle.std.specs.Prelude.{All, slice_get, slice_index_or, drop, length, true, false}
+use Rattle.std.specs.Prelude.{slice_get, slice_index_or, drop, length, true, false}
 use Rattle.rbac_model.specs.Policies.{PolicyView, GrantView}
 use Rattle.rbac_model.specs.Universes.{UniverseView, IsCursor}
 use Rattle.rbac_terms.specs.Text.{Text}

@@ -1,4 +1,3 @@
-use Rattle.std.specs.Prelude.{All}
 use Rattle.rbac_matrix.specs.Shown.{line_of}
 use Rattle.rbac_matrix.specs.Cursors.{IsWithin, steps_left}
 use Rattle.rbac_matrix.specs.GrantVerbs.{AreVerbsOfGrants}

@@ -1,4 +1,4 @@
-use Rattle.std.proofs.Common.{[], ◌∷◌, ◌∙◌, arith, length, refl}
+use Rattle.std.proofs.Common.{[], ◌∷◌, ◌∙◌, arith, refl}
 use Rattle.rbac_matrix.specs.Enumeration.{AreLeft}
 use Rattle.rbac_matrix.specs.Passing.{Passes}
 use Rattle.rbac_matrix.proofs.OnceLemmas.{cells, row, come_first, come_grant, come_over, come_passes, come_ready, come_repeat, come_within, ended_first, ended_passes, left_passes, no_repeats, one_repeat, passes_few, passes_fewer, some_then}
