@@ -19,7 +19,9 @@ use Rattle.rbac_model.proofs.BindingPlaces.{one_binding_place, of_some_binding, 
 use Rattle.rbac_model.proofs.GrantNumbers.{grant_by}
 use Rattle.rbac_model.proofs.OneList.{one_rules_for}
 use Rattle.rbac_index.specs.Deciding.{AllowsOf, IsFirstAllowing}
-use Rattle.rbac_index.specs.WhoCan.{WhereView, InNamespace, HoldsAt, IsHolderBy, IsListedHolder, AreListedHolders}
+use Rattle.rbac_terms.specs.declared.scope.Scope.{Scope}
+use Rattle.rbac_terms.specs.declared.scope.Scope.TheVariants.{Namespace}
+use Rattle.rbac_index.specs.WhoCan.{HoldsAt, IsHolderBy, IsListedHolder, AreListedHolders}
 use Rattle.rbac_index.specs.Requested.{RequestedView, ThisTarget, AnyName, AllowsRequested, with_name}
 use Rattle.rbac_index.specs.WhyHeld.{IsFirstShown}
 use Rattle.rbac_index.proofs.NameLemmas.{chosen_name}
@@ -34,7 +36,7 @@ use Rattle.rbac_question.specs.declared.command.Action.TheVariants.{WhoCan}
 use Rattle.rbac_question.specs.declared.command.HolderOptions.{HolderOptions}
 use Rattle.rbac_question.specs.declared.command.Question.{Question}
 use Rattle.rbac_cli.specs.HolderLines.{IsHolderLine, AreHolderLines, joined}
-use Rattle.rbac_cli.specs.Meant.{IsMeant, IsTargetMeant, IsNamespaceMeant, IsOutside, IsWhereMeant, requested_meant, where_given}
+use Rattle.rbac_cli.specs.Meant.{IsMeant, IsTargetMeant, IsNamespaceMeant, IsOutside, IsScopeMeant, requested_meant, scope_given}
 use Rattle.rbac_cli.specs.Out.{Answers}
 use Rattle.rbac_cli.specs.declared.exports.Exports.TheVariants.{Single}
 use Rattle.rbac_cli.specs.declared.outcome.Status.TheVariants.{Zero}
@@ -145,27 +147,27 @@ module _ (p : PolicyView) (ok : IsPolicy p) (verb : Text) (t : RequestedView) wh
         | inr ne ↦ inr (λ w. ne (one_binding_place p ok n of.0 at of.1 w.0))
       ]
 
-  first_of : (asked : WhereView) (x : HolderView) → HoldsAt p.held asked verb t x.key x.binding_place x.subject_place → (n : ℕ) × IsFirstAllowing p verb t x.binding_place n
-  first_of asked x a =
+  first_of : (scope : Scope) (x : HolderView) → HoldsAt p.held scope verb t x.key x.binding_place x.subject_place → (n : ℕ) × IsFirstAllowing p verb t x.binding_place n
+  first_of scope x a =
       let brings = a.4.1 in
       let any = brings.2 in
       let of = grant_of_rule p ok x.binding_place a.0 brings.0 any.1 a.2 brings.1 (any.0, any.2, any.3) in
       least (AllowsOf p verb t x.binding_place) (length p.grants) (allows_decided x.binding_place) of.0 (slice_get_within p.grants of.0 (grant_by a.0 any.1) of.1) (of.2, (grant_by a.0 any.1, of.1, any.4))
 
-  line_of : (asked : WhereView) (why : Bool) (x : HolderView) → IsHolderBy p.held asked verb t x → (line : Text) × IsHolderLine p why verb t x line
-  line_of asked false x holder = (holder_text x.key x.binding, refl)
-  line_of asked true x holder =
-      let first = first_of asked x holder.1 in
+  line_of : (scope : Scope) (why : Bool) (x : HolderView) → IsHolderBy p.held scope verb t x → (line : Text) × IsHolderLine p why verb t x line
+  line_of scope false x holder = (holder_text x.key x.binding, refl)
+  line_of scope true x holder =
+      let first = first_of scope x holder.1 in
       let g = first.1.0.0.0 in (
         holder_why_text x.key g.binding g.rule.source g.rule.place x.subject_place,
         (g, (first.0, first.1, first.1.0.0.1), refl),
       )
 
-  lines_of : (asked : WhereView) (why : Bool) (xs : List HolderView) → ((x : HolderView) → Contains xs x → IsHolderBy p.held asked verb t x) → (lines : List Text) × AreHolderLines p why verb t xs lines
-  lines_of asked why [] all = ([], refl)
-  lines_of asked why (x ∷ xs) all =
-      let line = line_of asked why x (all x (0, omega arith, refl)) in
-      let rest = lines_of asked why xs (λ y w. all y (suc w.0, omega (arith, w.1), w.2)) in
+  lines_of : (scope : Scope) (why : Bool) (xs : List HolderView) → ((x : HolderView) → Contains xs x → IsHolderBy p.held scope verb t x) → (lines : List Text) × AreHolderLines p why verb t xs lines
+  lines_of scope why [] all = ([], refl)
+  lines_of scope why (x ∷ xs) all =
+      let line = line_of scope why x (all x (0, omega arith, refl)) in
+      let rest = lines_of scope why xs (λ y w. all y (suc w.0, omega (arith, w.1), w.2)) in
       (line.0 ∷ rest.0, (line.0, rest.0, line.1, rest.1, refl))
 
 -- ---- the line at a place
@@ -180,37 +182,37 @@ line_at p why verb t xs i x lines at are =
     subst (λ (ys : List HolderView). AreHolderLines p why verb t ys lines) here are
 
 -- who is listed is a holder by its binding
-by_binding : (h : Held) (asked : WhereView) (every : Bool) (verb : Text) (t : RequestedView) (x : HolderView) → IsListedHolder h asked every verb t x → IsHolderBy h asked verb t x
-by_binding h asked true verb t x listed = listed
-by_binding h asked false verb t x listed = listed.0
+by_binding : (h : Held) (scope : Scope) (every : Bool) (verb : Text) (t : RequestedView) (x : HolderView) → IsListedHolder h scope every verb t x → IsHolderBy h scope verb t x
+by_binding h scope true verb t x listed = listed
+by_binding h scope false verb t x listed = listed.0
 
 -- where holders are asked for is what was made of the question
-place_meant : (entries : List Entry) (q : Question) (anywhere outside : Bool) (target : What) (namespace : Text) (asked : WhereView) → IsNamespaceMeant entries q target namespace
-    → (IsTrue outside ↔ IsOutside entries q target) → (outside ≡ true → asked ≡ InNamespace namespace) → (outside ≡ false → asked ≡ where_given anywhere namespace)
-    → IsWhereMeant entries q anywhere target asked
-place_meant entries q anywhere true target namespace asked (inl a) is out given = inl (a.0, out refl ∙ ap InNamespace a.1)
-place_meant entries q anywhere true target namespace asked (inr a) is out given = absurd (a.0 (is.0 refl))
-place_meant entries q anywhere false target namespace asked (inl a) is out given = let off = is.1 a.0 in cc
-place_meant entries q anywhere false target namespace asked (inr a) is out given = inr (a.0, given refl ∙ ap (where_given anywhere) a.1)
+scope_of_meant : (entries : List Entry) (q : Question) (anywhere outside : Bool) (target : What) (namespace : Text) (scope : Scope) → IsNamespaceMeant entries q target namespace
+    → (IsTrue outside ↔ IsOutside entries q target) → (outside ≡ true → scope ≡ Namespace namespace) → (outside ≡ false → scope ≡ scope_given anywhere namespace)
+    → IsScopeMeant entries q anywhere target scope
+scope_of_meant entries q anywhere true target namespace scope (inl a) is out given = inl (a.0, out refl ∙ ap Namespace a.1)
+scope_of_meant entries q anywhere true target namespace scope (inr a) is out given = absurd (a.0 (is.0 refl))
+scope_of_meant entries q anywhere false target namespace scope (inl a) is out given = let off = is.1 a.0 in cc
+scope_of_meant entries q anywhere false target namespace scope (inr a) is out given = inr (a.0, given refl ∙ ap (scope_given anywhere) a.1)
 
 -- the holders of what is asked have lines, which answer it
-pub answered : (l : LoadedView) (options : HolderOptions) (q : Question) (target : What) (namespace : Text) (outside : Bool) (asked : WhereView) (xs : List HolderView) (listed : CatalogueView) (held shown : PolicyView)
+pub answered : (l : LoadedView) (options : HolderOptions) (q : Question) (target : What) (namespace : Text) (outside : Bool) (scope : Scope) (xs : List HolderView) (listed : CatalogueView) (held shown : PolicyView)
     → listed ≡ l.catalogue → held ≡ l.policy → shown ≡ l.policy → IsMeant listed.entries q target namespace → (IsTrue outside ↔ IsOutside listed.entries q target)
-    → (outside ≡ true → asked ≡ InNamespace namespace) → (outside ≡ false → asked ≡ where_given options.anywhere namespace)
-    → IsPolicy held → AreListedHolders held.held asked options.every q.verb (requested_meant options.any_name target) xs
+    → (outside ≡ true → scope ≡ Namespace namespace) → (outside ≡ false → scope ≡ scope_given options.anywhere namespace)
+    → IsPolicy held → AreListedHolders held.held scope options.every q.verb (requested_meant options.any_name target) xs
     → (lines : List Text) × AreHolderLines shown options.why q.verb (requested_meant options.any_name target) xs lines × Answers (Single l) (WhoCan options q) (joined lines) Zero
-answered l options q target namespace outside asked xs listed held shown catalogue policy again meant is out given ok holders =
+answered l options q target namespace outside scope xs listed held shown catalogue policy again meant is out given ok holders =
     let requested = requested_meant options.any_name target in
-    let are = subst (λ (p : PolicyView). AreListedHolders p.held asked options.every q.verb requested xs) policy holders in
-    let lines = lines_of l.policy (subst IsPolicy policy ok) q.verb requested asked options.why xs (λ x w. by_binding l.policy.held asked options.every q.verb requested x ((are.exact x).0 w)) in
-    let place = place_meant listed.entries q options.anywhere outside target namespace asked meant.1 is out given in (
+    let are = subst (λ (p : PolicyView). AreListedHolders p.held scope options.every q.verb requested xs) policy holders in
+    let lines = lines_of l.policy (subst IsPolicy policy ok) q.verb requested scope options.why xs (λ x w. by_binding l.policy.held scope options.every q.verb requested x ((are.exact x).0 w)) in
+    let place = scope_of_meant listed.entries q options.anywhere outside target namespace scope meant.1 is out given in (
       lines.0,
       subst (λ (p : PolicyView). AreHolderLines p options.why q.verb requested xs lines.0) (sym again) lines.1,
       (
         target,
-        asked,
+        scope,
         subst (λ (v : CatalogueView). IsTargetMeant v.entries q.asked target) catalogue meant.0,
-        subst (λ (v : CatalogueView). IsWhereMeant v.entries q options.anywhere target asked) catalogue place,
+        subst (λ (v : CatalogueView). IsScopeMeant v.entries q options.anywhere target scope) catalogue place,
         (xs, lines.0, are, lines.1, refl, refl),
       ),
     )

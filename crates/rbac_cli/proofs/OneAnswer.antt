@@ -35,9 +35,9 @@ use Rattle.rbac_question.specs.declared.command.HolderOptions.{HolderOptions}
 use Rattle.rbac_question.specs.declared.command.MatrixOptions.{MatrixOptions}
 use Rattle.rbac_question.specs.declared.command.Question.{Question}
 use Rattle.rbac_cli.specs.HolderLines.{AreHolderLines, joined}
-use Rattle.rbac_cli.specs.Out.{Answers, IsAllowed, IsDenied, rules_text, scope_asked, findings_text, findings_status, wanted_meant, powers_text, changes_text, changes_status, line_unless}
+use Rattle.rbac_cli.specs.Out.{Answers, IsAllowed, IsDenied, rules_text, findings_text, findings_status, wanted_meant, powers_text, changes_text, changes_status, line_unless}
 use Rattle.rbac_cli.specs.MatrixPage.{AreRows, AreListed}
-use Rattle.rbac_cli.specs.Meant.{IsWhereMeant, requested_meant}
+use Rattle.rbac_cli.specs.Meant.{IsScopeMeant, requested_meant}
 use Rattle.rbac_cli.specs.declared.exports.Exports.{Exports}
 use Rattle.rbac_cli.specs.declared.exports.Exports.TheVariants.{Single, Pair}
 use Rattle.rbac_cli.specs.declared.outcome.Status.{Status}
@@ -46,7 +46,7 @@ use Rattle.rbac_matrix.proofs.OneMatrix.{key_name, by_keys}
 use Rattle.rbac_rules.proofs.RuleLists.{one_list as one_rules}
 use Rattle.rbac_cli.proofs.OneHolderLines.{one_holder_lines}
 use Rattle.rbac_cli.proofs.OneMatrixText.{Line, line_of, listed_alike, one_matrix_text}
-use Rattle.rbac_cli.proofs.OneMeant.{one_meant, one_target, one_where}
+use Rattle.rbac_cli.proofs.OneMeant.{one_meant, one_target, one_scope}
 use Rattle.rbac_cli.proofs.OneReason.{one_reason}
 
 -- ---- two of one key with the same groups are named alike
@@ -234,7 +234,7 @@ one_holders_text l options q text other status ending (t, v, target, meant, (xs,
     let any_name = options.any_name in
     let entries = l.catalogue.entries in
     let same = one_target entries q.asked t u target means in
-    let place = one_where entries q options.anywhere u v w (subst (λ x. IsWhereMeant entries q options.anywhere x v) same meant) meaning in
+    let place = one_scope entries q options.anywhere u v w (subst (λ x. IsScopeMeant entries q options.anywhere x v) same meant) meaning in
     let r = requested_meant any_name u in
     let here = subst (λ x. AreListedHolders p.held x every q.verb r xs) place (subst (λ x. AreListedHolders p.held v every q.verb (requested_meant any_name x) xs) same a) in
     let one = one_listed p.held w every q.verb r xs ys here b in
@@ -263,7 +263,7 @@ module _ (powers_one : PowersOne) where
   one_answer (Single l) (CanI who quiet why q) text other status ending (inr a) (inr b) = (a.1 ∙ sym b.1, a.2 ∙ sym b.2)
   one_answer (Single l) (WhoCan options q) text other status ending a b = one_holders_text l options q text other status ending a b
   one_answer (Single l) (Rules who scope) text other status ending (xs, are, e, s) (ys, those, f, t) =
-      (e ∙ ap rules_text (one_rules who (scope_asked scope) l.policy.grants xs ys are those) ∙ sym f, s ∙ sym t)
+      (e ∙ ap rules_text (one_rules who scope l.policy.grants xs ys are those) ∙ sym f, s ∙ sym t)
   one_answer (Single l) (Matrix options after limit) text other status ending (u, rows, m, x, e, s) (v, others, n, y, f, t) = (
     e ∙ one_matrix_text options.every after limit rows others (one_listed_lines options l.policy.held l.lists u v rows others m.sets n.sets x y) ∙ sym f,
     s ∙ sym t,

@@ -2,12 +2,13 @@
 use Rattle.std.specs.Prelude.{◌≡◌, ◌⊎◌, Bool, true, false, List, [], ◌∷◌, ◌++◌}
 use Rattle.rbac_terms.specs.Text.{Text, slash}
 use Rattle.rbac_terms.specs.Targets.{What, Resource, Url, group_of, text_of}
+use Rattle.rbac_terms.specs.declared.scope.Scope.{Scope}
+use Rattle.rbac_terms.specs.declared.scope.Scope.TheVariants.{Anywhere, Namespace}
 use Rattle.rbac_catalogue.specs.declared.entry.Entry.{Entry}
 use Rattle.rbac_catalogue.specs.declared.lookup.Found.{Found}
 use Rattle.rbac_catalogue.specs.Lookups.{IsFound}
 use Rattle.rbac_catalogue.specs.Catalogue.{IsClusterOnly}
 use Rattle.rbac_index.specs.Requested.{RequestedView, ThisTarget, AnyName}
-use Rattle.rbac_index.specs.WhoCan.{WhereView, InNamespace, Anywhere}
 use Rattle.rbac_question.specs.declared.asked.AskedFor.{AskedFor}
 use Rattle.rbac_question.specs.declared.asked.AskedFor.TheVariants.{Url as ForUrl}
 use Rattle.rbac_question.specs.declared.asked.AskedFor.TheVariants.{Resource as ForResource}
@@ -51,13 +52,13 @@ requested_meant true target = AnyName target
 requested_meant false target = ThisTarget target
 
 -- where holders may be asked for: with `--anywhere` in any namespace, otherwise in the one given
-abbrev pub where_given : Bool → Text → WhereView
-where_given true namespace = Anywhere
-where_given false namespace = InNamespace namespace
+abbrev pub scope_given : Bool → Text → Scope
+scope_given true namespace = Anywhere
+scope_given false namespace = Namespace namespace
 
 -- where holders are asked for: outside all namespaces if the target is, which is in the empty one;
 -- otherwise where they may be (own)
-abbrev pub IsWhereMeant : List Entry → Question → Bool → What → WhereView → Type 0
-IsWhereMeant entries q anywhere target asked =
-    (IsOutside entries q target × (asked ≡ InNamespace []))
-    ⊎ ((¬ IsOutside entries q target) × (asked ≡ where_given anywhere q.namespace))
+abbrev pub IsScopeMeant : List Entry → Question → Bool → What → Scope → Type 0
+IsScopeMeant entries q anywhere target scope =
+    (IsOutside entries q target × (scope ≡ Namespace []))
+    ⊎ ((¬ IsOutside entries q target) × (scope ≡ scope_given anywhere q.namespace))

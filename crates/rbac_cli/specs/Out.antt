@@ -5,6 +5,7 @@ use Rattle.std.specs.List.{flat_map}
 use Rattle.rbac_terms.specs.Text.{Text}
 use Rattle.rbac_terms.specs.Targets.{What}
 use Rattle.rbac_terms.specs.Principals.{Who}
+use Rattle.rbac_terms.specs.declared.scope.Scope.{Scope}
 use Rattle.rbac_model.specs.Policies.{Held, Allows, PolicyView, GrantView, IsWhy}
 use Rattle.rbac_model.specs.Universes.{UniverseView, RowView}
 use Rattle.rbac_model.specs.Holders.{HolderView}
@@ -23,17 +24,14 @@ use Rattle.rbac_diff.specs.Lines.{change_text}
 use Rattle.rbac_question.specs.declared.command.Action.{Action}
 use Rattle.rbac_question.specs.declared.command.Action.TheVariants.{CanI, WhoCan, Rules, Matrix}
 use Rattle.rbac_question.specs.declared.command.Action.TheVariants.{Universe, Lint, Powers, Diff}
-use Rattle.rbac_question.specs.declared.command.Scope.{Scope}
-use Rattle.rbac_question.specs.declared.command.Scope.TheVariants as question
 use Rattle.rbac_question.specs.declared.command.Question.{Question}
-use Rattle.rbac_rules.specs.Effective.{ScopeView, Everywhere, InNamespace, ClusterWide}
 use Rattle.rbac_rules.specs.Effective.{RuleView, AreEffective}
-use Rattle.rbac_index.specs.WhoCan.{WhereView, AreListedHolders}
+use Rattle.rbac_index.specs.WhoCan.{AreListedHolders}
 use Rattle.rbac_cli.specs.HolderLines.{AreHolderLines, joined}
 use Rattle.rbac_cli.specs.declared.exports.Exports.{Exports}
 use Rattle.rbac_cli.specs.declared.exports.Exports.TheVariants.{Single, Pair}
 use Rattle.rbac_cli.specs.MatrixPage.{AreListed, matrix_text}
-use Rattle.rbac_cli.specs.Meant.{IsMeant, IsTargetMeant, IsWhereMeant, requested_meant}
+use Rattle.rbac_cli.specs.Meant.{IsMeant, IsTargetMeant, IsScopeMeant, requested_meant}
 use Rattle.rbac_cli.specs.declared.outcome.Status.{Status}
 use Rattle.rbac_cli.specs.declared.outcome.Status.TheVariants.{Zero, One}
 
@@ -83,12 +81,6 @@ rule_line x = grant_text x.grant x.subject_place
 abbrev pub rules_text : List RuleView → Text
 rules_text xs = flat_map rule_line xs
 
--- where `rules` asks for rules
-abbrev pub scope_asked : Scope → ScopeView
-scope_asked question.Everywhere = Everywhere
-scope_asked (question.Namespace namespace) = InNamespace namespace
-scope_asked question.ClusterWide = ClusterWide
-
 -- which findings are asked for: those of the codes of `--only`, if it is given, and with
 -- `--skip-system` not those about Kubernetes' own objects
 abbrev pub wanted_meant : Option (List ℕ) → Bool → WantedView
@@ -132,15 +124,15 @@ Answers (Single l) (CanI who quiet why q) text status =
     ⊎ (IsDenied l.policy.held l.catalogue.entries who q × (text ≡ line_unless quiet (codes "no"))
     × (status ≡ One))
 Answers (Single l) (WhoCan options q) text status =
-    (target : What) × (asked : WhereView) × IsTargetMeant l.catalogue.entries q.asked target
-    × IsWhereMeant l.catalogue.entries q options.anywhere target asked
+    (target : What) × (scope : Scope) × IsTargetMeant l.catalogue.entries q.asked target
+    × IsScopeMeant l.catalogue.entries q options.anywhere target scope
     × ((xs : List HolderView) × (lines : List Text)
-    × AreListedHolders l.policy.held asked options.every q.verb
+    × AreListedHolders l.policy.held scope options.every q.verb
     (requested_meant options.any_name target) xs
     × AreHolderLines l.policy options.why q.verb (requested_meant options.any_name target) xs lines
     × (text ≡ joined lines) × (status ≡ Zero))
 Answers (Single l) (Rules who scope) text status =
-    (xs : List RuleView) × AreEffective l.policy who (scope_asked scope) xs
+    (xs : List RuleView) × AreEffective l.policy who scope xs
     × (text ≡ rules_text xs) × (status ≡ Zero)
 Answers (Single l) (Matrix options after limit) text status =
     (u : UniverseView) × (rows : List RowView) × IsUniverseOf l.lists u

@@ -2,8 +2,6 @@
 
 ghost use Rattle.std.specs.Prelude.{◌≡◌, false};
 ghost use Rattle.rbac_question.specs.declared.command.Action.TheVariants.{Rules as ListsRules};
-ghost use Rattle.rbac_rules.specs.Left.{scope_of};
-ghost use Rattle.rbac_cli.specs.Out.{scope_asked};
 ghost use Rattle.rbac_cli.specs.Printing.{EndsPrinting};
 ghost use Rattle.rbac_cli.specs.declared.exports.Exports.TheVariants.{Single};
 
@@ -12,9 +10,8 @@ use crate::outcome::Status;
 use crate::output::Output;
 use crate::stop::Stop;
 use rbac_manifest::Export;
-use rbac_question::Scope;
-use rbac_rules::{EffectiveRules, Scope as AskedScope, effective_rules, effective_rules_are_there};
-use rbac_terms::Principal;
+use rbac_rules::{EffectiveRules, effective_rules, effective_rules_are_there};
+use rbac_terms::{Principal, Scope};
 use rbac_text::put_grant;
 use std::alloc::{AllocError, Global};
 use std::io::Write;
@@ -32,19 +29,8 @@ pub(crate) fn print_rules<W: Write + Drop>(
         (ListsRules principal.now scope.now) result }
 {
     effective_rules_are_there();
-    let mut rules = effective_rules(export.policy(), principal, asked_scope(scope));
+    let mut rules = effective_rules(export.policy(), principal, scope);
     print_lines(alloc, &mut rules, Status::Zero, output)
-}
-
-// Where rules are asked for, as [`effective_rules`] takes it.
-fn asked_scope(scope: &Scope) -> AskedScope<'_>
-    ensures { scope_of result ≡ scope_asked scope.now }
-{
-    match scope {
-        Scope::Everywhere => AskedScope::Everywhere,
-        Scope::Namespace(namespace) => AskedScope::Namespace(namespace),
-        Scope::ClusterWide => AskedScope::ClusterWide,
-    }
 }
 
 impl Lines for EffectiveRules<'_> {

@@ -2,12 +2,13 @@
 
 ghost use Rattle.std.specs.Prelude.{◌≡◌, ◌++◌, ◌-◌, true, false, List, IfOk, OnOk, drop, length};
 ghost use Rattle.rbac_terms.specs.Text.{Text};
+ghost use Rattle.rbac_terms.specs.declared.scope.Scope.TheVariants.{Namespace};
 ghost use Rattle.rbac_model.specs.Policies.{IsPolicy};
-ghost use Rattle.rbac_index.specs.HolderViews.{holder_shown, requested_of, where_of};
-ghost use Rattle.rbac_index.specs.WhoCan.{AreListedHolders, InNamespace};
+ghost use Rattle.rbac_index.specs.HolderViews.{holder_shown, requested_of};
+ghost use Rattle.rbac_index.specs.WhoCan.{AreListedHolders};
 ghost use Rattle.rbac_question.specs.declared.command.Action.TheVariants.{WhoCan};
 ghost use Rattle.rbac_cli.specs.HolderLines.{AreHolderLines, IsHolderLine, joined};
-ghost use Rattle.rbac_cli.specs.Meant.{requested_meant, where_given};
+ghost use Rattle.rbac_cli.specs.Meant.{requested_meant, scope_given};
 ghost use Rattle.rbac_cli.specs.Printing.{EndsPrinting};
 ghost use Rattle.rbac_cli.specs.declared.exports.Exports.TheVariants.{Single};
 
@@ -16,11 +17,11 @@ use crate::meaning::meant_by;
 use crate::outcome::Status;
 use crate::output::Output;
 use crate::stop::Stop;
-use rbac_index::{Holder, Holders, Index, IndexFault, Requested, Where, why_held};
+use rbac_index::{Holder, Holders, Index, IndexFault, Requested, why_held};
 use rbac_manifest::Export;
 use rbac_model::Policy;
 use rbac_question::{HolderOptions, Question};
-use rbac_terms::{Target, Word};
+use rbac_terms::{Scope, Target, Word};
 use rbac_text::{put_holder, put_holder_why};
 use std::alloc::{AllocError, Global};
 use std::io::Write;
@@ -40,11 +41,11 @@ pub(crate) fn print_holders<W: Write + Drop>(
         (WhoCan options question.now) result }
 {
     let meant = meant_by(alloc, export.catalogue(), question)?;
-    let place = where_asked(meant.is_outside, options.anywhere, &meant.namespace);
+    let scope = scope_asked(meant.is_outside, options.anywhere, meant.namespace);
     let requested = requested_by(options.any_name, &meant.target);
     let policy = export.policy();
     let verb = &question.verb;
-    let holders = holders_of(alloc, policy, place, options.every, verb, requested)?;
+    let holders = holders_of(alloc, policy, &scope, options.every, verb, requested)?;
     let asked = Asked {
         policy: export.policy(),
         verb,
@@ -62,14 +63,14 @@ pub(crate) fn print_holders<W: Write + Drop>(
 
 // Where holders are asked for: in this namespace, or with `anywhere` in any, unless it is asked
 // outside all namespaces.
-fn where_asked(is_outside: bool, anywhere: bool, namespace: &Word) -> Where<'_>
-    ensures outside { is_outside ≡ true → where_of result ≡ InNamespace namespace.now }
-    ensures given { is_outside ≡ false → where_of result ≡ where_given anywhere namespace.now }
+fn scope_asked(is_outside: bool, anywhere: bool, namespace: Word) -> Scope
+    ensures outside { is_outside ≡ true → result ≡ Namespace namespace.entry }
+    ensures given { is_outside ≡ false → result ≡ scope_given anywhere namespace.entry }
 {
     if anywhere && !is_outside {
-        Where::Anywhere
+        Scope::Anywhere
     } else {
-        Where::Namespace(namespace)
+        Scope::Namespace(namespace)
     }
 }
 
@@ -87,20 +88,20 @@ fn requested_by(any_name: bool, target: &Target) -> Requested<'_>
 fn holders_of<'p>(
     alloc: Global,
     policy: &'p Policy,
-    place: Where<'_>,
+    scope: &Scope,
     every: bool,
     verb: &Word,
     requested: Requested<'_>,
 ) -> Result<Holders<'p>, IndexFault>
     ensures holders { IfOk result
-        (AreListedHolders policy.now.held (where_of place.entry) every verb.now
+        (AreListedHolders policy.now.held scope.now every verb.now
         (requested_of requested.entry)) }
     ensures policy { IsPolicy policy.now }
 {
     // Wanted for its promise alone: what a policy is. So each holder has a line.
     let _ = policy.bindings();
     let index = Index::build(alloc, policy)?;
-    index.holders(alloc, place, every, verb, requested)
+    index.holders(alloc, scope, every, verb, requested)
 }
 
 // What holders are asked about, and whether to tell why they hold it.

@@ -18,7 +18,8 @@ use Rattle.rbac_model.specs.Holders.{HolderView, IsBefore}
 use Rattle.rbac_index.specs.declared.sightings.Sighting.{Sighting}
 use Rattle.rbac_index.specs.HolderViews.{holder_of, sighted, label_of, labels_seen, KeepsFirst}
 use Rattle.rbac_index.specs.Holding.{HoldsThere, IsAlike, IsEarlier, AreAllSeen, AreFirsts}
-use Rattle.rbac_index.specs.WhoCan.{WhereView, HoldsAt, IsHolderBy, AreListedHolders}
+use Rattle.rbac_terms.specs.declared.scope.Scope.{Scope}
+use Rattle.rbac_index.specs.WhoCan.{HoldsAt, IsHolderBy, AreListedHolders}
 use Rattle.rbac_index.specs.Ranks.{AreRanks}
 use Rattle.rbac_index.proofs.SeenLemmas.{holder_by, pushed}
 
@@ -32,18 +33,18 @@ lex_itself : (i j : ℕ) → ¬ IsBefore i j i j
 lex_itself i j a = lex_asym i j i j a a
 
 -- where all that holds was seen
-module _ (h : Held) (asked : WhereView) (verb : Text) (t : RequestedView) (xs : List HolderView) (seen : AreAllSeen h asked verb t xs) where
-  inside : (key : Text) (i j : ℕ) → (a : HoldsAt h asked verb t key i j) → Contains xs (holder_by key a.0 i j)
+module _ (h : Held) (scope : Scope) (verb : Text) (t : RequestedView) (xs : List HolderView) (seen : AreAllSeen h scope verb t xs) where
+  inside : (key : Text) (i j : ℕ) → (a : HoldsAt h scope verb t key i j) → Contains xs (holder_by key a.0 i j)
   inside key i j a = (seen.exact (holder_by key a.0 i j)).1 (a.2, a)
 
-  holds_seen : (x : HolderView) → HoldsThere h asked verb t x → Contains xs x
+  holds_seen : (x : HolderView) → HoldsThere h scope verb t x → Contains xs x
   holds_seen x there = (seen.exact x).1 there
 
   -- what was seen with a key holds by it
-  holds_with : (x y : HolderView) → Contains xs y → y.key ≡ x.key → HoldsAt h asked verb t x.key y.binding_place y.subject_place
-  holds_with x y w same = subst (λ (k : Text). HoldsAt h asked verb t k y.binding_place y.subject_place) same ((seen.exact y).0 w).1
+  holds_with : (x y : HolderView) → Contains xs y → y.key ≡ x.key → HoldsAt h scope verb t x.key y.binding_place y.subject_place
+  holds_with x y w same = subst (λ (k : Text). HoldsAt h scope verb t k y.binding_place y.subject_place) same ((seen.exact y).0 w).1
 
-  holder_by_first : (every : Bool) (x : HolderView) → Contains xs x → ((y : HolderView) → Contains xs y → IsAlike every y x → ¬ IsEarlier y x) → IsHolderBy h asked verb t x
+  holder_by_first : (every : Bool) (x : HolderView) → Contains xs x → ((y : HolderView) → Contains xs y → IsAlike every y x → ¬ IsEarlier y x) → IsHolderBy h scope verb t x
   holder_by_first every x w none =
       let there = (seen.exact x).0 w in (
         there.0,
@@ -54,13 +55,13 @@ module _ (h : Held) (asked : WhereView) (verb : Text) (t : RequestedView) (xs : 
         ],
       )
 
-  none_sooner : (x y : HolderView) → IsHolderBy h asked verb t x → Contains xs y → y.key ≡ x.key → y.binding_place ≡ x.binding_place → y.subject_place < x.subject_place → ⊥
+  none_sooner : (x y : HolderView) → IsHolderBy h scope verb t x → Contains xs y → y.key ≡ x.key → y.binding_place ≡ x.binding_place → y.subject_place < x.subject_place → ⊥
   none_sooner x y holder w same place lt =
-      let at = subst (λ (i : ℕ). HoldsAt h asked verb t x.key i y.subject_place) place (holds_with x y w same) in
+      let at = subst (λ (i : ℕ). HoldsAt h scope verb t x.key i y.subject_place) place (holds_with x y w same) in
       let least = holder.2 y.subject_place at in
       omega arith
 
-  pub firsts_hold : (every : Bool) (firsts : List HolderView) → AreFirsts every xs firsts → AreListedHolders h asked every verb t firsts
+  pub firsts_hold : (every : Bool) (firsts : List HolderView) → AreFirsts every xs firsts → AreListedHolders h scope every verb t firsts
   firsts_hold true firsts first = record {
     ordered = first.ordered;
     exact = λ x. (

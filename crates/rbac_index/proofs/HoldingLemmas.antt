@@ -13,7 +13,7 @@ use Rattle.rbac_model.proofs.BindingPlaces.{places_rise, one_binding_place, rule
 use Rattle.rbac_index.specs.Indexed.{AreCandidates}
 use Rattle.rbac_index.specs.Holding.{BringsAt, BringsRuleAt, AreSeen, AreAllSeen}
 use Rattle.rbac_index.specs.Requested.{RequestedView}
-use Rattle.rbac_index.specs.WhoCan.{WhereView}
+use Rattle.rbac_terms.specs.declared.scope.Scope.{Scope}
 use Rattle.rbac_index.proofs.SeenLemmas.{brings, seen_entered}
 
 -- the bindings of the grants with the first `count` numbers are before `place`, and those of the others are no earlier than right before it
@@ -24,7 +24,7 @@ pub record ArePassed (p : PolicyView) (ns : List ℕ) (count place : ℕ) : Type
 pub candidates_within : (p : PolicyView) (verb : Text) (t : RequestedView) (ns : List ℕ) → AreCandidates p verb t ns → All (λ n. n < length p.grants) ns
 candidates_within p verb t ns are = All-weaker (Contains ns) (λ n. n < length p.grants) (λ n w. let a = (are.exact n).0 w in slice_get_within p.grants n a.0 a.1) ns (All-contains_itself ns)
 
-module _ (p : PolicyView) (ok : IsPolicy p) (asked : WhereView) (verb : Text) (t : RequestedView) (ns : List ℕ) (are : AreCandidates p verb t ns) where
+module _ (p : PolicyView) (ok : IsPolicy p) (scope : Scope) (verb : Text) (t : RequestedView) (ns : List ℕ) (are : AreCandidates p verb t ns) where
   -- a candidate's binding brings a rule that allows
   pub candidate_brings : (k place : ℕ) → k < length ns → IsOfBinding p (get_or ns k 0) place → BringsRuleAt p.held verb t place
   candidate_brings k place lt of =
@@ -34,7 +34,7 @@ module _ (p : PolicyView) (ok : IsPolicy p) (asked : WhereView) (verb : Text) (t
       (by.0, by.1, (by.2.0, by.2.1, (has.0, a.0.rule, has.1, has.2, a.2)))
 
   -- a binding that brings a rule that allows is a candidate's
-  brings_candidate : (m : ℕ) → BringsAt p.held asked verb t m → (k : ℕ) × (k < length ns) × IsOfBinding p (get_or ns k 0) m
+  brings_candidate : (m : ℕ) → BringsAt p.held scope verb t m → (k : ℕ) × (k < length ns) × IsOfBinding p (get_or ns k 0) m
   brings_candidate m brings =
       let any = brings.3.2 in
       let g = grant_of_rule p ok m brings.0 brings.3.0 any.1 brings.1 brings.3.1 (any.0, any.2, any.3) in
@@ -42,7 +42,7 @@ module _ (p : PolicyView) (ok : IsPolicy p) (asked : WhereView) (verb : Text) (t
       (w.0, w.1, rw (get_or_default ns w.0 0 g.0 w.1 ∙ w.2) g.2)
 
   -- between what is passed and the next candidate's binding none brings such a rule
-  none_between : (k next place : ℕ) → k < length ns → IsOfBinding p (get_or ns k 0) place → ArePassed p ns k next → (m : ℕ) → next ≤ m → m < place → ¬ BringsAt p.held asked verb t m
+  none_between : (k next place : ℕ) → k < length ns → IsOfBinding p (get_or ns k 0) place → ArePassed p ns k next → (m : ℕ) → next ≤ m → m < place → ¬ BringsAt p.held scope verb t m
   none_between k next place lt of passed m low high brings =
       let c = brings_candidate m brings in
       elim (cases_lt c.0 k) [
@@ -56,8 +56,8 @@ module _ (p : PolicyView) (ok : IsPolicy p) (asked : WhereView) (verb : Text) (t
             omega arith
       ]
 
-  pub entered : (k next place : ℕ) (xs : List HolderView) → k < length ns → IsOfBinding p (get_or ns k 0) place → next ≤ place → ArePassed p ns k next → AreSeen p.held asked verb t next 0 xs → AreSeen p.held asked verb t place 0 xs
-  entered k next place xs lt of le passed seen = seen_entered p.held asked verb t next place xs le (none_between k next place lt of passed) seen
+  pub entered : (k next place : ℕ) (xs : List HolderView) → k < length ns → IsOfBinding p (get_or ns k 0) place → next ≤ place → ArePassed p ns k next → AreSeen p.held scope verb t next 0 xs → AreSeen p.held scope verb t place 0 xs
+  entered k next place xs lt of le passed seen = seen_entered p.held scope verb t next place xs le (none_between k next place lt of passed) seen
 
   pub passed_none : ArePassed p ns 0 0
   passed_none = record {
@@ -88,13 +88,13 @@ module _ (p : PolicyView) (ok : IsPolicy p) (asked : WhereView) (verb : Text) (t
     ahead = λ j i low high by. passed.ahead j i (omega arith) high by;
   }
 
-  pub all_seen : (k next : ℕ) (xs : List HolderView) → length ns ≤ k → ArePassed p ns k next → AreSeen p.held asked verb t next 0 xs → AreAllSeen p.held asked verb t xs
+  pub all_seen : (k next : ℕ) (xs : List HolderView) → length ns ≤ k → ArePassed p ns k next → AreSeen p.held scope verb t next 0 xs → AreAllSeen p.held scope verb t xs
   all_seen k next xs le passed seen = record {
     ordered = seen.ordered;
     exact = λ x. (
       λ w. ((seen.exact x).0 w).0,
       λ there.
-          let c = brings_candidate x.binding_place (brings p.held asked verb t x.key x.binding_place x.subject_place there.1) in
+          let c = brings_candidate x.binding_place (brings p.held scope verb t x.key x.binding_place x.subject_place there.1) in
           let low : x.binding_place < next = passed.behind c.0 x.binding_place (omega (arith, c.1, le)) c.2 in
           (seen.exact x).1 (there, inl low),
     );

@@ -12,7 +12,8 @@ use Rattle.rbac_terms.proofs.Cases.{by_bool}
 use Rattle.rbac_model.specs.Policies.{Held}
 use Rattle.rbac_model.specs.Holders.{HolderView, IsKeyFor}
 use Rattle.rbac_index.specs.Holding.{GrantsIn, GrantsByHolders}
-use Rattle.rbac_index.specs.WhoCan.{WhereView, HoldsAt, IsHolderBy, AreListedHolders}
+use Rattle.rbac_terms.specs.declared.scope.Scope.{Scope}
+use Rattle.rbac_index.specs.WhoCan.{HoldsAt, IsHolderBy, AreListedHolders}
 use Rattle.rbac_model.proofs.KeyNames.{naming_key, key_names}
 use Rattle.rbac_index.proofs.SeenLemmas.{holder_by}
 
@@ -45,41 +46,41 @@ is_with key i x = elim (cases_eq x.binding_place i) [
   | inr ne ↦ inr (λ p. ne p.0)
 ]
 
-module _ (h : Held) (asked : WhereView) (verb : Text) (t : RequestedView) (xs : List HolderView) (are : AreListedHolders h asked true verb t xs) where
+module _ (h : Held) (scope : Scope) (verb : Text) (t : RequestedView) (xs : List HolderView) (are : AreListedHolders h scope true verb t xs) where
   module _ (key : Text) (i : ℕ) (none : ¬ Any (IsWith key i) xs) where
     -- where nothing holds before, nothing holds here
-    first_fails : (j : ℕ) → ((l : ℕ) → l < j → ¬ HoldsAt h asked verb t key i l) → ¬ HoldsAt h asked verb t key i j
+    first_fails : (j : ℕ) → ((l : ℕ) → l < j → ¬ HoldsAt h scope verb t key i l) → ¬ HoldsAt h scope verb t key i j
     first_fails j earlier a =
         let x : HolderView = holder_by key a.0 i j in
-        let least : (l : ℕ) → HoldsAt h asked verb t key i l → j ≤ l = λ l b. elim (cases_lt l j) [
+        let least : (l : ℕ) → HoldsAt h scope verb t key i l → j ≤ l = λ l b. elim (cases_lt l j) [
           | inl m ↦ absurd (earlier l m b)
           | inr m ↦ m
         ] in
-        let holder : IsHolderBy h asked verb t x = (a.2, a, least) in
+        let holder : IsHolderBy h scope verb t x = (a.2, a, least) in
         let w = (are.exact x).1 holder in
         none (w.0, x, w.1, w.2, (refl, refl))
 
-    none_before : (j l : ℕ) → l < j → ¬ HoldsAt h asked verb t key i l
+    none_before : (j l : ℕ) → l < j → ¬ HoldsAt h scope verb t key i l
     none_before zero l m a = omega arith
     none_before (suc j) l m a = elim (cases_eq l j) [
-      | inl e ↦ first_fails j (none_before j) (subst (HoldsAt h asked verb t key i) e a)
+      | inl e ↦ first_fails j (none_before j) (subst (HoldsAt h scope verb t key i) e a)
       | inr ne ↦ none_before j l (omega arith) a
     ]
 
   -- what holds in a binding is listed with it
-  has_holder : (key : Text) (i j : ℕ) → HoldsAt h asked verb t key i j → Any (IsWith key i) xs
+  has_holder : (key : Text) (i j : ℕ) → HoldsAt h scope verb t key i j → Any (IsWith key i) xs
   has_holder key i j a = elim (any_or_none (IsWith key i) (is_with key i) xs) [
     | inl any ↦ any
     | inr none ↦ absurd (none_before key i none (j + 1) j (omega arith) a)
   ]
 
-  pub grants_by_holders : GrantsByHolders h asked verb t xs
+  pub grants_by_holders : GrantsByHolders h scope verb t xs
   grants_by_holders who i b at = (
     λ grants.
         let names = grants.1 in
         let s = names.1 in
         let key = naming_key s b.namespace who names.4 in
-        let holds : HoldsAt h asked verb t key.0 i names.0 = (b, s, at, slice_get-get_or b.subjects names.0 s names.2 ∙ ap Some names.3, (grants.0, grants.2, key.1)) in
+        let holds : HoldsAt h scope verb t key.0 i names.0 = (b, s, at, slice_get-get_or b.subjects names.0 s names.2 ∙ ap Some names.3, (grants.0, grants.2, key.1)) in
         let any = has_holder key.0 i names.0 holds in
         (any.0, any.1, any.2, any.3, (any.4.0, subst (IsKeyFor who) (sym any.4.1) key.2)),
     λ any.
@@ -87,10 +88,10 @@ module _ (h : Held) (asked : WhereView) (verb : Text) (t : RequestedView) (xs : 
         let holder = (are.exact x).0 (any.0, any.2, any.3) in
         let a = holder.1 in
         let same : a.0 ≡ b = same_Some a.0 b (sym a.2 ∙ ap (slice_get h.bindings) any.4.0 ∙ at) in
-        let grants : GrantsIn h asked a.0 who verb t = (
+        let grants : GrantsIn h scope a.0 who verb t = (
           a.4.0,
           (x.subject_place, a.1, slice_get_within a.0.subjects x.subject_place a.1 a.3, get_or_from_slice_get a.0.subjects x.subject_place a.1 a.1 a.3, key_names a.1 a.0.namespace who x.key a.4.2 any.4.1),
           a.4.1,
         ) in
-        subst (λ (v : Binding). GrantsIn h asked v who verb t) same grants,
+        subst (λ (v : Binding). GrantsIn h scope v who verb t) same grants,
   )

@@ -6,19 +6,21 @@ use Rattle.rbac_terms.specs.Targets.{What}
 use Rattle.rbac_index.specs.Requested.{RequestedView, ThisTarget}
 use Rattle.rbac_model.specs.Policies.{Held}
 use Rattle.rbac_model.specs.Holders.{HolderView, IsBefore, IsHolder, AreHolders}
-use Rattle.rbac_index.specs.WhoCan.{WhereView, InNamespace, HoldsAt, IsListedHolder, AreListedHolders}
+use Rattle.rbac_terms.specs.declared.scope.Scope.{Scope}
+use Rattle.rbac_terms.specs.declared.scope.Scope.TheVariants.{Namespace}
+use Rattle.rbac_index.specs.WhoCan.{HoldsAt, IsListedHolder, AreListedHolders}
 use Rattle.rbac_index.specs.Holding.{AllowsByHolders}
 use Rattle.rbac_index.proofs.HolderLaw.{allows_by_holders}
 use Rattle.rbac_index.proofs.OneHolders.{one_in_order}
 
 module _ (h : Held) (namespace verb : Text) (t : What) where
   -- a pair of places in the first binding or a later one comes before the next
-  before : (x : HolderView) → IsListedHolder h (InNamespace namespace) false verb (ThisTarget t) x → (i j : ℕ) → HoldsAt h (InNamespace namespace) verb (ThisTarget t) x.key i j → IsBefore x.binding_place x.subject_place i (j + 1)
+  before : (x : HolderView) → IsListedHolder h (Namespace namespace) false verb (ThisTarget t) x → (i j : ℕ) → HoldsAt h (Namespace namespace) verb (ThisTarget t) x.key i j → IsBefore x.binding_place x.subject_place i (j + 1)
   before x listed i j a =
       let le = listed.1 i j a in
       elim (cases_order x.binding_place i) [
         | inl e ↦
-            let least = listed.0.2 j (subst (λ (k : ℕ). HoldsAt h (InNamespace namespace) verb (ThisTarget t) x.key k j) (sym e) a) in
+            let least = listed.0.2 j (subst (λ (k : ℕ). HoldsAt h (Namespace namespace) verb (ThisTarget t) x.key k j) (sym e) a) in
             inr (e, omega arith)
         | inr d ↦ elim d [
           | inl l ↦ inl l
@@ -26,7 +28,7 @@ module _ (h : Held) (namespace verb : Text) (t : What) where
         ]
       ]
 
-  listed_holder : (x : HolderView) → IsListedHolder h (InNamespace namespace) false verb (ThisTarget t) x ↔ IsHolder h namespace verb t x
+  listed_holder : (x : HolderView) → IsListedHolder h (Namespace namespace) false verb (ThisTarget t) x ↔ IsHolder h namespace verb t x
   listed_holder x = (
     λ listed. (listed.0.0, listed.0.1, before x listed),
     λ holder. (
@@ -45,7 +47,7 @@ module _ (h : Held) (namespace verb : Text) (t : What) where
     ),
   )
 
-  pub listed_holders : (xs : List HolderView) → AreListedHolders h (InNamespace namespace) false verb (ThisTarget t) xs ↔ AreHolders h namespace verb t xs
+  pub listed_holders : (xs : List HolderView) → AreListedHolders h (Namespace namespace) false verb (ThisTarget t) xs ↔ AreHolders h namespace verb t xs
   listed_holders xs = (
     λ listed. record {
       ordered = listed.ordered;
@@ -57,12 +59,12 @@ module _ (h : Held) (namespace verb : Text) (t : What) where
     },
   )
 
-pub one_listed : (h : Held) (asked : WhereView) (every : Bool) (verb : Text) (t : RequestedView) (xs others : List HolderView) → AreListedHolders h asked every verb t xs
-    → AreListedHolders h asked every verb t others → xs ≡ others
-one_listed h asked every verb t xs others a b =
+pub one_listed : (h : Held) (scope : Scope) (every : Bool) (verb : Text) (t : RequestedView) (xs others : List HolderView) → AreListedHolders h scope every verb t xs
+    → AreListedHolders h scope every verb t others → xs ≡ others
+one_listed h scope every verb t xs others a b =
     one_in_order xs others a.ordered b.ordered (λ x w. (b.exact x).1 ((a.exact x).0 w)) (λ x w. (a.exact x).1 ((b.exact x).0 w))
 
-pub ok_holders : {E : Type 0} (h : Held) (namespace verb : Text) (t : What) (r : Result (List HolderView) E) → IfOk r (AreListedHolders h (InNamespace namespace) false verb (ThisTarget t)) → IfOk r (AreHolders h namespace verb t)
+pub ok_holders : {E : Type 0} (h : Held) (namespace verb : Text) (t : What) (r : Result (List HolderView) E) → IfOk r (AreListedHolders h (Namespace namespace) false verb (ThisTarget t)) → IfOk r (AreHolders h namespace verb t)
 ok_holders h namespace verb t (Ok xs) listed = (listed_holders h namespace verb t xs).0 listed
 ok_holders h namespace verb t (Err e) listed = tt
 

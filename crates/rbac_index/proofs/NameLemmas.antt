@@ -8,30 +8,34 @@ use Rattle.rbac_terms.specs.declared.matching.Rule.{Rule}
 use Rattle.rbac_model.specs.Policies.{Held, Live}
 use Rattle.rbac_index.specs.Requested.{StemOk}
 use Rattle.rbac_index.specs.Requested.{ThisTarget, AnyName, AllowsRequested, with_name}
-use Rattle.rbac_index.specs.WhoCan.{WhereView, InNamespace, Anywhere, CountsIn, HoldsAt}
+use Rattle.rbac_terms.specs.declared.scope.Scope.{Scope}
+use Rattle.rbac_terms.specs.declared.scope.Scope.TheVariants.{Namespace, Anywhere, ClusterWide}
+use Rattle.rbac_model.specs.Scopes.{LiveIn}
+use Rattle.rbac_index.specs.WhoCan.{HoldsAt}
 
--- where a binding counts doesn't depend on the object name
+-- where a binding is live doesn't depend on the object name
 live_named : (own : Option Text) (asked name : Text) (t : What) → Live own asked t ↔ Live own asked (with_name name t)
 live_named None asked name t = (λ live. live, λ live. live)
 live_named (Some namespace) asked name (Resource group text other) = (λ live. live, λ live. live)
 live_named (Some namespace) asked name (Url path) = (λ live. live, λ live. live)
 
-counts_named : (asked : WhereView) (own : Option Text) (name : Text) (t : What) → CountsIn asked own t ↔ CountsIn asked own (with_name name t)
-counts_named (InNamespace namespace) own name t = live_named own namespace name t
-counts_named Anywhere own name t = (λ c. (c.0, (live_named own c.0 name t).0 c.1), λ c. (c.0, (live_named own c.0 name t).1 c.1))
+live_in_named : (scope : Scope) (own : Option Text) (name : Text) (t : What) → LiveIn scope own t ↔ LiveIn scope own (with_name name t)
+live_in_named (Namespace namespace) own name t = live_named own namespace name t
+live_in_named Anywhere own name t = (λ c. (c.0, (live_named own c.0 name t).0 c.1), λ c. (c.0, (live_named own c.0 name t).1 c.1))
+live_in_named ClusterWide own name t = (λ none. none, λ none. none)
 
-pub some_name : (h : Held) (asked : WhereView) (verb : Text) (t : What) (key : Text) (i j : ℕ) → HoldsAt h asked verb (AnyName t) key i j ↔ ((name : Text) × HoldsAt h asked verb (ThisTarget (with_name name t)) key i j)
-some_name h asked verb t key i j = (
+pub some_name : (h : Held) (scope : Scope) (verb : Text) (t : What) (key : Text) (i j : ℕ) → HoldsAt h scope verb (AnyName t) key i j ↔ ((name : Text) × HoldsAt h scope verb (ThisTarget (with_name name t)) key i j)
+some_name h scope verb t key i j = (
   λ holds.
       let (b, s, at, there, by) = holds in
       let any = by.1.2 in
       let name = any.4.0 in
-      (name, (b, s, at, there, ((counts_named asked b.namespace name t).0 by.0, (by.1.0, by.1.1, (any.0, any.1, any.2, any.3, any.4.1)), by.2))),
+      (name, (b, s, at, there, ((live_in_named scope b.namespace name t).0 by.0, (by.1.0, by.1.1, (any.0, any.1, any.2, any.3, any.4.1)), by.2))),
   λ some.
       let name = some.0 in
       let (b, s, at, there, by) = some.1 in
       let any = by.1.2 in
-      (b, s, at, there, ((counts_named asked b.namespace name t).1 by.0, (by.1.0, by.1.1, (any.0, any.1, any.2, any.3, (name, any.4))), by.2)),
+      (b, s, at, there, ((live_in_named scope b.namespace name t).1 by.0, (by.1.0, by.1.1, (any.0, any.1, any.2, any.3, (name, any.4))), by.2)),
 )
 
 -- names match some name: the first, or any where there are none

@@ -17,13 +17,14 @@ use Rattle.rbac_model.proofs.BindingPlaces.{places_rise, of_some_binding, rule_o
 use Rattle.rbac_model.proofs.GrantNumbers.{grant_by}
 use Rattle.rbac_index.specs.Deciding.{IsFirstAllowing, NoneAllowing}
 use Rattle.rbac_index.specs.Requested.{RequestedView, ThisTarget}
-use Rattle.rbac_index.specs.WhoCan.{WhereView, HoldsAt}
+use Rattle.rbac_terms.specs.declared.scope.Scope.{Scope}
+use Rattle.rbac_index.specs.WhoCan.{HoldsAt}
 use Rattle.rbac_index.specs.WhyHeld.{AllowsKey, IsWhyHeld}
 use Rattle.rbac_model.proofs.KeyNames.{naming_key, key_names}
 
 -- some grant of a binding by which a key holds the permission allows the request
-pub some_allows : (p : PolicyView) → IsPolicy p → (asked : WhereView) (verb : Text) (t : RequestedView) (key : Text) (i j : ℕ) → HoldsAt p.held asked verb t key i j → ¬ NoneAllowing p verb t i
-some_allows p ok asked verb t key i j a none =
+pub some_allows : (p : PolicyView) → IsPolicy p → (scope : Scope) (verb : Text) (t : RequestedView) (key : Text) (i j : ℕ) → HoldsAt p.held scope verb t key i j → ¬ NoneAllowing p verb t i
+some_allows p ok scope verb t key i j a none =
     let brings = a.4.1 in
     let any = brings.2 in
     let of = grant_of_rule p ok i a.0 brings.0 any.1 a.2 brings.1 (any.0, any.2, any.3) in

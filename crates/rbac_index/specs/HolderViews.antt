@@ -4,19 +4,10 @@ use Rattle.rbac_terms.specs.Text.{Text}
 use Rattle.rbac_model.specs.Holders.{HolderView}
 use Rattle.rbac_index.specs.declared.sightings.Sighting.{Sighting}
 use Rattle.rbac_index.specs.declared.holders.Holder.{Holder}
-use Rattle.rbac_index.specs.declared.asked.Where.{Where}
-use Rattle.rbac_index.specs.declared.asked.Where.TheVariants.{Namespace}
-use Rattle.rbac_index.specs.declared.asked.Where.TheVariants.{Anywhere as AskedAnywhere}
 use Rattle.rbac_index.specs.declared.requested.Requested.{Requested}
 use Rattle.rbac_index.specs.declared.requested.Requested.TheVariants.{ThisTarget as This}
 use Rattle.rbac_index.specs.declared.requested.Requested.TheVariants.{AnyName as OfAnyName}
 use Rattle.rbac_index.specs.Requested.{RequestedView, ThisTarget, AnyName}
-use Rattle.rbac_index.specs.WhoCan.{WhereView, InNamespace, Anywhere}
-
--- where it is asked
-abbrev pub where_of : Where → WhereView
-where_of (Namespace namespace) = InNamespace namespace.now
-where_of AskedAnywhere = Anywhere
 
 -- what is requested
 abbrev pub requested_of : Requested → RequestedView

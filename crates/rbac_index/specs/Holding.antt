@@ -4,27 +4,29 @@ use Rattle.rbac_terms.specs.Text.{Text}
 use Rattle.rbac_terms.specs.Targets.{What}
 use Rattle.rbac_terms.specs.Principals.{Who}
 use Rattle.rbac_terms.specs.declared.granting.Binding.{Binding}
+use Rattle.rbac_terms.specs.declared.scope.Scope.{Scope}
 use Rattle.rbac_model.specs.Policies.{Held, Allows, BindingNames}
+use Rattle.rbac_model.specs.Scopes.{LiveIn}
 use Rattle.rbac_model.specs.Holders.{IsBefore, HolderView, IsKeyFor}
 use Rattle.rbac_index.specs.HolderViews.{once_in}
 use Rattle.rbac_index.specs.Requested.{RequestedView, target_given}
-use Rattle.rbac_index.specs.WhoCan.{WhereView, BringsRequested, CountsIn, HoldsAt}
+use Rattle.rbac_index.specs.WhoCan.{BringsRequested, HoldsAt}
 
 -- the binding at that place brings a rule that allows the verb on what is requested
 abbrev pub BringsRuleAt : Held → Text → RequestedView → ℕ → Type 0
 BringsRuleAt h verb t i =
     (b : Binding) × (slice_get h.bindings i ≡ Some b) × BringsRequested h b verb t
 
--- the binding at that place counts there and brings a rule that allows the verb on what is requested
-abbrev pub BringsAt : Held → WhereView → Text → RequestedView → ℕ → Type 0
-BringsAt h asked verb t i =
-    (b : Binding) × (slice_get h.bindings i ≡ Some b) × CountsIn asked b.namespace (target_given t)
+-- the binding at that place is live there and brings a rule that allows the verb on what is requested
+abbrev pub BringsAt : Held → Scope → Text → RequestedView → ℕ → Type 0
+BringsAt h scope verb t i =
+    (b : Binding) × (slice_get h.bindings i ≡ Some b) × LiveIn scope b.namespace (target_given t)
     × BringsRequested h b verb t
 
 -- x's key holds the permission by x's pair of places
-abbrev pub HoldsThere : Held → WhereView → Text → RequestedView → HolderView → Type 0
-HoldsThere h asked verb t x = (slice_get h.bindings x.binding_place ≡ Some x.binding)
-    × HoldsAt h asked verb t x.key x.binding_place x.subject_place
+abbrev pub HoldsThere : Held → Scope → Text → RequestedView → HolderView → Type 0
+HoldsThere h scope verb t x = (slice_get h.bindings x.binding_place ≡ Some x.binding)
+    × HoldsAt h scope verb t x.key x.binding_place x.subject_place
 
 -- x's pair of places comes before y's
 abbrev pub IsEarlier : HolderView → HolderView → Type 0
@@ -32,17 +34,17 @@ IsEarlier x y = IsBefore x.binding_place x.subject_place y.binding_place y.subje
 
 -- what holds the permission by a pair of places before this one, of a binding and of a subject in
 -- it, in order
-pub record AreSeen (h : Held) (asked : WhereView) (verb : Text) (t : RequestedView) (i j : ℕ)
+pub record AreSeen (h : Held) (scope : Scope) (verb : Text) (t : RequestedView) (i j : ℕ)
     (xs : List HolderView) : Type 0 where
   pub ordered : AllPairs IsEarlier xs
   pub exact : (x : HolderView) → Contains xs x
-      ↔ (HoldsThere h asked verb t x × IsBefore x.binding_place x.subject_place i j)
+      ↔ (HoldsThere h scope verb t x × IsBefore x.binding_place x.subject_place i j)
 
 -- all that holds the permission by a pair of places, in order
-pub record AreAllSeen (h : Held) (asked : WhereView) (verb : Text) (t : RequestedView)
+pub record AreAllSeen (h : Held) (scope : Scope) (verb : Text) (t : RequestedView)
     (xs : List HolderView) : Type 0 where
   pub ordered : AllPairs IsEarlier xs
-  pub exact : (x : HolderView) → Contains xs x ↔ HoldsThere h asked verb t x
+  pub exact : (x : HolderView) → Contains xs x ↔ HoldsThere h scope verb t x
 
 -- x and y have one key, and where every binding is asked for also one binding
 abbrev pub IsAlike : Bool → HolderView → HolderView → Type 0
@@ -60,15 +62,15 @@ abbrev pub AllowsByHolders : Held → Text → Text → What → List HolderView
 AllowsByHolders h namespace verb t xs = (who : Who) → Allows h who namespace verb t
     ↔ Any (λ x. IsKeyFor who x.key) xs
 
--- a binding grants the request where it is asked: it counts there, names who asks, and brings a rule
+-- a binding grants the request where it is asked: it is live there, names who asks, and brings a rule
 -- that allows it (Using RBAC Authorization)
-abbrev pub GrantsIn : Held → WhereView → Binding → Who → Text → RequestedView → Type 0
-GrantsIn h asked b who verb t = CountsIn asked b.namespace (target_given t) × BindingNames b who
+abbrev pub GrantsIn : Held → Scope → Binding → Who → Text → RequestedView → Type 0
+GrantsIn h scope b who verb t = LiveIn scope b.namespace (target_given t) × BindingNames b who
     × BringsRequested h b verb t
 
 -- the binding at a place grants a request exactly if a holder is listed with it whose key is that
 -- of who asks, or of one of its groups
-abbrev pub GrantsByHolders : Held → WhereView → Text → RequestedView → List HolderView → Type 0
-GrantsByHolders h asked verb t xs = (who : Who) (i : ℕ) (b : Binding)
+abbrev pub GrantsByHolders : Held → Scope → Text → RequestedView → List HolderView → Type 0
+GrantsByHolders h scope verb t xs = (who : Who) (i : ℕ) (b : Binding)
     → slice_get h.bindings i ≡ Some b
-    → GrantsIn h asked b who verb t ↔ Any (λ x. (x.binding_place ≡ i) × IsKeyFor who x.key) xs
+    → GrantsIn h scope b who verb t ↔ Any (λ x. (x.binding_place ≡ i) × IsKeyFor who x.key) xs

@@ -1,64 +1,54 @@
--- Who can, in one namespace or in any, by the first binding or by each.
-use Rattle.std.specs.Prelude.{◌≡◌, ◌≤◌, ◌↔◌, ℕ, Bool, true, false, List, Option, Some}
+-- Who can, where it is asked, by the first binding or by each.
+use Rattle.std.specs.Prelude.{◌≡◌, ◌≤◌, ◌↔◌, ℕ, Bool, true, false, List, Some}
 use Rattle.std.specs.Prelude.{AllPairs, Any, Contains, slice_get}
 use Rattle.rbac_terms.specs.Text.{Text}
 use Rattle.rbac_terms.specs.Targets.{What}
 use Rattle.rbac_terms.specs.Granting.{IsSubjectKey}
 use Rattle.rbac_terms.specs.declared.granting.Binding.{Binding}
 use Rattle.rbac_terms.specs.declared.granting.Subject.{Subject}
-use Rattle.rbac_model.specs.Policies.{Held, Live, AreRulesFor, SourcedRule}
+use Rattle.rbac_terms.specs.declared.scope.Scope.{Scope}
+use Rattle.rbac_model.specs.Policies.{Held, AreRulesFor, SourcedRule}
+use Rattle.rbac_model.specs.Scopes.{LiveIn}
 use Rattle.rbac_model.specs.Holders.{HolderView, IsBefore}
 use Rattle.rbac_index.specs.Requested.{RequestedView, AllowsRequested, target_given}
-
--- where a request is asked: in one namespace, of which the empty one stands for the whole cluster,
--- or anywhere, in whichever namespace
-pub data WhereView : Type 0 where
-  InNamespace : (namespace : Text) → WhereView
-  Anywhere : WhereView
-
--- a binding in that namespace, or in none, counts where a request for the target is asked: it is
--- live in the namespace asked about; or anywhere, in some namespace (own)
-abbrev pub CountsIn : WhereView → Option Text → What → Type 0
-CountsIn (InNamespace asked) own t = Live own asked t
-CountsIn Anywhere own t = (asked : Text) × Live own asked t
 
 -- the binding brings a rule that allows the verb on what is requested
 abbrev pub BringsRequested : Held → Binding → Text → RequestedView → Type 0
 BringsRequested h b verb t = (rules : List SourcedRule) × AreRulesFor h b rules
     × Any (λ r. AllowsRequested r.rule verb t) rules
 
--- the key holds the permission there by that subject of that binding: the binding counts there and
+-- the key holds the permission there by that subject of that binding: the binding is live there and
 -- brings a rule that allows it, and the key is the subject's
-abbrev pub HoldsIn : Held → WhereView → Text → RequestedView → Binding → Subject → Text → Type 0
-HoldsIn h asked verb t b s key = CountsIn asked b.namespace (target_given t)
+abbrev pub HoldsIn : Held → Scope → Text → RequestedView → Binding → Subject → Text → Type 0
+HoldsIn h scope verb t b s key = LiveIn scope b.namespace (target_given t)
     × BringsRequested h b verb t
     × IsSubjectKey s b.namespace key
 
 -- the key holds the permission there by the subject at the second place in the binding at the first
-abbrev pub HoldsAt : Held → WhereView → Text → RequestedView → Text → ℕ → ℕ → Type 0
-HoldsAt h asked verb t key i j =
+abbrev pub HoldsAt : Held → Scope → Text → RequestedView → Text → ℕ → ℕ → Type 0
+HoldsAt h scope verb t key i j =
     (b : Binding) × (s : Subject) × (slice_get h.bindings i ≡ Some b)
-    × (slice_get b.subjects j ≡ Some s) × HoldsIn h asked verb t b s key
+    × (slice_get b.subjects j ≡ Some s) × HoldsIn h scope verb t b s key
 
 -- x is a holder with a binding: its key holds the permission by its pair of places, and by no
 -- subject of that binding before its own (own)
-abbrev pub IsHolderBy : Held → WhereView → Text → RequestedView → HolderView → Type 0
-IsHolderBy h asked verb t x =
+abbrev pub IsHolderBy : Held → Scope → Text → RequestedView → HolderView → Type 0
+IsHolderBy h scope verb t x =
     (slice_get h.bindings x.binding_place ≡ Some x.binding)
-    × HoldsAt h asked verb t x.key x.binding_place x.subject_place
-    × ((j : ℕ) → HoldsAt h asked verb t x.key x.binding_place j → x.subject_place ≤ j)
+    × HoldsAt h scope verb t x.key x.binding_place x.subject_place
+    × ((j : ℕ) → HoldsAt h scope verb t x.key x.binding_place j → x.subject_place ≤ j)
 
 -- x is listed: a holder with any binding where every binding is asked for, otherwise with the first
 -- by which its key holds the permission (own)
-abbrev pub IsListedHolder : Held → WhereView → Bool → Text → RequestedView → HolderView → Type 0
-IsListedHolder h asked true verb t x = IsHolderBy h asked verb t x
-IsListedHolder h asked false verb t x = IsHolderBy h asked verb t x
-    × ((i j : ℕ) → HoldsAt h asked verb t x.key i j → x.binding_place ≤ i)
+abbrev pub IsListedHolder : Held → Scope → Bool → Text → RequestedView → HolderView → Type 0
+IsListedHolder h scope true verb t x = IsHolderBy h scope verb t x
+IsListedHolder h scope false verb t x = IsHolderBy h scope verb t x
+    × ((i j : ℕ) → HoldsAt h scope verb t x.key i j → x.binding_place ≤ i)
 
 -- who can: the holders that are listed, each pair of a key and a binding once, in order of their
 -- pairs of places (own)
-pub record AreListedHolders (h : Held) (asked : WhereView) (every : Bool) (verb : Text)
+pub record AreListedHolders (h : Held) (scope : Scope) (every : Bool) (verb : Text)
     (t : RequestedView) (xs : List HolderView) : Type 0 where
   pub ordered : AllPairs
       (λ x y. IsBefore x.binding_place x.subject_place y.binding_place y.subject_place) xs
-  pub exact : (x : HolderView) → Contains xs x ↔ IsListedHolder h asked every verb t x
+  pub exact : (x : HolderView) → Contains xs x ↔ IsListedHolder h scope every verb t x

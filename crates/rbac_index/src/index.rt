@@ -8,13 +8,12 @@ ghost use Rattle.rbac_model.specs.Policies.{Allows, IsFirst, IsOfBinding};
 ghost use Rattle.rbac_model.specs.Holders.{AreHolders};
 ghost use Rattle.rbac_index.specs.Indexed.{AreCandidates, HaveNumbers, IsAllowedBy, AreAlike};
 ghost use Rattle.rbac_index.specs.Deciding.{IsWhyShown};
-ghost use Rattle.rbac_index.specs.HolderViews.{requested_of, where_of};
+ghost use Rattle.rbac_index.specs.HolderViews.{requested_of};
 ghost use Rattle.rbac_index.specs.Holding.{AllowsByHolders};
 ghost use Rattle.rbac_index.specs.Requested.{ThisTarget};
 ghost use Rattle.rbac_index.specs.WhoCan.{AreListedHolders};
 
 use crate::alike::earlier_alike;
-use crate::asked::Where;
 use crate::deciding::why_allowed;
 use crate::holders::Holders;
 use crate::merge::{Numbers, merged};
@@ -26,7 +25,7 @@ use crate::sightings::sightings_of;
 use crate::starts::starts_by_row;
 use rbac_model::{Grant, Policy, Why};
 use rbac_subjects::{IndexFault, SubjectIndex};
-use rbac_terms::{Principal, Target, Word};
+use rbac_terms::{Principal, Scope, Target, Word};
 use std::alloc::{AllocError, Global};
 use std::marker::Model;
 
@@ -183,7 +182,8 @@ impl<'p> Index<'p> {
             (AllowsByHolders self.now.held namespace.now verb.now target.now) }
     {
         let requested = Requested::ThisTarget(target);
-        self.holders(alloc, Where::Namespace(namespace), false, verb, requested)
+        let scope = Scope::Namespace(Word::from_slice(alloc, namespace.as_bytes())?);
+        self.holders(alloc, &scope, false, verb, requested)
     }
 
     /// Who may use the verb on what is requested, where it is asked: each holder once, with the first
@@ -192,18 +192,18 @@ impl<'p> Index<'p> {
     pub fn holders(
         &self,
         alloc: Global,
-        asked: Where<'_>,
+        scope: &Scope,
         every: bool,
         verb: &Word,
         requested: Requested<'_>,
     ) -> Result<Holders<'p>, IndexFault>
         ensures { IfOk result
-            (AreListedHolders self.now.held (where_of asked.entry) every verb.now
+            (AreListedHolders self.now.held scope.now every verb.now
             (requested_of requested.entry)) }
     {
         let policy: &'p Policy = self.policy;
         let numbers = self.candidates_for(alloc, verb, requested)?;
-        let seen = sightings_of(alloc, policy, numbers.as_slice(), asked, requested)?;
+        let seen = sightings_of(alloc, policy, numbers.as_slice(), scope, requested)?;
         Ok(Holders::first_of(alloc, every, seen)?)
     }
 }

@@ -4,11 +4,13 @@ ghost use Rattle.std.specs.Prelude.{◌≡◌, ◌≤◌, ◌↔◌, ℕ, Bool, 
 ghost use Rattle.rbac_terms.specs.Principals.{Who, AsMember, who_key};
 ghost use Rattle.rbac_terms.specs.Targets.{What};
 ghost use Rattle.rbac_terms.specs.Text.{Text};
+ghost use Rattle.rbac_terms.specs.declared.scope.Scope.{Scope};
+ghost use Rattle.rbac_terms.specs.declared.scope.Scope.TheVariants.{Namespace};
 ghost use Rattle.rbac_model.specs.Policies.{GrantView, Held, IsWhy, PolicyView};
 ghost use Rattle.rbac_model.specs.Holders.{HolderView, AreHolders, IsKeyFor};
 ghost use Rattle.rbac_index.specs.Holding.{AllowsByHolders, GrantsByHolders};
 ghost use Rattle.rbac_index.specs.Requested.{AnyName, RequestedView, ThisTarget, with_name};
-ghost use Rattle.rbac_index.specs.WhoCan.{WhereView, InNamespace, AreListedHolders, HoldsAt};
+ghost use Rattle.rbac_index.specs.WhoCan.{AreListedHolders, HoldsAt};
 ghost use Rattle.rbac_index.specs.WhyHeld.{IsWhyHeld};
 
 /// Who may use a verb on a target in a namespace, given the objects that are held, is one list: any
@@ -47,11 +49,11 @@ pub fn keys_explain()
 /// holder or with each; and in one namespace those with their first bindings are the holders
 /// there (own).
 pub fn listed_holders_are_one()
-    ensures one { (held : Held) (asked : WhereView) (every : Bool) (verb : Text) (t : RequestedView)
-        (xs others : List HolderView) → AreListedHolders held asked every verb t xs
-        → AreListedHolders held asked every verb t others → xs ≡ others }
+    ensures one { (held : Held) (scope : Scope) (every : Bool) (verb : Text) (t : RequestedView)
+        (xs others : List HolderView) → AreListedHolders held scope every verb t xs
+        → AreListedHolders held scope every verb t others → xs ≡ others }
     ensures holders { (held : Held) (namespace verb : Text) (t : What) (xs : List HolderView)
-        → AreListedHolders held (InNamespace namespace) false verb (ThisTarget t) xs
+        → AreListedHolders held (Namespace namespace) false verb (ThisTarget t) xs
         ↔ AreHolders held namespace verb t xs }
 {}
 
@@ -59,15 +61,15 @@ pub fn listed_holders_are_one()
 /// verb on a target by which of them: the binding at a place grants it to a principal exactly if a
 /// holder is listed with it whose key is the principal's own or that of one of its groups (own).
 pub fn listed_holders_decide()
-    ensures { (held : Held) (asked : WhereView) (verb : Text) (t : RequestedView)
-        (xs : List HolderView) → AreListedHolders held asked true verb t xs
-        → GrantsByHolders held asked verb t xs }
+    ensures { (held : Held) (scope : Scope) (verb : Text) (t : RequestedView)
+        (xs : List HolderView) → AreListedHolders held scope true verb t xs
+        → GrantsByHolders held scope verb t xs }
 {}
 
 /// With any object name a key holds a permission by exactly those subjects of bindings by which it
 /// holds it with some object name (own).
 pub fn any_name_is_some_name()
-    ensures { (held : Held) (asked : WhereView) (verb : Text) (t : What) (key : Text) (i j : ℕ)
-        → HoldsAt held asked verb (AnyName t) key i j
-        ↔ ((name : Text) × HoldsAt held asked verb (ThisTarget (with_name name t)) key i j) }
+    ensures { (held : Held) (scope : Scope) (verb : Text) (t : What) (key : Text) (i j : ℕ)
+        → HoldsAt held scope verb (AnyName t) key i j
+        ↔ ((name : Text) × HoldsAt held scope verb (ThisTarget (with_name name t)) key i j) }
 {}

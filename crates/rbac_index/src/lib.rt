@@ -3,7 +3,6 @@
 #![tactic(auto)]
 
 mod alike;
-mod asked;
 mod deciding;
 mod holders;
 mod index;
@@ -18,7 +17,6 @@ mod rule_rows;
 mod sightings;
 mod starts;
 
-pub use asked::Where;
 pub use deciding::why_allowed;
 pub use holders::{Holder, Holders};
 pub use index::Index;

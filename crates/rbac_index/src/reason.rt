@@ -3,11 +3,12 @@
 ghost use Rattle.std.specs.Prelude.{◌≡◌, IsSomeAnd, MatchOption};
 ghost use Rattle.rbac_terms.specs.Text.{Text};
 ghost use Rattle.rbac_terms.specs.Targets.{What};
+ghost use Rattle.rbac_terms.specs.declared.scope.Scope.{Scope};
 ghost use Rattle.rbac_model.specs.Holders.{IsHolder};
 ghost use Rattle.rbac_index.specs.Deciding.{NoneAllowing};
 ghost use Rattle.rbac_index.specs.HolderViews.{holder_shown, requested_of};
 ghost use Rattle.rbac_index.specs.Requested.{ThisTarget};
-ghost use Rattle.rbac_index.specs.WhoCan.{WhereView, IsHolderBy};
+ghost use Rattle.rbac_index.specs.WhoCan.{IsHolderBy};
 ghost use Rattle.rbac_index.specs.WhyHeld.{IsFirstShown, IsHeldShown, IsShownBy};
 
 use crate::deciding::first_allowing;
@@ -37,8 +38,8 @@ pub fn why_held<'p>(
         → IsHolder policy.now.held namespace verb.now target (holder_shown holder.entry)
         → IsSomeAnd result
         (IsHeldShown policy.now holder.entry.principal.now namespace verb.now target) }
-    ensures listed { (asked : WhereView)
-        → IsHolderBy policy.now.held asked verb.now (requested_of requested.entry)
+    ensures listed { (scope : Scope)
+        → IsHolderBy policy.now.held scope verb.now (requested_of requested.entry)
         (holder_shown holder.entry)
         → IsSomeAnd result
         (IsShownBy policy.now verb.now (requested_of requested.entry)

@@ -2,17 +2,16 @@
 
 ghost use Rattle.std.specs.Prelude.{◌≡◌, ◌+◌, ◌<◌, All, IfOk, OnOk, length, slice_get, Some};
 ghost use Rattle.rbac_terms.specs.Text.{Text};
+ghost use Rattle.rbac_terms.specs.declared.scope.Scope.{Scope};
 ghost use Rattle.rbac_model.specs.Policies.{Held};
-ghost use Rattle.rbac_index.specs.HolderViews.{requested_of, sighted, where_of};
+ghost use Rattle.rbac_index.specs.HolderViews.{requested_of, sighted};
 ghost use Rattle.rbac_index.specs.Holding.{AreAllSeen, AreSeen, BringsAt, BringsRuleAt};
 ghost use Rattle.rbac_index.specs.Indexed.{AreCandidates};
 ghost use Rattle.rbac_index.specs.Requested.{RequestedView};
-ghost use Rattle.rbac_index.specs.WhoCan.{WhereView};
 
-use crate::asked::{Where, counts_in};
 use crate::requested::Requested;
-use rbac_model::Policy;
-use rbac_terms::{Binding, Word, subject_key};
+use rbac_model::{Policy, is_live_in};
+use rbac_terms::{Binding, Scope, Word, subject_key};
 use std::alloc::{AllocError, Global};
 
 // A holder's key, and a place where it was seen: a binding through which it holds the permission,
@@ -31,14 +30,14 @@ pub(crate) fn sightings_of<'p>(
     alloc: Global,
     policy: &'p Policy,
     numbers: &[u32],
-    asked: Where<'_>,
+    scope: &Scope,
     requested: Requested<'_>,
 ) -> Result<Vec<Sighting<'p>>, AllocError>
     requires { All (λ no. no < length policy.now.grants) numbers.now }
     ensures { (verb : Text)
         → AreCandidates policy.now verb (requested_of requested.entry) numbers.now
         → IfOk result
-        (λ v. AreAllSeen policy.now.held (where_of asked.entry) verb (requested_of requested.entry)
+        (λ v. AreAllSeen policy.now.held scope.now verb (requested_of requested.entry)
         (sighted v.items)) }
 {
     let bindings: &'p [Binding] = policy.bindings();
@@ -48,32 +47,32 @@ pub(crate) fn sightings_of<'p>(
     for no in numbers {
         let place = policy.place(*no).binding;
         if next <= place {
-            see_binding(alloc, &bindings[place], place, asked, requested, &mut seen)?;
+            see_binding(alloc, &bindings[place], place, scope, requested, &mut seen)?;
             next = place + 1;
         }
     }
     Ok(seen)
 }
 
-// Adds the sightings among the subjects of this binding, which is at `place`, if the binding counts
+// Adds the sightings among the subjects of this binding, which is at `place`, if the binding is live
 // where it is asked about.
 fn see_binding<'p>(
     alloc: Global,
     binding: &'p Binding,
     place: usize,
-    asked: Where<'_>,
+    scope: &Scope,
     requested: Requested<'_>,
     seen: &mut Vec<Sighting<'p>>,
 ) -> Result<(), AllocError>
     ensures { (held : Held) (verb : Text) → slice_get held.bindings place ≡ Some binding.now
         → BringsRuleAt held verb (requested_of requested.entry) place
-        → AreSeen held (where_of asked.entry) verb (requested_of requested.entry) place 0
+        → AreSeen held scope.now verb (requested_of requested.entry) place 0
         (sighted seen.old.items)
         → OnOk result
-        (AreSeen held (where_of asked.entry) verb (requested_of requested.entry) (place + 1) 0
+        (AreSeen held scope.now verb (requested_of requested.entry) (place + 1) 0
         (sighted seen.new.items)) }
 {
-    if counts_in(asked, binding, requested.target()) {
+    if is_live_in(scope, binding, requested.target()) {
         see_subjects(alloc, binding, place, seen)?;
     }
     Ok(())
@@ -86,12 +85,12 @@ fn see_subjects<'p>(
     binding_place: usize,
     seen: &mut Vec<Sighting<'p>>,
 ) -> Result<(), AllocError>
-    ensures { (held : Held) (there : WhereView) (verb : Text) (t : RequestedView)
+    ensures { (held : Held) (scope : Scope) (verb : Text) (t : RequestedView)
         → slice_get held.bindings binding_place ≡ Some binding.now
-        → BringsAt held there verb t binding_place
-        → AreSeen held there verb t binding_place 0 (sighted seen.old.items)
+        → BringsAt held scope verb t binding_place
+        → AreSeen held scope verb t binding_place 0 (sighted seen.old.items)
         → OnOk result
-        (AreSeen held there verb t (binding_place + 1) 0 (sighted seen.new.items)) }
+        (AreSeen held scope verb t (binding_place + 1) 0 (sighted seen.new.items)) }
 {
     for (subject_place, subject) in binding.subjects.as_slice().iter().enumerate() {
         if let Some(key) = subject_key(alloc, subject, binding.namespace.as_ref())? {

@@ -7,6 +7,7 @@ pub mod Lists
 pub mod OwnWords
 pub mod Places
 pub mod Policies
+pub mod Scopes
 pub mod Sources
 pub mod Unions
 pub mod Universes

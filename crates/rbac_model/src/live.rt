@@ -2,8 +2,9 @@
 
 ghost use Rattle.std.specs.Prelude.{IsTrue, ◌↔◌};
 ghost use Rattle.rbac_model.specs.Policies.{Live};
+ghost use Rattle.rbac_model.specs.Scopes.{LiveIn, MayBeLiveIn};
 
-use rbac_terms::{Binding, Target, Word};
+use rbac_terms::{Binding, Scope, Target, Word};
 
 /// Whether the binding is live for this target in this namespace (Using RBAC Authorization): a
 /// ClusterRoleBinding is live everywhere, a RoleBinding only for resources of its own namespace,
@@ -19,5 +20,29 @@ pub fn is_live(binding: &Binding, namespace: &Word, target: &Target) -> bool
             }
             !namespace.is_empty() && own == namespace
         }
+    }
+}
+
+/// Whether the binding is live for this target where a request is asked (own). Doesn't allocate.
+pub fn is_live_in(scope: &Scope, binding: &Binding, target: &Target) -> bool
+    ensures { IsTrue result ↔ LiveIn scope.now binding.now.namespace target.now }
+{
+    match (scope, &binding.namespace) {
+        (Scope::Namespace(namespace), _) => is_live(binding, namespace, target),
+        (Scope::Anywhere, Some(own)) => is_live(binding, own, target),
+        (Scope::Anywhere, None) => true,
+        (Scope::ClusterWide, own) => own.is_none(),
+    }
+}
+
+/// Whether the binding may be live where something is asked, for some target (own). Doesn't
+/// allocate.
+pub fn may_be_live_in(scope: &Scope, binding: &Binding) -> bool
+    ensures { IsTrue result ↔ MayBeLiveIn scope.now binding.now.namespace }
+{
+    match (scope, &binding.namespace) {
+        (Scope::Anywhere, _) | (_, None) => true,
+        (Scope::Namespace(asked), Some(own)) => !asked.is_empty() && own == asked,
+        (Scope::ClusterWide, Some(_)) => false,
     }
 }

@@ -4,6 +4,8 @@ use Rattle.std.specs.Prelude.{if◌then◌else◌, option_map, vec_items}
 use Rattle.std.specs.List.{slice_split}
 use Rattle.rbac_terms.specs.Text.{Text}
 use Rattle.rbac_terms.specs.Principals.{Who, AsUser, AsMember}
+use Rattle.rbac_terms.specs.declared.scope.Scope.{Scope}
+use Rattle.rbac_terms.specs.declared.scope.Scope.TheVariants.{Anywhere, Namespace, ClusterWide}
 use Rattle.rbac_token.specs.Marks.{IsTokenOfMark}
 use Rattle.rbac_token.specs.declared.mark.Mark.{Mark}
 use Rattle.rbac_question.specs.Asked.{AsksFor, LacksType, HasUrlSubresource}
@@ -15,9 +17,6 @@ use Rattle.rbac_question.specs.declared.command.Change.TheVariants.{After, Over}
 use Rattle.rbac_question.specs.declared.command.HolderOptions.{HolderOptions}
 use Rattle.rbac_question.specs.declared.command.MatrixOptions.{MatrixOptions}
 use Rattle.rbac_question.specs.declared.command.Question.{Question}
-use Rattle.rbac_question.specs.declared.command.Scope.{Scope}
-use Rattle.rbac_question.specs.declared.command.Scope.TheVariants.{Everywhere, Namespace}
-use Rattle.rbac_question.specs.declared.command.Scope.TheVariants.{ClusterWide}
 use Rattle.rbac_question.specs.declared.fault.QuestionFault.{QuestionFault}
 use Rattle.rbac_question.specs.declared.fault.QuestionFault.TheVariants.{EmptyWord, UrlSubresource}
 use Rattle.rbac_question.specs.declared.fault.QuestionFault.TheVariants.{BadToken, BadPrincipal}
@@ -132,11 +131,11 @@ NamesPrincipal l (AsUser name given) = (l.who ≡ codes "u:" ++ name) × (name �
 NamesPrincipal l (AsMember group) = (l.who ≡ codes "g:" ++ group) × (group ≢ [])
     × (l.groups ≡ []) × All (λ whole. whole ≡ []) l.whole_groups
 
--- `-A` is all of the cluster at once and wins over `-n`; an empty or missing `-n` is everywhere
+-- `-A` is all of the cluster at once and wins over `-n`; an empty or missing `-n` is anywhere
 -- (own)
 abbrev pub scope_meant : Bool → Text → Scope
 scope_meant true given = ClusterWide
-scope_meant false given = if length given == 0 then Everywhere else Namespace given
+scope_meant false given = if length given == 0 then Anywhere else Namespace given
 
 -- what a `rules` line means: it asks for the rules that the principal has there
 abbrev pub MeansRules : RulesParts → Action → Type 0

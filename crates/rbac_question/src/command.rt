@@ -1,7 +1,7 @@
 //! What a command line says.
 
 use crate::asked::Asked;
-use rbac_terms::{Principal, Word};
+use rbac_terms::{Principal, Scope, Word};
 use rbac_token::Mark;
 
 /// Whether a verb may be used on what is asked for, in a namespace (own, after `kubectl auth
@@ -16,17 +16,6 @@ pub struct Question {
     pub verb: Word,
     /// What TARGET and `--subresource` ask for.
     pub asked: Asked,
-}
-
-/// Where rules are asked for (own).
-#[derive(Drop)]
-pub enum Scope {
-    /// Wherever a binding is in force: neither `-n` nor `-A` is given.
-    Everywhere,
-    /// In the namespace that `-n` names; never empty.
-    Namespace(Word),
-    /// In all of the cluster at once: `-A` is given.
-    ClusterWide,
 }
 
 /// Which holders `who-can` lists, and what of each.

@@ -8,6 +8,7 @@ mod fault;
 mod line;
 
 pub use asked::{Asked, AskedFor};
-pub use command::{Action, Change, Command, HolderOptions, MatrixOptions, Question, Scope};
+pub use command::{Action, Change, Command, HolderOptions, MatrixOptions, Question};
 pub use fault::QuestionFault;
 pub use line::{CanILine, DiffLine, LintLine, MatrixLine, QuestionLine, RulesLine, WhoCanLine};
+pub use rbac_terms::Scope;

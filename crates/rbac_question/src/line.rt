@@ -17,9 +17,9 @@ ghost use Rattle.rbac_question.specs.Lines.{IsCodeWord, AreCodesIn, HasBadCode, 
 ghost use Rattle.rbac_question.specs.Lines.{RefusesLint, MeansDiff, RefusesDiff};
 
 use crate::asked::{Asked, check_target};
-use crate::command::{Action, Change, HolderOptions, MatrixOptions, Question, Scope};
+use crate::command::{Action, Change, HolderOptions, MatrixOptions, Question};
 use crate::fault::QuestionFault;
-use rbac_terms::{ModelFault, Principal, Word, Words};
+use rbac_terms::{ModelFault, Principal, Scope, Word, Words};
 use rbac_token::{Mark, mark_of_token};
 use std::alloc::{AllocError, Global};
 use std::marker::Model;
@@ -361,7 +361,7 @@ fn principal_of(alloc: Global, line: &RulesLine<'_, '_>) -> Result<Principal, Qu
 }
 
 // Where `-A` and `-n` ask for rules (own): with `-A` in all of the cluster at once, otherwise in
-// the namespace given, or everywhere if none is given.
+// the namespace given, or anywhere if none is given.
 fn scope_from(alloc: Global, all: bool, given: &str) -> Result<Scope, AllocError>
     ensures { IfOk result (λ scope. scope ≡ scope_meant all given.now) }
 {
@@ -369,7 +369,7 @@ fn scope_from(alloc: Global, all: bool, given: &str) -> Result<Scope, AllocError
         return Ok(Scope::ClusterWide);
     }
     if given.is_empty() {
-        return Ok(Scope::Everywhere);
+        return Ok(Scope::Anywhere);
     }
     Ok(Scope::Namespace(Word::from_slice(alloc, given.as_bytes())?))
 }

@@ -7,22 +7,25 @@ use Rattle.rbac_terms.specs.Granting.{Names}
 use Rattle.rbac_terms.specs.Text.{Text}
 use Rattle.rbac_model.specs.Policies.{GrantView}
 use Rattle.rbac_model.proofs.Decided.{Decided, both, not_so, same_text, is_nil, names, first_of}
-use Rattle.rbac_rules.specs.Effective.{ScopeView, Everywhere, InNamespace, ClusterWide, RuleView, IsInForce, AreRulesBy}
+use Rattle.rbac_terms.specs.declared.scope.Scope.{Scope}
+use Rattle.rbac_terms.specs.declared.scope.Scope.TheVariants.{Anywhere, Namespace, ClusterWide}
+use Rattle.rbac_model.specs.Scopes.{MayBeLiveIn}
+use Rattle.rbac_rules.specs.Effective.{RuleView, AreRulesBy}
 
-in_force : (scope : ScopeView) (own : Option Text) → Decided (IsInForce scope own)
-in_force Everywhere own = inl tt
-in_force (InNamespace asked) None = inl tt
-in_force (InNamespace asked) (Some own) = both (not_so (is_nil asked)) (same_text own asked)
-in_force ClusterWide None = inl refl
-in_force ClusterWide (Some own) = inr (λ e. cc)
+may_be_live : (scope : Scope) (own : Option Text) → Decided (MayBeLiveIn scope own)
+may_be_live Anywhere own = inl tt
+may_be_live (Namespace asked) None = inl tt
+may_be_live (Namespace asked) (Some own) = both (not_so (is_nil asked)) (same_text own asked)
+may_be_live ClusterWide None = inl refl
+may_be_live ClusterWide (Some own) = inr (λ e. cc)
 
 -- the rules that somebody has by grants are a list
-pub are_there : (who : Who) (scope : ScopeView) (gs : List GrantView) → (xs : List RuleView) × AreRulesBy who scope gs xs
+pub are_there : (who : Who) (scope : Scope) (gs : List GrantView) → (xs : List RuleView) × AreRulesBy who scope gs xs
 are_there who scope [] = ([], refl)
 are_there who scope (g ∷ gs) =
     let rest = are_there who scope gs in
     let b = g.binding in
-    elim (in_force scope b.namespace) [
+    elim (may_be_live scope b.namespace) [
       | inl force ↦ elim (first_of (λ s. Names s b.namespace who) (λ s. names s b.namespace who) b.subjects) [
         | inl f ↦
             let at = f.2.here in

@@ -9,14 +9,17 @@ use Rattle.rbac_terms.specs.Matching.{RuleAllows}
 use Rattle.rbac_model.specs.Lists.{IsFirstAt}
 use Rattle.rbac_model.specs.Policies.{PolicyView, IsPolicy, GrantView, GrantAllows, Live}
 use Rattle.rbac_model.proofs.GrantNumbers.{some_grant, grant_allows, any_at}
-use Rattle.rbac_rules.specs.Effective.{ScopeView, Everywhere, InNamespace, ClusterWide, RuleView, IsInForce, Has, IsByFirstSubject, AreRulesBy, AreEffective, AllowsThere, Decide, Explain}
+use Rattle.rbac_terms.specs.declared.scope.Scope.{Scope}
+use Rattle.rbac_terms.specs.declared.scope.Scope.TheVariants.{Anywhere, Namespace, ClusterWide}
+use Rattle.rbac_model.specs.Scopes.{MayBeLiveIn}
+use Rattle.rbac_rules.specs.Effective.{RuleView, Has, IsByFirstSubject, AreRulesBy, AreEffective, AllowsThere, Decide, Explain}
 use Rattle.rbac_rules.proofs.RuleLists.{later_first}
 
 split : (P : RuleView → Type 0) (x : RuleView) (xs : List RuleView) → Any P (x ∷ xs) → P x ⊎ Any P xs
 split P x xs (zero, y, l, at, h) = inl (subst P (sym at) h)
 split P x xs (suc k, y, l, at, h) = inr (k, y, omega arith, at, h)
 
-module _ (who : Who) (scope : ScopeView) (P : GrantView → Type 0) where
+module _ (who : Who) (scope : Scope) (P : GrantView → Type 0) where
   -- what a grant has, whose rule somebody has, is among their rules
   had_in : (gs : List GrantView) (xs : List RuleView) → AreRulesBy who scope gs xs → (n : ℕ) (g : GrantView) → slice_get gs n ≡ Some g → Has who scope g → P g → Any (λ (x : RuleView). P x.grant) xs
   had_in [] xs are n g at has h = cc
@@ -42,18 +45,18 @@ module _ (who : Who) (scope : ScopeView) (P : GrantView → Type 0) where
         (suc r.0, r.1, r.2, r.3, r.4)
   ]
 
-in_namespace : (namespace : Text) (own : Option Text) (t : What) → Live own namespace t → IsInForce (InNamespace namespace) own
+in_namespace : (namespace : Text) (own : Option Text) (t : What) → Live own namespace t → MayBeLiveIn (Namespace namespace) own
 in_namespace namespace None t live = tt
 in_namespace namespace (Some own) (Resource group text name) live = live
 in_namespace namespace (Some own) (Url path) live = absurd live
 
-in_none : (own : Option Text) (t : What) → Live own [] t → IsInForce ClusterWide own
+in_none : (own : Option Text) (t : What) → Live own [] t → MayBeLiveIn ClusterWide own
 in_none None t live = refl
 in_none (Some own) (Resource group text name) live = absurd (live.0 refl)
 in_none (Some own) (Url path) live = absurd live
 
 module _ (p : PolicyView) (ok : IsPolicy p) (who : Who) where
-  decided : (scope : ScopeView) (namespace : Text) → ((own : Option Text) (t : What) → Live own namespace t → IsInForce scope own)
+  decided : (scope : Scope) (namespace : Text) → ((own : Option Text) (t : What) → Live own namespace t → MayBeLiveIn scope own)
       → (xs : List RuleView) → AreEffective p who scope xs → Decide p who namespace xs
   decided scope namespace reaches xs are verb t =
       let P : GrantView → Type 0 = λ g. Live g.binding.namespace namespace t × RuleAllows g.rule.rule verb t in (
@@ -66,18 +69,18 @@ module _ (p : PolicyView) (ok : IsPolicy p) (who : Who) where
             grant_allows p ok who namespace verb t (any_at (GrantAllows who namespace verb t) p.grants r.0 r.1 r.2 (r.4.0, r.3.1, r.4.1)),
       )
 
-  pub decided_there : (namespace : Text) (xs : List RuleView) → AreEffective p who (InNamespace namespace) xs → Decide p who namespace xs
-  decided_there namespace = decided (InNamespace namespace) namespace (in_namespace namespace)
+  pub decided_there : (namespace : Text) (xs : List RuleView) → AreEffective p who (Namespace namespace) xs → Decide p who namespace xs
+  decided_there namespace = decided (Namespace namespace) namespace (in_namespace namespace)
 
-  pub decided_anywhere : (namespace : Text) (xs : List RuleView) → AreEffective p who Everywhere xs → Decide p who namespace xs
-  decided_anywhere namespace = decided Everywhere namespace (λ own t live. tt)
+  pub decided_anywhere : (namespace : Text) (xs : List RuleView) → AreEffective p who Anywhere xs → Decide p who namespace xs
+  decided_anywhere namespace = decided Anywhere namespace (λ own t live. tt)
 
   pub decided_cluster_wide : (xs : List RuleView) → AreEffective p who ClusterWide xs → Decide p who [] xs
   decided_cluster_wide = decided ClusterWide [] in_none
 
 module _ (p : PolicyView) (who : Who) where
   -- the first grant that allows is that of the first rule that does
-  first_had : (scope : ScopeView) (namespace verb : Text) (t : What) → ((own : Option Text) → Live own namespace t → IsInForce scope own)
+  first_had : (scope : Scope) (namespace verb : Text) (t : What) → ((own : Option Text) → Live own namespace t → MayBeLiveIn scope own)
       → (gs : List GrantView) (xs : List RuleView) (i : ℕ) (x : RuleView) → AreRulesBy who scope gs xs → IsFirstAt (AllowsThere namespace verb t) xs i x
       → ((no : ℕ) × IsFirstAt (GrantAllows who namespace verb t) gs no x.grant) × IsByFirstSubject who x
   first_had scope namespace verb t reaches [] xs i x are first = let none = sym (ap (λ (l : List RuleView). slice_get l i) are) ∙ first.here in cc
@@ -106,17 +109,17 @@ module _ (p : PolicyView) (who : Who) where
       let not_here : ¬ GrantAllows who namespace verb t g = λ h. whole.none_before 0 y (omega arith) refl (subst Q (sym a.1.2) (h.0, h.2)) in
       ((suc r.0.0, later_first (GrantAllows who namespace verb t) g gs r.0.0 x.grant not_here r.0.1), r.1)
 
-  explained : (scope : ScopeView) (namespace : Text) → ((own : Option Text) (t : What) → Live own namespace t → IsInForce scope own)
+  explained : (scope : Scope) (namespace : Text) → ((own : Option Text) (t : What) → Live own namespace t → MayBeLiveIn scope own)
       → (xs : List RuleView) → AreEffective p who scope xs → Explain p who namespace xs
   explained scope namespace reaches xs are verb t i x first =
       let r = first_had scope namespace verb t (λ own. reaches own t) p.grants xs i x are first in
       record { grant = r.0; subject = r.1 }
 
-  pub explained_there : (namespace : Text) (xs : List RuleView) → AreEffective p who (InNamespace namespace) xs → Explain p who namespace xs
-  explained_there namespace = explained (InNamespace namespace) namespace (in_namespace namespace)
+  pub explained_there : (namespace : Text) (xs : List RuleView) → AreEffective p who (Namespace namespace) xs → Explain p who namespace xs
+  explained_there namespace = explained (Namespace namespace) namespace (in_namespace namespace)
 
-  pub explained_anywhere : (namespace : Text) (xs : List RuleView) → AreEffective p who Everywhere xs → Explain p who namespace xs
-  explained_anywhere namespace = explained Everywhere namespace (λ own t live. tt)
+  pub explained_anywhere : (namespace : Text) (xs : List RuleView) → AreEffective p who Anywhere xs → Explain p who namespace xs
+  explained_anywhere namespace = explained Anywhere namespace (λ own t live. tt)
 
   pub explained_cluster_wide : (xs : List RuleView) → AreEffective p who ClusterWide xs → Explain p who [] xs
   explained_cluster_wide = explained ClusterWide [] in_none

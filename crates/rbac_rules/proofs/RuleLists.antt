@@ -11,7 +11,8 @@ use Rattle.rbac_terms.specs.declared.granting.Subject.{Subject}
 use Rattle.rbac_terms.proofs.Reading.{read_some}
 use Rattle.rbac_model.specs.Lists.{IsFirstAt}
 use Rattle.rbac_model.specs.Policies.{GrantView}
-use Rattle.rbac_rules.specs.Effective.{ScopeView, RuleView, Has, IsByFirstSubject, AreRulesBy}
+use Rattle.rbac_terms.specs.declared.scope.Scope.{Scope}
+use Rattle.rbac_rules.specs.Effective.{RuleView, Has, IsByFirstSubject, AreRulesBy}
 
 -- what is first in a list is so after one more that hasn't the property
 pub later_first : {X : Type 0} (P : X → Type 0) (y : X) (ys : List X) (i : ℕ) (x : X) → ¬ P y → IsFirstAt P ys i x → IsFirstAt P (y ∷ ys) (suc i) x
@@ -42,7 +43,7 @@ one_rule who x y e f g =
     let places : x.subject_place ≡ y.subject_place = one_place (λ s. Names s y.grant.binding.namespace who) y.grant.binding.subjects x.subject_place y.subject_place h.0 g.0 h.1 g.1 in
     ap₂ (λ (v : GrantView) (n : ℕ). let r : RuleView = record { grant = v; subject_place = n } in r) e places
 
-module _ (who : Who) (scope : ScopeView) where
+module _ (who : Who) (scope : Scope) where
   -- the first grant's rule is the first
   pub taken_first : (g : GrantView) (gs : List GrantView) (x : RuleView) → x.grant ≡ g → Has who scope g → IsByFirstSubject who x
       → (all : List RuleView) → AreRulesBy who scope (g ∷ gs) all ↔ ((others : List RuleView) × (all ≡ x ∷ others) × AreRulesBy who scope gs others)

@@ -11,7 +11,9 @@ use Rattle.rbac_terms.specs.declared.granting.Subject.{Subject}
 use Rattle.rbac_model.specs.Lists.{IsFirstAt}
 use Rattle.rbac_model.specs.Policies.{PolicyView, IsPolicy, GrantView, IsOfBinding, BindingNames}
 use Rattle.rbac_model.proofs.BindingPlaces.{of_some_binding}
-use Rattle.rbac_rules.specs.Effective.{ScopeView, IsInForce, AreRulesBy}
+use Rattle.rbac_terms.specs.declared.scope.Scope.{Scope}
+use Rattle.rbac_model.specs.Scopes.{MayBeLiveIn}
+use Rattle.rbac_rules.specs.Effective.{AreRulesBy}
 use Rattle.rbac_rules.specs.Left.{LeftView, IsTaken, rule_shown}
 use Rattle.rbac_rules.specs.declared.effective.EffectiveRule.{EffectiveRule}
 use Rattle.rbac_model.specs.Sources.{grant_of}
@@ -19,9 +21,9 @@ use Rattle.rbac_rules.specs.Runs.{HasAt, HasNone, IsRun, IsRunOf, IsRunFrom, IsN
 use Rattle.rbac_rules.specs.declared.run.Run.{Run}
 use Rattle.rbac_rules.proofs.RuleLists.{taken_first, from_grant, passed, none_left}
 
-module _ (p : PolicyView) (who : Who) (scope : ScopeView) where
+module _ (p : PolicyView) (who : Who) (scope : Scope) where
   abbrev HasOf : Binding → Type 0
-  HasOf b = IsInForce scope b.namespace × BindingNames b who
+  HasOf b = MayBeLiveIn scope b.namespace × BindingNames b who
 
   module _ (place : ℕ) (b : Binding) (there : slice_get p.held.bindings place ≡ Some b) where
     -- the grants of the binding at a place are its own
@@ -59,7 +61,7 @@ module _ (p : PolicyView) (who : Who) (scope : ScopeView) where
           ],
         )
 
-        pub run_of_binding : (subject : ℕ) → from ≢ to → IsInForce scope b.namespace → ((s : Subject) × IsFirstAt (λ s. Names s b.namespace who) b.subjects subject s)
+        pub run_of_binding : (subject : ℕ) → from ≢ to → MayBeLiveIn scope b.namespace → ((s : Subject) × IsFirstAt (λ s. Names s b.namespace who) b.subjects subject s)
             → IsRunOf p who scope place (record { no = from; end = to; subject_place = subject; next_place = place + 1 })
         run_of_binding subject ne force first =
             let at = first.1.here in

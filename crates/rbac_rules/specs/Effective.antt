@@ -1,33 +1,20 @@
 -- The rules that somebody has: what `rules` lists.
-use Rattle.std.specs.Prelude.{◌≡◌, ℕ, ◌⊎◌, ◌↔◌, List, [], ◌∷◌, Option, None, Any}
+use Rattle.std.specs.Prelude.{◌≡◌, ℕ, ◌⊎◌, ◌↔◌, List, [], ◌∷◌, Any}
 use Rattle.rbac_terms.specs.Text.{Text}
 use Rattle.rbac_terms.specs.Targets.{What}
 use Rattle.rbac_terms.specs.Principals.{Who}
 use Rattle.rbac_terms.specs.Granting.{Names}
 use Rattle.rbac_terms.specs.Matching.{RuleAllows}
 use Rattle.rbac_terms.specs.declared.granting.Subject.{Subject}
+use Rattle.rbac_terms.specs.declared.scope.Scope.{Scope}
 use Rattle.rbac_model.specs.Lists.{IsFirstAt}
 use Rattle.rbac_model.specs.Policies.{PolicyView, GrantView, BindingNames, Live, Allows, IsWhy}
-use Rattle.rbac_model.specs.Universes.{LiveForSome}
+use Rattle.rbac_model.specs.Scopes.{MayBeLiveIn}
 
--- where rules are asked for: everywhere, in one namespace, or in all of the cluster at once (own)
-pub data ScopeView : Type 0 where
-  Everywhere : ScopeView
-  InNamespace : (namespace : Text) → ScopeView
-  ClusterWide : ScopeView
-
--- a binding in that namespace, or in none, is in force where rules are asked for (own): everywhere,
--- any; in one namespace, those that are live there for some target; in all of the cluster at once,
--- ClusterRoleBindings alone
-abbrev pub IsInForce : ScopeView → Option Text → Type 0
-IsInForce Everywhere own = Unit {0}
-IsInForce (InNamespace asked) own = LiveForSome own asked
-IsInForce ClusterWide own = own ≡ None
-
--- somebody has the rule of a grant: the grant's binding is in force where rules are asked for, and
+-- somebody has the rule of a grant: the grant's binding may be live where rules are asked for, and
 -- names them (Using RBAC Authorization)
-abbrev pub Has : Who → ScopeView → GrantView → Type 0
-Has who scope g = IsInForce scope g.binding.namespace × BindingNames g.binding who
+abbrev pub Has : Who → Scope → GrantView → Type 0
+Has who scope g = MayBeLiveIn scope g.binding.namespace × BindingNames g.binding who
 
 -- a rule that somebody has: the grant that brings it, and the place of a subject of the grant's
 -- binding
@@ -43,7 +30,7 @@ IsByFirstSubject who x = (s : Subject)
 
 -- the rules that somebody has by grants: one for each grant whose rule they have, in the order of
 -- the grants (own)
-abbrev pub AreRulesBy : Who → ScopeView → List GrantView → List RuleView → Type 0
+abbrev pub AreRulesBy : Who → Scope → List GrantView → List RuleView → Type 0
 AreRulesBy who scope [] xs = xs ≡ []
 AreRulesBy who scope (g ∷ gs) xs =
     ((¬ Has who scope g) × AreRulesBy who scope gs xs)
@@ -52,7 +39,7 @@ AreRulesBy who scope (g ∷ gs) xs =
     × AreRulesBy who scope gs rest × (xs ≡ x ∷ rest)))
 
 -- the effective rules of somebody, where they are asked for: those by the policy's grants
-abbrev pub AreEffective : PolicyView → Who → ScopeView → List RuleView → Type 0
+abbrev pub AreEffective : PolicyView → Who → Scope → List RuleView → Type 0
 AreEffective p who scope xs = AreRulesBy who scope p.grants xs
 
 -- a rule that somebody has allows the verb on the target in that namespace: its binding is live

@@ -4,21 +4,11 @@ use Rattle.std.specs.Prelude.{slice_get}
 use Rattle.std.specs.Iterator.{Count, at_most}
 use Rattle.rbac_terms.specs.Principals.{Who}
 use Rattle.rbac_terms.specs.declared.granting.Binding.{Binding}
+use Rattle.rbac_terms.specs.declared.scope.Scope.{Scope}
 use Rattle.rbac_model.specs.Policies.{GrantView}
 use Rattle.rbac_model.specs.Sources.{grant_of}
-use Rattle.rbac_rules.specs.Effective.{ScopeView, Everywhere, InNamespace, ClusterWide, RuleView}
-use Rattle.rbac_rules.specs.Effective.{AreRulesBy}
-use Rattle.rbac_rules.specs.declared.scope.Scope.{Scope}
-use Rattle.rbac_rules.specs.declared.scope.Scope.TheVariants.{Everywhere as AskedEverywhere}
-use Rattle.rbac_rules.specs.declared.scope.Scope.TheVariants.{Namespace as AskedIn}
-use Rattle.rbac_rules.specs.declared.scope.Scope.TheVariants.{ClusterWide as AskedClusterWide}
+use Rattle.rbac_rules.specs.Effective.{RuleView, AreRulesBy}
 use Rattle.rbac_rules.specs.declared.effective.EffectiveRule.{EffectiveRule}
-
--- where rules are asked for, as the program holds it
-abbrev pub scope_of : Scope → ScopeView
-scope_of AskedEverywhere = Everywhere
-scope_of (AskedIn namespace) = InNamespace namespace.now
-scope_of AskedClusterWide = ClusterWide
 
 -- the rule that is shown
 abbrev pub rule_shown : EffectiveRule → RuleView
@@ -28,7 +18,7 @@ rule_shown x = record { grant = grant_of x.grant; subject_place = x.subject_plac
 -- and the grants that haven't been passed
 pub record LeftView : Type 0 where
   pub who : Who
-  pub scope : ScopeView
+  pub scope : Scope
   pub bindings : List Binding
   pub grants : List GrantView
 

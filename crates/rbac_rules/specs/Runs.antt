@@ -1,22 +1,23 @@
 -- The grants of one binding, of which somebody has the rules.
 use Rattle.std.specs.Prelude.{◌≡◌, ℕ, ◌+◌, ◌<◌, ◌≤◌, ◌↔◌, Some, slice_get, length}
 use Rattle.rbac_terms.specs.Principals.{Who}
+use Rattle.rbac_terms.specs.declared.scope.Scope.{Scope}
 use Rattle.rbac_model.specs.Policies.{PolicyView, GrantView, IsOfBinding}
-use Rattle.rbac_rules.specs.Effective.{ScopeView, Has, IsByFirstSubject}
+use Rattle.rbac_rules.specs.Effective.{Has, IsByFirstSubject}
 use Rattle.rbac_rules.specs.declared.run.Run.{Run}
 
 -- somebody has the rule of the grant with that number, which is of the binding at that place
-abbrev pub HasAt : PolicyView → Who → ScopeView → ℕ → ℕ → Type 0
+abbrev pub HasAt : PolicyView → Who → Scope → ℕ → ℕ → Type 0
 HasAt p who scope n at = IsOfBinding p n at
     × ((g : GrantView) × (slice_get p.grants n ≡ Some g) × Has who scope g)
 
 -- somebody has the rule of no grant of the bindings at these places
-abbrev pub HasNone : PolicyView → Who → ScopeView → ℕ → ℕ → Type 0
+abbrev pub HasNone : PolicyView → Who → Scope → ℕ → ℕ → Type 0
 HasNone p who scope from to = (n at : ℕ) → from ≤ at → at < to → ¬ HasAt p who scope n at
 
 -- somebody has the rules of the grants of the run that are left, by the first subject that names
 -- them; the other grants that are left are those of the bindings from the run's next place on
-pub record IsRun (p : PolicyView) (who : Who) (scope : ScopeView) (r : Run) : Type 0 where
+pub record IsRun (p : PolicyView) (who : Who) (scope : Scope) (r : Run) : Type 0 where
   pub ordered : r.no ≤ r.end
   pub within : r.end ≤ length p.grants
   pub had : (n : ℕ) (g : GrantView) → r.no ≤ n → n < r.end → slice_get p.grants n ≡ Some g
@@ -25,7 +26,7 @@ pub record IsRun (p : PolicyView) (who : Who) (scope : ScopeView) (r : Run) : Ty
   pub ends : (n at : ℕ) → IsOfBinding p n at → (n < r.end) ↔ (at < r.next_place)
 
 -- all grants of the binding at that place, of which somebody has the rules
-pub record IsRunOf (p : PolicyView) (who : Who) (scope : ScopeView) (place : ℕ)
+pub record IsRunOf (p : PolicyView) (who : Who) (scope : Scope) (place : ℕ)
     (r : Run) : Type 0 where
   pub run : IsRun p who scope r
   pub some : r.no < r.end
@@ -33,12 +34,12 @@ pub record IsRunOf (p : PolicyView) (who : Who) (scope : ScopeView) (place : ℕ
   pub starts : (n at : ℕ) → IsOfBinding p n at → (n < r.no) ↔ (at < place)
 
 -- all grants of the first binding, from that place on, of which somebody has the rules
-abbrev pub IsRunFrom : PolicyView → Who → ScopeView → ℕ → Run → Type 0
+abbrev pub IsRunFrom : PolicyView → Who → Scope → ℕ → Run → Type 0
 IsRunFrom p who scope from r = (place : ℕ) × (from ≤ place) × IsRunOf p who scope place r
     × HasNone p who scope from place
 
 -- a run with a grant that is left; somebody has the rule of none of the grants that are passed over
-pub record IsNextRun (p : PolicyView) (who : Who) (scope : ScopeView) (from : ℕ)
+pub record IsNextRun (p : PolicyView) (who : Who) (scope : Scope) (from : ℕ)
     (r : Run) : Type 0 where
   pub run : IsRun p who scope r
   pub some : r.no < r.end

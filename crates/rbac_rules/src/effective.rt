@@ -1,12 +1,11 @@
 //! The rules that somebody has.
 
 ghost use Rattle.std.specs.Prelude.{◌≡◌};
-ghost use Rattle.rbac_rules.specs.Left.{GivesRule, left_at_most, scope_of};
+ghost use Rattle.rbac_rules.specs.Left.{GivesRule, left_at_most};
 
 use crate::run::{Run, next_run};
-use crate::scope::Scope;
 use rbac_model::{Grant, Policy};
-use rbac_terms::Principal;
+use rbac_terms::{Principal, Scope};
 use std::marker::Model;
 
 /// A rule that somebody has.
@@ -24,39 +23,39 @@ pub struct EffectiveRule<'a> {
 pub struct EffectiveRules<'a> {
     policy: &'a Policy,
     who: &'a Principal,
-    scope: Scope<'a>,
+    scope: &'a Scope,
     run: Run,
 }
 
 impl<'a> Model for EffectiveRules<'a> {
     ghost use Rattle.std.specs.Prelude.{drop};
-    ghost use Rattle.rbac_rules.specs.Left.{LeftView, scope_of};
+    ghost use Rattle.rbac_rules.specs.Left.{LeftView};
     ghost use Rattle.rbac_rules.specs.Runs.{IsRun};
 
     ghost Value = { LeftView };
 
     ghost view = { λ it. record {
       who = it.who.now;
-      scope = scope_of it.scope;
+      scope = it.scope.now;
       bindings = it.policy.now.held.bindings;
       grants = drop it.run.no it.policy.now.grants;
     } };
 
-    ghost invariant = { λ it. IsRun it.policy.now it.who.now (scope_of it.scope) it.run };
+    ghost invariant = { λ it. IsRun it.policy.now it.who.now it.scope.now it.run };
 }
 
 /// The rules that a user with the groups given and implied, or a member of one group, has where
-/// they are asked for (Using RBAC Authorization): one for each grant whose binding is in force
-/// there and names them, in order of bindings, then of their rules (own). A dangling binding brings
+/// they are asked for (Using RBAC Authorization): one for each grant whose binding may be
+/// live there and names them, in order of bindings, then of their rules (own). A dangling binding brings
 /// none, and an aggregated role those that it gathers. Neither this nor the iteration allocates.
 pub fn effective_rules<'a>(
     policy: &'a Policy,
     who: &'a Principal,
-    scope: Scope<'a>,
+    scope: &'a Scope,
 ) -> EffectiveRules<'a>
     ensures { result ≡ record {
       who = who.now;
-      scope = scope_of scope.entry;
+      scope = scope.now;
       bindings = policy.now.held.bindings;
       grants = policy.now.grants;
     } }

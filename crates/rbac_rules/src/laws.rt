@@ -3,21 +3,23 @@
 ghost use Rattle.std.specs.Prelude.{◌≡◌, [], List};
 ghost use Rattle.rbac_terms.specs.Principals.{Who};
 ghost use Rattle.rbac_terms.specs.Text.{Text};
+ghost use Rattle.rbac_terms.specs.declared.scope.Scope.{Scope};
+ghost use Rattle.rbac_terms.specs.declared.scope.Scope.TheVariants.{Anywhere, Namespace};
+ghost use Rattle.rbac_terms.specs.declared.scope.Scope.TheVariants.{ClusterWide};
 ghost use Rattle.rbac_model.specs.Policies.{PolicyView, IsPolicy};
-ghost use Rattle.rbac_rules.specs.Effective.{RuleView, ScopeView, Everywhere, InNamespace};
-ghost use Rattle.rbac_rules.specs.Effective.{ClusterWide, AreEffective, Decide, Explain};
+ghost use Rattle.rbac_rules.specs.Effective.{RuleView, AreEffective, Decide, Explain};
 
 /// The rules that somebody has are one list: any two lists of them are the same, in the same order
 /// (own).
 pub fn effective_rules_are_one()
-    ensures { (p : PolicyView) (who : Who) (scope : ScopeView) (xs others : List RuleView)
+    ensures { (p : PolicyView) (who : Who) (scope : Scope) (xs others : List RuleView)
         → AreEffective p who scope xs → AreEffective p who scope others → xs ≡ others }
 {}
 
 /// There are rules of everybody, wherever they are asked for: a list, which may be empty (own). So
 /// what was printed of them, when printing stopped, is a part of one.
 pub fn effective_rules_are_there()
-    ensures { (p : PolicyView) (who : Who) (scope : ScopeView)
+    ensures { (p : PolicyView) (who : Who) (scope : Scope)
         → (xs : List RuleView) × AreEffective p who scope xs }
 {}
 
@@ -26,10 +28,10 @@ pub fn effective_rules_are_there()
 /// namespace, as for a URL, their ClusterRoleBindings' rules decide (Using RBAC Authorization).
 pub fn effective_rules_decide()
     ensures there { (p : PolicyView) (who : Who) (namespace : Text) (xs : List RuleView)
-        → IsPolicy p → AreEffective p who (InNamespace namespace) xs
+        → IsPolicy p → AreEffective p who (Namespace namespace) xs
         → Decide p who namespace xs }
     ensures anywhere { (p : PolicyView) (who : Who) (namespace : Text) (xs : List RuleView)
-        → IsPolicy p → AreEffective p who Everywhere xs → Decide p who namespace xs }
+        → IsPolicy p → AreEffective p who Anywhere xs → Decide p who namespace xs }
     ensures cluster_wide { (p : PolicyView) (who : Who) (xs : List RuleView) → IsPolicy p
         → AreEffective p who ClusterWide xs → Decide p who [] xs }
 {}
@@ -39,9 +41,9 @@ pub fn effective_rules_decide()
 /// In no namespace, as for a URL, it is by the first of their ClusterRoleBindings' rules (own).
 pub fn effective_rules_explain()
     ensures there { (p : PolicyView) (who : Who) (namespace : Text) (xs : List RuleView)
-        → AreEffective p who (InNamespace namespace) xs → Explain p who namespace xs }
+        → AreEffective p who (Namespace namespace) xs → Explain p who namespace xs }
     ensures anywhere { (p : PolicyView) (who : Who) (namespace : Text) (xs : List RuleView)
-        → AreEffective p who Everywhere xs → Explain p who namespace xs }
+        → AreEffective p who Anywhere xs → Explain p who namespace xs }
     ensures cluster_wide { (p : PolicyView) (who : Who) (xs : List RuleView)
         → AreEffective p who ClusterWide xs → Explain p who [] xs }
 {}

@@ -4,11 +4,9 @@
 mod effective;
 mod laws;
 mod run;
-mod scope;
 
 pub use effective::{EffectiveRule, EffectiveRules, effective_rules};
 pub use laws::{
     effective_rules_are_one, effective_rules_are_there, effective_rules_decide,
     effective_rules_explain,
 };
-pub use scope::Scope;

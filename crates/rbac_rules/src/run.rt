@@ -2,12 +2,10 @@
 
 ghost use Rattle.std.specs.Prelude.{ℕ, ◌≤◌, ◌<◌, ◌+◌, MatchOption, length};
 ghost use Rattle.rbac_model.specs.Policies.{IsPolicy};
-ghost use Rattle.rbac_rules.specs.Left.{scope_of};
 ghost use Rattle.rbac_rules.specs.Runs.{HasAt, HasNone, IsRun, IsRunOf, IsNextRun};
 
-use crate::scope::{Scope, is_in_force};
-use rbac_model::{Policy, naming_place};
-use rbac_terms::Principal;
+use rbac_model::{Policy, may_be_live_in, naming_place};
+use rbac_terms::{Principal, Scope};
 
 // The grants of one binding that are left, from number `no` up to `end`, the place of the first
 // subject that names who asks, and the place of the binding after it.
@@ -20,15 +18,15 @@ pub(crate) struct Run {
 }
 
 // The grants of the binding at this place, if it has some and who asks has their rules.
-fn run_of(policy: &Policy, who: &Principal, scope: Scope<'_>, place: usize) -> Option<Run>
+fn run_of(policy: &Policy, who: &Principal, scope: &Scope, place: usize) -> Option<Run>
     requires { place < length policy.now.held.bindings }
     ensures run { MatchOption result
-        (HasNone policy.now who.now (scope_of scope.entry) place (place + 1))
-        (IsRunOf policy.now who.now (scope_of scope.entry) place) }
+        (HasNone policy.now who.now scope.now place (place + 1))
+        (IsRunOf policy.now who.now scope.now place) }
     ensures policy { IsPolicy policy.now }
 {
     let binding = &policy.bindings()[place];
-    if !is_in_force(scope, binding) {
+    if !may_be_live_in(scope, binding) {
         return None;
     }
     let subject_place = naming_place(binding, who)?;
@@ -45,11 +43,11 @@ fn run_of(policy: &Policy, who: &Principal, scope: Scope<'_>, place: usize) -> O
 }
 
 // The run that the next rule is of, from this one on.
-pub(crate) fn next_run(policy: &Policy, who: &Principal, scope: Scope<'_>, run: Run) -> Option<Run>
-    requires { IsRun policy.now who.now (scope_of scope) run }
+pub(crate) fn next_run(policy: &Policy, who: &Principal, scope: &Scope, run: Run) -> Option<Run>
+    requires { IsRun policy.now who.now scope.now run }
     ensures next { MatchOption result
-        ((n at : ℕ) → run.no ≤ n → ¬ HasAt policy.now who.now (scope_of scope.entry) n at)
-        (IsNextRun policy.now who.now (scope_of scope.entry) run.no) }
+        ((n at : ℕ) → run.no ≤ n → ¬ HasAt policy.now who.now scope.now n at)
+        (IsNextRun policy.now who.now scope.now run.no) }
     ensures policy { IsPolicy policy.now }
 {
     let places = policy.bindings().len();

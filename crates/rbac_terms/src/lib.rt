@@ -11,6 +11,7 @@ mod keys;
 mod kinds;
 mod matching;
 mod request;
+mod scope;
 mod selecting;
 mod sorted;
 mod text;
@@ -29,6 +30,7 @@ pub use matching::{
     target_matches, url_matches, verb_matches,
 };
 pub use request::{Principal, Target, account_user, is_path, is_resource_text};
+pub use scope::Scope;
 pub use selecting::{Labels, Requirement, Requirements, SelectOp, Selector, Selectors, selects};
 pub use sorted::{is_among, sorted_copy};
 pub use text::{Word, Words, cut_at_first};

@@ -4,7 +4,7 @@ use Rattle.std.proofs.lemmas.Option.{slice_get_read, slice_get_within}
 use Rattle.rbac_model.specs.Sources.{grant_of}
 use Rattle.rbac_index.specs.HolderViews.{holder_shown, requested_of}
 use Rattle.rbac_index.specs.Requested.{ThisTarget}
-use Rattle.rbac_index.specs.WhoCan.{InNamespace}
+use Rattle.rbac_terms.specs.declared.scope.Scope.TheVariants.{Namespace}
 use Rattle.rbac_index.proofs.ReasonLemmas.{some_allows, why_of_holder, shown_binding}
 use Rattle.rbac_index.proofs.reason.why_held.Goals as goal
 
@@ -25,7 +25,7 @@ returns-in_err-binding-clause-listed c = λ asked holder.
 
 pub returns-in_err-no-clause-held : goal.returns-in_err-no-clause-held
 returns-in_err-no-clause-held c = λ namespace target same holder.
-    absurd (some_allows c.args.policy.now c.bindings-bindings.ensures.policy (InNamespace namespace) c.args.verb.now (ThisTarget target) c.args.holder.principal.now c.args.holder.binding_place c.args.holder.subject_place holder.1 (rw same at c.in_err-no.ensures))
+    absurd (some_allows c.args.policy.now c.bindings-bindings.ensures.policy (Namespace namespace) c.args.verb.now (ThisTarget target) c.args.holder.principal.now c.args.holder.binding_place c.args.holder.subject_place holder.1 (rw same at c.in_err-no.ensures))
 
 pub returns-in_err-no-clause-listed : goal.returns-in_err-no-clause-listed
 returns-in_err-no-clause-listed c = λ asked holder.

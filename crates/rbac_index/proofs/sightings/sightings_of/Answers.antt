@@ -2,7 +2,7 @@ use Rattle.std.proofs.Common.{◌≡◌, ◌<◌, length, slice_get, refl, arith
 use Rattle.std.specs.Prelude.{Some}
 use Rattle.std.proofs.lemmas.List.Elements.{All-get_or}
 use Rattle.std.proofs.lemmas.Option.{slice_get_within, slice_get_read}
-use Rattle.rbac_index.specs.HolderViews.{requested_of, sighted, where_of}
+use Rattle.rbac_index.specs.HolderViews.{requested_of, sighted}
 use Rattle.rbac_index.proofs.HoldingLemmas.{candidate_brings, entered, passed_none, passed_more, passed_again, all_seen}
 use Rattle.rbac_index.proofs.SeenLemmas.{seen_none}
 use Rattle.rbac_index.proofs.sightings.sightings_of.Goals as goal
@@ -10,7 +10,7 @@ use Rattle.rbac_index.proofs.sightings.sightings_of.Goals.{then-next-place+in_ok
 
 pub loop-no-init : goal.loop-no-init
 loop-no-init c = λ verb are.
-    let asked = where_of c.args.asked in
+    let asked = c.args.scope.now in
     let t = (requested_of c.args.requested) in
     (rw c.new-seen.ensures.items (seen_none c.args.policy.now.held asked verb t), passed_none c.args.policy.now c.bindings-bindings.ensures.policy asked verb t c.args.numbers.now are)
 
@@ -38,7 +38,7 @@ pub loop-no-preserved : goal.loop-no-preserved
 loop-no-preserved c = λ verb are.
     let p = c.args.policy.now in
     let ok = c.bindings-bindings.ensures.policy in
-    let asked = where_of c.args.asked in
+    let asked = c.args.scope.now in
     let t = (requested_of c.args.requested) in
     let ns = c.args.numbers.now in
     let k = c.loop-no.no-index in
@@ -60,4 +60,4 @@ loop-no-preserved c = λ verb are.
 pub returns : goal.returns
 returns c = λ verb are.
     let before = c.loop-no.invariant verb are in
-    all_seen c.args.policy.now c.bindings-bindings.ensures.policy (where_of c.args.asked) verb (requested_of c.args.requested) c.args.numbers.now are c.loop-no.no-index c.loop-no.next (sighted c.loop-no.seen.items) c.loop-no-test.false before.1 before.0
+    all_seen c.args.policy.now c.bindings-bindings.ensures.policy c.args.scope.now verb (requested_of c.args.requested) c.args.numbers.now are c.loop-no.no-index c.loop-no.next (sighted c.loop-no.seen.items) c.loop-no-test.false before.1 before.0
