@@ -45,9 +45,10 @@ impl<'a> Model for EffectiveRules<'a> {
 }
 
 /// The rules that a user with the groups given and implied, or a member of one group, has where
-/// they are asked for (Using RBAC Authorization): one for each grant whose binding may be
-/// live there and names them, in order of bindings, then of their rules (own). A dangling binding brings
-/// none, and an aggregated role those that it gathers. Neither this nor the iteration allocates.
+/// they are asked for (Using RBAC Authorization): one for each grant whose binding may be live
+/// there and names them, in order of bindings, then of their rules (own). A dangling binding
+/// brings none, and an aggregated role those that it gathers. Neither this nor the iteration
+/// allocates.
 pub fn effective_rules<'a>(
     policy: &'a Policy,
     who: &'a Principal,
