@@ -1,19 +1,13 @@
 -- grants of one place of a rule are by one rule, and have one reach
-use Rattle.std.proofs.Common.{◌≡◌, ℕ, ◌+◌, ◌<◌, List, [], ◌∷◌, ◌++◌, length, slice_get, refl, ap, sym, ◌∙◌, subst, inl, inr, arith}
+use Rattle.std.proofs.Common.{◌≡◌, ℕ, slice_get, ap, sym, ◌∙◌}
 use Rattle.std.specs.Prelude.{Option, Some, None, option_and_then}
 use Rattle.std.specs.Option.{option_map}
-use Rattle.std.proofs.lemmas.Bool.{cases_lt}
-use Rattle.std.proofs.lemmas.List.{length_push}
-use Rattle.std.proofs.lemmas.Option.{same_Some, slice_get_within}
+use Rattle.std.proofs.lemmas.Option.{same_Some}
 use Rattle.rbac_terms.specs.declared.granting.Binding.{Binding}
-use Rattle.rbac_terms.specs.declared.matching.Rule.{Rule}
 use Rattle.rbac_model.specs.Policies.{Held, PolicyView, GrantView, SourcedRule, grant_at, sourced_at}
-use Rattle.rbac_model.specs.Universes.{UniverseView, Listed}
 use Rattle.rbac_model.specs.declared.places.GrantPlace.{GrantPlace}
 use Rattle.rbac_model.specs.declared.places.RolePlace.{RolePlace}
 use Rattle.rbac_index.specs.Indexed.{AreAlike}
-use Rattle.std.specs.Prelude.{map}
-use Rattle.rbac_terms.proofs.Reading.{read_some, read_left, read_right}
 
 rule_from : (ob : Option Binding) (or : Option SourcedRule) (g : GrantView) → option_and_then (λ b. option_map (λ (rule : SourcedRule). record { binding = b; rule = rule }) or) ob ≡ Some g → or ≡ Some g.rule
 rule_from None or g e = cc

@@ -1,22 +1,15 @@
 -- a request is allowed exactly where some holder is who asks, or one of its groups
-use Rattle.std.proofs.Common.{◌≡◌, ℕ, ◌+◌, ◌<◌, List, [], ◌∷◌, ◌++◌, length, ap, sym, ◌∙◌, refl, subst, suc, zero, false, ◌⊎◌, inl, inr, arith, get_or}
-use Rattle.std.specs.Prelude.{Option, Some, None, Any, codes}
+use Rattle.std.proofs.Common.{◌≡◌, ℕ, ◌+◌, ◌<◌, List, [], ◌∷◌, length, ap, sym, ◌∙◌, refl, subst, suc, zero, false, ◌⊎◌, inl, inr, arith, get_or}
+use Rattle.std.specs.Prelude.{Some, Any}
 use Rattle.std.specs.Str.{bytes_eq}
 use Rattle.std.proofs.lemmas.Bool.{cases_order, cases_eq, both_ways}
-use Rattle.std.proofs.lemmas.List.{append_cancel_left}
 use Rattle.std.proofs.lemmas.Option.{slice_get-get_or, slice_get_within, get_or_from_slice_get}
 use Rattle.std.proofs.lemmas.Slice.Eq.{bytes_eq-Decides}
 use Rattle.rbac_terms.specs.Text.{Text}
 use Rattle.rbac_terms.specs.Targets.{What}
-use Rattle.rbac_terms.specs.Principals.{Who, AsUser, AsMember, who_key, account_user, IsInGroup, IsUserNamed}
-use Rattle.rbac_terms.specs.Granting.{Names}
 use Rattle.rbac_model.specs.Policies.{Held}
-use Rattle.rbac_terms.specs.Granting.{IsSubjectKey}
 use Rattle.rbac_model.specs.Holders.{HolderView, IsHolderAt, IsHolder, AreHolders, IsKeyFor}
-use Rattle.rbac_terms.specs.declared.granting.Subject.{Subject}
-use Rattle.rbac_terms.specs.declared.granting.Subject.TheVariants.{User, Group, Account}
 use Rattle.rbac_terms.proofs.Cases.{by_bool}
-use Rattle.rbac_terms.proofs.Groups.{apart}
 use Rattle.rbac_model.proofs.KeyNames.{naming_key, key_names}
 use Rattle.rbac_index.specs.Holding.{AllowsByHolders}
 

@@ -1,4 +1,4 @@
-use Rattle.std.specs.Prelude.{◌≡◌, ℕ, ◌⊎◌, ◌↔◌, Bool, List, Any, AllPairs, Contains, slice_get}
+use Rattle.std.specs.Prelude.{◌≡◌, ℕ, ◌↔◌, Bool, List, Any, AllPairs, Contains, slice_get}
 use Rattle.std.specs.Prelude.{Some}
 use Rattle.rbac_terms.specs.Text.{Text}
 use Rattle.rbac_terms.specs.Targets.{What}

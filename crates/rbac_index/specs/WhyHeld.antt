@@ -1,10 +1,9 @@
 -- Why a key holds a permission.
-use Rattle.std.specs.Prelude.{◌≡◌, ℕ, Any, Some, slice_get}
+use Rattle.std.specs.Prelude.{◌≡◌, ℕ, Some, slice_get}
 use Rattle.rbac_terms.specs.Text.{Text}
 use Rattle.rbac_terms.specs.Targets.{What}
 use Rattle.rbac_terms.specs.Granting.{IsSubjectKey}
 use Rattle.rbac_terms.specs.Matching.{RuleAllows}
-use Rattle.rbac_terms.specs.declared.granting.Binding.{Binding}
 use Rattle.rbac_terms.specs.declared.granting.Subject.{Subject}
 use Rattle.rbac_model.specs.Lists.{IsFirstAt}
 use Rattle.rbac_model.specs.Policies.{PolicyView, GrantView, Live}

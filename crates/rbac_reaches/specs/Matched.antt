@@ -1,10 +1,10 @@
 -- The order of targets, and those of one stem.
-use Rattle.std.specs.Prelude.{◌≡◌, ℕ, ◌+◌, ◌<◌, ◌≤◌, ◌↔◌, List, [], ◌∷◌, Any, Contains, Option}
+use Rattle.std.specs.Prelude.{◌≡◌, ℕ, ◌+◌, ◌<◌, ◌≤◌, ◌↔◌, List, [], ◌∷◌, Contains, Option}
 use Rattle.std.specs.Prelude.{Some, None, IfSome, length, map, slice_get}
 use Rattle.std.specs.declared.cmp.Ordering.TheVariants.{Less}
 use Rattle.rbac_terms.specs.Text.{Text, text_cmp}
 use Rattle.rbac_terms.specs.Targets.{What, IsUrl, group_of, text_of, name_of}
-use Rattle.rbac_terms.specs.Matching.{WordMatches, ResourceWordMatches, TargetOk}
+use Rattle.rbac_terms.specs.Matching.{TargetOk}
 use Rattle.rbac_terms.specs.declared.matching.Rule.{Rule}
 use Rattle.rbac_model.specs.Universes.{UniverseView}
 use Rattle.rbac_reaches.specs.Reaches.{MatchesAt}
