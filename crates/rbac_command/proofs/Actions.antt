@@ -11,7 +11,7 @@ use Rattle.rbac_question.specs.declared.fault.QuestionFault.{QuestionFault}
 use Rattle.rbac_question.specs.declared.fault.QuestionFault.TheVariants.{EmptyWord, UrlSubresource, BadToken, BadPrincipal, BadCode, BadChange, NoMemory}
 use Rattle.rbac_question.specs.declared.line.DiffLine.{DiffLine}
 use Rattle.rbac_command.specs.MatrixOptions.{matrix_options_in}
-use Rattle.rbac_command.specs.Meaning.{question_in, parts_in, who_can_in, rules_in, lint_in, diff_in, is_known, DoesAction, IsNumberAt, RefusesAction}
+use Rattle.rbac_command.specs.Meaning.{question_in, parts_in, who_can_in, rules_line_in, lint_in, diff_in, is_known, DoesAction, IsNumberAt, RefusesAction}
 
 first_of_eight : (a b c d e f g h : Bool) → a || (b || (c || (d || (e || (f || (g || h)))))) ≡ true
     → b ≡ false → c ≡ false → d ≡ false → e ≡ false → f ≡ false → g ≡ false → h ≡ false → a ≡ true
@@ -92,7 +92,7 @@ who_can_line name rows l r e same h =
     as_who_can name rows r e (subst (λ (parts : WhoCanParts). MatchResult r (λ a. AcceptsQuestion parts.question × MeansWhoCan parts a) (RefusesQuestion parts.question)) same h)
 
 as_rules : (name : Text) (rows : List Row) (r : Result Action QuestionFault) → name ≡ codes "rules"
-    → MatchResult r (MeansRules (rules_in rows)) (RefusesRules (rules_in rows))
+    → MatchResult r (MeansRules (rules_line_in rows)) (RefusesRules (rules_line_in rows))
     → MatchResult r (DoesAction name rows) (RefusesAction name rows)
 as_rules name rows (Ok (CanI principal quiet why question)) e h = absurd h
 as_rules name rows (Ok (WhoCan options question)) e h = absurd h
@@ -110,7 +110,7 @@ as_rules name rows (Err BadCode) e h = absurd h
 as_rules name rows (Err BadChange) e h = absurd h
 as_rules name rows (Err NoMemory) e h = tt
 
-pub rules_line : (name : Text) (rows : List Row) (l : RulesParts) (r : Result Action QuestionFault) → name ≡ codes "rules" → l ≡ rules_in rows
+pub rules_line : (name : Text) (rows : List Row) (l : RulesParts) (r : Result Action QuestionFault) → name ≡ codes "rules" → l ≡ rules_line_in rows
     → MatchResult r (MeansRules l) (RefusesRules l)
     → MatchResult r (DoesAction name rows) (RefusesAction name rows)
 rules_line name rows l r e same h =

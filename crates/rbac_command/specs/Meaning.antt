@@ -18,7 +18,7 @@ use Rattle.rbac_question.specs.declared.fault.QuestionFault.{QuestionFault}
 use Rattle.rbac_question.specs.declared.fault.QuestionFault.TheVariants as question
 use Rattle.rbac_question.specs.declared.line.DiffLine.{DiffLine}
 use Rattle.rbac_command.specs.App.{rbac_app}
-use Rattle.rbac_command.specs.Values.{text_at, has_flag, texts_at}
+use Rattle.rbac_command.specs.Values.{value_at, has_flag, texts_at}
 use Rattle.rbac_command.specs.HolderOptions.{holder_options_in}
 use Rattle.rbac_command.specs.MatrixOptions.{matrix_options_in}
 use Rattle.rbac_command.specs.declared.fault.UsageFault.{UsageFault}
@@ -43,17 +43,17 @@ abbrev pub question_in : List Row → QuestionParts
 question_in rows = record {
   all_namespaces = has_flag (codes "all") rows;
   in_namespace = has_flag (codes "in-namespace") rows;
-  namespace = text_at (codes "namespace") rows;
-  subresource = text_at (codes "subresource") rows;
-  verb = text_at (codes "verb") rows;
-  target = text_at (codes "target") rows;
+  namespace = value_at (codes "namespace") rows;
+  subresource = value_at (codes "subresource") rows;
+  verb = value_at (codes "verb") rows;
+  target = value_at (codes "target") rows;
 }
 
 -- the parts of a `can-i` line
 abbrev pub parts_in : List Row → CanIParts
 parts_in rows = record {
-  user = text_at (codes "as") rows;
-  groups = text_at (codes "groups") rows;
+  user = value_at (codes "as") rows;
+  groups = value_at (codes "groups") rows;
   whole_groups = texts_at (codes "group") rows;
   quiet = has_flag (codes "quiet") rows;
   why = has_flag (codes "why") rows;
@@ -65,12 +65,12 @@ abbrev pub who_can_in : List Row → WhoCanParts
 who_can_in rows = record { options = holder_options_in rows; question = question_in rows }
 
 -- the parts of a `rules` line
-abbrev pub rules_in : List Row → RulesParts
-rules_in rows = record {
-  who = text_at (codes "who") rows;
-  groups = text_at (codes "groups") rows;
+abbrev pub rules_line_in : List Row → RulesParts
+rules_line_in rows = record {
+  who = value_at (codes "who") rows;
+  groups = value_at (codes "groups") rows;
   whole_groups = texts_at (codes "group") rows;
-  namespace = text_at (codes "namespace") rows;
+  namespace = value_at (codes "namespace") rows;
   all_namespaces = has_flag (codes "all") rows;
 }
 
@@ -127,7 +127,7 @@ DoesAction name rows (WhoCan options question) =
     (name ≡ codes "who-can") × AcceptsQuestion (question_in rows)
     × MeansWhoCan (who_can_in rows) (WhoCan options question)
 DoesAction name rows (Rules principal scope) =
-    (name ≡ codes "rules") × MeansRules (rules_in rows) (Rules principal scope)
+    (name ≡ codes "rules") × MeansRules (rules_line_in rows) (Rules principal scope)
 DoesAction name rows (Matrix options after limit) =
     (name ≡ codes "matrix") × (options ≡ matrix_options_in rows)
     × IsAfter (first_of (codes "after") rows) after × IsNumberAt (codes "limit") rows limit
@@ -158,7 +158,7 @@ RefusesAction name rows question.NoMemory = Unit {0}
 RefusesAction name rows question.BadToken = (name ≡ codes "matrix")
     × HasBadToken (first_of (codes "after") rows)
 RefusesAction name rows question.BadPrincipal = (name ≡ codes "rules")
-    × HasBadPrincipal (rules_in rows)
+    × HasBadPrincipal (rules_line_in rows)
 RefusesAction name rows question.BadCode = (name ≡ codes "lint")
     × HasBadCode (first_of (codes "only") rows)
 RefusesAction name rows question.BadChange = (name ≡ codes "diff") × HasBadChange (diff_in rows)
@@ -172,14 +172,14 @@ IsCauseOf (Some p) e = RefusesAction p.0 p.1 e
 
 -- a refusal by `clap` comes if it refuses the words, any other if it accepts them; out of memory
 -- may come at any time
-abbrev pub IsRefusal : List Text → UsageFault → Type 0
-IsRefusal words (Refused e) = IsAmong (kind_of e) (fault_of rbac_app words)
-IsRefusal words (Asked question.NoMemory) = Unit {0}
-IsRefusal words (Asked e) = (fault_of rbac_app words ≡ [])
+abbrev pub IsUsageFault : List Text → UsageFault → Type 0
+IsUsageFault words (Refused e) = IsAmong (kind_of e) (fault_of rbac_app words)
+IsUsageFault words (Asked question.NoMemory) = Unit {0}
+IsUsageFault words (Asked e) = (fault_of rbac_app words ≡ [])
     × IsCauseOf (subcommand_of rbac_app words) e
 
 -- what `command_of` answers
 abbrev pub IsAnswer : List Text → Result Command UsageFault → Type 0
 IsAnswer words r = MatchResult r
     (λ c. (fault_of rbac_app words ≡ []) × Means (subcommand_of rbac_app words) c)
-    (IsRefusal words)
+    (IsUsageFault words)

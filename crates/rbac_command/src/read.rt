@@ -10,9 +10,10 @@ ghost use Rattle.rbac_command.specs.App.{rbac_app};
 ghost use Rattle.rbac_command.specs.MatrixOptions.{matrix_options_in};
 ghost use Rattle.rbac_command.specs.Meaning.{IsNumberAt, files_in, diff_files_in, question_in};
 ghost use Rattle.rbac_command.specs.Meaning.{parts_in, is_known, DoesAction, RefusesAction, Means};
-ghost use Rattle.rbac_command.specs.Meaning.{IsCauseOf, IsRefusal, IsAnswer, who_can_in, rules_in};
+ghost use Rattle.rbac_command.specs.Meaning.{IsCauseOf, IsUsageFault, IsAnswer, who_can_in};
+ghost use Rattle.rbac_command.specs.Meaning.{rules_line_in};
 ghost use Rattle.rbac_command.specs.Meaning.{lint_in, diff_in};
-ghost use Rattle.rbac_command.specs.Values.{text_at, has_flag, texts_at};
+ghost use Rattle.rbac_command.specs.Values.{value_at, has_flag, texts_at};
 
 use crate::build::program;
 use crate::fault::UsageFault;
@@ -43,7 +44,7 @@ fn values_of<'m, 'a>(matches: &'m ArgMatches<'a>, id: &str) -> Option<&'m [&'a s
 
 // The first value of `id`, or the empty text.
 fn text_of<'a>(matches: &ArgMatches<'a>, id: &str) -> &'a str
-    ensures { result.now ≡ text_at id.now (rows_of (found_of matches.now)) }
+    ensures { result.now ≡ value_at id.now (rows_of (found_of matches.now)) }
 {
     value_of(matches, id).unwrap_or("")
 }
@@ -94,7 +95,7 @@ fn who_can_line_of<'a>(matches: &ArgMatches<'a>) -> WhoCanLine<'a>
 
 // The parts of a `rules` line.
 fn rules_line_of<'m, 'a>(matches: &'m ArgMatches<'a>) -> RulesLine<'m, 'a>
-    ensures { result ≡ rules_in (rows_of (found_of matches.now)) }
+    ensures { result ≡ rules_line_in (rows_of (found_of matches.now)) }
 {
     let who = text_of(matches, "who");
     let groups = text_of(matches, "groups");
@@ -214,7 +215,7 @@ fn add_texts(
 fn parsed<'a>(alloc: Global, words: &'a [String]) -> Result<ArgMatches<'a>, UsageFault>
     ensures ok { IfOk result (λ m. (fault_of rbac_app (map string_bytes words.entry.now) ≡ [])
         × (subcommand_rows_of m ≡ subcommand_of rbac_app (map string_bytes words.entry.now))) }
-    ensures err { IfErr result (IsRefusal (map string_bytes words.entry.now)) }
+    ensures err { IfErr result (IsUsageFault (map string_bytes words.entry.now)) }
 {
     match program(alloc)?.try_get_matches_from(words) {
         Ok(matches) => Ok(matches),
