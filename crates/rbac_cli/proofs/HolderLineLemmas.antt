@@ -35,7 +35,7 @@ use Rattle.rbac_manifest.specs.Load.{LoadedView}
 use Rattle.rbac_question.specs.declared.command.Action.TheVariants.{WhoCan}
 use Rattle.rbac_question.specs.declared.command.HolderOptions.{HolderOptions}
 use Rattle.rbac_question.specs.declared.command.Question.{Question}
-use Rattle.rbac_cli.specs.HolderLines.{IsHolderLine, AreHolderLines, joined}
+use Rattle.rbac_cli.specs.HolderLines.{IsHolderLine, AreHolderLines, joined_lines}
 use Rattle.rbac_cli.specs.Meant.{IsMeant, IsTargetMeant, IsNamespaceMeant, IsOutside, IsScopeMeant, requested_meant, scope_given}
 use Rattle.rbac_cli.specs.Out.{Answers}
 use Rattle.rbac_cli.specs.declared.exports.Exports.TheVariants.{Single}
@@ -200,7 +200,7 @@ pub answered : (l : LoadedView) (options : HolderOptions) (q : Question) (target
     → listed ≡ l.catalogue → held ≡ l.policy → shown ≡ l.policy → IsMeant listed.entries q target namespace → (IsTrue outside ↔ IsOutside listed.entries q target)
     → (outside ≡ true → scope ≡ Namespace namespace) → (outside ≡ false → scope ≡ scope_given options.anywhere namespace)
     → IsPolicy held → AreListedHolders held.held scope options.every q.verb (requested_meant options.any_name target) xs
-    → (lines : List Text) × AreHolderLines shown options.why q.verb (requested_meant options.any_name target) xs lines × Answers (Single l) (WhoCan options q) (joined lines) Zero
+    → (lines : List Text) × AreHolderLines shown options.why q.verb (requested_meant options.any_name target) xs lines × Answers (Single l) (WhoCan options q) (joined_lines lines) Zero
 answered l options q target namespace outside scope xs listed held shown catalogue policy again meant is out given ok holders =
     let requested = requested_meant options.any_name target in
     let are = subst (λ (p : PolicyView). AreListedHolders p.held scope options.every q.verb requested xs) policy holders in

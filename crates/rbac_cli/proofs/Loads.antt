@@ -16,7 +16,7 @@ use Rattle.rbac_question.specs.declared.command.Action.TheVariants as action
 use Rattle.rbac_question.specs.declared.command.Change.{Change}
 use Rattle.rbac_question.specs.declared.command.Change.TheVariants.{Over}
 use Rattle.rbac_manifest.specs.Changed.{IsResolved, changed_objects}
-use Rattle.rbac_cli.specs.Exports.{AreLoaded, AreRefused, IsAfter, IsFaultOfBoth, IsOver, IsSideRefused, behind, objects_after, objects_of}
+use Rattle.rbac_cli.specs.Exports.{AreLoaded, IsSideAfter, IsFaultOfBoth, IsForAction, IsSideRefused, behind, objects_after, objects_of}
 use Rattle.rbac_question.specs.declared.command.Command.{Command}
 use Rattle.rbac_cli.specs.Ends.{FailsToLoad, Ends, Writes}
 use Rattle.rbac_cli.specs.Printing.{StopsWith}
@@ -27,7 +27,7 @@ use Rattle.rbac_cli.specs.declared.outcome.RunFault.TheVariants.{Load, Universe,
 use Rattle.rbac_cli.specs.declared.outcome.Status.{Status}
 
 -- what is loaded for an action is what it is answered over
-pub over : (a : Action) (inputs : List (List ℕ)) (e : Exports) → AreLoaded a inputs e → IsOver a e
+pub over : (a : Action) (inputs : List (List ℕ)) (e : Exports) → AreLoaded a inputs e → IsForAction a e
 over (CanI who quiet why q) inputs (Single l) h = tt
 over (WhoCan options q) inputs (Single l) h = tt
 over (Rules who scope) inputs (Single l) h = tt
@@ -177,7 +177,7 @@ side_fails refused fault ended has told memory = elim (memory_or fault.cause) [
 
 -- the policy of what a change makes of objects
 pub after_ok : (change : Change) (first others : List (List ℕ)) (objects : List Object) (r : Result (Vec Object Global) LoadFault) (p : PolicyView) → objects ≡ objects_of first
-    → IfOk r (λ v. (document_fault others ≡ None) × (v.items ≡ objects_after change objects others)) → IsOkAnd r (λ v. IsResolved v.items p) → IsAfter change first others p
+    → IfOk r (λ v. (document_fault others ≡ None) × (v.items ≡ objects_after change objects others)) → IsOkAnd r (λ v. IsResolved v.items p) → IsSideAfter change first others p
 after_ok change first others objects (Ok v) p same (none, e) is =
     (none, subst (λ (os : List Object). IsResolved (objects_after change os others) p) same (subst (λ (os : List Object). IsResolved os p) e is))
 after_ok change first others objects (Err f) p same h is = absurd is
@@ -222,7 +222,7 @@ ended took command inputs e (Err (Memory n)) is (inr h) = inr (e, is, h)
 ended took command inputs e (Err (Write n)) is h = (e, is, h)
 
 -- what is printed for `diff` is what is printed for the one action that is answered over two policies
-pub of_diff : (P : Action → Type 0) (a : Action) (before after : PolicyView) → IsOver a (Pair before after) → ((n : ℕ) (change : Change) → P (Diff n change)) → P a
+pub of_diff : (P : Action → Type 0) (a : Action) (before after : PolicyView) → IsForAction a (Pair before after) → ((n : ℕ) (change : Change) → P (Diff n change)) → P a
 of_diff P (Diff n change) before after is h = h n change
 of_diff P (CanI who quiet why q) before after is h = absurd is
 of_diff P (WhoCan options q) before after is h = absurd is

@@ -34,9 +34,9 @@ use Rattle.rbac_question.specs.declared.command.Action.TheVariants.{CanI, WhoCan
 use Rattle.rbac_question.specs.declared.command.HolderOptions.{HolderOptions}
 use Rattle.rbac_question.specs.declared.command.MatrixOptions.{MatrixOptions}
 use Rattle.rbac_question.specs.declared.command.Question.{Question}
-use Rattle.rbac_cli.specs.HolderLines.{AreHolderLines, joined}
+use Rattle.rbac_cli.specs.HolderLines.{AreHolderLines, joined_lines}
 use Rattle.rbac_cli.specs.Out.{Answers, IsAllowed, IsDenied, rules_text, findings_text, findings_status, wanted_meant, powers_text, changes_text, changes_status, line_unless}
-use Rattle.rbac_cli.specs.MatrixPage.{AreRows, AreListed}
+use Rattle.rbac_cli.specs.MatrixPage.{AreRows, AreListedRows}
 use Rattle.rbac_cli.specs.Meant.{IsScopeMeant, requested_meant}
 use Rattle.rbac_cli.specs.declared.exports.Exports.{Exports}
 use Rattle.rbac_cli.specs.declared.exports.Exports.TheVariants.{Single, Pair}
@@ -220,7 +220,7 @@ one_row_lines false held lists u v rows others m n x y = one_lines held lists u 
 one_row_lines true held lists u v rows others m n x y = one_every_lines held lists u v rows others m n x y
 
 one_listed_lines : (options : MatrixOptions) (held : Held) (lists : UniverseLists) (u v : UniverseView) (all others : List RowView) → AreSets lists u → AreSets lists v
-    → AreListed options held u all → AreListed options held v others → map line_of all ≡ map line_of others
+    → AreListedRows options held u all → AreListedRows options held v others → map line_of all ≡ map line_of others
 one_listed_lines options held lists u v all others m n (rows, x, e) (those, y, f) =
     ap (map line_of) e ∙ listed_alike options.once rows those (one_row_lines options.every held lists u v rows those m n x y) ∙ sym (ap (map line_of) f)
 
@@ -239,7 +239,7 @@ one_holders_text l options q text other status ending (t, v, target, meant, (xs,
     let here = subst (λ x. AreListedHolders p.held x every q.verb r xs) place (subst (λ x. AreListedHolders p.held v every q.verb (requested_meant any_name x) xs) same a) in
     let one = one_listed p.held w every q.verb r xs ys here b in
     let lined = subst (λ hs. AreHolderLines p options.why q.verb r hs lines) one (subst (λ x. AreHolderLines p options.why q.verb (requested_meant any_name x) xs lines) same these) in
-    (e ∙ ap joined (one_holder_lines p q.verb r options.why ys lines those lined them) ∙ sym f, s ∙ sym z)
+    (e ∙ ap joined_lines (one_holder_lines p q.verb r options.why ys lines those lined them) ∙ sym f, s ∙ sym z)
 
 -- the one target and namespace that are meant aren't both allowed and denied
 not_both : (held : Held) (entries : List Entry) (who : Who) (q : Question) → IsAllowed held entries who q → IsDenied held entries who q → ⊥

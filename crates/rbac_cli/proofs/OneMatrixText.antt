@@ -18,7 +18,7 @@ use Rattle.rbac_token.specs.declared.mark.BindingName.{BindingName}
 use Rattle.rbac_token.specs.declared.mark.Mark.{Mark}
 use Rattle.rbac_matrix.specs.Every.{comes_after, name_of}
 use Rattle.rbac_matrix.specs.Once.{repeats_at, without_repeats}
-use Rattle.rbac_cli.specs.MatrixPage.{cut_at, last_words, listed, matrix_text, page_text, rows_past, rows_text}
+use Rattle.rbac_cli.specs.MatrixPage.{cut_at, last_words, rows_listed, matrix_text, page_text, rows_past, rows_text}
 
 abbrev pub Line : Type 0
 Line = KeyTexts × Binding
@@ -121,6 +121,6 @@ unrepeated (row ∷ rows) = elim (cases_Bool (not (repeat_of (line_of row)))) [
   | inr left ↦ rw left (unrepeated rows)
 ]
 
-pub listed_alike : (once : Bool) (rows others : List RowView) → map line_of rows ≡ map line_of others → map line_of (listed once rows) ≡ map line_of (listed once others)
+pub listed_alike : (once : Bool) (rows others : List RowView) → map line_of rows ≡ map line_of others → map line_of (rows_listed once rows) ≡ map line_of (rows_listed once others)
 listed_alike false rows others e = e
 listed_alike true rows others e = unrepeated rows ∙ ap (filter (λ l. not (repeat_of l))) e ∙ sym (unrepeated others)

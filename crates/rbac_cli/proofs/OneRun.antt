@@ -1,5 +1,5 @@
 -- Two runs that nothing stopped end alike.
-use Rattle.std.proofs.Common.{◌≡◌, ◌≢◌, ◌∙◌, ℕ, List, [], Result, Ok, Err, ap, subst, sym, refl, inl, inr, length, take, drop}
+use Rattle.std.proofs.Common.{◌≡◌, ◌≢◌, ◌∙◌, ℕ, List, [], Result, Ok, Err, ap, subst, sym, refl, inl, inr, length, take}
 use Rattle.rbac_universe.specs.declared.lists.UniverseLists.{UniverseLists}
 use Rattle.rbac_universe.specs.declared.fault.UniverseFault.{UniverseFault}
 use Rattle.rbac_universe.specs.declared.fault.UniverseFault.TheVariants as universe
@@ -16,7 +16,7 @@ use Rattle.rbac_question.specs.declared.command.Action.{Action}
 use Rattle.rbac_question.specs.declared.command.Action.TheVariants.{CanI, WhoCan, Rules, Matrix, Lint, Powers, Diff}
 use Rattle.rbac_question.specs.declared.command.Action.TheVariants as action
 use Rattle.rbac_question.specs.declared.command.Command.{Command}
-use Rattle.rbac_cli.specs.Exports.{AreLoaded, AreRefused, IsSide, IsSideRefused, behind}
+use Rattle.rbac_cli.specs.Exports.{AreLoaded, AreInputsRefused, IsSide, IsSideRefused, behind}
 use Rattle.rbac_cli.specs.Out.{Answers}
 use Rattle.rbac_cli.specs.declared.exports.Exports.{Exports}
 use Rattle.rbac_cli.specs.declared.exports.Exports.TheVariants.{Single, Pair}
@@ -132,7 +132,7 @@ module _ (loads_one : LoadsOne) (no_fault : HasNoFault) (one_fault : HasOneFault
   one_loaded (Lint only skip) inputs (Single l) (Pair x y) a b = absurd b
   one_loaded Powers inputs (Single l) (Pair x y) a b = absurd b
 
-  not_refused : (action : Action) (inputs : List (List ℕ)) (e : Exports) (f : LoadFault) → AreLoaded action inputs e → AreRefused action inputs f → ⊥
+  not_refused : (action : Action) (inputs : List (List ℕ)) (e : Exports) (f : LoadFault) → AreLoaded action inputs e → AreInputsRefused action inputs f → ⊥
   not_refused (Diff n change) inputs (Pair x y) f a (inl h) = side_not_refused _ _ x f a.0 h
   not_refused (Diff n change) inputs (Pair x y) f a (inr h) = side_not_refused _ _ y h.1.0 a.1 h.1.1
   not_refused (Diff n change) inputs (Single l) f a h = a
@@ -151,7 +151,7 @@ module _ (loads_one : LoadsOne) (no_fault : HasNoFault) (one_fault : HasOneFault
   not_refused (Lint only skip) inputs (Pair x y) f a h = a
   not_refused Powers inputs (Pair x y) f a h = a
 
-  one_refusal : (action : Action) (inputs : List (List ℕ)) (f g : LoadFault) → AreRefused action inputs f → AreRefused action inputs g → f ≡ g
+  one_refusal : (action : Action) (inputs : List (List ℕ)) (f g : LoadFault) → AreInputsRefused action inputs f → AreInputsRefused action inputs g → f ≡ g
   one_refusal (Diff n change) inputs f g (inl a) (inl b) = one_side_refusal _ _ f g a b
   one_refusal (Diff n change) inputs f g (inl a) (inr b) = absurd (side_not_refused _ _ b.0.0 f b.0.1 a)
   one_refusal (Diff n change) inputs f g (inr a) (inl b) = absurd (side_not_refused _ _ a.0.0 g a.0.1 b)

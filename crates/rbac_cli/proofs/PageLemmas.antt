@@ -17,7 +17,7 @@ use Rattle.rbac_token.specs.declared.mark.Mark.{Mark}
 use Rattle.rbac_matrix.specs.Every.{name_of}
 use Rattle.rbac_matrix.specs.RowTexts.{Shows, texts_shown}
 use Rattle.rbac_matrix.specs.declared.row.Row.{Row}
-use Rattle.rbac_cli.specs.RowsLeft.{AreLeftIn, GivesFirst, IsOpen, IsOver, is_every}
+use Rattle.rbac_cli.specs.RowsLeft.{AreLeftIn, GivesFirst, IsOpen, HasNoRows, is_every}
 use Rattle.rbac_cli.specs.MatrixPage.{cut_at, last_words, mark_after, rows_text}
 use Rattle.rbac_cli.specs.PageLeft.{IsPageLeft, IsRestOfPage, is_left, most_lines, text_after}
 use Rattle.rbac_cli.specs.Printing.{GivesLine}
@@ -105,7 +105,7 @@ module _ (page : PageLines) (text : Text) (h : IsRestOfPage page text) where
         )
 
   -- no row is left, so the last line says that none follows
-  pub ends : IsOver page.left → text ≡ codes "end" ++ newline ∷ []
+  pub ends : HasNoRows page.left → text ≡ codes "end" ++ newline ∷ []
   ends over =
       h.4 ∙ ap (λ (rows : List RowView). text_after every h.0 (cut_at page.limit rows)) (over h.1 h.3)
       ∙ ap (text_after every h.0) (cut_none page.limit) ∙ ap (λ (t : Text). t ++ newline ∷ []) (end_words every h.0)

@@ -8,7 +8,7 @@ use Rattle.rbac_token.specs.declared.mark.Mark.{Mark}
 use Rattle.rbac_matrix.specs.Every.{comes_after}
 use Rattle.rbac_matrix.specs.Once.{PassesRepeats, is_repeat, without_repeats}
 use Rattle.rbac_matrix.specs.declared.row.Row.{Row}
-use Rattle.rbac_cli.specs.MatrixPage.{listed, rows_past}
+use Rattle.rbac_cli.specs.MatrixPage.{rows_listed, rows_past}
 use Rattle.rbac_cli.specs.MatrixRows.{AreRowsLeft, GivesNextRow}
 use Rattle.rbac_cli.specs.RowsLeft.{GivesNext}
 use Rattle.rbac_cli.specs.declared.matrix_rows.MatrixRows.{MatrixRows}
@@ -29,7 +29,7 @@ swap p q (x ∷ xs) = elim (cases_Bool (p x)) [
   ]
 ]
 
-pub past_listed : (every once : Bool) (m : Option Mark) (rows : List RowView) → rows_past every m (listed once rows) ≡ listed once (rows_past every m rows)
+pub past_listed : (every once : Bool) (m : Option Mark) (rows : List RowView) → rows_past every m (rows_listed once rows) ≡ rows_listed once (rows_past every m rows)
 past_listed every false m rows = refl
 past_listed false true None rows = refl
 past_listed true true None rows = refl
@@ -47,7 +47,7 @@ none_of (row ∷ passed) others all =
 kept_first : (row : RowView) (others : List RowView) → is_repeat row ≡ false → without_repeats (row ∷ others) ≡ row ∷ without_repeats others
 kept_first row others plain = rw plain refl
 
-as_once : (once : Bool) (rows : List RowView) → once ≡ true → listed once rows ≡ without_repeats rows
+as_once : (once : Bool) (rows : List RowView) → once ≡ true → rows_listed once rows ≡ without_repeats rows
 as_once once rows e = rw e refl
 
 module _ (old new : RowsLeft) (mid : MatrixRows) (p : PassesRepeats (AreRowsLeft old.rows) (AreRowsLeft mid)) (was : old.once ≡ true) (is : new.once ≡ true) where

@@ -14,7 +14,7 @@ use Rattle.rbac_manifest.specs.Load.{LoadedView}
 use Rattle.rbac_question.specs.declared.command.Action.TheVariants.{CanI}
 use Rattle.rbac_question.specs.declared.command.Question.{Question}
 use Rattle.rbac_cli.specs.Meant.{IsNamespaceMeant, IsMeant}
-use Rattle.rbac_cli.specs.Out.{Answers, IsWhyText, line}
+use Rattle.rbac_cli.specs.Out.{Answers, IsWhyText, word_line}
 use Rattle.rbac_cli.specs.declared.exports.Exports.TheVariants.{Single}
 use Rattle.rbac_cli.specs.Verdicts.{verdict_text, verdict_status, found_text}
 
@@ -42,4 +42,4 @@ module _ (l : LoadedView) (who : Who) (q : Question) (target : What) (namespace 
   verdict false true (Some found) shown first =
       inl ((target, namespace, meant, allows_first l.policy.held who namespace q.verb target found.binding.now first), (found_text found, why_line found shown, refl), refl)
   verdict false false (Some found) shown first =
-      inl ((target, namespace, meant, allows_first l.policy.held who namespace q.verb target found.binding.now first), ([], refl, sym (append-nil (line (codes "yes")))), refl)
+      inl ((target, namespace, meant, allows_first l.policy.held who namespace q.verb target found.binding.now first), ([], refl, sym (append-nil (word_line (codes "yes")))), refl)

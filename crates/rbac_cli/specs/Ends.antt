@@ -10,7 +10,7 @@ use Rattle.rbac_manifest.specs.declared.fault.LoadFault.{LoadFault}
 use Rattle.rbac_question.specs.declared.command.Action.{Action}
 use Rattle.rbac_question.specs.declared.command.Action.TheVariants.{Matrix}
 use Rattle.rbac_question.specs.declared.command.Command.{Command}
-use Rattle.rbac_cli.specs.Exports.{AreLoaded, AreRefused}
+use Rattle.rbac_cli.specs.Exports.{AreLoaded, AreInputsRefused}
 use Rattle.rbac_cli.specs.Out.{Answers}
 use Rattle.rbac_cli.specs.declared.exports.Exports.{Exports}
 use Rattle.rbac_cli.specs.declared.exports.Exports.TheVariants.{Single}
@@ -58,7 +58,7 @@ FailsToLoad refused (Write n) = ⊥
 -- the inputs are refused for the fault that they have, or they are loaded but make no universe for
 -- a matrix, and in both cases nothing is written; or the run is out of memory; or a write failed
 abbrev pub Faults : (List ℕ → Type 0) → Command → List (List ℕ) → RunFault → Type 0
-Faults took command inputs (Load fault) = AreRefused command.action inputs fault × took []
+Faults took command inputs (Load fault) = AreInputsRefused command.action inputs fault × took []
 Faults took command inputs (Universe fault) = ((e : Exports) × AreLoaded command.action inputs e
     × LacksUniverse e command.action fault) × took []
 Faults took command inputs (Memory n) = WritesNothing took n ⊎ StopsShort took command inputs n

@@ -38,11 +38,11 @@ IsSideRefused inputs objects fault = (document_fault inputs ≡ Some fault)
     ⊎ ((document_fault inputs ≡ None) × HasTooManyGrants objects fault)
 
 -- the side before a change, and the side after it
-abbrev pub IsBefore : List (List ℕ) → PolicyView → Type 0
-IsBefore first p = IsSide first (objects_of first) p
+abbrev pub IsSideBefore : List (List ℕ) → PolicyView → Type 0
+IsSideBefore first p = IsSide first (objects_of first) p
 
-abbrev pub IsAfter : Change → List (List ℕ) → List (List ℕ) → PolicyView → Type 0
-IsAfter change first others p = IsSide others (objects_after change (objects_of first) others) p
+abbrev pub IsSideAfter : Change → List (List ℕ) → List (List ℕ) → PolicyView → Type 0
+IsSideAfter change first others p = IsSide others (objects_after change (objects_of first) others) p
 
 -- a fault of inputs that stand behind so many others, with its file counted among all of them
 abbrev pub behind : ℕ → LoadFault → LoadFault
@@ -60,7 +60,7 @@ IsFaultOfBoth first others fault = (document_fault first ≡ Some fault)
 -- the side after it, with files counted among all
 abbrev pub IsChangeRefused : Change → List (List ℕ) → List (List ℕ) → LoadFault → Type 0
 IsChangeRefused change first others fault = IsSideRefused first (objects_of first) fault
-    ⊎ (((before : PolicyView) × IsBefore first before) × ((own : LoadFault)
+    ⊎ (((before : PolicyView) × IsSideBefore first before) × ((own : LoadFault)
     × IsSideRefused others (objects_after change (objects_of first) others) own
     × (fault ≡ behind (length first) own)))
 
@@ -68,20 +68,20 @@ IsChangeRefused change first others fault = IsSideRefused first (objects_of firs
 -- one after it; otherwise all together give an export
 abbrev pub AreLoaded : Action → List (List ℕ) → Exports → Type 0
 AreLoaded (Diff n change) inputs (Pair before after) =
-    IsBefore (take n inputs) before × IsAfter change (take n inputs) (drop n inputs) after
+    IsSideBefore (take n inputs) before × IsSideAfter change (take n inputs) (drop n inputs) after
 AreLoaded (Diff n change) inputs (Single l) = ⊥
 AreLoaded action inputs (Single l) = IsLoaded inputs l
 AreLoaded action inputs (Pair before after) = ⊥
 
 -- the inputs are refused for this fault
-abbrev pub AreRefused : Action → List (List ℕ) → LoadFault → Type 0
-AreRefused (Diff n change) inputs fault =
+abbrev pub AreInputsRefused : Action → List (List ℕ) → LoadFault → Type 0
+AreInputsRefused (Diff n change) inputs fault =
     IsChangeRefused change (take n inputs) (drop n inputs) fault
-AreRefused action inputs fault = HasFault inputs fault
+AreInputsRefused action inputs fault = HasFault inputs fault
 
 -- what the action is answered over: `diff` over two policies, everything else over one export
-abbrev pub IsOver : Action → Exports → Type 0
-IsOver (Diff n change) (Pair before after) = Unit {0}
-IsOver (Diff n change) (Single l) = ⊥
-IsOver action (Single l) = Unit {0}
-IsOver action (Pair before after) = ⊥
+abbrev pub IsForAction : Action → Exports → Type 0
+IsForAction (Diff n change) (Pair before after) = Unit {0}
+IsForAction (Diff n change) (Single l) = ⊥
+IsForAction action (Single l) = Unit {0}
+IsForAction action (Pair before after) = ⊥

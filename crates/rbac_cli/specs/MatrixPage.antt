@@ -19,14 +19,14 @@ AreRows true held u rows = IsEvery held u rows
 
 -- those of these rows that are listed: all, or with `--once` those that don't repeat what holds in
 -- the whole cluster (own)
-abbrev pub listed : Bool → List RowView → List RowView
-listed false rows = rows
-listed true rows = without_repeats rows
+abbrev pub rows_listed : Bool → List RowView → List RowView
+rows_listed false rows = rows
+rows_listed true rows = without_repeats rows
 
 -- the rows that these options list (own)
-abbrev pub AreListed : MatrixOptions → Held → UniverseView → List RowView → Type 0
-AreListed options held u all = (rows : List RowView) × AreRows options.every held u rows
-    × (all ≡ listed options.once rows)
+abbrev pub AreListedRows : MatrixOptions → Held → UniverseView → List RowView → Type 0
+AreListedRows options held u all = (rows : List RowView) × AreRows options.every held u rows
+    × (all ≡ rows_listed options.once rows)
 
 -- those that come after the mark: without `--every`, whose key is greater than the mark's (own)
 abbrev pub rows_past : Bool → Option Mark → List RowView → List RowView

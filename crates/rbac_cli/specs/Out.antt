@@ -27,22 +27,22 @@ use Rattle.rbac_question.specs.declared.command.Action.TheVariants.{Universe, Li
 use Rattle.rbac_question.specs.declared.command.Question.{Question}
 use Rattle.rbac_rules.specs.Effective.{RuleView, AreEffective}
 use Rattle.rbac_index.specs.WhoCan.{AreListedHolders}
-use Rattle.rbac_cli.specs.HolderLines.{AreHolderLines, joined}
+use Rattle.rbac_cli.specs.HolderLines.{AreHolderLines, joined_lines}
 use Rattle.rbac_cli.specs.declared.exports.Exports.{Exports}
 use Rattle.rbac_cli.specs.declared.exports.Exports.TheVariants.{Single, Pair}
-use Rattle.rbac_cli.specs.MatrixPage.{AreListed, matrix_text}
+use Rattle.rbac_cli.specs.MatrixPage.{AreListedRows, matrix_text}
 use Rattle.rbac_cli.specs.Meant.{IsMeant, IsTargetMeant, IsScopeMeant, requested_meant}
 use Rattle.rbac_cli.specs.declared.outcome.Status.{Status}
 use Rattle.rbac_cli.specs.declared.outcome.Status.TheVariants.{Zero, One}
 
 -- a word on a line of its own
-abbrev pub line : List ℕ → List ℕ
-line word = word ++ 10 ∷ []
+abbrev pub word_line : List ℕ → List ℕ
+word_line word = word ++ 10 ∷ []
 
 -- a word on a line of its own, or with `-q` nothing at all
 abbrev pub line_unless : Bool → List ℕ → List ℕ
 line_unless true word = []
-line_unless false word = line word
+line_unless false word = word_line word
 
 -- `who` is allowed what the question asks, by the objects that are held and the entries of the
 -- catalogue
@@ -130,13 +130,13 @@ Answers (Single l) (WhoCan options q) text status =
     × AreListedHolders l.policy.held scope options.every q.verb
     (requested_meant options.any_name target) xs
     × AreHolderLines l.policy options.why q.verb (requested_meant options.any_name target) xs lines
-    × (text ≡ joined lines) × (status ≡ Zero))
+    × (text ≡ joined_lines lines) × (status ≡ Zero))
 Answers (Single l) (Rules who scope) text status =
     (xs : List RuleView) × AreEffective l.policy who scope xs
     × (text ≡ rules_text xs) × (status ≡ Zero)
 Answers (Single l) (Matrix options after limit) text status =
     (u : UniverseView) × (rows : List RowView) × IsUniverseOf l.lists u
-    × AreListed options l.policy.held u rows
+    × AreListedRows options l.policy.held u rows
     × (text ≡ matrix_text options.every after limit rows) × (status ≡ Zero)
 Answers (Single l) Universe text status = IsDocument l.lists text × (status ≡ Zero)
 Answers (Single l) (Lint only skip_system) text status =

@@ -4,7 +4,7 @@ use Rattle.std.specs.Iterator.{Count, at_most}
 use Rattle.rbac_model.specs.Universes.{RowView}
 use Rattle.rbac_matrix.specs.RowTexts.{Shows}
 use Rattle.rbac_matrix.specs.declared.row.Row.{Row}
-use Rattle.rbac_cli.specs.MatrixPage.{listed}
+use Rattle.rbac_cli.specs.MatrixPage.{rows_listed}
 use Rattle.rbac_cli.specs.MatrixRows.{AreRowsLeft, IsOpenAt, is_every_of, most_rows}
 use Rattle.rbac_cli.specs.declared.rows_left.RowsLeft.{RowsLeft}
 
@@ -15,7 +15,7 @@ is_every left = is_every_of left.rows
 -- these rows are left: those of the matrix, with `--once` without repeats
 abbrev pub AreLeftIn : RowsLeft → List RowView → Type 0
 AreLeftIn left all = (rows : List RowView) × AreRowsLeft left.rows rows
-    × (all ≡ listed left.once rows)
+    × (all ≡ rows_listed left.once rows)
 
 -- what holds between two calls
 abbrev pub IsOpen : RowsLeft → Type 0
@@ -25,8 +25,8 @@ IsOpen left = IsOpenAt left.rows
 abbrev pub most_left : RowsLeft → ℕ
 most_left left = most_rows left.rows
 
-abbrev pub left_at_most : RowsLeft → Count
-left_at_most left = at_most (most_left left)
+abbrev pub rows_left_at_most : RowsLeft → Count
+rows_left_at_most left = at_most (most_left left)
 
 -- a row was given: the first of those that were left, and the others are left
 abbrev pub GivesFirst : RowsLeft → Row → RowsLeft → Type 0
@@ -35,9 +35,9 @@ GivesFirst old r new = (row : RowView) × Shows r row
     → (others : List RowView) × (all ≡ row ∷ others) × AreLeftIn new others)
 
 -- no row is left
-abbrev pub IsOver : RowsLeft → Type 0
-IsOver left = (all : List RowView) → AreLeftIn left all → all ≡ []
+abbrev pub HasNoRows : RowsLeft → Type 0
+HasNoRows left = (all : List RowView) → AreLeftIn left all → all ≡ []
 
 -- a call gave the first of the rows that were left, or nothing if none was left
 abbrev pub GivesNext : RowsLeft → Option Row → RowsLeft → Type 0
-GivesNext old r new = MatchOption r (IsOver old) (λ row. GivesFirst old row new)
+GivesNext old r new = MatchOption r (HasNoRows old) (λ row. GivesFirst old row new)

@@ -3,7 +3,7 @@ use Rattle.std.specs.Prelude.{ℕ, Bool, true, false, List, [], ◌++◌, codes,
 use Rattle.rbac_model.specs.Sources.{source_of}
 use Rattle.rbac_text.specs.Why.{why_text}
 use Rattle.rbac_model.specs.declared.why.Why.{Why}
-use Rattle.rbac_cli.specs.Out.{line}
+use Rattle.rbac_cli.specs.Out.{word_line}
 use Rattle.rbac_cli.specs.declared.outcome.Status.{Status}
 use Rattle.rbac_cli.specs.declared.outcome.Status.TheVariants.{Zero, One}
 
@@ -15,9 +15,9 @@ found_text found =
 -- with `-q` nothing; otherwise yes or no, and with `--why` the line that explains a yes
 abbrev pub verdict_text : Bool → Bool → Option Why → List ℕ
 verdict_text true why found = []
-verdict_text false why None = line (codes "no")
-verdict_text false true (Some found) = line (codes "yes") ++ found_text found
-verdict_text false false (Some found) = line (codes "yes")
+verdict_text false why None = word_line (codes "no")
+verdict_text false true (Some found) = word_line (codes "yes") ++ found_text found
+verdict_text false false (Some found) = word_line (codes "yes")
 
 abbrev pub verdict_status : Option Why → Status
 verdict_status None = One

@@ -1,7 +1,7 @@
 //! The answer of each action.
 
 ghost use Rattle.std.specs.Prelude.{◌≡◌, false};
-ghost use Rattle.rbac_cli.specs.Exports.{IsOver};
+ghost use Rattle.rbac_cli.specs.Exports.{IsForAction};
 ghost use Rattle.rbac_cli.specs.Printing.{EndsPrinting};
 
 use crate::can_i::verdict_of;
@@ -27,7 +27,7 @@ pub(crate) fn print_answer<W: Write + Drop>(
     action: &Action,
     output: &mut Output<'_, W>,
 ) -> Result<Status, Stop>
-    requires over { IsOver action.now exports.now }
+    requires over { IsForAction action.now exports.now }
     requires works { output.old.sink.now.has_failed ≡ false }
     ensures { EndsPrinting W.contents output.old output.new exports.now action.now result }
 {

@@ -6,8 +6,8 @@ ghost use Rattle.rbac_manifest.specs.Changed.{IsResolved, changed_objects};
 ghost use Rattle.rbac_manifest.specs.Load.{IsLoaded, HasFault, HasTooManyGrants, document_fault};
 ghost use Rattle.rbac_manifest.specs.declared.fault.Cause.TheVariants.{NoMemory};
 ghost use Rattle.rbac_question.specs.declared.command.Action.TheVariants.{Diff};
-ghost use Rattle.rbac_cli.specs.Exports.{AreLoaded, AreRefused, IsBefore, IsAfter, IsChangeRefused};
-ghost use Rattle.rbac_cli.specs.Exports.{IsFaultOfBoth, behind, objects_after, objects_of};
+ghost use Rattle.rbac_cli.specs.Exports.{AreLoaded, AreInputsRefused, IsSideBefore, IsSideAfter};
+ghost use Rattle.rbac_cli.specs.Exports.{IsChangeRefused, IsFaultOfBoth, behind, objects_after, objects_of};
 ghost use Rattle.rbac_cli.specs.Ends.{FailsToLoad};
 
 use crate::outcome::RunFault;
@@ -36,7 +36,7 @@ pub(crate) fn exports_from(
     inputs: &[Input],
 ) -> Result<Exports, RunFault>
     ensures ok { IfOk result (AreLoaded action.now inputs.now) }
-    ensures fault { IfErr result (FailsToLoad (AreRefused action.now inputs.now)) }
+    ensures fault { IfErr result (FailsToLoad (AreInputsRefused action.now inputs.now)) }
 {
     match action {
         Action::Diff { before, change } => pair_from(alloc, *before, *change, inputs),
@@ -59,7 +59,7 @@ fn pair_from(
     inputs: &[Input],
 ) -> Result<Exports, RunFault>
     ensures ok { IfOk result (AreLoaded (Diff before change) inputs.now) }
-    ensures fault { IfErr result (FailsToLoad (AreRefused (Diff before change) inputs.now)) }
+    ensures fault { IfErr result (FailsToLoad (AreInputsRefused (Diff before change) inputs.now)) }
 {
     let (first, others) = inputs.split_at(before.min(inputs.len()));
     match sides_of(alloc, change, first, others) {
@@ -76,8 +76,8 @@ fn sides_of(
     others: &[Input],
 ) -> Result<(Policy, Policy), LoadFault>
     requires { length first.now + length others.now < 2 ^ 64 }
-    ensures ok { IfOk result (λ sides. IsBefore first.now sides.0
-        × IsAfter change first.now others.now sides.1) }
+    ensures ok { IfOk result (λ sides. IsSideBefore first.now sides.0
+        × IsSideAfter change first.now others.now sides.1) }
     ensures fault { IfErr result
         (λ e. e.cause ≢ NoMemory → IsChangeRefused change first.now others.now e) }
     ensures memory { IfErr result (λ e. e.cause ≡ NoMemory → e.at ≡ None) }

@@ -49,7 +49,7 @@ pub(crate) fn print_matrix<W: Write + Drop>(
 // Prints a page of the rows of a matrix over this basis.
 fn print_rows<W: Write + Drop>(
     alloc: Global,
-    basis: &Basis<'_>,
+    basis: &MatrixBasis<'_>,
     options: MatrixOptions,
     after: Option<&Mark>,
     limit: Option<u32>,
@@ -84,14 +84,14 @@ fn print_rows<W: Write + Drop>(
 
 // What a matrix is built on: a universe, an index, and the reach of each grant.
 #[derive(Drop)]
-struct Basis<'p> {
+struct MatrixBasis<'p> {
     universe: Universe,
     index: Index<'p>,
     reaches: Vec<Reach>,
 }
 
 // What the matrix of what was loaded is built on.
-fn basis_of(alloc: Global, export: &Export) -> Result<Basis<'_>, UniverseFault>
+fn basis_of(alloc: Global, export: &Export) -> Result<MatrixBasis<'_>, UniverseFault>
     ensures universe { MatchResult result
         (λ basis. IsUniverseOf export.now.lists basis.universe)
         (HasUniverseFault export.now.lists) }
@@ -108,7 +108,11 @@ fn basis_of(alloc: Global, export: &Export) -> Result<Basis<'_>, UniverseFault>
 }
 
 // What the matrix of a policy over a universe is built on.
-fn basis_over(alloc: Global, policy: &Policy, universe: Universe) -> Result<Basis<'_>, IndexFault>
+fn basis_over(
+    alloc: Global,
+    policy: &Policy,
+    universe: Universe,
+) -> Result<MatrixBasis<'_>, IndexFault>
     ensures universe { IfOk result (λ basis. basis.universe ≡ universe) }
     ensures index { IfOk result (λ basis. basis.index ≡ policy.now) }
     ensures reaches { IfOk result
@@ -116,7 +120,7 @@ fn basis_over(alloc: Global, policy: &Policy, universe: Universe) -> Result<Basi
 {
     let index = Index::build(alloc, policy)?;
     let reaches = reaches_of(alloc, &index, &universe)?;
-    Ok(Basis {
+    Ok(MatrixBasis {
         universe,
         index,
         reaches,

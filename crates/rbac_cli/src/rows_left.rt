@@ -5,8 +5,9 @@ ghost use Rattle.std.specs.Iterator.{MakesProgress};
 ghost use Rattle.std.specs.Option.{option_copied};
 ghost use Rattle.rbac_model.specs.Universes.{RowView};
 ghost use Rattle.rbac_matrix.specs.Lent.{AreLent};
-ghost use Rattle.rbac_cli.specs.RowsLeft.{AreLeftIn, GivesNext, IsOpen, is_every, left_at_most};
-ghost use Rattle.rbac_cli.specs.MatrixPage.{AreListed, rows_past};
+ghost use Rattle.rbac_cli.specs.RowsLeft.{AreLeftIn, GivesNext, IsOpen, is_every};
+ghost use Rattle.rbac_cli.specs.RowsLeft.{rows_left_at_most};
+ghost use Rattle.rbac_cli.specs.MatrixPage.{AreListedRows, rows_past};
 
 use crate::matrix_rows::MatrixRows;
 use rbac_matrix::{Matrix, Row};
@@ -32,7 +33,7 @@ impl<'r, 'm> RowsLeft<'r, 'm> {
         ensures going { IsOpen result }
         ensures every { is_every result ≡ options.every }
         ensures left { (rows : List RowView)
-            × AreListed options matrix.old.index.now.held matrix.old.universe.now rows
+            × AreListedRows options matrix.old.index.now.held matrix.old.universe.now rows
             × AreLeftIn result (rows_past options.every (option_copied mark.entry) rows) }
     {
         RowsLeft {
@@ -47,7 +48,7 @@ impl<'r, 'm> RowsLeft<'r, 'm> {
         ensures going { IsOpen self.new }
         ensures every { is_every self.new ≡ is_every self.old }
         ensures gives { GivesNext self.old result self.new }
-        ensures goes { MakesProgress IsOpen left_at_most self.old result self.new }
+        ensures goes { MakesProgress IsOpen rows_left_at_most self.old result self.new }
     {
         if self.once {
             self.rows.pass_repeats();

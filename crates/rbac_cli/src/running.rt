@@ -3,7 +3,7 @@
 ghost use Rattle.std.specs.Prelude.{◌≡◌, ◌++◌, [], false, MatchResult};
 ghost use Rattle.rbac_streams.specs.Taken.{Took, Printed};
 ghost use Rattle.rbac_cli.specs.Ends.{Ends, Writes, is_write_fault};
-ghost use Rattle.rbac_cli.specs.Exports.{IsOver};
+ghost use Rattle.rbac_cli.specs.Exports.{IsForAction};
 ghost use Rattle.rbac_cli.specs.Printing.{BorrowsTheSame, StopsWith};
 
 use crate::answer::print_answer;
@@ -77,7 +77,7 @@ fn write_answer<W: Write + Drop>(
     action: &Action,
     output: &mut Output<'_, W>,
 ) -> Result<Status, RunFault>
-    requires over { IsOver action.now exports.now }
+    requires over { IsForAction action.now exports.now }
     requires works { output.old.sink.now.has_failed ≡ false }
     requires printed { Printed W.contents output.old.sink.now output.old.sink.now
         output.old.page.now [] }

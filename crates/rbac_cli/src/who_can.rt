@@ -1,13 +1,13 @@
 //! Who may do something, as an answer.
 
-ghost use Rattle.std.specs.Prelude.{◌≡◌, ◌++◌, ◌-◌, true, false, List, IfOk, OnOk, drop, length};
+ghost use Rattle.std.specs.Prelude.{◌≡◌, ◌++◌, ◌-◌, true, false, List, IfOk, OnOk, length};
 ghost use Rattle.rbac_terms.specs.Text.{Text};
 ghost use Rattle.rbac_terms.specs.declared.scope.Scope.TheVariants.{Namespace};
 ghost use Rattle.rbac_model.specs.Policies.{IsPolicy};
 ghost use Rattle.rbac_index.specs.HolderViews.{holder_shown, requested_of};
 ghost use Rattle.rbac_index.specs.WhoCan.{AreListedHolders};
 ghost use Rattle.rbac_question.specs.declared.command.Action.TheVariants.{WhoCan};
-ghost use Rattle.rbac_cli.specs.HolderLines.{AreHolderLines, IsHolderLine, joined};
+ghost use Rattle.rbac_cli.specs.HolderLines.{AreLinesLeft, IsLineOf, joined_lines};
 ghost use Rattle.rbac_cli.specs.Meant.{requested_meant, scope_given};
 ghost use Rattle.rbac_cli.specs.Printing.{EndsPrinting};
 ghost use Rattle.rbac_cli.specs.declared.exports.Exports.TheVariants.{Single};
@@ -46,7 +46,7 @@ pub(crate) fn print_holders<W: Write + Drop>(
     let policy = export.policy();
     let verb = &question.verb;
     let holders = holders_of(alloc, policy, &scope, options.every, verb, requested)?;
-    let asked = Asked {
+    let asked = HolderQuestion {
         policy: export.policy(),
         verb,
         target: &meant.target,
@@ -106,7 +106,7 @@ fn holders_of<'p>(
 
 // What holders are asked about, and whether to tell why they hold it.
 #[derive(Clone, Copy)]
-struct Asked<'a> {
+struct HolderQuestion<'a> {
     policy: &'a Policy,
     verb: &'a Word,
     target: &'a Target,
@@ -117,16 +117,16 @@ struct Asked<'a> {
 // The lines of holders from a place on.
 #[derive(Drop)]
 struct HolderLines<'a, 'h, 'p> {
-    asked: Asked<'a>,
+    asked: HolderQuestion<'a>,
     holders: &'h Holders<'p>,
     place: usize,
 }
 
 impl Lines for HolderLines<'_, '_, '_> {
-    ghost are_left = { λ it text. (lines : List Text)
-        × AreHolderLines it.asked.policy.now it.asked.why it.asked.verb.now
-        (requested_meant it.asked.any_name it.asked.target.now) (drop it.place it.holders.now) lines
-        × (text ≡ joined lines) };
+    ghost are_left = { λ it text. (lines : List Text) × AreLinesLeft it lines
+        × (text ≡ joined_lines lines) };
+
+    ghost is_open = { λ it. (lines : List Text) × AreLinesLeft it lines };
 
     ghost most_left = { λ it. length it.holders.now - it.place };
 
@@ -141,11 +141,14 @@ impl Lines for HolderLines<'_, '_, '_> {
     }
 }
 
-// Adds the line of one holder.
-fn put_line(line: &mut Vec<u8>, asked: Asked<'_>, holder: Holder<'_>) -> Result<(), AllocError>
-    ensures { (text : Text)
-        → IsHolderLine asked.entry.policy.now asked.entry.why asked.entry.verb.now
-        (requested_meant asked.entry.any_name asked.entry.target.now) (holder_shown holder.entry) text
+// Adds the line of one holder, which has one.
+fn put_line(
+    line: &mut Vec<u8>,
+    asked: HolderQuestion<'_>,
+    holder: Holder<'_>,
+) -> Result<(), AllocError>
+    requires { (text : Text) × IsLineOf asked (holder_shown holder) text }
+    ensures { (text : Text) → IsLineOf asked.entry (holder_shown holder.entry) text
         → OnOk result (line.new.items ≡ line.old.items ++ text) }
 {
     if !asked.why {
@@ -161,6 +164,6 @@ fn put_line(line: &mut Vec<u8>, asked: Asked<'_>, holder: Holder<'_>) -> Result<
             found.rule_place,
             found.subject_place,
         ),
-        None => Ok(()),
+        None => unreachable!(),
     }
 }

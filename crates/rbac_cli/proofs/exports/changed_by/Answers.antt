@@ -1,4 +1,4 @@
-use Rattle.std.proofs.Common.{◌<◌, ◌∙◌, List, ap, arith, drop, length, rules, sym, take, ℕ}
+use Rattle.std.proofs.Common.{◌<◌, ◌∙◌, ap, arith, drop, length, rules, take, ℕ}
 use Rattle.std.proofs.lemmas.List.{drop_min, take_min}
 use Rattle.std.proofs.lemmas.Result.{IfErr-weaker, IfOk-weaker}
 use Rattle.rbac_cli.proofs.Loads.{over_fault, over_ok}

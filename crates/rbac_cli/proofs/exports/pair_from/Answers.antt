@@ -1,7 +1,7 @@
 use Rattle.std.proofs.Common.{◌<◌, ◌∙◌, List, ap, arith, drop, length, rules, subst, take, ℕ}
 use Rattle.std.proofs.lemmas.List.{drop_min, take_min}
 use Rattle.rbac_question.specs.declared.command.Action.TheVariants.{Diff}
-use Rattle.rbac_cli.specs.Exports.{AreRefused, IsAfter, IsBefore, IsChangeRefused}
+use Rattle.rbac_cli.specs.Exports.{AreInputsRefused, IsSideAfter, IsSideBefore, IsChangeRefused}
 use Rattle.rbac_cli.proofs.Loads.{side_fails}
 use Rattle.rbac_cli.proofs.exports.pair_from.Goals as goal
 
@@ -15,9 +15,9 @@ returns-in-Ok-clause-ok c =
     let inputs = c.args.inputs.now in
     let first = c.split_at.ensures.front ∙ ap (λ (n : ℕ). take n inputs) c.min.ensures ∙ take_min c.args.before inputs in
     let others = c.split_at.ensures.back ∙ ap (λ (n : ℕ). drop n inputs) c.min.ensures ∙ drop_min c.args.before inputs in (
-      subst (λ (xs : List (List ℕ)). IsBefore xs c.in-Ok.old) first c.in-Ok.ensures.ok.0,
-      subst (λ (xs : List (List ℕ)). IsAfter c.args.change xs (drop c.args.before inputs) c.in-Ok.new) first
-          (subst (λ (ys : List (List ℕ)). IsAfter c.args.change c.split_at.result.0.now ys c.in-Ok.new) others c.in-Ok.ensures.ok.1),
+      subst (λ (xs : List (List ℕ)). IsSideBefore xs c.in-Ok.old) first c.in-Ok.ensures.ok.0,
+      subst (λ (xs : List (List ℕ)). IsSideAfter c.args.change xs (drop c.args.before inputs) c.in-Ok.new) first
+          (subst (λ (ys : List (List ℕ)). IsSideAfter c.args.change c.split_at.result.0.now ys c.in-Ok.new) others c.in-Ok.ensures.ok.1),
     )
 
 pub returns-in-Err-clause-fault : goal.returns-in-Err-clause-fault
@@ -26,7 +26,7 @@ returns-in-Err-clause-fault c =
     let first = c.split_at.ensures.front ∙ ap (λ (n : ℕ). take n inputs) c.min.ensures ∙ take_min c.args.before inputs in
     let others = c.split_at.ensures.back ∙ ap (λ (n : ℕ). drop n inputs) c.min.ensures ∙ drop_min c.args.before inputs in
     let fault = c.in-Err.fault in
-    side_fails (AreRefused (Diff c.args.before c.args.change) inputs) fault c.unloaded.result
+    side_fails (AreInputsRefused (Diff c.args.before c.args.change) inputs) fault c.unloaded.result
     (λ refused. subst (λ (xs : List (List ℕ)). IsChangeRefused c.args.change xs (drop c.args.before inputs) fault) first
     (subst (λ (ys : List (List ℕ)). IsChangeRefused c.args.change c.split_at.result.0.now ys fault) others (c.in-Err.ensures.fault refused)))
     c.unloaded.ensures.refused c.unloaded.ensures.memory
