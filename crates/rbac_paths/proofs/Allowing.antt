@@ -4,8 +4,8 @@ use Rattle.rbac_terms.specs.Text.{Text}
 use Rattle.rbac_terms.specs.Matching.{NameMatches, VerbOk, WordMatches}
 use Rattle.rbac_terms.specs.declared.matching.Rule.{Rule}
 use Rattle.rbac_model.proofs.OwnWords.{any_from}
-use Rattle.rbac_paths.specs.Asked.{HasNameFor}
-use Rattle.rbac_paths.specs.Rows.{HasName, HasResource}
+use Rattle.rbac_paths.specs.Asked.{HasRowNameFor}
+use Rattle.rbac_paths.specs.Rows.{HasRowName, HasRowResource}
 use Rattle.rbac_paths.specs.Steps.{AllowsRow, RowView}
 use Rattle.rbac_paths.specs.declared.table.Names.TheVariants as names
 
@@ -14,13 +14,13 @@ pub some_name : (names : List Text) → (name : Text) × NameMatches names name
 some_name [] = ([], inl refl)
 some_name (n ∷ ns) = (n, inr (0, omega arith, refl))
 
-pub any_has_name : (rule : Rule) → HasName names.Any rule
+pub any_has_name : (rule : Rule) → HasRowName names.Any rule
 any_has_name rule = let n = some_name rule.resource_names in (n.0, (n.0, tt), n.1)
 
-pub own_has_name : (rule : Rule) → HasName names.Own rule
+pub own_has_name : (rule : Rule) → HasRowName names.Own rule
 own_has_name rule = let n = some_name rule.resource_names in (n.0, (n.0, refl), n.1)
 
-pub allows_row : (r : RowView) (rule : Rule) → Any (VerbOk rule) r.verbs → Any (λ w. WordMatches w r.group) rule.groups → Any (HasResource rule) r.resources → HasName r.names rule → AllowsRow r rule
+pub allows_row : (r : RowView) (rule : Rule) → Any (VerbOk rule) r.verbs → Any (λ w. WordMatches w r.group) rule.groups → Any (HasRowResource rule) r.resources → HasRowName r.names rule → AllowsRow r rule
 allows_row r rule v g x n = record {
   verb = v.1;
   text = x.1;
@@ -31,25 +31,25 @@ allows_row r rule v g x n = record {
   allows = (v.4, (g, x.4, n.2));
 }
 
-pub row_allowed : (r : RowView) (rule : Rule) → AllowsRow r rule → Any (VerbOk rule) r.verbs × Any (λ w. WordMatches w r.group) rule.groups × Any (HasResource rule) r.resources × HasName r.names rule
+pub row_allowed : (r : RowView) (rule : Rule) → AllowsRow r rule → Any (VerbOk rule) r.verbs × Any (λ w. WordMatches w r.group) rule.groups × Any (HasRowResource rule) r.resources × HasRowName r.names rule
 row_allowed r rule a = (
   any_from (VerbOk rule) r.verbs a.verb a.of_verbs a.allows.0,
   a.allows.1.0,
-  any_from (HasResource rule) r.resources a.text a.of_resources a.allows.1.1,
+  any_from (HasRowResource rule) r.resources a.text a.of_resources a.allows.1.1,
   (a.name, a.named, a.allows.1.2),
 )
 
 -- of what has a name
-pub any_name_for : (own : Text) (rule : Rule) → HasNameFor names.Any own rule
+pub any_name_for : (own : Text) (rule : Rule) → HasRowNameFor names.Any own rule
 any_name_for own rule = let n = some_name rule.resource_names in (n.0, tt, n.1)
 
-pub own_name_for : (own : Text) (rule : Rule) → HasNameFor names.Own own rule ↔ NameMatches rule.resource_names own
+pub own_name_for : (own : Text) (rule : Rule) → HasRowNameFor names.Own own rule ↔ NameMatches rule.resource_names own
 own_name_for own rule = (
   λ h. subst (λ (n : Text). NameMatches rule.resource_names n) h.1 h.2,
   λ h. (own, refl, h),
 )
 
-pub no_name_for : (own : Text) (rule : Rule) → HasNameFor names.None own rule ↔ NameMatches rule.resource_names []
+pub no_name_for : (own : Text) (rule : Rule) → HasRowNameFor names.None own rule ↔ NameMatches rule.resource_names []
 no_name_for own rule = (
   λ h. subst (λ (n : Text). NameMatches rule.resource_names n) h.1 h.2,
   λ h. ([], refl, h),

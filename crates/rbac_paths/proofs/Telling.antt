@@ -11,7 +11,7 @@ use Rattle.rbac_model.specs.Holders.{IsKeyFor, HasKey}
 use Rattle.rbac_model.proofs.KeyNames.{key_names, naming_key}
 use Rattle.rbac_paths.specs.Powers.{GivesStep, PowerView}
 use Rattle.rbac_paths.specs.Steps.{AllowsIn, AllowsRow, CountsIn, RowView, asked_in, steps, table}
-use Rattle.rbac_paths.specs.Telling.{CanTake, HoldsIn, TellAll}
+use Rattle.rbac_paths.specs.Telling.{CanTake, AlsoHoldsIn, TellAll}
 use Rattle.rbac_paths.specs.declared.steps.Step.{Step}
 use Rattle.rbac_paths.specs.declared.steps.Step.TheVariants.{Impersonate, Token, Run, Exec, Secrets, Nodes, Bind, Escalate, Certificates, Webhooks}
 use Rattle.rbac_paths.specs.declared.table.Counts.{Counts}
@@ -31,20 +31,20 @@ in_steps Certificates = (8, omega arith, refl)
 in_steps Webhooks = (9, omega arith, refl)
 
 -- where a binding is live for a request of a row, the row counts, and what holds where the binding is holds there
-counts_there : (own : Option Text) (r : RowView) (place : Counts) (namespace verb text name : Text) → r.counts ≡ place → Live own (asked_in place namespace) (Resource r.group text name) → CountsIn r own × HoldsIn own namespace
+counts_there : (own : Option Text) (r : RowView) (place : Counts) (namespace verb text name : Text) → r.counts ≡ place → Live own (asked_in place namespace) (Resource r.group text name) → CountsIn r own × AlsoHoldsIn own namespace
 counts_there None r place namespace verb text name is live = (tt, tt)
 counts_there (Some own) r counted.ClusterWide namespace verb text name is live = absurd (live.0 refl)
 counts_there (Some own) r counted.InNamespaces namespace verb text name is live = ((is, λ e. live.0 (sym live.1 ∙ e)), live.1)
 
 -- where a row counts that is asked there, a binding is live
-live_there : (own : Option Text) (r : RowView) (namespace text name : Text) → HoldsIn own namespace → CountsIn r own → Live own (asked_in r.counts namespace) (Resource r.group text name)
+live_there : (own : Option Text) (r : RowView) (namespace text name : Text) → AlsoHoldsIn own namespace → CountsIn r own → Live own (asked_in r.counts namespace) (Resource r.group text name)
 live_there None r namespace text name holds counts = tt
 live_there (Some own) r namespace text name holds counts =
     let asked : asked_in r.counts namespace ≡ namespace = ap (λ (p : Counts). asked_in p namespace) counts.0 in
     (λ e. counts.1 (holds ∙ sym asked ∙ e), holds ∙ sym asked)
 
 module _ (p : PolicyView) (ok : IsPolicy p) (xs : List PowerView) (to : ArePowersTo p steps xs) (who : Who) (step : Step) (namespace : Text) where
-  pub told : CanTake p who step namespace → Any (λ x. (x.step ≡ step) × HoldsIn x.grant.binding.namespace namespace × IsKeyFor who x.who) xs
+  pub told : CanTake p who step namespace → Any (λ x. (x.step ≡ step) × AlsoHoldsIn x.grant.binding.namespace namespace × IsKeyFor who x.who) xs
   told c =
       let row = c.row in
       let asked = asked_in row.counts namespace in
@@ -59,9 +59,9 @@ module _ (p : PolicyView) (ok : IsPolicy p) (xs : List PowerView) (to : ArePower
       let allows : AllowsRow row g.rule.rule = record { verb = c.verb; text = c.text; name = c.name; of_verbs = c.of_verbs; of_resources = c.of_resources; named = c.named; allows = by.4.2 } in
       let gives : GivesStep step g = any_from (λ r. (r.step ≡ step) × AllowsIn g.binding.namespace g.rule.rule r) table row c.of_table (c.of_step, (there.0, allows)) in
       let x = to.grants step (in_steps step) by.0 g key.0 here gives has in
-      (x.0, x.1, x.2, x.3, (x.4.0, subst (λ (o : Option Text). HoldsIn o namespace) (sym x.4.2) there.1, subst (λ (k : Text). IsKeyFor who k) (sym x.4.1) key.2))
+      (x.0, x.1, x.2, x.3, (x.4.0, subst (λ (o : Option Text). AlsoHoldsIn o namespace) (sym x.4.2) there.1, subst (λ (k : Text). IsKeyFor who k) (sym x.4.1) key.2))
 
-  pub taken : Any (λ x. (x.step ≡ step) × HoldsIn x.grant.binding.namespace namespace × IsKeyFor who x.who) xs → CanTake p who step namespace
+  pub taken : Any (λ x. (x.step ≡ step) × AlsoHoldsIn x.grant.binding.namespace namespace × IsKeyFor who x.who) xs → CanTake p who step namespace
   taken a =
       let x = a.1 in
       let power = each_power p steps xs to.powers x (a.0, a.2, a.3) in

@@ -5,7 +5,7 @@ use Rattle.rbac_terms.specs.Principals.{Who, AsUser, AsMember}
 use Rattle.rbac_terms.specs.Targets.{Resource}
 use Rattle.rbac_terms.specs.Matching.{NameMatches, RuleAllows}
 use Rattle.rbac_terms.specs.declared.matching.Rule.{Rule}
-use Rattle.rbac_paths.specs.Steps.{IsNamed, RowView}
+use Rattle.rbac_paths.specs.Steps.{IsNameAsked, RowView}
 use Rattle.rbac_paths.specs.declared.table.Names.{Names}
 use Rattle.rbac_paths.specs.declared.taking.Asked.{Asked}
 
@@ -17,13 +17,13 @@ Asks Is answer = MatchOption answer
     ↔ ((namespace ≡ a.namespace.now) × (own ≡ a.own.now)))
 
 -- who asks is a user
-abbrev pub IsUser : Who → Type 0
-IsUser (AsUser name given) = Unit {0}
-IsUser (AsMember group) = ⊥
+abbrev pub IsAnyUser : Who → Type 0
+IsAnyUser (AsUser name given) = Unit {0}
+IsAnyUser (AsMember group) = ⊥
 
 -- the rule's names match the object name of a row's request for what has that name
-abbrev pub HasNameFor : Names → Text → Rule → Type 0
-HasNameFor names own rule = (name : Text) × IsNamed names own name × NameMatches rule.resource_names name
+abbrev pub HasRowNameFor : Names → Text → Rule → Type 0
+HasRowNameFor names own rule = (name : Text) × IsNameAsked names own name × NameMatches rule.resource_names name
 
 -- the rule allows some request of the row for what has that name
 pub record AllowsRowFor (r : RowView) (own : Text) (rule : Rule) : Type 0 where
@@ -32,5 +32,5 @@ pub record AllowsRowFor (r : RowView) (own : Text) (rule : Rule) : Type 0 where
   pub name : Text
   pub of_verbs : Contains r.verbs verb
   pub of_resources : Contains r.resources text
-  pub named : IsNamed r.names own name
+  pub named : IsNameAsked r.names own name
   pub allows : RuleAllows rule verb (Resource r.group text name)

@@ -9,8 +9,8 @@ use Rattle.rbac_paths.specs.declared.table.Names.{Names}
 use Rattle.rbac_paths.specs.declared.table.Row.{Row}
 
 -- a row of the table
-abbrev pub row_of : Row → RowView
-row_of r = record {
+abbrev pub row_view : Row → RowView
+row_view r = record {
   step = r.step;
   names = r.names;
   counts = r.counts;
@@ -21,17 +21,17 @@ row_of r = record {
 }
 
 -- some resource word of the rule matches the resource text
-abbrev pub HasResource : Rule → Text → Type 0
-HasResource rule text = Any (λ w. ResourceWordMatches w text) rule.resources
+abbrev pub HasRowResource : Rule → Text → Type 0
+HasRowResource rule text = Any (λ w. ResourceWordMatches w text) rule.resources
 
 -- the rule matches a verb, the API group and a resource of the row
 abbrev pub MatchesRow : RowView → Rule → Type 0
 MatchesRow r rule = Any (VerbOk rule) r.verbs × Any (λ w. WordMatches w r.group) rule.groups
-    × Any (HasResource rule) r.resources
+    × Any (HasRowResource rule) r.resources
 
 -- the rule's names match some object name of the row's requests
-abbrev pub HasName : Names → Rule → Type 0
-HasName names rule = (name : Text) × CanBeNamed names name × NameMatches rule.resource_names name
+abbrev pub HasRowName : Names → Rule → Type 0
+HasRowName names rule = (name : Text) × CanBeNamed names name × NameMatches rule.resource_names name
 
 -- exactly those of all rows that are of the step
 abbrev pub AreOfStep : Step → List RowView → List RowView → Type 0

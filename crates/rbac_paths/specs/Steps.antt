@@ -121,14 +121,14 @@ asked_in counted.InNamespaces namespace = namespace
 
 -- the object name of a request of the row, where what is taken over has a name of its own: none, that
 -- name, or any
-abbrev pub IsNamed : Names → Text → Text → Type 0
-IsNamed names.None own name = name ≡ []
-IsNamed names.Own own name = name ≡ own
-IsNamed names.Any own name = Unit {0}
+abbrev pub IsNameAsked : Names → Text → Text → Type 0
+IsNameAsked names.None own name = name ≡ []
+IsNameAsked names.Own own name = name ≡ own
+IsNameAsked names.Any own name = Unit {0}
 
 -- a request of the row can have that object name
 abbrev pub CanBeNamed : Names → Text → Type 0
-CanBeNamed names name = (own : Text) × IsNamed names own name
+CanBeNamed names name = (own : Text) × IsNameAsked names own name
 
 -- the rule allows some request of the row
 pub record AllowsRow (r : RowView) (rule : Rule) : Type 0 where

@@ -9,7 +9,7 @@ use Rattle.rbac_model.specs.Lists.{IsFirstAt}
 use Rattle.rbac_model.specs.Policies.{Allows, BindingNames, GrantView, Live, PolicyView}
 use Rattle.rbac_paths.specs.Nodes.{NodeView, Somebody, ClusterRoleIn, OwnRole, EverythingIn}
 use Rattle.rbac_paths.specs.Nodes.{IsAccountNamed}
-use Rattle.rbac_paths.specs.Steps.{IsNamed, RowView, asked_in, table}
+use Rattle.rbac_paths.specs.Steps.{IsNameAsked, RowView, asked_in, table}
 use Rattle.rbac_paths.specs.declared.steps.Step.{Step}
 use Rattle.rbac_paths.specs.declared.table.Counts.{Counts}
 use Rattle.rbac_paths.specs.declared.table.Counts.TheVariants as counted
@@ -17,9 +17,9 @@ use Rattle.rbac_paths.specs.declared.table.Over.{Over}
 use Rattle.rbac_paths.specs.declared.table.Over.TheVariants as over
 
 -- the namespace that stands for a scope; the empty one stands for the whole cluster
-abbrev pub scope_text : Option Text → Text
-scope_text None = []
-scope_text (Some namespace) = namespace
+abbrev pub scope_namespace : Option Text → Text
+scope_namespace None = []
+scope_namespace (Some namespace) = namespace
 
 -- what counts in the whole cluster alone takes over everything there, and nothing of a namespace
 abbrev pub IsInReach : Counts → Option Text → Type 0
@@ -34,9 +34,9 @@ IsOver over.Groups counts (Somebody (AsMember group)) namespace name = (namespac
     × (name ≡ group)
 IsOver over.Accounts counts (Somebody who) namespace name = IsAccountNamed who namespace name
 IsOver over.Everything counts (EverythingIn scope) namespace name =
-    (namespace ≡ scope_text scope) × (name ≡ []) × IsInReach counts scope
+    (namespace ≡ scope_namespace scope) × (name ≡ []) × IsInReach counts scope
 IsOver over.ClusterRoles counts (ClusterRoleIn role scope) namespace name =
-    (namespace ≡ scope_text scope) × (name ≡ role.name)
+    (namespace ≡ scope_namespace scope) × (name ≡ role.name)
 IsOver over.Roles counts (OwnRole role) namespace name = (namespace ≡ role.namespace)
     × (name ≡ role.name)
 IsOver _ _ _ namespace name = ⊥
@@ -52,7 +52,7 @@ pub record RowTakes (row : RowView) (home : Option Text) (rule : Rule) (y : Node
   pub over : IsOver row.over row.counts y namespace own
   pub of_verbs : Contains row.verbs verb
   pub of_resources : Contains row.resources text
-  pub named : IsNamed row.names own name
+  pub named : IsNameAsked row.names own name
   pub live : Live home (asked_in row.counts namespace) (Resource row.group text name)
   pub allows : RuleAllows rule verb (Resource row.group text name)
 
@@ -88,5 +88,5 @@ pub record CanTakeOver (p : PolicyView) (who : Who) (step : Step) (y : NodeView)
   pub over : IsOver row.over row.counts y namespace own
   pub of_verbs : Contains row.verbs verb
   pub of_resources : Contains row.resources text
-  pub named : IsNamed row.names own name
+  pub named : IsNameAsked row.names own name
   pub allowed : Allows p.held who (asked_in row.counts namespace) verb (Resource row.group text name)

@@ -24,14 +24,14 @@ pub record CanTake (p : PolicyView) (who : Who) (step : Step) (namespace : Text)
   pub allowed : Allows p.held who (asked_in row.counts namespace) verb (Resource row.group text name)
 
 -- what holds where a binding of that namespace, or of none, is live also holds there
-abbrev pub HoldsIn : Option Text → Text → Type 0
-HoldsIn None namespace = Unit {0}
-HoldsIn (Some own) namespace = own ≡ namespace
+abbrev pub AlsoHoldsIn : Option Text → Text → Type 0
+AlsoHoldsIn None namespace = Unit {0}
+AlsoHoldsIn (Some own) namespace = own ≡ namespace
 
 -- somebody can take a step in a namespace, or, if it is the empty one, in the whole cluster, exactly
 -- if a power of the step holds there whose key is theirs or that of one of their groups
 abbrev pub TellAll : PolicyView → List PowerView → Type 0
 TellAll p xs = (who : Who) (step : Step) (namespace : Text)
     → CanTake p who step namespace
-    ↔ Any (λ x. (x.step ≡ step) × HoldsIn x.grant.binding.namespace namespace
+    ↔ Any (λ x. (x.step ≡ step) × AlsoHoldsIn x.grant.binding.namespace namespace
     × IsKeyFor who x.who) xs

@@ -6,9 +6,9 @@ ghost use Rattle.rbac_terms.specs.Matching.{NameMatches, VerbOk};
 ghost use Rattle.rbac_terms.specs.Targets.{Resource};
 ghost use Rattle.rbac_terms.specs.Text.{Text};
 ghost use Rattle.rbac_model.specs.Policies.{Live};
-ghost use Rattle.rbac_paths.specs.Asked.{AllowsRowFor, Asks, HasNameFor};
+ghost use Rattle.rbac_paths.specs.Asked.{AllowsRowFor, Asks, HasRowNameFor};
 ghost use Rattle.rbac_paths.specs.Nodes.{node_of};
-ghost use Rattle.rbac_paths.specs.Rows.{AddsRow, AreOfStep, HasName, HasResource, MatchesRow, row_of};
+ghost use Rattle.rbac_paths.specs.Rows.{AddsRow, AreOfStep, HasRowName, HasRowResource, MatchesRow, row_view};
 ghost use Rattle.rbac_paths.specs.Steps.{AllowsRow, CountsIn, asked_in, table};
 ghost use Rattle.rbac_paths.specs.Taking.{IsOver, RowTakes};
 
@@ -52,7 +52,7 @@ impl Model for WordRow {
 
 impl WordRow {
     fn of(alloc: Global, row: &Row) -> Result<Self, AllocError>
-        ensures { IfOk result (λ r. r ≡ row_of row.now) }
+        ensures { IfOk result (λ r. r ≡ row_view row.now) }
     {
         Ok(WordRow {
             step: row.step,
@@ -133,7 +133,7 @@ impl WordRow {
 
     // Whether the rule's names match the object name of a request of the row for what has that name.
     fn has_name_for(&self, rule: &Rule, own: &[u8]) -> bool
-        ensures { IsTrue result ↔ HasNameFor self.now.names own.now rule.now }
+        ensures { IsTrue result ↔ HasRowNameFor self.now.names own.now rule.now }
     {
         match self.names {
             Names::Any => true,
@@ -161,7 +161,7 @@ impl WordRow {
 
     // Whether the rule matches some resource of the row, API groups aside.
     fn has_resource_of(&self, rule: &Rule) -> bool
-        ensures { IsTrue result ↔ Any (HasResource rule.now) self.now.resources }
+        ensures { IsTrue result ↔ Any (HasRowResource rule.now) self.now.resources }
     {
         self.resources
             .as_slice()
@@ -171,7 +171,7 @@ impl WordRow {
 
     // Whether the rule's names match some object name of the row's requests.
     fn has_name_of(&self, rule: &Rule) -> bool
-        ensures { IsTrue result ↔ HasName self.now.names rule.now }
+        ensures { IsTrue result ↔ HasRowName self.now.names rule.now }
     {
         match self.names {
             Names::Own | Names::Any => true,
@@ -207,7 +207,7 @@ pub(crate) fn rows_of(alloc: Global, step: Step) -> Result<Vec<WordRow>, AllocEr
 
 // Those of these rows that are of a step.
 fn rows_among(alloc: Global, all: &[Row], step: Step) -> Result<Vec<WordRow>, AllocError>
-    ensures { IfOk result (λ rows. AreOfStep step (map row_of all.now) rows.items) }
+    ensures { IfOk result (λ rows. AreOfStep step (map row_view all.now) rows.items) }
 {
     let mut rows = Vec::new(alloc);
     for row in all {
@@ -218,7 +218,7 @@ fn rows_among(alloc: Global, all: &[Row], step: Step) -> Result<Vec<WordRow>, Al
 
 // Adds the row if it is of the step.
 fn add_row(alloc: Global, row: &Row, step: Step, rows: &mut Vec<WordRow>) -> Result<(), AllocError>
-    ensures { OnOk result (AddsRow step (row_of row.now) rows.old.items rows.new.items) }
+    ensures { OnOk result (AddsRow step (row_view row.now) rows.old.items rows.new.items) }
 {
     if row.step == step {
         rows.push(WordRow::of(alloc, row)?)?;

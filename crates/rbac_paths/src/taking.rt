@@ -3,9 +3,9 @@
 ghost use Rattle.std.specs.Prelude.{◌≡◌, ◌↔◌, IsTrue, MatchOption};
 ghost use Rattle.std.specs.Option.{option_copied};
 ghost use Rattle.rbac_terms.specs.Text.{Text};
-ghost use Rattle.rbac_paths.specs.Asked.{Asks, IsUser};
+ghost use Rattle.rbac_paths.specs.Asked.{Asks, IsAnyUser};
 ghost use Rattle.rbac_paths.specs.Nodes.{IsAccountNamed, Somebody, node_of};
-ghost use Rattle.rbac_paths.specs.Taking.{IsOver, scope_text};
+ghost use Rattle.rbac_paths.specs.Taking.{IsOver, scope_namespace};
 ghost use Rattle.rbac_paths.specs.declared.table.Counts.{Counts};
 ghost use Rattle.rbac_paths.specs.declared.table.Over.TheVariants as over;
 
@@ -78,7 +78,7 @@ pub(crate) fn for_everything(counts: Counts, node: Node<'_>) -> Option<Asked<'_>
     match node {
         Node::Everything(scope) if counts == Counts::InNamespaces || scope.is_none() => {
             Some(Asked {
-                namespace: scope_text(scope),
+                namespace: scope_namespace(scope),
                 own: b"",
             })
         }
@@ -92,7 +92,7 @@ pub(crate) fn for_cluster_role(counts: Counts, node: Node<'_>) -> Option<Asked<'
 {
     match node {
         Node::ClusterRole(role, scope) => Some(Asked {
-            namespace: scope_text(scope),
+            namespace: scope_namespace(scope),
             own: role.name.as_bytes(),
         }),
         _ => None,
@@ -113,8 +113,8 @@ pub(crate) fn for_role(counts: Counts, node: Node<'_>) -> Option<Asked<'_>>
 }
 
 // The namespace that stands for a scope; the empty one stands for the whole cluster.
-fn scope_text(scope: Option<&Word>) -> &[u8]
-    ensures { result.now ≡ scope_text (option_copied scope.entry) }
+fn scope_namespace(scope: Option<&Word>) -> &[u8]
+    ensures { result.now ≡ scope_namespace (option_copied scope.entry) }
 {
     match scope {
         Some(namespace) => namespace.as_bytes(),
@@ -124,7 +124,7 @@ fn scope_text(scope: Option<&Word>) -> &[u8]
 
 // Whether this is a user, and not a member of a group.
 fn is_user(who: &Principal) -> bool
-    ensures { IsTrue result ↔ IsUser who.now }
+    ensures { IsTrue result ↔ IsAnyUser who.now }
 {
     who.key().as_bytes().first() == Some(&b'u')
 }

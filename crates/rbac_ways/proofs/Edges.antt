@@ -7,8 +7,8 @@ use Rattle.std.proofs.lemmas.List.Kept.{AllPairs-from_increasing}
 use Rattle.std.specs.List.Sorted.{IsStrictlyIncreasing}
 use Rattle.std.proofs.lemmas.List.Elements.{Contains-append_left}
 use Rattle.rbac_ways.proofs.Meets.{is_some_of, meets_same, meets_then, none_some, of_pushed, pushed_here, still_met}
-use Rattle.rbac_ways.specs.Meeting.{AreMet, ComesAfter, IsNext, IsNextTo, IsOneOf, Meets, behind, stop_at}
-use Rattle.rbac_ways.specs.Ways.{GraphView, HasEdge}
+use Rattle.rbac_ways.specs.Meeting.{AreMet, IsAfterLeast, IsNext, IsNextTo, IsOneOf, MeetsNodes, stop_behind, stop_at}
+use Rattle.rbac_ways.specs.Ways.{GraphView, IsEdge}
 use Rattle.rbac_ways.specs.declared.graph.Stop.{Stop}
 
 -- the nodes of a set
@@ -27,7 +27,7 @@ stop_within stops j s e = elim (cases_lt j (length stops)) [
 
 -- the nodes of a set that is passed now are met
 pub met_more : (g : GraphView) (passed : List Bool) (old new : List (Option Stop)) (May : ℕ → Stop → Type 0) (l m : List ℕ) (k : ℕ) → k < length passed
-    → AreMet g passed old → Meets (Contains (members g k)) May old new l m → AreMet g (set passed k true) new
+    → AreMet g passed old → MeetsNodes (Contains (members g k)) May old new l m → AreMet g (set passed k true) new
 met_more g passed old new May l m k low met meets at j is has there = elim (cases_eq at k) [
   | inl same ↦ meets.due j (subst (λ (a : ℕ). Contains (members g a) j) same has) (let len = meets.len in omega (arith, len, there))
   | inr ne ↦ still_met old new meets.kept j (met at j (sym (get_or-set_other passed k at true false ne) ∙ is) has (let len = meets.len in omega (arith, len, there)))
@@ -35,7 +35,7 @@ met_more g passed old new May l m k low met meets at j is has there = elim (case
 
 -- a set that was passed, or that isn't there, has no node to meet
 pub meets_passed : (g : GraphView) (passed : List Bool) (stops : List (Option Stop)) (level : List ℕ) (stop : Stop) (k : ℕ) → AreMet g passed stops → length passed ≡ length g.sets
-    → (k < length passed → get_or passed k false ≡ true) → Meets (Contains (members g k)) (IsOneOf (members g k) stop) stops stops level level
+    → (k < length passed → get_or passed k false ≡ true) → MeetsNodes (Contains (members g k)) (IsOneOf (members g k) stop) stops stops level level
 meets_passed g passed stops level stop k met len is = meets_same (Contains (members g k)) (IsOneOf (members g k) stop) stops level
     (λ j has low. elim (cases_lt k (length passed)) [
       | inl l ↦ met k j (is l) has low
@@ -49,12 +49,12 @@ IsInSome g ks j = (k : ℕ) × Contains ks k × Contains (members g k) j
 abbrev pub MayBeIn : GraphView → List ℕ → Stop → ℕ → Stop → Type 0
 MayBeIn g ks stop j s = IsInSome g ks j × (s ≡ stop)
 
-pub meets_no_set : (g : GraphView) (stop : Stop) (stops : List (Option Stop)) (level : List ℕ) → Meets (IsInSome g []) (MayBeIn g [] stop) stops stops level level
+pub meets_no_set : (g : GraphView) (stop : Stop) (stops : List (Option Stop)) (level : List ℕ) → MeetsNodes (IsInSome g []) (MayBeIn g [] stop) stops stops level level
 meets_no_set g stop stops level = meets_same (IsInSome g []) (MayBeIn g [] stop) stops level (λ j w low. absurd (in_none [] w.0 refl w.1))
 
 pub meets_set : (g : GraphView) (ks : List ℕ) (k : ℕ) (stop : Stop) (a b c : List (Option Stop)) (l m n : List ℕ)
-    → Meets (IsInSome g ks) (MayBeIn g ks stop) a b l m → Meets (Contains (members g k)) (IsOneOf (members g k) stop) b c m n
-    → Meets (IsInSome g (ks ++ k ∷ [])) (MayBeIn g (ks ++ k ∷ []) stop) a c l n
+    → MeetsNodes (IsInSome g ks) (MayBeIn g ks stop) a b l m → MeetsNodes (Contains (members g k)) (IsOneOf (members g k) stop) b c m n
+    → MeetsNodes (IsInSome g (ks ++ k ∷ [])) (MayBeIn g (ks ++ k ∷ []) stop) a c l n
 meets_set g ks k stop a b c l m n first second =
     meets_then (IsInSome g ks) (Contains (members g k)) (IsInSome g (ks ++ k ∷ [])) (MayBeIn g ks stop) (IsOneOf (members g k) stop) (MayBeIn g (ks ++ k ∷ []) stop) a b c l m n first second
     (λ j w. elim (of_pushed ks k w.0 w.1) [
@@ -66,7 +66,7 @@ meets_set g ks k stop a b c l m n first second =
 
 -- all sets that a node takes are all its edges
 pub meets_edges : (g : GraphView) (i edges : ℕ) (old new : List (Option Stop)) (l m : List ℕ) → length old ≡ length g.takes
-    → Meets (IsInSome g (get_or g.takes i [])) (MayBeIn g (get_or g.takes i []) (behind edges i)) old new l m → Meets (HasEdge g i) (IsNext g edges i) old new l m
+    → MeetsNodes (IsInSome g (get_or g.takes i [])) (MayBeIn g (get_or g.takes i []) (stop_behind edges i)) old new l m → MeetsNodes (IsEdge g i) (IsNext g edges i) old new l m
 meets_edges g i edges old new l m len meets = record {
   len = meets.len;
   kept = meets.kept;
@@ -77,8 +77,8 @@ meets_edges g i edges old new l m len meets = record {
   room = meets.room;
 }
 
-pub meets_no_node : (g : GraphView) (edges : ℕ) (stops : List (Option Stop)) (level : List ℕ) → Meets (IsNextTo g []) (ComesAfter g [] edges) stops stops level level
-meets_no_node g edges stops level = meets_same (IsNextTo g []) (ComesAfter g [] edges) stops level (λ j w low. absurd (in_none [] w.0 refl w.1))
+pub meets_no_node : (g : GraphView) (edges : ℕ) (stops : List (Option Stop)) (level : List ℕ) → MeetsNodes (IsNextTo g []) (IsAfterLeast g [] edges) stops stops level level
+meets_no_node g edges stops level = meets_same (IsNextTo g []) (IsAfterLeast g [] edges) stops level (λ j w low. absurd (in_none [] w.0 refl w.1))
 
 -- what is before a place of an ascending list is less than what is there
 pub less_before : (xs : List ℕ) (i x b : ℕ) → IsStrictlyIncreasing xs → i < length xs → get_or xs i 0 ≡ x → Contains (take i xs) b → b < x
@@ -91,13 +91,13 @@ less_before xs i x b up low here w =
     omega (arith, less, there, here)
 
 pub meets_node : (g : GraphView) (edges : ℕ) (xs : List ℕ) (x : ℕ) (a b c : List (Option Stop)) (l m n : List ℕ) → length a ≡ length g.takes
-    → ((y : ℕ) → Contains xs y → y < x) → Meets (IsNextTo g xs) (ComesAfter g xs edges) a b l m → Meets (HasEdge g x) (IsNext g edges x) b c m n
-    → Meets (IsNextTo g (xs ++ x ∷ [])) (ComesAfter g (xs ++ x ∷ []) edges) a c l n
+    → ((y : ℕ) → Contains xs y → y < x) → MeetsNodes (IsNextTo g xs) (IsAfterLeast g xs edges) a b l m → MeetsNodes (IsEdge g x) (IsNext g edges x) b c m n
+    → MeetsNodes (IsNextTo g (xs ++ x ∷ [])) (IsAfterLeast g (xs ++ x ∷ []) edges) a c l n
 meets_node g edges xs x a b c l m n len less first second =
-    meets_then (IsNextTo g xs) (HasEdge g x) (IsNextTo g (xs ++ x ∷ [])) (ComesAfter g xs edges) (IsNext g edges x) (ComesAfter g (xs ++ x ∷ []) edges) a b c l m n first second
+    meets_then (IsNextTo g xs) (IsEdge g x) (IsNextTo g (xs ++ x ∷ [])) (IsAfterLeast g xs edges) (IsNext g edges x) (IsAfterLeast g (xs ++ x ∷ []) edges) a b c l m n first second
     (λ j w. elim (of_pushed xs x w.0 w.1) [
       | inl h ↦ inl (w.0, h, w.2)
-      | inr same ↦ inr (subst (λ (y : ℕ). HasEdge g y j) same w.2)
+      | inr same ↦ inr (subst (λ (y : ℕ). IsEdge g y j) same w.2)
     ])
     (λ j s after. record {
       next = after.next;
@@ -107,7 +107,7 @@ meets_node g edges xs x a b c l m n len less first second =
         | inr same ↦ absurd (let l = less s.before after.before in omega (arith, low, same, l))
       ];
     })
-    (λ j s not w. subst (λ (t : Stop). ComesAfter g (xs ++ x ∷ []) edges j t) (sym w.1) (record {
+    (λ j s not w. subst (λ (t : Stop). IsAfterLeast g (xs ++ x ∷ []) edges j t) (sym w.1) (record {
       next = (w.0, refl);
       before = pushed_here xs x x refl;
       least = λ i low has edge. elim (of_pushed xs x i has) [

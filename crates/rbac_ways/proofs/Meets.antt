@@ -4,7 +4,7 @@ use Rattle.std.proofs.Math.ListN.{length-set}
 use Rattle.std.proofs.lemmas.Bool.{cases_eq}
 use Rattle.std.proofs.lemmas.List.Elements.{Contains-append_left, Contains-append_right, Contains-append_cases}
 use Rattle.std.proofs.lemmas.Option.{same_Some}
-use Rattle.rbac_ways.specs.Meeting.{Meets, stop_at, unmet}
+use Rattle.rbac_ways.specs.Meeting.{MeetsNodes, stop_at, unmet}
 use Rattle.rbac_ways.specs.declared.graph.Stop.{Stop}
 
 -- a stop or none
@@ -28,7 +28,7 @@ pub still_met : (old new : List (Option Stop)) → ((j : ℕ) (s : Stop) → sto
 still_met old new kept j is = let w = some_of (stop_at old j) is in is_some_of (stop_at new j) w.0 (kept j w.0 w.1)
 
 -- nothing changes
-pub meets_same : (Due : ℕ → Type 0) (May : ℕ → Stop → Type 0) (stops : List (Option Stop)) (level : List ℕ) → ((j : ℕ) → Due j → j < length stops → IsSome (stop_at stops j)) → Meets Due May stops stops level level
+pub meets_same : (Due : ℕ → Type 0) (May : ℕ → Stop → Type 0) (stops : List (Option Stop)) (level : List ℕ) → ((j : ℕ) → Due j → j < length stops → IsSome (stop_at stops j)) → MeetsNodes Due May stops stops level level
 meets_same Due May stops level due = record {
   len = refl;
   kept = λ j s e. e;
@@ -40,7 +40,7 @@ meets_same Due May stops level due = record {
 
 -- one meeting after another
 module _ (D1 D2 D : ℕ → Type 0) (M1 M2 M : ℕ → Stop → Type 0) (a b c : List (Option Stop)) (l m n : List ℕ)
-    (first : Meets D1 M1 a b l m) (second : Meets D2 M2 b c m n) where
+    (first : MeetsNodes D1 M1 a b l m) (second : MeetsNodes D2 M2 b c m n) where
   was_none : (j : ℕ) → stop_at b j ≡ None → stop_at a j ≡ None
   was_none j none = elim (either (stop_at a j)) [
     | inl e ↦ e
@@ -50,7 +50,7 @@ module _ (D1 D2 D : ℕ → Type 0) (M1 M2 M : ℕ → Stop → Type 0) (a b c :
   still : (j : ℕ) → IsSome (stop_at b j) → IsSome (stop_at c j)
   still j is = still_met b c second.kept j is
 
-  pub meets_then : ((j : ℕ) → D j → D1 j ⊎ D2 j) → ((j : ℕ) (s : Stop) → M1 j s → M j s) → ((j : ℕ) (s : Stop) → (D1 j → j < length a → ⊥) → M2 j s → M j s) → Meets D M a c l n
+  pub meets_then : ((j : ℕ) → D j → D1 j ⊎ D2 j) → ((j : ℕ) (s : Stop) → M1 j s → M j s) → ((j : ℕ) (s : Stop) → (D1 j → j < length a → ⊥) → M2 j s → M j s) → MeetsNodes D M a c l n
   meets_then due one other = record {
     len = second.len ∙ first.len;
     kept = λ j s e. second.kept j s (first.kept j s e);
@@ -97,8 +97,8 @@ pushed_here xs x j same = Contains-append_right xs (x ∷ []) j (0, omega arith,
 
 -- one more of several nodes, where each has a stop of its own
 pub meets_push : (of : ℕ → Stop) (xs : List ℕ) (x : ℕ) (a b c : List (Option Stop)) (l m n : List ℕ)
-    → Meets (Contains xs) (λ j s. Contains xs j × (s ≡ of j)) a b l m → Meets (λ j. j ≡ x) (λ j s. (j ≡ x) × (s ≡ of x)) b c m n
-    → Meets (Contains (xs ++ x ∷ [])) (λ j s. Contains (xs ++ x ∷ []) j × (s ≡ of j)) a c l n
+    → MeetsNodes (Contains xs) (λ j s. Contains xs j × (s ≡ of j)) a b l m → MeetsNodes (λ j. j ≡ x) (λ j s. (j ≡ x) × (s ≡ of x)) b c m n
+    → MeetsNodes (Contains (xs ++ x ∷ [])) (λ j s. Contains (xs ++ x ∷ []) j × (s ≡ of j)) a c l n
 meets_push of xs x a b c l m n first second =
     meets_then (Contains xs) (λ j. j ≡ x) (Contains (xs ++ x ∷ [])) (λ j s. Contains xs j × (s ≡ of j)) (λ j s. (j ≡ x) × (s ≡ of x)) (λ j s. Contains (xs ++ x ∷ []) j × (s ≡ of j)) a b c l m n first second
     (of_pushed xs x)
@@ -106,7 +106,7 @@ meets_push of xs x a b c l m n first second =
     (λ j s not w. (pushed_here xs x j w.0, w.1 ∙ ap of (sym w.0)))
 
 pub meets_one : (node : ℕ) (stop : Stop) (stops : List (Option Stop)) (level : List ℕ) → node < length stops → stop_at stops node ≡ None
-    → Meets (λ j. j ≡ node) (λ j s. (j ≡ node) × (s ≡ stop)) stops (set stops node (Some stop)) level (level ++ node ∷ [])
+    → MeetsNodes (λ j. j ≡ node) (λ j s. (j ≡ node) × (s ≡ stop)) stops (set stops node (Some stop)) level (level ++ node ∷ [])
 meets_one node stop stops level low none =
     let new = set stops node (Some stop) in
     let here : stop_at new node ≡ Some stop = get_or-set_same stops node (Some stop) None low in
@@ -144,7 +144,7 @@ meets_one node stop stops level low none =
 
 -- the nodes that were met now, put in order
 pub meets_in_order : (Due : ℕ → Type 0) (May : ℕ → Stop → Type 0) (old new : List (Option Stop)) (level ordered : List ℕ)
-    → ((n : ℕ) → Contains ordered n ↔ Contains level n) → length ordered ≤ length level → Meets Due May old new [] level → Meets Due May old new [] ordered
+    → ((n : ℕ) → Contains ordered n ↔ Contains level n) → length ordered ≤ length level → MeetsNodes Due May old new [] level → MeetsNodes Due May old new [] ordered
 meets_in_order Due May old new level ordered same fewer meets = record {
   len = meets.len;
   kept = meets.kept;

@@ -7,8 +7,8 @@ use Rattle.std.proofs.lemmas.Option.{same_Some}
 use Rattle.std.specs.List.Sorted.{IsStrictlyIncreasing}
 use Rattle.rbac_ways.proofs.Meets.{either, is_some_of, none_some, some_of}
 use Rattle.rbac_ways.proofs.Edges.{in_none, stop_within}
-use Rattle.rbac_ways.specs.Meeting.{AreMet, ComesAfter, IsMetTo, IsNextTo, IsStart, Meets, behind, stop_at, unmet}
-use Rattle.rbac_ways.specs.Ways.{AreStops, GraphView, HasEdge, IsBefore, IsNearest, IsStop, Leads}
+use Rattle.rbac_ways.specs.Meeting.{AreMet, IsAfterLeast, IsMetTo, IsNextTo, IsFirstStop, MeetsNodes, stop_behind, stop_at, unmet}
+use Rattle.rbac_ways.specs.Ways.{AreStops, GraphView, IsEdge, IsLeastBefore, IsNearest, IsStop, IsReachedIn}
 use Rattle.rbac_ways.specs.declared.graph.Stop.{Stop}
 
 -- nothing was met yet
@@ -31,14 +31,14 @@ none_passed g n stops k j is has low = absurd (elim (cases_lt k n) [
 
 -- the starts are the first level
 module _ (g : GraphView) (starts : List ℕ) (stops : List (Option Stop)) (level : List ℕ)
-    (meets : Meets (Contains starts) (IsStart starts) (replicate (length g.takes) None) stops [] level) where
+    (meets : MeetsNodes (Contains starts) (IsFirstStop starts) (replicate (length g.takes) None) stops [] level) where
   not_met : (j : ℕ) → stop_at (replicate (length g.takes) None) j ≡ None
   not_met j = none_met (length g.takes) j
 
   len : length stops ≡ length g.takes
   len = meets.len ∙ length-replicate (length g.takes) None
 
-  start_stop : (j : ℕ) (s : Stop) → stop_at stops j ≡ Some s → IsStart starts j s
+  start_stop : (j : ℕ) (s : Stop) → stop_at stops j ≡ Some s → IsFirstStop starts j s
   start_stop j s e = meets.may j s (not_met j) e
 
   pub met_first : IsStrictlyIncreasing level → IsMetTo g starts 0 stops level
@@ -59,7 +59,7 @@ module _ (g : GraphView) (starts : List ℕ) (stops : List (Option Stop)) (level
     ordered = up;
   }
     where
-      led : (n j : ℕ) → n < 1 → Leads g starts n j → (s : Stop) × (stop_at stops j ≡ Some s) × (s.edges < n + 1)
+      led : (n j : ℕ) → n < 1 → IsReachedIn g starts n j → (s : Stop) × (stop_at stops j ≡ Some s) × (s.edges < n + 1)
       led zero j less way =
           let s = some_of (stop_at stops j) (meets.due j way.0 (let l = way.1 in let nothing : Option Stop = None in let same = length-replicate (length g.takes) nothing in omega (arith, l, same))) in
           (s.0, s.1, let e = ap (λ (t : Stop). t.edges) (start_stop j s.0 s.1).1 in omega (arith, e))
@@ -67,7 +67,7 @@ module _ (g : GraphView) (starts : List ℕ) (stops : List (Option Stop)) (level
 
 -- the next level
 module _ (g : GraphView) (starts : List ℕ) (edges : ℕ) (stops new : List (Option Stop)) (level next : List ℕ)
-    (met : IsMetTo g starts edges stops level) (meets : Meets (IsNextTo g level) (ComesAfter g level (edges + 1)) stops new [] next) where
+    (met : IsMetTo g starts edges stops level) (meets : MeetsNodes (IsNextTo g level) (IsAfterLeast g level (edges + 1)) stops new [] next) where
   -- a node to which that many edges lead, and no fewer, is in the level
   in_level : (i : ℕ) → IsNearest g starts edges i → Contains level i
   in_level i near =
@@ -85,20 +85,20 @@ module _ (g : GraphView) (starts : List ℕ) (edges : ℕ) (stops new : List (Op
   near_level : (i : ℕ) → Contains level i → IsNearest g starts edges i
   near_level i has = let w = (met.last i).0 has in subst (λ (n : ℕ). IsNearest g starts n i) w.2 (met.sound i w.0 w.1).0.nearest
 
-  unled : (j : ℕ) → stop_at stops j ≡ None → (k : ℕ) → k < edges + 1 → Leads g starts k j → ⊥
+  unled : (j : ℕ) → stop_at stops j ≡ None → (k : ℕ) → k < edges + 1 → IsReachedIn g starts k j → ⊥
   unled j none k less way = let w = met.all k j less way in none_some (stop_at stops j) none (is_some_of (stop_at stops j) w.0 w.1)
 
-  new_stop : (j : ℕ) (s : Stop) → stop_at stops j ≡ None → stop_at new j ≡ Some s → IsStop g starts j (behind (edges + 1) s.before)
+  new_stop : (j : ℕ) (s : Stop) → stop_at stops j ≡ None → stop_at new j ≡ Some s → IsStop g starts j (stop_behind (edges + 1) s.before)
   new_stop j s none e =
       let after = meets.may j s none e in
       let near = near_level s.before after.before in
       let one : suc edges ≡ edges + 1 = omega arith in
       record {
         nearest = record {
-          leads = subst (λ (n : ℕ). Leads g starts n j) one (s.before, near.leads, after.next.0);
+          leads = subst (λ (n : ℕ). IsReachedIn g starts n j) one (s.before, near.leads, after.next.0);
           fewest = λ k less way. unled j none k less way;
         };
-        before = subst (λ (n : ℕ). IsBefore g starts n j s.before) one (near, after.next.0, λ i less is edge. after.least i less (in_level i is) edge);
+        before = subst (λ (n : ℕ). IsLeastBefore g starts n j s.before) one (near, after.next.0, λ i less is edge. after.least i less (in_level i is) edge);
       }
 
   sound_next : (j : ℕ) (s : Stop) → stop_at new j ≡ Some s → IsStop g starts j s × (s.edges < edges + 1 + 1)
@@ -111,7 +111,7 @@ module _ (g : GraphView) (starts : List ℕ) (edges : ℕ) (stops new : List (Op
   ]
 
   -- a node that an edge leads to from a node that was met
-  led_next : (j i : ℕ) (s : Stop) → stop_at stops i ≡ Some s → HasEdge g i j → IsSome (stop_at new j)
+  led_next : (j i : ℕ) (s : Stop) → stop_at stops i ≡ Some s → IsEdge g i j → IsSome (stop_at new j)
   led_next j i s e edge = elim (cases_eq s.edges edges) [
     | inl same ↦ meets.due j (i, (met.last i).1 (s, e, same), edge) (let node = edge.node in let len = met.len in omega (arith, node, len))
     | inr ne ↦
@@ -120,8 +120,8 @@ module _ (g : GraphView) (starts : List ℕ) (edges : ℕ) (stops new : List (Op
         is_some_of (stop_at new j) w.0 (meets.kept j w.0 w.1)
   ]
     where
-      longer : (n : ℕ) → Leads g starts n i → Leads g starts (n + 1) j
-      longer n way = subst (λ (k : ℕ). Leads g starts k j) (let one : suc n ≡ n + 1 = omega arith in one) (i, way, edge)
+      longer : (n : ℕ) → IsReachedIn g starts n i → IsReachedIn g starts (n + 1) j
+      longer n way = subst (λ (k : ℕ). IsReachedIn g starts k j) (let one : suc n ≡ n + 1 = omega arith in one) (i, way, edge)
 
   pub met_next : IsStrictlyIncreasing next → IsMetTo g starts (edges + 1) new next
   met_next up = record {
@@ -146,17 +146,17 @@ module _ (g : GraphView) (starts : List ℕ) (edges : ℕ) (stops new : List (Op
             let one : w.0.edges ≡ s.edges = ap (λ (t : Stop). t.edges) (same_Some w.0 s (sym (meets.kept j w.0 w.1) ∙ e)) in omega (arith, low, one, same))
       ]
 
-      soon : (n j : ℕ) → n < edges + 1 → Leads g starts n j → (s : Stop) × (stop_at new j ≡ Some s) × (s.edges < n + 1)
+      soon : (n j : ℕ) → n < edges + 1 → IsReachedIn g starts n j → (s : Stop) × (stop_at new j ≡ Some s) × (s.edges < n + 1)
       soon n j less way = let w = met.all n j less way in (w.0, meets.kept j w.0 w.1, w.2)
 
-      later : (n j : ℕ) → n ≡ edges + 1 → Leads g starts n j → (s : Stop) × (stop_at new j ≡ Some s) × (s.edges < n + 1)
+      later : (n j : ℕ) → n ≡ edges + 1 → IsReachedIn g starts n j → (s : Stop) × (stop_at new j ≡ Some s) × (s.edges < n + 1)
       later zero j same way = absurd (omega (arith, same))
       later (suc n) j same way =
           let before = met.all n way.0 (omega (arith, same)) way.1 in
           let s = some_of (stop_at new j) (led_next j way.0 before.0 before.1 way.2) in
           (s.0, s.1, let low = (sound_next j s.0 s.1).1 in omega (arith, low, same))
 
-      all : (n j : ℕ) → n < edges + 1 + 1 → Leads g starts n j → (s : Stop) × (stop_at new j ≡ Some s) × (s.edges < n + 1)
+      all : (n j : ℕ) → n < edges + 1 + 1 → IsReachedIn g starts n j → (s : Stop) × (stop_at new j ≡ Some s) × (s.edges < n + 1)
       all n j less way = elim (cases_lt n (edges + 1)) [
         | inl low ↦ soon n j low way
         | inr le ↦ later n j (omega (arith, less, le)) way
@@ -164,7 +164,7 @@ module _ (g : GraphView) (starts : List ℕ) (edges : ℕ) (stops new : List (Op
 
 -- nothing is left to be met
 module _ (g : GraphView) (starts : List ℕ) (edges : ℕ) (stops : List (Option Stop)) (met : IsMetTo g starts edges stops []) where
-  led : (n j : ℕ) → Leads g starts n j → IsSome (stop_at stops j)
+  led : (n j : ℕ) → IsReachedIn g starts n j → IsSome (stop_at stops j)
   led zero j way = let w = met.all 0 j (omega arith) way in is_some_of (stop_at stops j) w.0 w.1
   led (suc n) j way =
       let i = way.0 in
@@ -177,7 +177,7 @@ module _ (g : GraphView) (starts : List ℕ) (edges : ℕ) (stops : List (Option
             is_some_of (stop_at stops j) w.0 w.1
       ]
 
-  each : (j : ℕ) (o : Option Stop) → stop_at stops j ≡ o → MatchOption o ((n : ℕ) → Leads g starts n j → ⊥) (IsStop g starts j)
+  each : (j : ℕ) (o : Option Stop) → stop_at stops j ≡ o → MatchOption o ((n : ℕ) → IsReachedIn g starts n j → ⊥) (IsStop g starts j)
   each j None e = λ n way. none_some (stop_at stops j) e (led n j way)
   each j (Some s) e = (met.sound j s e).0
 

@@ -2,7 +2,7 @@
 use Rattle.std.specs.Prelude.{◌≡◌, ℕ, ◌+◌, ◌<◌, ◌≤◌, ◌⊎◌, ◌↔◌, List, [], ◌∷◌, Option, Some, None}
 use Rattle.std.specs.Prelude.{Contains, IsSome, Bool, true, false, length, slice_index_or}
 use Rattle.std.specs.List.Sorted.{IsStrictlyIncreasing}
-use Rattle.rbac_ways.specs.Ways.{GraphView, HasEdge, IsStop, Leads}
+use Rattle.rbac_ways.specs.Ways.{GraphView, IsEdge, IsStop, IsReachedIn}
 use Rattle.rbac_ways.specs.declared.graph.Stop.{Stop}
 
 -- the stop of a node, if it was met
@@ -17,7 +17,7 @@ unmet (Some s ∷ stops) = unmet stops
 
 -- Nodes were met: after it those that are due have stops, a node that has a new stop may have it, and
 -- each node that was met now is in the level, beside those that were in it.
-pub record Meets (Due : ℕ → Type 0) (May : ℕ → Stop → Type 0) (old new : List (Option Stop))
+pub record MeetsNodes (Due : ℕ → Type 0) (May : ℕ → Stop → Type 0) (old new : List (Option Stop))
     (before level : List ℕ) : Type 0 where
   pub len : length new ≡ length old
   pub kept : (j : ℕ) (s : Stop) → stop_at old j ≡ Some s → stop_at new j ≡ Some s
@@ -28,30 +28,30 @@ pub record Meets (Due : ℕ → Type 0) (May : ℕ → Stop → Type 0) (old new
   pub room : unmet new + length level ≤ unmet old + length before
 
 -- the stop that many edges from a start, with i before it
-abbrev pub behind : ℕ → ℕ → Stop
-behind edges i = record { edges = edges; before = i }
+abbrev pub stop_behind : ℕ → ℕ → Stop
+stop_behind edges i = record { edges = edges; before = i }
 
 -- the stop is that one, and the node is among these
 abbrev pub IsOneOf : List ℕ → Stop → ℕ → Stop → Type 0
 IsOneOf nodes stop j s = Contains nodes j × (s ≡ stop)
 
 -- the node is among the starts, and has no node before it
-abbrev pub IsStart : List ℕ → ℕ → Stop → Type 0
-IsStart starts j s = Contains starts j × (s ≡ behind 0 j)
+abbrev pub IsFirstStop : List ℕ → ℕ → Stop → Type 0
+IsFirstStop starts j s = Contains starts j × (s ≡ stop_behind 0 j)
 
 -- i has an edge to j, which comes after it
 abbrev pub IsNext : GraphView → ℕ → ℕ → ℕ → Stop → Type 0
-IsNext g edges i j s = HasEdge g i j × (s ≡ behind edges i)
+IsNext g edges i j s = IsEdge g i j × (s ≡ stop_behind edges i)
 
 -- some node of the level has an edge to j
 abbrev pub IsNextTo : GraphView → List ℕ → ℕ → Type 0
-IsNextTo g level j = (i : ℕ) × Contains level i × HasEdge g i j
+IsNextTo g level j = (i : ℕ) × Contains level i × IsEdge g i j
 
 -- j comes after the least node of the level that has an edge to it
-pub record ComesAfter (g : GraphView) (level : List ℕ) (edges j : ℕ) (s : Stop) : Type 0 where
+pub record IsAfterLeast (g : GraphView) (level : List ℕ) (edges j : ℕ) (s : Stop) : Type 0 where
   pub next : IsNext g edges s.before j s
   pub before : Contains level s.before
-  pub least : (i : ℕ) → i < s.before → Contains level i → ¬ HasEdge g i j
+  pub least : (i : ℕ) → i < s.before → Contains level i → ¬ IsEdge g i j
 
 -- each set that was passed has only nodes that were met
 abbrev pub AreMet : GraphView → List Bool → List (Option Stop) → Type 0
@@ -65,7 +65,7 @@ pub record IsMetTo (g : GraphView) (starts : List ℕ) (edges : ℕ) (stops : Li
   pub len : length stops ≡ length g.takes
   pub sound : (j : ℕ) (s : Stop) → stop_at stops j ≡ Some s
       → IsStop g starts j s × (s.edges < edges + 1)
-  pub all : (n j : ℕ) → n < edges + 1 → Leads g starts n j
+  pub all : (n j : ℕ) → n < edges + 1 → IsReachedIn g starts n j
       → (s : Stop) × (stop_at stops j ≡ Some s) × (s.edges < n + 1)
   pub last : (j : ℕ) → Contains level j
       ↔ ((s : Stop) × (stop_at stops j ≡ Some s) × (s.edges ≡ edges))

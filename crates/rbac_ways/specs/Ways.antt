@@ -9,36 +9,36 @@ pub record GraphView : Type 0 where
   pub sets : List (List ℕ)
 
 -- an edge leads from i to j: i takes a set that has j
-pub record HasEdge (g : GraphView) (i j : ℕ) : Type 0 where
+pub record IsEdge (g : GraphView) (i j : ℕ) : Type 0 where
   pub set : ℕ
   pub takes : Contains (slice_index_or g.takes i []) set
   pub has : Contains (slice_index_or g.sets set []) j
   pub node : j < length g.takes
 
 -- a way of n edges leads from a start to j
-abbrev pub Leads : GraphView → List ℕ → ℕ → ℕ → Type 0
-Leads g starts zero j = Contains starts j × (j < length g.takes)
-Leads g starts (suc n) j = (i : ℕ) × Leads g starts n i × HasEdge g i j
+abbrev pub IsReachedIn : GraphView → List ℕ → ℕ → ℕ → Type 0
+IsReachedIn g starts zero j = Contains starts j × (j < length g.takes)
+IsReachedIn g starts (suc n) j = (i : ℕ) × IsReachedIn g starts n i × IsEdge g i j
 
 -- n edges are the fewest that lead from a start to j
 pub record IsNearest (g : GraphView) (starts : List ℕ) (n j : ℕ) : Type 0 where
-  pub leads : Leads g starts n j
-  pub fewest : (k : ℕ) → k < n → ¬ Leads g starts k j
+  pub leads : IsReachedIn g starts n j
+  pub fewest : (k : ℕ) → k < n → ¬ IsReachedIn g starts k j
 
 -- the node before j, n edges from a start: the least that a shortest way can come from
-abbrev pub IsBefore : GraphView → List ℕ → ℕ → ℕ → ℕ → Type 0
-IsBefore g starts zero j b = b ≡ j
-IsBefore g starts (suc n) j b = IsNearest g starts n b × HasEdge g b j
-    × ((i : ℕ) → i < b → IsNearest g starts n i → ¬ HasEdge g i j)
+abbrev pub IsLeastBefore : GraphView → List ℕ → ℕ → ℕ → ℕ → Type 0
+IsLeastBefore g starts zero j b = b ≡ j
+IsLeastBefore g starts (suc n) j b = IsNearest g starts n b × IsEdge g b j
+    × ((i : ℕ) → i < b → IsNearest g starts n i → ¬ IsEdge g i j)
 
 -- where j is on a shortest way
 pub record IsStop (g : GraphView) (starts : List ℕ) (j : ℕ) (s : Stop) : Type 0 where
   pub nearest : IsNearest g starts s.edges j
-  pub before : IsBefore g starts s.edges j s.before
+  pub before : IsLeastBefore g starts s.edges j s.before
 
 -- for each node, where it is on a shortest way, or nothing if no way leads to it
 pub record AreStops (g : GraphView) (starts : List ℕ) (stops : List (Option Stop)) : Type 0 where
   pub len : length stops ≡ length g.takes
   pub each : (j : ℕ) → j < length stops → MatchOption (slice_index_or stops j None)
-      ((n : ℕ) → ¬ Leads g starts n j)
+      ((n : ℕ) → ¬ IsReachedIn g starts n j)
       (IsStop g starts j)

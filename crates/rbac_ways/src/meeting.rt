@@ -3,9 +3,9 @@
 ghost use Rattle.std.specs.Prelude.{◌≡◌, ◌≤◌, ◌↔◌, ℕ, OnOk, IfOk, Contains, [], length};
 ghost use Rattle.std.specs.Prelude.{slice_index_or};
 ghost use Rattle.std.specs.List.Sorted.{IsStrictlyIncreasing};
-ghost use Rattle.rbac_ways.specs.Ways.{HasEdge};
-ghost use Rattle.rbac_ways.specs.Meeting.{AreMet, ComesAfter, IsNext, IsNextTo, IsOneOf, IsStart};
-ghost use Rattle.rbac_ways.specs.Meeting.{Meets};
+ghost use Rattle.rbac_ways.specs.Ways.{IsEdge};
+ghost use Rattle.rbac_ways.specs.Meeting.{AreMet, IsAfterLeast, IsNext, IsNextTo, IsOneOf, IsFirstStop};
+ghost use Rattle.rbac_ways.specs.Meeting.{MeetsNodes};
 
 use crate::graph::{Graph, Stop};
 use std::alloc::{AllocError, Global};
@@ -16,7 +16,7 @@ pub(crate) fn first_level(
     starts: &[usize],
     stops: &mut Vec<Option<Stop>>,
 ) -> Result<Vec<usize>, AllocError>
-    ensures meets { IfOk result (λ level. Meets (Contains starts.now) (IsStart starts.now)
+    ensures meets { IfOk result (λ level. MeetsNodes (Contains starts.now) (IsFirstStop starts.now)
         stops.old.items stops.new.items [] level.items) }
     ensures ordered { IfOk result (λ level. IsStrictlyIncreasing level.items) }
 {
@@ -46,7 +46,7 @@ pub(crate) fn next_level(
     requires sets { length passed.old.items ≡ length graph.now.sets }
     requires met { AreMet graph.now passed.old.items stops.old.items }
     ensures meets { IfOk result (λ next.
-        Meets (IsNextTo graph.now level.now) (ComesAfter graph.now level.now edges)
+        MeetsNodes (IsNextTo graph.now level.now) (IsAfterLeast graph.now level.now edges)
         stops.old.items stops.new.items [] next.items) }
     ensures ordered { IfOk result (λ next. IsStrictlyIncreasing next.items) }
     ensures sets { length passed.new.items ≡ length passed.old.items }
@@ -70,7 +70,7 @@ fn in_order(mut numbers: Vec<usize>) -> Vec<usize>
     numbers
 }
 
-// Meets the nodes that this node has an edge to, and passes its sets.
+// MeetsNodes the nodes that this node has an edge to, and passes its sets.
 fn meet_next(
     graph: &Graph,
     node: usize,
@@ -82,7 +82,7 @@ fn meet_next(
     requires nodes { length stops.old.items ≡ length graph.now.takes }
     requires sets { length passed.old.items ≡ length graph.now.sets }
     requires met { AreMet graph.now passed.old.items stops.old.items }
-    ensures meets { OnOk result (Meets (HasEdge graph.now node) (IsNext graph.now edges node)
+    ensures meets { OnOk result (MeetsNodes (IsEdge graph.now node) (IsNext graph.now edges node)
         stops.old.items stops.new.items level.old.items level.new.items) }
     ensures sets { length passed.new.items ≡ length passed.old.items }
     ensures met { OnOk result (AreMet graph.now passed.new.items stops.new.items) }
@@ -100,7 +100,7 @@ fn meet_next(
     Ok(())
 }
 
-// Meets the nodes of a set, and passes the set, unless it was passed.
+// MeetsNodes the nodes of a set, and passes the set, unless it was passed.
 fn meet_set(
     graph: &Graph,
     set: usize,
@@ -111,7 +111,7 @@ fn meet_set(
 ) -> Result<(), AllocError>
     requires sets { length passed.old.items ≡ length graph.now.sets }
     requires met { AreMet graph.now passed.old.items stops.old.items }
-    ensures meets { OnOk result (Meets (Contains (slice_index_or graph.now.sets set []))
+    ensures meets { OnOk result (MeetsNodes (Contains (slice_index_or graph.now.sets set []))
         (IsOneOf (slice_index_or graph.now.sets set []) stop)
         stops.old.items stops.new.items level.old.items level.new.items) }
     ensures sets { length passed.new.items ≡ length passed.old.items }
@@ -124,14 +124,14 @@ fn meet_set(
     Ok(())
 }
 
-// Meets these nodes.
+// MeetsNodes these nodes.
 fn meet_each(
     nodes: &[usize],
     stop: Stop,
     stops: &mut Vec<Option<Stop>>,
     level: &mut Vec<usize>,
 ) -> Result<(), AllocError>
-    ensures { OnOk result (Meets (Contains nodes.now) (IsOneOf nodes.now stop)
+    ensures { OnOk result (MeetsNodes (Contains nodes.now) (IsOneOf nodes.now stop)
         stops.old.items stops.new.items level.old.items level.new.items) }
 {
     for node in nodes {
@@ -147,7 +147,7 @@ fn meet(
     stops: &mut Vec<Option<Stop>>,
     level: &mut Vec<usize>,
 ) -> Result<(), AllocError>
-    ensures { OnOk result (Meets (λ j. j ≡ node) (λ j s. (j ≡ node) × (s ≡ stop))
+    ensures { OnOk result (MeetsNodes (λ j. j ≡ node) (λ j s. (j ≡ node) × (s ≡ stop))
         stops.old.items stops.new.items level.old.items level.new.items) }
 {
     if let Some(None) = stops.as_slice().get(node) {

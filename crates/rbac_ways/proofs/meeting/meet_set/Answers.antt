@@ -2,7 +2,7 @@ use Rattle.std.proofs.Common.{◌≡◌, ◌<◌, ◌∙◌, Bool, List, ℕ, Co
 use Rattle.std.proofs.lemmas.List.{get_or_default}
 use Rattle.rbac_terms.proofs.Cases.{on_ok}
 use Rattle.rbac_ways.proofs.Edges.{met_more}
-use Rattle.rbac_ways.specs.Meeting.{IsOneOf, Meets}
+use Rattle.rbac_ways.specs.Meeting.{IsOneOf, MeetsNodes}
 use Rattle.rbac_ways.specs.Ways.{GraphView}
 use Rattle.rbac_ways.proofs.meeting.meet_set.Goals as goal
 
@@ -16,5 +16,5 @@ returns-in-Some-false-clause-met c =
     ∙ get_or_default g.sets k c.index.result.now [] (let len = c.requires.sets in omega (arith, low, len)) in
     on_ok c.meet_each.result
     (λ meets. met_more g c.args.passed.now.items c.args.stops.now.items c.meet_each.new.stops.items (IsOneOf (get_or g.sets k []) c.args.stop) c.args.level.now.items c.meet_each.new.level.items k low c.requires.met
-    (subst (λ (xs : List ℕ). Meets (Contains xs) (IsOneOf xs c.args.stop) c.args.stops.now.items c.meet_each.new.stops.items c.args.level.now.items c.meet_each.new.level.items) all meets))
+    (subst (λ (xs : List ℕ). MeetsNodes (Contains xs) (IsOneOf xs c.args.stop) c.args.stops.now.items c.meet_each.new.stops.items c.args.level.now.items c.meet_each.new.level.items) all meets))
     c.meet_each.ensures

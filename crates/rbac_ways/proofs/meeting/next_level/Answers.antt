@@ -1,6 +1,6 @@
 use Rattle.std.proofs.Common.{◌≡◌, ◌∙◌, [], List, ℕ, arith, refl, subst, take}
 use Rattle.std.proofs.lemmas.List.{take_all, take_more}
-use Rattle.rbac_ways.specs.Meeting.{ComesAfter, IsNextTo, Meets}
+use Rattle.rbac_ways.specs.Meeting.{IsAfterLeast, IsNextTo, MeetsNodes}
 use Rattle.rbac_ways.proofs.Edges.{less_before, meets_node}
 use Rattle.rbac_ways.proofs.Meets.{meets_in_order}
 use Rattle.rbac_ways.proofs.meeting.next_level.Goals as goal
@@ -25,6 +25,6 @@ returns-clause-meets c =
     let nodes = c.args.level.now in
     let g = c.args.graph.now in
     let all : take c.loop-node.node-index nodes ≡ nodes = take_all c.loop-node.node-index nodes (omega (arith, c.loop-node-test.false)) in
-    meets_in_order (IsNextTo g nodes) (ComesAfter g nodes c.args.edges) c.args.stops.now.items c.loop-node.stops.items c.loop-node.next.items c.in_order.result.items
+    meets_in_order (IsNextTo g nodes) (IsAfterLeast g nodes c.args.edges) c.args.stops.now.items c.loop-node.stops.items c.loop-node.next.items c.in_order.result.items
     c.in_order.ensures.same c.in_order.ensures.len
-    (subst (λ (xs : List ℕ). Meets (IsNextTo g xs) (ComesAfter g xs c.args.edges) c.args.stops.now.items c.loop-node.stops.items [] c.loop-node.next.items) all c.loop-node.invariant.meets)
+    (subst (λ (xs : List ℕ). MeetsNodes (IsNextTo g xs) (IsAfterLeast g xs c.args.edges) c.args.stops.now.items c.loop-node.stops.items [] c.loop-node.next.items) all c.loop-node.invariant.meets)

@@ -1,7 +1,7 @@
 use Rattle.std.proofs.Common.{rules, ap, ◌≡◌, ◌∙◌, ◌<◌, ◌+◌, [], ℕ, List, Option, None, arith, false, length, replicate, subst}
 use Rattle.std.proofs.lemmas.List.{length-replicate, nil_from_length}
 use Rattle.rbac_ways.specs.Ways.{GraphView}
-use Rattle.rbac_ways.specs.Meeting.{ComesAfter, IsMetTo, IsNextTo, IsStart, Meets}
+use Rattle.rbac_ways.specs.Meeting.{IsAfterLeast, IsMetTo, IsNextTo, IsFirstStop, MeetsNodes}
 use Rattle.std.specs.Prelude.{Contains}
 use Rattle.rbac_ways.specs.declared.graph.Stop.{Stop}
 use Rattle.rbac_ways.proofs.Searching.{all_unmet, met_all, met_first, met_next, none_passed}
@@ -16,8 +16,8 @@ loop-alloc-init c =
     let nodes : node_count ≡ length g.takes = ap length c.as_slice-2.ensures.value ∙ ap (λ (x : GraphView). length x.takes) c.graph.view_is in
     let sets : set_count ≡ length g.sets = ap length c.as_slice.ensures.value ∙ ap (λ (x : GraphView). length x.sets) c.graph.view_is in
     let unpassed : c.in_ok-passed.passed.items ≡ replicate set_count false = c.in_ok-passed.ensures.items_if_clones_equal (λ y e. search rules) in
-    let meets : Meets (Contains c.args.starts.now) (IsStart c.args.starts.now) (replicate (length g.takes) None) c.first_level.new.stops.items [] c.in_ok-level.level.items =
-    subst (λ (old : List (Option Stop)). Meets (Contains c.args.starts.now) (IsStart c.args.starts.now) old c.first_level.new.stops.items [] c.in_ok-level.level.items) (same ∙ ap (λ (n : ℕ). replicate n None) nodes) c.in_ok-level.ensures.meets in
+    let meets : MeetsNodes (Contains c.args.starts.now) (IsFirstStop c.args.starts.now) (replicate (length g.takes) None) c.first_level.new.stops.items [] c.in_ok-level.level.items =
+    subst (λ (old : List (Option Stop)). MeetsNodes (Contains c.args.starts.now) (IsFirstStop c.args.starts.now) old c.first_level.new.stops.items [] c.in_ok-level.level.items) (same ∙ ap (λ (n : ℕ). replicate n None) nodes) c.in_ok-level.ensures.meets in
     record {
       met = met_first g c.args.starts.now c.first_level.new.stops.items c.in_ok-level.level.items meets c.in_ok-level.ensures.ordered;
       sets = ap length unpassed ∙ length-replicate set_count false ∙ sets;
@@ -30,7 +30,7 @@ loop-alloc-preserved c =
     let g = c.args.graph.now in
     let old = c.loop-alloc.level.items in
     let next = c.in_ok-level-2.level.items in
-    let meets : Meets (IsNextTo g old) (ComesAfter g old (c.loop-alloc.edges + 1)) c.loop-alloc.stops.items c.next_level.new.stops.items [] next = rw c.as_slice-in-loop-alloc.ensures.value at c.in_ok-level-2.ensures.meets in
+    let meets : MeetsNodes (IsNextTo g old) (IsAfterLeast g old (c.loop-alloc.edges + 1)) c.loop-alloc.stops.items c.next_level.new.stops.items [] next = rw c.as_slice-in-loop-alloc.ensures.value at c.in_ok-level-2.ensures.meets in
     record {
       met = met_next g c.args.starts.now c.loop-alloc.edges c.loop-alloc.stops.items c.next_level.new.stops.items old next c.loop-alloc.invariant.met meets c.in_ok-level-2.ensures.ordered;
       sets = c.in_ok-level-2.ensures.sets ∙ c.loop-alloc.invariant.sets;
