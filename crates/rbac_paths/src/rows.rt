@@ -100,12 +100,12 @@ impl WordRow {
         ensures { Asks (IsOver self.now.over self.now.counts (node_of node.entry)) result }
     {
         match self.over {
-            Over::Users => for_user(self.counts, node),
-            Over::Groups => for_group(self.counts, node),
-            Over::Accounts => for_account(self.counts, node),
+            Over::Users => for_user(node),
+            Over::Groups => for_group(node),
+            Over::Accounts => for_account(node),
             Over::Everything => for_everything(self.counts, node),
-            Over::ClusterRoles => for_cluster_role(self.counts, node),
-            Over::Roles => for_role(self.counts, node),
+            Over::ClusterRoles => for_cluster_role(node),
+            Over::Roles => for_role(node),
         }
     }
 

@@ -22,8 +22,8 @@ pub(crate) struct Asked<'p> {
 }
 
 // What is asked for a user who is no service account.
-pub(crate) fn for_user(counts: Counts, node: Node<'_>) -> Option<Asked<'_>>
-    ensures { Asks (IsOver over.Users counts (node_of node.entry)) result }
+pub(crate) fn for_user(node: Node<'_>) -> Option<Asked<'_>>
+    ensures { (counts : Counts) → Asks (IsOver over.Users counts (node_of node.entry)) result }
 {
     match node {
         Node::Somebody(who) => for_plain_user(who),
@@ -46,8 +46,8 @@ fn for_plain_user(who: &Principal) -> Option<Asked<'_>>
 }
 
 // What is asked for a group.
-pub(crate) fn for_group(counts: Counts, node: Node<'_>) -> Option<Asked<'_>>
-    ensures { Asks (IsOver over.Groups counts (node_of node.entry)) result }
+pub(crate) fn for_group(node: Node<'_>) -> Option<Asked<'_>>
+    ensures { (counts : Counts) → Asks (IsOver over.Groups counts (node_of node.entry)) result }
 {
     match node {
         Node::Somebody(who) if !is_user(who) => Some(Asked {
@@ -59,8 +59,8 @@ pub(crate) fn for_group(counts: Counts, node: Node<'_>) -> Option<Asked<'_>>
 }
 
 // What is asked for a service account.
-pub(crate) fn for_account(counts: Counts, node: Node<'_>) -> Option<Asked<'_>>
-    ensures { Asks (IsOver over.Accounts counts (node_of node.entry)) result }
+pub(crate) fn for_account(node: Node<'_>) -> Option<Asked<'_>>
+    ensures { (counts : Counts) → Asks (IsOver over.Accounts counts (node_of node.entry)) result }
 {
     match node {
         Node::Somebody(who) => {
@@ -87,8 +87,8 @@ pub(crate) fn for_everything(counts: Counts, node: Node<'_>) -> Option<Asked<'_>
 }
 
 // What is asked for a cluster role in a scope.
-pub(crate) fn for_cluster_role(counts: Counts, node: Node<'_>) -> Option<Asked<'_>>
-    ensures { Asks (IsOver over.ClusterRoles counts (node_of node.entry)) result }
+pub(crate) fn for_cluster_role(node: Node<'_>) -> Option<Asked<'_>>
+    ensures { (counts : Counts) → Asks (IsOver over.ClusterRoles counts (node_of node.entry)) result }
 {
     match node {
         Node::ClusterRole(role, scope) => Some(Asked {
@@ -100,8 +100,8 @@ pub(crate) fn for_cluster_role(counts: Counts, node: Node<'_>) -> Option<Asked<'
 }
 
 // What is asked for a role in its namespace.
-pub(crate) fn for_role(counts: Counts, node: Node<'_>) -> Option<Asked<'_>>
-    ensures { Asks (IsOver over.Roles counts (node_of node.entry)) result }
+pub(crate) fn for_role(node: Node<'_>) -> Option<Asked<'_>>
+    ensures { (counts : Counts) → Asks (IsOver over.Roles counts (node_of node.entry)) result }
 {
     match node {
         Node::Role(role) => Some(Asked {
