@@ -10,6 +10,7 @@ use crate::meaning::meant_by;
 use crate::outcome::Status;
 use rbac_index::why_allowed;
 use rbac_manifest::Export;
+use rbac_model::Why;
 use rbac_question::Question;
 use rbac_terms::Principal;
 use rbac_text::put_why;
