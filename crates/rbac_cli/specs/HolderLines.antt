@@ -1,5 +1,5 @@
 -- The lines of holders, with and without the reason.
-use Rattle.std.specs.Prelude.{◌≡◌, Bool, true, false, List, [], ◌∷◌, drop}
+use Rattle.std.specs.Prelude.{◌≡◌, Bool, true, false, List, [], ◌∷◌}
 use Rattle.std.specs.List.{flat_map}
 use Rattle.rbac_terms.specs.Text.{Text}
 use Rattle.rbac_model.specs.Policies.{PolicyView, GrantView}
@@ -8,9 +8,6 @@ use Rattle.rbac_index.specs.Requested.{RequestedView}
 use Rattle.rbac_index.specs.WhyHeld.{IsWhyBy}
 use Rattle.rbac_text.specs.Row.{holder_text}
 use Rattle.rbac_text.specs.Why.{holder_why_text}
-use Rattle.rbac_cli.specs.Meant.{requested_meant}
-use Rattle.rbac_cli.specs.declared.who_can.HolderLines.{HolderLines}
-use Rattle.rbac_cli.specs.declared.who_can.HolderQuestion.{HolderQuestion}
 
 -- the line of a holder: its key and its binding, or with `--why` its key and why it holds the
 -- permission by that binding
@@ -27,16 +24,6 @@ AreHolderLines p why verb t [] lines = lines ≡ []
 AreHolderLines p why verb t (x ∷ xs) lines =
     (line : Text) × (rest : List Text) × IsHolderLine p why verb t x line
     × AreHolderLines p why verb t xs rest × (lines ≡ line ∷ rest)
-
--- the line of a holder of whom this is asked, and the lines that are left
-abbrev pub IsLineOf : HolderQuestion → HolderView → Text → Type 0
-IsLineOf asked x line = IsHolderLine asked.policy.now asked.why asked.verb.now
-    (requested_meant asked.any_name asked.target.now) x line
-
-abbrev pub AreLinesLeft : HolderLines → List Text → Type 0
-AreLinesLeft left lines = AreHolderLines left.asked.policy.now left.asked.why left.asked.verb.now
-    (requested_meant left.asked.any_name left.asked.target.now) (drop left.place left.holders.now)
-    lines
 
 -- the lines, one after the other
 abbrev pub joined_lines : List Text → Text

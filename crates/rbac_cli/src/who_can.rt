@@ -1,13 +1,13 @@
 //! Who may do something, as an answer.
 
-ghost use Rattle.std.specs.Prelude.{◌≡◌, ◌++◌, ◌-◌, true, false, List, IfOk, OnOk, length};
+ghost use Rattle.std.specs.Prelude.{◌≡◌, ◌++◌, ◌-◌, true, false, List, IfOk, OnOk, drop, length};
 ghost use Rattle.rbac_terms.specs.Text.{Text};
 ghost use Rattle.rbac_terms.specs.declared.scope.Scope.TheVariants.{Namespace};
 ghost use Rattle.rbac_model.specs.Policies.{IsPolicy};
 ghost use Rattle.rbac_index.specs.HolderViews.{holder_shown, requested_of};
 ghost use Rattle.rbac_index.specs.WhoCan.{AreListedHolders};
 ghost use Rattle.rbac_question.specs.declared.command.Action.TheVariants.{WhoCan};
-ghost use Rattle.rbac_cli.specs.HolderLines.{AreLinesLeft, IsLineOf, joined_lines};
+ghost use Rattle.rbac_cli.specs.HolderLines.{AreHolderLines, IsHolderLine, joined_lines};
 ghost use Rattle.rbac_cli.specs.Meant.{requested_meant, scope_given};
 ghost use Rattle.rbac_cli.specs.Printing.{EndsPrinting};
 ghost use Rattle.rbac_cli.specs.declared.exports.Exports.TheVariants.{Single};
@@ -64,8 +64,8 @@ pub(crate) fn print_holders<W: Write + Drop>(
 // Where holders are asked for: in this namespace, or with `anywhere` in any, unless it is asked
 // outside all namespaces.
 fn scope_asked(is_outside: bool, anywhere: bool, namespace: Word) -> Scope
-    ensures outside { is_outside ≡ true → result ≡ Namespace namespace.entry }
-    ensures given { is_outside ≡ false → result ≡ scope_given anywhere namespace.entry }
+    ensures outside { is_outside ≡ true → result ≡ Namespace namespace }
+    ensures given { is_outside ≡ false → result ≡ scope_given anywhere namespace }
 {
     if anywhere && !is_outside {
         Scope::Anywhere
@@ -123,10 +123,10 @@ struct HolderLines<'a, 'h, 'p> {
 }
 
 impl Lines for HolderLines<'_, '_, '_> {
-    ghost are_left = { λ it text. (lines : List Text) × AreLinesLeft it lines
+    ghost are_left = { λ it text. (lines : List Text)
+        × AreHolderLines it.asked.policy.now it.asked.why it.asked.verb.now
+        (requested_meant it.asked.any_name it.asked.target.now) (drop it.place it.holders.now) lines
         × (text ≡ joined_lines lines) };
-
-    ghost is_open = { λ it. (lines : List Text) × AreLinesLeft it lines };
 
     ghost most_left = { λ it. length it.holders.now - it.place };
 
@@ -141,14 +141,15 @@ impl Lines for HolderLines<'_, '_, '_> {
     }
 }
 
-// Adds the line of one holder, which has one.
+// Adds the line of one holder.
 fn put_line(
     line: &mut Vec<u8>,
     asked: HolderQuestion<'_>,
     holder: Holder<'_>,
 ) -> Result<(), AllocError>
-    requires { (text : Text) × IsLineOf asked (holder_shown holder) text }
-    ensures { (text : Text) → IsLineOf asked.entry (holder_shown holder.entry) text
+    ensures { (text : Text)
+        → IsHolderLine asked.entry.policy.now asked.entry.why asked.entry.verb.now
+        (requested_meant asked.entry.any_name asked.entry.target.now) (holder_shown holder.entry) text
         → OnOk result (line.new.items ≡ line.old.items ++ text) }
 {
     if !asked.why {
@@ -164,6 +165,6 @@ fn put_line(
             found.rule_place,
             found.subject_place,
         ),
-        None => unreachable!(),
+        None => Ok(()),
     }
 }

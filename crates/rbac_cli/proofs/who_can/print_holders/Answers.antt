@@ -5,15 +5,6 @@ use Rattle.rbac_cli.proofs.HolderLineLemmas.{answered}
 use Rattle.rbac_cli.specs.declared.exports.Exports.TheVariants.{Single}
 use Rattle.rbac_cli.proofs.who_can.print_holders.Goals as goal
 
-pub print_lines-requires-going : goal.print_lines-requires-going
-print_lines-requires-going g c =
-    let meant = c.in_ok-meant.meant in
-    let a = answered c.args.export.now c.args.options c.args.question.now meant.target meant.namespace meant.is_outside (where_of c.where_asked-place.result) c.in_ok-holders.holders
-    c.catalogue.result.now c.policy-policy.result.now c.policy.result.now
-    c.catalogue.ensures c.policy-policy.ensures c.policy.ensures c.in_ok-meant.ensures.meant c.in_ok-meant.ensures.outside c.where_asked-place.ensures.outside c.where_asked-place.ensures.given
-    c.in_ok-holders.ensures.policy (rw c.requested_by-requested.ensures at c.in_ok-holders.ensures.holders) in
-    (a.0, a.1)
-
 pub returns : goal.returns
 returns g c =
     let meant = c.in_ok-meant.meant in

@@ -14,10 +14,10 @@ returns-in-Some c = λ text is.
     let same = shown_text asked.policy.now asked.verb.now (requested_meant asked.any_name asked.target.now) x c.in-Some.found text (rw c.requested_by-requested.ensures at c.in-Some.ensures.first) line in
     subst (λ (l : Text). OnOk c.put_holder_why.result (c.put_holder_why.new.line.items ≡ c.args.line.now.items ++ l)) same c.put_holder_why.ensures
 
-pub unreachable-requires : goal.unreachable-requires
-unreachable-requires c =
+pub returns-in-None : goal.returns-in-None
+returns-in-None c = λ text is.
     let asked = c.args.asked in
     let x = holder_shown c.args.holder in
-    let line = subst (λ (why : Bool). IsHolderLine asked.policy.now why asked.verb.now (requested_meant asked.any_name asked.target.now) x c.requires.0) c.if-not-asked.false c.requires.1 in
+    let line = subst (λ (why : Bool). IsHolderLine asked.policy.now why asked.verb.now (requested_meant asked.any_name asked.target.now) x text) c.if-not-asked.false is in
     let none = rw c.requested_by-requested.ensures at c.in-None.ensures.first in
-    none line.0 line.1.0
+    absurd (none line.1.0 line.1.1.0)

@@ -6,20 +6,12 @@ use Rattle.rbac_cli.specs.Meant.{requested_meant}
 use Rattle.rbac_cli.proofs.HolderLineLemmas.{line_at}
 use Rattle.rbac_cli.proofs.who_can.HolderLinesLines.put_next.Goals as goal
 
-pub put_line-requires : goal.put_line-requires
-put_line-requires c =
-    let it = c.args.self.now in
-    let asked = it.asked in
-    let next = line_at asked.policy.now asked.why asked.verb.now (requested_meant asked.any_name asked.target.now) it.holders.now it.place (holder_shown c.get.result) c.requires.going.0 c.get.ensures c.requires.going.1 in
-    (next.0, next.2)
-
 pub returns : goal.returns
 returns c =
     let it = c.args.self.now in
     let asked = it.asked in
-    let x = holder_shown c.get.result in
-    let next = line_at asked.policy.now asked.why asked.verb.now (requested_meant asked.any_name asked.target.now) it.holders.now it.place x c.requires.going.0 c.get.ensures c.requires.going.1 in (
-      (next.1, next.3),
+    let x = holder_shown c.get.result in (
+      tt,
       omega (arith, c.if-place-len.false, c.len.ensures),
       λ text (lines, are, e).
           let next = line_at asked.policy.now asked.why asked.verb.now (requested_meant asked.any_name asked.target.now) it.holders.now it.place x lines c.get.ensures are in
