@@ -13,7 +13,7 @@ use Rattle.rbac_model.specs.Lists.{IsFirstAt}
 use Rattle.rbac_model.specs.Policies.{BindingNames, GrantView, IsPolicy, PolicyView}
 use Rattle.rbac_model.proofs.GrantNumbers.{grant_allows, some_grant}
 use Rattle.rbac_terms.specs.Targets.{Resource}
-use Rattle.rbac_paths.specs.Nodes.{NodeView}
+use Rattle.rbac_paths.specs.Nodes.{NodeView, Somebody}
 use Rattle.rbac_paths.specs.Rows.{AreOfStep}
 use Rattle.rbac_paths.specs.Steps.{RowView, asked_in, table}
 use Rattle.rbac_paths.specs.Taking.{CanTakeOver, GrantTakes, IsFirstTaking, RowTakes, RuleTakes, TakesNone}
@@ -69,7 +69,7 @@ module _ (p : PolicyView) (who : Who) (rows : List RowView) (y : NodeView) where
 
 -- what grants let somebody do is what they are allowed
 module _ (p : PolicyView) (ok : IsPolicy p) (who : Who) (step : Step) (y : NodeView) where
-  by_grant : (n : ℕ) (g : GrantView) → slice_get p.grants n ≡ Some g → GrantTakes who step y g → CanTakeOver p who step y
+  by_grant : (n : ℕ) (g : GrantView) → slice_get p.grants n ≡ Some g → GrantTakes who step y g → CanTakeOver p (Somebody who) step y
   by_grant n g here (named, gives) =
       let row = gives.1 in
       let takes = gives.4.1 in
@@ -90,7 +90,7 @@ module _ (p : PolicyView) (ok : IsPolicy p) (who : Who) (step : Step) (y : NodeV
         allowed = grant_allows p ok who (asked_in row.counts takes.namespace) takes.verb t (n, g, slice_get_within p.grants n g here, get_or_from_slice_get p.grants n g g here, (takes.live, named, takes.allows));
       }
 
-  some_takes : CanTakeOver p who step y → (n : ℕ) × (g : GrantView) × (slice_get p.grants n ≡ Some g) × GrantTakes who step y g
+  some_takes : CanTakeOver p (Somebody who) step y → (n : ℕ) × (g : GrantView) × (slice_get p.grants n ≡ Some g) × GrantTakes who step y g
   some_takes c =
       let t = Resource c.row.group c.text c.name in
       let by = some_grant p.held p.grants who (asked_in c.row.counts c.namespace) c.verb t ok.0 ok.1 c.allowed in
@@ -111,6 +111,6 @@ module _ (p : PolicyView) (ok : IsPolicy p) (who : Who) (step : Step) (y : NodeV
       } in
       (by.0, g, here, (by.4.1, any_from (λ row. (row.step ≡ step) × RowTakes row g.binding.namespace g.rule.rule y) table c.row c.of_table (c.of_step, takes)))
 
-  pub tells : (first : Option ℕ) → MatchOption first (TakesNone p who step y) (IsFirstTaking p who step y) → IsSome first ↔ CanTakeOver p who step y
+  pub tells : (first : Option ℕ) → MatchOption first (TakesNone p who step y) (IsFirstTaking p who step y) → IsSome first ↔ CanTakeOver p (Somebody who) step y
   tells None none = (λ some. absurd (let both : false ≡ true = some in cc), λ c. absurd (let w = some_takes c in none w.0 w.1 w.2 w.3))
   tells (Some n) (g, is) = (λ some. by_grant n g is.here is.holds, λ c. refl)

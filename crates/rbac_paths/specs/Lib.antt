@@ -1,9 +1,12 @@
 pub mod Asked
 pub mod Finding
+pub mod Having
 pub mod Lines
+pub mod NodeLists
 pub mod Nodes
 pub mod Powers
 pub mod Rows
 pub mod Steps
 pub mod Taking
+pub mod TakingOver
 pub mod Telling

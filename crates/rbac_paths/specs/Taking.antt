@@ -6,7 +6,8 @@ use Rattle.rbac_terms.specs.Targets.{Resource}
 use Rattle.rbac_terms.specs.Matching.{RuleAllows}
 use Rattle.rbac_terms.specs.declared.matching.Rule.{Rule}
 use Rattle.rbac_model.specs.Lists.{IsFirstAt}
-use Rattle.rbac_model.specs.Policies.{Allows, BindingNames, GrantView, Live, PolicyView}
+use Rattle.rbac_model.specs.Policies.{BindingNames, GrantView, Live, PolicyView}
+use Rattle.rbac_paths.specs.Having.{NodeAllows}
 use Rattle.rbac_paths.specs.Nodes.{NodeView, Somebody, ClusterRoleIn, OwnRole, EverythingIn}
 use Rattle.rbac_paths.specs.Nodes.{IsAccountNamed}
 use Rattle.rbac_paths.specs.Steps.{IsNameAsked, RowView, asked_in, table}
@@ -75,8 +76,8 @@ TakesNone p who step y = (n : ℕ) (g : GrantView) → slice_get p.grants n ≡ 
 abbrev pub IsFirstTaking : PolicyView → Who → Step → NodeView → ℕ → Type 0
 IsFirstTaking p who step y n = (g : GrantView) × IsFirstAt (GrantTakes who step y) p.grants n g
 
--- somebody is allowed a request of the step that takes over the node
-pub record CanTakeOver (p : PolicyView) (who : Who) (step : Step) (y : NodeView) : Type 0 where
+-- x allows a request of the step that takes over y
+pub record CanTakeOver (p : PolicyView) (x : NodeView) (step : Step) (y : NodeView) : Type 0 where
   pub row : RowView
   pub namespace : Text
   pub own : Text
@@ -89,4 +90,4 @@ pub record CanTakeOver (p : PolicyView) (who : Who) (step : Step) (y : NodeView)
   pub of_verbs : Contains row.verbs verb
   pub of_resources : Contains row.resources text
   pub named : IsNameAsked row.names own name
-  pub allowed : Allows p.held who (asked_in row.counts namespace) verb (Resource row.group text name)
+  pub allowed : NodeAllows p x (asked_in row.counts namespace) verb (Resource row.group text name)

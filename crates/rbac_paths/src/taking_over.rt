@@ -4,7 +4,7 @@ ghost use Rattle.std.specs.Prelude.{◌↔◌, Any, IfOk, IsSome, IsTrue, MatchO
 ghost use Rattle.std.specs.Option.{option_copied};
 ghost use Rattle.rbac_model.specs.Policies.{BindingNames, IsPolicy};
 ghost use Rattle.rbac_model.specs.Sources.{grant_of};
-ghost use Rattle.rbac_paths.specs.Nodes.{node_of};
+ghost use Rattle.rbac_paths.specs.Nodes.{Somebody, node_of};
 ghost use Rattle.rbac_paths.specs.Rows.{AreOfStep};
 ghost use Rattle.rbac_paths.specs.Steps.{table};
 ghost use Rattle.rbac_paths.specs.Taking.{CanTakeOver, IsFirstTaking, RowTakes, TakesNone};
@@ -31,7 +31,7 @@ pub fn taking_grant(
         (TakesNone policy.now who.now step (node_of node.entry))
         (IsFirstTaking policy.now who.now step (node_of node.entry))) }
     ensures tells { IfOk result (λ first.
-        IsSome first ↔ CanTakeOver policy.now who.now step (node_of node.entry)) }
+        IsSome first ↔ CanTakeOver policy.now (Somebody who.now) step (node_of node.entry)) }
 {
     let rows = rows_of(alloc, step)?;
     Ok(first_taking(policy, who, rows.as_slice(), node))

@@ -1,0 +1,55 @@
+-- Which nodes take over which, and by which steps that is told.
+use Rattle.std.specs.Prelude.{◌≡◌, ◌⊎◌, List, Option, Some, None, Contains}
+use Rattle.rbac_terms.specs.Text.{Text}
+use Rattle.rbac_model.specs.Policies.{PolicyView}
+use Rattle.rbac_paths.specs.Nodes.{NodeView, Somebody, ClusterRoleIn, OwnRole, EverythingIn}
+use Rattle.rbac_paths.specs.Taking.{CanTakeOver}
+use Rattle.rbac_paths.specs.declared.steps.Step.{Step}
+use Rattle.rbac_paths.specs.declared.steps.Step.TheVariants.{Bind, Escalate}
+
+-- by a step one writes what roles have, or who has them
+abbrev pub Writes : Step → Type 0
+Writes step = (step ≡ Bind) ⊎ (step ≡ Escalate)
+
+-- by writing, if that is among the steps, the node takes over everything in the scope
+abbrev pub HasAll : PolicyView → List Step → NodeView → Option Text → Type 0
+HasAll p steps x scope = (step : Step) × Writes step × Contains steps step
+    × CanTakeOver p x step (EverythingIn scope)
+
+-- by binding, if that is among the steps, the node takes over the other
+abbrev pub BindsNode : PolicyView → List Step → NodeView → NodeView → Type 0
+BindsNode p steps x y = Contains steps Bind × CanTakeOver p x Bind y
+
+-- a node needn't be told as taken over by writing, since one that has all of it is told (own)
+abbrev pub IsUntold : PolicyView → List Step → NodeView → NodeView → Type 0
+IsUntold p steps x (Somebody who) = ⊥
+IsUntold p steps x (EverythingIn None) = ⊥
+IsUntold p steps x (EverythingIn (Some namespace)) = HasAll p steps x None
+IsUntold p steps x (ClusterRoleIn role None) = HasAll p steps x None
+IsUntold p steps x (ClusterRoleIn role (Some namespace)) = HasAll p steps x None
+    ⊎ (HasAll p steps x (Some namespace) ⊎ BindsNode p steps x (ClusterRoleIn role None))
+IsUntold p steps x (OwnRole role) = HasAll p steps x None ⊎ HasAll p steps x (Some role.namespace)
+
+-- who has everything in the cluster comes to nothing more, and who has everything in a namespace goes on
+-- with users and groups alone (own)
+abbrev pub GoesOn : NodeView → NodeView → Type 0
+GoesOn (EverythingIn None) y = ⊥
+GoesOn (EverythingIn (Some namespace)) (Somebody who) = Unit {0}
+GoesOn (EverythingIn (Some namespace)) (ClusterRoleIn role scope) = ⊥
+GoesOn (EverythingIn (Some namespace)) (OwnRole role) = ⊥
+GoesOn (EverythingIn (Some namespace)) (EverythingIn scope) = ⊥
+GoesOn (Somebody who) y = Unit {0}
+GoesOn (ClusterRoleIn role scope) y = Unit {0}
+GoesOn (OwnRole role) y = Unit {0}
+
+-- by one of these steps x takes over y, and that is told
+pub record TakesByStep (p : PolicyView) (steps : List Step) (x : NodeView) (step : Step)
+    (y : NodeView) : Type 0 where
+  pub goes_on : GoesOn x y
+  pub among : Contains steps step
+  pub can : CanTakeOver p x step y
+  pub told : Writes step → ¬ IsUntold p steps x y
+
+-- x takes over y by some of these steps
+abbrev pub TakesOver : PolicyView → List Step → NodeView → NodeView → Type 0
+TakesOver p steps x y = (step : Step) × TakesByStep p steps x step y
