@@ -39,17 +39,24 @@ AnswersNextNamespace p who from o =
 abbrev pub HasRoleBindings : Held → Text → Type 0
 HasRoleBindings held namespace = Any (λ b. b.namespace ≡ Some namespace) held.bindings
 
--- the grants numbered from `start` up to `end` are bound to who asks in that namespace, none of
--- those from `from` up to `start` is, and from `from` on the binding of the first has no others
-pub record IsNextRun (p : PolicyView) (who : Who) (namespace : Text)
-    (from start end : ℕ) : Type 0 where
+-- the grants numbered from `start` up to `end` have the property, none of those from `from` up to
+-- `start` has it, and from `from` on the binding of the first has no others
+pub record IsNextRunOf (p : PolicyView) (P : ℕ → Type 0) (from start end : ℕ) : Type 0 where
   pub after : from ≤ start
   pub some : start < end
-  pub bound : (number : ℕ) → start ≤ number → number < end → IsBoundTo p who namespace number
-  pub none_before : (number : ℕ) → from ≤ number → number < start
-      → ¬ IsBoundTo p who namespace number
+  pub bound : (number : ℕ) → start ≤ number → number < end → P number
+  pub none_before : (number : ℕ) → from ≤ number → number < start → ¬ P number
   pub whole : (number place : ℕ) → from ≤ number → IsOfBinding p start place
       → IsOfBinding p number place → number < end
+
+-- the next grants, from a number on, that are bound to who asks in that namespace
+abbrev pub IsNextRun : PolicyView → Who → Text → ℕ → ℕ → ℕ → Type 0
+IsNextRun p who namespace = IsNextRunOf p (IsBoundTo p who namespace)
+
+-- the next grants, from a number on, that have the property, if there are any
+abbrev pub AnswersNextRun : PolicyView → (ℕ → Type 0) → ℕ → Option (ℕ × ℕ) → Type 0
+AnswersNextRun p P from o = MatchOption o ((number : ℕ) → from ≤ number → ¬ P number)
+    (λ run. IsNextRunOf p P from run.0 run.1)
 
 -- the run has exactly the grants of the binding at that place
 abbrev pub IsRunAt : PolicyView → ℕ → Run → Type 0

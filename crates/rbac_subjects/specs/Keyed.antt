@@ -1,12 +1,11 @@
 -- The bindings under the keys of their subjects.
 use Rattle.std.specs.Prelude.{◌≡◌, ℕ, ◌<◌, ◌≤◌, ◌⊎◌, ◌↔◌, List, ◌++◌, codes, Option, Some, None}
-use Rattle.std.specs.Prelude.{Contains, Any, MatchOption, slice_get, min}
+use Rattle.std.specs.Prelude.{Contains, MatchOption, slice_get, min}
 use Rattle.std.specs.Ordering.{nat_cmp, ordering_then}
 use Rattle.std.specs.List.Sorted.{IsSorted}
 use Rattle.std.specs.declared.cmp.Ordering.{Ordering}
 use Rattle.rbac_terms.specs.Text.{Text, text_cmp}
 use Rattle.rbac_terms.specs.Principals.{Who, IsAccountIn, SignsInAs}
-use Rattle.rbac_terms.specs.Granting.{IsSubjectKey}
 use Rattle.rbac_terms.specs.declared.granting.Binding.{Binding}
 use Rattle.rbac_model.specs.Policies.{PolicyView, IsOfBinding}
 use Rattle.rbac_model.specs.Holders.{HasKey}
@@ -62,6 +61,11 @@ IsLiveUnder xs live key place = Contains xs (keyed key place) × IsLiveAt live p
 -- one of these keys is listed with the place, and the binding there is live
 abbrev pub IsLiveUnderAny : List Keyed → Live → (Text → Type 0) → ℕ → Type 0
 IsLiveUnderAny xs live Has place = (key : Text) × Has key × IsLiveUnder xs live key place
+
+-- the grant with that number is of a binding that is live, and listed under one of these keys
+abbrev pub IsOfLive : PolicyView → List Keyed → Live → (Text → Type 0) → ℕ → Type 0
+IsOfLive p xs live Has number = (place : ℕ) × IsOfBinding p number place
+    × IsLiveUnderAny xs live Has place
 
 -- the lesser of the numbers that are given; none if neither is
 abbrev pub sooner : Option ℕ → Option ℕ → Option ℕ

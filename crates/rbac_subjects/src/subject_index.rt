@@ -1,16 +1,18 @@
 //! The bindings of a policy by whom they name.
 
-ghost use Rattle.std.specs.Prelude.{◌≡◌, ◌≤◌, ◌↔◌, ℕ, length, IsTrue, IfOk, MatchOption};
+ghost use Rattle.std.specs.Prelude.{◌≡◌, ◌≤◌, ◌↔◌, ℕ, length, IsTrue, IfOk, IfSome};
 ghost use Rattle.std.specs.Prelude.{option_copied, true, false};
+ghost use Rattle.rbac_model.specs.Holders.{IsKeyFor};
 ghost use Rattle.rbac_model.specs.Policies.{IsPolicy};
 ghost use Rattle.rbac_subjects.specs.Bound.{AreRunsFrom, HasRoleBindings, IsBoundTo, IsNamedBy};
-ghost use Rattle.rbac_subjects.specs.Bound.{AnswersNextNamespace, IsNextRun};
+ghost use Rattle.rbac_subjects.specs.Bound.{AnswersNextNamespace, AnswersNextRun};
+ghost use Rattle.rbac_subjects.specs.Keyed.{AreKeyed, IsOfLive};
 ghost use Rattle.rbac_subjects.specs.Least.{most_kept};
 
 use crate::fault::IndexFault;
 use crate::first_places::first_places;
 use crate::first_runs::{FirstRuns, runs_at};
-use crate::live_bindings::{everywhere, first_from, live_for_some, of_namespace};
+use crate::live_bindings::{Live, everywhere, first_from, live_for_some, of_namespace};
 use crate::subject_keys::{Keyed, keyed_by, next_for};
 use rbac_model::Policy;
 use rbac_terms::{Principal, Word};
@@ -83,20 +85,23 @@ impl<'p> SubjectIndex<'p> {
     /// this namespace for some target: a run of numbers, from the first up to the second. `None` if
     /// there are no more of them. Doesn't allocate.
     pub fn next_run(&self, principal: &Principal, namespace: &Word, from: u32) -> Option<(u32, u32)>
-        ensures { MatchOption result
-            ((number : ℕ) → from ≤ number → ¬ IsBoundTo self.now principal.now namespace.now number)
-            (λ run. IsNextRun self.now principal.now namespace.now from run.0 run.1) }
+        ensures { AnswersNextRun self.now (IsBoundTo self.now principal.now namespace.now)
+            from result }
     {
-        if self.policy.len() <= from {
-            return None;
-        }
         let live = live_for_some(self.policy.bindings(), namespace);
-        let here = self.policy.place(from).binding;
-        let Some(place) = next_for(self.named.as_slice(), principal, live, here) else {
-            return None;
-        };
-        let (start, end) = self.policy.grants_of(place);
-        Some((start.max(from), end))
+        next_live_run(self.policy, self.named.as_slice(), principal, live, from)
+    }
+
+    /// The next grants, from this number on, of bindings that name the principal, wherever they are
+    /// live: a run of numbers, from the first up to the second. `None` if there are no more of them.
+    /// Doesn't allocate.
+    pub fn next_named(&self, principal: &Principal, from: u32) -> Option<(u32, u32)>
+        ensures next { AnswersNextRun self.now (IsNamedBy self.now principal.now) from result }
+        ensures within { IfSome result (λ run. run.1 ≤ length self.now.grants) }
+    {
+        let bindings = self.policy.bindings();
+        let all = everywhere(bindings);
+        next_live_run(self.policy, self.named.as_slice(), principal, all, from)
     }
 
     /// The first runs of the grants of bindings that name the principal and are live in this
@@ -116,4 +121,28 @@ impl<'p> SubjectIndex<'p> {
             are_all: places.are_all(),
         }
     }
+}
+
+// The next grants, from this number on, of live bindings that are listed under a key of the
+// principal.
+fn next_live_run(
+    policy: &Policy,
+    named: &[Keyed],
+    principal: &Principal,
+    live: Live,
+    from: u32,
+) -> Option<(u32, u32)>
+    requires { AreKeyed policy.now named.now }
+    ensures { AnswersNextRun policy.now
+        (IsOfLive policy.now named.now live (IsKeyFor principal.now)) from result }
+{
+    if policy.len() <= from {
+        return None;
+    }
+    let here = policy.place(from).binding;
+    let Some(place) = next_for(named, principal, live, here) else {
+        return None;
+    };
+    let (start, end) = policy.grants_of(place);
+    Some((start.max(from), end))
 }
