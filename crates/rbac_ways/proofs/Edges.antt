@@ -15,8 +15,8 @@ use Rattle.rbac_ways.specs.declared.graph.Stop.{Stop}
 abbrev members : GraphView → ℕ → List ℕ
 members g k = get_or g.sets k []
 
-pub in_none : (xs : List ℕ) (j : ℕ) → xs ≡ [] → Contains xs j → ⊥
-in_none xs j e w = let none : Contains {X = ℕ} [] j = subst (λ (ys : List ℕ). Contains ys j) e w in absurd (omega (arith, none.1))
+pub in_none : {X : Type 0} (xs : List X) (x : X) → xs ≡ [] → Contains xs x → ⊥
+in_none {X = X} xs x e w = let none : Contains {X = X} [] x = subst (λ (ys : List X). Contains ys x) e w in absurd (omega (arith, none.1))
 
 -- a stop is of a node that is there
 pub stop_within : (stops : List (Option Stop)) (j : ℕ) (s : Stop) → stop_at stops j ≡ Some s → j < length stops
@@ -52,11 +52,11 @@ MayBeIn g ks stop j s = IsInSome g ks j × (s ≡ stop)
 pub meets_no_set : (g : GraphView) (stop : Stop) (stops : List (Option Stop)) (level : List ℕ) → MeetsNodes (IsInSome g []) (MayBeIn g [] stop) stops stops level level
 meets_no_set g stop stops level = meets_same (IsInSome g []) (MayBeIn g [] stop) stops level (λ j w low. absurd (in_none [] w.0 refl w.1))
 
-pub meets_set : (g : GraphView) (ks : List ℕ) (k : ℕ) (stop : Stop) (a b c : List (Option Stop)) (l m n : List ℕ)
-    → MeetsNodes (IsInSome g ks) (MayBeIn g ks stop) a b l m → MeetsNodes (Contains (members g k)) (IsOneOf (members g k) stop) b c m n
-    → MeetsNodes (IsInSome g (ks ++ k ∷ [])) (MayBeIn g (ks ++ k ∷ []) stop) a c l n
-meets_set g ks k stop a b c l m n first second =
-    meets_then (IsInSome g ks) (Contains (members g k)) (IsInSome g (ks ++ k ∷ [])) (MayBeIn g ks stop) (IsOneOf (members g k) stop) (MayBeIn g (ks ++ k ∷ []) stop) a b c l m n first second
+pub meets_set : (g : GraphView) (ks : List ℕ) (k : ℕ) (stop : Stop) (old between new : List (Option Stop)) (before middle after : List ℕ)
+    → MeetsNodes (IsInSome g ks) (MayBeIn g ks stop) old between before middle → MeetsNodes (Contains (members g k)) (IsOneOf (members g k) stop) between new middle after
+    → MeetsNodes (IsInSome g (ks ++ k ∷ [])) (MayBeIn g (ks ++ k ∷ []) stop) old new before after
+meets_set g ks k stop old between new before middle after first second =
+    meets_then (IsInSome g ks) (Contains (members g k)) (IsInSome g (ks ++ k ∷ [])) (MayBeIn g ks stop) (IsOneOf (members g k) stop) (MayBeIn g (ks ++ k ∷ []) stop) old between new before middle after first second
     (λ j w. elim (of_pushed ks k w.0 w.1) [
       | inl h ↦ inl (w.0, h, w.2)
       | inr same ↦ inr (subst (λ (x : ℕ). Contains (members g x) j) same w.2)
@@ -90,21 +90,21 @@ less_before xs i x b up low here w =
     let less = AllPairs-from_increasing xs up w.0 i 0 under low in
     omega (arith, less, there, here)
 
-pub meets_node : (g : GraphView) (edges : ℕ) (xs : List ℕ) (x : ℕ) (a b c : List (Option Stop)) (l m n : List ℕ) → length a ≡ length g.takes
-    → ((y : ℕ) → Contains xs y → y < x) → MeetsNodes (IsNextTo g xs) (IsAfterLeast g xs edges) a b l m → MeetsNodes (IsEdge g x) (IsNext g edges x) b c m n
-    → MeetsNodes (IsNextTo g (xs ++ x ∷ [])) (IsAfterLeast g (xs ++ x ∷ []) edges) a c l n
-meets_node g edges xs x a b c l m n len less first second =
-    meets_then (IsNextTo g xs) (IsEdge g x) (IsNextTo g (xs ++ x ∷ [])) (IsAfterLeast g xs edges) (IsNext g edges x) (IsAfterLeast g (xs ++ x ∷ []) edges) a b c l m n first second
+pub meets_node : (g : GraphView) (edges : ℕ) (xs : List ℕ) (x : ℕ) (old between new : List (Option Stop)) (before middle after : List ℕ) → length old ≡ length g.takes
+    → ((y : ℕ) → Contains xs y → y < x) → MeetsNodes (IsNextTo g xs) (IsAfterLeast g xs edges) old between before middle → MeetsNodes (IsEdge g x) (IsNext g edges x) between new middle after
+    → MeetsNodes (IsNextTo g (xs ++ x ∷ [])) (IsAfterLeast g (xs ++ x ∷ []) edges) old new before after
+meets_node g edges xs x old between new before middle after len less first second =
+    meets_then (IsNextTo g xs) (IsEdge g x) (IsNextTo g (xs ++ x ∷ [])) (IsAfterLeast g xs edges) (IsNext g edges x) (IsAfterLeast g (xs ++ x ∷ []) edges) old between new before middle after first second
     (λ j w. elim (of_pushed xs x w.0 w.1) [
       | inl h ↦ inl (w.0, h, w.2)
       | inr same ↦ inr (subst (λ (y : ℕ). IsEdge g y j) same w.2)
     ])
-    (λ j s after. record {
-      next = after.next;
-      before = Contains-append_left xs (x ∷ []) s.before after.before;
+    (λ j s is. record {
+      next = is.next;
+      before = Contains-append_left xs (x ∷ []) s.before is.before;
       least = λ i low has edge. elim (of_pushed xs x i has) [
-        | inl h ↦ after.least i low h edge
-        | inr same ↦ absurd (let l = less s.before after.before in omega (arith, low, same, l))
+        | inl h ↦ is.least i low h edge
+        | inr same ↦ absurd (let below = less s.before is.before in omega (arith, low, same, below))
       ];
     })
     (λ j s not w. subst (λ (t : Stop). IsAfterLeast g (xs ++ x ∷ []) edges j t) (sym w.1) (record {

@@ -1,5 +1,5 @@
 -- nodes that are met, one after the other
-use Rattle.std.proofs.Common.{◌≡◌, ◌≢◌, ◌⊎◌, ◌↔◌, ◌+◌, ◌<◌, ◌≤◌, ◌++◌, ◌∷◌, [], ℕ, zero, suc, List, Option, Some, None, IsSome, Contains, length, set, inl, inr, refl, sym, ap, ◌∙◌, subst, arith, true, false, get_or-set_same, get_or-set_other}
+use Rattle.std.proofs.Common.{◌≡◌, ◌≢◌, ◌⊎◌, ◌↔◌, ◌+◌, ◌<◌, ◌≤◌, ◌++◌, ◌∷◌, [], ℕ, zero, suc, List, Option, Some, None, IsSome, Contains, length, length-append, set, inl, inr, refl, sym, ap, ◌∙◌, subst, arith, true, false, get_or-set_same, get_or-set_other}
 use Rattle.std.proofs.Math.ListN.{length-set}
 use Rattle.std.proofs.lemmas.Bool.{cases_eq}
 use Rattle.std.proofs.lemmas.List.Elements.{Contains-append_left, Contains-append_right, Contains-append_cases}
@@ -39,18 +39,18 @@ meets_same Due May stops level due = record {
 }
 
 -- one meeting after another
-module _ (D1 D2 D : ℕ → Type 0) (M1 M2 M : ℕ → Stop → Type 0) (a b c : List (Option Stop)) (l m n : List ℕ)
-    (first : MeetsNodes D1 M1 a b l m) (second : MeetsNodes D2 M2 b c m n) where
-  was_none : (j : ℕ) → stop_at b j ≡ None → stop_at a j ≡ None
-  was_none j none = elim (either (stop_at a j)) [
+module _ (DueFirst DueNext Due : ℕ → Type 0) (MayFirst MayNext May : ℕ → Stop → Type 0) (old between new : List (Option Stop)) (before middle after : List ℕ)
+    (first : MeetsNodes DueFirst MayFirst old between before middle) (second : MeetsNodes DueNext MayNext between new middle after) where
+  was_none : (j : ℕ) → stop_at between j ≡ None → stop_at old j ≡ None
+  was_none j none = elim (either (stop_at old j)) [
     | inl e ↦ e
-    | inr w ↦ absurd (none_some (stop_at b j) none (is_some_of (stop_at b j) w.0 (first.kept j w.0 w.1)))
+    | inr w ↦ absurd (none_some (stop_at between j) none (is_some_of (stop_at between j) w.0 (first.kept j w.0 w.1)))
   ]
 
-  still : (j : ℕ) → IsSome (stop_at b j) → IsSome (stop_at c j)
-  still j is = still_met b c second.kept j is
+  still : (j : ℕ) → IsSome (stop_at between j) → IsSome (stop_at new j)
+  still j is = still_met between new second.kept j is
 
-  pub meets_then : ((j : ℕ) → D j → D1 j ⊎ D2 j) → ((j : ℕ) (s : Stop) → M1 j s → M j s) → ((j : ℕ) (s : Stop) → (D1 j → j < length a → ⊥) → M2 j s → M j s) → MeetsNodes D M a c l n
+  pub meets_then : ((j : ℕ) → Due j → DueFirst j ⊎ DueNext j) → ((j : ℕ) (s : Stop) → MayFirst j s → May j s) → ((j : ℕ) (s : Stop) → (DueFirst j → j < length old → ⊥) → MayNext j s → May j s) → MeetsNodes Due May old new before after
   meets_then due one other = record {
     len = second.len ∙ first.len;
     kept = λ j s e. second.kept j s (first.kept j s e);
@@ -58,8 +58,8 @@ module _ (D1 D2 D : ℕ → Type 0) (M1 M2 M : ℕ → Stop → Type 0) (a b c :
       | inl d ↦ still j (first.due j d low)
       | inr d ↦ second.due j d (let same = first.len in omega (arith, same, low))
     ];
-    may = λ j s none e. elim (either (stop_at b j)) [
-      | inl mid ↦ other j s (λ d low. none_some (stop_at b j) mid (first.due j d low)) (second.may j s mid e)
+    may = λ j s none e. elim (either (stop_at between j)) [
+      | inl mid ↦ other j s (λ d low. none_some (stop_at between j) mid (first.due j d low)) (second.may j s mid e)
       | inr w ↦ one j s (first.may j s none (w.1 ∙ ap (λ (t : Stop). Some t) (same_Some w.0 s (sym (second.kept j w.0 w.1) ∙ e))))
     ];
     joins = λ j. (
@@ -69,9 +69,9 @@ module _ (D1 D2 D : ℕ → Type 0) (M1 M2 M : ℕ → Stop → Type 0) (a b c :
       ],
       λ h. (second.joins j).1 (elim h [
         | inl x ↦ inl ((first.joins j).1 (inl x))
-        | inr x ↦ elim (either (stop_at b j)) [
+        | inr x ↦ elim (either (stop_at between j)) [
           | inl mid ↦ inr (mid, x.1)
-          | inr w ↦ inl ((first.joins j).1 (inr (x.0, is_some_of (stop_at b j) w.0 w.1)))
+          | inr w ↦ inl ((first.joins j).1 (inr (x.0, is_some_of (stop_at between j) w.0 w.1)))
         ]
       ]),
     );
@@ -85,7 +85,7 @@ unmet_set (o ∷ stops) zero s low none = subst (λ (p : Option Stop). unmet (So
 unmet_set (None ∷ stops) (suc j) s low none = let rest = unmet_set stops j s (omega (arith, low)) none in omega (arith, rest)
 unmet_set (Some t ∷ stops) (suc j) s low none = unmet_set stops j s (omega (arith, low)) none
 
-one : (x j : ℕ) → Contains (x ∷ []) j → j ≡ x
+pub one : (x j : ℕ) → Contains (x ∷ []) j → j ≡ x
 one x j (zero, low, e) = sym e
 one x j (suc k, low, e) = absurd (omega (arith, low))
 
@@ -96,11 +96,11 @@ pub pushed_here : (xs : List ℕ) (x j : ℕ) → j ≡ x → Contains (xs ++ x 
 pushed_here xs x j same = Contains-append_right xs (x ∷ []) j (0, omega arith, sym same)
 
 -- one more of several nodes, where each has a stop of its own
-pub meets_push : (of : ℕ → Stop) (xs : List ℕ) (x : ℕ) (a b c : List (Option Stop)) (l m n : List ℕ)
-    → MeetsNodes (Contains xs) (λ j s. Contains xs j × (s ≡ of j)) a b l m → MeetsNodes (λ j. j ≡ x) (λ j s. (j ≡ x) × (s ≡ of x)) b c m n
-    → MeetsNodes (Contains (xs ++ x ∷ [])) (λ j s. Contains (xs ++ x ∷ []) j × (s ≡ of j)) a c l n
-meets_push of xs x a b c l m n first second =
-    meets_then (Contains xs) (λ j. j ≡ x) (Contains (xs ++ x ∷ [])) (λ j s. Contains xs j × (s ≡ of j)) (λ j s. (j ≡ x) × (s ≡ of x)) (λ j s. Contains (xs ++ x ∷ []) j × (s ≡ of j)) a b c l m n first second
+pub meets_push : (of : ℕ → Stop) (xs : List ℕ) (x : ℕ) (old between new : List (Option Stop)) (before middle after : List ℕ)
+    → MeetsNodes (Contains xs) (λ j s. Contains xs j × (s ≡ of j)) old between before middle → MeetsNodes (λ j. j ≡ x) (λ j s. (j ≡ x) × (s ≡ of x)) between new middle after
+    → MeetsNodes (Contains (xs ++ x ∷ [])) (λ j s. Contains (xs ++ x ∷ []) j × (s ≡ of j)) old new before after
+meets_push of xs x old between new before middle after first second =
+    meets_then (Contains xs) (λ j. j ≡ x) (Contains (xs ++ x ∷ [])) (λ j s. Contains xs j × (s ≡ of j)) (λ j s. (j ≡ x) × (s ≡ of x)) (λ j s. Contains (xs ++ x ∷ []) j × (s ≡ of j)) old between new before middle after first second
     (of_pushed xs x)
     (λ j s w. (Contains-append_left xs (x ∷ []) j w.0, w.1))
     (λ j s not w. (pushed_here xs x j w.0, w.1 ∙ ap of (sym w.0)))
@@ -135,12 +135,8 @@ meets_one node stop stops level low none =
           ]
         ],
       );
-      room = let less = unmet_set stops node stop low none in let more = length_push level node in omega (arith, less, more);
+      room = let less = unmet_set stops node stop low none in let more = length-append level (node ∷ []) in omega (arith, less, more);
     }
-  where
-    length_push : (xs : List ℕ) (x : ℕ) → length (xs ++ x ∷ []) ≡ length xs + 1
-    length_push [] x = refl
-    length_push (y ∷ xs) x = let rest = length_push xs x in omega (arith, rest)
 
 -- the nodes that were met now, put in order
 pub meets_in_order : (Due : ℕ → Type 0) (May : ℕ → Stop → Type 0) (old new : List (Option Stop)) (level ordered : List ℕ)

@@ -70,7 +70,7 @@ fn in_order(mut numbers: Vec<usize>) -> Vec<usize>
     numbers
 }
 
-// MeetsNodes the nodes that this node has an edge to, and passes its sets.
+// Meets the nodes that this node has an edge to, and passes its sets.
 fn meet_next(
     graph: &Graph,
     node: usize,
@@ -100,7 +100,7 @@ fn meet_next(
     Ok(())
 }
 
-// MeetsNodes the nodes of a set, and passes the set, unless it was passed.
+// Meets the nodes of a set, and passes the set, unless it was passed.
 fn meet_set(
     graph: &Graph,
     set: usize,
@@ -124,7 +124,7 @@ fn meet_set(
     Ok(())
 }
 
-// MeetsNodes these nodes.
+// Meets these nodes.
 fn meet_each(
     nodes: &[usize],
     stop: Stop,
