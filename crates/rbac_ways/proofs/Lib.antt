@@ -1,3 +1,6 @@
 pub mod Edges
 pub mod Meets
+pub mod Numbering
 pub mod Searching
+pub mod Sharing
+pub mod Turning

@@ -1,2 +1,3 @@
+pub mod Joining
 pub mod Meeting
 pub mod Ways

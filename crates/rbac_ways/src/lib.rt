@@ -1,9 +1,12 @@
-//! Shortest ways through a graph whose edges go through sets of nodes.
+//! Graphs whose edges go through sets of nodes: made of the words that nodes share, and searched for
+//! shortest ways.
 #![tactic(auto)]
 
 mod graph;
+mod joining;
 mod meeting;
 mod search;
 
 pub use graph::{Graph, Stop};
+pub use joining::turned;
 pub use search::shortest_ways;

@@ -1,0 +1,5 @@
+use Rattle.rbac_ways.proofs.Numbering.{AreTakenBelow}
+use Rattle.rbac_ways.proofs.joining.takes_of.Given as goal
+
+abbrev pub invariant-loop-node : goal.invariant-loop-node
+invariant-loop-node l = AreTakenBelow l.words l.takes l.node l.sets.items

@@ -1,0 +1,39 @@
+-- Graphs of nodes that share words.
+use Rattle.std.specs.Prelude.{◌≡◌, ℕ, ◌+◌, ◌<◌, ◌⊎◌, ◌↔◌, List, [], Some, Contains, length}
+use Rattle.std.specs.Prelude.{slice_get, slice_index_or}
+use Rattle.std.specs.List.Sorted.{IsStrictlySortedBy}
+use Rattle.rbac_terms.specs.Text.{Text, text_cmp}
+
+-- i takes a word by which j can be had
+abbrev pub SharesWord : List (List Text) → List (List Text) → ℕ → ℕ → Type 0
+SharesWord takes had_by i j = (w : Text) × Contains (slice_index_or takes i []) w
+    × Contains (slice_index_or had_by j []) w
+
+-- the number is listed at that place
+abbrev pub IsListedAt : List (List ℕ) → ℕ → ℕ → Type 0
+IsListedAt lists place number = Contains (slice_index_or lists place []) number
+
+-- lists turned round: each place is listed at the numbers that are listed there
+pub record AreTurned (lists turned : List (List ℕ)) : Type 0 where
+  pub len : length turned ≡ length lists
+  pub each : (i j : ℕ) → j < length lists → IsListedAt turned j i ↔ IsListedAt lists i j
+
+-- the words of these lists, each once, in order; the number of a word is its place
+pub record AreWordsOf (lists : List (List Text)) (words : List Text) : Type 0 where
+  pub ascending : IsStrictlySortedBy text_cmp words
+  pub same : (w : Text) → Contains words w ↔ ((i : ℕ) × Contains (slice_index_or lists i []) w)
+
+-- the number is that of a listed word
+abbrev pub IsNumberOf : List Text → List Text → ℕ → Type 0
+IsNumberOf words listed number = (w : Text) × Contains listed w × (slice_get words number ≡ Some w)
+
+-- node i takes the sets of its words, and, after those of all words, one of its own
+abbrev pub TakesSet : List Text → List (List Text) → ℕ → ℕ → Type 0
+TakesSet words takes i set = IsNumberOf words (slice_index_or takes i []) set
+    ⊎ (set ≡ length words + i)
+
+-- new is old with the node added to the lists at these places
+pub record AddsToEach (places : List ℕ) (node : ℕ) (old new : List (List ℕ)) : Type 0 where
+  pub len : length new ≡ length old
+  pub each : (i j : ℕ) → i < length old → IsListedAt new i j
+      ↔ (IsListedAt old i j ⊎ ((j ≡ node) × Contains places i))

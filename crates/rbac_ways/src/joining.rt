@@ -1,0 +1,151 @@
+//! Graphs of nodes that share words: each word has a number, and the set of that number has the
+//! nodes that can be had by the word.
+
+ghost use Rattle.std.specs.Prelude.{◌≡◌, ◌<◌, ◌≤◌, ◌⊎◌, ◌↔◌, ℕ, IfOk, OnOk, Some, Contains, length};
+ghost use Rattle.std.specs.Prelude.{◌∷◌, [], replicate, slice_get, slice_index_or};
+ghost use Rattle.std.specs.List.Sorted.{IsStrictlySortedBy};
+ghost use Rattle.rbac_terms.specs.Text.{text_cmp};
+ghost use Rattle.rbac_ways.specs.Ways.{IsEdge};
+ghost use Rattle.rbac_ways.specs.Joining.{AddsToEach, AreTurned, AreWordsOf, IsListedAt};
+ghost use Rattle.rbac_ways.specs.Joining.{IsNumberOf, SharesWord, TakesSet};
+
+use crate::graph::Graph;
+use rbac_terms::{Items, Word, Words};
+use std::alloc::{AllocError, Global};
+
+impl Graph {
+    /// The graph in which an edge leads from each node to each one that it shares a word with: one
+    /// of the words that the first takes and by which the second can be had (own). Besides, an edge
+    /// leads from each node to those that `also` lists for it, which has a list for each node at
+    /// most. The words by which nodes can be had are sorted once, and the nodes that can be had by a
+    /// word are one set, however many take it. Fails only if it runs out of memory.
+    pub fn joined(
+        alloc: Global,
+        takes: &[Words],
+        had_by: &[Words],
+        also: &[Items<usize>],
+    ) -> Result<Self, AllocError>
+        requires { length also.now ≤ length takes.now }
+        ensures nodes { IfOk result (λ g. length g.takes ≡ length takes.now) }
+        ensures edges { IfOk result (λ g. (i j : ℕ) → IsEdge g i j ↔ ((j < length takes.now)
+            × (SharesWord takes.now had_by.now i j ⊎ IsListedAt also.now i j))) }
+    {
+        let words = words_of(alloc, had_by)?;
+        let takes = takes_of(alloc, words.as_slice(), takes)?;
+        let mut sets = sets_of(alloc, words.as_slice(), had_by)?;
+        sets.extend_with_clones(also)?;
+        Ok(Graph { takes, sets })
+    }
+}
+
+/// The lists turned round: each place is listed at the numbers that are listed there, so that edges
+/// lead the other way (own). A number past the last place is left out. Fails only if it runs out of
+/// memory.
+pub fn turned(alloc: Global, lists: &[Items<usize>]) -> Result<Vec<Items<usize>>, AllocError>
+    ensures { IfOk result (λ turned. AreTurned lists.now turned.items) }
+{
+    let mut turned = no_nodes(alloc, lists.len())?;
+    for (place, numbers) in lists.iter().enumerate() {
+        add_to_each(numbers.as_slice(), place, &mut turned)?;
+    }
+    Ok(turned)
+}
+
+// The words of these lists, each once, in order.
+fn words_of(alloc: Global, lists: &[Words]) -> Result<Vec<Word>, AllocError>
+    ensures { IfOk result (λ words. AreWordsOf lists.now words.items) }
+{
+    let mut words = Vec::new(alloc);
+    for listed in lists {
+        words.extend_with_clones(listed.as_slice())?;
+    }
+    words.sort_unstable();
+    words.dedup();
+    Ok(words)
+}
+
+// The number of a word, if it is one of these.
+fn number_of(words: &[Word], word: &Word) -> Option<usize>
+    requires { IsStrictlySortedBy text_cmp words.now }
+    ensures { (number : ℕ) → (result ≡ Some number) ↔ (slice_get words.now number ≡ Some word.now) }
+{
+    words.binary_search(word).ok()
+}
+
+// The numbers of the listed words.
+fn numbers_of(alloc: Global, words: &[Word], listed: &Words) -> Result<Vec<usize>, AllocError>
+    requires { IsStrictlySortedBy text_cmp words.now }
+    ensures { IfOk result (λ numbers. (number : ℕ)
+        → Contains numbers.items number ↔ IsNumberOf words.now listed.now number) }
+{
+    let mut numbers = Vec::new(alloc);
+    for word in listed.as_slice() {
+        if let Some(number) = number_of(words, word) {
+            numbers.push(number)?;
+        }
+    }
+    Ok(numbers)
+}
+
+// The sets that each node takes: those of its words, and, after those of all words, one of its own.
+fn takes_of(alloc: Global, words: &[Word], takes: &[Words]) -> Result<Vec<Items<usize>>, AllocError>
+    requires { IsStrictlySortedBy text_cmp words.now }
+    ensures len { IfOk result (λ sets. length sets.items ≡ length takes.now) }
+    ensures each { IfOk result (λ sets. (i set : ℕ) → i < length takes.now
+        → IsListedAt sets.items i set ↔ TakesSet words.now takes.now i set) }
+{
+    let mut sets = Vec::with_capacity(alloc, takes.len())?;
+    for (node, listed) in takes.iter().enumerate() {
+        let mut numbers = numbers_of(alloc, words, listed)?;
+        numbers.push(words.len() + node)?;
+        sets.push(Items::from_vec(numbers))?;
+    }
+    Ok(sets)
+}
+
+// The nodes that can be had by each word.
+fn sets_of(alloc: Global, words: &[Word], had_by: &[Words]) -> Result<Vec<Items<usize>>, AllocError>
+    requires { IsStrictlySortedBy text_cmp words.now }
+    ensures len { IfOk result (λ sets. length sets.items ≡ length words.now) }
+    ensures each { IfOk result (λ sets. (number j : ℕ) → number < length words.now
+        → IsListedAt sets.items number j
+        ↔ IsNumberOf words.now (slice_index_or had_by.now j []) number) }
+{
+    let mut sets = no_nodes(alloc, words.len())?;
+    for (node, listed) in had_by.iter().enumerate() {
+        let numbers = numbers_of(alloc, words, listed)?;
+        add_to_each(numbers.as_slice(), node, &mut sets)?;
+    }
+    Ok(sets)
+}
+
+// This many lists without nodes.
+fn no_nodes(alloc: Global, count: usize) -> Result<Vec<Items<usize>>, AllocError>
+    ensures { IfOk result (λ lists. lists.items ≡ replicate count []) }
+{
+    vec![in alloc; Items::new(alloc); count]
+}
+
+// Adds a node to the lists at these places, as far as they are there.
+fn add_to_each(
+    places: &[usize],
+    node: usize,
+    lists: &mut Vec<Items<usize>>,
+) -> Result<(), AllocError>
+    ensures { OnOk result (AddsToEach places.now node lists.old.items lists.new.items) }
+{
+    for place in places {
+        add_to(*place, node, lists)?;
+    }
+    Ok(())
+}
+
+// Adds a node to the list at this place, if it is there.
+fn add_to(place: usize, node: usize, lists: &mut Vec<Items<usize>>) -> Result<(), AllocError>
+    ensures { OnOk result (AddsToEach (place ∷ []) node lists.old.items lists.new.items) }
+{
+    if place < lists.len() {
+        lists[place].push(node)?;
+    }
+    Ok(())
+}
