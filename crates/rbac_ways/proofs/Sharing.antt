@@ -7,8 +7,16 @@ use Rattle.rbac_ways.proofs.Turning.{listed_within}
 use Rattle.rbac_ways.specs.Joining.{AreWordsOf, IsListedAt, IsNumberOf, SharesWord, TakesSet}
 use Rattle.rbac_ways.specs.Ways.{GraphView, IsEdge}
 
+-- a word that two nodes share is among the words of either side
+pub shared_there : (takes had_by fewer : List (List Text)) (words : List Text) → (fewer ≡ takes) ⊎ (fewer ≡ had_by) → AreWordsOf fewer words
+    → (w : Text) (i j : ℕ) → Contains (get_or takes i []) w → Contains (get_or had_by j []) w → Contains words w
+shared_there takes had_by fewer words which are w i j taken had = (are.same w).1 (elim which [
+  | inl same ↦ (i, subst (λ (lists : List (List Text)). Contains (get_or lists i []) w) (sym same) taken)
+  | inr same ↦ (j, subst (λ (lists : List (List Text)). Contains (get_or lists j []) w) (sym same) had)
+])
+
 module _ (takes had_by : List (List Text)) (also : List (List ℕ)) (words : List Text) (taken sets : List (List ℕ))
-    (are : AreWordsOf had_by words) (few : length also ≤ length takes) (len : length taken ≡ length takes) (many : length sets ≡ length words)
+    (there : (w : Text) (i j : ℕ) → Contains (get_or takes i []) w → Contains (get_or had_by j []) w → Contains words w) (few : length also ≤ length takes) (len : length taken ≡ length takes) (many : length sets ≡ length words)
     (each : (i set : ℕ) → i < length takes → IsListedAt taken i set ↔ TakesSet words takes i set)
     (had : (number j : ℕ) → number < length words → IsListedAt sets number j ↔ IsNumberOf words (get_or had_by j []) number) where
   abbrev pub graph : GraphView
@@ -22,7 +30,7 @@ module _ (takes had_by : List (List Text)) (also : List (List ℕ)) (words : Lis
   own_set i = ap (λ (n : ℕ). get_or (sets ++ also) (n + i) []) (sym many) ∙ get_or-append-add sets also i []
 
   leads : (i j set : ℕ) → IsListedAt taken i set → IsListedAt (sets ++ also) set j → SharesWord takes had_by i j ⊎ IsListedAt also i j
-  leads i j set takes_it has = elim ((each i set (let there = listed_within taken i set takes_it in omega (arith, there, len))).0 takes_it) [
+  leads i j set takes_it has = elim ((each i set (let low = listed_within taken i set takes_it in omega (arith, low, len))).0 takes_it) [
     | inl w ↦
         let low : set < length words = slice_get_within words set w.0 w.2 in
         let other = (had set j low).0 (subst (λ (xs : List ℕ). Contains xs j) (word_set set low) has) in
@@ -33,7 +41,7 @@ module _ (takes had_by : List (List Text)) (also : List (List ℕ)) (words : Lis
   by_word : (i j : ℕ) → j < length takes → SharesWord takes had_by i j → IsEdge graph i j
   by_word i j node shares =
       let w = shares.0 in
-      let place = (are.same w).1 (j, shares.2) in
+      let place = there w i j shares.1 shares.2 in
       let at_place : slice_get words place.0 ≡ Some w = slice_get_read words (length words) place.0 w refl place.1 (sym place.2) in
       record {
         set = place.0;
@@ -45,7 +53,7 @@ module _ (takes had_by : List (List Text)) (also : List (List ℕ)) (words : Lis
   by_own : (i j : ℕ) → j < length takes → IsListedAt also i j → IsEdge graph i j
   by_own i j node listed = record {
     set = length words + i;
-    takes = (each i (length words + i) (let there = listed_within also i j listed in omega (arith, there, few))).1 (inr refl);
+    takes = (each i (length words + i) (let low = listed_within also i j listed in omega (arith, low, few))).1 (inr refl);
     has = subst (λ (xs : List ℕ). Contains xs j) (sym (own_set i)) listed;
     node = omega (arith, node, len);
   }

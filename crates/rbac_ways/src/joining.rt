@@ -17,8 +17,9 @@ impl Graph {
     /// The graph in which an edge leads from each node to each one that it shares a word with: one
     /// of the words that the first takes and by which the second can be had (own). Besides, an edge
     /// leads from each node to those that `also` lists for it, which has a list for each node at
-    /// most. The words by which nodes can be had are sorted once, and the nodes that can be had by a
-    /// word are one set, however many take it. Fails only if it runs out of memory.
+    /// most. The words taken, or those by which nodes can be had, if these are fewer, are sorted
+    /// once; and the nodes that can be had by a word are one set, however many take it. Fails only
+    /// if it runs out of memory.
     pub fn joined(
         alloc: Global,
         takes: &[Words],
@@ -30,7 +31,7 @@ impl Graph {
         ensures edges { IfOk result (λ g. (i j : ℕ) → IsEdge g i j ↔ ((j < length takes.now)
             × (SharesWord takes.now had_by.now i j ⊎ IsListedAt also.now i j))) }
     {
-        let words = words_of(alloc, had_by)?;
+        let words = words_of(alloc, fewer_words(takes, had_by))?;
         let takes = takes_of(alloc, words.as_slice(), takes)?;
         let mut sets = sets_of(alloc, words.as_slice(), had_by)?;
         sets.extend_with_clones(also)?;
@@ -49,6 +50,26 @@ pub fn turned(alloc: Global, lists: &[Items<usize>]) -> Result<Vec<Items<usize>>
         add_to_each(numbers.as_slice(), place, &mut turned)?;
     }
     Ok(turned)
+}
+
+// Those lists of the two that have fewer words in all. A word that nodes share is in both.
+fn fewer_words<'a>(first: &'a [Words], second: &'a [Words]) -> &'a [Words]
+    ensures { (result.now ≡ first.now) ⊎ (result.now ≡ second.now) }
+{
+    if count_words(first) < count_words(second) {
+        first
+    } else {
+        second
+    }
+}
+
+// How many words these lists have. It decides only how long the rest takes, so nothing is promised.
+fn count_words(lists: &[Words]) -> usize {
+    let mut count = 0usize;
+    for listed in lists {
+        count = count.saturating_add(listed.as_slice().len());
+    }
+    count
 }
 
 // The words of these lists, each once, in order.
