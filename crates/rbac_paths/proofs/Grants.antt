@@ -18,6 +18,7 @@ use Rattle.rbac_paths.specs.Rows.{AreOfStep}
 use Rattle.rbac_paths.specs.Steps.{RowView, asked_in, table}
 use Rattle.rbac_paths.specs.Taking.{CanTakeOver, GrantTakes, IsFirstTaking, RowTakes, RuleTakes, TakesNone}
 use Rattle.rbac_paths.specs.declared.steps.Step.{Step}
+use Rattle.rbac_paths.proofs.ByRules.{rule_takes, takes_over}
 
 -- a binding names who asks exactly if some place was found
 module _ (b : Binding) (who : Who) where
@@ -28,12 +29,16 @@ module _ (b : Binding) (who : Who) where
   named_by None e none = cc
   named_by (Some at) e (s, first) = (at, s, slice_get_within b.subjects at s first.here, get_or_from_slice_get b.subjects at s s first.here, first.holds)
 
+  pub unnamed_by : (o : Option ℕ) → is_some o ≡ false → MatchOption o (BindingNames b who → ⊥) IsNamingPlace → BindingNames b who → ⊥
+  unnamed_by None e none = none
+  unnamed_by (Some at) e first = cc
+
 -- what rows of a step say of a rule is what the table says
 module _ (step : Step) (rows : List RowView) (of : AreOfStep step table rows) (home : Option Text) (rule : Rule) (y : NodeView) where
-  by_rows : Any (λ row. RowTakes row home rule y) rows → RuleTakes step home rule y
+  pub by_rows : Any (λ row. RowTakes row home rule y) rows → RuleTakes step home rule y
   by_rows a = let w = (of a.1).0 (a.0, a.2, a.3) in any_from (λ row. (row.step ≡ step) × RowTakes row home rule y) table a.1 w.0 (w.1, a.4)
 
-  in_rows : RuleTakes step home rule y → Any (λ row. RowTakes row home rule y) rows
+  pub in_rows : RuleTakes step home rule y → Any (λ row. RowTakes row home rule y) rows
   in_rows a = any_from (λ row. RowTakes row home rule y) rows a.1 ((of a.1).1 ((a.0, a.2, a.3), a.4.0)) a.4.1
 
 -- a grant lets somebody take over a node by these rows
@@ -71,45 +76,18 @@ module _ (p : PolicyView) (who : Who) (rows : List RowView) (y : NodeView) where
 module _ (p : PolicyView) (ok : IsPolicy p) (who : Who) (step : Step) (y : NodeView) where
   by_grant : (n : ℕ) (g : GrantView) → slice_get p.grants n ≡ Some g → GrantTakes who step y g → CanTakeOver p (Somebody who) step y
   by_grant n g here (named, gives) =
-      let row = gives.1 in
-      let takes = gives.4.1 in
-      let t = Resource row.group takes.text takes.name in
-      record {
-        row = row;
-        namespace = takes.namespace;
-        own = takes.own;
-        verb = takes.verb;
-        text = takes.text;
-        name = takes.name;
-        of_table = (gives.0, gives.2, gives.3);
-        of_step = gives.4.0;
-        over = takes.over;
-        of_verbs = takes.of_verbs;
-        of_resources = takes.of_resources;
-        named = takes.named;
-        allowed = grant_allows p ok who (asked_in row.counts takes.namespace) takes.verb t (n, g, slice_get_within p.grants n g here, get_or_from_slice_get p.grants n g g here, (takes.live, named, takes.allows));
-      }
+      takes_over p (Somebody who) step y g.binding.namespace g.rule.rule
+      (λ namespace verb t live allows. grant_allows p ok who namespace verb t (n, g, slice_get_within p.grants n g here, get_or_from_slice_get p.grants n g g here, (live, named, allows))) gives
 
   some_takes : CanTakeOver p (Somebody who) step y → (n : ℕ) × (g : GrantView) × (slice_get p.grants n ≡ Some g) × GrantTakes who step y g
   some_takes c =
-      let t = Resource c.row.group c.text c.name in
-      let by = some_grant p.held p.grants who (asked_in c.row.counts c.namespace) c.verb t ok.0 ok.1 c.allowed in
-      let g = by.1 in
-      let here : slice_get p.grants by.0 ≡ Some g = slice_get-get_or p.grants by.0 g by.2 ∙ ap (λ (v : GrantView). Some v) by.3 in
-      let takes : RowTakes c.row g.binding.namespace g.rule.rule y = record {
-        namespace = c.namespace;
-        own = c.own;
-        verb = c.verb;
-        text = c.text;
-        name = c.name;
-        over = c.over;
-        of_verbs = c.of_verbs;
-        of_resources = c.of_resources;
-        named = c.named;
-        live = by.4.0;
-        allows = by.4.2;
-      } in
-      (by.0, g, here, (by.4.1, any_from (λ row. (row.step ≡ step) × RowTakes row g.binding.namespace g.rule.rule y) table c.row c.of_table (c.of_step, takes)))
+      let by = some_grant p.held p.grants who (asked_in c.row.counts c.namespace) c.verb (Resource c.row.group c.text c.name) ok.0 ok.1 c.allowed in
+      let g = by.1 in (
+        by.0,
+        g,
+        slice_get-get_or p.grants by.0 g by.2 ∙ ap (λ (v : GrantView). Some v) by.3,
+        (by.4.1, rule_takes p (Somebody who) step y g.binding.namespace g.rule.rule c by.4.0 by.4.2),
+      )
 
   pub tells : (first : Option ℕ) → MatchOption first (TakesNone p who step y) (IsFirstTaking p who step y) → IsSome first ↔ CanTakeOver p (Somebody who) step y
   tells None none = (λ some. absurd (let both : false ≡ true = some in cc), λ c. absurd (let w = some_takes c in none w.0 w.1 w.2 w.3))

@@ -1,5 +1,5 @@
 -- What nodes have, and what that allows them.
-use Rattle.std.specs.Prelude.{◌≡◌, ◌↔◌, List, [], ◌∷◌, Option, Some, None, Any, Contains, codes}
+use Rattle.std.specs.Prelude.{◌≡◌, ◌↔◌, List, [], ◌∷◌, Option, Some, Any, Contains, codes}
 use Rattle.rbac_terms.specs.Text.{Text}
 use Rattle.rbac_terms.specs.Targets.{What}
 use Rattle.rbac_terms.specs.Matching.{RuleAllows}

@@ -10,3 +10,4 @@ pub mod Steps
 pub mod Taking
 pub mod TakingOver
 pub mod Telling
+pub mod Told

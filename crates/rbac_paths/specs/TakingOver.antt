@@ -20,15 +20,20 @@ HasAll p steps x scope = (step : Step) × Writes step × Contains steps step
 abbrev pub BindsNode : PolicyView → List Step → NodeView → NodeView → Type 0
 BindsNode p steps x y = Contains steps Bind × CanTakeOver p x Bind y
 
--- a node needn't be told as taken over by writing, since one that has all of it is told (own)
+-- a node needn't be told as taken over by writing, since one that has all of it is told (own); where
+-- everything in a scope is taken over so, and which nodes binding takes over, is given
+abbrev pub IsUntoldBy : (Option Text → Type 0) → (NodeView → Type 0) → NodeView → Type 0
+IsUntoldBy HasAllIn Binds (Somebody who) = ⊥
+IsUntoldBy HasAllIn Binds (EverythingIn None) = ⊥
+IsUntoldBy HasAllIn Binds (EverythingIn (Some namespace)) = HasAllIn None
+IsUntoldBy HasAllIn Binds (ClusterRoleIn role None) = HasAllIn None
+IsUntoldBy HasAllIn Binds (ClusterRoleIn role (Some namespace)) = HasAllIn None
+    ⊎ (HasAllIn (Some namespace) ⊎ Binds (ClusterRoleIn role None))
+IsUntoldBy HasAllIn Binds (OwnRole role) = HasAllIn None ⊎ HasAllIn (Some role.namespace)
+
+-- a node that x takes over by writing needn't be told
 abbrev pub IsUntold : PolicyView → List Step → NodeView → NodeView → Type 0
-IsUntold p steps x (Somebody who) = ⊥
-IsUntold p steps x (EverythingIn None) = ⊥
-IsUntold p steps x (EverythingIn (Some namespace)) = HasAll p steps x None
-IsUntold p steps x (ClusterRoleIn role None) = HasAll p steps x None
-IsUntold p steps x (ClusterRoleIn role (Some namespace)) = HasAll p steps x None
-    ⊎ (HasAll p steps x (Some namespace) ⊎ BindsNode p steps x (ClusterRoleIn role None))
-IsUntold p steps x (OwnRole role) = HasAll p steps x None ⊎ HasAll p steps x (Some role.namespace)
+IsUntold p steps x y = IsUntoldBy (HasAll p steps x) (BindsNode p steps x) y
 
 -- who has everything in the cluster comes to nothing more, and who has everything in a namespace goes on
 -- with users and groups alone (own)

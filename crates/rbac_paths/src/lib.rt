@@ -4,6 +4,7 @@
 
 mod all_steps;
 mod finding;
+mod holding;
 mod laws;
 mod line;
 mod node;
@@ -13,6 +14,7 @@ mod steps;
 mod table;
 mod taking;
 mod taking_over;
+mod told;
 
 pub use all_steps::powers;
 pub use laws::powers_are_one;

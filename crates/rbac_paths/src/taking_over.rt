@@ -64,7 +64,7 @@ fn takes(grant: Grant<'_>, who: &Principal, rows: &[WordRow], node: Node<'_>) ->
 
 // Whether the rule takes over a node by these rows where a binding in this namespace, or in none, is
 // live.
-fn takes_some(rows: &[WordRow], home: Option<&Word>, rule: &Rule, node: Node<'_>) -> bool
+pub(crate) fn takes_some(rows: &[WordRow], home: Option<&Word>, rule: &Rule, node: Node<'_>) -> bool
     ensures { IsTrue result
         ↔ Any (λ row. RowTakes row (option_copied home.entry) rule.now (node_of node.entry)) rows.now }
 {

@@ -1,0 +1,121 @@
+-- What somebody has, grant by grant.
+use Rattle.std.proofs.Common.{◌≡◌, ◌<◌, ◌≤◌, ◌∙◌, ◌+◌, ◌++◌, ◌∷◌, ◌↔◌, [], ℕ, List, Option, Some, Contains, ap, ap₂, arith, inl, inr, length, slice_get, subst, sym}
+use Rattle.std.proofs.lemmas.Bool.{cases_lt}
+use Rattle.std.proofs.lemmas.List.Elements.{Contains-append_left, Contains-push, Contains-push_cases}
+use Rattle.std.proofs.lemmas.Option.{get_or_from_slice_get, same_Some, slice_get-get_or, slice_get_within}
+use Rattle.rbac_terms.specs.Text.{Text}
+use Rattle.rbac_terms.specs.Principals.{Who}
+use Rattle.rbac_terms.specs.declared.matching.Rule.{Rule}
+use Rattle.rbac_model.specs.Policies.{BindingNames, GrantView, PolicyView}
+use Rattle.rbac_subjects.specs.Bound.{IsNamedBy}
+use Rattle.rbac_paths.specs.Having.{AreHoldings, HoldingView}
+use Rattle.rbac_paths.specs.Nodes.{Somebody}
+use Rattle.rbac_paths.specs.Told.{AddsGiven, IsNamedRun, grant_holding}
+
+-- ---- the grants of a run, one after the other
+
+module _ (p : PolicyView) (start : ℕ) where
+  pub none_given : (hs : List HoldingView) → AddsGiven p start start hs hs
+  none_given hs h = (
+    λ c. inl c,
+    λ a. elim a [
+      | inl c ↦ c
+      | inr w ↦ absurd (omega (arith, w.2, w.3))
+    ],
+  )
+
+  pub one_given : (number : ℕ) (g : GrantView) (old hs new : List HoldingView) → start ≤ number → slice_get p.grants number ≡ Some g → new ≡ hs ++ grant_holding g ∷ [] → AddsGiven p start number old hs → AddsGiven p start (number + 1) old new
+  one_given number g old hs new from here is adds h = (
+    λ c. elim (Contains-push_cases hs (grant_holding g) h (subst (λ (xs : List HoldingView). Contains xs h) is c)) [
+      | inl before ↦ elim ((adds h).0 before) [
+        | inl o ↦ inl o
+        | inr w ↦ inr (w.0, w.1, w.2, omega (arith, w.3), w.4, w.5)
+      ]
+      | inr same ↦ inr (number, g, from, omega arith, here, same)
+    ],
+    λ a. subst (λ (xs : List HoldingView). Contains xs h) (sym is) (elim a [
+      | inl o ↦ Contains-append_left hs (grant_holding g ∷ []) h ((adds h).1 (inl o))
+      | inr w ↦ elim (cases_lt w.0 number) [
+        | inl less ↦ Contains-append_left hs (grant_holding g ∷ []) h ((adds h).1 (inr (w.0, w.1, w.2, less, w.4, w.5)))
+        | inr high ↦ (let at : w.0 ≡ number = omega (arith, w.3, high) in
+            let one : w.1 ≡ g = same_Some w.1 g (sym (subst (λ (i : ℕ). slice_get p.grants i ≡ Some w.1) at w.4) ∙ here) in
+            subst (λ (x : HoldingView). Contains (hs ++ grant_holding g ∷ []) x) (ap grant_holding (sym one) ∙ w.5) (Contains-push hs (grant_holding g)))
+      ]
+    ]),
+  )
+
+-- ---- the runs of somebody, one after the other
+
+-- the holding is by a grant before that number whose binding names somebody
+abbrev pub IsGivenBefore : PolicyView → Who → ℕ → HoldingView → Type 0
+IsGivenBefore p who count h = (number : ℕ) × (g : GrantView) × (number < count) × (slice_get p.grants number ≡ Some g) × BindingNames g.binding who × (grant_holding g ≡ h)
+
+-- exactly those
+abbrev pub AreGivenBefore : PolicyView → Who → ℕ → List HoldingView → Type 0
+AreGivenBefore p who count hs = (h : HoldingView) → Contains hs h ↔ IsGivenBefore p who count h
+
+module _ (p : PolicyView) (who : Who) where
+  -- none of the grants from one number up to another
+  abbrev pub NoneNamed : ℕ → ℕ → Type 0
+  NoneNamed from count = (number : ℕ) → from ≤ number → number < count → IsNamedBy p who number → ⊥
+
+  pub none_more : (from count : ℕ) (g : GrantView) → slice_get p.grants count ≡ Some g → (BindingNames g.binding who → ⊥) → NoneNamed from count → NoneNamed from (count + 1)
+  none_more from count g here isnt none number after low named = elim (cases_lt number count) [
+    | inl less ↦ none number after less named
+    | inr high ↦ (let at : number ≡ count = omega (arith, low, high) in
+        let one : named.0 ≡ g = same_Some named.0 g (sym (subst (λ (i : ℕ). slice_get p.grants i ≡ Some named.0) at named.1) ∙ here) in
+        isnt (subst (λ (x : GrantView). BindingNames x.binding who) one named.2))
+  ]
+
+  pub one_named : (from number : ℕ) (g : GrantView) → slice_get p.grants number ≡ Some g → BindingNames g.binding who → from ≤ number → NoneNamed from number → IsNamedRun p who from number (number + 1)
+  one_named from number g here names after none = record {
+    after = after;
+    some = omega arith;
+    within = let low = slice_get_within p.grants number g here in omega (arith, low);
+    named = λ other low high. (let at : number ≡ other = omega (arith, low, high) in (g, subst (λ (i : ℕ). slice_get p.grants i ≡ Some g) at here, names));
+    none_before = none;
+  }
+
+  pub none_left : (from count : ℕ) → length p.grants ≤ count → NoneNamed from count → (number : ℕ) → from ≤ number → IsNamedBy p who number → ⊥
+  none_left from count end none number after named =
+      let within = slice_get_within p.grants number named.0 named.1 in
+      none number after (omega (arith, within, end)) named
+
+  pub none_before : (hs : List HoldingView) → hs ≡ [] → AreGivenBefore p who 0 hs
+  none_before hs none h = (
+    λ c. absurd (let w = subst (λ (xs : List HoldingView). Contains xs h) none c in omega (arith, w.1)),
+    λ w. absurd (omega (arith, w.2)),
+  )
+
+  pub run_given : (from start end : ℕ) (hs new : List HoldingView) → IsNamedRun p who from start end → AreGivenBefore p who from hs → AddsGiven p start end hs new → AreGivenBefore p who end new
+  run_given from start end hs new run are adds h = (
+    λ c. elim ((adds h).0 c) [
+      | inl before ↦ (let w = (are h).0 before in (w.0, w.1, omega (arith, w.2, run.after, run.some), w.3, w.4, w.5))
+      | inr w ↦ (let named = run.named w.0 w.2 w.3 in
+          let one : named.0 ≡ w.1 = same_Some named.0 w.1 (sym named.1 ∙ w.4) in
+          (w.0, w.1, w.3, w.4, subst (λ (g : GrantView). BindingNames g.binding who) one named.2, w.5))
+    ],
+    λ w. (adds h).1 (elim (cases_lt w.0 from) [
+      | inl less ↦ inl ((are h).1 (w.0, w.1, less, w.3, w.4, w.5))
+      | inr high ↦ elim (cases_lt w.0 start) [
+        | inl low ↦ absurd (run.none_before w.0 high low (w.1, w.3, w.4))
+        | inr in_run ↦ inr (w.0, w.1, in_run, w.2, w.3, w.5)
+      ]
+    ]),
+  )
+
+  -- no grants are left
+  pub all_given : (count : ℕ) (hs : List HoldingView) → ((number : ℕ) → count ≤ number → ¬ IsNamedBy p who number) → AreGivenBefore p who count hs → AreHoldings p (Somebody who) hs
+  all_given count hs none are h = (
+    λ c.
+        let w = (are h).0 c in
+        (w.0, w.1, slice_get_within p.grants w.0 w.1 w.3, get_or_from_slice_get p.grants w.0 w.1 w.1 w.3, (w.4, ap (λ (x : HoldingView). x.home) w.5, ap (λ (x : HoldingView). x.rule) w.5)),
+    λ a.
+        let g = a.1 in
+        let here : slice_get p.grants a.0 ≡ Some g = slice_get-get_or p.grants a.0 g a.2 ∙ ap (λ (v : GrantView). Some v) a.3 in
+        let is : grant_holding g ≡ h = ap₂ (λ (o : Option Text) (rule : Rule). record { home = o; rule = rule }) a.4.1 a.4.2 in
+        (are h).1 (elim (cases_lt a.0 count) [
+          | inl less ↦ (a.0, g, less, here, a.4.0, is)
+          | inr high ↦ absurd (none a.0 high (g, here, a.4.0))
+        ]),
+  )

@@ -1,0 +1,178 @@
+//! By which steps one node takes over another, as is told.
+
+ghost use Rattle.std.specs.Prelude.{◌≡◌, ◌↔◌, ◌⊎◌, IfOk, IsTrue, MatchOption, None, Some};
+ghost use Rattle.std.specs.Option.{option_copied};
+ghost use Rattle.rbac_model.specs.Policies.{IsPolicy, PolicyView};
+ghost use Rattle.rbac_paths.specs.Having.{AreHoldings};
+ghost use Rattle.rbac_paths.specs.Nodes.{ClusterRoleIn, node_of};
+ghost use Rattle.rbac_paths.specs.TakingOver.{GoesOn, TakesOver, Writes};
+ghost use Rattle.rbac_paths.specs.Told.{HoldingTakes, HoldingsBind, HoldingsHaveAll, HoldingsTake};
+ghost use Rattle.rbac_paths.specs.Told.{HoldingsTell, IsFirstTold, IsUntoldOf};
+
+use crate::holding::Holding;
+use crate::node::Node;
+use crate::rows::{WordRow, rows_of};
+use crate::steps::Step;
+use crate::taking_over::takes_some;
+use rbac_terms::{ClusterRole, Word};
+use std::alloc::{AllocError, Global};
+use std::marker::Model;
+
+/// A step, with the rows of the table that are of it. Contracts see the step.
+#[derive(Drop)]
+pub(crate) struct StepRows {
+    step: Step,
+    rows: Vec<WordRow>,
+}
+
+impl Model for StepRows {
+    ghost use Rattle.rbac_paths.specs.Rows.{AreOfStep};
+    ghost use Rattle.rbac_paths.specs.Steps.{table};
+    ghost use Rattle.rbac_paths.specs.declared.steps.Step.{Step};
+
+    ghost Value = { Step };
+
+    ghost view = { λ s. s.step };
+
+    ghost invariant = { λ s. AreOfStep s.step table s.rows.items };
+}
+
+impl StepRows {
+    fn of(alloc: Global, step: Step) -> Result<Self, AllocError>
+        ensures { IfOk result (λ rows. rows ≡ step) }
+    {
+        let rows = rows_of(alloc, step)?;
+        Ok(StepRows { step, rows })
+    }
+
+    // The step.
+    fn step(&self) -> Step
+        ensures { result ≡ self.now }
+    {
+        self.step
+    }
+
+    // Whether a node that has these takes over the other by the step.
+    #[tactic(auto, unfolding(crate::specs::Told::HoldingsTake))]
+    fn takes(&self, holdings: &[Holding<'_>], to: Node<'_>) -> bool
+        ensures { IsTrue result ↔ HoldingsTake self.now holdings.now (node_of to.entry) }
+    {
+        holdings.iter().any(|held| self.is_taken_by(held, to))
+    }
+
+    // Whether this rule takes over the node by the step.
+    fn is_taken_by(&self, held: &Holding<'_>, to: Node<'_>) -> bool
+        ensures { IsTrue result ↔ HoldingTakes self.now held.now (node_of to.entry) }
+    {
+        takes_some(self.rows.as_slice(), held.home, held.rule, to)
+    }
+}
+
+/// These steps, in their order, each with its rows.
+pub(crate) fn rows_of_steps(alloc: Global, steps: &[Step]) -> Result<Vec<StepRows>, AllocError>
+    ensures { IfOk result (λ all. all.items ≡ steps.now) }
+{
+    let mut all = Vec::new(alloc);
+    for step in steps {
+        all.push(StepRows::of(alloc, *step)?)?;
+    }
+    Ok(all)
+}
+
+/// The first of these steps by which a node takes over another, as is told; the first has exactly
+/// these holdings. `None` exactly if there is none.
+pub(crate) fn first_told(
+    steps: &[StepRows],
+    holdings: &[Holding<'_>],
+    from: Node<'_>,
+    to: Node<'_>,
+) -> Option<Step>
+    ensures { (p : PolicyView) → IsPolicy p → AreHoldings p (node_of from.entry) holdings.now
+        → MatchOption result
+        (¬ TakesOver p steps.now (node_of from.entry) (node_of to.entry))
+        (IsFirstTold p steps.now (node_of from.entry) (node_of to.entry)) }
+{
+    if !goes_on(from, to) {
+        return None;
+    }
+    for rows in steps {
+        if is_told(rows, steps, holdings, to) {
+            return Some(rows.step());
+        }
+    }
+    None
+}
+
+// Whether a node goes on to the other.
+fn goes_on(from: Node<'_>, to: Node<'_>) -> bool
+    ensures { IsTrue result ↔ GoesOn (node_of from.entry) (node_of to.entry) }
+{
+    match from {
+        Node::Everything(None) => false,
+        Node::Everything(Some(_)) => matches!(to, Node::Somebody(_)),
+        _ => true,
+    }
+}
+
+// Whether a node that has these takes over the other by this one of the steps, and that is told.
+fn is_told(rows: &StepRows, steps: &[StepRows], holdings: &[Holding<'_>], to: Node<'_>) -> bool
+    ensures { IsTrue result
+        ↔ HoldingsTell steps.now holdings.now (node_of to.entry) rows.now }
+{
+    rows.takes(holdings, to) && !(writes(rows.step()) && is_untold(steps, holdings, to))
+}
+
+// Whether one writes by this step what roles have, or who has them.
+fn writes(step: Step) -> bool
+    ensures { IsTrue result ↔ Writes step }
+{
+    step == Step::Bind || step == Step::Escalate
+}
+
+// Whether the node needn't be told as taken over by writing, since one that has all of it is told.
+fn is_untold(steps: &[StepRows], holdings: &[Holding<'_>], to: Node<'_>) -> bool
+    ensures { IsTrue result ↔ IsUntoldOf steps.now holdings.now (node_of to.entry) }
+{
+    match to {
+        Node::Somebody(_) => false,
+        Node::ClusterRole(role, Some(namespace)) => {
+            has_all(steps, holdings, None) || has_more(steps, holdings, role, namespace)
+        }
+        Node::ClusterRole(_, None) => has_all(steps, holdings, None),
+        Node::Role(role) => {
+            has_all(steps, holdings, None) || has_all(steps, holdings, Some(&role.namespace))
+        }
+        Node::Everything(scope) => scope.is_some() && has_all(steps, holdings, None),
+    }
+}
+
+// Whether everything in the namespace is taken over, or the cluster role in the whole cluster.
+fn has_more(
+    steps: &[StepRows],
+    holdings: &[Holding<'_>],
+    role: &ClusterRole,
+    namespace: &Word,
+) -> bool
+    ensures { IsTrue result ↔ (HoldingsHaveAll steps.now holdings.now (Some namespace.now)
+        ⊎ HoldingsBind steps.now holdings.now (ClusterRoleIn role.now None)) }
+{
+    has_all(steps, holdings, Some(namespace))
+        || binds(steps, holdings, Node::ClusterRole(role, None))
+}
+
+// Whether writing, if that is among these steps, takes over everything in the scope.
+#[tactic(auto, unfolding(crate::specs::Told::HoldingsHaveAll))]
+fn has_all(steps: &[StepRows], holdings: &[Holding<'_>], scope: Option<&Word>) -> bool
+    ensures { IsTrue result
+        ↔ HoldingsHaveAll steps.now holdings.now (option_copied scope.entry) }
+{
+    steps.iter().any(|rows| writes(rows.step()) && rows.takes(holdings, Node::Everything(scope)))
+}
+
+// Whether binding, if that is among these steps, takes over the node.
+#[tactic(auto, unfolding(crate::specs::Told::HoldingsBind))]
+fn binds(steps: &[StepRows], holdings: &[Holding<'_>], to: Node<'_>) -> bool
+    ensures { IsTrue result ↔ HoldingsBind steps.now holdings.now (node_of to.entry) }
+{
+    steps.iter().any(|rows| rows.step() == Step::Bind && rows.takes(holdings, to))
+}
