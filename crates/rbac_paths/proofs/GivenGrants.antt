@@ -1,5 +1,5 @@
 -- What somebody has, grant by grant.
-use Rattle.std.proofs.Common.{◌≡◌, ◌<◌, ◌≤◌, ◌∙◌, ◌+◌, ◌++◌, ◌∷◌, ◌↔◌, [], ℕ, List, Option, Some, Contains, ap, ap₂, arith, inl, inr, length, slice_get, subst, sym}
+use Rattle.std.proofs.Common.{◌≡◌, ◌<◌, ◌≤◌, ◌∙◌, ◌+◌, ◌++◌, ◌∷◌, ◌↔◌, [], ℕ, List, Option, Some, Contains, ap, ap₂, arith, inl, inr, slice_get, subst, sym}
 use Rattle.std.proofs.lemmas.Bool.{cases_lt}
 use Rattle.std.proofs.lemmas.List.Elements.{Contains-append_left, Contains-push, Contains-push_cases}
 use Rattle.std.proofs.lemmas.Option.{get_or_from_slice_get, same_Some, slice_get-get_or, slice_get_within}
@@ -7,10 +7,10 @@ use Rattle.rbac_terms.specs.Text.{Text}
 use Rattle.rbac_terms.specs.Principals.{Who}
 use Rattle.rbac_terms.specs.declared.matching.Rule.{Rule}
 use Rattle.rbac_model.specs.Policies.{BindingNames, GrantView, PolicyView}
-use Rattle.rbac_subjects.specs.Bound.{IsNamedBy}
+use Rattle.rbac_subjects.specs.Bound.{IsNamedBy, IsNextRunOf}
 use Rattle.rbac_paths.specs.Having.{AreHoldings, HoldingView}
 use Rattle.rbac_paths.specs.Nodes.{Somebody}
-use Rattle.rbac_paths.specs.Told.{AddsGiven, IsNamedRun, grant_holding}
+use Rattle.rbac_paths.specs.Told.{AddsGiven, grant_holding}
 
 -- ---- the grants of a run, one after the other
 
@@ -55,43 +55,17 @@ abbrev pub AreGivenBefore : PolicyView → Who → ℕ → List HoldingView → 
 AreGivenBefore p who count hs = (h : HoldingView) → Contains hs h ↔ IsGivenBefore p who count h
 
 module _ (p : PolicyView) (who : Who) where
-  -- none of the grants from one number up to another
-  abbrev pub NoneNamed : ℕ → ℕ → Type 0
-  NoneNamed from count = (number : ℕ) → from ≤ number → number < count → IsNamedBy p who number → ⊥
-
-  pub none_more : (from count : ℕ) (g : GrantView) → slice_get p.grants count ≡ Some g → (BindingNames g.binding who → ⊥) → NoneNamed from count → NoneNamed from (count + 1)
-  none_more from count g here isnt none number after low named = elim (cases_lt number count) [
-    | inl less ↦ none number after less named
-    | inr high ↦ (let at : number ≡ count = omega (arith, low, high) in
-        let one : named.0 ≡ g = same_Some named.0 g (sym (subst (λ (i : ℕ). slice_get p.grants i ≡ Some named.0) at named.1) ∙ here) in
-        isnt (subst (λ (x : GrantView). BindingNames x.binding who) one named.2))
-  ]
-
-  pub one_named : (from number : ℕ) (g : GrantView) → slice_get p.grants number ≡ Some g → BindingNames g.binding who → from ≤ number → NoneNamed from number → IsNamedRun p who from number (number + 1)
-  one_named from number g here names after none = record {
-    after = after;
-    some = omega arith;
-    within = let low = slice_get_within p.grants number g here in omega (arith, low);
-    named = λ other low high. (let at : number ≡ other = omega (arith, low, high) in (g, subst (λ (i : ℕ). slice_get p.grants i ≡ Some g) at here, names));
-    none_before = none;
-  }
-
-  pub none_left : (from count : ℕ) → length p.grants ≤ count → NoneNamed from count → (number : ℕ) → from ≤ number → IsNamedBy p who number → ⊥
-  none_left from count end none number after named =
-      let within = slice_get_within p.grants number named.0 named.1 in
-      none number after (omega (arith, within, end)) named
-
   pub none_before : (hs : List HoldingView) → hs ≡ [] → AreGivenBefore p who 0 hs
   none_before hs none h = (
     λ c. absurd (let w = subst (λ (xs : List HoldingView). Contains xs h) none c in omega (arith, w.1)),
     λ w. absurd (omega (arith, w.2)),
   )
 
-  pub run_given : (from start end : ℕ) (hs new : List HoldingView) → IsNamedRun p who from start end → AreGivenBefore p who from hs → AddsGiven p start end hs new → AreGivenBefore p who end new
+  pub run_given : (from start end : ℕ) (hs new : List HoldingView) → IsNextRunOf p (IsNamedBy p who) from start end → AreGivenBefore p who from hs → AddsGiven p start end hs new → AreGivenBefore p who end new
   run_given from start end hs new run are adds h = (
     λ c. elim ((adds h).0 c) [
       | inl before ↦ (let w = (are h).0 before in (w.0, w.1, omega (arith, w.2, run.after, run.some), w.3, w.4, w.5))
-      | inr w ↦ (let named = run.named w.0 w.2 w.3 in
+      | inr w ↦ (let named = run.bound w.0 w.2 w.3 in
           let one : named.0 ≡ w.1 = same_Some named.0 w.1 (sym named.1 ∙ w.4) in
           (w.0, w.1, w.3, w.4, subst (λ (g : GrantView). BindingNames g.binding who) one named.2, w.5))
     ],

@@ -29,10 +29,6 @@ module _ (b : Binding) (who : Who) where
   named_by None e none = cc
   named_by (Some at) e (s, first) = (at, s, slice_get_within b.subjects at s first.here, get_or_from_slice_get b.subjects at s s first.here, first.holds)
 
-  pub unnamed_by : (o : Option ℕ) → is_some o ≡ false → MatchOption o (BindingNames b who → ⊥) IsNamingPlace → BindingNames b who → ⊥
-  unnamed_by None e none = none
-  unnamed_by (Some at) e first = cc
-
 -- what rows of a step say of a rule is what the table says
 module _ (step : Step) (rows : List RowView) (of : AreOfStep step table rows) (home : Option Text) (rule : Rule) (y : NodeView) where
   pub by_rows : Any (λ row. RowTakes row home rule y) rows → RuleTakes step home rule y

@@ -1,14 +1,12 @@
 -- What is said of the holdings of a node, and of what they take over.
 use Rattle.std.specs.Prelude.{◌≡◌, ◌↔◌, ◌⊎◌, ℕ, ◌<◌, ◌≤◌, List, [], ◌∷◌, Option, Some, Any, Contains}
-use Rattle.std.specs.Prelude.{length, map, slice_get}
+use Rattle.std.specs.Prelude.{map, slice_get}
 use Rattle.rbac_terms.specs.Text.{Text}
-use Rattle.rbac_terms.specs.Principals.{Who}
 use Rattle.rbac_terms.specs.declared.granting.ClusterRole.{ClusterRole}
 use Rattle.rbac_terms.specs.declared.matching.Rule.{Rule}
 use Rattle.rbac_model.specs.Lists.{IsFirstAt}
 use Rattle.rbac_model.specs.Places.{IsPlainAt, IsReachedAt}
 use Rattle.rbac_model.specs.Policies.{AreGathered, GrantView, Held, IsPlain, PolicyView}
-use Rattle.rbac_subjects.specs.Bound.{IsNamedBy}
 use Rattle.rbac_paths.specs.Having.{HoldingView}
 use Rattle.rbac_paths.specs.Nodes.{NodeView, Somebody, ClusterRoleIn, OwnRole, EverythingIn}
 use Rattle.rbac_paths.specs.Taking.{RuleTakes}
@@ -36,15 +34,6 @@ abbrev pub AddsGiven : PolicyView → ℕ → ℕ → List HoldingView → List 
 AddsGiven p start end old new = (h : HoldingView) → Contains new h
     ↔ (Contains old h ⊎ ((number : ℕ) × (g : GrantView) × (start ≤ number) × (number < end)
     × (slice_get p.grants number ≡ Some g) × (grant_holding g ≡ h)))
-
--- the bindings of the grants numbered from `start` up to `end` name who asks, and those of no others
--- before them do, from that number on
-pub record IsNamedRun (p : PolicyView) (who : Who) (from start end : ℕ) : Type 0 where
-  pub after : from ≤ start
-  pub some : start < end
-  pub within : end ≤ length p.grants
-  pub named : (number : ℕ) → start ≤ number → number < end → IsNamedBy p who number
-  pub none_before : (number : ℕ) → from ≤ number → number < start → ¬ IsNamedBy p who number
 
 -- the roles whose written rules the cluster role has: itself, or those that it gathers from
 abbrev pub AreSourceRoles : Held → ClusterRole → List ClusterRole → Type 0

@@ -7,14 +7,13 @@ ghost use Rattle.rbac_terms.specs.declared.granting.ClusterRole.{ClusterRole};
 ghost use Rattle.rbac_model.specs.Lists.{IsAscendingBy};
 ghost use Rattle.rbac_model.specs.Policies.{AreGathered, cluster_role_name};
 ghost use Rattle.rbac_model.specs.Sources.{grant_of};
-ghost use Rattle.rbac_subjects.specs.Bound.{IsNamedBy};
 ghost use Rattle.rbac_paths.specs.Having.{AreHoldings, rule_of_all};
 ghost use Rattle.rbac_paths.specs.Nodes.{ClusterRoleIn, Somebody, node_of};
-ghost use Rattle.rbac_paths.specs.Told.{AddsGiven, AreSourceRoles, HasItsRole, IsNamedRun, IsSourceAt};
+ghost use Rattle.rbac_paths.specs.Told.{AddsGiven, AreSourceRoles, HasItsRole, IsSourceAt};
 ghost use Rattle.rbac_paths.specs.Told.{grant_holding, holdings_at};
 
 use crate::node::Node;
-use rbac_model::{Grant, Named, Policy, naming_place};
+use rbac_model::{Grant, Named, Policy};
 use rbac_subjects::SubjectIndex;
 use rbac_terms::{ClusterRole, Principal, Rule, Rules, Word, Words};
 use std::alloc::{AllocError, Global};
@@ -89,7 +88,7 @@ pub(crate) fn holdings_of<'p>(
     ensures { IfOk result (λ hs. AreHoldings policy.now (node_of node.entry) hs.items) }
 {
     match node {
-        Node::Somebody(who) => of_somebody(alloc, policy, who),
+        Node::Somebody(who) => of_somebody(alloc, policy, index, who),
         Node::ClusterRole(role, scope) => of_cluster_role(alloc, policy, role, scope),
         Node::Role(role) => with_rules(alloc, Some(&role.namespace), &role.rules),
         Node::Everything(scope) => with_rule(alloc, scope, all),
@@ -100,32 +99,19 @@ pub(crate) fn holdings_of<'p>(
 fn of_somebody<'p>(
     alloc: Global,
     policy: &'p Policy,
+    index: &SubjectIndex<'p>,
     who: &Principal,
 ) -> Result<Vec<Holding<'p>>, AllocError>
+    requires { index.now ≡ policy.now }
     ensures { IfOk result (λ hs. AreHoldings policy.now (Somebody who.now) hs.items) }
 {
     let mut holdings = Vec::new(alloc);
     let mut from = 0;
-    while let Some((start, end)) = next_named(policy, who, from) {
+    while let Some((start, end)) = index.next_named(who, from) {
         push_grants(policy, start, end, &mut holdings)?;
         from = end;
     }
     Ok(holdings)
-}
-
-// The next grants, from this number on, whose bindings name somebody: a run of numbers, from the
-// first up to the second.
-fn next_named(policy: &Policy, who: &Principal, from: u32) -> Option<(u32, u32)>
-    ensures { MatchOption result
-        ((number : ℕ) → from ≤ number → ¬ IsNamedBy policy.now who.now number)
-        (λ run. IsNamedRun policy.now who.now from run.0 run.1) }
-{
-    for no in from..policy.len() {
-        if naming_place(policy.grant(no).binding, who).is_some() {
-            return Some((no, no + 1));
-        }
-    }
-    None
 }
 
 // Adds what the grants numbered from `start` up to `end` give.
