@@ -17,7 +17,7 @@ use Rattle.rbac_rules.specs.Effective.{AreRulesBy}
 use Rattle.rbac_rules.specs.Left.{LeftView, IsTaken, rule_shown}
 use Rattle.rbac_rules.specs.declared.effective.EffectiveRule.{EffectiveRule}
 use Rattle.rbac_model.specs.Sources.{grant_of}
-use Rattle.rbac_rules.specs.Runs.{HasAt, HasNone, IsRun, IsRunOf, IsRunFrom, IsNextRun}
+use Rattle.rbac_rules.specs.Runs.{HasAt, HasNone, IsEffectiveRun, IsRunOf, IsRunFrom, IsNextEffectiveRun}
 use Rattle.rbac_rules.specs.declared.run.Run.{Run}
 use Rattle.rbac_rules.proofs.RuleLists.{taken_first, from_grant, passed, none_left}
 
@@ -31,11 +31,6 @@ module _ (p : PolicyView) (who : Who) (scope : Scope) where
     own_binding n at g e of read =
         let same : of.0 ≡ g = same_Some of.0 g (sym of.1 ∙ read) in
         same_Some b g.binding (sym there ∙ ap (slice_get p.held.bindings) (sym e) ∙ of.2 ∙ ap (λ (v : GrantView). Some v.binding) same)
-
-    pub not_had : ¬ HasOf b → HasNone p who scope place (place + 1)
-    not_had none n at low high has =
-        let own = own_binding n at has.1.0 (omega arith) has.0 has.1.1 in
-        none (subst HasOf (sym own) has.1.2)
 
     module _ (from to : ℕ) (between : (n at : ℕ) → IsOfBinding p n at → ((from ≤ n) × (n < to)) ↔ (at ≡ place)) where
       pub no_grants : from ≡ to → HasNone p who scope place (place + 1)
@@ -89,7 +84,7 @@ module _ (p : PolicyView) (who : Who) (scope : Scope) where
     | inr ne ↦ before n at low (omega arith) has
   ]
 
-  module _ (ok : IsPolicy p) (run : Run) (is : IsRun p who scope run) where
+  module _ (ok : IsPolicy p) (run : Run) (is : IsEffectiveRun p who scope run) where
     -- a grant that is left past the run is of a later binding
     later : (n at : ℕ) → run.end ≤ n → IsOfBinding p n at → run.next_place ≤ at
     later n at le of = elim (cases_lt at run.next_place) [
@@ -97,19 +92,10 @@ module _ (p : PolicyView) (who : Who) (scope : Scope) where
       | inr l ↦ l
     ]
 
-    -- the run that is under way is the next
-    pub same_run : run.no < run.end → IsNextRun p who scope run.no run
-    same_run lt = record {
-      run = is;
-      some = lt;
-      past = omega arith;
-      none_between = λ n at low high has. omega arith;
-    }
-
     abbrev NoneNext : Type 0
     NoneNext = (n at : ℕ) → run.no ≤ n → ¬ HasAt p who scope n at
 
-    pub next_from : (r : Option Run) → run.end ≤ run.no → MatchOption r (HasNone p who scope run.next_place (length p.held.bindings)) (IsRunFrom p who scope run.next_place) → MatchOption r NoneNext (IsNextRun p who scope run.no)
+    pub next_from : (r : Option Run) → run.end ≤ run.no → MatchOption r (HasNone p who scope run.next_place (length p.held.bindings)) (IsRunFrom p who scope run.next_place) → MatchOption r NoneNext (IsNextEffectiveRun p who scope run.no)
     next_from None le none = λ n at low has.
         none n at (later n at (omega arith) has.0) (slice_get_within p.held.bindings at has.0.0.binding has.0.2) has
     next_from (Some f) le found =
@@ -134,8 +120,8 @@ module _ (p : PolicyView) (who : Who) (scope : Scope) where
         let of = of_some_binding p ok m (slice_get_within p.grants m g read) in
         none m of.0 low (of.1, (g, read, has)))
 
-    module _ (f : Run) (next : IsNextRun p who scope run.no f) where
-      pub one_fewer : IsRun p who scope (record f { no = f.no + 1 })
+    module _ (f : Run) (next : IsNextEffectiveRun p who scope run.no f) where
+      pub one_fewer : IsEffectiveRun p who scope (record f { no = f.no + 1 })
       one_fewer = record {
         ordered = omega (arith, next.some);
         within = next.run.within;

@@ -42,5 +42,5 @@ GivesRule old r new =
     MatchOption r (AreLeft old [] × (new ≡ old)) (λ x. IsTaken old new x)
 
 -- how many grants haven't been passed; at most as many rules are left
-abbrev pub left_at_most : LeftView → Count
-left_at_most v = at_most (length v.grants)
+abbrev pub rules_left_at_most : LeftView → Count
+rules_left_at_most v = at_most (length v.grants)

@@ -17,7 +17,7 @@ HasNone p who scope from to = (n at : ℕ) → from ≤ at → at < to → ¬ Ha
 
 -- somebody has the rules of the grants of the run that are left, by the first subject that names
 -- them; the other grants that are left are those of the bindings from the run's next place on
-pub record IsRun (p : PolicyView) (who : Who) (scope : Scope) (r : Run) : Type 0 where
+pub record IsEffectiveRun (p : PolicyView) (who : Who) (scope : Scope) (r : Run) : Type 0 where
   pub ordered : r.no ≤ r.end
   pub within : r.end ≤ length p.grants
   pub had : (n : ℕ) (g : GrantView) → r.no ≤ n → n < r.end → slice_get p.grants n ≡ Some g
@@ -28,7 +28,7 @@ pub record IsRun (p : PolicyView) (who : Who) (scope : Scope) (r : Run) : Type 0
 -- all grants of the binding at that place, of which somebody has the rules
 pub record IsRunOf (p : PolicyView) (who : Who) (scope : Scope) (place : ℕ)
     (r : Run) : Type 0 where
-  pub run : IsRun p who scope r
+  pub run : IsEffectiveRun p who scope r
   pub some : r.no < r.end
   pub next : r.next_place ≡ place + 1
   pub starts : (n at : ℕ) → IsOfBinding p n at → (n < r.no) ↔ (at < place)
@@ -39,9 +39,9 @@ IsRunFrom p who scope from r = (place : ℕ) × (from ≤ place) × IsRunOf p wh
     × HasNone p who scope from place
 
 -- a run with a grant that is left; somebody has the rule of none of the grants that are passed over
-pub record IsNextRun (p : PolicyView) (who : Who) (scope : Scope) (from : ℕ)
+pub record IsNextEffectiveRun (p : PolicyView) (who : Who) (scope : Scope) (from : ℕ)
     (r : Run) : Type 0 where
-  pub run : IsRun p who scope r
+  pub run : IsEffectiveRun p who scope r
   pub some : r.no < r.end
   pub past : from ≤ r.no
   pub none_between : (n at : ℕ) → from ≤ n → n < r.no → ¬ HasAt p who scope n at

@@ -1,7 +1,7 @@
 //! The rules that somebody has.
 
 ghost use Rattle.std.specs.Prelude.{◌≡◌};
-ghost use Rattle.rbac_rules.specs.Left.{GivesRule, left_at_most};
+ghost use Rattle.rbac_rules.specs.Left.{GivesRule, rules_left_at_most};
 
 use crate::run::{Run, next_run};
 use rbac_model::{Grant, Policy};
@@ -30,7 +30,7 @@ pub struct EffectiveRules<'a> {
 impl<'a> Model for EffectiveRules<'a> {
     ghost use Rattle.std.specs.Prelude.{drop};
     ghost use Rattle.rbac_rules.specs.Left.{LeftView};
-    ghost use Rattle.rbac_rules.specs.Runs.{IsRun};
+    ghost use Rattle.rbac_rules.specs.Runs.{IsEffectiveRun};
 
     ghost Value = { LeftView };
 
@@ -41,7 +41,7 @@ impl<'a> Model for EffectiveRules<'a> {
       grants = drop it.run.no it.policy.now.grants;
     } };
 
-    ghost invariant = { λ it. IsRun it.policy.now it.who.now it.scope.now it.run };
+    ghost invariant = { λ it. IsEffectiveRun it.policy.now it.who.now it.scope.now it.run };
 }
 
 /// The rules that a user with the groups given and implied, or a member of one group, has where
@@ -80,7 +80,7 @@ impl<'a> Iterator for EffectiveRules<'a> {
 
     ghost next_gives = { GivesRule };
 
-    ghost remaining = { left_at_most };
+    ghost remaining = { rules_left_at_most };
 
     fn next(&mut self) -> Option<EffectiveRule<'a>> {
         let policy: &'a Policy = self.policy;

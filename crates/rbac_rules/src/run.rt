@@ -2,7 +2,8 @@
 
 ghost use Rattle.std.specs.Prelude.{ℕ, ◌≤◌, ◌<◌, ◌+◌, MatchOption, length};
 ghost use Rattle.rbac_model.specs.Policies.{IsPolicy};
-ghost use Rattle.rbac_rules.specs.Runs.{HasAt, HasNone, IsRun, IsRunOf, IsNextRun};
+ghost use Rattle.rbac_rules.specs.Runs.{HasAt, HasNone, IsEffectiveRun, IsNextEffectiveRun};
+ghost use Rattle.rbac_rules.specs.Runs.{IsRunOf};
 
 use rbac_model::{Policy, may_be_live_in, naming_place};
 use rbac_terms::{Principal, Scope};
@@ -44,10 +45,10 @@ fn run_of(policy: &Policy, who: &Principal, scope: &Scope, place: usize) -> Opti
 
 // The run that the next rule is of, from this one on.
 pub(crate) fn next_run(policy: &Policy, who: &Principal, scope: &Scope, run: Run) -> Option<Run>
-    requires { IsRun policy.now who.now scope.now run }
+    requires { IsEffectiveRun policy.now who.now scope.now run }
     ensures next { MatchOption result
         ((n at : ℕ) → run.no ≤ n → ¬ HasAt policy.now who.now scope.now n at)
-        (IsNextRun policy.now who.now scope.now run.no) }
+        (IsNextEffectiveRun policy.now who.now scope.now run.no) }
     ensures policy { IsPolicy policy.now }
 {
     let places = policy.bindings().len();

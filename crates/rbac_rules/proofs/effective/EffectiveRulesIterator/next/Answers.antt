@@ -1,5 +1,4 @@
 use Rattle.std.proofs.Common.{refl}
-use Rattle.rbac_model.specs.Sources.{grant_of}
 use Rattle.rbac_rules.proofs.Running.{one_fewer, taken, none_after}
 use Rattle.rbac_rules.proofs.effective.EffectiveRulesIterator.next.Goals as goal
 
