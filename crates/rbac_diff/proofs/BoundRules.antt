@@ -48,9 +48,6 @@ run_within p who namespace from start end run =
     let within = slice_get_within p.grants (end - 1) bound.0 bound.1 in
     omega (arith, within, some)
 
-pub none_bound : (p : PolicyView) (who : Who) (namespace : Text) (old : List (Bor Rule)) → AddsRules p who namespace 0 old old
-none_bound p who namespace old r = (λ h. inl h, λ h. elim h [ inl o ↦ o | inr w ↦ absurd (omega (arith, w.2)) ])
-
 pub run_more : (p : PolicyView) (who : Who) (namespace : Text) (from start end : ℕ) (old mid new : List (Bor Rule)) → IsNextRun p who namespace from start end → AddsRules p who namespace from old mid → AddsRulesIn p start end mid new → AddsRules p who namespace end old new
 run_more p who namespace from start end old mid new run adds more r = (
   λ h. elim ((more r).0 h) [

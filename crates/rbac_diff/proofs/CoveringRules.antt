@@ -1,9 +1,7 @@
 -- rules that a rule of the other policy covers
-use Rattle.std.proofs.Common.{◌≡◌, ◌<◌, ◌+◌, ◌∙◌, ℕ, List, Bor, ap, arith, inl, inr, slice_get, subst, sym}
+use Rattle.std.proofs.Common.{◌≡◌, ◌<◌, ℕ, List, Bor, slice_get, subst}
 use Rattle.std.specs.Prelude.{Some}
 use Rattle.std.specs.Option.{option_copied}
-use Rattle.std.proofs.lemmas.Bool.{cases_lt}
-use Rattle.std.proofs.lemmas.Option.{same_Some}
 use Rattle.rbac_model.proofs.OwnWords.{any_weaker}
 use Rattle.rbac_covering.specs.Covering.{CoversAll}
 use Rattle.rbac_terms.specs.declared.matching.Rule.{Rule}
@@ -25,18 +23,8 @@ covered_misses_nothing s r covered p by missing =
     missing.missing (any_weaker (λ (held : Bor Rule). CoversAll held.now r) (λ held. CoversWords p.verb p.target held.now) s.others.now (λ held covers. words_covered (option_copied s.namespace) held.now r p covers by.0 by.1 missing.asked) covered)
 
 pub search_covered : (s : Search) (r : Rule) (m : FoundChanges) → HasCoveringRule s.others.now r → SearchFinds s (IsOfRule s r) m m
-search_covered s r m covered = finds_none (λ p. (p.principal ≡ s.principal.now) × IsOfRule s r p × IsMissing s.others.now p) s.found.now m (λ p h. covered_misses_nothing s r covered p h.1 h.2)
+search_covered s r m covered = finds_none (λ p. (p.principal ≡ s.principal.now) × IsOfRule s r p × IsMissing s.others.now p) s.origin.now m (λ p h. covered_misses_nothing s r covered p h.1 h.2)
 
 -- rules that cover others one by one, up to some place
 abbrev pub CoverUpTo : List Rule → List Rule → ℕ → Type 0
 CoverUpTo rules others count = (at : ℕ) (a b : Rule) → at < count → slice_get rules at ≡ Some a → slice_get others at ≡ Some b → CoversAll a b
-
-pub cover_more : (rules others : List Rule) (count : ℕ) (a b : Rule) → slice_get rules count ≡ Some a → slice_get others count ≡ Some b → CoversAll a b → CoverUpTo rules others count → CoverUpTo rules others (count + 1)
-cover_more rules others count a b mine theirs here upto at x y low e f = elim (cases_lt at count) [
-  | inl l ↦ upto at x y l e f
-  | inr ge ↦
-      let same : at ≡ count = omega (arith, low, ge) in
-      let first : a ≡ x = same_Some a x (sym mine ∙ ap (slice_get rules) (sym same) ∙ e) in
-      let second : b ≡ y = same_Some b y (sym theirs ∙ ap (slice_get others) (sym same) ∙ f) in
-      subst (λ (r : Rule). CoversAll r y) first (subst (CoversAll a) second here)
-]

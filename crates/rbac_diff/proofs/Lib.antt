@@ -13,7 +13,6 @@ pub mod Gained
 pub mod Gathering
 pub mod Grants
 pub mod Levels
-pub mod Flags
 pub mod OneChanges
 pub mod OneStar
 pub mod PairedRoles

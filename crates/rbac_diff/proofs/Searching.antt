@@ -115,13 +115,13 @@ exactly_one rules q m p = (
 
 module _ (s : Search) {X : Type 0} (Q : X → PermissionView → Type 0) where
   pub loop_start : (xs : List X) (m : FoundChanges) → SearchFinds s (λ p. Any (λ x. Q x p) (take 0 xs)) m m
-  loop_start xs m = finds_none (λ p. (p.principal ≡ s.principal.now) × Any (λ x. Q x p) (take 0 xs) × IsMissing s.others.now p) s.found.now m (λ p h. none_any (λ x. Q x p) h.1)
+  loop_start xs m = finds_none (λ p. (p.principal ≡ s.principal.now) × Any (λ x. Q x p) (take 0 xs) × IsMissing s.others.now p) s.origin.now m (λ p h. none_any (λ x. Q x p) h.1)
 
   pub loop_next : (xs : List X) (i : ℕ) (x : X) (a b c : FoundChanges) → i < length xs → x ≡ get_or xs i x → SearchFinds s (λ p. Any (λ x. Q x p) (take i xs)) a b → SearchFinds s (Q x) b c → SearchFinds s (λ p. Any (λ x. Q x p) (take (i + 1) xs)) a c
   loop_next xs i x a b c l read f g =
       let more : take (i + 1) xs ≡ take i xs ++ x ∷ [] = take_read xs i x l read in
       rw more (finds_more (λ p. (p.principal ≡ s.principal.now) × Any (λ x. Q x p) (take i xs) × IsMissing s.others.now p) (λ p. (p.principal ≡ s.principal.now) × Q x p × IsMissing s.others.now p)
-      (λ p. (p.principal ≡ s.principal.now) × Any (λ x. Q x p) (take i xs ++ x ∷ []) × IsMissing s.others.now p) s.found.now a b c
+      (λ p. (p.principal ≡ s.principal.now) × Any (λ x. Q x p) (take i xs ++ x ∷ []) × IsMissing s.others.now p) s.origin.now a b c
       (λ p. (
         λ h. elim ((any_push (λ x. Q x p) (take i xs) x).0 h.1) [ inl k ↦ inl (h.0, k, h.2) | inr k ↦ inr (h.0, k, h.2) ],
         λ h. elim h [
@@ -136,16 +136,16 @@ module _ (s : Search) {X : Type 0} (Q : X → PermissionView → Type 0) where
 -- a search for the same, told in other words
 pub search_same : (s : Search) (P Q : PermissionView → Type 0) (a b : FoundChanges) → ((p : PermissionView) → P p ↔ Q p) → SearchFinds s P a b → SearchFinds s Q a b
 search_same s P Q a b same f =
-    finds_same (λ p. (p.principal ≡ s.principal.now) × P p × IsMissing s.others.now p) (λ p. (p.principal ≡ s.principal.now) × Q p × IsMissing s.others.now p) s.found.now a b
+    finds_same (λ p. (p.principal ≡ s.principal.now) × P p × IsMissing s.others.now p) (λ p. (p.principal ≡ s.principal.now) × Q p × IsMissing s.others.now p) s.origin.now a b
     (λ p. (λ h. (h.0, (same p).0 h.1, h.2), λ h. (h.0, (same p).1 h.1, h.2))) f
 
 pub search_more : (s : Search) (P Q R : PermissionView → Type 0) (a b c : FoundChanges) → ((p : PermissionView) → R p ↔ (P p ⊎ Q p)) → SearchFinds s P a b → SearchFinds s Q b c → SearchFinds s R a c
 search_more s P Q R a b c either f g =
-    finds_more (λ p. (p.principal ≡ s.principal.now) × P p × IsMissing s.others.now p) (λ p. (p.principal ≡ s.principal.now) × Q p × IsMissing s.others.now p) (λ p. (p.principal ≡ s.principal.now) × R p × IsMissing s.others.now p) s.found.now a b c
+    finds_more (λ p. (p.principal ≡ s.principal.now) × P p × IsMissing s.others.now p) (λ p. (p.principal ≡ s.principal.now) × Q p × IsMissing s.others.now p) (λ p. (p.principal ≡ s.principal.now) × R p × IsMissing s.others.now p) s.origin.now a b c
     (λ p. (
       λ h. elim ((either p).0 h.1) [ inl k ↦ inl (h.0, k, h.2) | inr k ↦ inr (h.0, k, h.2) ],
       λ h. elim h [ inl k ↦ (k.0, (either p).1 (inl k.1), k.2) | inr k ↦ (k.0, (either p).1 (inr k.1), k.2) ],
     )) f g
 
 pub search_none : (s : Search) (P : PermissionView → Type 0) (m : FoundChanges) → ((p : PermissionView) → P p → ⊥) → SearchFinds s P m m
-search_none s P m none = finds_none (λ p. (p.principal ≡ s.principal.now) × P p × IsMissing s.others.now p) s.found.now m (λ p h. none p h.1)
+search_none s P m none = finds_none (λ p. (p.principal ≡ s.principal.now) × P p × IsMissing s.others.now p) s.origin.now m (λ p h. none p h.1)

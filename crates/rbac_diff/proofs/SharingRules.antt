@@ -5,34 +5,32 @@ use Rattle.std.specs.Option.{option_copied}
 use Rattle.std.proofs.lemmas.Option.{get_or_from_slice_get, same_Some, slice_get-get_or, slice_get-map, slice_get_within}
 use Rattle.rbac_terms.specs.Text.{Text}
 use Rattle.rbac_terms.specs.declared.matching.Rule.{Rule}
-use Rattle.rbac_model.proofs.LabelSets.{any_push, none_any}
+use Rattle.rbac_model.proofs.LabelSets.{any_push}
 use Rattle.rbac_model.specs.OwnWords.{AllowsUrlWord}
 use Rattle.rbac_model.proofs.OwnWords.{any_from}
 use Rattle.rbac_model.proofs.Stairs.{take_read}
+use Rattle.rbac_covering.specs.Covering.{AllowsGroup, AllowsVerb}
 use Rattle.rbac_diff.specs.Covering.{CoversTarget, CoversWords}
 use Rattle.rbac_diff.specs.Finding.{FoundChanges, IsOfRule, IsMissing, SearchFinds}
 use Rattle.rbac_diff.specs.Permissions.{OnResource, OnUrl, PermissionView, Permits, Permitted}
-use Rattle.rbac_diff.specs.Sharing.{AreSharing, AllowsGroupWord, AllowsResourceWord, AllowsVerbWord, SharesResource, SharesWords}
+use Rattle.rbac_diff.specs.Sharing.{AreSharing, AllowsResourceWord, SharesResource, SharesWords}
 use Rattle.rbac_diff.specs.declared.finding.Search.{Search}
 use Rattle.rbac_diff.proofs.OneStar.{covers-one_star}
 use Rattle.rbac_diff.proofs.Searching.{finds_same}
 
 shares_target : (own : Option Text) (held r : Rule) (t : Permitted) → Permits own r t → CoversTarget held t → SharesResource held r ⊎ Any (AllowsUrlWord held) r.urls
-unfolding AllowsGroupWord AllowsResourceWord
-shares_target own held r (OnResource namespace group resource name) h covers = inl (any_from (AllowsResourceWord held) r.resources resource h.2 covers.1, any_from (AllowsGroupWord held) r.groups group h.1 covers.0)
+unfolding AllowsGroup AllowsResourceWord
+shares_target own held r (OnResource namespace group resource name) h covers = inl (any_from (AllowsResourceWord held) r.resources resource h.2 covers.1, any_from (AllowsGroup held) r.groups group h.1 covers.0)
 shares_target own held r (OnUrl url) h covers =
     let w = h.1.1 in
     inr (any_from (AllowsUrlWord held) r.urls w (h.1.0, h.1.2, h.1.3) ((covers-one_star held w).1 (subst (λ (u : Text). CoversTarget held (OnUrl u)) (sym h.1.4) covers)))
 
 -- what covers a permission of the rule shares words with it
 covering_shares : (own : Option Text) (held r : Rule) (p : PermissionView) → Contains r.verbs p.verb → Permits own r p.target → CoversWords p.verb p.target held → SharesWords held r
-unfolding AllowsVerbWord
-covering_shares own held r p verb target covers = (any_from (AllowsVerbWord held) r.verbs p.verb verb covers.0, shares_target own held r p.target target covers.1)
+unfolding AllowsVerb
+covering_shares own held r p verb target covers = (any_from (AllowsVerb held) r.verbs p.verb verb covers.0, shares_target own held r p.target target covers.1)
 
 -- rule after rule
-pub sharing_none : (r : Rule) (rules : List (Bor Rule)) → AreSharing (take 0 rules) r []
-sharing_none r rules own p verb target = (λ a. absurd (none_any (λ (held : Bor Rule). CoversWords p.verb p.target held.now) a), λ a. absurd (none_any (λ (held : Bor Rule). CoversWords p.verb p.target held.now) a))
-
 module _ (r : Rule) (rules : List (Bor Rule)) (i : ℕ) (held : Bor Rule) (low : i < length rules) (read : held ≡ get_or rules i held) (near : List (Bor Rule)) (are : AreSharing (take i rules) r near) where
   next : take (i + 1) rules ≡ take i rules ++ held ∷ []
   next = take_read rules i held low read
@@ -54,14 +52,14 @@ module _ (r : Rule) (rules : List (Bor Rule)) (i : ℕ) (held : Bor Rule) (low :
       )
 
 -- a search among the rules that share words finds what one among all does
-pub narrowed : (s n : Search) (r : Rule) (a b : FoundChanges) → n.found ≡ s.found → n.principal ≡ s.principal → n.namespace ≡ s.namespace → AreSharing s.others.now r n.others.now → SearchFinds n (IsOfRule n r) a b → SearchFinds s (IsOfRule s r) a b
-narrowed s n r a b found principal namespace are f =
+pub narrowed : (s n : Search) (r : Rule) (a b : FoundChanges) → n.origin ≡ s.origin → n.principal ≡ s.principal → n.namespace ≡ s.namespace → AreSharing s.others.now r n.others.now → SearchFinds n (IsOfRule n r) a b → SearchFinds s (IsOfRule s r) a b
+narrowed s n r a b origin principal namespace are f =
     let missing : (p : PermissionView) → IsOfRule s r p → IsMissing n.others.now p ↔ IsMissing s.others.now p = λ p by. (
       λ m. record { asked = m.asked; missing = λ h. m.missing ((are (option_copied s.namespace) p by.0 by.1).1 h) },
       λ m. record { asked = m.asked; missing = λ h. m.missing ((are (option_copied s.namespace) p by.0 by.1).0 h) },
     ) in
-    finds_same (λ p. (p.principal ≡ s.principal.now) × IsOfRule s r p × IsMissing n.others.now p) (λ p. (p.principal ≡ s.principal.now) × IsOfRule s r p × IsMissing s.others.now p) s.found.now a b
-    (λ p. (λ h. (h.0, h.1, (missing p h.1).0 h.2), λ h. (h.0, h.1, (missing p h.1).1 h.2))) (rw (← found, ← principal, ← namespace) f)
+    finds_same (λ p. (p.principal ≡ s.principal.now) × IsOfRule s r p × IsMissing n.others.now p) (λ p. (p.principal ≡ s.principal.now) × IsOfRule s r p × IsMissing s.others.now p) s.origin.now a b
+    (λ p. (λ h. (h.0, h.1, (missing p h.1).0 h.2), λ h. (h.0, h.1, (missing p h.1).1 h.2))) (rw (← origin, ← principal, ← namespace) f)
 
 -- a property of rules that are lent
 mapped_read : (o : Option (Bor Rule)) (y : Rule) → option_map (λ (r : Bor Rule). r.now) o ≡ Some y → (r : Bor Rule) × (o ≡ Some r) × (r.now ≡ y)

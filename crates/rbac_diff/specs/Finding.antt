@@ -41,7 +41,7 @@ IsOrdered s = s.ordered.now ≡ map (λ r. r.now) s.others.now
 -- a search finds its principal's permissions with the property, if the others' rules lack them
 abbrev pub SearchFinds : Search → (PermissionView → Type 0) → FoundChanges → FoundChanges → Type 0
 SearchFinds s P = Finds
-    (λ p. (p.principal ≡ s.principal.now) × P p × IsMissing s.others.now p) s.found.now
+    (λ p. (p.principal ≡ s.principal.now) × P p × IsMissing s.others.now p) s.origin.now
 
 -- a verb on a resource, with one of the rule's names, or any
 abbrev pub IsOnResource : Search → Rule → Text → Text → Text → PermissionView → Type 0

@@ -7,8 +7,8 @@ ghost use Rattle.rbac_diff.specs.Unchanged.{AreFlags, GrantsNoMore};
 
 use crate::alike::Alike;
 use crate::covered_roles::CoveredRoles;
-use crate::named::place_from;
-use crate::unchanged::{grants_no_more, is_namesake};
+use crate::named::namesake_from;
+use crate::unchanged::grants_no_more;
 use rbac_model::Policy;
 use std::alloc::{AllocError, Global};
 
@@ -51,32 +51,32 @@ fn without_namesakes(alloc: Global, own: &Policy, other: &Policy) -> Result<Vec<
     let others = other.bindings();
     let covered = CoveredRoles::between(alloc, own, other)?;
     let mut flags = Vec::new(alloc);
-    let mut at = 0;
+    let mut from = 0;
     for (place, binding) in bindings.iter().enumerate() {
-        at = place_from(others, at, binding);
-        flags.push(exceeds_namesake(alloc, own, place, other, at, &covered)?)?;
+        let namesake = namesake_from(others, &mut from, binding);
+        flags.push(exceeds(alloc, own, place, other, namesake, &covered)?)?;
     }
     Ok(flags)
 }
 
 // Whether the binding at the first place may grant more than the other policy's at the second one,
-// which counts only if it has the same name.
-fn exceeds_namesake(
+// if there is one.
+fn exceeds(
     alloc: Global,
     own: &Policy,
     place: usize,
     other: &Policy,
-    at: usize,
+    at: Option<usize>,
     covered: &CoveredRoles,
 ) -> Result<bool, AllocError>
     requires within { place < length own.now.held.bindings }
     requires covered { AreCoveredRoles own.now.held covered.now other.now.held }
     ensures { IfOk result (λ exceeds. exceeds ≡ false → GrantsNoMore own.now place other.now) }
 {
-    if !is_namesake(&own.bindings()[place], other.bindings(), at) {
-        return Ok(true);
+    match at {
+        Some(at) => Ok(!grants_no_more(alloc, own, place, other, at, covered)?),
+        None => Ok(true),
     }
-    Ok(!grants_no_more(alloc, own, place, other, at, covered)?)
 }
 
 // Keeps the flags of the bindings for which none that is flagged in the other policy says the same
@@ -116,11 +116,6 @@ fn stays_flagged(
     if !flagged {
         return Ok(false);
     }
-    match alike.place_of(alloc, &own.bindings()[place])? {
-        Some(at) => {
-            let none = CoveredRoles::none(alloc);
-            Ok(!grants_no_more(alloc, own, place, other, at, &none)?)
-        }
-        None => Ok(true),
-    }
+    let at = alike.place_of(alloc, &own.bindings()[place])?;
+    exceeds(alloc, own, place, other, at, &CoveredRoles::none(alloc))
 }

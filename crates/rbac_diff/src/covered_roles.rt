@@ -1,12 +1,13 @@
 //! Roles whose rules the other policy's role of the same name covers.
 
-ghost use Rattle.std.specs.Prelude.{◌≡◌, IsTrue, IfOk, List, Some, [], slice_get};
+ghost use Rattle.std.specs.Prelude.{◌≡◌, ◌<◌, IsTrue, IfOk, IfSome, List, Some, [], length};
+ghost use Rattle.std.specs.Prelude.{slice_get};
 ghost use Rattle.rbac_terms.specs.declared.matching.Rule.{Rule};
 ghost use Rattle.rbac_diff.specs.CoveredRoles.{AreCoveredAt, AreCoveredRoles, CoversEach};
 ghost use Rattle.rbac_diff.specs.CoveredRoles.{HasPair, IsCoveredAt};
 
 use crate::covering::covers_rule;
-use crate::named::place_from;
+use crate::named::namesake_from;
 use rbac_model::{GrantPlace, Named, Policy, RolePlace};
 use rbac_terms::{ClusterRole, Role, Rule};
 use std::alloc::{AllocError, Global};
@@ -110,31 +111,27 @@ fn covered_places<T: Ruled>(
     ensures { IfOk result (λ places. AreCoveredAt T.rules roles.now places.items others.now) }
 {
     let mut places = Vec::new(alloc);
-    let mut at = 0;
+    let mut from = 0;
     for role in roles {
-        at = place_from(others, at, role);
-        let place = if is_covered_at(role, others, at)? {
-            Some(at)
-        } else {
-            None
-        };
-        places.push(place)?;
+        let namesake = namesake_from(others, &mut from, role);
+        places.push(covered_place(role, others, namesake)?)?;
     }
     Ok(places)
 }
 
-// Whether the role at that place has the same name, and rules that cover this one's.
-fn is_covered_at<T: Ruled>(role: &T, others: &[T], at: usize) -> Result<bool, AllocError>
-    ensures { IfOk result
-        (λ is. IsTrue is → IsCoveredAt T.rules role.now others.now at) }
+// The place of the role's namesake among the others, if its rules cover this one's.
+fn covered_place<T: Ruled>(
+    role: &T,
+    others: &[T],
+    namesake: Option<usize>,
+) -> Result<Option<usize>, AllocError>
+    requires { IfSome namesake (λ at. at < length others.now) }
+    ensures { IfOk result (λ place. IfSome place (IsCoveredAt T.rules role.now others.now)) }
 {
-    let Some(other) = others.get(at) else {
-        return Ok(false);
-    };
-    if other.cmp_name(role).is_ne() {
-        return Ok(false);
+    match namesake {
+        Some(at) if cover_each(others[at].rules(), role.rules())? => Ok(Some(at)),
+        _ => Ok(None),
     }
-    cover_each(other.rules(), role.rules())
 }
 
 // Whether there are as many rules as others, and each covers the other at its place.

@@ -63,8 +63,8 @@ fn add_of_flagged<'p>(
     let bindings: &'p [Binding] = after.bindings();
     for (place, binding) in bindings.iter().enumerate() {
         if flags[place] {
-            let found = Origin::new(alloc, kind, binding)?;
-            add_of_binding(alloc, asked, after, place, &found, findings)?;
+            let origin = Origin::new(alloc, kind, binding)?;
+            add_of_binding(alloc, asked, after, place, &origin, findings)?;
         }
     }
     Ok(())
@@ -76,21 +76,21 @@ fn add_of_binding<'p>(
     asked: &AskedPolicy<'_>,
     after: &'p Policy,
     place: usize,
-    found: &Origin<'p>,
+    origin: &Origin<'p>,
     findings: &mut FoundChanges<'p>,
 ) -> Result<(), AllocError>
-    requires { slice_get after.now.held.bindings place ≡ Some found.now.binding }
+    requires { slice_get after.now.held.bindings place ≡ Some origin.now.binding }
     ensures gained { OnOk result
-        (Finds (IsGainedAt asked.now after.now place) found.now findings.old findings.new) }
+        (Finds (IsGainedAt asked.now after.now place) origin.now findings.old findings.new) }
 {
-    let binding: &'p Binding = found.binding();
+    let binding: &'p Binding = origin.binding();
     let namespace = binding.namespace.as_ref();
     if namespace.is_some_and(|namespace| namespace.is_empty()) {
         return Ok(());
     }
     for subject in binding.subjects.as_slice() {
         if let Some(principal) = subject_principal(alloc, subject, namespace)? {
-            add_of_principal(alloc, asked, after, place, found, &principal, findings)?;
+            add_of_principal(alloc, asked, after, place, origin, &principal, findings)?;
         }
     }
     Ok(())
@@ -103,22 +103,22 @@ fn add_of_principal<'p>(
     asked: &AskedPolicy<'_>,
     after: &'p Policy,
     place: usize,
-    found: &Origin<'p>,
+    origin: &Origin<'p>,
     principal: &Principal,
     findings: &mut FoundChanges<'p>,
 ) -> Result<(), AllocError>
-    requires somewhere { ¬ (found.now.binding.namespace ≡ Some []) }
+    requires somewhere { ¬ (origin.now.binding.namespace ≡ Some []) }
     requires alone { given_of principal.now ≡ [] }
     ensures { OnOk result
         (Finds (λ p. (p.principal ≡ principal.now)
-        × IsByGrants after.now place found.now.binding.namespace p
+        × IsByGrants after.now place origin.now.binding.namespace p
         × IsUncovered asked.now p)
-        found.now findings.old findings.new) }
+        origin.now findings.old findings.new) }
 {
-    let namespace = found.binding().namespace.as_ref();
+    let namespace = origin.binding().namespace.as_ref();
     let others = asked.rules_of(alloc, principal, namespace)?;
     let search = Search {
-        found,
+        origin,
         namespace,
         principal,
         others: others.as_slice(),
@@ -131,7 +131,7 @@ fn add_of_principal<'p>(
 // policy don't allow.
 #[derive(Clone, Copy)]
 struct Search<'a, 'p> {
-    found: &'a Origin<'p>,
+    origin: &'a Origin<'p>,
     // The binding's namespace.
     namespace: Option<&'a Word>,
     principal: &'a Principal,
@@ -185,7 +185,7 @@ fn add_of_rule<'a, 'p>(
     let near = sharing(alloc, search.others, rule)?;
     let ordered = in_order(alloc, near.as_slice())?;
     let narrow = Search {
-        found: search.found,
+        origin: search.origin,
         namespace: search.namespace,
         principal: search.principal,
         others: near.as_slice(),
@@ -349,8 +349,8 @@ fn add<'p>(
         target,
     };
     let text = permission_text(alloc, permission)?;
-    let found = search.found.clone()?;
-    findings.entry(text)?.or_insert(found);
+    let origin = search.origin.clone()?;
+    findings.entry(text)?.or_insert(origin);
     Ok(())
 }
 

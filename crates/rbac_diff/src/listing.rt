@@ -59,11 +59,11 @@ impl<'p> Iterator for Changes<'p> {
     ghost remaining = { item_count (λ changes. changes) };
 
     fn next(&mut self) -> Option<Change<'p>> {
-        let (permission, found) = self.left.next()?;
+        let (permission, origin) = self.left.next()?;
         Some(Change {
-            kind: found.kind(),
+            kind: origin.kind(),
             permission,
-            binding: found.binding(),
+            binding: origin.binding(),
         })
     }
 }

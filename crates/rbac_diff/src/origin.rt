@@ -27,9 +27,9 @@ impl<'p> Model for Origin<'p> {
 
     ghost Value = { OriginView };
 
-    ghost view = { λ found. record {
-      kind = found.shared.value.kind;
-      binding = found.shared.value.binding.now;
+    ghost view = { λ origin. record {
+      kind = origin.shared.value.kind;
+      binding = origin.shared.value.binding.now;
     } };
 }
 
@@ -39,7 +39,7 @@ impl<'p> Origin<'p> {
         kind: ChangeKind,
         binding: &'p Binding,
     ) -> Result<Self, AllocError>
-        ensures { IfOk result (λ found. found ≡ record { kind = kind; binding = binding.now }) }
+        ensures { IfOk result (λ origin. origin ≡ record { kind = kind; binding = binding.now }) }
     {
         let shared = Rc::new(alloc, Shared { kind, binding })?;
         Ok(Origin { shared })
@@ -59,7 +59,7 @@ impl<'p> Origin<'p> {
 }
 
 impl<'p> Clone for Origin<'p> {
-    ghost is_clone = { λ found copy. copy ≡ found };
+    ghost is_clone = { λ origin copy. copy ≡ origin };
 
     fn clone(&self) -> Result<Self, AllocError> {
         Ok(Origin {

@@ -2,8 +2,9 @@
 
 ghost use Rattle.std.specs.Prelude.{◌↔◌, Any, IfOk, IsTrue};
 ghost use Rattle.rbac_model.specs.OwnWords.{AllowsUrlWord};
-ghost use Rattle.rbac_diff.specs.Sharing.{AllowsGroupWord, AllowsResourceWord, AllowsVerbWord};
-ghost use Rattle.rbac_diff.specs.Sharing.{AreSharing, SharesResource, SharesWords};
+ghost use Rattle.rbac_covering.specs.Covering.{AllowsGroup, AllowsVerb};
+ghost use Rattle.rbac_diff.specs.Sharing.{AllowsResourceWord, AreSharing, SharesResource};
+ghost use Rattle.rbac_diff.specs.Sharing.{SharesWords};
 
 use rbac_model::allows_url_word;
 use rbac_terms::{Rule, Word, group_matches, resource_matches, verb_matches};
@@ -34,7 +35,7 @@ fn shares_words(held: &Rule, rule: &Rule) -> bool
 }
 
 fn shares_verb(held: &Rule, rule: &Rule) -> bool
-    ensures { IsTrue result ↔ Any (AllowsVerbWord held.now) rule.now.verbs }
+    ensures { IsTrue result ↔ Any (AllowsVerb held.now) rule.now.verbs }
 {
     rule.verbs
         .as_slice()
@@ -42,9 +43,9 @@ fn shares_verb(held: &Rule, rule: &Rule) -> bool
         .any(|verb| allows_verb(held, verb))
 }
 
-#[tactic(auto, unfolding(crate::specs::Sharing::AllowsVerbWord))]
+#[tactic(auto, unfolding(rbac_covering::specs::Covering::AllowsVerb))]
 fn allows_verb(held: &Rule, verb: &Word) -> bool
-    ensures { IsTrue result ↔ AllowsVerbWord held.now verb.now }
+    ensures { IsTrue result ↔ AllowsVerb held.now verb.now }
 {
     verb_matches(held, verb)
 }
@@ -72,7 +73,7 @@ fn allows_resource(held: &Rule, text: &Word) -> bool
 }
 
 fn shares_group(held: &Rule, rule: &Rule) -> bool
-    ensures { IsTrue result ↔ Any (AllowsGroupWord held.now) rule.now.groups }
+    ensures { IsTrue result ↔ Any (AllowsGroup held.now) rule.now.groups }
 {
     rule.groups
         .as_slice()
@@ -80,9 +81,9 @@ fn shares_group(held: &Rule, rule: &Rule) -> bool
         .any(|group| allows_group(held, group))
 }
 
-#[tactic(auto, unfolding(crate::specs::Sharing::AllowsGroupWord))]
+#[tactic(auto, unfolding(rbac_covering::specs::Covering::AllowsGroup))]
 fn allows_group(held: &Rule, group: &Word) -> bool
-    ensures { IsTrue result ↔ AllowsGroupWord held.now group.now }
+    ensures { IsTrue result ↔ AllowsGroup held.now group.now }
 {
     group_matches(held, group)
 }

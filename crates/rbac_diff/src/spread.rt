@@ -3,7 +3,7 @@
 //! a node is split when it is full, and nothing comes into its first half again. The second turn
 //! fills these halves.
 
-ghost use Rattle.std.specs.Prelude.{◌≡◌, ◌<◌, ◌↔◌, IfOk, Contains, length, map};
+ghost use Rattle.std.specs.Prelude.{◌≡◌, ◌<◌, ◌↔◌, IfOk, Contains, map};
 ghost use Rattle.rbac_terms.specs.Text.{Text};
 ghost use Rattle.rbac_diff.specs.Spread.{spread_place};
 

@@ -7,16 +7,9 @@ ghost use Rattle.rbac_diff.specs.Unchanged.{GrantsNoMore, HasCoveredRules, IsGra
 use crate::covered_roles::CoveredRoles;
 use crate::covering::covers_rule;
 use crate::subjects::are_among;
-use rbac_model::{Named, Policy};
-use rbac_terms::{Binding, Rule, Words};
+use rbac_model::Policy;
+use rbac_terms::{Rule, Words};
 use std::alloc::{AllocError, Global};
-
-// Whether there is a binding at that place that has the same name as this one.
-pub(crate) fn is_namesake(binding: &Binding, others: &[Binding], at: usize) -> bool {
-    others
-        .get(at)
-        .is_some_and(|held| held.cmp_name(binding).is_eq())
-}
 
 // Whether the binding at that place grants no more than the other policy's at the second one: that
 // one is in the same namespace, or in none as this one, its rules cover this one's, and it has all

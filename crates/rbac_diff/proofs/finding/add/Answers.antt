@@ -23,8 +23,8 @@ returns c =
     let text = c.in_ok-text.text in
     let old = c.args.findings.now in
     let v = c.or_insert.result.now in
-    subst (λ (new : FoundChanges). Finds P s.found.now old new) (search rules)
-    (finds_same (λ p. p ≡ q) P s.found.now old (map_with_value entry v) (exactly_one s.others.now q missing)
-    (finds_entry q s.found.now v old (map_with_value entry v) text c.in_ok-text.ensures (get text_cmp old text) refl
-    (c.or_insert.ensures.value ∙ ap (λ o. unwrap_or o c.in_ok-found.found) c.in_ok-findings.ensures.value ∙ ap (λ (x : OriginView). unwrap_or (get text_cmp old text) x) c.in_ok-found.ensures.cases)
+    subst (λ (new : FoundChanges). Finds P s.origin.now old new) (search rules)
+    (finds_same (λ p. p ≡ q) P s.origin.now old (map_with_value entry v) (exactly_one s.others.now q missing)
+    (finds_entry q s.origin.now v old (map_with_value entry v) text c.in_ok-text.ensures (get text_cmp old text) refl
+    (c.or_insert.ensures.value ∙ ap (λ o. unwrap_or o c.in_ok-origin.origin) c.in_ok-findings.ensures.value ∙ ap (λ (x : OriginView). unwrap_or (get text_cmp old text) x) c.in_ok-origin.ensures.cases)
     (c.in_ok-findings.ensures.update.0 v).0))

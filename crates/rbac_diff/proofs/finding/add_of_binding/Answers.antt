@@ -12,7 +12,7 @@ use Rattle.rbac_diff.proofs.finding.add_of_binding.Goals as goal
 use Rattle.rbac_diff.proofs.finding.add_of_binding.Goals.{in-Some+in_ok-add_of_principal+in-Some-1, in-Some+in_ok-add_of_principal+in-None-1, in_default}
 
 pub loop-subject-init : goal.loop-subject-init
-loop-subject-init c = subjects_none c.args.asked.now c.args.after.now c.args.place (option_copied c.as_ref-namespace.result) c.args.found.now c.args.findings.now
+loop-subject-init c = subjects_none c.args.asked.now c.args.after.now c.args.place (option_copied c.as_ref-namespace.result) c.args.origin.now c.args.findings.now
 
 pub loop-subject-preserved : goal.loop-subject-preserved
 loop-subject-preserved c =
@@ -23,7 +23,7 @@ loop-subject-preserved c =
     let i = c.loop-subject.subject-index in
     let s = c.subject-item.result in
     let done = take i items in
-    let x = c.args.found.now in
+    let x = c.args.origin.now in
     let named : option_copied c.as_ref-namespace.result ≡ x.binding.namespace = c.as_ref-namespace.ensures.value ∙ ap (λ (b : Binding). b.namespace) c.binding-binding.ensures in
     let more : take (i + 1) items ≡ take i items ++ s ∷ [] = take_read items i s c.loop-subject-test.true c.subject-item.is in
     rw more (elim c.match-branch-2.branch [
@@ -40,12 +40,12 @@ loop-subject-preserved c =
 
 pub returns : goal.returns
 returns c =
-    let b = c.args.found.now.binding in
+    let b = c.args.origin.now.binding in
     let is : c.binding-binding.result.now ≡ b = c.binding-binding.ensures in
     let named : option_copied c.as_ref-namespace.result ≡ b.namespace = c.as_ref-namespace.ensures.value ∙ ap (λ (b : Binding). b.namespace) is in
     let before = c.args.asked.now in
     let after = c.args.after.now in
-    let x = c.args.found.now in
+    let x = c.args.origin.now in
     let all : take c.loop-subject.subject-index c.as_slice-subject-items.result.now ≡ b.subjects = take_all c.loop-subject.subject-index c.as_slice-subject-items.result.now (omega arith) ∙ c.as_slice-subject-items.ensures ∙ ap (λ (b : Binding). b.subjects) is in
     record {
       gained = finds_same (IsBySubjects before after c.args.place b.namespace x b.subjects) (IsGainedAt before after c.args.place) x c.args.findings.now c.loop-subject.findings (gained_by_subjects before after c.args.place b x c.requires)

@@ -18,7 +18,7 @@ returns c =
     let after = c.args.after.now in
     let who = c.args.principal.now in
     let own = option_copied c.as_ref-namespace.result in
-    let x = c.args.found.now in
+    let x = c.args.origin.now in
     let named : own ≡ x.binding.namespace = c.as_ref-namespace.ensures.value ∙ ap (λ (b : Binding). b.namespace) c.binding.ensures in
     let rules : AreStandInRules before who own c.as_slice.result.now = subst (λ (rs : List (Bor Rule)). AreStandInRules before who own rs) (sym c.as_slice.ensures.value) (c.in_ok-others.ensures c.requires.alone) in
     on_ok c.add_of_grants.result (λ h. subst (λ (o : Option Text). Finds (IsByPrincipal before after c.args.place o x who) x c.args.findings.now c.add_of_grants.new.findings) named

@@ -10,6 +10,6 @@ pub returns : goal.returns
 returns c =
     let s = c.args.search.now in
     let r = c.args.rule.now in
-    let n : Search = record { found = s.found; namespace = s.namespace; principal = s.principal; others = c.as_slice-2.result; ordered = c.as_slice-3.result } in
+    let n : Search = record { origin = s.origin; namespace = s.namespace; principal = s.principal; others = c.as_slice-2.result; ordered = c.as_slice-3.result } in
     let are = subst (λ (rs : List (Bor Rule)). AreSharing s.others.now r rs) (sym c.as_slice-2.ensures.value) c.in_ok-near.ensures in
     on_ok c.add_of_verbs.result (narrowed s n r c.args.findings.now c.add_of_verbs.new.findings refl refl refl are) c.add_of_verbs.ensures
