@@ -1,16 +1,11 @@
 -- What was found is all powers of a step, each once.
-use Rattle.std.proofs.Common.{◌≡◌, ◌<◌, ◌∷◌, ℕ, List, [], inl, inr, refl, sym, ◌∙◌, ap, ap₂, subst, arith, Some, None, IsSome, Option, true, false, AllPairs, Contains, map, length, option_map, get_or, slice_get}
+use Rattle.std.proofs.Common.{◌≡◌, ◌<◌, ℕ, List, [], inl, inr, refl, sym, ◌∙◌, ap, ap₂, subst, arith, Some, None, Option, AllPairs, Contains, map, length, option_map, get_or, slice_get}
 use Rattle.std.specs.BTreeMap.{get, IsOrdered}
-use Rattle.std.specs.List.{AllByRecursion}
-use Rattle.std.specs.List.Sorted.{IsStrictlySortedBy}
-use Rattle.std.specs.Map.{keys_of}
 use Rattle.std.specs.declared.cmp.Ordering.TheVariants.{Less}
 use Rattle.std.proofs.lemmas.Bool.{cases_order}
 use Rattle.std.proofs.lemmas.Cmp.{nat_list_cmp_total}
 use Rattle.std.proofs.lemmas.List.{length-map, same_from_push}
 use Rattle.std.proofs.Math.ListN.{get_or-map}
-use Rattle.std.proofs.lemmas.List.Kept.{AllPairs-cons}
-use Rattle.std.proofs.lemmas.List.Elements.{All-from_recursion}
 use Rattle.std.proofs.lemmas.Map.Entries.{place_from_lookup, btree_map_get_place}
 use Rattle.std.proofs.lemmas.Option.{same_Some, slice_get_read, slice_get-get_or, slice_get-map, slice_get_within, get_or_from_slice_get}
 use Rattle.std.specs.Ordering.{is_eq}
@@ -26,6 +21,8 @@ use Rattle.rbac_text.proofs.Choices.{choice_text-one, field-one}
 use Rattle.rbac_paths.specs.Finding.{AreWithGrants, FindsPowers, Found}
 use Rattle.rbac_paths.specs.Powers.{ArePowersOf, GivesStep, GivesThere, IsPower, PowerView, power_place, who_and_where}
 use Rattle.rbac_paths.specs.declared.steps.Step.{Step}
+use Rattle.rbac_paths.proofs.Entries.{strict}
+use Rattle.rbac_paths.proofs.Mapped.{some_is}
 
 -- ---- a power is told by its step, who and where
 
@@ -64,16 +61,6 @@ module _ (p : PolicyView) (step : Step) where
 
 -- ---- entries in order
 
-below : (k : Text) (es : List (Text × PowerView)) → AllByRecursion (λ q. text_cmp k q ≡ Less) (keys_of es) → AllByRecursion (λ e. text_cmp k e.0 ≡ Less) es
-below k [] h = h
-below k (e ∷ es) h = (h.0, below k es h.1)
-
-strict : (es : List (Text × PowerView)) → IsStrictlySortedBy text_cmp (keys_of es) → AllPairs (λ x y. text_cmp x.0 y.0 ≡ Less) es
-unfolding IsStrictlySortedBy
-strict [] h = λ i j d l k. absurd (omega (arith, k))
-strict (e ∷ es) h = AllPairs-cons (λ x y. text_cmp x.0 y.0 ≡ Less) e es
-    (All-from_recursion (λ x. text_cmp e.0 x.0 ≡ Less) es (below e.0 es h.0)) (strict es h.1)
-
 -- the powers that were found
 abbrev pub powers_in : List (Text × PowerView) → List PowerView
 powers_in es = map (λ e. e.1) es
@@ -101,10 +88,6 @@ module _ (p : PolicyView) (ok : IsPolicy p) (step : Step) (m : Found) (up : IsOr
   is_listed x c =
       let e = mapped (slice_get m.entries c.0) x (sym (slice_get-map (λ e. e.1) m.entries c.0) ∙ slice_get_read (powers_in m.entries) (length (powers_in m.entries)) c.0 x refl c.1 (sym c.2)) in
       subst (λ (z : PowerView). (z.step ≡ step) × IsPower p z) e.2 (let w = entry_at c.0 e.0 e.1 in (w.1, w.2))
-
-  some_is : {X : Type 0} (o : Option X) → IsSome o → (x : X) × (o ≡ Some x)
-  some_is None is = absurd (let both : false ≡ true = is in cc)
-  some_is (Some x) is = (x, refl)
 
   in_list : (t : Text) (y : PowerView) → get text_cmp m t ≡ Some y → Contains (powers_in m.entries) y
   in_list t y e =

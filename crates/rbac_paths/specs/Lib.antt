@@ -1,8 +1,10 @@
+pub mod AddingNodes
 pub mod Asked
 pub mod Finding
 pub mod Having
 pub mod Lines
 pub mod NodeLists
+pub mod NodeTexts
 pub mod Nodes
 pub mod Powers
 pub mod Rows

@@ -8,6 +8,7 @@ mod holding;
 mod laws;
 mod line;
 mod node;
+mod nodes;
 mod power;
 mod rows;
 mod steps;

@@ -1,6 +1,14 @@
 //! Whom and what one can take over.
 
-use rbac_terms::{ClusterRole, Principal, Role, Word};
+ghost use Rattle.std.specs.Prelude.{◌≡◌, ◌++◌, OnOk, codes};
+ghost use Rattle.rbac_text.specs.Row.{field_and_tab};
+ghost use Rattle.rbac_paths.specs.NodeLists.{node_text};
+ghost use Rattle.rbac_paths.specs.Nodes.{node_of};
+ghost use Rattle.rbac_paths.specs.NodeTexts.{who_or_what, where_text};
+
+use rbac_terms::{CLUSTER_ROLE, ClusterRole, Principal, Role, Word};
+use rbac_text::{put_choice_and_tab, put_field_and_tab, put_role};
+use std::alloc::AllocError;
 
 /// Somebody, or something that one can come to have (own).
 #[derive(Clone, Copy)]
@@ -13,4 +21,61 @@ pub enum Node<'p> {
     Role(&'p Role),
     /// Everything in this namespace, or, if there is none, in the whole cluster.
     Everything(Option<&'p Word>),
+}
+
+/// Adds who or what a node is, and where, each with a tab after it (own): the key of a user or a
+/// group, and `-`; `ClusterRole/NAME` or `Role/NAMESPACE/NAME`, or `*` for everything, and the
+/// namespace, or `*` for the whole cluster. If it runs out of memory, a prefix of them may have been
+/// added.
+pub(crate) fn put_node(line: &mut Vec<u8>, node: Node<'_>) -> Result<(), AllocError>
+    ensures { OnOk result (line.new.items ≡ line.old.items ++ node_text (node_of node.entry)) }
+{
+    put_what(line, node)?;
+    put_where(line, node)
+}
+
+// Adds who or what a node is.
+fn put_what(line: &mut Vec<u8>, node: Node<'_>) -> Result<(), AllocError>
+    ensures { OnOk result
+        (line.new.items ≡ line.old.items ++ field_and_tab (who_or_what (node_of node.entry))) }
+{
+    match node {
+        Node::Somebody(who) => put_field_and_tab(line, who.key().as_bytes()),
+        Node::ClusterRole(role, _) => put_cluster_role(line, role),
+        Node::Role(role) => put_own_role(line, role),
+        Node::Everything(_) => put_field_and_tab(line, b"*"),
+    }
+}
+
+// Adds where a node is: a user or a group is nowhere.
+fn put_where(line: &mut Vec<u8>, node: Node<'_>) -> Result<(), AllocError>
+    ensures { OnOk result (line.new.items ≡ line.old.items ++ where_text (node_of node.entry)) }
+{
+    match node {
+        Node::Somebody(_) => put_field_and_tab(line, b""),
+        Node::ClusterRole(_, scope) => put_choice_and_tab(line, scope),
+        Node::Role(role) => put_choice_and_tab(line, Some(&role.namespace)),
+        Node::Everything(scope) => put_choice_and_tab(line, scope),
+    }
+}
+
+// Adds the name of a cluster role as one field, and the tab after it.
+fn put_cluster_role(line: &mut Vec<u8>, role: &ClusterRole) -> Result<(), AllocError>
+    ensures { OnOk result (line.new.items
+        ≡ line.old.items ++ field_and_tab (codes "ClusterRole/" ++ role.now.name)) }
+{
+    let mut name = Word::from_slice(*line.allocator(), CLUSTER_ROLE.as_bytes())?;
+    name.push(b'/')?;
+    name.push_slice(role.name.as_bytes())?;
+    put_field_and_tab(line, name.as_bytes())
+}
+
+// Adds the name of a role of a namespace as one field, and the tab after it.
+fn put_own_role(line: &mut Vec<u8>, role: &Role) -> Result<(), AllocError>
+    ensures { OnOk result (line.new.items ≡ line.old.items
+        ++ field_and_tab (codes "Role/" ++ role.now.namespace ++ codes "/" ++ role.now.name)) }
+{
+    put_role(line, &role.namespace, &role.name)?;
+    line.push(b'\t')?;
+    Ok(())
 }

@@ -1,0 +1,148 @@
+//! The nodes, in order of how they are printed.
+
+ghost use Rattle.std.specs.Prelude.{◌≡◌, ◌≢◌, ◌↔◌, AllPairs, Any, Contains, IfOk, OnOk, Option, map};
+ghost use Rattle.std.specs.BTreeMap.{IsOrdered, values};
+ghost use Rattle.std.specs.Option.{option_copied};
+ghost use Rattle.rbac_terms.specs.Text.{Text, text_cmp};
+ghost use Rattle.rbac_terms.specs.Principals.{who_key};
+ghost use Rattle.rbac_model.specs.Policies.{IsPolicy};
+ghost use Rattle.rbac_paths.specs.AddingNodes.{AddsNodes, IsInScope, IsInSomeScope};
+ghost use Rattle.rbac_paths.specs.AddingNodes.{IsSomeBoundRole, ScopesAreThere};
+ghost use Rattle.rbac_paths.specs.NodeLists.{AreNodes, IsScope, node_text};
+ghost use Rattle.rbac_paths.specs.Nodes.{Somebody, node_of};
+
+use crate::node::{Node, put_node};
+use rbac_model::Policy;
+use rbac_terms::{Principal, Word};
+use std::alloc::{AllocError, Global};
+use std::collections::BTreeMap;
+
+// Nodes, under who and where as they are printed.
+type Printed<'p> = BTreeMap<Word, Node<'p>>;
+
+/// The nodes of a policy, these users and groups among them, in order of who and where as they are
+/// printed (own). The keys of the users and groups differ. Fails only if it runs out of memory.
+pub(crate) fn nodes_of<'p>(
+    alloc: Global,
+    policy: &'p Policy,
+    principals: &[&'p Principal],
+) -> Result<Vec<Node<'p>>, AllocError>
+    requires { AllPairs (λ a b. who_key a.now ≢ who_key b.now) principals.now }
+    ensures { IfOk result (λ nodes.
+        AreNodes policy.now (map (λ who. who.now) principals.now) (map node_of nodes.items)) }
+{
+    let mut nodes = BTreeMap::new(alloc);
+    add_principals(alloc, principals, &mut nodes)?;
+    add_scopes(alloc, policy, &mut nodes)?;
+    add_roles(alloc, policy, &mut nodes)?;
+    in_order(alloc, &nodes)
+}
+
+// The nodes, in order of their texts.
+fn in_order<'p>(alloc: Global, nodes: &Printed<'p>) -> Result<Vec<Node<'p>>, AllocError>
+    ensures items { IfOk result (λ list. list.items ≡ values nodes.now) }
+    ensures ordered { IsOrdered text_cmp nodes.now }
+{
+    nodes.values().copied().collect(alloc)
+}
+
+// Adds users and groups.
+fn add_principals<'p>(
+    alloc: Global,
+    principals: &[&'p Principal],
+    nodes: &mut Printed<'p>,
+) -> Result<(), AllocError>
+    ensures { OnOk result (AddsNodes
+        (λ y. Any (λ who. y ≡ Somebody who.now) principals.now) nodes.old nodes.new) }
+{
+    for who in principals {
+        add_node(alloc, Node::Somebody(*who), nodes)?;
+    }
+    Ok(())
+}
+
+// Adds what can be had in each scope.
+fn add_scopes<'p>(
+    alloc: Global,
+    policy: &'p Policy,
+    nodes: &mut Printed<'p>,
+) -> Result<(), AllocError>
+    ensures { OnOk result (AddsNodes (IsInSomeScope policy.now) nodes.old nodes.new) }
+{
+    let scopes = scopes_of(alloc, policy)?;
+    for scope in &scopes {
+        add_in_scope(alloc, policy, *scope, nodes)?;
+    }
+    Ok(())
+}
+
+// The whole cluster, and each namespace of a RoleBinding. Bindings are in order of these, so each is
+// listed once.
+fn scopes_of<'p>(alloc: Global, policy: &'p Policy) -> Result<Vec<Option<&'p Word>>, AllocError>
+    ensures { IfOk result (λ scopes. (scope : Option Text)
+        → Contains (map (λ s. option_copied s) scopes.items) scope ↔ IsScope policy.now scope) }
+{
+    let mut last = None;
+    let mut scopes = vec![in alloc; last]?;
+    for binding in policy.bindings() {
+        let scope = binding.namespace.as_ref();
+        if scope != last {
+            scopes.push(scope)?;
+            last = scope;
+        }
+    }
+    Ok(scopes)
+}
+
+// Adds everything in a scope, and each cluster role there.
+fn add_in_scope<'p>(
+    alloc: Global,
+    policy: &'p Policy,
+    scope: Option<&'p Word>,
+    nodes: &mut Printed<'p>,
+) -> Result<(), AllocError>
+    ensures { OnOk result
+        (AddsNodes (IsInScope policy.now (option_copied scope.entry)) nodes.old nodes.new) }
+{
+    add_node(alloc, Node::Everything(scope), nodes)?;
+    for role in policy.objects().cluster_roles() {
+        add_node(alloc, Node::ClusterRole(role, scope), nodes)?;
+    }
+    Ok(())
+}
+
+// Adds the roles of the scopes that were added before.
+fn add_roles<'p>(
+    alloc: Global,
+    policy: &'p Policy,
+    nodes: &mut Printed<'p>,
+) -> Result<(), AllocError>
+    requires { ScopesAreThere policy.now nodes.old }
+    ensures added { OnOk result (AddsNodes (IsSomeBoundRole policy.now) nodes.old nodes.new) }
+    ensures policy { OnOk result (IsPolicy policy.now) }
+{
+    for role in policy.objects().roles() {
+        let scope = text_of(alloc, Node::Everything(Some(&role.namespace)))?;
+        if nodes.contains_key(&scope) {
+            add_node(alloc, Node::Role(role), nodes)?;
+        }
+    }
+    Ok(())
+}
+
+// Adds a node.
+fn add_node<'p>(alloc: Global, node: Node<'p>, nodes: &mut Printed<'p>) -> Result<(), AllocError>
+    ensures { OnOk result (AddsNodes (λ y. y ≡ node_of node.entry) nodes.old nodes.new) }
+{
+    nodes.insert(text_of(alloc, node)?, node)?;
+    Ok(())
+}
+
+// Who or what a node is, and where, as they are printed, each with a tab after it.
+fn text_of(alloc: Global, node: Node<'_>) -> Result<Word, AllocError>
+    ensures { IfOk result (λ text. text ≡ node_text (node_of node.entry)) }
+{
+    let mut text = Vec::new(alloc);
+    put_node(&mut text, node)?;
+    Word::from_slice(alloc, text.as_slice())
+}
