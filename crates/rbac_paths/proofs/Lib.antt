@@ -20,6 +20,7 @@ pub mod NodesInOrder
 pub mod OnePowers
 pub mod RolePlaces
 pub mod RoleRules
+pub mod PrincipalsWith
 pub mod Scopes
 pub mod Taken
 pub mod Telling

@@ -7,6 +7,7 @@ pub mod NodeLists
 pub mod NodeTexts
 pub mod Nodes
 pub mod Powers
+pub mod Principals
 pub mod Rows
 pub mod Steps
 pub mod Taking

@@ -10,6 +10,7 @@ mod line;
 mod node;
 mod nodes;
 mod power;
+mod principals;
 mod rows;
 mod steps;
 mod table;

@@ -1,0 +1,8 @@
+-- The users and groups that one asks about.
+use Rattle.std.specs.Prelude.{◌≡◌, ◌≢◌, ◌⊎◌, List, Contains}
+use Rattle.rbac_terms.specs.Principals.{Who, who_key}
+
+-- who is asked about, or one of these with another key (own)
+abbrev pub IsOneWith : List Who → Who → Who → Type 0
+IsOneWith principals asked who = (who ≡ asked)
+    ⊎ (Contains principals who × (who_key who ≢ who_key asked))
