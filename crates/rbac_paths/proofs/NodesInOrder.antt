@@ -10,7 +10,7 @@ use Rattle.rbac_terms.specs.Text.{Text, text_cmp}
 use Rattle.rbac_terms.specs.Principals.{Who, who_key}
 use Rattle.rbac_model.specs.Policies.{IsHeld, PolicyView}
 use Rattle.rbac_paths.specs.AddingNodes.{AddsNodes, PrintedNodes}
-use Rattle.rbac_paths.specs.NodeLists.{AreNodes, IsNode, node_text}
+use Rattle.rbac_paths.specs.NodeLists.{AreNodes, IsNamedOf, IsNode, node_text}
 use Rattle.rbac_paths.specs.Nodes.{NodeView, node_of}
 use Rattle.rbac_paths.specs.declared.node.Node.{Node}
 use Rattle.rbac_paths.proofs.Entries.{strict}
@@ -18,14 +18,17 @@ use Rattle.rbac_paths.proofs.Mapped.{contains_map, map_contains, pairs_map, some
 use Rattle.rbac_paths.proofs.NodeWords.{one_node}
 
 module _ (p : PolicyView) (held : IsHeld p.held) (ps : List Who) (tell : (who other : Who) → Contains ps who → Contains ps other → who_key who ≡ who_key other → who ≡ other)
-    (m n : PrintedNodes) (empty : (t : Text) → get text_cmp m t ≡ None) (up : IsOrdered text_cmp n) (adds : AddsNodes (λ y. IsNode p ps y) m n) where
-  told : (t : Text) (x : Node) → get text_cmp n t ≡ Some x → (t ≡ node_text (node_of x)) × IsNode p ps (node_of x)
+    (m n : PrintedNodes) (empty : (t : Text) → get text_cmp m t ≡ None) (up : IsOrdered text_cmp n) (names : List Text) (adds : AddsNodes (λ y. IsNode p ps y × IsNamedOf names y) m n) where
+  abbrev IsListed : NodeView → Type 0
+  IsListed y = IsNode p ps y × IsNamedOf names y
+
+  told : (t : Text) (x : Node) → get text_cmp n t ≡ Some x → (t ≡ node_text (node_of x)) × IsListed (node_of x)
   told t x e = elim (adds.only t x e) [
     | inl old ↦ absurd (let both : None ≡ Some x = sym (empty t) ∙ old in cc)
     | inr new ↦ new
   ]
 
-  entry_at : (i : ℕ) (e : Text × Node) → slice_get n.entries i ≡ Some e → (e.0 ≡ node_text (node_of e.1)) × IsNode p ps (node_of e.1)
+  entry_at : (i : ℕ) (e : Text × Node) → slice_get n.entries i ≡ Some e → (e.0 ≡ node_text (node_of e.1)) × IsListed (node_of e.1)
   entry_at i e at = told e.0 e.1 (btree_map_get_place nat_list_cmp_total n i e.0 e.1 up at)
 
   abbrev Before : Node → Node → Type 0
@@ -40,22 +43,22 @@ module _ (p : PolicyView) (held : IsHeld p.held) (ps : List Who) (tell : (who ot
   in_order : AllPairs (λ y z. text_cmp (node_text y) (node_text z) ≡ Less) (map node_of (values n))
   in_order = pairs_map node_of (λ y z. text_cmp (node_text y) (node_text z) ≡ Less) (values n) (pairs_map (λ e. e.1) Before n.entries entries_in_order)
 
-  is_listed : (y : NodeView) → Contains (map node_of (values n)) y → IsNode p ps y
+  is_listed : (y : NodeView) → Contains (map node_of (values n)) y → IsListed y
   is_listed y c =
       let x = contains_map node_of (values n) y c in
       let e = contains_map (λ e. e.1) n.entries x.0 x.1 in
       let at : slice_get n.entries e.1.0 ≡ Some e.0 = slice_get_read n.entries (length n.entries) e.1.0 e.0 refl e.1.1 (sym e.1.2) in
-      subst (λ z. IsNode p ps z) (ap node_of e.2 ∙ x.2) (entry_at e.1.0 e.0 at).1
+      subst (λ z. IsListed z) (ap node_of e.2 ∙ x.2) (entry_at e.1.0 e.0 at).1
 
-  listed : (y : NodeView) → IsNode p ps y → Contains (map node_of (values n)) y
+  listed : (y : NodeView) → IsListed y → Contains (map node_of (values n)) y
   listed y is =
       let x = some_is (get text_cmp n (node_text y)) (adds.has y is) in
       let own = told (node_text y) x.0 x.1 in
       let at = place_from_lookup (λ k. is_eq (text_cmp (node_text y) k)) n.entries x.0 x.1 in
       let e : Text × Node = (at.1, x.0) in
       let there : Contains n.entries e = (at.0, slice_get_within n.entries at.0 e at.2, get_or_from_slice_get n.entries at.0 e e at.2) in
-      subst (λ z. Contains (map node_of (values n)) z) (sym (one_node p held ps tell y (node_of x.0) is own.1 own.0))
+      subst (λ z. Contains (map node_of (values n)) z) (sym (one_node p held ps tell y (node_of x.0) is.0 own.1.0 own.0))
       (map_contains node_of (values n) x.0 (map_contains (λ e. e.1) n.entries e there))
 
-  pub all_nodes : AreNodes p ps (map node_of (values n))
+  pub all_nodes : AreNodes p ps names (map node_of (values n))
   all_nodes = record { ordered = in_order; exact = λ y. (is_listed y, listed y) }

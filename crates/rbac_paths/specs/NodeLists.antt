@@ -1,5 +1,5 @@
 -- The nodes, and how they are printed.
-use Rattle.std.specs.Prelude.{◌≡◌, ◌↔◌, List, [], ◌++◌, Option, Some, None, AllPairs, Contains, codes}
+use Rattle.std.specs.Prelude.{◌≡◌, ◌≢◌, ◌↔◌, List, [], ◌++◌, Option, Some, None, AllPairs, Contains, codes}
 use Rattle.std.specs.declared.cmp.Ordering.TheVariants.{Less}
 use Rattle.rbac_terms.specs.Text.{Text, text_cmp}
 use Rattle.rbac_terms.specs.Principals.{Who, who_key}
@@ -10,10 +10,10 @@ use Rattle.rbac_text.specs.Row.{field_and_tab}
 use Rattle.rbac_paths.specs.Nodes.{NodeView, Somebody, ClusterRoleIn, OwnRole, EverythingIn}
 
 -- a role can be bound in that namespace, where some RoleBinding is, or, if there is none, in the whole
--- cluster
+-- cluster; no binding is live in the empty namespace
 abbrev pub IsScope : PolicyView → Option Text → Type 0
 IsScope p None = Unit {0}
-IsScope p (Some namespace) = HasRoleBindings p.held namespace
+IsScope p (Some namespace) = HasRoleBindings p.held namespace × (namespace ≢ [])
 
 -- the nodes, with these users and groups among them
 abbrev pub IsNode : PolicyView → List Who → NodeView → Type 0
@@ -21,6 +21,13 @@ IsNode p principals (Somebody who) = Contains principals who
 IsNode p principals (ClusterRoleIn role scope) = Contains p.held.cluster_roles role × IsScope p scope
 IsNode p principals (OwnRole role) = Contains p.held.roles role × IsScope p (Some role.namespace)
 IsNode p principals (EverythingIn scope) = IsScope p scope
+
+-- a role that isn't named among these needn't be listed (own)
+abbrev pub IsNamedOf : List Text → NodeView → Type 0
+IsNamedOf names (Somebody who) = Unit {0}
+IsNamedOf names (ClusterRoleIn role scope) = Contains names role.name
+IsNamedOf names (OwnRole role) = Contains names role.name
+IsNamedOf names (EverythingIn scope) = Unit {0}
 
 -- who or what, and where, as they are printed, each with the tab after it (own)
 abbrev pub node_text : NodeView → Text
@@ -32,7 +39,9 @@ node_text (OwnRole role) =
     ++ choice_and_tab (Some role.namespace)
 node_text (EverythingIn scope) = field_and_tab (codes "*") ++ choice_and_tab scope
 
--- exactly the nodes, in order of who and where as printed (own)
-pub record AreNodes (p : PolicyView) (principals : List Who) (ys : List NodeView) : Type 0 where
+-- exactly the nodes, of the roles those with one of these names, in order of who and where as printed
+-- (own)
+pub record AreNodes (p : PolicyView) (principals : List Who) (names : List Text)
+    (ys : List NodeView) : Type 0 where
   pub ordered : AllPairs (λ y z. text_cmp (node_text y) (node_text z) ≡ Less) ys
-  pub exact : (y : NodeView) → Contains ys y ↔ IsNode p principals y
+  pub exact : (y : NodeView) → Contains ys y ↔ (IsNode p principals y × IsNamedOf names y)

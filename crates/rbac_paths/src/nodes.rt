@@ -2,18 +2,21 @@
 
 ghost use Rattle.std.specs.Prelude.{◌≡◌, ◌≢◌, ◌↔◌, AllPairs, Any, Contains, IfOk, OnOk, Option, map};
 ghost use Rattle.std.specs.BTreeMap.{IsOrdered, values};
+ghost use Rattle.std.specs.List.Sorted.{IsSorted};
 ghost use Rattle.std.specs.Option.{option_copied};
 ghost use Rattle.rbac_terms.specs.Text.{Text, text_cmp};
 ghost use Rattle.rbac_terms.specs.Principals.{who_key};
+ghost use Rattle.rbac_terms.specs.declared.granting.ClusterRole.{ClusterRole};
 ghost use Rattle.rbac_model.specs.Policies.{IsPolicy};
-ghost use Rattle.rbac_paths.specs.AddingNodes.{AddsNodes, IsInScope, IsInSomeScope};
-ghost use Rattle.rbac_paths.specs.AddingNodes.{IsSomeBoundRole, ScopesAreThere};
+ghost use Rattle.rbac_paths.specs.AddingNodes.{AddsNodes, IsInScope, IsInSomeScope, IsNamedRole};
+ghost use Rattle.rbac_paths.specs.AddingNodes.{IsRoleThere, IsSomeBoundRole, ScopesAreThere};
+ghost use Rattle.rbac_paths.specs.AddingNodes.{filled_namespace};
 ghost use Rattle.rbac_paths.specs.NodeLists.{AreNodes, IsScope, node_text};
 ghost use Rattle.rbac_paths.specs.Nodes.{Somebody, node_of};
 
 use crate::node::{Node, put_node};
 use rbac_model::Policy;
-use rbac_terms::{Principal, Word};
+use rbac_terms::{Binding, ClusterRole, Principal, Role, Word, is_among};
 use std::alloc::{AllocError, Global};
 use std::collections::BTreeMap;
 
@@ -21,20 +24,23 @@ use std::collections::BTreeMap;
 type Printed<'p> = BTreeMap<Word, Node<'p>>;
 
 /// The nodes of a policy, these users and groups among them, in order of who and where as they are
-/// printed (own). The keys of the users and groups differ. Fails only if it runs out of memory.
+/// printed; of the roles only those with one of these names (own). The keys of the users and groups
+/// differ, and the names are in byte order. Fails only if it runs out of memory.
 pub(crate) fn nodes_of<'p>(
     alloc: Global,
     policy: &'p Policy,
     principals: &[&'p Principal],
+    names: &[Word],
 ) -> Result<Vec<Node<'p>>, AllocError>
-    requires { AllPairs (λ a b. who_key a.now ≢ who_key b.now) principals.now }
-    ensures { IfOk result (λ nodes.
-        AreNodes policy.now (map (λ who. who.now) principals.now) (map node_of nodes.items)) }
+    requires keys { AllPairs (λ a b. who_key a.now ≢ who_key b.now) principals.now }
+    requires names { IsSorted text_cmp names.now }
+    ensures { IfOk result (λ nodes. AreNodes policy.now (map (λ who. who.now) principals.now)
+        names.now (map node_of nodes.items)) }
 {
     let mut nodes = BTreeMap::new(alloc);
     add_principals(alloc, principals, &mut nodes)?;
-    add_scopes(alloc, policy, &mut nodes)?;
-    add_roles(alloc, policy, &mut nodes)?;
+    add_scopes(alloc, policy, names, &mut nodes)?;
+    add_roles(alloc, policy, names, &mut nodes)?;
     in_order(alloc, &nodes)
 }
 
@@ -65,19 +71,43 @@ fn add_principals<'p>(
 fn add_scopes<'p>(
     alloc: Global,
     policy: &'p Policy,
+    names: &[Word],
     nodes: &mut Printed<'p>,
 ) -> Result<(), AllocError>
-    ensures { OnOk result (AddsNodes (IsInSomeScope policy.now) nodes.old nodes.new) }
+    requires { IsSorted text_cmp names.now }
+    ensures { OnOk result (AddsNodes (IsInSomeScope policy.now names.now) nodes.old nodes.new) }
 {
+    let roles = named_cluster_roles(alloc, policy, names)?;
     let scopes = scopes_of(alloc, policy)?;
     for scope in &scopes {
-        add_in_scope(alloc, policy, *scope, nodes)?;
+        add_in_scope(alloc, roles.as_slice(), *scope, nodes)?;
     }
     Ok(())
 }
 
-// The whole cluster, and each namespace of a RoleBinding. Bindings are in order of these, so each is
-// listed once.
+// The cluster roles with one of these names.
+fn named_cluster_roles<'p>(
+    alloc: Global,
+    policy: &'p Policy,
+    names: &[Word],
+) -> Result<Vec<&'p ClusterRole>, AllocError>
+    requires { IsSorted text_cmp names.now }
+    ensures { IfOk result (λ roles. (role : ClusterRole)
+        → Contains (map (λ each. each.now) roles.items) role
+        ↔ IsNamedRole policy.now.held.cluster_roles names.now role) }
+{
+    let mut named = Vec::new(alloc);
+    for role in policy.objects().cluster_roles() {
+        let name = role.name.as_bytes();
+        if is_among(names, name) {
+            named.push(role)?;
+        }
+    }
+    Ok(named)
+}
+
+// The whole cluster, and each namespace of a RoleBinding, but the empty one. Bindings are in order
+// of these, so each is listed once.
 fn scopes_of<'p>(alloc: Global, policy: &'p Policy) -> Result<Vec<Option<&'p Word>>, AllocError>
     ensures { IfOk result (λ scopes. (scope : Option Text)
         → Contains (map (λ s. option_copied s) scopes.items) scope ↔ IsScope policy.now scope) }
@@ -85,7 +115,7 @@ fn scopes_of<'p>(alloc: Global, policy: &'p Policy) -> Result<Vec<Option<&'p Wor
     let mut last = None;
     let mut scopes = vec![in alloc; last]?;
     for binding in policy.bindings() {
-        let scope = binding.namespace.as_ref();
+        let scope = scope_of(binding);
         if scope != last {
             scopes.push(scope)?;
             last = scope;
@@ -94,38 +124,62 @@ fn scopes_of<'p>(alloc: Global, policy: &'p Policy) -> Result<Vec<Option<&'p Wor
     Ok(scopes)
 }
 
-// Adds everything in a scope, and each cluster role there.
+// The namespace of a binding, if it has one that isn't empty: no binding is live in the empty
+// namespace, so nothing is to be had there.
+fn scope_of(binding: &Binding) -> Option<&Word>
+    ensures { option_copied result ≡ filled_namespace binding.now.namespace }
+{
+    match &binding.namespace {
+        Some(namespace) if !namespace.is_empty() => Some(namespace),
+        _ => None,
+    }
+}
+
+// Adds everything in a scope, and these cluster roles there.
 fn add_in_scope<'p>(
     alloc: Global,
-    policy: &'p Policy,
+    roles: &[&'p ClusterRole],
     scope: Option<&'p Word>,
     nodes: &mut Printed<'p>,
 ) -> Result<(), AllocError>
     ensures { OnOk result
-        (AddsNodes (IsInScope policy.now (option_copied scope.entry)) nodes.old nodes.new) }
+        (AddsNodes (IsInScope roles.now (option_copied scope.entry)) nodes.old nodes.new) }
 {
     add_node(alloc, Node::Everything(scope), nodes)?;
-    for role in policy.objects().cluster_roles() {
-        add_node(alloc, Node::ClusterRole(role, scope), nodes)?;
+    for role in roles {
+        add_node(alloc, Node::ClusterRole(*role, scope), nodes)?;
     }
     Ok(())
 }
 
-// Adds the roles of the scopes that were added before.
+// Adds the roles with one of these names, of the scopes that were added before.
 fn add_roles<'p>(
     alloc: Global,
     policy: &'p Policy,
+    names: &[Word],
     nodes: &mut Printed<'p>,
 ) -> Result<(), AllocError>
-    requires { ScopesAreThere policy.now nodes.old }
-    ensures added { OnOk result (AddsNodes (IsSomeBoundRole policy.now) nodes.old nodes.new) }
+    requires names { IsSorted text_cmp names.now }
+    requires scopes { ScopesAreThere policy.now nodes.old }
+    ensures added { OnOk result
+        (AddsNodes (IsSomeBoundRole policy.now names.now) nodes.old nodes.new) }
     ensures policy { OnOk result (IsPolicy policy.now) }
 {
     for role in policy.objects().roles() {
-        let scope = text_of(alloc, Node::Everything(Some(&role.namespace)))?;
-        if nodes.contains_key(&scope) {
-            add_node(alloc, Node::Role(role), nodes)?;
+        if is_among(names, role.name.as_bytes()) {
+            add_role(alloc, role, nodes)?;
         }
+    }
+    Ok(())
+}
+
+// Adds a role, if its namespace is among the scopes that were added before.
+fn add_role<'p>(alloc: Global, role: &'p Role, nodes: &mut Printed<'p>) -> Result<(), AllocError>
+    ensures { OnOk result (AddsNodes (IsRoleThere nodes.old role.now) nodes.old nodes.new) }
+{
+    let scope = text_of(alloc, Node::Everything(Some(&role.namespace)))?;
+    if nodes.contains_key(&scope) {
+        add_node(alloc, Node::Role(role), nodes)?;
     }
     Ok(())
 }

@@ -4,4 +4,4 @@ use Rattle.rbac_paths.specs.AddingNodes.{AddsNodes, IsInScope}
 use Rattle.rbac_paths.proofs.nodes.add_scopes.Given as goal
 
 abbrev pub invariant-loop-scope : goal.invariant-loop-scope
-invariant-loop-scope l = AddsNodes (λ y. Any (λ scope. IsInScope l.policy (option_copied scope) y) (take l.scope-index l.scope-items)) l.initial.nodes l.nodes
+invariant-loop-scope l = AddsNodes (λ y. Any (λ scope. IsInScope l.roles.items (option_copied scope) y) (take l.scope-index l.scope-items)) l.initial.nodes l.nodes

@@ -6,6 +6,7 @@ use Rattle.std.proofs.lemmas.List.{take_all}
 use Rattle.rbac_terms.specs.Text.{Text}
 use Rattle.rbac_terms.specs.declared.granting.Binding.{Binding}
 use Rattle.rbac_model.proofs.Stairs.{take_read}
+use Rattle.rbac_paths.specs.AddingNodes.{filled_namespace}
 use Rattle.rbac_paths.proofs.Scopes.{AreScopesOf, all_scopes, same_option, scopes_none, scopes_pushed, scopes_same}
 use Rattle.rbac_paths.proofs.nodes.scopes_of.Goals as goal
 use Rattle.rbac_paths.proofs.nodes.scopes_of.Goals.{then-ne+in_ok-push, else-ne}
@@ -21,13 +22,13 @@ loop-binding-preserved c =
     let items = c.bindings-binding-items.result.now in
     let i = c.loop-binding.binding-index in
     let b = c.binding-item.result in
-    let own : copied c.as_ref-scope.result ≡ b.namespace = c.as_ref-scope.ensures.value in
+    let own : copied c.scope_of-scope.result ≡ filled_namespace b.namespace = c.scope_of-scope.ensures in
     let passed = take_read items i b c.loop-binding-test.true c.binding-item.is in
     elim c.if-ne.branch [
       | then-ne+in_ok-push w ↦ rw (w.last-is, w.scopes-is)
-          (scopes_pushed copied (take i items) (take (i + 1) items) b c.loop-binding.scopes.items w.push.new.self.items c.loop-binding.last c.as_ref-scope.result
+          (scopes_pushed copied (take i items) (take (i + 1) items) b c.loop-binding.scopes.items w.push.new.self.items c.loop-binding.last c.scope_of-scope.result
           passed w.in_ok-push.ensures.items own c.loop-binding.invariant)
-      | else-ne w ↦ (let same = same_option c.as_ref-scope.result c.loop-binding.last (not-false (option_eq (λ x y. bytes_eq x.now y.now) c.as_ref-scope.result c.loop-binding.last) (sym c.ne.ensures ∙ w.if-ne.false)) in
+      | else-ne w ↦ (let same = same_option c.scope_of-scope.result c.loop-binding.last (not-false (option_eq (λ x y. bytes_eq x.now y.now) c.scope_of-scope.result c.loop-binding.last) (sym c.ne.ensures ∙ w.if-ne.false)) in
           rw (w.last-is, w.scopes-is)
           (subst (λ (bs : List Binding). AreScopesOf bs (map copied c.loop-binding.scopes.items) (copied c.loop-binding.last)) (sym passed)
           (scopes_same (take i items) b (map copied c.loop-binding.scopes.items) (copied c.loop-binding.last) c.loop-binding.invariant (sym own ∙ same))))
