@@ -7,8 +7,8 @@ pub mod Allowing
 pub mod Asking
 pub mod ByRules
 pub mod Choosing
-pub mod GatheredRoles
 pub mod Entries
+pub mod GatheredRoles
 pub mod Gathering
 pub mod GivenGrants
 pub mod Giving
@@ -18,10 +18,14 @@ pub mod NodeWords
 pub mod NodesAdded
 pub mod NodesInOrder
 pub mod OnePowers
+pub mod PrincipalsWith
 pub mod RolePlaces
 pub mod RoleRules
-pub mod PrincipalsWith
+pub mod RuleWords
 pub mod Scopes
+pub mod SharedWords
 pub mod Taken
 pub mod Telling
 pub mod Untold
+pub mod WordsAdded
+pub mod WordsOfWhom

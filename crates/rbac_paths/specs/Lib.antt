@@ -9,6 +9,7 @@ pub mod Nodes
 pub mod Powers
 pub mod Principals
 pub mod Rows
+pub mod SharedWords
 pub mod Steps
 pub mod Taking
 pub mod TakingOver

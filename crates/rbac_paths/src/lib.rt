@@ -17,6 +17,7 @@ mod table;
 mod taking;
 mod taking_over;
 mod told;
+mod words;
 
 pub use all_steps::powers;
 pub use laws::powers_are_one;

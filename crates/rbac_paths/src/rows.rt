@@ -26,12 +26,12 @@ use std::marker::Model;
 #[derive(Drop)]
 pub(crate) struct WordRow {
     step: Step,
-    names: Names,
-    counts: Counts,
+    pub(crate) names: Names,
+    pub(crate) counts: Counts,
     verbs: Words,
     group: Word,
     resources: Words,
-    over: Over,
+    pub(crate) over: Over,
 }
 
 impl Model for WordRow {
@@ -143,7 +143,7 @@ impl WordRow {
     }
 
     // Whether the rule matches a verb, the API group and a resource of the row.
-    fn matches(&self, rule: &Rule) -> bool
+    pub(crate) fn matches(&self, rule: &Rule) -> bool
         ensures { IsTrue result ↔ MatchesRow self.now rule.now }
     {
         self.has_verb_of(rule) && group_matches(rule, &self.group) && self.has_resource_of(rule)
@@ -181,7 +181,7 @@ impl WordRow {
 }
 
 // Whether the rule's names match this object name.
-fn has_name(rule: &Rule, name: &[u8]) -> bool
+pub(crate) fn has_name(rule: &Rule, name: &[u8]) -> bool
     ensures { IsTrue result ↔ NameMatches rule.now.resource_names name.now }
 {
     rule.resource_names.is_empty() || rule.resource_names.contains_bytes(name)

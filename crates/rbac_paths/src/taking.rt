@@ -123,14 +123,14 @@ fn scope_namespace(scope: Option<&Word>) -> &[u8]
 }
 
 // Whether this is a user, and not a member of a group.
-fn is_user(who: &Principal) -> bool
+pub(crate) fn is_user(who: &Principal) -> bool
     ensures { IsTrue result ↔ IsAnyUser who.now }
 {
     who.key().as_bytes().first() == Some(&b'u')
 }
 
 // The namespace and the name of a service account.
-fn account_parts(who: &Principal) -> Option<(&[u8], &[u8])>
+pub(crate) fn account_parts(who: &Principal) -> Option<(&[u8], &[u8])>
     ensures { MatchOption result
         ((n m : Text) → ¬ IsAccountNamed who.now n m)
         (λ parts. (n m : Text) → IsAccountNamed who.now n m ↔ ((n ≡ parts.0.now) × (m ≡ parts.1.now))) }

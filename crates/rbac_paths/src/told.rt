@@ -5,6 +5,8 @@ ghost use Rattle.std.specs.Option.{option_copied};
 ghost use Rattle.rbac_model.specs.Policies.{IsPolicy, PolicyView};
 ghost use Rattle.rbac_paths.specs.Having.{AreHoldings};
 ghost use Rattle.rbac_paths.specs.Nodes.{ClusterRoleIn, node_of};
+ghost use Rattle.rbac_paths.specs.Rows.{AreOfStep};
+ghost use Rattle.rbac_paths.specs.Steps.{table};
 ghost use Rattle.rbac_paths.specs.TakingOver.{GoesOn, TakesOver, Writes};
 ghost use Rattle.rbac_paths.specs.Told.{HoldingTakes, HoldingsBind, HoldingsHaveAll, HoldingsTake};
 ghost use Rattle.rbac_paths.specs.Told.{HoldingsTell, IsFirstTold, IsUntoldOf};
@@ -43,6 +45,13 @@ impl StepRows {
     {
         let rows = rows_of(alloc, step)?;
         Ok(StepRows { step, rows })
+    }
+
+    // The rows of the table that are of the step.
+    pub(crate) fn rows(&self) -> &[WordRow]
+        ensures { AreOfStep self.now table result.now }
+    {
+        self.rows.as_slice()
     }
 
     // The step.

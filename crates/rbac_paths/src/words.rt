@@ -1,0 +1,238 @@
+//! The words by which users and groups can be had, and those that rules take.
+
+ghost use Rattle.std.specs.Prelude.{◌≡◌, ◌⊎◌, ◌↔◌, ◌∷◌, ◌++◌, [], Any, Contains, IfOk, IsTrue, MatchOption, None, OnOk, Some, map};
+ghost use Rattle.std.specs.Option.{option_copied};
+ghost use Rattle.rbac_terms.specs.Principals.{IsPart, account_user};
+ghost use Rattle.rbac_terms.specs.Text.{Text};
+ghost use Rattle.rbac_paths.specs.SharedWords.{AddsWords, AreHadBy, IsWordFor, LetsName, StepTakesWord, TakeWord, TakesWord};
+ghost use Rattle.rbac_paths.specs.SharedWords.{chosen_word};
+ghost use Rattle.rbac_paths.specs.declared.table.Counts.TheVariants as counted;
+ghost use Rattle.rbac_paths.specs.declared.table.Over.TheVariants as over;
+
+use crate::holding::Holding;
+use crate::rows::{WordRow, has_name};
+use crate::table::{Counts, Names, Over};
+use crate::taking::{account_parts, is_user};
+use crate::told::StepRows;
+use rbac_terms::{Principal, Rule, Word, Words, account_user};
+use std::alloc::{AllocError, Global};
+
+/// The words by which somebody can be had.
+pub(crate) fn words_of_whom(alloc: Global, who: &Principal) -> Result<Words, AllocError>
+    ensures { IfOk result (AreHadBy who.now) }
+{
+    match account_parts(who) {
+        Some((namespace, name)) => marked(
+            alloc,
+            &[
+                (b'A', b"".as_slice()),
+                (b'B', namespace),
+                (b'C', name),
+                (b'D', who.name()),
+            ],
+        ),
+        None if is_user(who) => marked(alloc, &[(b'U', b"".as_slice()), (b'V', who.name())]),
+        None => marked(alloc, &[(b'G', b"".as_slice()), (b'H', who.name())]),
+    }
+}
+
+// These texts as words, each behind its mark.
+fn marked(alloc: Global, parts: &[(u8, &[u8])]) -> Result<Words, AllocError>
+    ensures { IfOk result (λ ws. ws ≡ map (λ part. part.0 ∷ part.1.now) parts.now) }
+{
+    let mut words = Words::new(alloc);
+    for (mark, text) in parts {
+        words.push(word(alloc, *mark, text)?)?;
+    }
+    Ok(words)
+}
+
+// The text as a word, behind its mark.
+fn word(alloc: Global, mark: u8, text: &[u8]) -> Result<Word, AllocError>
+    ensures { IfOk result (λ w. w ≡ mark ∷ text.now) }
+{
+    let mut word = Word::new(alloc);
+    word.push(mark)?;
+    word.push_slice(text)?;
+    Ok(word)
+}
+
+/// The words that these holdings take by these steps, in any order; one may be there more than once.
+pub(crate) fn taken_words(
+    alloc: Global,
+    steps: &[StepRows],
+    holdings: &[Holding<'_>],
+) -> Result<Words, AllocError>
+    ensures { IfOk result (λ ws. (w : Text) → Contains ws w ↔ TakeWord steps.now holdings.now w) }
+{
+    let mut words = Words::new(alloc);
+    for held in holdings {
+        add_of_holding(alloc, steps, held, &mut words)?;
+    }
+    Ok(words)
+}
+
+// Adds the words that a holding takes by these steps.
+fn add_of_holding(
+    alloc: Global,
+    steps: &[StepRows],
+    held: &Holding<'_>,
+    words: &mut Words,
+) -> Result<(), AllocError>
+    ensures { OnOk result (AddsWords
+        (λ w. Any (StepTakesWord held.now.home held.now.rule w) steps.now) words.old words.new) }
+{
+    for step in steps {
+        add_of_step(alloc, step, held, words)?;
+    }
+    Ok(())
+}
+
+// Adds the words that a holding takes by a step.
+fn add_of_step(
+    alloc: Global,
+    step: &StepRows,
+    held: &Holding<'_>,
+    words: &mut Words,
+) -> Result<(), AllocError>
+    ensures { OnOk result (AddsWords
+        (λ w. StepTakesWord held.now.home held.now.rule w step.now) words.old words.new) }
+{
+    for row in step.rows() {
+        row.add_words(alloc, held.home, held.rule, words)?;
+    }
+    Ok(())
+}
+
+impl WordRow {
+    // Adds the words that a rule takes by the row where a binding in this namespace, or in none, is
+    // live.
+    fn add_words(
+        &self,
+        alloc: Global,
+        home: Option<&Word>,
+        rule: &Rule,
+        words: &mut Words,
+    ) -> Result<(), AllocError>
+        ensures { OnOk result (AddsWords (TakesWord self.now (option_copied home.entry) rule.now)
+            words.old words.new) }
+    {
+        if !self.matches(rule) {
+            return Ok(());
+        }
+        if self.lets_any(rule) {
+            return self.add_word(alloc, home, None, words);
+        }
+        match self.names {
+            Names::Own => self.add_named(alloc, home, rule.resource_names.as_slice(), words),
+            Names::None | Names::Any => Ok(()),
+        }
+    }
+
+    // Whether the rule's names let the row's requests be for anything.
+    fn lets_any(&self, rule: &Rule) -> bool
+        ensures { IsTrue result ↔ LetsName self.now.names rule.now None }
+    {
+        match self.names {
+            Names::None => has_name(rule, b""),
+            Names::Own => rule.resource_names.is_empty(),
+            Names::Any => true,
+        }
+    }
+
+    // Adds the words for whom the row takes over, of each of these names.
+    fn add_named(
+        &self,
+        alloc: Global,
+        home: Option<&Word>,
+        names: &[Word],
+        words: &mut Words,
+    ) -> Result<(), AllocError>
+        ensures { OnOk result (AddsWords (λ w. Any (λ name.
+            IsWordFor self.now.over self.now.counts (option_copied home.entry) (Some name) w) names.now)
+            words.old words.new) }
+    {
+        for name in names {
+            self.add_word(alloc, home, Some(name), words)?;
+        }
+        Ok(())
+    }
+
+    // Adds the word for whom the row takes over, of this name or of any, if there is one.
+    fn add_word(
+        &self,
+        alloc: Global,
+        home: Option<&Word>,
+        name: Option<&Word>,
+        words: &mut Words,
+    ) -> Result<(), AllocError>
+        ensures { OnOk result (AddsWords
+            (IsWordFor self.now.over self.now.counts (option_copied home.entry) (option_copied name.entry))
+            words.old words.new) }
+    {
+        if let Some(word) = self.word_for(alloc, home, name)? {
+            words.push(word)?;
+        }
+        Ok(())
+    }
+
+    // The word for whom the row takes over where a binding in this namespace, or in none, is live, of
+    // this name or of any.
+    fn word_for(
+        &self,
+        alloc: Global,
+        home: Option<&Word>,
+        name: Option<&Word>,
+    ) -> Result<Option<Word>, AllocError>
+        ensures { IfOk result (λ o. MatchOption o
+            ((w : Text) → ¬ IsWordFor self.now.over self.now.counts
+            (option_copied home.entry) (option_copied name.entry) w)
+            (λ word. (w : Text) → IsWordFor self.now.over self.now.counts
+            (option_copied home.entry) (option_copied name.entry) w ↔ (w ≡ word))) }
+    {
+        match (self.over, home) {
+            (Over::Users, None) => Ok(Some(chosen(alloc, (b'U', b'V'), name)?)),
+            (Over::Groups, None) => Ok(Some(chosen(alloc, (b'G', b'H'), name)?)),
+            (Over::Accounts, None) => Ok(Some(chosen(alloc, (b'A', b'C'), name)?)),
+            (Over::Accounts, Some(home)) if self.counts == Counts::InNamespaces => {
+                account_word(alloc, home, name)
+            }
+            _ => Ok(None),
+        }
+    }
+}
+
+// The first mark alone for any, and the second with the name.
+fn chosen(alloc: Global, marks: (u8, u8), name: Option<&Word>) -> Result<Word, AllocError>
+    ensures { IfOk result (λ w. w ≡ chosen_word marks.0 marks.1 (option_copied name.entry)) }
+{
+    match name {
+        None => word(alloc, marks.0, b""),
+        Some(name) => word(alloc, marks.1, name.as_bytes()),
+    }
+}
+
+// The word for service accounts of this namespace: of any, or of that with this name.
+fn account_word(alloc: Global, home: &Word, name: Option<&Word>) -> Result<Option<Word>, AllocError>
+    ensures { IfOk result (λ o. MatchOption o
+        ((w : Text) → ¬ IsWordFor over.Accounts counted.InNamespaces
+        (Some home.now) (option_copied name.entry) w)
+        (λ word. (w : Text) → IsWordFor over.Accounts counted.InNamespaces
+        (Some home.now) (option_copied name.entry) w ↔ (w ≡ word))) }
+{
+    match name {
+        None => Ok(Some(word(alloc, b'B', home.as_bytes())?)),
+        Some(name) if is_part(home) && is_part(name) => {
+            let user = account_user(alloc, home, name)?;
+            Ok(Some(word(alloc, b'D', user.as_bytes())?))
+        }
+        Some(_) => Ok(None),
+    }
+}
+
+// Whether the word can be a part of a service account's user name.
+fn is_part(word: &Word) -> bool
+    ensures { IsTrue result ↔ IsPart word.now }
+{
+    !word.is_empty() && !word.as_bytes().contains(&b':')
+}
