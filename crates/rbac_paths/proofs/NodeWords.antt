@@ -12,21 +12,14 @@ use Rattle.rbac_model.proofs.OneList.{one_of_name}
 use Rattle.rbac_text.specs.Choice.{choice_and_tab, choice_text}
 use Rattle.rbac_text.specs.Row.{field_and_tab, tab}
 use Rattle.rbac_text.proofs.Choices.{choice_text-one, field-one}
-use Rattle.rbac_paths.specs.NodeLists.{IsNode, node_text}
+use Rattle.rbac_paths.specs.NodeLists.{IsNode, node_text, where_text, who_or_what}
 use Rattle.rbac_paths.specs.Nodes.{NodeView, Somebody, ClusterRoleIn, OwnRole, EverythingIn}
-use Rattle.rbac_paths.specs.NodeTexts.{who_or_what, where_text}
 use Rattle.rbac_paths.proofs.Mapped.{contains_map}
 
 -- ---- the two fields
 
-pub two_fields : (y : NodeView) → node_text y ≡ field_and_tab (who_or_what y) ++ where_text y
-two_fields (Somebody who) = refl
-two_fields (ClusterRoleIn role scope) = refl
-two_fields (OwnRole role) = refl
-two_fields (EverythingIn scope) = refl
-
 pub same_fields : (y z : NodeView) → node_text y ≡ node_text z → (who_or_what y ≡ who_or_what z) × (where_text y ≡ where_text z)
-same_fields y z e = field-one (who_or_what y) (who_or_what z) (where_text y) (where_text z) (sym (two_fields y) ∙ e ∙ two_fields z)
+same_fields y z e = field-one (who_or_what y) (who_or_what z) (where_text y) (where_text z) e
 
 same_scope : (s t : Option Text) → choice_and_tab s ≡ choice_and_tab t → s ≡ t
 same_scope s t e = choice_text-one s t (same_from_push (choice_text s) (choice_text t) tab tab e).0

@@ -47,8 +47,10 @@ HasRoleRule h role rule = (rules : List SourcedRule) × AreRulesOf h role rules
 abbrev pub IsHolding : PolicyView → NodeView → HoldingView → Type 0
 IsHolding p (Somebody who) h = Any (λ g. BindingNames g.binding who × (g.binding.namespace ≡ h.home)
     × (g.rule.rule ≡ h.rule)) p.grants
-IsHolding p (ClusterRoleIn role scope) h = (scope ≡ h.home) × HasRoleRule p.held (InClusterRole role) h.rule
-IsHolding p (OwnRole role) h = (Some role.namespace ≡ h.home) × HasRoleRule p.held (InRole role) h.rule
+IsHolding p (ClusterRoleIn role scope) h = (scope ≡ h.home)
+    × HasRoleRule p.held (InClusterRole role) h.rule
+IsHolding p (OwnRole role) h = (Some role.namespace ≡ h.home)
+    × HasRoleRule p.held (InRole role) h.rule
 IsHolding p (EverythingIn scope) h = (scope ≡ h.home) × (rule_of_all ≡ h.rule)
 
 -- exactly what the node has

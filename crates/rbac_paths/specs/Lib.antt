@@ -4,7 +4,6 @@ pub mod Finding
 pub mod Having
 pub mod Lines
 pub mod NodeLists
-pub mod NodeTexts
 pub mod Nodes
 pub mod Powers
 pub mod Principals

@@ -1,5 +1,6 @@
 -- The nodes, and how they are printed.
-use Rattle.std.specs.Prelude.{◌≡◌, ◌≢◌, ◌↔◌, List, [], ◌++◌, Option, Some, None, AllPairs, Contains, codes}
+use Rattle.std.specs.Prelude.{◌≡◌, ◌≢◌, ◌↔◌, List, [], ◌++◌, Option, Some, None, AllPairs}
+use Rattle.std.specs.Prelude.{Contains, codes}
 use Rattle.std.specs.declared.cmp.Ordering.TheVariants.{Less}
 use Rattle.rbac_terms.specs.Text.{Text, text_cmp}
 use Rattle.rbac_terms.specs.Principals.{Who, who_key}
@@ -29,15 +30,23 @@ IsNamedOf names (ClusterRoleIn role scope) = Contains names role.name
 IsNamedOf names (OwnRole role) = Contains names role.name
 IsNamedOf names (EverythingIn scope) = Unit {0}
 
+-- who or what a node is
+abbrev pub who_or_what : NodeView → Text
+who_or_what (Somebody who) = who_key who
+who_or_what (ClusterRoleIn role scope) = codes "ClusterRole/" ++ role.name
+who_or_what (OwnRole role) = codes "Role/" ++ role.namespace ++ codes "/" ++ role.name
+who_or_what (EverythingIn scope) = codes "*"
+
+-- where it is, as printed, with the tab after it: a user or a group is nowhere
+abbrev pub where_text : NodeView → Text
+where_text (Somebody who) = field_and_tab []
+where_text (ClusterRoleIn role scope) = choice_and_tab scope
+where_text (OwnRole role) = choice_and_tab (Some role.namespace)
+where_text (EverythingIn scope) = choice_and_tab scope
+
 -- who or what, and where, as they are printed, each with the tab after it (own)
 abbrev pub node_text : NodeView → Text
-node_text (Somebody who) = field_and_tab (who_key who) ++ field_and_tab []
-node_text (ClusterRoleIn role scope) =
-    field_and_tab (codes "ClusterRole/" ++ role.name) ++ choice_and_tab scope
-node_text (OwnRole role) =
-    field_and_tab (codes "Role/" ++ role.namespace ++ codes "/" ++ role.name)
-    ++ choice_and_tab (Some role.namespace)
-node_text (EverythingIn scope) = field_and_tab (codes "*") ++ choice_and_tab scope
+node_text y = field_and_tab (who_or_what y) ++ where_text y
 
 -- exactly the nodes, of the roles those with one of these names, in order of who and where as printed
 -- (own)

@@ -1,6 +1,7 @@
 -- The words by which users and groups can be had, and those that rules take: a rule lets one take over
 -- somebody exactly if it takes a word by which they can be had (own).
-use Rattle.std.specs.Prelude.{◌≡◌, ◌⊎◌, ◌↔◌, ℕ, List, [], ◌∷◌, ◌++◌, Option, Some, None, Any, Contains, codes}
+use Rattle.std.specs.Prelude.{◌≡◌, ◌⊎◌, ◌↔◌, ℕ, List, [], ◌∷◌, ◌++◌, Option, Some, None}
+use Rattle.std.specs.Prelude.{Any, Contains, codes}
 use Rattle.rbac_terms.specs.Text.{Text}
 use Rattle.rbac_terms.specs.Principals.{Who, AsUser, AsMember, IsPart, account_user}
 use Rattle.rbac_terms.specs.Matching.{NameMatches}

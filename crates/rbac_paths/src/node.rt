@@ -2,9 +2,8 @@
 
 ghost use Rattle.std.specs.Prelude.{◌≡◌, ◌++◌, OnOk, codes};
 ghost use Rattle.rbac_text.specs.Row.{field_and_tab};
-ghost use Rattle.rbac_paths.specs.NodeLists.{node_text};
+ghost use Rattle.rbac_paths.specs.NodeLists.{node_text, where_text, who_or_what};
 ghost use Rattle.rbac_paths.specs.Nodes.{node_of};
-ghost use Rattle.rbac_paths.specs.NodeTexts.{who_or_what, where_text};
 
 use rbac_terms::{CLUSTER_ROLE, ClusterRole, Principal, Role, Word};
 use rbac_text::{put_choice_and_tab, put_field_and_tab, put_role};

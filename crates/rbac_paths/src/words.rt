@@ -1,11 +1,13 @@
-//! The words by which users and groups can be had, and those that rules take.
+//! The words by which users and groups can be had, and those that rules take: each has a mark that
+//! says what it is about, and then a namespace, a name or nothing.
 
-ghost use Rattle.std.specs.Prelude.{◌≡◌, ◌⊎◌, ◌↔◌, ◌∷◌, ◌++◌, [], Any, Contains, IfOk, IsTrue, MatchOption, None, OnOk, Some, map};
+ghost use Rattle.std.specs.Prelude.{◌≡◌, ◌↔◌, ◌∷◌, Any, Contains, IfOk, IsTrue, MatchOption, None};
+ghost use Rattle.std.specs.Prelude.{OnOk, Some, map};
 ghost use Rattle.std.specs.Option.{option_copied};
-ghost use Rattle.rbac_terms.specs.Principals.{IsPart, account_user};
+ghost use Rattle.rbac_terms.specs.Principals.{IsPart};
 ghost use Rattle.rbac_terms.specs.Text.{Text};
-ghost use Rattle.rbac_paths.specs.SharedWords.{AddsWords, AreHadBy, IsWordFor, LetsName, StepTakesWord, TakeWord, TakesWord};
-ghost use Rattle.rbac_paths.specs.SharedWords.{chosen_word};
+ghost use Rattle.rbac_paths.specs.SharedWords.{AddsWords, AreHadBy, IsWordFor, LetsName};
+ghost use Rattle.rbac_paths.specs.SharedWords.{StepTakesWord, TakeWord, TakesWord, chosen_word};
 ghost use Rattle.rbac_paths.specs.declared.table.Counts.TheVariants as counted;
 ghost use Rattle.rbac_paths.specs.declared.table.Over.TheVariants as over;
 
@@ -17,6 +19,25 @@ use crate::told::StepRows;
 use rbac_terms::{Principal, Rule, Word, Words, account_user};
 use std::alloc::{AllocError, Global};
 
+// The marks of words for service accounts: any, any of a namespace, any of a name, and the one.
+const ANY_ACCOUNT: u8 = b'A';
+
+const ACCOUNT_OF: u8 = b'B';
+
+const ACCOUNT_NAMED: u8 = b'C';
+
+const THAT_ACCOUNT: u8 = b'D';
+
+// Those of words for groups: any, and the one.
+const ANY_GROUP: u8 = b'G';
+
+const THAT_GROUP: u8 = b'H';
+
+// Those of words for users who are no service accounts: any, and the one.
+const ANY_USER: u8 = b'U';
+
+const THAT_USER: u8 = b'V';
+
 /// The words by which somebody can be had.
 pub(crate) fn words_of_whom(alloc: Global, who: &Principal) -> Result<Words, AllocError>
     ensures { IfOk result (AreHadBy who.now) }
@@ -25,14 +46,20 @@ pub(crate) fn words_of_whom(alloc: Global, who: &Principal) -> Result<Words, All
         Some((namespace, name)) => marked(
             alloc,
             &[
-                (b'A', b"".as_slice()),
-                (b'B', namespace),
-                (b'C', name),
-                (b'D', who.name()),
+                (ANY_ACCOUNT, b"".as_slice()),
+                (ACCOUNT_OF, namespace),
+                (ACCOUNT_NAMED, name),
+                (THAT_ACCOUNT, who.name()),
             ],
         ),
-        None if is_user(who) => marked(alloc, &[(b'U', b"".as_slice()), (b'V', who.name())]),
-        None => marked(alloc, &[(b'G', b"".as_slice()), (b'H', who.name())]),
+        None if is_user(who) => marked(
+            alloc,
+            &[(ANY_USER, b"".as_slice()), (THAT_USER, who.name())],
+        ),
+        None => marked(
+            alloc,
+            &[(ANY_GROUP, b"".as_slice()), (THAT_GROUP, who.name())],
+        ),
     }
 }
 
@@ -148,9 +175,9 @@ impl WordRow {
         names: &[Word],
         words: &mut Words,
     ) -> Result<(), AllocError>
-        ensures { OnOk result (AddsWords (λ w. Any (λ name.
-            IsWordFor self.now.over self.now.counts (option_copied home.entry) (Some name) w) names.now)
-            words.old words.new) }
+        ensures { OnOk result (AddsWords (λ w. Any
+            (λ name. IsWordFor self.now.over self.now.counts (option_copied home.entry)
+            (Some name) w) names.now) words.old words.new) }
     {
         for name in names {
             self.add_word(alloc, home, Some(name), words)?;
@@ -191,9 +218,9 @@ impl WordRow {
             (option_copied home.entry) (option_copied name.entry) w ↔ (w ≡ word))) }
     {
         match (self.over, home) {
-            (Over::Users, None) => Ok(Some(chosen(alloc, (b'U', b'V'), name)?)),
-            (Over::Groups, None) => Ok(Some(chosen(alloc, (b'G', b'H'), name)?)),
-            (Over::Accounts, None) => Ok(Some(chosen(alloc, (b'A', b'C'), name)?)),
+            (Over::Users, None) => Ok(Some(chosen(alloc, (ANY_USER, THAT_USER), name)?)),
+            (Over::Groups, None) => Ok(Some(chosen(alloc, (ANY_GROUP, THAT_GROUP), name)?)),
+            (Over::Accounts, None) => Ok(Some(chosen(alloc, (ANY_ACCOUNT, ACCOUNT_NAMED), name)?)),
             (Over::Accounts, Some(home)) if self.counts == Counts::InNamespaces => {
                 account_word(alloc, home, name)
             }
@@ -221,10 +248,10 @@ fn account_word(alloc: Global, home: &Word, name: Option<&Word>) -> Result<Optio
         (Some home.now) (option_copied name.entry) w ↔ (w ≡ word))) }
 {
     match name {
-        None => Ok(Some(word(alloc, b'B', home.as_bytes())?)),
+        None => Ok(Some(word(alloc, ACCOUNT_OF, home.as_bytes())?)),
         Some(name) if is_part(home) && is_part(name) => {
             let user = account_user(alloc, home, name)?;
-            Ok(Some(word(alloc, b'D', user.as_bytes())?))
+            Ok(Some(word(alloc, THAT_ACCOUNT, user.as_bytes())?))
         }
         Some(_) => Ok(None),
     }
