@@ -4,7 +4,7 @@ use Rattle.std.specs.Prelude.{◌||◌}
 use Rattle.std.specs.Str.{bytes_eq}
 use Rattle.std.proofs.lemmas.Slice.Eq.{bytes_eq-Decides}
 use Rattle.clap.specs.Words.{Row, Text, first_of}
-use Rattle.rbac_question.specs.Lines.{CanIParts, WhoCanParts, RulesParts, MatrixParts, LintParts, MeansCanI, MeansWhoCan, MeansRules, MeansMatrix, MeansLint, MeansDiff, AcceptsCanI, AcceptsQuestion, RefusesCanI, RefusesQuestion, RefusesRules, RefusesMatrix, RefusesLint, RefusesDiff, HasBadToken, IsAfter}
+use Rattle.rbac_question.specs.Lines.{CanIParts, WhoCanParts, RulesParts, MatrixParts, LintParts, MeansCanI, MeansWhoCan, MeansRules, MeansMatrix, MeansLint, MeansDiff, AcceptsCanI, AcceptsQuestion, RefusesCanI, RefusesQuestion, RefusesRules, RefusesMatrix, RefusesLint, RefusesDiff, HasBadToken, IsMarkGiven}
 use Rattle.rbac_question.specs.declared.command.Action.{Action}
 use Rattle.rbac_question.specs.declared.command.Action.TheVariants.{CanI, WhoCan, Rules, Matrix, Universe, Lint, Powers, Diff}
 use Rattle.rbac_question.specs.declared.fault.QuestionFault.{QuestionFault}
@@ -149,7 +149,7 @@ matrix_line name rows l (Ok (CanI principal quiet why question)) e v f n h = abs
 matrix_line name rows l (Ok (WhoCan options question)) e v f n h = absurd h
 matrix_line name rows l (Ok (Rules principal scope)) e v f n h = absurd h
 matrix_line name rows l (Ok (Matrix options after limit)) e v f n h =
-    (e, h.0 ∙ v, subst (λ (t : _). IsAfter t after) f h.1, subst (λ (m : _). IsNumberAt (codes "limit") rows m) (sym h.2) n)
+    (e, h.0 ∙ v, subst (λ (t : _). IsMarkGiven t after) f h.1, subst (λ (m : _). IsNumberAt (codes "limit") rows m) (sym h.2) n)
 matrix_line name rows l (Ok (Lint only skip_system)) e v f n h = absurd h
 matrix_line name rows l (Ok Universe) e v f n h = absurd h
 matrix_line name rows l (Ok Powers) e v f n h = absurd h

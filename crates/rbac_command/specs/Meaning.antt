@@ -9,7 +9,7 @@ use Rattle.clap.specs.Kinds.{IsAmong}
 use Rattle.rbac_question.specs.Lines.{QuestionParts, CanIParts, WhoCanParts, RulesParts, LintParts}
 use Rattle.rbac_question.specs.Lines.{MeansCanI, MeansWhoCan, MeansRules, MeansLint, AcceptsCanI}
 use Rattle.rbac_question.specs.Lines.{AcceptsQuestion, RefusesCanI, RefusesQuestion, HasBadToken}
-use Rattle.rbac_question.specs.Lines.{HasBadPrincipal, HasBadCode, HasBadChange, IsAfter, MeansDiff}
+use Rattle.rbac_question.specs.Lines.{HasBadPrincipal, HasBadCode, HasBadChange, IsMarkGiven, MeansDiff}
 use Rattle.rbac_question.specs.declared.command.Action.{Action}
 use Rattle.rbac_question.specs.declared.command.Action.TheVariants.{CanI, WhoCan, Rules, Matrix}
 use Rattle.rbac_question.specs.declared.command.Action.TheVariants.{Universe, Lint, Powers, Diff}
@@ -130,7 +130,7 @@ DoesAction name rows (Rules principal scope) =
     (name ≡ codes "rules") × MeansRules (rules_line_in rows) (Rules principal scope)
 DoesAction name rows (Matrix options after limit) =
     (name ≡ codes "matrix") × (options ≡ matrix_options_in rows)
-    × IsAfter (first_of (codes "after") rows) after × IsNumberAt (codes "limit") rows limit
+    × IsMarkGiven (first_of (codes "after") rows) after × IsNumberAt (codes "limit") rows limit
 DoesAction name rows Universe = name ≡ codes "universe"
 DoesAction name rows (Lint only skip_system) =
     (name ≡ codes "lint") × MeansLint (lint_in rows) (Lint only skip_system)

@@ -144,16 +144,16 @@ MeansRules l (Rules principal scope) = NamesPrincipal l principal
 MeansRules l action = ⊥
 
 -- the mark is the one whose token is given; there is none if no token is given (own)
-abbrev pub IsAfter : Option Text → Option Mark → Type 0
-IsAfter None after = after ≡ None
-IsAfter (Some token) None = ⊥
-IsAfter (Some token) (Some m) = IsTokenOfMark token m
+abbrev pub IsMarkGiven : Option Text → Option Mark → Type 0
+IsMarkGiven None after = after ≡ None
+IsMarkGiven (Some token) None = ⊥
+IsMarkGiven (Some token) (Some m) = IsTokenOfMark token m
 
 -- what a `matrix` line means: it lists what comes after the token's mark, at most as many rows as
 -- the limit says, with these options
 abbrev pub MeansMatrix : MatrixParts → Action → Type 0
 MeansMatrix l (Matrix options after limit) =
-    (options ≡ l.options) × IsAfter l.after after × (limit ≡ l.limit)
+    (options ≡ l.options) × IsMarkGiven l.after after × (limit ≡ l.limit)
 MeansMatrix l action = ⊥
 
 -- the codes of findings are numbered 1 to 7 (own)
