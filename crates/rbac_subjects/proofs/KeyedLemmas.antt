@@ -1,9 +1,9 @@
 -- look-ups in the sorted list of keys
-use Rattle.std.proofs.Common.{◌≡◌, ℕ, ◌<◌, ◌≤◌, List, [], ◌∷◌, ◌++◌, length, get_or, Contains, ap, sym, ◌∙◌, refl, subst, arith, inl, inr, ◌⊎◌, ◌↔◌, Bool, true, false, max, min}
+use Rattle.std.proofs.Common.{◌≡◌, ℕ, ◌+◌, ◌<◌, ◌≤◌, List, [], ◌∷◌, ◌++◌, length, get_or, Contains, ap, sym, ◌∙◌, refl, subst, arith, inl, inr, ◌⊎◌, ◌↔◌, Bool, true, false, max, min}
 use Rattle.std.specs.Prelude.{Option, Some, None, codes}
 use Rattle.std.specs.Ordering.{nat_cmp, ordering_then, is_lt, is_eq, ordering_reverse}
 use Rattle.std.specs.Cmp.{IsTotalOrder}
-use Rattle.std.specs.List.Sorted.{IsSorted, IsPartitionedBy, IsPartitionPoint}
+use Rattle.std.specs.List.Sorted.{IsSorted, IsPartitionedBy}
 use Rattle.std.specs.declared.cmp.Ordering.{Ordering}
 use Rattle.std.specs.declared.cmp.Ordering.TheVariants.{Less, Equal, Greater}
 use Rattle.std.proofs.lemmas.Bool.{cases_lt}
@@ -17,7 +17,7 @@ use Rattle.rbac_terms.specs.Principals.{Who, who_key, given_of, IsAccountIn, Sig
 use Rattle.rbac_subjects.specs.declared.subject_keys.Keyed.{Keyed}
 use Rattle.rbac_subjects.specs.declared.live_bindings.Live.{Live}
 use Rattle.rbac_model.specs.Holders.{IsKeyFor}
-use Rattle.rbac_subjects.specs.Keyed.{keyed, keyed_cmp, IsLiveAt, IsNextOf, AnswersNext, IsLiveUnder, IsLiveUnderAny, IsGivenKey, IsAccountKey, IsSignInKey, sooner}
+use Rattle.rbac_subjects.specs.Keyed.{keyed, keyed_cmp, IsFirstEntry, IsLiveAt, IsNextOf, AnswersNext, IsLiveUnder, IsUnderBetween, IsLiveUnderAny, IsGivenKey, IsAccountKey, IsSignInKey, sooner}
 use Rattle.rbac_subjects.proofs.KeysOf.{keys_sorted}
 use Rattle.rbac_terms.proofs.Orderings.{lt_back}
 
@@ -58,58 +58,134 @@ above Less p q e f = cc
 above Equal p q e f = cc
 above Greater p q e f = refl
 
-module _ (xs : List Keyed) (up : IsSorted keyed_cmp xs) (key : Text) (from : ℕ) where
-  -- the entries before those of the key from that place on
-  abbrev pub before : Keyed → Bool
-  before x = is_lt (keyed_cmp x (keyed key from))
+-- an entry between two of one key has that key
+between : (o p q : Ordering) → is_lt (ordering_then o p) ≡ false → is_lt (ordering_then o q) ≡ true → o ≡ Equal
+between Less p q e f = cc
+between Equal p q e f = refl
+between Greater p q e f = cc
 
-  pub parted_before_key : IsPartitionedBy before xs
-  parted_before_key i j d le lt e = lt_back (keyed_cmp (get_or xs i d) (keyed key from)) (keyed_cmp (get_or xs j d) (keyed key from)) (searchable_from_sorted keyed_total (λ x. x) xs (keyed key from) up i j d le lt) e
+-- the place is one of from..to, and listed under the key by an entry before that one
+abbrev pub IsSeen : List Keyed → Text → ℕ → ℕ → ℕ → ℕ → Type 0
+IsSeen xs key from to at n = (c : Contains xs (keyed key n)) × (c.0 < at) × (from ≤ n) × (n < to)
 
-  module _ (at : ℕ) (point : IsPartitionPoint (λ x. before x ≡ true) (λ x. before x ≡ false) xs at) where
-    -- the key's places from that one on are listed past the point
-    past : (n : ℕ) → from ≤ n → (c : Contains xs (keyed key n)) → at ≤ c.0
-    past n le c = elim (cases_lt c.0 at) [
-      | inl l ↦
-          let e = rw c.2 at (point.0 c.0 (keyed key n) (omega arith) l) in
-          absurd (omega (arith, le, less_is n from (sym (ap is_lt (under_one key n from)) ∙ e)))
-      | inr l ↦ l
-    ]
+module _ (xs : List Keyed) (up : IsSorted keyed_cmp xs) where
+  module _ (at : ℕ) (x : Keyed) (here : x ≡ get_or xs at x) where
+    -- what is listed from x on is no earlier than x
+    pub no_earlier : (y : Keyed) (c : Contains xs y) → at ≤ c.0 → is_lt (keyed_cmp y x) ≡ false
+    no_earlier y c le =
+        let far = sorted_far (λ a b. is_lt (keyed_cmp a b)) (ranks_by keyed_total (λ (z : Keyed). z)) xs up at c.0 x le c.1 in
+        let read : get_or xs c.0 x ≡ y = get_or_default xs c.0 x y c.1 ∙ c.2 in
+        rw (read, ← here) at far
 
-    pub none_at_end : length xs ≤ at → (n : ℕ) → from ≤ n → Contains xs (keyed key n) → ⊥
-    none_at_end end n le c = absurd (omega (arith, past n le c, c.1, end))
+  module _ (key : Text) (from : ℕ) where
+    -- the entries before those of the key from that place on
+    abbrev pub before : Keyed → Bool
+    before x = is_lt (keyed_cmp x (keyed key from))
 
-    module _ (x : Keyed) (within : at < length xs) (here : x ≡ get_or xs at x) where
-      unlisted : before x ≡ false
-      unlisted = rw (← here) at (point.1 at x (omega arith) within)
+    pub parted_before_key : IsPartitionedBy before xs
+    parted_before_key i j d le lt e = lt_back (keyed_cmp (get_or xs i d) (keyed key from)) (keyed_cmp (get_or xs j d) (keyed key from)) (searchable_from_sorted keyed_total (λ x. x) xs (keyed key from) up i j d le lt) e
 
-      -- the key's places from that one on are listed no earlier than x
-      no_earlier : (n : ℕ) → from ≤ n → Contains xs (keyed key n) → is_lt (keyed_cmp (keyed key n) x) ≡ false
-      no_earlier n le c =
-          let far = sorted_far (λ a b. is_lt (keyed_cmp a b)) (ranks_by keyed_total (λ (y : Keyed). y)) xs up at c.0 x (past n le c) c.1 in
-          let read : get_or xs c.0 x ≡ keyed key n = get_or_default xs c.0 x (keyed key n) c.1 ∙ c.2 in
-          rw (read, ← here) at far
+    module _ (at : ℕ) (point : IsFirstEntry xs (keyed key from) at) where
+      -- the key's places from that one on are listed past the point
+      pub past : (n : ℕ) → from ≤ n → (c : Contains xs (keyed key n)) → at ≤ c.0
+      past n le c = elim (cases_lt c.0 at) [
+        | inl l ↦
+            let e = rw c.2 at (point.0 c.0 (keyed key n) (omega arith) l) in
+            absurd (omega (arith, le, less_is n from (sym (ap is_lt (under_one key n from)) ∙ e)))
+        | inr l ↦ l
+      ]
 
-      pub next_here : text_cmp x.key key ≡ Equal → IsNextOf (λ n. Contains xs (keyed key n)) from x.place
-      next_here tied =
-          let same : x.key ≡ key = exact_bytes x.key key tied in
-          let is : x ≡ keyed key x.place = ap (λ (t : Text). keyed t x.place) same in
-          record {
-            after = not_less x.place from (sym (ap is_lt (ap (λ (o : Ordering). ordering_then o (nat_cmp x.place from)) tied)) ∙ unlisted);
-            holds = subst (λ (y : Keyed). Contains xs y) is (at, within, sym here);
-            none_before = λ n le less c.
-                let e = no_earlier n le c in
-                let f : is_lt (keyed_cmp (keyed key n) (keyed key x.place)) ≡ false = subst (λ (y : Keyed). is_lt (keyed_cmp (keyed key n) y) ≡ false) is e in
-                absurd (omega (arith, less, not_less n x.place (sym (ap is_lt (under_one key n x.place)) ∙ f)));
-          }
+      pub none_at_end : length xs ≤ at → (n : ℕ) → from ≤ n → Contains xs (keyed key n) → ⊥
+      none_at_end end n le c = absurd (omega (arith, past n le c, c.1, end))
 
-      pub none_here : is_eq (text_cmp x.key key) ≡ false → (n : ℕ) → from ≤ n → Contains xs (keyed key n) → ⊥
-      none_here apart n le c =
-          let over : text_cmp x.key key ≡ Greater = above (text_cmp x.key key) (nat_cmp x.place from) Equal unlisted apart in
-          let under : text_cmp key x.key ≡ Less = nat_list_cmp_total.antisymm key x.key ∙ ap ordering_reverse over in
-          let e = no_earlier n le c in
-          let f : is_lt (ordering_then (text_cmp key x.key) (nat_cmp n x.place)) ≡ true = rw under refl in
-          cc
+      module _ (x : Keyed) (within : at < length xs) (here : x ≡ get_or xs at x) where
+        unlisted : before x ≡ false
+        unlisted = rw (← here) at (point.1 at x (omega arith) within)
+
+        pub next_here : text_cmp x.key key ≡ Equal → IsNextOf (λ n. Contains xs (keyed key n)) from x.place
+        next_here tied =
+            let same : x.key ≡ key = exact_bytes x.key key tied in
+            let is : x ≡ keyed key x.place = ap (λ (t : Text). keyed t x.place) same in
+            record {
+              after = not_less x.place from (sym (ap is_lt (ap (λ (o : Ordering). ordering_then o (nat_cmp x.place from)) tied)) ∙ unlisted);
+              holds = subst (λ (y : Keyed). Contains xs y) is (at, within, sym here);
+              none_before = λ n le less c.
+                  let e = no_earlier at x here (keyed key n) c (past n le c) in
+                  let f : is_lt (keyed_cmp (keyed key n) (keyed key x.place)) ≡ false = subst (λ (y : Keyed). is_lt (keyed_cmp (keyed key n) y) ≡ false) is e in
+                  absurd (omega (arith, less, not_less n x.place (sym (ap is_lt (under_one key n x.place)) ∙ f)));
+            }
+
+        pub none_here : is_eq (text_cmp x.key key) ≡ false → (n : ℕ) → from ≤ n → Contains xs (keyed key n) → ⊥
+        none_here apart n le c =
+            let over : text_cmp x.key key ≡ Greater = above (text_cmp x.key key) (nat_cmp x.place from) Equal unlisted apart in
+            let under : text_cmp key x.key ≡ Less = nat_list_cmp_total.antisymm key x.key ∙ ap ordering_reverse over in
+            let e = no_earlier at x here (keyed key n) c (past n le c) in
+            let f : is_lt (ordering_then (text_cmp key x.key) (nat_cmp n x.place)) ≡ true = rw under refl in
+            cc
+
+  -- the places `from..to` of a key, of entries that are gone through from the first on
+  module _ (key : Text) (from to : ℕ) where
+    pub none_seen : (first : ℕ) → IsFirstEntry xs (keyed key from) first → (n : ℕ) → IsSeen xs key from to first n → ⊥
+    none_seen first point n s = absurd (omega (arith, s.1, past key from first point n s.2 s.0))
+
+    pub all_seen : (at : ℕ) → ((n : ℕ) → (p : IsUnderBetween xs key from to n) → p.0.0 < at) → (n : ℕ) → IsSeen xs key from to at n ↔ IsUnderBetween xs key from to n
+    all_seen at low n = (λ s. (s.0, s.2, s.3), λ p. (p.0, low n p, p.1, p.2))
+
+    module _ (at : ℕ) (x : Keyed) (within : at < length xs) (here : x ≡ get_or xs at x) where
+      -- where an entry isn't before the last, those after it aren't either
+      pub none_after : is_lt (keyed_cmp x (keyed key to)) ≡ false → (n : ℕ) → (p : IsUnderBetween xs key from to n) → p.0.0 < at
+      none_after past_to n p = elim (cases_lt p.0.0 at) [
+        | inl l ↦ l
+        | inr le ↦
+            let less : is_lt (keyed_cmp (keyed key n) (keyed key to)) ≡ true = ap is_lt (under_one key n to) ∙ is_less n to p.2 in
+            let read : get_or xs p.0.0 x ≡ keyed key n = get_or_default xs p.0.0 x (keyed key n) p.0.1 ∙ p.0.2 in
+            let there : before key to (get_or xs p.0.0 x) ≡ true = rw read less in
+            let e : before key to x ≡ true = rw (← here) at (parted_before_key key to at p.0.0 x le p.0.1 there) in
+            cc
+      ]
+
+      module _ (low : (first : ℕ) × IsFirstEntry xs (keyed key from) first × (first ≤ at)) (high : is_lt (keyed_cmp x (keyed key to)) ≡ true) where
+        from_on : is_lt (keyed_cmp x (keyed key from)) ≡ false
+        from_on = rw (← here) at (low.1.1 at x low.2 within)
+
+        tied : text_cmp x.key key ≡ Equal
+        tied = between (text_cmp x.key key) (nat_cmp x.place from) (nat_cmp x.place to) from_on high
+
+        is : x ≡ keyed key x.place
+        is = ap (λ (t : Text). keyed t x.place) (exact_bytes x.key key tied)
+
+        seen_here : IsSeen xs key from to (at + 1) x.place
+        seen_here = (
+          (at, within, subst (λ (y : Keyed). get_or xs at y ≡ y) is (sym here)),
+          omega arith,
+          not_less x.place from (sym (ap is_lt (ap (λ (o : Ordering). ordering_then o (nat_cmp x.place from)) tied)) ∙ from_on),
+          less_is x.place to (sym (ap is_lt (ap (λ (o : Ordering). ordering_then o (nat_cmp x.place to)) tied)) ∙ high),
+        )
+
+        pub one_more : (n : ℕ) → (IsSeen xs key from to at n ⊎ (n ≡ x.place)) ↔ IsSeen xs key from to (at + 1) n
+        one_more n = (
+          λ d. elim d [
+            | inl s ↦ (s.0, omega (arith, s.1), s.2, s.3)
+            | inr e ↦ subst (IsSeen xs key from to (at + 1)) (sym e) seen_here
+          ],
+          λ s. elim (cases_lt s.0.0 at) [
+            | inl l ↦ inl (s.0, l, s.2, s.3)
+            | inr le ↦
+                let e : s.0.0 ≡ at = omega (arith, le, s.1) in
+                let read : get_or xs at x ≡ keyed key n = subst (λ (i : ℕ). get_or xs i x ≡ keyed key n) e (get_or_default xs s.0.0 x (keyed key n) s.0.1 ∙ s.0.2) in
+                inr (sym (ap (λ (y : Keyed). y.place) (here ∙ read)))
+          ],
+        )
+
+        -- the places of later entries are no less
+        pub no_less : (n : ℕ) → (p : IsUnderBetween xs key from to n) → (p.0.0 < at + 1) ⊎ (x.place ≤ n)
+        no_less n p = elim (cases_lt p.0.0 (at + 1)) [
+          | inl l ↦ inl l
+          | inr le ↦
+              let e = no_earlier at x here (keyed key n) p.0 (omega (arith, le)) in
+              let f : is_lt (keyed_cmp (keyed key n) (keyed key x.place)) ≡ false = subst (λ (y : Keyed). is_lt (keyed_cmp (keyed key n) y) ≡ false) is e in
+              inr (not_less n x.place (sym (ap is_lt (under_one key n x.place)) ∙ f))
+        ]
 
 module _ (xs : List Keyed) (live : Live) (key : Text) (from first : ℕ) (at : IsNextOf (λ n. Contains xs (keyed key n)) from first) where
   pub first_live : IsLiveAt live first → IsNextOf (IsLiveUnder xs live key) from first

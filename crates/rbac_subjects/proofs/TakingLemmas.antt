@@ -1,56 +1,46 @@
 -- the places under a principal's keys, taken in one after the other
-use Rattle.std.proofs.Common.{◌≡◌, ℕ, ◌+◌, ◌<◌, ◌≤◌, List, [], ◌∷◌, ◌++◌, inl, inr, ◌⊎◌, ◌↔◌, sym, subst, arith}
+use Rattle.std.proofs.Common.{◌≡◌, ℕ, ◌+◌, ◌<◌, ◌≤◌, List, [], ◌∷◌, ◌++◌, inl, inr, ◌⊎◌, ◌↔◌, length, get_or, true, arith}
 use Rattle.std.specs.Prelude.{codes}
-use Rattle.std.proofs.lemmas.Bool.{cases_eq, cases_lt}
+use Rattle.std.specs.Ordering.{is_lt}
+use Rattle.std.specs.List.Sorted.{IsSorted}
 use Rattle.rbac_terms.specs.Text.{Text}
 use Rattle.rbac_terms.specs.Principals.{Who, who_key, given_of, IsAccountIn, SignsInAs}
 use Rattle.rbac_subjects.specs.declared.subject_keys.Keyed.{Keyed}
 use Rattle.rbac_subjects.specs.declared.live_bindings.Live.{Live}
 use Rattle.rbac_model.specs.Holders.{IsKeyFor}
-use Rattle.rbac_subjects.specs.Keyed.{IsNextOf, IsLiveUnder, IsLiveUnderAny, IsGivenKey, IsAccountKey, IsSignInKey}
+use Rattle.rbac_subjects.specs.Keyed.{keyed, keyed_cmp, IsFirstEntry, IsLiveUnder, IsUnderBetween, IsLiveUnderAny, IsGivenKey, IsAccountKey, IsSignInKey}
 use Rattle.rbac_subjects.specs.Least.{LeastView, IsPast, Takes}
-use Rattle.rbac_subjects.proofs.KeyedLemmas.{given_none, given_one, account_two, signed_in_one, IsUnderSome, all_four}
+use Rattle.rbac_subjects.proofs.KeyedLemmas.{IsSeen, none_seen, all_seen, one_more, no_less, given_none, given_one, account_two, signed_in_one, IsUnderSome, all_four}
 use Rattle.rbac_subjects.proofs.LeastLemmas.{past_later, takes_both, takes_nothing, takes_past, takes_same}
 
--- the places with the property that come before a number
-abbrev pub IsBelow : (ℕ → Type 0) → ℕ → ℕ → Type 0
-IsBelow P from n = P n × (n < from)
+-- entries are gone through, and the places `from..to` of a key are taken in
+module _ (xs : List Keyed) (up : IsSorted keyed_cmp xs) (key : Text) (from to : ℕ) where
+  pub takes_none : (first : ℕ) (l : LeastView) → IsFirstEntry xs (keyed key from) first → Takes (IsSeen xs key from to first) l l
+  takes_none first l point = takes_nothing (IsSeen xs key from to first) l (none_seen xs up key from to first point)
 
-module _ (P : ℕ → Type 0) (first : LeastView) where
-  pub below_none : Takes (IsBelow P 0) first first
-  below_none = takes_nothing (IsBelow P 0) first (λ n b. omega (arith, b.1))
+  pub takes_all : (at : ℕ) (a b : LeastView) → ((n : ℕ) → (p : IsUnderBetween xs key from to n) → p.0.0 < at) → Takes (IsSeen xs key from to at) a b → Takes (IsUnderBetween xs key from to) a b
+  takes_all at a b low s = takes_same (IsSeen xs key from to at) (IsUnderBetween xs key from to) a b (all_seen xs up key from to at low) s
 
-  pub below_all : (from : ℕ) (l : LeastView) → ((n : ℕ) → from ≤ n → P n → ⊥) → Takes (IsBelow P from) first l → Takes P first l
-  below_all from l none s = takes_same (IsBelow P from) P first l (λ n. (λ b. b.0, λ p. (p, low n p))) s
-    where
-      low : (n : ℕ) → P n → n < from
-      low n p = elim (cases_lt n from) [ inl lt ↦ lt | inr le ↦ absurd (none n le p) ]
-
-  module _ (from place : ℕ) (next : IsNextOf P from place) (mid last : LeastView) (s : Takes (IsBelow P from) first mid) (one : Takes (λ n. n ≡ place) mid last) where
-    both : Takes (λ n. IsBelow P from n ⊎ (n ≡ place)) first last
-    both = takes_both (IsBelow P from) (λ n. n ≡ place) first mid last s one
-
-    here : (n : ℕ) → IsBelow P from n ⊎ (n ≡ place) → P n
-    here n d = elim d [ inl b ↦ b.0 | inr e ↦ subst P (sym e) next.holds ]
-
-    upto : (n : ℕ) → P n → n < place + 1 → IsBelow P from n ⊎ (n ≡ place)
-    upto n p lt = elim (cases_lt n from) [
-      | inl low ↦ inl (p, low)
-      | inr le ↦ elim (cases_eq n place) [ inl e ↦ inr e | inr ne ↦ absurd (next.none_before n le (omega (arith, lt, ne)) p) ]
-    ]
-
-    pub below_more : Takes (IsBelow P (place + 1)) first last
-    below_more = takes_same (λ n. IsBelow P from n ⊎ (n ≡ place)) (IsBelow P (place + 1)) first last (λ n. (
-      λ d. (here n d, elim d [ inl b ↦ omega (arith, b.1, next.after) | inr e ↦ omega (arith, e) ]),
-      λ b. upto n b.0 b.1,
-    )) both
+  module _ (at : ℕ) (x : Keyed) (within : at < length xs) (here : x ≡ get_or xs at x) (low : (first : ℕ) × IsFirstEntry xs (keyed key from) first × (first ≤ at)) (high : is_lt (keyed_cmp x (keyed key to)) ≡ true)
+      (a b c : LeastView) (s : Takes (IsSeen xs key from to at) a b) (one : Takes (λ n. n ≡ x.place) b c) where
+    pub takes_more : Takes (IsSeen xs key from to (at + 1)) a c
+    takes_more = takes_same (λ n. IsSeen xs key from to at n ⊎ (n ≡ x.place)) (IsSeen xs key from to (at + 1)) a c
+        (one_more xs up key from to at x within here low high) (takes_both (IsSeen xs key from to at) (λ n. n ≡ x.place) a b c s one)
 
     -- all later places are past too
-    pub below_past : IsPast last place → Takes P first last
-    below_past past = takes_past (λ n. IsBelow P from n ⊎ (n ≡ place)) P first last here (λ n p. elim (cases_lt n (place + 1)) [
-      | inl lt ↦ inl (upto n p lt)
-      | inr le ↦ inr (past_later last place n (omega (arith, le)) past)
-    ]) both
+    pub takes_rest : IsPast c x.place → Takes (IsUnderBetween xs key from to) a c
+    takes_rest past = takes_past (IsSeen xs key from to (at + 1)) (IsUnderBetween xs key from to) a c (λ n s. (s.0, s.2, s.3)) (λ n p. elim (no_less xs up key from to at x within here low high n p) [
+      | inl l ↦ inl (p.0, l, p.1, p.2)
+      | inr le ↦ inr (past_later c x.place n le past)
+    ]) takes_more
+
+-- the places of live bindings are those of ClusterRoleBindings and of one namespace's RoleBindings
+pub live_both : (xs : List Keyed) (live : Live) (key : Text) (a b c : LeastView) → Takes (IsUnderBetween xs key 0 live.cluster_wide) a b → Takes (IsUnderBetween xs key live.from live.to) b c
+    → Takes (IsLiveUnder xs live key) a c
+live_both xs live key a b c s t = takes_same (λ n. IsUnderBetween xs key 0 live.cluster_wide n ⊎ IsUnderBetween xs key live.from live.to n) (IsLiveUnder xs live key) a c (λ n. (
+  λ d. elim d [ inl p ↦ (p.0, inl p.2) | inr p ↦ (p.0, inr (p.1, p.2)) ],
+  λ p. elim p.1 [ inl l ↦ inl (p.0, omega arith, l) | inr w ↦ inr (p.0, w.0, w.1) ],
+)) (takes_both (IsUnderBetween xs key 0 live.cluster_wide) (IsUnderBetween xs key live.from live.to) a b c s t)
 
 module _ (xs : List Keyed) (live : Live) where
   pub no_given : (l : LeastView) → Takes (IsLiveUnderAny xs live (IsGivenKey [])) l l

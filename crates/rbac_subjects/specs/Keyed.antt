@@ -1,8 +1,8 @@
 -- The bindings under the keys of their subjects.
 use Rattle.std.specs.Prelude.{◌≡◌, ℕ, ◌<◌, ◌≤◌, ◌⊎◌, ◌↔◌, List, ◌++◌, codes, Option, Some, None}
-use Rattle.std.specs.Prelude.{Contains, MatchOption, slice_get, min}
-use Rattle.std.specs.Ordering.{nat_cmp, ordering_then}
-use Rattle.std.specs.List.Sorted.{IsSorted}
+use Rattle.std.specs.Prelude.{Contains, MatchOption, slice_get, min, true, false}
+use Rattle.std.specs.Ordering.{is_lt, nat_cmp, ordering_then}
+use Rattle.std.specs.List.Sorted.{IsPartitionPoint, IsSorted}
 use Rattle.std.specs.declared.cmp.Ordering.{Ordering}
 use Rattle.rbac_terms.specs.Text.{Text, text_cmp}
 use Rattle.rbac_terms.specs.Principals.{Who, IsAccountIn, SignsInAs}
@@ -33,6 +33,11 @@ abbrev pub HasKeysOf : List Keyed → List Keyed → Binding → ℕ → Type 0
 HasKeysOf old new b place = (x : Keyed) → Contains new x
     ↔ (Contains old x ⊎ ((x.place ≡ place) × HasKey b x.key))
 
+-- exactly the entries before that one come before y
+abbrev pub IsFirstEntry : List Keyed → Keyed → ℕ → Type 0
+IsFirstEntry xs y at = IsPartitionPoint
+    (λ x. is_lt (keyed_cmp x y) ≡ true) (λ x. is_lt (keyed_cmp x y) ≡ false) xs at
+
 -- exactly the keys of the subjects of the bindings that have grants, in order
 pub record AreKeyed (p : PolicyView) (xs : List Keyed) : Type 0 where
   pub sorted : IsSorted keyed_cmp xs
@@ -57,6 +62,10 @@ AnswersNext P from o = MatchOption o ((n : ℕ) → from ≤ n → ¬ P n) (IsNe
 -- the key is listed with the place, and the binding there is live
 abbrev pub IsLiveUnder : List Keyed → Live → Text → ℕ → Type 0
 IsLiveUnder xs live key place = Contains xs (keyed key place) × IsLiveAt live place
+
+-- the key is listed with the place, which is one of from..to
+abbrev pub IsUnderBetween : List Keyed → Text → ℕ → ℕ → ℕ → Type 0
+IsUnderBetween xs key from to place = Contains xs (keyed key place) × (from ≤ place) × (place < to)
 
 -- one of these keys is listed with the place, and the binding there is live
 abbrev pub IsLiveUnderAny : List Keyed → Live → (Text → Type 0) → ℕ → Type 0

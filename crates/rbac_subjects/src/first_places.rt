@@ -4,13 +4,13 @@ ghost use Rattle.std.specs.Prelude.{◌++◌};
 ghost use Rattle.std.specs.List.Sorted.{IsSorted};
 ghost use Rattle.rbac_terms.specs.Principals.{given_of};
 ghost use Rattle.rbac_model.specs.Holders.{IsKeyFor};
-ghost use Rattle.rbac_subjects.specs.Keyed.{keyed_cmp, IsLiveUnder, IsLiveUnderAny};
+ghost use Rattle.rbac_subjects.specs.Keyed.{keyed_cmp, IsLiveUnder, IsLiveUnderAny, IsUnderBetween};
 ghost use Rattle.rbac_subjects.specs.Keyed.{IsGivenKey, IsAccountKey, IsSignInKey};
 ghost use Rattle.rbac_subjects.specs.Least.{Takes, no_places};
 
 use crate::least_places::LeastPlaces;
 use crate::live_bindings::Live;
-use crate::subject_keys::{ACCOUNTS, ACCOUNTS_OF, Keyed, MEMBER, next_live};
+use crate::subject_keys::{ACCOUNTS, ACCOUNTS_OF, Keyed, MEMBER, first_entry, is_before};
 use rbac_terms::Principal;
 
 // The first places where a live binding is listed under a key of the principal.
@@ -32,12 +32,31 @@ fn take_live(entries: &[Keyed], prefix: &[u8], rest: &[u8], live: Live, places: 
     requires { IsSorted keyed_cmp entries.now }
     ensures { Takes (IsLiveUnder entries.now live (prefix.now ++ rest.now)) places.old places.new }
 {
-    let mut from = 0;
-    while let Some(place) = next_live(entries, prefix, rest, live, from) {
-        if !places.take_in(place) {
+    take_between(entries, prefix, rest, 0, live.cluster_wide, places);
+    take_between(entries, prefix, rest, live.from, live.to, places);
+}
+
+// Takes in the places `from..to` under the key made of these two parts. The first is looked up; the
+// others come right after it.
+fn take_between(
+    entries: &[Keyed],
+    prefix: &[u8],
+    rest: &[u8],
+    from: usize,
+    to: usize,
+    places: &mut LeastPlaces,
+)
+    requires { IsSorted keyed_cmp entries.now }
+    ensures { Takes
+        (IsUnderBetween entries.now (prefix.now ++ rest.now) from to) places.old places.new }
+{
+    let mut at = first_entry(entries, prefix, rest, from);
+    while at < entries.len() {
+        let entry = &entries[at];
+        if !is_before(entry, prefix, rest, to) || !places.take_in(entry.place) {
             return;
         }
-        from = place + 1;
+        at += 1;
     }
 }
 

@@ -1,13 +1,15 @@
 //! The bindings under the keys of their subjects, in a sorted list, so that the bindings that name
 //! a principal are found by its keys, and no export can make a look-up slow.
 
-ghost use Rattle.std.specs.Prelude.{◌≡◌, ◌↔◌, ◌++◌, IfOk, OnOk, IsTrue, Some, Contains};
+ghost use Rattle.std.specs.Prelude.{◌≡◌, ◌≤◌, ◌↔◌, ◌++◌, IfOk, OnOk, IsTrue, Some, Contains};
+ghost use Rattle.std.specs.Prelude.{length};
 ghost use Rattle.std.specs.Ordering.{is_lt};
 ghost use Rattle.std.specs.List.Sorted.{IsSorted};
 ghost use Rattle.rbac_terms.specs.Text.{text_cmp};
 ghost use Rattle.rbac_terms.specs.Principals.{given_of};
 ghost use Rattle.rbac_model.specs.Holders.{IsKeyFor};
 ghost use Rattle.rbac_subjects.specs.Keyed.{keyed, keyed_cmp, AreKeyed, HasKeysOf, AnswersNext};
+ghost use Rattle.rbac_subjects.specs.Keyed.{IsFirstEntry};
 ghost use Rattle.rbac_subjects.specs.Keyed.{IsLiveUnder, IsLiveUnderAny, IsGivenKey, IsAccountKey};
 ghost use Rattle.rbac_subjects.specs.Keyed.{IsSignInKey, sooner as sooner_of};
 
@@ -80,11 +82,21 @@ fn cmp_joined(text: &[u8], prefix: &[u8], rest: &[u8]) -> Ordering
 }
 
 // Whether the entry comes before one with this key and place.
-fn is_before(entry: &Keyed, prefix: &[u8], rest: &[u8], place: usize) -> bool
+pub(crate) fn is_before(entry: &Keyed, prefix: &[u8], rest: &[u8], place: usize) -> bool
     ensures { result ≡ is_lt (keyed_cmp entry.now (keyed (prefix.now ++ rest.now) place)) }
 {
     let by_key = cmp_joined(entry.key.as_bytes(), prefix, rest);
     by_key.then(entry.place.cmp(&place)).is_lt()
+}
+
+// Where the first entry is that doesn't come before one with the key made of these two parts and
+// this place.
+pub(crate) fn first_entry(entries: &[Keyed], prefix: &[u8], rest: &[u8], place: usize) -> usize
+    requires { IsSorted keyed_cmp entries.now }
+    ensures first { IsFirstEntry entries.now (keyed (prefix.now ++ rest.now) place) result }
+    ensures bound { result ≤ length entries.now }
+{
+    entries.partition_point(|entry| is_before(entry, prefix, rest, place))
 }
 
 // The first place from `from` on that is listed under the key made of these two parts.
@@ -93,7 +105,7 @@ fn next_under(entries: &[Keyed], prefix: &[u8], rest: &[u8], from: usize) -> Opt
     ensures { AnswersNext
         (λ place. Contains entries.now (keyed (prefix.now ++ rest.now) place)) from result }
 {
-    let at = entries.partition_point(|entry| is_before(entry, prefix, rest, from));
+    let at = first_entry(entries, prefix, rest, from);
     if at == entries.len() {
         return None;
     }
