@@ -17,6 +17,11 @@ One file for `lint` and `can-i`, FOLDER/SHAPE-N.json:
 lint-names: a role with two rules of N object names each, the one the other way round. Neither covers the other.
 lint-roles: N such roles, with 1,500 names a rule.
 all-select: N aggregated roles that all select all.
+
+One file for `matrix`, FOLDER/SHAPE-N.json, with N rows:
+
+words: a rule of N resources.
+urls: a rule of N URLs.
 """
 
 import json
@@ -86,6 +91,10 @@ def side(shape, count, is_after):
 
 
 def single(shape, count):
+    if shape == 'words':
+        return bound(rule(['get'], ['r%06d' % number for number in range(count)]))
+    if shape == 'urls':
+        return bound({'verbs': ['get'], 'nonResourceURLs': ['/p%06d' % number for number in range(count)]})
     if shape == 'all-select':
         return [role('a%d' % number, [], 'all', 'all') for number in range(count)] + [binding('b', 'a0', ['a'])]
     roles, width = (1, count) if shape == 'lint-names' else (count, 1_500)
@@ -103,7 +112,7 @@ def write(path, items):
 def main():
     shape, count, folder = sys.argv[1], int(sys.argv[2]), sys.argv[3]
     path = os.path.join(folder, '%s-%d' % (shape, count))
-    if shape in ('lint-names', 'lint-roles', 'all-select'):
+    if shape in ('lint-names', 'lint-roles', 'all-select', 'words', 'urls'):
         write(path + '.json', single(shape, count))
         return
     for name, is_after in (('before', False), ('after', True)):

@@ -7,3 +7,4 @@ mod word_lookup;
 
 pub use coverage::{covers, has_resource, has_url};
 pub use ordered_rule::{OrderedRule, ordered_rules};
+pub use word_lookup::WordLookup;

@@ -14,9 +14,10 @@ const MANY: usize = 16;
 // The word that stands for every verb, API group or resource.
 const STAR: &[u8] = b"*";
 
-// The words of a list; where they are many, in byte order too, so that one is found by halving.
+/// The words of a list; where they are many, in byte order too, so that one is found by halving. It
+/// holds copies of those words.
 #[derive(Drop)]
-pub(crate) struct WordLookup<'a> {
+pub struct WordLookup<'a> {
     words: &'a Words,
     ordered: Option<Vec<Word>>,
     has_star: bool,
@@ -35,7 +36,8 @@ impl<'a> Model for WordLookup<'a> {
 }
 
 impl<'a> WordLookup<'a> {
-    pub(crate) fn new(words: &'a Words) -> Result<Self, AllocError>
+    /// The words with those of a long list in order. Fails only if it runs out of memory.
+    pub fn new(words: &'a Words) -> Result<Self, AllocError>
         ensures { IfOk result (λ w. w ≡ words.now) }
     {
         Ok(WordLookup {
@@ -45,8 +47,8 @@ impl<'a> WordLookup<'a> {
         })
     }
 
-    // Whether the list has this word.
-    pub(crate) fn contains(&self, word: &Word) -> bool
+    /// Whether the list has this word. Doesn't allocate.
+    pub fn contains(&self, word: &Word) -> bool
         ensures { IsTrue result ↔ Contains self.now word.now }
     {
         match &self.ordered {
@@ -55,8 +57,9 @@ impl<'a> WordLookup<'a> {
         }
     }
 
-    // Whether a word of the list is a star or this word.
-    pub(crate) fn matches(&self, word: &Word) -> bool
+    /// Whether a word of the list is `*` or this word: so match the words for verbs and for API
+    /// groups (rbac/v1 evaluation helpers). Doesn't allocate.
+    pub fn matches(&self, word: &Word) -> bool
         ensures { IsTrue result ↔ Any (λ w. WordMatches w word.now) self.now }
     {
         self.has_star || self.contains(word)

@@ -3,7 +3,7 @@ use Rattle.std.proofs.Common.{◌≡◌, ℕ, zero, suc, ◌+◌, ◌-◌, ◌<�
 use Rattle.std.specs.List.Sorted.{IsNonDecreasingBy, IsPartitionPoint, IsStrictlyIncreasing}
 use Rattle.std.proofs.lemmas.List.{length-append, get_or_append_left, get_or-append-add}
 use Rattle.rbac_reaches.specs.declared.spans.Span.{Span}
-use Rattle.rbac_reaches.specs.Spans.{places_from, places_of, IsCounted, IsPut, AreSpans}
+use Rattle.rbac_reaches.specs.Spans.{places_from, span_places, IsCounted, AddsSpan, AreSpans}
 
 pub from_length : (a n : ℕ) → length (places_from a n) ≡ n
 from_length a zero = refl
@@ -14,15 +14,15 @@ from_get a zero i d lt = absurd (omega arith)
 from_get a (suc n) zero d lt = omega arith
 from_get a (suc n) (suc i) d lt = let e : get_or (places_from (a + 1) n) i d ≡ a + 1 + i = from_get (a + 1) n i d (omega arith) in omega (arith, e)
 
-pub counted_length : (n : ℕ) (xs : List Span) (len : ℕ) → IsCounted n xs len → n + length (places_of xs) ≡ len
+pub counted_length : (n : ℕ) (xs : List Span) (len : ℕ) → IsCounted n xs len → n + length (span_places xs) ≡ len
 counted_length n [] len c = omega (arith, c)
 counted_length n (s ∷ ss) len c =
     let rest = counted_length (n + (s.end - s.start)) ss len c.3 in
-    omega (arith, rest, length-append (places_from s.start (s.end - s.start)) (places_of ss), from_length s.start (s.end - s.start))
+    omega (arith, rest, length-append (places_from s.start (s.end - s.start)) (span_places ss), from_length s.start (s.end - s.start))
 
-pub places_push : (xs : List Span) (s : Span) → places_of (xs ++ s ∷ []) ≡ places_of xs ++ places_from s.start (s.end - s.start)
+pub places_push : (xs : List Span) (s : Span) → span_places (xs ++ s ∷ []) ≡ span_places xs ++ places_from s.start (s.end - s.start)
 places_push [] s = append-nil (places_from s.start (s.end - s.start))
-places_push (x ∷ xs) s = ap (λ (l : List ℕ). places_from x.start (x.end - x.start) ++ l) (places_push xs s) ∙ sym (append_assoc (places_from x.start (x.end - x.start)) (places_of xs) (places_from s.start (s.end - s.start)))
+places_push (x ∷ xs) s = ap (λ (l : List ℕ). places_from x.start (x.end - x.start) ++ l) (places_push xs s) ∙ sym (append_assoc (places_from x.start (x.end - x.start)) (span_places xs) (places_from s.start (s.end - s.start)))
 
 pub counted_push : (n : ℕ) (xs : List Span) (len more : ℕ) (s : Span) → IsCounted n xs len → s.before ≡ len → s.start < s.end → s.end ≤ 1000000 → more ≡ len + (s.end - s.start) → IsCounted n (xs ++ s ∷ []) more
 counted_push n [] len more s c b lt top e = (b ∙ sym c, lt, top, omega (arith, e, c))
@@ -41,7 +41,7 @@ befores_rise n (s ∷ ss) len c (suc i) zero d le lt = absurd (omega arith)
 befores_rise n (s ∷ ss) len c (suc i) (suc j) d le lt = befores_rise (n + (s.end - s.start)) ss len c.3 i j d (omega arith) (omega arith)
 
 -- the place that stands i places behind the first, in the run whose places those are
-pub place_at : (n : ℕ) (xs : List Span) (len i : ℕ) → IsCounted n xs len → n ≤ i → i < len → (k : ℕ) → k < length xs → (d : Span) (e : ℕ) → (get_or xs k d).before ≤ i → ((k + 1 < length xs) → i < (get_or xs (k + 1) d).before) → (i < (get_or xs k d).before + ((get_or xs k d).end - (get_or xs k d).start)) × (get_or (places_of xs) (i - n) e ≡ (get_or xs k d).start + (i - (get_or xs k d).before))
+pub place_at : (n : ℕ) (xs : List Span) (len i : ℕ) → IsCounted n xs len → n ≤ i → i < len → (k : ℕ) → k < length xs → (d : Span) (e : ℕ) → (get_or xs k d).before ≤ i → ((k + 1 < length xs) → i < (get_or xs (k + 1) d).before) → (i < (get_or xs k d).before + ((get_or xs k d).end - (get_or xs k d).start)) × (get_or (span_places xs) (i - n) e ≡ (get_or xs k d).start + (i - (get_or xs k d).before))
 place_at n [] len i c low high k lt d e here next = absurd (omega arith)
 place_at n (s ∷ []) len i c low high (suc k) lt d e here next = absurd (omega arith)
 place_at n (s ∷ []) len i c low high zero lt d e here next =
@@ -51,7 +51,7 @@ place_at n (s ∷ []) len i c low high zero lt d e here next =
 place_at n (s ∷ t ∷ ss) len i c low high zero lt d e here next =
     let size = s.end - s.start in
     let inside : i - n < size = omega (arith, c.0, c.3.0, next (omega arith)) in
-    (omega (arith, c.0, inside), get_or_append_left (places_from s.start size) (places_of (t ∷ ss)) e (i - n) (omega (arith, from_length s.start size, inside)) ∙ from_get s.start size (i - n) e inside ∙ ap (λ (m : ℕ). s.start + (i - m)) (sym c.0))
+    (omega (arith, c.0, inside), get_or_append_left (places_from s.start size) (span_places (t ∷ ss)) e (i - n) (omega (arith, from_length s.start size, inside)) ∙ from_get s.start size (i - n) e inside ∙ ap (λ (m : ℕ). s.start + (i - m)) (sym c.0))
 place_at n (s ∷ t ∷ ss) len i c low high (suc k) lt d e here next =
     let size = s.end - s.start in
     let up : suc k + 1 ≡ suc (k + 1) = omega arith in
@@ -59,7 +59,7 @@ place_at n (s ∷ t ∷ ss) len i c low high (suc k) lt d e here next =
     let rest = place_at (n + size) (t ∷ ss) len i c.3 past high k (omega arith) d e here (λ l. subst (λ (m : ℕ). i < (get_or (s ∷ t ∷ ss) m d).before) up (next (omega (arith, l)))) in
     let first : List ℕ = places_from s.start size in
     let there : i - n ≡ length first + (i - (n + size)) = omega (arith, past, from_length s.start size) in
-    (rest.0, ap (λ (m : ℕ). get_or (first ++ places_of (t ∷ ss)) m e) there ∙ get_or-append-add first (places_of (t ∷ ss)) (i - (n + size)) e ∙ rest.1)
+    (rest.0, ap (λ (m : ℕ). get_or (first ++ span_places (t ∷ ss)) m e) there ∙ get_or-append-add first (span_places (t ∷ ss)) (i - (n + size)) e ∙ rest.1)
 
 end_within : (n : ℕ) (xs : List Span) (len : ℕ) → IsCounted n xs len → (k : ℕ) (d : Span) → k < length xs → (get_or xs k d).end ≤ 1000000
 end_within n [] len c k d lt = absurd (omega arith)
@@ -88,7 +88,7 @@ module _ (xs : List Span) (len i at : ℕ) (c : IsCounted 0 xs len) (within : i 
     pub begun : run.before ≤ i
     begun = at_most run.before i (point.0 (at - 1) d (omega arith) (omega (arith, some_before)))
 
-    found : (i < run.before + (run.end - run.start)) × (get_or (places_of xs) (i - 0) 0 ≡ run.start + (i - run.before))
+    found : (i < run.before + (run.end - run.start)) × (get_or (span_places xs) (i - 0) 0 ≡ run.start + (i - run.before))
     found =
         let last : at - 1 + 1 ≡ at = omega (arith, some_before) in
         place_at 0 xs len i c (omega arith) within (at - 1) (omega (arith, some_before, bound)) d 0 begun
@@ -97,8 +97,8 @@ module _ (xs : List Span) (len i at : ℕ) (c : IsCounted 0 xs len) (within : i 
     pub place_small : run.start + (i - run.before) < 1000000
     place_small = omega (arith, found.0, begun, end_within 0 xs len c (at - 1) d (omega (arith, some_before, bound)))
 
-    pub place_found : run.start + (i - run.before) ≡ get_or (places_of xs) i 0
-    place_found = let same : i - 0 ≡ i = omega arith in sym found.1 ∙ ap (λ (m : ℕ). get_or (places_of xs) m 0) same
+    pub place_found : run.start + (i - run.before) ≡ get_or (span_places xs) i 0
+    place_found = let same : i - 0 ≡ i = omega arith in sym found.1 ∙ ap (λ (m : ℕ). get_or (span_places xs) m 0) same
 
 from_append : (a n m : ℕ) → places_from a (n + m) ≡ places_from a n ++ places_from (a + n) m
 from_append a zero m =
@@ -123,7 +123,7 @@ module _ (start end : ℕ) (some : start < end) (top : end ≤ 1000000) where
       (at_before ∙ c.0, omega (arith, at_start, at_end, e, c.1, some), top, omega (arith, at_start, at_end, e, c.1, c.3, some))
   counted_join n (x ∷ y ∷ ys) len (suc k) d c last is e = (c.0, c.1, c.2, counted_join (n + (x.end - x.start)) (y ∷ ys) len k d c.3 (omega (arith, last)) is e)
 
-  places_join : (n : ℕ) (xs : List Span) (len k : ℕ) (d : Span) → IsCounted n xs len → k + 1 ≡ length xs → d ≡ get_or xs k d → d.end ≡ start → places_of (set xs k (record { start = d.start; end = end; before = d.before })) ≡ places_of xs ++ places_from start (end - start)
+  places_join : (n : ℕ) (xs : List Span) (len k : ℕ) (d : Span) → IsCounted n xs len → k + 1 ≡ length xs → d ≡ get_or xs k d → d.end ≡ start → span_places (set xs k (record { start = d.start; end = end; before = d.before })) ≡ span_places xs ++ places_from start (end - start)
   places_join n [] len k d c last is e = absurd (omega (arith, last))
   places_join n (x ∷ []) len (suc k) d c last is e = absurd (omega (arith, last))
   places_join n (x ∷ y ∷ ys) len zero d c last is e = absurd (omega (arith, last))
@@ -136,23 +136,23 @@ module _ (start end : ℕ) (some : start < end) (top : end ≤ 1000000) where
       append-nil (places_from d.start (end - d.start)) ∙ ap (λ (m : ℕ). places_from d.start m) size ∙ ap (λ (m : ℕ). places_from m ((x.end - x.start) + (end - start))) at_start ∙ from_append x.start (x.end - x.start) (end - start) ∙ ap (λ (m : ℕ). own ++ places_from m (end - start)) behind ∙ ap (λ (l : List ℕ). l ++ places_from start (end - start)) (sym (append-nil own))
   places_join n (x ∷ y ∷ ys) len (suc k) d c last is e =
       let own = places_from x.start (x.end - x.start) in
-      ap (λ (l : List ℕ). own ++ l) (places_join (n + (x.end - x.start)) (y ∷ ys) len k d c.3 (omega (arith, last)) is e) ∙ sym (append_assoc own (places_of (y ∷ ys)) (places_from start (end - start)))
+      ap (λ (l : List ℕ). own ++ l) (places_join (n + (x.end - x.start)) (y ∷ ys) len k d c.3 (omega (arith, last)) is e) ∙ sym (append_assoc own (span_places (y ∷ ys)) (places_from start (end - start)))
 
 module _ (xs new : List Span) (span : Span) (counted : IsCounted 0 xs span.before) (some : span.start < span.end) (top : span.end ≤ 1000000) where
-  pub put_behind : new ≡ xs ++ span ∷ [] → IsPut xs span new
+  pub put_behind : new ≡ xs ++ span ∷ [] → AddsSpan xs span new
   put_behind made = record {
     counted = rw made (counted_push 0 xs span.before (span.before + (span.end - span.start)) span counted refl some top refl);
-    places = ap places_of made ∙ places_push xs span;
+    places = ap span_places made ∙ places_push xs span;
   }
 
-  pub put_joined : (k : ℕ) (d : Span) → k + 1 ≡ length xs → d ≡ get_or xs k d → d.end ≡ span.start → new ≡ set xs k (record { start = d.start; end = span.end; before = d.before }) → IsPut xs span new
+  pub put_joined : (k : ℕ) (d : Span) → k + 1 ≡ length xs → d ≡ get_or xs k d → d.end ≡ span.start → new ≡ set xs k (record { start = d.start; end = span.end; before = d.before }) → AddsSpan xs span new
   put_joined k d last is e made = record {
     counted = rw made (counted_join span.start span.end some top 0 xs span.before k d counted last is e);
-    places = ap places_of made ∙ places_join span.start span.end some top 0 xs span.before k d counted last is e;
+    places = ap span_places made ∙ places_join span.start span.end some top 0 xs span.before k d counted last is e;
   }
 
-module _ (xs new : List Span) (span : Span) (shown : List ℕ) (are : AreSpans xs span.before) (is : places_of xs ≡ shown) (put : IsPut xs span new) where
-  pub spans_shown : places_of new ≡ shown ++ places_from span.start (span.end - span.start)
+module _ (xs new : List Span) (span : Span) (shown : List ℕ) (are : AreSpans xs span.before) (is : span_places xs ≡ shown) (put : AddsSpan xs span new) where
+  pub spans_shown : span_places new ≡ shown ++ places_from span.start (span.end - span.start)
   spans_shown = put.places ∙ ap (λ (l : List ℕ). l ++ places_from span.start (span.end - span.start)) is
 
   pub spans_pushed : IsStrictlyIncreasing (shown ++ places_from span.start (span.end - span.start)) → length shown + (span.end - span.start) ≤ 1000000 → AreSpans new (span.before + (span.end - span.start))

@@ -21,7 +21,7 @@ use Rattle.rbac_terms.proofs.Orderings.{le_back, less_alone}
 use Rattle.rbac_terms.proofs.Reading.{read_some}
 use Rattle.rbac_model.specs.Lists.{IsAscendingBy}
 use Rattle.rbac_model.specs.Universes.{Listed, target_texts}
-use Rattle.rbac_reaches.specs.Matched.{what_texts, IsBetween, IsLaterOfStem, AreOfStem, AreStemEnds, IsByName, IsStem, IsWhole}
+use Rattle.rbac_reaches.specs.Matched.{what_texts, IsBetween, IsLaterOfStem, AreOfStem, AreStemEnds, IsByName, AreOneStem, IsWhole}
 use Rattle.rbac_index.specs.Requested.{StemOk}
 use Rattle.rbac_reaches.specs.Reaches.{MatchesAt}
 
@@ -138,7 +138,7 @@ module _ (r : Rule) (ts : List What) (start end : ℕ) where
   pub unnamed_fails : (at to : ℕ) → IsByName r ts start end → start ≤ at → to ≤ end → ((n : ℕ) (t : What) → at ≤ n → n < to → slice_get ts n ≡ Some t → Contains r.resource_names (name_of t) → ⊥) → (n : ℕ) → at ≤ n → n < to → MatchesAt r ts n → ⊥
   unnamed_fails at to by low high none n from upto m = none n m.0 from upto m.1 ((by n m.0 (omega (arith, low, from)) (omega (arith, upto, high)) m.1).0 m.2)
 
-module _ (r : Rule) (ts : List What) (start end : ℕ) (t : What) (there : slice_get ts start ≡ Some t) (is : IsStem ts start end) where
+module _ (r : Rule) (ts : List What) (start end : ℕ) (t : What) (there : slice_get ts start ≡ Some t) (is : AreOneStem ts start end) where
   matched_first : MatchesAt r ts start → TargetOk r t
   matched_first m = subst (TargetOk r) (same_Some m.0 t (sym m.1 ∙ there)) m.2
 
@@ -174,8 +174,8 @@ module _ (r : Rule) (ts : List What) (start end : ℕ) (t : What) (there : slice
   ]
 
 -- stems put one behind the other
-pub stems_push : (ts : List What) (from at end : ℕ) (ends : List ℕ) → AreStemEnds ts from at ends → IsStem ts at end → AreStemEnds ts from end (ends ++ end ∷ [])
-stems_push ts from at end [] are is = (subst (λ (n : ℕ). IsStem ts n end) (sym are) is, refl)
+pub stems_push : (ts : List What) (from at end : ℕ) (ends : List ℕ) → AreStemEnds ts from at ends → AreOneStem ts at end → AreStemEnds ts from end (ends ++ end ∷ [])
+stems_push ts from at end [] are is = (subst (λ (n : ℕ). AreOneStem ts n end) (sym are) is, refl)
 stems_push ts from at end (e ∷ ends) are is = (are.0, stems_push ts e at end ends are.1 is)
 
 pub stems_end : (ts : List What) (from to i : ℕ) (ends : List ℕ) → length ends ≤ i → AreStemEnds ts from to (drop i ends) → from ≡ to

@@ -1,3 +1,4 @@
 pub mod Matched
 pub mod Reaches
 pub mod Spans
+pub mod Wildcards

@@ -32,7 +32,7 @@ AreOfStem before ts at end = (n : ℕ) (t u : What) → at < n → n < end → s
 
 -- a stem: the targets from `start` up to `end` have the API group and resource text of the first,
 -- and a URL is a stem of its own
-pub record IsStem (ts : List What) (start end : ℕ) : Type 0 where
+pub record AreOneStem (ts : List What) (start end : ℕ) : Type 0 where
   pub some : start < end
   pub within : end ≤ length ts
   pub alike : AreOfStem None ts start end
@@ -42,7 +42,7 @@ pub record IsStem (ts : List What) (start end : ℕ) : Type 0 where
 -- where it ends
 abbrev pub AreStemEnds : List What → ℕ → ℕ → List ℕ → Type 0
 AreStemEnds ts from to [] = from ≡ to
-AreStemEnds ts from to (end ∷ ends) = IsStem ts from end × AreStemEnds ts end to ends
+AreStemEnds ts from to (end ∷ ends) = AreOneStem ts from end × AreStemEnds ts end to ends
 
 -- the rule matches all targets from `start` up to `end`, or none of them
 abbrev pub IsWhole : Rule → List What → ℕ → ℕ → Type 0

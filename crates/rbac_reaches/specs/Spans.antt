@@ -10,9 +10,9 @@ places_from start zero = []
 places_from start (suc count) = start ∷ places_from (start + 1) count
 
 -- the places of runs, one run after the other
-abbrev pub places_of : List Span → List ℕ
-places_of [] = []
-places_of (s ∷ ss) = places_from s.start (s.end - s.start) ++ places_of ss
+abbrev pub span_places : List Span → List ℕ
+span_places [] = []
+span_places (s ∷ ss) = places_from s.start (s.end - s.start) ++ span_places ss
 
 -- each run says how many places come before it, if `before` come before them all; in the end there
 -- are `len`, none above a million
@@ -24,11 +24,11 @@ IsCounted before (s ∷ ss) len = (s.before ≡ before) × (s.start < s.end) × 
 -- runs of `len` places, at most a million, each once and ascending
 pub record AreSpans (spans : List Span) (len : ℕ) : Type 0 where
   pub counted : IsCounted 0 spans len
-  pub ascending : IsStrictlyIncreasing (places_of spans)
+  pub ascending : IsStrictlyIncreasing (span_places spans)
   pub few : len ≤ most_targets
 
 -- new is old with one more run at the end, joined to the last one or not: the places are old's and
 -- then the run's, and all are counted
-pub record IsPut (old : List Span) (span : Span) (new : List Span) : Type 0 where
+pub record AddsSpan (old : List Span) (span : Span) (new : List Span) : Type 0 where
   pub counted : IsCounted 0 new (span.before + (span.end - span.start))
-  pub places : places_of new ≡ places_of old ++ places_from span.start (span.end - span.start)
+  pub places : span_places new ≡ span_places old ++ places_from span.start (span.end - span.start)

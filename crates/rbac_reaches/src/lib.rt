@@ -7,6 +7,8 @@ mod ordered_rule;
 mod reach;
 mod spans;
 mod stems;
+mod subresources;
+mod url_prefixes;
 
 pub use meter::Meter;
 pub use reach::{Reach, reaches_of};

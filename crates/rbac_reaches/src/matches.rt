@@ -5,7 +5,7 @@ ghost use Rattle.std.specs.Prelude.{◌≡◌, ◌<◌, ◌≤◌, ℕ, Some, Co
 ghost use Rattle.std.specs.Prelude.{slice_get};
 ghost use Rattle.rbac_model.specs.Lists.{IsAscendingBy};
 ghost use Rattle.rbac_terms.specs.Targets.{What, name_of};
-ghost use Rattle.rbac_reaches.specs.Matched.{what_texts, AreStemEnds, IsByName, IsStem, IsWhole};
+ghost use Rattle.rbac_reaches.specs.Matched.{what_texts, AreStemEnds, IsByName, AreOneStem, IsWhole};
 ghost use Rattle.rbac_reaches.specs.Reaches.{IsReach, IsReachBelow};
 ghost use Rattle.rbac_model.specs.Universes.{most_targets};
 
@@ -27,7 +27,7 @@ pub(crate) fn matched(
     requires ends { AreStemEnds targets.now 0 (length targets.now) ends.now }
     ensures { IfOk result (λ s. IsReach rule.now targets.now s) }
 {
-    let rule = OrderedRule::new(rule)?;
+    let rule = OrderedRule::new(alloc, rule)?;
     let mut spans = Spans::new(alloc);
     let mut start = 0;
     for stem_end in ends {
@@ -48,7 +48,7 @@ fn push_stem(
 ) -> Result<(), AllocError>
     requires few { length targets.now ≤ most_targets }
     requires ordered { IsAscendingBy what_texts targets.now }
-    requires stem { IsStem targets.now start end }
+    requires stem { AreOneStem targets.now start end }
     requires below { IsReachBelow rule.now targets.now start spans.old }
     ensures { OnOk result (IsReachBelow rule.now targets.now end spans.new) }
 {

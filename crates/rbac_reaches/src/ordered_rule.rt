@@ -1,41 +1,60 @@
-//! A rule whose object names are looked up.
+//! A rule whose words are looked up.
 
-ghost use Rattle.std.specs.Prelude.{◌≡◌, ◌↔◌, [], Contains, IfOk, IsTrue, option_copied};
+ghost use Rattle.std.specs.Prelude.{◌≡◌, ◌↔◌, [], Any, Contains, IfOk, IsTrue, option_copied};
 ghost use Rattle.rbac_terms.specs.Text.{Text};
-ghost use Rattle.rbac_terms.specs.Matching.{TargetOk};
+ghost use Rattle.rbac_terms.specs.Matching.{NameMatches, ResourceWordMatches, TargetOk};
+ghost use Rattle.rbac_terms.specs.Matching.{UrlWordMatches};
 ghost use Rattle.rbac_reaches.specs.Matched.{IsBetween};
 ghost use Rattle.rbac_index.specs.Requested.{StemOk};
 
-use rbac_index::matches_stem;
-use rbac_terms::{Rule, Target, Word, is_among, sorted_copy, target_matches};
-use std::alloc::AllocError;
+use crate::subresources::{has_subresource_of, subresources_of};
+use crate::url_prefixes::{begins_with_some, url_prefixes_of};
+use rbac_covering::WordLookup;
+use rbac_terms::{Rule, Target, Word, is_among, sorted_copy};
+use std::alloc::{AllocError, Global};
 use std::marker::Model;
 
-// A rule, and its object names in byte order, so that one of them is found by halving.
+// A rule, with its words in byte order and what its wildcards stand for, so that what matches a
+// target is found by halving.
 #[derive(Drop)]
 pub(crate) struct OrderedRule<'a> {
     rule: &'a Rule,
+    groups: WordLookup<'a>,
+    resources: WordLookup<'a>,
+    subresources: Vec<Word>,
     names: Vec<Word>,
+    urls: WordLookup<'a>,
+    url_prefixes: Vec<Word>,
 }
 
 impl<'a> Model for OrderedRule<'a> {
+    ghost use Rattle.std.specs.Prelude.{◌≡◌};
     ghost use Rattle.rbac_terms.specs.declared.matching.Rule.{Rule};
     ghost use Rattle.rbac_terms.specs.Sorted.{AreInOrder};
+    ghost use Rattle.rbac_reaches.specs.Wildcards.{AreSubresources, AreUrlPrefixes};
 
     ghost Value = { Rule };
 
     ghost view = { λ o. o.rule.now };
 
-    ghost invariant = { λ o. AreInOrder o.rule.now.resource_names o.names.items };
+    ghost invariant = { λ o. (o.groups ≡ o.rule.now.groups) × (o.resources ≡ o.rule.now.resources)
+        × (o.urls ≡ o.rule.now.urls) × AreInOrder o.rule.now.resource_names o.names.items
+        × AreSubresources o.rule.now.resources o.subresources.items
+        × AreUrlPrefixes o.rule.now.urls o.url_prefixes.items };
 }
 
 impl<'a> OrderedRule<'a> {
-    pub(crate) fn new(rule: &'a Rule) -> Result<Self, AllocError>
+    pub(crate) fn new(alloc: Global, rule: &'a Rule) -> Result<Self, AllocError>
         ensures { IfOk result (λ o. o ≡ rule.now) }
     {
         Ok(OrderedRule {
             rule,
+            groups: WordLookup::new(&rule.groups)?,
+            resources: WordLookup::new(&rule.resources)?,
+            subresources: subresources_of(alloc, rule.resources.as_slice())?,
             names: sorted_copy(&rule.resource_names)?,
+            urls: WordLookup::new(&rule.urls)?,
+            url_prefixes: url_prefixes_of(alloc, rule.urls.as_slice())?,
         })
     }
 
@@ -43,14 +62,39 @@ impl<'a> OrderedRule<'a> {
     pub(crate) fn matches(&self, target: &Target) -> bool
         ensures { IsTrue result ↔ TargetOk self.now target.now }
     {
-        target_matches(self.rule, target)
+        if target.is_url() {
+            self.matches_url(target.text())
+        } else {
+            self.matches_stem(target) && self.matches_name(target.name())
+        }
     }
 
     // Whether words of the rule match the target's group and resource text.
     pub(crate) fn matches_stem(&self, target: &Target) -> bool
         ensures { IsTrue result ↔ StemOk self.now target.now }
     {
-        matches_stem(self.rule, target)
+        self.groups.matches(target.group()) && self.matches_resource(target.text())
+    }
+
+    // Whether a word of the rule matches this resource text.
+    fn matches_resource(&self, text: &Word) -> bool
+        ensures { IsTrue result ↔ Any (λ w. ResourceWordMatches w text.now) self.now.resources }
+    {
+        self.resources.matches(text) || has_subresource_of(self.subresources.as_slice(), text)
+    }
+
+    // Whether a word of the rule matches this path.
+    fn matches_url(&self, path: &Word) -> bool
+        ensures { IsTrue result ↔ Any (λ w. UrlWordMatches w path.now) self.now.urls }
+    {
+        self.urls.contains(path) || begins_with_some(self.url_prefixes.as_slice(), path)
+    }
+
+    // Whether the rule's names match this object name.
+    fn matches_name(&self, name: &Word) -> bool
+        ensures { IsTrue result ↔ NameMatches self.now.resource_names name.now }
+    {
+        self.is_nameless() || self.has_name(name)
     }
 
     // Whether the rule has no object names, and so applies to all objects.

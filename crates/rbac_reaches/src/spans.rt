@@ -3,7 +3,7 @@
 ghost use Rattle.std.specs.Prelude.{◌≡◌, ◌+◌, ◌-◌, ◌<◌, ◌≤◌, ◌++◌, [], OnErr, OnOk, length};
 ghost use Rattle.std.specs.Prelude.{slice_index};
 ghost use Rattle.std.specs.List.Sorted.{IsStrictlyIncreasing};
-ghost use Rattle.rbac_reaches.specs.Spans.{places_from, places_of, IsCounted, IsPut};
+ghost use Rattle.rbac_reaches.specs.Spans.{places_from, span_places, IsCounted, AddsSpan};
 ghost use Rattle.rbac_model.specs.Universes.{most_targets};
 
 use std::alloc::{AllocError, Global};
@@ -26,11 +26,11 @@ pub(crate) struct Spans {
 
 impl Model for Spans {
     ghost use Rattle.std.specs.Prelude.{ℕ, List};
-    ghost use Rattle.rbac_reaches.specs.Spans.{places_of, AreSpans};
+    ghost use Rattle.rbac_reaches.specs.Spans.{span_places, AreSpans};
 
     ghost Value = { List ℕ };
 
-    ghost view = { λ s. places_of s.spans.items };
+    ghost view = { λ s. span_places s.spans.items };
 
     ghost invariant = { λ s. AreSpans s.spans.items s.len };
 }
@@ -84,7 +84,7 @@ fn put(spans: &mut Vec<Span>, span: Span) -> Result<(), AllocError>
     requires counted { IsCounted 0 spans.old.items span.before }
     requires some { span.start < span.end }
     requires small { span.end ≤ most_targets }
-    ensures put { OnOk result (IsPut spans.old.items span spans.new.items) }
+    ensures put { OnOk result (AddsSpan spans.old.items span spans.new.items) }
     ensures kept { OnErr result (spans.new.items ≡ spans.old.items) }
 {
     if let Some(last) = spans.last_mut() {
@@ -101,7 +101,7 @@ fn put(spans: &mut Vec<Span>, span: Span) -> Result<(), AllocError>
 fn place_in(spans: &[Span], len: u32, i: u32) -> u32
     requires counted { IsCounted 0 spans.now len }
     requires within { i < len }
-    ensures { result ≡ slice_index (places_of spans.now) i }
+    ensures { result ≡ slice_index (span_places spans.now) i }
 {
     let at = spans.partition_point(|span| span.before <= i);
     let span = spans[at - 1];

@@ -4,7 +4,7 @@
 ghost use Rattle.std.specs.Prelude.{◌+◌, ◌<◌, ◌≤◌, ◌↔◌, IfOk, IsTrue, length, option_copied};
 ghost use Rattle.rbac_model.specs.Lists.{IsAscendingBy};
 ghost use Rattle.rbac_reaches.specs.Matched.{what_texts, AreOfStem, AreStemEnds, IsBetween};
-ghost use Rattle.rbac_reaches.specs.Matched.{IsLaterOfStem, IsStem};
+ghost use Rattle.rbac_reaches.specs.Matched.{IsLaterOfStem, AreOneStem};
 ghost use Rattle.rbac_model.specs.Universes.{most_targets};
 
 use rbac_terms::{Target, Word};
@@ -29,7 +29,7 @@ pub(crate) fn stem_ends(alloc: Global, targets: &[Target]) -> Result<Vec<u32>, A
 fn stem_end(targets: &[Target], at: usize) -> usize
     requires within { at < length targets.now }
     requires ordered { IsAscendingBy what_texts targets.now }
-    ensures { IsStem targets.now at result }
+    ensures { AreOneStem targets.now at result }
 {
     if targets[at].is_url() {
         at + 1

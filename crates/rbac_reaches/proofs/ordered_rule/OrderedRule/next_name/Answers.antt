@@ -12,7 +12,7 @@ pub returns : goal.returns
 returns c =
     let names = c.as_slice-names.result.now in
     let asked = c.args.name.now in
-    let sorted : IsSorted text_cmp names = rw c.as_slice-names.ensures.value c.self.invariant.0 in
+    let sorted : IsSorted text_cmp names = rw c.as_slice-names.ensures.value c.self.invariant.3.0 in
     let parted = IsPartitionPoint-from_clause (λ (y : Text). is_le (text_cmp y asked)) names c.partition_point.result c.partition_point.ensures.partitioned (parted_names names sorted asked) (λ a r f k. search rules) in
     rw (← c.self.view_is) (λ x has between. none_between names sorted asked c.partition_point.result parted x
-    (rw c.as_slice-names.ensures.value (Contains-permutation c.self.inside.rule.now.resource_names c.self.inside.names.items x c.self.invariant.1 has)) (subst (λ (o : Option Text). IsBetween asked o x) (got_copied names c.partition_point.result c.get.result c.get.ensures.lookup) between))
+    (rw c.as_slice-names.ensures.value (Contains-permutation c.self.inside.rule.now.resource_names c.self.inside.names.items x c.self.invariant.3.1 has)) (subst (λ (o : Option Text). IsBetween asked o x) (got_copied names c.partition_point.result c.get.result c.get.ensures.lookup) between))
