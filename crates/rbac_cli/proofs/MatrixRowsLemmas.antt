@@ -6,7 +6,7 @@ use Rattle.rbac_model.specs.Policies.{PolicyView, IsPolicy}
 use Rattle.rbac_model.specs.Universes.{UniverseView, RowView, IsUniverse, IsMatrix, rows_after}
 use Rattle.rbac_terms.specs.Keys.{KeyTexts}
 use Rattle.rbac_token.specs.declared.mark.Mark.{Mark}
-use Rattle.rbac_matrix.specs.Enumeration.{AreLeft, Gives, IsGoing}
+use Rattle.rbac_matrix.specs.Enumeration.{AreLeft, GivesFirstLeft, IsGoing}
 use Rattle.rbac_matrix.specs.Every.{IsEvery, every_after}
 use Rattle.rbac_matrix.specs.EveryLeft.{AreEveryLeft, GivesEvery, IsGoingEvery}
 use Rattle.rbac_matrix.specs.declared.enumeration.Rows.{Rows}
@@ -17,7 +17,7 @@ use Rattle.rbac_cli.specs.MatrixRows.{AreRowsLeft, GivesNextRow}
 use Rattle.rbac_cli.specs.MatrixPage.{AreRows, rows_past}
 use Rattle.rbac_cli.specs.declared.matrix_rows.MatrixRows.TheVariants.{First, Every}
 
-pub first_gives : (s t : Rows) (r : Option Row) → Gives s r t → GivesNextRow (First s) r (First t)
+pub first_gives : (s t : Rows) (r : Option Row) → GivesFirstLeft s r t → GivesNextRow (First s) r (First t)
 first_gives s t None g = λ all left. rows_none s all left g.0
 first_gives s t (Some row) g = (g.row, g.shows, λ all left. (g.left all).0 left)
 

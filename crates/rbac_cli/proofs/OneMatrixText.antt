@@ -16,7 +16,7 @@ use Rattle.rbac_text.specs.Row.{row_text, tab, newline}
 use Rattle.rbac_token.specs.Marks.{mark_text, name_texts}
 use Rattle.rbac_token.specs.declared.mark.BindingName.{BindingName}
 use Rattle.rbac_token.specs.declared.mark.Mark.{Mark}
-use Rattle.rbac_matrix.specs.Every.{comes_after, name_of}
+use Rattle.rbac_matrix.specs.Every.{comes_after, marked_name}
 use Rattle.rbac_matrix.specs.Once.{repeats_at, without_repeats}
 use Rattle.rbac_cli.specs.MatrixPage.{cut_at, last_words, rows_listed, matrix_text, page_text, rows_past, rows_text}
 
@@ -33,7 +33,7 @@ lines_text ls = flat_map (λ l. row_text l.0 l.1) ls
 
 abbrev line_mark : Bool → Line → Mark
 line_mark false l = record { key = l.0; binding = None }
-line_mark true l = record { key = l.0; binding = Some (name_of l.1) }
+line_mark true l = record { key = l.0; binding = Some (marked_name l.1) }
 
 abbrev words_after : Bool → Option Line → Bool → Text
 words_after every (Some l) true = codes "next" ++ tab ∷ mark_text (line_mark every l)

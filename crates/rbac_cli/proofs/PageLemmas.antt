@@ -14,14 +14,15 @@ use Rattle.rbac_model.specs.Universes.{RowView, cell_key}
 use Rattle.rbac_text.specs.Row.{newline, row_text, tab}
 use Rattle.rbac_token.specs.Marks.{mark_text}
 use Rattle.rbac_token.specs.declared.mark.Mark.{Mark}
-use Rattle.rbac_matrix.specs.Every.{name_of}
+use Rattle.rbac_matrix.specs.Every.{marked_name}
 use Rattle.rbac_matrix.specs.RowTexts.{Shows, texts_shown}
 use Rattle.rbac_matrix.specs.declared.row.Row.{Row}
-use Rattle.rbac_cli.specs.RowsLeft.{AreLeftIn, GivesFirst, IsOpen, HasNoRows, is_every}
+use Rattle.rbac_cli.specs.RowsLeft.{AreLeftIn, GivesFirst, HasNoRows, is_every}
 use Rattle.rbac_cli.specs.MatrixPage.{cut_at, last_words, mark_after, rows_text}
-use Rattle.rbac_cli.specs.PageLeft.{IsPageLeft, IsRestOfPage, is_left, most_lines, text_after}
+use Rattle.rbac_cli.specs.PageLeft.{IsPageLeft, IsPageOpen, IsRestOfPage, is_left, most_lines, text_after}
 use Rattle.rbac_cli.specs.Printing.{GivesLine}
 use Rattle.rbac_cli.specs.ShownTokens.{last_line, mark_shown}
+use Rattle.rbac_cli.specs.declared.row_ends.RowEnds.{RowEnds}
 use Rattle.rbac_cli.specs.declared.rows_left.RowsLeft.{RowsLeft}
 use Rattle.rbac_cli.specs.declared.pages.PageLines.{PageLines}
 
@@ -78,7 +79,7 @@ next_words every (Some r) None e = cc
 
 same_mark : (every : Bool) (r : Row) (row : RowView) → Shows r row → mark_shown every r ≡ mark_after every row
 same_mark false r row shows = ap (λ (k : KeyTexts). let m : Mark = record { key = k; binding = None } in m) shows.texts
-same_mark true r row shows = ap₂ (λ (k : KeyTexts) (b : Binding). let m : Mark = record { key = k; binding = Some (name_of b) } in m) shows.texts shows.binding
+same_mark true r row shows = ap₂ (λ (k : KeyTexts) (b : Binding). let m : Mark = record { key = k; binding = Some (marked_name b) } in m) shows.texts shows.binding
 
 module _ (page : PageLines) (text : Text) (h : IsRestOfPage page text) where
   abbrev every : Bool
@@ -89,9 +90,9 @@ module _ (page : PageLines) (text : Text) (h : IsRestOfPage page text) where
     others = gives.2 h.1 h.3
 
     -- a row is left, and the limit leaves it
-    pub goes_on : page.limit ≢ Some 0 → is_every t ≡ every
-        → (rest : Text) × (text ≡ row_text (texts_shown r) r.binding.now ++ rest) × IsRestOfPage (record page { left = t; limit = one_less page.limit; last = Some r }) rest
-    goes_on some same =
+    pub goes_on : (ends : RowEnds) → page.limit ≢ Some 0 → is_every t ≡ every
+        → (rest : Text) × (text ≡ row_text (texts_shown r) r.binding.now ++ rest) × IsRestOfPage (record page { left = t; limit = one_less page.limit; last = Some r; ends = ends }) rest
+    goes_on ends some same =
         let cut = cut_at (one_less page.limit) others.0 in
         let words = last_words every (last_or (Some gives.0) cut.0) cut.1 in
         let line = row_text (cell_key gives.0.cell) gives.0.binding in
@@ -120,10 +121,7 @@ module _ (page : PageLines) (text : Text) (h : IsRestOfPage page text) where
 
 -- ---- the last line is put
 
-abbrev IsPageOpen : PageLines → Type 0
-IsPageOpen page = IsOpen page.left
-
-last_gives : (old new : PageLines) (line : Text) → old.has_ended ≡ false → new.has_ended ≡ true → IsOpen new.left → ((text : Text) → IsRestOfPage old text → text ≡ line)
+last_gives : (old new : PageLines) (line : Text) → old.has_ended ≡ false → new.has_ended ≡ true → IsPageOpen new → ((text : Text) → IsRestOfPage old text → text ≡ line)
     → GivesLine IsPageLeft IsPageOpen most_lines old line new true
 last_gives old new line was is going same = (
   going,
@@ -131,7 +129,7 @@ last_gives old new line was is going same = (
   λ text left. ([], same text (subst (λ (b : Bool). is_left b old text) was left) ∙ sym (append-nil line), rw is refl),
 )
 
-pub of_last : {E : Type 0} (r : Result Bool E) (old new : PageLines) (line words : Text) → old.has_ended ≡ false → new.has_ended ≡ true → IsOpen new.left
+pub of_last : {E : Type 0} (r : Result Bool E) (old new : PageLines) (line words : Text) → old.has_ended ≡ false → new.has_ended ≡ true → IsPageOpen new
     → IfOk r (λ more. more ≡ true) → OnOk r (line ≡ words) → ((text : Text) → IsRestOfPage old text → text ≡ words)
     → IfOk r (GivesLine IsPageLeft IsPageOpen most_lines old line new)
 of_last (Ok true) old new line words was is going more e same = last_gives old new line was is going (λ text h. same text h ∙ sym e)

@@ -1,8 +1,8 @@
 -- Text that is printed line by line.
-use Rattle.std.proofs.Common.{◌≡◌, ◌∙◌, ◌++◌, List, ℕ, [], refl, ap, sym, subst, append-nil, append_assoc}
+use Rattle.std.proofs.Common.{◌≡◌, ◌∙◌, ◌++◌, List, ℕ, ap, sym, subst, append_assoc}
 use Rattle.std.specs.Prelude.{Option}
 use Rattle.rbac_terms.specs.Text.{Text}
-use Rattle.rbac_streams.proofs.TakenLemmas.{Prints-nil, Prints-trans, Stops-after, Stops-more}
+use Rattle.rbac_streams.proofs.TakenLemmas.{Prints-trans, Stops-after, Stops-more}
 use Rattle.rbac_cli.specs.Printing.{PrintsText, StopsInText}
 use Rattle.rbac_cli.specs.declared.output.Output.{Output}
 
@@ -15,14 +15,7 @@ pub record HasPrinted {W : Type 0} (contents : W → Option (List ℕ)) (old new
   pub left : is_left rest
 
 module _ {W : Type 0} (contents : W → Option (List ℕ)) (old : Output W) (is_left : Text → Type 0) (text : Text) where
-  pub nothing : is_left text → HasPrinted contents old old is_left text
-  nothing left = record { before = []; rest = text; whole = refl; printed = Prints-nil contents old.sink.now old.page.now; left = left }
-
   module _ (now : Output W) (h : HasPrinted contents old now is_left text) where
-    -- none is left
-    pub all : ((rest : Text) → is_left rest → rest ≡ []) → PrintsText contents old now text
-    all none = subst (PrintsText contents old now) (sym (h.whole ∙ ap (λ (t : Text). h.before ++ t) (none h.rest h.left) ∙ append-nil h.before)) h.printed
-
     -- it stopped before the next line
     pub unfinished : StopsInText contents old now text
     unfinished = λ start earlier printed.

@@ -8,6 +8,7 @@ pub mod Out
 pub mod PageLeft
 pub mod PlusLines
 pub mod Printing
+pub mod RowEnds
 pub mod RowsLeft
 pub mod RunTexts
 pub mod ShownTokens

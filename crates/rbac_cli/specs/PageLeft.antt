@@ -5,7 +5,8 @@ use Rattle.std.specs.Option.{option_map}
 use Rattle.rbac_terms.specs.Text.{Text}
 use Rattle.rbac_model.specs.Universes.{RowView}
 use Rattle.rbac_text.specs.Row.{newline}
-use Rattle.rbac_cli.specs.RowsLeft.{AreLeftIn, is_every, most_left}
+use Rattle.rbac_cli.specs.RowsLeft.{AreLeftIn, IsOpen, is_every, most_left}
+use Rattle.rbac_cli.specs.RowEnds.{AreEndsOf}
 use Rattle.rbac_cli.specs.MatrixPage.{cut_at, last_words, mark_after, rows_text}
 use Rattle.rbac_cli.specs.ShownTokens.{mark_shown}
 use Rattle.rbac_cli.specs.declared.pages.PageLines.{PageLines}
@@ -14,6 +15,10 @@ use Rattle.rbac_cli.specs.declared.pages.PageLines.{PageLines}
 abbrev pub text_after : Bool → Option RowView → List RowView × Bool → Text
 text_after every row p =
     rows_text p.0 ++ last_words every (last_or row p.0) p.1 ++ newline ∷ []
+
+-- what holds between two calls
+abbrev pub IsPageOpen : PageLines → Type 0
+IsPageOpen page = IsOpen page.left × AreEndsOf page.last page.ends
 
 -- the row that was printed last has the mark of this one
 abbrev pub IsPrintedLast : PageLines → Option RowView → Type 0

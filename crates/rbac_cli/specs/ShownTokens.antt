@@ -4,7 +4,7 @@ use Rattle.rbac_terms.specs.Text.{Text}
 use Rattle.rbac_text.specs.Row.{tab, newline}
 use Rattle.rbac_token.specs.Marks.{mark_text}
 use Rattle.rbac_token.specs.declared.mark.Mark.{Mark}
-use Rattle.rbac_matrix.specs.Every.{name_of}
+use Rattle.rbac_matrix.specs.Every.{marked_name}
 use Rattle.rbac_matrix.specs.RowTexts.{texts_shown}
 use Rattle.rbac_matrix.specs.declared.row.Row.{Row}
 
@@ -12,7 +12,7 @@ use Rattle.rbac_matrix.specs.declared.row.Row.{Row}
 -- its binding
 abbrev pub mark_shown : Bool → Row → Mark
 mark_shown false row = record { key = texts_shown row; binding = None }
-mark_shown true row = record { key = texts_shown row; binding = Some (name_of row.binding.now) }
+mark_shown true row = record { key = texts_shown row; binding = Some (marked_name row.binding.now) }
 
 -- `next` and that mark's token, joined by a tab
 abbrev pub next_token : Bool → Row → Text

@@ -17,6 +17,7 @@ mod outcome;
 mod output;
 mod pages;
 mod powers;
+mod row_ends;
 mod rows_left;
 mod rules;
 mod running;

@@ -13,6 +13,7 @@ use crate::lines::print_lines;
 use crate::outcome::Status;
 use crate::output::Output;
 use crate::pages::PageLines;
+use crate::row_ends::RowEnds;
 use crate::rows_left::RowsLeft;
 use crate::stop::Stop;
 use rbac_index::{Index, IndexFault};
@@ -77,6 +78,7 @@ fn print_rows<W: Write + Drop>(
         left,
         limit,
         last: None,
+        ends: RowEnds::new(alloc),
         has_ended: false,
     };
     print_lines(alloc, &mut lines, Status::Zero, output)

@@ -1,6 +1,6 @@
 //! What a question asks for, according to a catalogue.
 
-ghost use Rattle.std.specs.Prelude.{◌≡◌, ◌↔◌, [], IfOk, IsTrue, codes};
+ghost use Rattle.std.specs.Prelude.{◌≡◌, ◌↔◌, IfOk, IsTrue, codes};
 ghost use Rattle.rbac_terms.specs.Targets.{Url};
 ghost use Rattle.rbac_terms.specs.Text.{BeginsWith};
 ghost use Rattle.rbac_question.specs.Asked.{IsTypeWord};

@@ -4,17 +4,17 @@ ghost use Rattle.std.specs.Prelude.{◌≡◌, ◌≢◌, ◌-◌, ◌++◌, ◌
 ghost use Rattle.std.specs.Option.{option_map};
 ghost use Rattle.rbac_text.specs.Row.{newline, row_text, tab};
 ghost use Rattle.rbac_token.specs.Marks.{mark_text};
-ghost use Rattle.rbac_matrix.specs.Every.{name_of};
+ghost use Rattle.rbac_matrix.specs.Every.{marked_name};
 ghost use Rattle.rbac_matrix.specs.RowTexts.{texts_shown};
 ghost use Rattle.rbac_cli.specs.RowsLeft.{is_every};
 ghost use Rattle.rbac_cli.specs.ShownTokens.{last_line, mark_shown, next_token};
 
 use crate::lines::Lines;
+use crate::row_ends::RowEnds;
 use crate::rows_left::RowsLeft;
 use crate::stop::Stop;
 use rbac_matrix::Row;
 use rbac_terms::{Binding, Word};
-use rbac_text::put_row;
 use rbac_token::{BindingName, Mark, token_of_mark};
 use std::alloc::{AllocError, Global};
 
@@ -36,17 +36,18 @@ pub(crate) struct PageLines<'r, 'm> {
     pub(crate) limit: Option<u32>,
     // The last row that was printed.
     pub(crate) last: Option<Row<'m>>,
+    // How its line begins and ends.
+    pub(crate) ends: RowEnds,
     // Whether the last line was printed.
     pub(crate) has_ended: bool,
 }
 
 impl Lines for PageLines<'_, '_> {
-    ghost use Rattle.rbac_cli.specs.RowsLeft.{IsOpen};
-    ghost use Rattle.rbac_cli.specs.PageLeft.{IsPageLeft, most_lines};
+    ghost use Rattle.rbac_cli.specs.PageLeft.{IsPageLeft, IsPageOpen, most_lines};
 
     ghost are_left = { IsPageLeft };
 
-    ghost is_open = { λ page. IsOpen page.left };
+    ghost is_open = { IsPageOpen };
 
     ghost most_left = { most_lines };
 
@@ -61,8 +62,9 @@ impl Lines for PageLines<'_, '_> {
             return self.put_last(self.last, line);
         }
         self.limit = one_less(self.limit);
+        self.ends.renew(self.last, row)?;
         self.last = Some(row);
-        put_line(row, line)?;
+        self.ends.put_line(row, line)?;
         Ok(true)
     }
 }
@@ -92,22 +94,6 @@ fn one_less(left: Option<u32>) -> Option<u32>
     ensures { result ≡ option_map (λ count. count - 1) left }
 {
     Some(left? - 1)
-}
-
-// Adds the row's line.
-fn put_line(row: Row<'_>, line: &mut Vec<u8>) -> Result<(), AllocError>
-    requires { line.old.items ≡ [] }
-    ensures { OnOk result (line.new.items ≡ row_text (texts_shown row.entry) row.entry.binding.now) }
-{
-    let key = [
-        row.principal,
-        row.namespace,
-        row.verb,
-        row.group,
-        row.resource,
-        row.name,
-    ];
-    put_row(line, key, row.binding)
 }
 
 // Adds `next`, the token of the row and the end of the line.
@@ -154,7 +140,7 @@ fn mark_of(alloc: Global, every: bool, row: Row<'_>) -> Result<Mark, Stop>
 }
 
 fn name_of_binding(alloc: Global, binding: &Binding) -> Result<BindingName, AllocError>
-    ensures { IfOk result (λ name. name ≡ name_of binding.now) }
+    ensures { IfOk result (λ name. name ≡ marked_name binding.now) }
 {
     let namespace = match &binding.namespace {
         Some(namespace) => Some(Word::from_slice(alloc, namespace.as_bytes())?),

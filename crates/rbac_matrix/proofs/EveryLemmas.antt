@@ -13,7 +13,7 @@ use Rattle.rbac_universe.proofs.Flattened.{here, there}
 use Rattle.rbac_matrix.specs.Lines.{LineView, cells_of_lines, line_cells_from, lines_from}
 use Rattle.rbac_matrix.specs.Pairs.{AreThose, IsGranted, pair_of, pairs_of}
 use Rattle.rbac_matrix.specs.EveryLeft.{AreBelow, PassesBinding, pairs_from}
-use Rattle.rbac_matrix.specs.Passing.{ComesTo, EndsAll, FindsCell, HasNoHit, IsFrom, IsHit, IsNextHit, Passes, cell_of, cells_left, row_on}
+use Rattle.rbac_matrix.specs.Passing.{PassesLine, EndsAll, FindsCell, HasNoHit, IsNoEarlier, IsHit, IsNextHit, Passes, cell_of, cells_left, row_on}
 use Rattle.rbac_matrix.specs.declared.line.Place.{Place}
 use Rattle.rbac_matrix.specs.declared.seat.Seat.{Seat}
 use Rattle.rbac_matrix.proofs.EnumLemmas.{cells_at, line_ends, line_passes, skips_pass}
@@ -104,7 +104,7 @@ module _ (p : PolicyView) (policy : IsPolicy p) where
         cells_at p.held u at from l ls e ∙ ap (λ (cs : List Cell). cs ++ flat_map (line_cells_from u 0) ls) (line_step u l from t read) ∙ ap (λ (cs : List Cell). cell_of l t ∷ cs) (sym (cells_at p.held u at (from + 1) l ls e))
 
     -- a line's rest, and the lines that are skipped
-    comes_pass : (at : Place) (from upto : ℕ) (to : Place) (k : ComesTo p u at from upto to) (later : ℕ) → HasNoHit p u k.line later 0 → Passes p.held (cells_left u at later) (cells_left u to 0) []
+    comes_pass : (at : Place) (from upto : ℕ) (to : Place) (k : PassesLine p u at from upto to) (later : ℕ) → HasNoHit p u k.line later 0 → Passes p.held (cells_left u at later) (cells_left u to 0) []
     comes_pass at from upto to k later none =
         passes_then p.held (cells_left u at later) (cells_left u k.next 0) (cells_left u to 0) [] []
         (line_ends p.held u at k.next later k.line k.line_at (none_passes p u k.line policy later none))
@@ -137,7 +137,7 @@ module _ (p : PolicyView) (policy : IsPolicy p) where
         early j y onward lt bound = none_before p policy u l from upto b below place number start end i next of own ends place j next.hit.target y next.hit.target_at bound onward (inr (refl, lt))
 
         -- up to its place
-        to_place : (first : ℕ) → first ≤ place → ((q k : ℕ) → first ≤ q → IsFrom q k from upto) → Passes p.held (cells_left u at first) (cells_left u at place) []
+        to_place : (first : ℕ) → first ≤ place → ((q k : ℕ) → first ≤ q → IsNoEarlier q k from upto) → Passes p.held (cells_left u at first) (cells_left u at place) []
         to_place first le onward =
             line_passes p.held u at first place l ls [] line_at
             (passes_to p u l policy first place le (let w = next_within p u l policy from upto place number next in omega arith)
@@ -161,7 +161,7 @@ module _ (p : PolicyView) (policy : IsPolicy p) where
 
       -- on a later line
       module _ (at : Place) (from upto b : ℕ) (below : AreBelow p upto b) (within : (b ≡ 0) ⊎ (from < length u.targets)) (to : Place) (l : LineView) (ls : List LineView) (line_at : lines_from u to ≡ l ∷ ls)
-          (begin low : ℕ) (next : IsNextHit p u l begin low place number) (zero_from : begin ≡ 0) (zero_low : low ≡ 0) (k : ComesTo p u at from upto to) where
+          (begin low : ℕ) (next : IsNextHit p u l begin low place number) (zero_from : begin ≡ 0) (zero_low : low ≡ 0) (k : PassesLine p u at from upto to) where
         late : (j : ℕ) (y : Binding) → j < i → slice_get bs j ≡ Some y → IsGranted p.held (pair_of (cell_of l next.hit.target) y) → ⊥
         late j y less bound = early to l ls line_at begin low 0 (none_below low zero_low) next j y
             (elim (cases_lt begin place) [ inl lt ↦ inl lt | inr ge ↦ inr (omega arith, omega arith) ]) less bound
@@ -202,7 +202,7 @@ module _ (p : PolicyView) (policy : IsPolicy p) where
       ]
 
     -- where nothing more is allowed no pair is left
-    nothing_left : (at : Place) (from upto b : ℕ) (to : Place) → AreBelow p upto b → (b ≡ 0) ⊎ (from < length u.targets) → lines_from u to ≡ [] → ComesTo p u at from upto to
+    nothing_left : (at : Place) (from upto b : ℕ) (to : Place) → AreBelow p upto b → (b ≡ 0) ⊎ (from < length u.targets) → lines_from u to ≡ [] → PassesLine p u at from upto to
         → (r : RowView) → Contains (pairs_from bs b (cells_left u at from)) r → IsGranted p.held r → ⊥
     nothing_left at from upto b to below within ended k = elim (cases_lt from (length u.targets)) [
       | inl lt ↦

@@ -28,7 +28,8 @@ use Rattle.rbac_matrix.specs.EveryStart.{ArePastName, ComesAfter, HasNoRequest, 
 use Rattle.rbac_matrix.specs.Lines.{IsSettled}
 use Rattle.rbac_matrix.specs.Pairs.{AreThose, IsGranted, pair_of, pairs_of}
 use Rattle.rbac_matrix.specs.Passing.{cell_of, cells_left}
-use Rattle.rbac_matrix.specs.Starting.{BeginsOnLine, HasNoLine, IsAfter, IsFoundAt, IsGapAt, IsOwnLine, IsStart, cell_name, target_part, what_texts, whats}
+use Rattle.rbac_reaches.specs.Matched.{what_texts}
+use Rattle.rbac_matrix.specs.Starting.{BeginsOnLine, HasNoLine, IsAfter, IsFoundAt, IsGapAt, IsOwnLine, IsStart, cell_name, target_part, whats}
 use Rattle.rbac_matrix.specs.declared.line.Place.{Place}
 use Rattle.rbac_matrix.proofs.JoinLemmas.{same_key, stands_past}
 use Rattle.rbac_matrix.proofs.OneEvery.{in_pairs, is_every, one_every, some_pairs}

@@ -9,31 +9,31 @@ use Rattle.rbac_model.specs.Universes.{UniverseView, Listed, Cell}
 use Rattle.rbac_model.proofs.GrantNumbers.{some_grant, first_grant}
 use Rattle.rbac_matrix.specs.Cells.{AreRowsOf, HasRow}
 use Rattle.rbac_matrix.specs.Lines.{LineView, line_cells_from}
-use Rattle.rbac_matrix.specs.Passing.{HasNoHit, IsFrom, IsHit, IsNextHit, Passes, cell_of, row_on}
+use Rattle.rbac_matrix.specs.Passing.{HasNoHit, IsNoEarlier, IsHit, IsNextHit, Passes, cell_of, row_on}
 use Rattle.rbac_matrix.proofs.PassLemmas.{line_over, passes_none, passes_over, passes_rows, row_passes}
 
 -- ---- the order of places and numbers
 
-pub from_itself : (q k : ℕ) → IsFrom q k q k
+pub from_itself : (q k : ℕ) → IsNoEarlier q k q k
 from_itself q k = inr (refl, omega arith)
 
-pub from_then : (q k place number from upto : ℕ) → IsFrom q k place number → IsFrom place number from upto → IsFrom q k from upto
+pub from_then : (q k place number from upto : ℕ) → IsNoEarlier q k place number → IsNoEarlier place number from upto → IsNoEarlier q k from upto
 from_then q k place number from upto (inl a) (inl b) = inl (omega arith)
 from_then q k place number from upto (inl a) (inr b) = inl (omega (arith, b.0))
 from_then q k place number from upto (inr a) (inl b) = inl (omega (arith, a.0))
 from_then q k place number from upto (inr a) (inr b) = inr (omega (arith, a.0, b.0), omega (arith, a.1, b.1))
 
 -- past a place
-pub from_next : (q k place : ℕ) → place < q → IsFrom q k (place + 1) 0
+pub from_next : (q k place : ℕ) → place < q → IsNoEarlier q k (place + 1) 0
 from_next q k place lt = elim (cases_lt (place + 1) q) [
   | inl more ↦ inl more
   | inr same ↦ inr (omega arith, omega arith)
 ]
 
-pub next_from : (place number : ℕ) → IsFrom (place + 1) 0 place number
+pub next_from : (place number : ℕ) → IsNoEarlier (place + 1) 0 place number
 next_from place number = inl (omega arith)
 
-pub from_zero : (q k from upto : ℕ) → upto ≡ 0 → from ≤ q → IsFrom q k from upto
+pub from_zero : (q k from upto : ℕ) → upto ≡ 0 → from ≤ q → IsNoEarlier q k from upto
 from_zero q k from upto e le = elim (cases_lt from q) [
   | inl lt ↦ inl lt
   | inr ge ↦ inr (omega arith, omega arith)
@@ -92,7 +92,7 @@ module _ (p : PolicyView) (u : UniverseView) (l : LineView) (policy : IsPolicy p
     next_onward = elim next.onward [ inl lt ↦ omega arith | inr same ↦ omega (arith, same.0) ]
 
     -- nothing is allowed before it
-    pub next_first : (q k : ℕ) → IsHit p u l q k → IsFrom q k from upto → q < place → ⊥
+    pub next_first : (q k : ℕ) → IsHit p u l q k → IsNoEarlier q k from upto → q < place → ⊥
     next_first q k h f lt = elim (next.first q k h f) [ inl above ↦ omega arith | inr same ↦ omega (arith, same.0) ]
 
   module _ (from upto place number : ℕ) (next : IsNextHit p u l from upto place number) (zero : upto ≡ 0) where

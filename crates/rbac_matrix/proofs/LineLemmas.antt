@@ -16,7 +16,7 @@ use Rattle.rbac_matrix.specs.Cells.{AreRowsOf}
 use Rattle.rbac_matrix.specs.Lines.{LineView, line_cells_from}
 use Rattle.rbac_matrix.specs.Cursors.{IsCursorAt}
 use Rattle.rbac_reaches.specs.Reaches.{AreReaches, IsReachAt}
-use Rattle.rbac_matrix.specs.Passing.{EndsLine, FindsRow, IsFrom, IsHit, cell_of}
+use Rattle.rbac_matrix.specs.Passing.{EndsLine, FindsRow, IsNoEarlier, IsHit, cell_of}
 use Rattle.rbac_matrix.specs.declared.seat.Seat.{Seat}
 use Rattle.rbac_matrix.specs.Seats.{AreReal, AreSeated, AreSeatedAbout, ComesFirst, IsLeastSeat, IsSeated, past_all, reach_at, seat_at, start_at}
 use Rattle.rbac_matrix.proofs.SeekLemmas.{ascends}
@@ -152,12 +152,12 @@ module _ (p : PolicyView) (u : UniverseView) (rs : List (List ℕ)) (l : LineVie
     ]
 
     -- where the entries of a grant are left
-    started : (q k : ℕ) → IsFrom q k from upto → start_at from upto k ≤ q
+    started : (q k : ℕ) → IsNoEarlier q k from upto → start_at from upto k ≤ q
     started q k (inl lt) = omega arith
     started q k (inr same) = omega (arith, same.0, same.1)
 
     -- the seat of a cursor stands no further than what is allowed by it
-    pub seat_first : (q k : ℕ) → IsHit p u l q k → IsFrom q k from upto → (seat_at seats k).place ≤ q
+    pub seat_first : (q k : ℕ) → IsHit p u l q k → IsNoEarlier q k from upto → (seat_at seats k).place ≤ q
     seat_first q k h f =
         let c = hit_cursor p u l q k h in
         elim (cases_lt q (seat_at seats k).place) [
@@ -196,14 +196,14 @@ module _ (p : PolicyView) (u : UniverseView) (rs : List (List ℕ)) (l : LineVie
       pub least_within : place < length u.targets
       least_within = place_within number place least.cursor in_reach
 
-      pub least_from : IsFrom place number from upto
+      pub least_from : IsNoEarlier place number from upto
       least_from = let low = least_start in elim (cases_lt from place) [
         | inl lt ↦ inl lt
         | inr ge ↦ inr (omega arith, omega arith)
       ]
 
       -- nothing that is allowed comes before it
-      pub least_first : (q k : ℕ) → IsHit p u l q k → IsFrom q k from upto → IsFrom q k place number
+      pub least_first : (q k : ℕ) → IsHit p u l q k → IsNoEarlier q k from upto → IsNoEarlier q k place number
       least_first q k h f =
           let order = least.least k (hit_cursor p u l q k h) in
           let at = seat_first q k h f in
@@ -237,7 +237,7 @@ module _ (p : PolicyView) (u : UniverseView) (rs : List (List ℕ)) (l : LineVie
       }
 
       -- they are past it for the grants that come before, if these have passed it or have no entry there
-      here_each : (low k : ℕ) → low ≤ number → IsFrom place low from upto → ComesFirst place number (seat_at seats k).place k → IsSeated (reach_at rs k) (start_at from upto k) (seat_at seats k)
+      here_each : (low k : ℕ) → low ≤ number → IsNoEarlier place low from upto → ComesFirst place number (seat_at seats k).place k → IsSeated (reach_at rs k) (start_at from upto k) (seat_at seats k)
           → IsSeated (reach_at rs k) (start_at place low k) (seat_at seats k)
       here_each low k le onward order s = record {
         within = s.within;
@@ -249,7 +249,7 @@ module _ (p : PolicyView) (u : UniverseView) (rs : List (List ℕ)) (l : LineVie
         ];
       }
 
-      pub seats_here : (low : ℕ) → low ≤ number → IsFrom place low from upto → AreSeated p l rs place low seats
+      pub seats_here : (low : ℕ) → low ≤ number → IsNoEarlier place low from upto → AreSeated p l rs place low seats
       seats_here low le onward = record {
         count = seated.count;
         each = λ k within. elim (seated.each k within) [
@@ -259,11 +259,11 @@ module _ (p : PolicyView) (u : UniverseView) (rs : List (List ℕ)) (l : LineVie
       }
 
       -- a place that isn't past the first one isn't past a later one
-      from_here : (low first last : ℕ) → ((from ≡ first) × (upto ≡ last)) ⊎ (upto ≡ 0) → IsFrom place low first last → IsFrom place low from upto
+      from_here : (low first last : ℕ) → ((from ≡ first) × (upto ≡ last)) ⊎ (upto ≡ 0) → IsNoEarlier place low first last → IsNoEarlier place low from upto
       from_here low first last (inl same) onward = rw (same.0, same.1) onward
       from_here low first last (inr none) onward = from_zero place low from upto none least_onward
 
-      module _ (first last : ℕ) (onward : IsFrom from upto first last) (before : (q k : ℕ) → IsHit p u l q k → IsFrom q k first last → IsFrom q k from upto) (b : Bool) (flag : slice_get (map (λ (x : Listed). x.1) u.targets) place ≡ Some b) where
+      module _ (first last : ℕ) (onward : IsNoEarlier from upto first last) (before : (q k : ℕ) → IsHit p u l q k → IsNoEarlier q k first last → IsNoEarlier q k from upto) (b : Bool) (flag : slice_get (map (λ (x : Listed). x.1) u.targets) place ≡ Some b) where
         pub finds_row : ((from ≡ first) × (upto ≡ last)) ⊎ (upto ≡ 0) → (IsTrue b ⊎ (l.namespace ≡ [])) → FindsRow p u rs l first last seats place number
         finds_row moved fits =
             let t = read_some u.targets place least_within in
@@ -281,14 +281,14 @@ module _ (p : PolicyView) (u : UniverseView) (rs : List (List ℕ)) (l : LineVie
             }
 
         -- the request doesn't fit, and what is allowed comes after it
-        pub passes_unfit : (IsTrue b ⊎ (l.namespace ≡ []) → ⊥) → (q k : ℕ) → IsHit p u l q k → IsFrom q k first last → IsFrom q k (place + 1) 0
+        pub passes_unfit : (IsTrue b ⊎ (l.namespace ≡ []) → ⊥) → (q k : ℕ) → IsHit p u l q k → IsNoEarlier q k first last → IsNoEarlier q k (place + 1) 0
         passes_unfit unfit q k h f = elim (least_first q k h (before q k h f)) [
           | inl lt ↦ from_next q k place lt
           | inr same ↦ absurd (unfit (subst (λ (x : Bool). (IsTrue x) ⊎ (l.namespace ≡ []))
               (flag_at u.targets place h.target b (subst (λ (x : ℕ). slice_get u.targets x ≡ Some h.target) (sym same.0) h.target_at) flag) h.fits))
         ]
 
-        pub unfit_onward : IsFrom (place + 1) 0 first last
+        pub unfit_onward : IsNoEarlier (place + 1) 0 first last
         unfit_onward = from_then (place + 1) 0 place number first last (next_from place number) (from_then place number from upto first last least_from onward)
 
 -- past a place for all grants is at the next one
@@ -303,7 +303,7 @@ all_past p l rs place end seats all h = record {
   ];
 }
 
-pub ends_from : (p : PolicyView) (u : UniverseView) (rs : List (List ℕ)) (l : LineView) (first last from upto : ℕ) (seats : List Seat) → ((q k : ℕ) → IsHit p u l q k → IsFrom q k first last → IsFrom q k from upto) → EndsLine p u rs l from upto seats → EndsLine p u rs l first last seats
+pub ends_from : (p : PolicyView) (u : UniverseView) (rs : List (List ℕ)) (l : LineView) (first last from upto : ℕ) (seats : List Seat) → ((q k : ℕ) → IsHit p u l q k → IsNoEarlier q k first last → IsNoEarlier q k from upto) → EndsLine p u rs l from upto seats → EndsLine p u rs l first last seats
 ends_from p u rs l first last from upto seats before h = record {
   none = λ q k hit f. h.none q k hit (before q k hit f);
   reached = h.reached;

@@ -13,7 +13,7 @@ use Rattle.rbac_matrix.specs.Lines.{LineView, cells_of_lines, lines_from}
 use Rattle.rbac_matrix.specs.Metering.{IsReady}
 use Rattle.rbac_matrix.specs.Once.{PassesSome, StaysFirst, is_repeat, repeats_at}
 use Rattle.rbac_matrix.specs.Pairs.{AreThose, IsGranted}
-use Rattle.rbac_matrix.specs.Passing.{EndsAll, FindsCell, IsFrom, cell_of, cells_left, row_on}
+use Rattle.rbac_matrix.specs.Passing.{EndsAll, FindsCell, IsNoEarlier, cell_of, cells_left, row_on}
 use Rattle.rbac_matrix.specs.declared.every_rows.EveryRows.{EveryRows}
 use Rattle.rbac_matrix.proofs.BeginLemmas.{ready_line}
 use Rattle.rbac_matrix.proofs.EveryLemmas.{Splits, cells_head, none_left, passes_split, past_left, split_fewer, split_those}
@@ -160,7 +160,7 @@ module _ (s t : EveryRows) (policy : IsPolicy s.rows.index.now) (same : GoesOn s
     every_grant = rw same.index (slice_get_within p.grants no f.found.next.hit.grant f.found.next.hit.grant_at)
 
     -- the seats are ready there
-    onward : IsFrom t.rows.from t.upto f.begin f.low
+    onward : IsNoEarlier t.rows.from t.upto f.begin f.low
     onward = elim f.found.next.onward [
       | inl lt ↦ inl lt
       | inr there ↦ inr (

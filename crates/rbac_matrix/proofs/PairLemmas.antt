@@ -14,7 +14,7 @@ use Rattle.rbac_matrix.specs.Cells.{AreRowsOf}
 use Rattle.rbac_matrix.specs.Lines.{LineView}
 use Rattle.rbac_matrix.specs.Pairs.{AreThose, IsGranted, cell_pairs, pair_of, pairs_of}
 use Rattle.rbac_matrix.specs.EveryLeft.{AreBelow, pairs_from}
-use Rattle.rbac_matrix.specs.Passing.{HasNoHit, IsFrom, IsHit, IsNextHit, cell_of}
+use Rattle.rbac_matrix.specs.Passing.{HasNoHit, IsNoEarlier, IsHit, IsNextHit, cell_of}
 use Rattle.rbac_matrix.proofs.Decided.{first}
 use Rattle.rbac_matrix.proofs.RowLemmas.{rows_complete}
 use Rattle.rbac_matrix.proofs.SearchLemmas.{in_drop}
@@ -102,7 +102,7 @@ module _ (p : PolicyView) (policy : IsPolicy p) where
 
     module _ (from upto b : ℕ) (below : AreBelow p upto b) where
       -- a grant of a binding from that one on is no earlier
-      pub onward_grant : (q k j : ℕ) → IsOfBinding p k j → (from < q) ⊎ ((from ≡ q) × (b ≤ j)) → IsFrom q k from upto
+      pub onward_grant : (q k j : ℕ) → IsOfBinding p k j → (from < q) ⊎ ((from ≡ q) × (b ≤ j)) → IsNoEarlier q k from upto
       onward_grant q k j of (inl lt) = inl lt
       onward_grant q k j of (inr same) = inr (
         same.0,

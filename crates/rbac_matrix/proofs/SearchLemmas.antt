@@ -21,7 +21,8 @@ use Rattle.rbac_terms.proofs.Orderings.{less_alone}
 use Rattle.rbac_terms.proofs.Reading.{read_some}
 use Rattle.rbac_model.specs.Universes.{UniverseView, IsUniverse, Listed}
 use Rattle.rbac_universe.proofs.Flattened.{map_contains}
-use Rattle.rbac_matrix.specs.Starting.{IsFoundAt, IsGapAt, IsTargetPlace, target_part, what_texts, whats}
+use Rattle.rbac_reaches.specs.Matched.{what_texts}
+use Rattle.rbac_matrix.specs.Starting.{IsFoundAt, IsGapAt, IsTargetPlace, target_part, whats}
 
 index_few : (o : Ordering) → ordering_index o ≤ 2
 index_few Less = omega arith

@@ -46,8 +46,8 @@ pub record GivesRow (s : Rows) (r : Row) (t : Rows) : Type 0 where
       ↔ ((others : List RowView) × (all ≡ row ∷ others) × AreLeft t others)
 
 -- a call gave the first of the rows that were left, or nothing if none was left
-abbrev pub Gives : Rows → Option Row → Rows → Type 0
-Gives s r t = MatchOption r (AreLeft s [] × AreLeft t []) (λ row. GivesRow s row t)
+abbrev pub GivesFirstLeft : Rows → Option Row → Rows → Type 0
+GivesFirstLeft s r t = MatchOption r (AreLeft s [] × AreLeft t []) (λ row. GivesRow s row t)
 
 -- the lines entered are those in `behind`, then the line of the seats, if there is one
 abbrev pub EntersLast : List LineView → List LineView → List LineView → Type 0

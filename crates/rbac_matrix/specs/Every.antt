@@ -55,11 +55,11 @@ abbrev pub every_page : Option Mark → ℕ → List RowView → List RowView ×
 every_page m n rows = (take n (every_after m rows), nat_lt n (length (every_after m rows)))
 
 -- the mark of a row: its key and its binding's name
-abbrev pub name_of : Binding → BindingName
-name_of b = record { namespace = b.namespace; name = b.name }
+abbrev pub marked_name : Binding → BindingName
+marked_name b = record { namespace = b.namespace; name = b.name }
 
 abbrev pub mark_of : RowView → Mark
-mark_of row = record { key = cell_key row.cell; binding = Some (name_of row.binding) }
+mark_of row = record { key = cell_key row.cell; binding = Some (marked_name row.binding) }
 
 -- the rows after a mark are its page, then the rows after the mark of the page's last row; the page
 -- says that more follow exactly if some do (own)

@@ -18,7 +18,8 @@ use Rattle.rbac_matrix.specs.Metering.{AreSought}
 use Rattle.rbac_matrix.specs.Pairs.{IsGranted, pairs_of}
 use Rattle.rbac_matrix.specs.Passing.{cells_left}
 use Rattle.rbac_matrix.specs.Starting.{BeginsOnLine, IsOwnPlace, IsFoundAt, IsStart, cell_name}
-use Rattle.rbac_matrix.specs.Starting.{target_part, what_texts, whats}
+use Rattle.rbac_reaches.specs.Matched.{what_texts}
+use Rattle.rbac_matrix.specs.Starting.{target_part, whats}
 use Rattle.rbac_terms.specs.Keys.{texts}
 use Rattle.rbac_matrix.specs.declared.line.Place.{Place}
 use Rattle.rbac_matrix.specs.declared.every_rows.EveryRows.{EveryRows}

@@ -37,19 +37,19 @@ abbrev pub row_on : (p : PolicyView) (u : UniverseView) (l : LineView) (place nu
 row_on p u l place number r = record { cell = cell_of l r.target; binding = r.grant.binding }
 
 -- `place` and `number` don't come before `from` and `upto`
-abbrev pub IsFrom : ℕ → ℕ → ℕ → ℕ → Type 0
-IsFrom place number from upto = (from < place) ⊎ ((from ≡ place) × (upto ≤ number))
+abbrev pub IsNoEarlier : ℕ → ℕ → ℕ → ℕ → Type 0
+IsNoEarlier place number from upto = (from < place) ⊎ ((from ≡ place) × (upto ≤ number))
 
 -- the first hit, by place and then by number, from a place and a number on
 pub record IsNextHit (p : PolicyView) (u : UniverseView) (l : LineView)
     (from upto place number : ℕ) : Type 0 where
   pub hit : IsHit p u l place number
-  pub onward : IsFrom place number from upto
-  pub first : (q k : ℕ) → IsHit p u l q k → IsFrom q k from upto → IsFrom q k place number
+  pub onward : IsNoEarlier place number from upto
+  pub first : (q k : ℕ) → IsHit p u l q k → IsNoEarlier q k from upto → IsNoEarlier q k place number
 
 -- there is no hit from a place and a number on
 abbrev pub HasNoHit : PolicyView → UniverseView → LineView → ℕ → ℕ → Type 0
-HasNoHit p u l from upto = (q k : ℕ) → IsHit p u l q k → IsFrom q k from upto → ⊥
+HasNoHit p u l from upto = (q k : ℕ) → IsHit p u l q k → IsNoEarlier q k from upto → ⊥
 
 -- the next hit of a line, with the seat of its grant at its place; the seats are where they are if
 -- the rows from that place on are left, past it for grants that come before the hit's
@@ -59,7 +59,7 @@ pub record FindsRow (p : PolicyView) (u : UniverseView) (rs : List (List ℕ)) (
   pub cursor : IsCursorAt p l number
   pub stands : (seat_at seats number).place ≡ place
   pub about : (end : ℕ) → number < end → AreSeatedAbout p l rs place end seats
-  pub here : (low : ℕ) → low ≤ number → IsFrom place low from upto → AreSeated p l rs place low seats
+  pub here : (low : ℕ) → low ≤ number → IsNoEarlier place low from upto → AreSeated p l rs place low seats
 
 -- the line has no further hit
 pub record EndsLine (p : PolicyView) (u : UniverseView) (rs : List (List ℕ)) (l : LineView)
@@ -75,7 +75,7 @@ abbrev pub cells_left : UniverseView → Place → ℕ → List Cell
 cells_left u at from = cells_of_lines u from (lines_from u at)
 
 -- on a later line, at its first place, with nothing allowed in between
-pub record ComesTo (p : PolicyView) (u : UniverseView) (at : Place) (from upto : ℕ)
+pub record PassesLine (p : PolicyView) (u : UniverseView) (at : Place) (from upto : ℕ)
     (to : Place) : Type 0 where
   pub line : LineView
   pub next : Place
@@ -87,7 +87,7 @@ pub record ComesTo (p : PolicyView) (u : UniverseView) (at : Place) (from upto :
 abbrev pub Leads : PolicyView → UniverseView → Place → ℕ → ℕ → Place → ℕ → ℕ → Type 0
 Leads p u at from upto to begin low =
     ((to ≡ at) × (begin ≡ from) × (low ≡ upto))
-    ⊎ ((begin ≡ 0) × (low ≡ 0) × ComesTo p u at from upto to)
+    ⊎ ((begin ≡ 0) × (low ≡ 0) × PassesLine p u at from upto to)
 
 -- from line place `at`, target place `from` and grant number `upto` on, the next hit was that of
 -- target `place` and grant `number`, on the line at `to`

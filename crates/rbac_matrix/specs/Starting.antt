@@ -5,7 +5,7 @@ use Rattle.std.specs.declared.cmp.Ordering.{Ordering}
 use Rattle.std.specs.declared.cmp.Ordering.TheVariants.{Less, Equal, Greater}
 use Rattle.std.specs.Cmp.Lexicographic.{slice_cmp}
 use Rattle.rbac_terms.specs.Text.{Text, text_cmp}
-use Rattle.rbac_terms.specs.Targets.{What, group_of, text_of, name_of}
+use Rattle.rbac_terms.specs.Targets.{What}
 use Rattle.rbac_terms.specs.Principals.{who_key}
 use Rattle.rbac_terms.specs.Keys.{KeyTexts, texts}
 use Rattle.rbac_model.specs.Universes.{UniverseView, Listed, Cell, IsCellOf, target_texts}
@@ -69,10 +69,7 @@ pub record IsOwnPlace (u : UniverseView) (k : KeyTexts) (at : Place) : Type 0 wh
   pub namespace : IsFoundAt text_cmp (λ n. n) u.namespaces k.namespace at.namespace
   pub verb : IsFoundAt text_cmp (λ v. v) u.verbs k.verb at.verb
 
--- the texts by which targets are ordered, and those of a key's target
-abbrev pub what_texts : What → List Text
-what_texts t = group_of t ∷ text_of t ∷ name_of t ∷ []
-
+-- the targets of a universe, and the texts of a key's target
 abbrev pub whats : UniverseView → List What
 whats u = map (λ t. t.0) u.targets
 

@@ -4,9 +4,10 @@ ghost use Rattle.std.specs.Prelude.{◌≡◌, ◌<◌, ◌≤◌, ◌↔◌, []
 ghost use Rattle.std.specs.Prelude.{Any, true, false};
 ghost use Rattle.rbac_matrix.specs.Shown.{line_of};
 ghost use Rattle.rbac_subjects.specs.Bound.{HasRoleBindings};
-ghost use Rattle.rbac_model.specs.Policies.{IsPolicy};
+ghost use Rattle.rbac_model.specs.Policies.{IsPolicy, PolicyView};
+ghost use Rattle.rbac_model.specs.Universes.{UniverseView};
 ghost use Rattle.rbac_matrix.specs.Cursors.{AreRuns, AreRunsOf, AreVerbs, ServeBare, KeepGrantVerbs};
-ghost use Rattle.rbac_matrix.specs.GrantVerbs.{AreVerbsOfGrants};
+ghost use Rattle.rbac_matrix.specs.GrantVerbs.{AreVerbsOfGrant, AreVerbsOfGrants};
 
 use crate::grant_verbs::GrantVerbs;
 use crate::line::Line;
@@ -42,7 +43,9 @@ pub(crate) struct Runs {
 
 impl Runs {
     // No runs, for when there is no line.
-    pub(crate) fn new() -> Self {
+    pub(crate) fn new() -> Self
+        ensures { result.grants.items ≡ [] }
+    {
         Runs {
             kept: ArrayVec::new(),
             are_all: true,
@@ -52,39 +55,85 @@ impl Runs {
         }
     }
 
-    // The first runs of the line, and the verbs that their grants have. Those that are known of a
-    // grant are taken over.
-    pub(crate) fn of(
-        index: &Index<'_>,
-        universe: &Universe,
-        line: Line<'_>,
-        known: &[GrantVerbs],
-    ) -> Self
-        requires { AreVerbsOfGrants index.now universe.now known.now }
+    // The first runs of the line, and the verbs that their grants have.
+    pub(crate) fn of(index: &Index<'_>, universe: &Universe, line: Line<'_>) -> Self
         ensures runs { AreRunsOf index.now universe.now (line_of line.entry) result }
         ensures bare { ServeBare index.now universe.now line.entry.principal.now result }
     {
-        let mut runs = Runs::first(index, line);
-        runs.grants = grants_of(index, universe, line, &runs, known);
-        runs.verbs = verbs_of(index, universe, line, &runs);
+        let mut runs = Runs::new();
+        runs.fill(index, universe, line);
         runs
     }
 
-    // The first runs of the line; its verbs aren't filled in yet.
-    fn first(index: &Index<'_>, line: Line<'_>) -> Self
-        ensures runs { AreRuns index.now (line_of line.entry) result }
-        ensures bare { IsTrue result.is_bare
+    // Makes these the first runs of the line, with the verbs that their grants have. Those that are
+    // known of a grant are left. Not inlined, since a function clears the room for its own values
+    // whenever it is called.
+    #[inline(never)]
+    pub(crate) fn fill(&mut self, index: &Index<'_>, universe: &Universe, line: Line<'_>)
+        requires { KeepGrantVerbs index.now universe.now self.old }
+        ensures runs { AreRunsOf index.now universe.now (line_of line.entry) self.new }
+        ensures bare { ServeBare index.now universe.now line.entry.principal.now self.new }
+    {
+        self.fill_runs(index, line);
+        self.fill_grants(index, universe, line);
+        self.fill_verbs(index, universe, line);
+    }
+
+    // Makes these the first runs of the line; its verbs aren't filled in yet.
+    fn fill_runs(&mut self, index: &Index<'_>, line: Line<'_>)
+        ensures runs { AreRuns index.now (line_of line.entry) self.new }
+        ensures bare { IsTrue self.new.is_bare
             → ¬ HasRoleBindings index.now.held line.entry.namespace.now }
         ensures policy { IsPolicy index.now }
+        ensures grants { self.new.grants ≡ self.old.grants }
     {
         let subjects = index.subjects();
         let found = subjects.first_runs(line.principal, line.namespace);
-        Runs {
-            kept: found.runs,
-            are_all: found.are_all,
-            is_bare: !subjects.has_role_bindings(line.namespace),
-            verbs: ArrayVec::new(),
-            grants: ArrayVec::new(),
+        self.kept = found.runs;
+        self.are_all = found.are_all;
+        self.is_bare = !subjects.has_role_bindings(line.namespace);
+    }
+
+    // Fills in which verbs each of the first of these grants has.
+    fn fill_grants(&mut self, index: &Index<'_>, universe: &Universe, line: Line<'_>)
+        requires runs { AreRuns index.now (line_of line) self.old }
+        requires told { KeepGrantVerbs index.now universe.now self.old }
+        ensures told { KeepGrantVerbs index.now universe.now self.new }
+        ensures same { self.new ≡ record self.old { grants = self.new.grants } }
+    {
+        let mut walk = whole_walk();
+        let mut nth = 0;
+        while let Some(no) = next_bound(index, line, self, &mut walk) {
+            if nth == MOST_GRANTS {
+                return;
+            }
+            let told = GrantVerbs::of(index, universe, no, self.grants.as_slice(), nth);
+            keep_at(&mut self.grants, nth, told);
+            nth += 1;
+        }
+    }
+
+    // Fills in of the first verbs of the universe whether one of these grants has each.
+    fn fill_verbs(&mut self, index: &Index<'_>, universe: &Universe, line: Line<'_>)
+        requires runs { AreRuns index.now (line_of line) self.old }
+        requires told { KeepGrantVerbs index.now universe.now self.old }
+        ensures verbs { AreVerbs index.now universe.now
+            line.entry.principal.now line.entry.namespace.now self.new.verbs.items }
+        ensures same { self.new ≡ record self.old { verbs = self.new.verbs } }
+    {
+        self.verbs.clear();
+        for (verb_place, verb) in universe.verbs().iter().enumerate() {
+            if self.verbs.is_full() {
+                return;
+            }
+            let line = Line {
+                principal: line.principal,
+                namespace: line.namespace,
+                verb,
+                verb_place,
+            };
+            let has = has_cursor(index, universe, line, self);
+            self.verbs.push(has);
         }
     }
 
@@ -157,54 +206,16 @@ impl Runs {
     }
 }
 
-// Of the first of these grants, which verbs each has.
-fn grants_of(
-    index: &Index<'_>,
-    universe: &Universe,
-    line: Line<'_>,
-    runs: &Runs,
-    known: &[GrantVerbs],
-) -> ArrayVec<GrantVerbs, MOST_GRANTS>
-    requires runs { AreRuns index.now (line_of line) runs.now }
-    requires known { AreVerbsOfGrants index.now universe.now known.now }
-    ensures { AreVerbsOfGrants index.now universe.now result.items }
+// Puts what is told of a grant at this place, or after the others if there is room.
+fn keep_at(kept: &mut ArrayVec<GrantVerbs, MOST_GRANTS>, nth: usize, told: GrantVerbs)
+    ensures { (p : PolicyView) (u : UniverseView) → AreVerbsOfGrants p u kept.old.items
+        → AreVerbsOfGrant p u told → AreVerbsOfGrants p u kept.new.items }
 {
-    let mut told = ArrayVec::new();
-    let mut walk = whole_walk();
-    while let Some(no) = next_bound(index, line, runs, &mut walk) {
-        if told.is_full() {
-            break;
-        }
-        let nth = told.as_slice().len();
-        told.push(GrantVerbs::of(index, universe, no, known, nth));
+    if nth < kept.as_slice().len() {
+        kept.as_mut_slice()[nth] = told;
+        return;
     }
-    told
-}
-
-// Of the first verbs of the universe, whether one of these grants has each.
-fn verbs_of(
-    index: &Index<'_>,
-    universe: &Universe,
-    line: Line<'_>,
-    runs: &Runs,
-) -> ArrayVec<bool, MOST_TOLD>
-    requires runs { AreRuns index.now (line_of line) runs.now }
-    requires told { KeepGrantVerbs index.now universe.now runs.now }
-    ensures { AreVerbs index.now universe.now
-        line.entry.principal.now line.entry.namespace.now result.items }
-{
-    let mut told = ArrayVec::new();
-    for (verb_place, verb) in universe.verbs().iter().enumerate() {
-        if told.is_full() {
-            break;
-        }
-        let line = Line {
-            principal: line.principal,
-            namespace: line.namespace,
-            verb,
-            verb_place,
-        };
-        told.push(has_cursor(index, universe, line, runs));
+    if !kept.is_full() {
+        kept.push(told);
     }
-    told
 }

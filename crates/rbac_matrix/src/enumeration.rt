@@ -9,7 +9,7 @@ ghost use Rattle.rbac_model.specs.Universes.{IsUniverse, most_targets};
 ghost use Rattle.rbac_model.specs.Policies.{IsPolicy};
 ghost use Rattle.rbac_reaches.specs.Reaches.{AreReaches};
 ghost use Rattle.rbac_matrix.specs.Lines.{IsSettled};
-ghost use Rattle.rbac_matrix.specs.Enumeration.{AreEntered, BeginsAt, Gives, GoesOn, IsGoing};
+ghost use Rattle.rbac_matrix.specs.Enumeration.{AreEntered, BeginsAt, GivesFirstLeft, GoesOn, IsGoing};
 ghost use Rattle.rbac_matrix.specs.Enumeration.{IsUnderWay, left_at_most};
 
 use crate::advance::advance;
@@ -139,13 +139,13 @@ impl<'m> Iterator for Rows<'_, 'm> {
 
     ghost can_next = { IsGoing };
 
-    ghost next_gives = { Gives };
+    ghost next_gives = { GivesFirstLeft };
 
     ghost remaining = { left_at_most };
 
     fn next(&mut self) -> Option<Row<'m>>
         requires { IsGoing self.old }
-        ensures steps { Gives self.old result self.new }
+        ensures steps { GivesFirstLeft self.old result self.new }
         ensures goes { MakesProgress IsGoing left_at_most self.old result self.new }
         ensures going { IsGoing self.new }
         ensures returned { self.new.returned

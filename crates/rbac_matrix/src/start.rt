@@ -16,7 +16,8 @@ ghost use Rattle.rbac_reaches.specs.Reaches.{AreReaches};
 ghost use Rattle.rbac_matrix.specs.Seats.{AreEmpty};
 ghost use Rattle.rbac_matrix.specs.Starting.{BeginsOnLine, HasNoLine, IsFoundAt, IsGapAt};
 ghost use Rattle.rbac_matrix.specs.Starting.{IsOwnPlace, IsStart, IsTargetPlace, target_part};
-ghost use Rattle.rbac_matrix.specs.Starting.{what_texts, whats};
+ghost use Rattle.rbac_reaches.specs.Matched.{what_texts};
+ghost use Rattle.rbac_matrix.specs.Starting.{whats};
 
 use crate::basis::Basis;
 use crate::bound_runs::Runs;
@@ -194,7 +195,7 @@ pub(crate) fn seat_start(
     let Some(line) = line_at(basis.universe, start.at) else {
         return 0;
     };
-    kept.runs = Runs::of(index, basis.universe, line, &[]);
+    kept.runs = Runs::of(index, basis.universe, line);
     let filled = seat_line(basis, line, &kept.runs, start.from, seats, meter);
     kept.blocks.fill(index, line, &kept.runs, filled, seats);
     if start.from == 0 {

@@ -99,7 +99,7 @@ fn renew(basis: Basis<'_>, line: Line<'_>, at: Place, runs: &mut Runs)
     if 0 < at.namespace && runs.serve(basis.index, line.namespace) {
         return;
     }
-    *runs = Runs::of(basis.index, basis.universe, line, runs.grants());
+    runs.fill(basis.index, basis.universe, line);
 }
 
 // Seats the cursors of the next line, from this place on, that has cursors with an entry, and

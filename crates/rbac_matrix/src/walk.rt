@@ -56,6 +56,7 @@ pub(crate) fn whole_walk() -> Walk
 
 // Returns the number of a cursor and moves on to the others; `None` if all were returned. `seen`
 // counts the grants that the walk came to: where it isn't their count, look-ups take longer.
+#[inline(always)]
 pub(crate) fn next_cursor(
     index: &Index<'_>,
     universe: &Universe,
@@ -104,6 +105,7 @@ pub(crate) fn has_cursor(
 }
 
 // The next grant of a binding that names who asks and may be live, whatever the grant's verbs.
+#[inline(always)]
 pub(crate) fn next_bound(
     index: &Index<'_>,
     line: Line<'_>,
@@ -136,6 +138,7 @@ pub(crate) fn next_bound(
 
 // The next grant below `end` to look at. Skipped grants can't be cursors. Past the runs that are
 // kept, no grant is skipped: to look at a seat takes less than to look up a run.
+#[inline(always)]
 pub(crate) fn next_below(
     index: &Index<'_>,
     line: Line<'_>,

@@ -1,12 +1,11 @@
-//! Rows of a matrix.
+//! Bindings and fields of rows.
 
-ghost use Rattle.std.specs.Prelude.{◌≡◌, ◌++◌, ◌∷◌, [], OnOk, map};
+ghost use Rattle.std.specs.Prelude.{◌≡◌, ◌++◌, ◌∷◌, [], OnOk};
 ghost use Rattle.std.specs.List.{flat_map};
 ghost use Rattle.std.specs.Option.{option_copied};
 ghost use Rattle.rbac_terms.specs.Text.{slash};
-ghost use Rattle.rbac_terms.specs.Keys.{KeyTexts, texts};
 ghost use Rattle.rbac_text.specs.Field.{byte_text};
-ghost use Rattle.rbac_text.specs.Row.{binding_scope, binding_text, field_and_tab, row_text};
+ghost use Rattle.rbac_text.specs.Row.{binding_scope, binding_text, field_and_tab};
 
 use crate::field::{put_field, put_text};
 use rbac_terms::{Binding, CLUSTER_ROLE_BINDING, ROLE_BINDING, Word};
@@ -44,30 +43,6 @@ pub(crate) fn put_kind(line: &mut Vec<u8>, kind: &str) -> Result<(), AllocError>
 {
     line.extend_from_slice(kind.as_bytes())?;
     line.push(b'/')?;
-    Ok(())
-}
-
-/// Adds the line of a row of the matrix (own): the six texts of the request's key, in the key's
-/// order, and the binding that grants it, joined by tabs, with a newline at the end. If it runs out
-/// of memory, a prefix of the line may have been added.
-pub fn put_row(line: &mut Vec<u8>, key: [&Word; 6], binding: &Binding) -> Result<(), AllocError>
-    ensures { (k : KeyTexts) → map (λ text. text.now) key.entry ≡ texts k
-        → OnOk result (line.new.items ≡ line.old.items ++ row_text k binding.now) }
-{
-    put_texts(line, key.as_slice())?;
-    put_binding(line, binding)?;
-    line.push(b'\n')?;
-    Ok(())
-}
-
-// Adds texts as fields, each with a tab after it.
-fn put_texts(line: &mut Vec<u8>, texts: &[&Word]) -> Result<(), AllocError>
-    ensures { OnOk result (line.new.items
-        ≡ line.old.items ++ flat_map field_and_tab (map (λ text. text.now) texts.now)) }
-{
-    for text in texts {
-        put_field_and_tab(line, text.as_bytes())?;
-    }
     Ok(())
 }
 

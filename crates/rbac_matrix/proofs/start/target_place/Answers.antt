@@ -3,7 +3,8 @@ use Rattle.std.proofs.lemmas.Fn.{answers_by}
 use Rattle.std.proofs.lemmas.Cmp.{nat_list_cmp_total, lists_total}
 use Rattle.std.specs.Cmp.Lexicographic.{slice_cmp}
 use Rattle.rbac_terms.specs.Text.{text_cmp}
-use Rattle.rbac_matrix.specs.Starting.{target_part, what_texts, whats}
+use Rattle.rbac_reaches.specs.Matched.{what_texts}
+use Rattle.rbac_matrix.specs.Starting.{target_part, whats}
 use Rattle.rbac_matrix.proofs.SearchLemmas.{place_from, whats_up}
 use Rattle.rbac_matrix.proofs.start.target_place.Goals as goal
 
