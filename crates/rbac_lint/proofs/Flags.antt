@@ -3,12 +3,10 @@ use Rattle.std.proofs.Common.{◌≡◌, ℕ, ◌<◌, ◌+◌, ◌⊎◌, ◌�
 use Rattle.std.specs.Prelude.{Option, Some, None, slice_get, Bool, true, false, Any, IsTrue, IsSome, Contains}
 use Rattle.std.specs.declared.cmp.Ordering.TheVariants.{Less}
 use Rattle.std.proofs.lemmas.Bool.{cases_eq, cases_lt}
-use Rattle.std.proofs.lemmas.Cmp.{tied_itself}
 use Rattle.std.proofs.lemmas.List.{get_or-set_same, get_or-set_other, length-set, length-map}
 use Rattle.std.proofs.lemmas.List.Elements.{Contains-append_left, Contains-push, Contains-push_cases}
 use Rattle.std.proofs.lemmas.Option.{slice_get_within, slice_get-get_or, get_or_from_slice_get, same_Some, slice_get-map}
-use Rattle.rbac_terms.specs.Text.{Text, text_cmp}
-use Rattle.std.specs.Cmp.Lexicographic.{slice_cmp}
+use Rattle.rbac_terms.specs.Text.{Text}
 use Rattle.rbac_terms.specs.declared.selecting.Selector.{Selector}
 use Rattle.rbac_terms.specs.declared.granting.ClusterRole.{ClusterRole}
 use Rattle.rbac_terms.specs.declared.granting.Binding.{Binding}
@@ -19,7 +17,7 @@ use Rattle.rbac_model.specs.Places.{IsReachedAt, source_at}
 use Rattle.rbac_model.specs.declared.places.RolePlace.{RolePlace}
 use Rattle.rbac_model.specs.declared.places.RolePlace.TheVariants.{RoleAt, ClusterRoleAt}
 use Rattle.rbac_model.specs.Policies.{Held, IsHeld, Source, InRole, InClusterRole, IsPlain, IsRefTo, Reaches, Step, IsPath, Gathers}
-use Rattle.rbac_model.proofs.NamePlaces.{total}
+use Rattle.rbac_model.proofs.NamePlaces.{equal_from_name}
 use Rattle.rbac_lint.specs.Roles.{roles_in}
 use Rattle.rbac_lint.specs.NamedRoles.{AreRoleFlags, AreNamed, AreGatherers, AreFlagsWith, IsReachedByNamedAt}
 use Rattle.rbac_lint.specs.Findings.{IsNamedByBinding, IsUsed}
@@ -28,9 +26,7 @@ use Rattle.rbac_lint.proofs.RoleLines.{source_texts, roles_ascend, cluster_role_
 
 -- one name stands at one place
 never_below : {X : Type 0} (name : X → List Text) (x y : X) → name x ≡ name y → by_name name x y ≡ Less → ⊥
-never_below name x y e l =
-    let less : by_name name x x ≡ Less = ap (λ (t : List Text). slice_cmp text_cmp (name x) t) e ∙ l in
-    let tied = tied_itself (total name) x in cc
+never_below name x y e l = let tied = equal_from_name name x y e in cc
 
 same_place : {X : Type 0} (name : X → List Text) (xs : List X) (k j : ℕ) (x y : X) → IsAscendingBy name xs → slice_get xs k ≡ Some x → slice_get xs j ≡ Some y → name x ≡ name y → k ≡ j
 same_place name xs k j x y up a b e = elim (cases_lt k j) [

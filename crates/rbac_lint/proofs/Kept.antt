@@ -3,7 +3,9 @@ use Rattle.std.proofs.Common.{◌≡◌, ℕ, ◌↔◌, inl, inr, List, length,
 use Rattle.std.specs.Prelude.{None}
 use Rattle.std.proofs.lemmas.Option.{slice_get_within}
 use Rattle.rbac_terms.specs.Text.{Text}
-use Rattle.rbac_model.specs.Policies.{Held}
+use Rattle.rbac_terms.specs.declared.matching.Rule.{Rule}
+use Rattle.rbac_model.specs.Places.{rules_of}
+use Rattle.rbac_model.specs.Policies.{Held, Source}
 use Rattle.rbac_manifest.specs.declared.replacement.Replaced.{Replaced}
 use Rattle.rbac_lint.specs.declared.finding.Finding.{Finding}
 use Rattle.rbac_lint.specs.Lines.{Line, ObjectName, object_texts, AddsLines, OfFirst, OfEach}
@@ -11,6 +13,8 @@ use Rattle.rbac_lint.specs.Findings.{IsFinding, AreFindings}
 use Rattle.rbac_lint.specs.Wanted.{WantedView, IsUserFacing, IsSystem, HasCode, IsKept, IsWanted, AreWanted, OfKept, OfWanted}
 use Rattle.rbac_lint.proofs.Exact.{AddsLines-none, AddsLines-same, AreShown-same}
 use Rattle.rbac_lint.proofs.Order.{Names}
+use Rattle.rbac_lint.proofs.RoleLines.{source_texts}
+use Rattle.rbac_lint.specs.Roles.{IsPlainRole, source_object}
 
 -- whether an object is kept depends on its texts alone
 system_texts : (a b : ObjectName) → object_texts a ≡ object_texts b → IsSystem b → IsSystem a
@@ -50,6 +54,20 @@ module _ {X : Type 0} (name : X → List Text) (P : X → Line → Type 0) (code
   pub AddsLines-unwanted : (xs : List X) (old : List Finding) → (HasCode w code → ⊥) → AddsLines (OfWanted w (OfEach (λ k y. P y) xs)) old old
   AddsLines-unwanted xs old never =
       AddsLines-none (OfWanted w (OfEach (λ k y. P y) xs)) old (λ x h. never (subst (λ c. HasCode w c) (names.code_is h.0.1 x h.0.3) h.1.0))
+
+-- the lines of a role's rules, if these are asked for
+module _ (Q : Source → List Rule → ℕ → Rule → Line → Type 0) (code : ℕ) (names : Names source_texts (λ s x. IsPlainRole s × OfEach (Q s (rules_of s)) (rules_of s) x) code) (w : WantedView) (s : Source) where
+  abbrev OfRules : Line → Type 0
+  OfRules x = IsPlainRole s × OfEach (Q s (rules_of s)) (rules_of s) x
+
+  pub AddsLines-unasked : (old : List Finding) → (IsKept w (source_object s) × IsPlainRole s → ⊥) → AddsLines (OfKept w OfRules) old old
+  AddsLines-unasked old never = AddsLines-none (OfKept w OfRules) old (λ x p. never (kept_texts w x.object (source_object s) (names.object_is s x p.0) p.1, p.0.0))
+
+  pub AddsLines-asked : (rules : List Rule) (old new : List Finding) → IsKept w (source_object s) × IsPlainRole s × (rules ≡ rules_of s) → AddsLines (OfEach (Q s rules) rules) old new → AddsLines (OfKept w OfRules) old new
+  AddsLines-asked rules old new asked p =
+      let P : List Rule → Type 0 = λ rs. AddsLines (OfEach (Q s rs) rs) old new in
+      AddsLines-same (OfEach (Q s (rules_of s)) (rules_of s)) (OfKept w OfRules) old new (subst P asked.2 p)
+      (λ x. (λ h. h.0.1, λ h. ((asked.1, h), kept_texts w (source_object s) x.object (sym (names.object_is s x (asked.1, h))) asked.0)))
 
 -- everything is asked for
 pub all_wanted : (h : Held) (rs : List Replaced) (found : List Finding) → AreWanted (record { only = None; skip_system = false }) h rs found ↔ AreFindings h rs found

@@ -1,7 +1,6 @@
 -- the least rule that makes another redundant
-use Rattle.std.proofs.Common.{◌≡◌, ℕ, ◌+◌, ◌<◌, inl, inr, List, [], ◌∷◌, ◌++◌, subst, arith, ap, ◌∙◌, refl}
+use Rattle.std.proofs.Common.{◌≡◌, ℕ, ◌+◌, ◌<◌, List, [], ◌∷◌, ◌++◌, arith, ap, ◌∙◌, refl}
 use Rattle.std.specs.Prelude.{Some, slice_get, decimal}
-use Rattle.std.proofs.lemmas.Bool.{cases_lt}
 use Rattle.rbac_terms.specs.declared.matching.Rule.{Rule}
 use Rattle.rbac_lint.specs.Findings.{MakesRedundantAt, MakesRedundant, IsLeastCover, IsRedundantAt, role_line}
 use Rattle.rbac_model.specs.Policies.{Source}
@@ -12,32 +11,6 @@ use Rattle.rbac_lint.proofs.Exact.{AddsLines-none, AddsLines-one}
 -- none of the first n rules makes it redundant
 abbrev pub NoneBelow : List Rule → ℕ → Rule → ℕ → Type 0
 NoneBelow rules i b n = (k : ℕ) (z : Rule) → k < n → slice_get rules k ≡ Some z → MakesRedundantAt i b k z → ⊥
-
-module _ (rules : List Rule) (i : ℕ) (b : Rule) where
-  pub none_more : (j : ℕ) (a : Rule) → slice_get rules j ≡ Some a → NoneBelow rules i b j → (MakesRedundantAt i b j a → ⊥) → NoneBelow rules i b (j + 1)
-  none_more j a e below never k z l f m =
-      elim (cases_lt k j) [
-        | inl lt ↦ below k z lt f m
-        | inr le ↦ let same : k ≡ j = omega (arith, le, l) in
-            let one : z ≡ a = cc in
-            let A : ℕ → Type 0 = λ n. MakesRedundantAt i b n z in
-            let B : Rule → Type 0 = λ r. MakesRedundantAt i b j r in
-            never (subst B one (subst A same m))
-      ]
-
-  at_rule : (k : ℕ) (c : Rule) (z : Rule) → slice_get rules i ≡ Some b → slice_get rules i ≡ Some c → MakesRedundantAt i c k z → MakesRedundantAt i b k z
-  at_rule k c z e f m =
-      let same : c ≡ b = cc in
-      let A : Rule → Type 0 = λ r. MakesRedundantAt i r k z in subst A same m
-
-  pub least : (j : ℕ) (a : Rule) → slice_get rules i ≡ Some b → slice_get rules j ≡ Some a → NoneBelow rules i b j → MakesRedundantAt i b j a → IsLeastCover rules i j
-  least j a here e below m = (
-    (b, a, here, e, m),
-    λ k r. elim (cases_lt k j) [
-      | inl lt ↦ absurd (below k r.1 lt r.3 (at_rule k r.0 r.1 here r.2 r.4))
-      | inr le ↦ le
-    ],
-  )
 
 -- what one rule adds
 least_one : (rules : List Rule) (i j k : ℕ) → IsLeastCover rules i j → IsLeastCover rules i k → j ≡ k

@@ -118,13 +118,6 @@ adds_under m w old new p e same =
       ascending = λ up was. here (λ ls. All (λ x. IsAscending x.now) ls) (All-push (λ x. IsAscending x.now) old.lists.items p was (subst IsAscending (sym same) (up w)));
     }
 
-pub adds_none : (m : PlaceLists) (P : Text → Type 0) (c : Candidates) → ((u : Text) → P u → ⊥) → AddsUnder m P c c
-adds_none m P c none = record {
-  kept = λ n s. s;
-  has = λ u n is s. absurd (none u is);
-  ascending = λ up was. was;
-}
-
 pub adds_fewer : (m : PlaceLists) (P Q : Text → Type 0) (old new : Candidates) → ((u : Text) → Q u → P u) → AddsUnder m P old new → AddsUnder m Q old new
 adds_fewer m P Q old new f a = record {
   kept = a.kept;

@@ -6,7 +6,7 @@ use Rattle.std.specs.Cmp.Lexicographic.{slice_cmp}
 use Rattle.std.proofs.lemmas.Option.{slice_get_within, get_or_from_slice_get}
 use Rattle.rbac_terms.specs.Text.{Text, text_cmp}
 use Rattle.rbac_terms.specs.declared.granting.Binding.{Binding}
-use Rattle.rbac_model.specs.Lists.{IsAscendingBy}
+use Rattle.rbac_model.specs.Lists.{by_name, IsAscendingBy}
 use Rattle.rbac_model.specs.Policies.{binding_name, binding_name_at}
 use Rattle.rbac_lint.specs.declared.finding.Finding.{Finding}
 use Rattle.rbac_lint.specs.Lines.{Line, ObjectName, object_texts, place_key, IsLineBefore, AddsLines, OfFirst}
@@ -17,12 +17,12 @@ later_place : (a b : Line) → a.code ≡ b.code → a.object ≡ b.object → p
 later_place a b e o l = inr (e, inr (ap object_texts o, inl l))
 
 -- ascending names, place by place
-pub ascends : {X : Type 0} (name : X → List Text) (xs : List X) (k i : ℕ) (z y : X) → IsAscendingBy name xs → k < i → slice_get xs k ≡ Some z → slice_get xs i ≡ Some y → slice_cmp text_cmp (name z) (name y) ≡ Less
+pub ascends : {X : Type 0} (name : X → List Text) (xs : List X) (k i : ℕ) (z y : X) → IsAscendingBy name xs → k < i → slice_get xs k ≡ Some z → slice_get xs i ≡ Some y → by_name name z y ≡ Less
 ascends name xs k i z y up l f g =
     let below = up k i z l (slice_get_within xs i y g) in
     let first : get_or xs k z ≡ z = get_or_from_slice_get xs k z z f in
     let second : get_or xs i z ≡ y = get_or_from_slice_get xs i y z g in
-    sym (ap (λ t. slice_cmp text_cmp (name t) (name (get_or xs i z))) first ∙ ap (λ t. slice_cmp text_cmp (name z) (name t)) second) ∙ below
+    sym (ap (λ t. by_name name t (get_or xs i z)) first ∙ ap (λ t. by_name name z t) second) ∙ below
 
 -- the lines of one element of a list have one code, and name it
 pub record Names {X : Type 0} (name : X → List Text) (P : X → Line → Type 0) (code : ℕ) : Type 0 where
@@ -31,7 +31,7 @@ pub record Names {X : Type 0} (name : X → List Text) (P : X → Line → Type 
 
 -- and so the lines of one element after another are in order, where names ascend
 module _ {X : Type 0} (name : X → List Text) (P : X → Line → Type 0) (code : ℕ) (names : Names name P code) where
-  named_before : (z y : X) (a b : Line) → slice_cmp text_cmp (name z) (name y) ≡ Less → P z a → P y b → IsLineBefore a b
+  named_before : (z y : X) (a b : Line) → by_name name z y ≡ Less → P z a → P y b → IsLineBefore a b
   named_before z y a b l p q =
       inr (
         names.code_is z a p ∙ sym (names.code_is y b q),

@@ -1,19 +1,18 @@
--- the roles of an export in order, and the lines of their rules
+-- the roles of an export in order
 use Rattle.std.proofs.Common.{◌≡◌, ℕ, ◌<◌, ◌+◌, ◌-◌, inl, inr, List, [], ◌∷◌, ◌++◌, get_or, length, map, sym, ap, ◌∙◌, refl, arith, zero, suc}
-use Rattle.std.specs.Prelude.{Option, Some, None, Contains, slice_get, Bool, true, false, is_some, option_map}
+use Rattle.std.specs.Prelude.{Some, Contains, slice_get, option_map}
 use Rattle.std.specs.Cmp.Lexicographic.{slice_cmp}
 use Rattle.std.specs.declared.cmp.Ordering.TheVariants.{Less}
 use Rattle.std.proofs.lemmas.List.{length-append, length-map, get_or-map}
 use Rattle.std.proofs.lemmas.Option.{slice_get-map, slice_get-get_or, slice_get_within, same_Some}
 use Rattle.std.proofs.lemmas.Bool.{cases_lt}
 use Rattle.rbac_terms.specs.Text.{Text, text_cmp}
-use Rattle.rbac_terms.specs.declared.selecting.Selector.{Selector}
 use Rattle.rbac_terms.specs.declared.granting.Role.{Role}
 use Rattle.rbac_terms.specs.declared.granting.ClusterRole.{ClusterRole}
 use Rattle.rbac_model.specs.Lists.{by_name, IsAscendingBy}
 use Rattle.rbac_model.specs.Policies.{Held, IsHeld, Source, InRole, InClusterRole, role_name, cluster_role_name}
 use Rattle.rbac_lint.specs.Lines.{object_texts}
-use Rattle.rbac_lint.specs.Roles.{roles_in, IsPlainRole, source_object}
+use Rattle.rbac_lint.specs.Roles.{roles_in, source_object}
 use Rattle.rbac_lint.proofs.Exact.{all_pairs_append}
 
 -- the texts by which roles are ordered
@@ -103,16 +102,3 @@ roles_ascend h held =
     let c = contains_map (λ r. InClusterRole r) h.cluster_roles x a in
     let r = contains_map (λ r. InRole r) h.roles y b in
     cluster_first c.0 r.0 x y c.1 r.1)
-
--- ---- the lines of the rules of a role
-
-aggregated_some : (o : Option (List Selector)) (b : Bool) → b ≡ is_some o → b ≡ true → o ≡ None → ⊥
-aggregated_some None b e f g = cc
-aggregated_some (Some x) b e f g = cc
-
-plain_none : (o : Option (List Selector)) (b : Bool) → b ≡ is_some o → b ≡ false → o ≡ None
-plain_none None b e f = refl
-plain_none (Some x) b e f = cc
-
-pub plain : (r : ClusterRole) (b : Bool) → b ≡ is_some r.aggregation → b ≡ false → IsPlainRole (InClusterRole r)
-plain r b e f = plain_none r.aggregation b e f

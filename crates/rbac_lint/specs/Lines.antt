@@ -2,8 +2,8 @@
 use Rattle.std.specs.Prelude.{◌≡◌, ℕ, ◌+◌, ◌<◌, ◌⊎◌, ◌↔◌, List, [], ◌∷◌, ◌++◌, Option, Some, None}
 use Rattle.std.specs.Prelude.{Contains, AllPairs, codes, map, slice_get, unwrap_or}
 use Rattle.std.specs.declared.cmp.Ordering.TheVariants.{Less}
-use Rattle.std.specs.Cmp.Lexicographic.{slice_cmp}
 use Rattle.rbac_terms.specs.Text.{Text, text_cmp}
+use Rattle.rbac_model.specs.Lists.{by_name}
 use Rattle.rbac_lint.specs.declared.finding.Finding.{Finding}
 
 -- an object by its kind, its namespace (none for a cluster-scoped object) and its name
@@ -44,7 +44,7 @@ place_key (Some i) = i + 1
 abbrev pub IsLineBefore : Line → Line → Type 0
 IsLineBefore a b = (a.code < b.code)
     ⊎ ((a.code ≡ b.code)
-    × ((slice_cmp text_cmp (object_texts a.object) (object_texts b.object) ≡ Less)
+    × ((by_name object_texts a.object b.object ≡ Less)
     ⊎ ((object_texts a.object ≡ object_texts b.object) × ((place_key a.place < place_key b.place)
     ⊎ ((a.place ≡ b.place) × (text_cmp a.other b.other ≡ Less))))))
 

@@ -9,7 +9,7 @@ ghost use Rattle.rbac_lint.specs.Escalation.{escalation_words};
 ghost use Rattle.rbac_lint.specs.Wanted.{OfKept, OfWanted};
 
 use crate::finding::{Finding, Findings, role_word};
-use crate::roles::{plain_rules, role_at, role_count};
+use crate::roles::{role_at, role_count, wanted_rules};
 use crate::wanted::Wanted;
 use rbac_model::{Objects, SourceRole};
 use rbac_terms::{Rule, Word, group_matches, resource_matches, verb_matches};
@@ -79,10 +79,7 @@ fn find_in_role(
         (AddsLines (OfKept wanted.now (IsEscalationOf (source_of role.entry)))
         found.old found.new) }
 {
-    if !wanted.keeps_role(role) {
-        return Ok(());
-    }
-    match plain_rules(role) {
+    match wanted_rules(wanted, role) {
         Some(rules) => find_in_rules(alloc, found, words, role, rules),
         None => Ok(()),
     }

@@ -1,8 +1,9 @@
 //! What lint finds, line by line.
 
-ghost use Rattle.std.specs.Prelude.{◌≡◌, ◌++◌, ◌∷◌, [], decimal, IfOk, OnOk};
+ghost use Rattle.std.specs.Prelude.{◌≡◌, ◌++◌, ◌∷◌, [], decimal, IfOk, OnOk, option_map};
+ghost use Rattle.rbac_terms.specs.Text.{slash};
 ghost use Rattle.rbac_model.specs.Sources.{source_of};
-ghost use Rattle.rbac_lint.specs.Lines.{object_text};
+ghost use Rattle.rbac_lint.specs.Lines.{object_text, scope_text};
 ghost use Rattle.rbac_lint.specs.Roles.{source_object, binding_object, named_object, role_object};
 ghost use Rattle.rbac_lint.specs.Roles.{cluster_role_object};
 
@@ -68,50 +69,36 @@ impl Findings {
     }
 }
 
-// The text of a kind, a namespace and a name.
-pub(crate) fn scoped_word(
+// The text of an object: its kind, its namespace if it has one, and its name.
+pub(crate) fn object_word(
     alloc: Global,
     kind: &[u8],
-    namespace: &[u8],
+    namespace: Option<&[u8]>,
     name: &Word,
 ) -> Result<Word, AllocError>
-    ensures { IfOk result (λ w. w ≡ kind.now ++ 47 ∷ (namespace.now ++ 47 ∷ []) ++ name.now) }
-{
-    let mut text = kind_word(alloc, kind)?;
-    text.push_slice(namespace)?;
-    text.push(b'/')?;
-    text.push_slice(name.as_bytes())?;
-    Ok(text)
-}
-
-// The text of a kind and a name.
-pub(crate) fn cluster_word(alloc: Global, kind: &[u8], name: &Word) -> Result<Word, AllocError>
-    ensures { IfOk result (λ w. w ≡ kind.now ++ 47 ∷ name.now) }
-{
-    let mut text = kind_word(alloc, kind)?;
-    text.push_slice(name.as_bytes())?;
-    Ok(text)
-}
-
-// A kind, with the slash after it.
-fn kind_word(alloc: Global, kind: &[u8]) -> Result<Word, AllocError>
-    ensures { IfOk result (λ w. w ≡ kind.now ++ 47 ∷ []) }
+    ensures { IfOk result (λ w. w
+        ≡ kind.now ++ slash ∷ scope_text (option_map (λ n. n.now) namespace.entry) ++ name.now) }
 {
     let mut text = Word::from_slice(alloc, kind)?;
     text.push(b'/')?;
+    if let Some(namespace) = namespace {
+        text.push_slice(namespace)?;
+        text.push(b'/')?;
+    }
+    text.push_slice(name.as_bytes())?;
     Ok(text)
 }
 
 fn role_name_word(alloc: Global, namespace: &[u8], name: &Word) -> Result<Word, AllocError>
     ensures { IfOk result (λ w. w ≡ object_text (role_object namespace.now name.now)) }
 {
-    scoped_word(alloc, ROLE.as_bytes(), namespace, name)
+    object_word(alloc, ROLE.as_bytes(), Some(namespace), name)
 }
 
 fn cluster_role_name_word(alloc: Global, name: &Word) -> Result<Word, AllocError>
     ensures { IfOk result (λ w. w ≡ object_text (cluster_role_object name.now)) }
 {
-    cluster_word(alloc, CLUSTER_ROLE.as_bytes(), name)
+    object_word(alloc, CLUSTER_ROLE.as_bytes(), None, name)
 }
 
 // A role as findings name it.
@@ -128,14 +115,10 @@ pub(crate) fn role_word(alloc: Global, role: SourceRole<'_>) -> Result<Word, All
 pub(crate) fn binding_word(alloc: Global, binding: &Binding) -> Result<Word, AllocError>
     ensures { IfOk result (λ w. w ≡ object_text (binding_object binding.now)) }
 {
+    let name = &binding.name;
     match &binding.namespace {
-        Some(namespace) => scoped_word(
-            alloc,
-            ROLE_BINDING.as_bytes(),
-            namespace.as_bytes(),
-            &binding.name,
-        ),
-        None => cluster_word(alloc, CLUSTER_ROLE_BINDING.as_bytes(), &binding.name),
+        Some(own) => object_word(alloc, ROLE_BINDING.as_bytes(), Some(own.as_bytes()), name),
+        None => object_word(alloc, CLUSTER_ROLE_BINDING.as_bytes(), None, name),
     }
 }
 

@@ -16,7 +16,7 @@ ghost use Rattle.rbac_lint.specs.Wanted.{OfKept, OfWanted};
 
 use crate::candidates::{Candidates, fewest_for};
 use crate::finding::{Finding, Findings, number_word, role_word};
-use crate::roles::{plain_rules, role_at, role_count};
+use crate::roles::{role_at, role_count, wanted_rules};
 use crate::rules_by_word::{RulesByWord, listed_by_word};
 use crate::wanted::Wanted;
 use rbac_covering::{OrderedRule, covers, ordered_rules};
@@ -55,10 +55,7 @@ fn find_in_role(
     ensures { OnOk result
         (AddsLines (OfKept wanted.now (IsRedundantOf (source_of role.entry))) found.old found.new) }
 {
-    if !wanted.keeps_role(role) {
-        return Ok(());
-    }
-    match plain_rules(role) {
+    match wanted_rules(wanted, role) {
         Some(rules) => find_in_rules(alloc, found, role, rules),
         None => Ok(()),
     }

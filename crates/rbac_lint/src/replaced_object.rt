@@ -7,7 +7,7 @@ ghost use Rattle.rbac_lint.specs.Lines.{AddsLines, object_text};
 ghost use Rattle.rbac_lint.specs.Replaced.{replaced_object, IsReplacedOf, IsReplaced};
 ghost use Rattle.rbac_lint.specs.Wanted.{OfKept, OfWanted};
 
-use crate::finding::{Finding, Findings, cluster_word, number_word, scoped_word};
+use crate::finding::{Finding, Findings, number_word, object_word};
 use crate::wanted::Wanted;
 use rbac_manifest::Replaced;
 use rbac_terms::Word;
@@ -62,8 +62,8 @@ fn replaced_word(alloc: Global, replaced: &Replaced) -> Result<Word, AllocError>
     let kind = replaced.kind.as_bytes();
     let namespace = replaced.namespace.as_bytes();
     if namespace.is_empty() {
-        cluster_word(alloc, kind, &replaced.name)
+        object_word(alloc, kind, None, &replaced.name)
     } else {
-        scoped_word(alloc, kind, namespace, &replaced.name)
+        object_word(alloc, kind, Some(namespace), &replaced.name)
     }
 }

@@ -4,8 +4,10 @@ ghost use Rattle.std.specs.Prelude.{◌≡◌, ◌<◌, Some, length, slice_get,
 ghost use Rattle.rbac_model.specs.Policies.{IsHeld};
 ghost use Rattle.rbac_model.specs.Sources.{source_of};
 ghost use Rattle.rbac_model.specs.Places.{rules_of};
-ghost use Rattle.rbac_lint.specs.Roles.{roles_in, IsPlainRole};
+ghost use Rattle.rbac_lint.specs.Roles.{roles_in, IsPlainRole, source_object};
+ghost use Rattle.rbac_lint.specs.Wanted.{IsKept};
 
+use crate::wanted::Wanted;
 use rbac_model::{Objects, SourceRole};
 use rbac_terms::Rule;
 
@@ -29,8 +31,23 @@ pub(crate) fn role_at(objects: &Objects, place: usize) -> SourceRole<'_>
     SourceRole::Role(&objects.roles()[place - cluster_roles.len()])
 }
 
+// The rules of a plain role, if findings about it are asked for.
+pub(crate) fn wanted_rules<'a>(wanted: &Wanted<'_>, role: SourceRole<'a>) -> Option<&'a [Rule]>
+    ensures { MatchOption result
+        (¬ (IsKept wanted.now (source_object (source_of role.entry))
+        × IsPlainRole (source_of role.entry)))
+        (λ rules. IsKept wanted.now (source_object (source_of role.entry))
+        × IsPlainRole (source_of role.entry)
+        × (rules.now ≡ rules_of (source_of role.entry))) }
+{
+    if !wanted.keeps_role(role) {
+        return None;
+    }
+    plain_rules(role)
+}
+
 // The rules of a plain role; an aggregated one's written rules aren't used.
-pub(crate) fn plain_rules(role: SourceRole<'_>) -> Option<&[Rule]>
+fn plain_rules(role: SourceRole<'_>) -> Option<&[Rule]>
     ensures { MatchOption result (¬ IsPlainRole (source_of role.entry))
         (λ rules. IsPlainRole (source_of role.entry)
         × (rules.now ≡ rules_of (source_of role.entry))) }
