@@ -5,6 +5,7 @@ pub mod AllSteps
 pub mod AllowedBy
 pub mod Allowing
 pub mod Asking
+pub mod BoundNames
 pub mod ByRules
 pub mod Choosing
 pub mod Entries

@@ -1,5 +1,6 @@
 pub mod AddingNodes
 pub mod Asked
+pub mod BoundNames
 pub mod Finding
 pub mod Having
 pub mod Lines

@@ -3,6 +3,7 @@
 #![tactic(auto)]
 
 mod all_steps;
+mod bound_names;
 mod finding;
 mod holding;
 mod laws;

@@ -1,0 +1,67 @@
+-- The names of the rules that let one bind roles.
+use Rattle.std.proofs.Common.{◌≡◌, ◌↔◌, ◌⊎◌, [], List, Any, Contains, arith, inl, inr}
+use Rattle.std.specs.List.Retain.{DiffersFromLast, IsFiltered}
+use Rattle.std.specs.List.Sorted.{IsPermutation, IsSorted}
+use Rattle.std.specs.Cmp.Lexicographic.{texts_ties}
+use Rattle.std.specs.Str.{bytes_eq}
+use Rattle.std.proofs.lemmas.Cmp.{nat_list_cmp_total, nat_list_eq_equiv}
+use Rattle.std.proofs.lemmas.List.Filters.{dedup_is}
+use Rattle.std.proofs.lemmas.List.Kept.{Contains-dedup, Contains-from_dedup, IsStrictlySortedBy-dedup}
+use Rattle.std.proofs.lemmas.List.Sorted.{Contains-permutation, IsPermutation-sym}
+use Rattle.std.proofs.lemmas.Slice.Eq.{bytes_eq-Decides}
+use Rattle.rbac_terms.specs.Text.{Text, text_cmp}
+use Rattle.rbac_terms.specs.declared.granting.ClusterRole.{ClusterRole}
+use Rattle.rbac_terms.specs.declared.granting.Role.{Role}
+use Rattle.rbac_terms.specs.declared.matching.Rule.{Rule}
+use Rattle.rbac_model.proofs.OwnWords.{any_from}
+use Rattle.rbac_model.specs.Policies.{Held}
+use Rattle.rbac_paths.specs.BoundNames.{AreBoundNames, BindsNamed, IsBoundName}
+use Rattle.rbac_paths.specs.Rows.{AreOfStep, MatchesRow}
+use Rattle.rbac_paths.specs.Steps.{RowView, table}
+use Rattle.rbac_paths.specs.declared.steps.Step.TheVariants.{Bind}
+use Rattle.rbac_paths.proofs.WordsAdded.{AddsOf}
+
+module _ (rows : List RowView) (of : AreOfStep Bind table rows) (rule : Rule) where
+  pub binds_named : Any (λ row. MatchesRow row rule) rows → (name : Text) → Contains rule.resource_names name ↔ BindsNamed rule name
+  binds_named a name = (
+    λ h. (let there = (of a.1).0 (a.0, a.2, a.3) in (any_from (λ row. (row.step ≡ Bind) × MatchesRow row rule) table a.1 there.0 (there.1, a.4), h)),
+    λ b. b.1,
+  )
+
+  pub binds_none : (Any (λ row. MatchesRow row rule) rows → ⊥) → (name : Text) → BindsNamed rule name → ⊥
+  binds_none none name b = let a = b.0 in none (any_from (λ row. MatchesRow row rule) rows a.1 ((of a.1).1 ((a.0, a.2, a.3), a.4.0)) a.4.1)
+
+-- the names of roles, and then those of cluster roles
+abbrev pub AddsOfRoles : List Role → List Text → List Text → Type 0
+AddsOfRoles roles old new = AddsOf (λ role name. Any (λ rule. BindsNamed rule name) role.rules) roles old new
+
+abbrev pub AddsOfClusterRoles : List ClusterRole → List Text → List Text → Type 0
+AddsOfClusterRoles roles old new = AddsOf (λ role name. Any (λ rule. BindsNamed rule name) role.rules) roles old new
+
+abbrev pub AddsOfBoth : List Role → List ClusterRole → List Text → Type 0
+AddsOfBoth roles cluster_roles names = (between : List Text) × AddsOfRoles roles [] between × AddsOfClusterRoles cluster_roles between names
+
+both_add : (h : Held) (names : List Text) → AddsOfBoth h.roles h.cluster_roles names → (name : Text) → Contains names name ↔ IsBoundName h name
+both_add h names (between, first, second) name = (
+  λ c. elim ((second name).0 c) [
+    | inl mid ↦ (elim ((first name).0 mid) [ | inl none ↦ absurd (let low = none.1 in omega (arith, low)) | inr is ↦ inl is ])
+    | inr is ↦ inr is
+  ],
+  λ is. elim is [
+    | inl own ↦ (second name).1 (inl ((first name).1 (inr own)))
+    | inr cluster ↦ (second name).1 (inr cluster)
+  ],
+)
+
+-- what a sort and then a dedup leave
+pub names_are : (h : Held) (all sorted once : List Text) → AddsOfBoth h.roles h.cluster_roles all → IsPermutation all sorted → IsSorted text_cmp sorted → IsFiltered (DiffersFromLast bytes_eq) [] sorted once → AreBoundNames h once
+names_are h all sorted once adds moved up kept =
+    let e = dedup_is bytes_eq sorted once kept in
+    let are = both_add h all adds in
+    record {
+      ascending = rw e (IsStrictlySortedBy-dedup nat_list_cmp_total texts_ties sorted up);
+      exact = λ w. (
+        λ c. (are w).0 (Contains-permutation sorted all w (IsPermutation-sym all sorted moved) (Contains-from_dedup bytes_eq sorted w (rw e at c))),
+        λ c. rw e (Contains-dedup nat_list_eq_equiv (λ x y. (bytes_eq-Decides x y).0) sorted w (Contains-permutation all sorted w moved ((are w).1 c))),
+      );
+    }

@@ -1,0 +1,22 @@
+use Rattle.std.proofs.Common.{◌≡◌, ◌∙◌, ◌++◌, List, Contains, ap, refl, subst, sym}
+use Rattle.std.proofs.lemmas.List.Elements.{same_from_all_zip}
+use Rattle.rbac_terms.specs.Text.{Text}
+use Rattle.rbac_paths.specs.BoundNames.{BindsNamed}
+use Rattle.rbac_paths.specs.SharedWords.{AddsWords}
+use Rattle.rbac_paths.proofs.BoundNames.{binds_named, binds_none}
+use Rattle.rbac_paths.proofs.WordsAdded.{adds_all, adds_none, adds_same}
+use Rattle.rbac_paths.proofs.bound_names.add_of_rule.Goals as goal
+
+pub returns-in_ok-extend_with_clones : goal.returns-in_ok-extend_with_clones
+returns-in_ok-extend_with_clones c =
+    let rule = c.args.rule.now in
+    let old = c.args.names.now.items in
+    let added = c.in_ok-extend_with_clones.ensures.items in
+    let names : added.0 ≡ rule.resource_names = same_from_all_zip _ c.as_slice.result.now added.0 added.2 (λ x y same. same) ∙ c.as_slice.ensures in
+    let new : c.extend_with_clones.new.self.items ≡ old ++ rule.resource_names = added.1 ∙ ap (λ (ws : List Text). old ++ ws) names in
+    subst (λ (ws : List Text). AddsWords (BindsNamed rule) old ws) (sym new)
+    (adds_same (Contains rule.resource_names) (BindsNamed rule) (binds_named c.args.rows.now c.requires rule (c.lets_bind.ensures.0 c.if-lets_bind.true)) old (old ++ rule.resource_names) (adds_all rule.resource_names old))
+
+pub returns-else-lets_bind : goal.returns-else-lets_bind
+returns-else-lets_bind c =
+    adds_none (BindsNamed c.args.rule.now) (binds_none c.args.rows.now c.requires c.args.rule.now (λ any. (let both = c.lets_bind.ensures.1 any in let not = c.if-lets_bind.false in cc))) c.args.names.now.items

@@ -1,0 +1,63 @@
+//! The names of roles that rules let one bind. Whoever can bind a role, but not all of its scope, has a
+//! rule with the role's name: so other roles needn't be asked for.
+
+ghost use Rattle.std.specs.Prelude.{◌⊎◌, ◌↔◌, Any, Contains, IfOk, IsTrue, OnOk};
+ghost use Rattle.rbac_terms.specs.Text.{Text};
+ghost use Rattle.rbac_paths.specs.BoundNames.{AreBoundNames, BindsNamed};
+ghost use Rattle.rbac_paths.specs.Rows.{AreOfStep, MatchesRow};
+ghost use Rattle.rbac_paths.specs.SharedWords.{AddsWords};
+ghost use Rattle.rbac_paths.specs.Steps.{table};
+ghost use Rattle.rbac_paths.specs.declared.steps.Step.TheVariants.{Bind};
+
+use crate::rows::{WordRow, rows_of};
+use crate::steps::Step;
+use rbac_model::Policy;
+use rbac_terms::{Rule, Word};
+use std::alloc::{AllocError, Global};
+
+/// The names of roles that rules of this policy let one bind, in order, each once.
+pub(crate) fn bound_names(alloc: Global, policy: &Policy) -> Result<Vec<Word>, AllocError>
+    ensures { IfOk result (λ names. AreBoundNames policy.now.held names.items) }
+{
+    let rows = rows_of(alloc, Step::Bind)?;
+    let mut names = Vec::new(alloc);
+    for role in policy.objects().roles() {
+        add_names(rows.as_slice(), role.rules.as_slice(), &mut names)?;
+    }
+    for role in policy.objects().cluster_roles() {
+        add_names(rows.as_slice(), role.rules.as_slice(), &mut names)?;
+    }
+    names.sort_unstable();
+    names.dedup();
+    Ok(names)
+}
+
+// Adds the names of those of these rules that let one bind roles.
+fn add_names(rows: &[WordRow], rules: &[Rule], names: &mut Vec<Word>) -> Result<(), AllocError>
+    requires { AreOfStep Bind table rows.now }
+    ensures { OnOk result (AddsWords (λ name. Any (λ rule. BindsNamed rule name) rules.now)
+        names.old.items names.new.items) }
+{
+    for rule in rules {
+        add_of_rule(rows, rule, names)?;
+    }
+    Ok(())
+}
+
+// Adds the names of the rule, if it lets one bind roles.
+fn add_of_rule(rows: &[WordRow], rule: &Rule, names: &mut Vec<Word>) -> Result<(), AllocError>
+    requires { AreOfStep Bind table rows.now }
+    ensures { OnOk result (AddsWords (BindsNamed rule.now) names.old.items names.new.items) }
+{
+    if lets_bind(rows, rule) {
+        names.extend_with_clones(rule.resource_names.as_slice())?;
+    }
+    Ok(())
+}
+
+// Whether the rule matches some of these rows.
+fn lets_bind(rows: &[WordRow], rule: &Rule) -> bool
+    ensures { IsTrue result ↔ Any (λ row. MatchesRow row rule.now) rows.now }
+{
+    rows.iter().any(|row| row.matches(rule))
+}
