@@ -8,6 +8,7 @@ pub mod Asking
 pub mod BoundNames
 pub mod ByRules
 pub mod Choosing
+pub mod Closed
 pub mod Entries
 pub mod GatheredRoles
 pub mod Gathering

@@ -3,6 +3,7 @@ pub mod Asked
 pub mod BoundNames
 pub mod Finding
 pub mod Having
+pub mod Joints
 pub mod Lines
 pub mod NodeLists
 pub mod Nodes

@@ -1,0 +1,280 @@
+-- A role that is told as taken over has a name that some rule binds: who may bind any role of a scope takes over everything there.
+use Rattle.std.proofs.Common.{◌≡◌, ◌≢◌, ◌∙◌, ◌⊎◌, ◌+◌, ◌++◌, Bool, false, true, cond, filter, ℕ, zero, suc, List, [], ◌∷◌, Option, Some, None, Any, Contains, ap, arith, inl, inr, refl, slice_get, subst, sym}
+use Rattle.std.specs.Prelude.{codes}
+use Rattle.std.specs.List.{flat_map}
+use Rattle.std.proofs.lemmas.List.Elements.{Contains-append_cases}
+use Rattle.std.proofs.lemmas.Option.{get_or_from_slice_get, slice_get-get_or, slice_get_within}
+use Rattle.rbac_terms.specs.Text.{Text}
+use Rattle.rbac_terms.specs.Matching.{NameMatches, VerbOk, WordMatches}
+use Rattle.rbac_terms.specs.Targets.{Resource}
+use Rattle.rbac_terms.specs.declared.granting.Binding.{Binding}
+use Rattle.rbac_terms.specs.declared.granting.RoleRef.{RoleRef}
+use Rattle.rbac_terms.specs.declared.granting.RoleRef.TheVariants.{Role as ToRole, ClusterRole as ToClusterRole}
+use Rattle.rbac_terms.specs.declared.granting.ClusterRole.{ClusterRole}
+use Rattle.rbac_terms.specs.declared.granting.Role.{Role}
+use Rattle.rbac_terms.specs.declared.matching.Rule.{Rule}
+use Rattle.rbac_model.proofs.GrantNumbers.{binding_of}
+use Rattle.rbac_model.proofs.OwnWords.{any_from}
+use Rattle.rbac_model.proofs.Stairs.{reached_held}
+use Rattle.rbac_model.specs.Policies.{AreRulesFor, AreRulesOf, GrantView, Held, IsPolicy, IsRefTo, Live, PolicyView, Source, InRole, InClusterRole, SourcedRule, written_from}
+use Rattle.rbac_paths.specs.BoundNames.{BindsNamed, IsBoundName}
+use Rattle.rbac_paths.specs.Having.{HasRoleRule, HoldingView, IsHolding}
+use Rattle.rbac_paths.specs.Joints.{IsNobody}
+use Rattle.rbac_paths.specs.Nodes.{NodeView, Somebody, ClusterRoleIn, OwnRole, EverythingIn}
+use Rattle.rbac_paths.specs.Rows.{HasRowResource, MatchesRow}
+use Rattle.rbac_paths.specs.Steps.{RowView, asked_in, row, table}
+use Rattle.rbac_paths.specs.Taking.{CanTakeOver, IsOver, RowTakes, RuleTakes, scope_namespace}
+use Rattle.rbac_paths.specs.TakingOver.{GoesOn, HasAll, IsUntold, TakesByStep}
+use Rattle.rbac_paths.proofs.AllowedBy.{allow_by}
+use Rattle.rbac_paths.proofs.ByRules.{takes_over}
+use Rattle.rbac_paths.proofs.Mapped.{one_element}
+use Rattle.rbac_paths.specs.declared.steps.Step.{Step}
+use Rattle.rbac_paths.specs.declared.table.Counts.{Counts}
+use Rattle.rbac_paths.specs.declared.table.Counts.TheVariants as counted
+use Rattle.rbac_paths.specs.declared.table.Names.TheVariants as names
+use Rattle.rbac_paths.specs.declared.table.Over.{Over}
+use Rattle.rbac_paths.specs.declared.table.Over.TheVariants as over
+use Rattle.rbac_paths.specs.declared.steps.Step.TheVariants.{Bind}
+
+-- the rule is written in some role that is held
+abbrev pub IsWritten : Held → Rule → Type 0
+IsWritten h rule = Any (λ role. Contains role.rules rule) h.roles ⊎ Any (λ role. Contains role.rules rule) h.cluster_roles
+
+of_written : (source : Source) (i : ℕ) (rules : List Rule) (r : SourcedRule) → Contains (written_from source i rules) r → Contains rules r.rule
+of_written source i [] r (k, low, is) = absurd (omega (arith, low))
+of_written source i (x ∷ xs) r (zero, low, is) = (0, omega arith, ap (λ (v : SourcedRule). v.rule) is)
+of_written source i (x ∷ xs) r (suc k, low, is) = let rest = of_written source (i + 1) xs r (k, omega (arith, low), is) in (suc rest.0, omega (arith, rest.1), rest.2)
+
+module _ (h : Held) where
+  abbrev HasSource : Source → Type 0
+  HasSource (InRole role) = Contains h.roles role
+  HasSource (InClusterRole role) = Contains h.cluster_roles role
+
+  gathered_written : (ss : List ClusterRole) (r : SourcedRule) → ((s : ClusterRole) → Contains ss s → Contains h.cluster_roles s) → Contains (flat_map (λ s. written_from (InClusterRole s) 0 s.rules) ss) r → Any (λ role. Contains role.rules r.rule) h.cluster_roles
+  gathered_written [] r held c = absurd (let low = c.1 in omega (arith, low))
+  gathered_written (s ∷ ss) r held c = elim (Contains-append_cases (written_from (InClusterRole s) 0 s.rules) (flat_map (λ s. written_from (InClusterRole s) 0 s.rules) ss) r c) [
+    | inl first ↦ any_from (λ role. Contains role.rules r.rule) h.cluster_roles s (held s (0, omega arith, refl)) (of_written (InClusterRole s) 0 s.rules r first)
+    | inr rest ↦ gathered_written ss r (λ t there. held t (suc there.0, omega (arith, there.1), there.2)) rest
+  ]
+
+  role_written : (role : Source) (rules : List SourcedRule) (r : SourcedRule) → HasSource role → AreRulesOf h role rules → Contains rules r → IsWritten h r.rule
+  role_written (InRole role) rules r held are c = inl (any_from (λ x. Contains x.rules r.rule) h.roles role held (of_written (InRole role) 0 role.rules r (subst (λ (rs : List SourcedRule). Contains rs r) are c)))
+  role_written (InClusterRole role) rules r held (inl (plain, are)) c = inr (any_from (λ x. Contains x.rules r.rule) h.cluster_roles role held (of_written (InClusterRole role) 0 role.rules r (subst (λ (rs : List SourcedRule). Contains rs r) are c)))
+  role_written (InClusterRole role) rules r held (inr (aggregated, (ss, are, is))) c = inr (gathered_written ss r (λ s there. reached_held h role s ((are.exact s).0 there).1) (subst (λ (rs : List SourcedRule). Contains rs r) is c))
+
+  has_rule : (role : Source) (rule : Rule) → HasSource role → HasRoleRule h role rule → IsWritten h rule
+  has_rule role rule held (rules, are, a) = subst (IsWritten h) a.4 (role_written role rules a.1 held are (a.0, a.2, a.3))
+
+  referred : (namespace : Option Text) (to : RoleRef) (role : Source) → IsRefTo h namespace to role → HasSource role
+  referred (Some namespace) (ToRole name) (InRole role) is = is.0
+  referred (Some namespace) (ToClusterRole name) (InClusterRole role) is = is.0
+  referred None (ToClusterRole name) (InClusterRole role) is = is.0
+  referred (Some namespace) (ToRole name) (InClusterRole role) is = elim is [ ]
+  referred (Some namespace) (ToClusterRole name) (InRole role) is = elim is [ ]
+  referred None (ToRole name) role is = elim is [ ]
+  referred None (ToClusterRole name) (InRole role) is = elim is [ ]
+
+  bound_written : (b : Binding) (rules : List SourcedRule) (r : SourcedRule) → AreRulesFor h b rules → Contains rules r → IsWritten h r.rule
+  bound_written b rules r (inl (role, is, are)) c = role_written role rules r (referred b.namespace b.role role is) are c
+  bound_written b rules r (inr (none, is)) c = absurd (let low = (subst (λ (rs : List SourcedRule). Contains rs r) is c).1 in omega (arith, low))
+
+-- the roles of a node are held
+abbrev pub HasOwnRole : Held → NodeView → Type 0
+HasOwnRole h (Somebody who) = Unit {0}
+HasOwnRole h (ClusterRoleIn role scope) = Contains h.cluster_roles role
+HasOwnRole h (OwnRole role) = Contains h.roles role
+HasOwnRole h (EverythingIn scope) = Unit {0}
+
+module _ (p : PolicyView) (ok : IsPolicy p) where
+  holding_written : (x : NodeView) (h : HoldingView) → HasOwnRole p.held x → ((scope : Option Text) → x ≢ EverythingIn scope) → IsHolding p x h → IsWritten p.held h.rule
+  holding_written (Somebody who) h held other (n, g, low, is, given) =
+      let at : slice_get p.grants n ≡ Some g = slice_get-get_or p.grants n g low ∙ ap (λ (v : GrantView). Some v) is in
+      let of = binding_of p.held p.held.bindings p.grants n g ok.1 at in
+      let rules = of.2.0 in
+      let place = of.2.2 in
+      subst (IsWritten p.held) given.2 (bound_written p.held g.binding rules g.rule of.2.1 (place.0, slice_get_within rules place.0 g.rule place.1, get_or_from_slice_get rules place.0 g.rule g.rule place.1))
+  holding_written (ClusterRoleIn role scope) h held other (home, has) = has_rule p.held (InClusterRole role) h.rule held has
+  holding_written (OwnRole role) h held other (home, has) = has_rule p.held (InRole role) h.rule held has
+  holding_written (EverythingIn scope) h held other is = absurd (other scope refl)
+
+-- ---- rows that bind roles by name
+
+abbrev rbac : Text
+rbac = codes "rbac.authorization.k8s.io"
+
+abbrev bind_by_name : Text → Over → RowView
+bind_by_name resource over = row Bind names.Own counted.InNamespaces (codes "bind" ∷ []) rbac (resource ∷ []) over
+
+abbrev bind_all : RowView
+bind_all = row Bind names.None counted.InNamespaces (codes "bind" ∷ []) rbac (codes "clusterroles" ∷ codes "roles" ∷ []) over.Everything
+
+over_cluster_role : (o : Over) (counts : Counts) (role : ClusterRole) (scope : Option Text) (namespace own : Text) → IsOver o counts (ClusterRoleIn role scope) namespace own → o ≡ over.ClusterRoles
+over_cluster_role over.Users counts role scope namespace own is = elim is [ ]
+over_cluster_role over.Groups counts role scope namespace own is = elim is [ ]
+over_cluster_role over.Accounts counts role scope namespace own is = elim is [ ]
+over_cluster_role over.Everything counts role scope namespace own is = elim is [ ]
+over_cluster_role over.ClusterRoles counts role scope namespace own is = refl
+over_cluster_role over.Roles counts role scope namespace own is = elim is [ ]
+
+over_role : (o : Over) (counts : Counts) (role : Role) (namespace own : Text) → IsOver o counts (OwnRole role) namespace own → o ≡ over.Roles
+over_role over.Users counts role namespace own is = elim is [ ]
+over_role over.Groups counts role namespace own is = elim is [ ]
+over_role over.Accounts counts role namespace own is = elim is [ ]
+over_role over.Everything counts role namespace own is = elim is [ ]
+over_role over.ClusterRoles counts role namespace own is = elim is [ ]
+over_role over.Roles counts role namespace own is = refl
+
+-- one row alone takes over cluster roles, and one alone roles of namespaces
+in_either : (b : Bool) (x : RowView) (rows : List RowView) (r : RowView) → Contains rows r → Contains (cond b (x ∷ rows) rows) r
+in_either true x rows r c = (suc c.0, omega (arith, c.1), c.2)
+in_either false x rows r c = c
+
+is_kept : (is : RowView → Bool) (rows : List RowView) (r : RowView) → Contains rows r → is r ≡ true → Contains (filter is rows) r
+is_kept is [] r c passes = absurd (let low = c.1 in omega (arith, low))
+is_kept is (x ∷ xs) r (zero, low, e) passes =
+    let here : Contains (x ∷ filter is xs) r = (0, omega arith, e) in
+    subst (λ (b : Bool). Contains (cond b (x ∷ filter is xs) (filter is xs)) r) (sym (ap is e ∙ passes)) here
+is_kept is (x ∷ xs) r (suc k, low, e) passes = in_either (is x) x (filter is xs) r (is_kept is xs r (k, omega (arith, low), e) passes)
+
+abbrev over_cluster_roles : Over → Bool
+over_cluster_roles over.ClusterRoles = true
+over_cluster_roles _ = false
+
+abbrev over_roles : Over → Bool
+over_roles over.Roles = true
+over_roles _ = false
+
+one_of_cluster_roles : (r : RowView) → Contains table r → r.over ≡ over.ClusterRoles → r ≡ bind_by_name (codes "clusterroles") over.ClusterRoles
+one_of_cluster_roles r c is =
+    let kept : Contains (bind_by_name (codes "clusterroles") over.ClusterRoles ∷ []) r = is_kept (λ x. over_cluster_roles x.over) table r c (ap over_cluster_roles is) in
+    sym (one_element (bind_by_name (codes "clusterroles") over.ClusterRoles) r kept)
+
+one_of_roles : (r : RowView) → Contains table r → r.over ≡ over.Roles → r ≡ bind_by_name (codes "roles") over.Roles
+one_of_roles r c is =
+    let kept : Contains (bind_by_name (codes "roles") over.Roles ∷ []) r = is_kept (λ x. over_roles x.over) table r c (ap over_roles is) in
+    sym (one_element (bind_by_name (codes "roles") over.Roles) r kept)
+
+-- the name of a target doesn't say where it is live
+live_as : (home : Option Text) (asked group text name other : Text) → Live home asked (Resource group text name) → Live home asked (Resource group text other)
+live_as None asked group text name other live = live
+live_as (Some own) asked group text name other live = live
+
+-- who binds by a rule without names binds all; otherwise the name is one of the rule's
+module _ (home : Option Text) (rule : Rule) (resource : Text) (o : Over) (at : Contains table (bind_by_name resource o)) (among : (t : Text) → Contains (resource ∷ []) t → Contains (codes "clusterroles" ∷ codes "roles" ∷ []) t) (y : NodeView) (scope : Option Text)
+    (there : (namespace own : Text) → IsOver o counted.InNamespaces y namespace own → namespace ≡ scope_namespace scope) where
+  abbrev pub NamedOrAll : RowTakes (bind_by_name resource o) home rule y → Type 0
+  NamedOrAll w = BindsNamed rule w.own ⊎ RuleTakes Bind home rule (EverythingIn scope)
+
+  by_names : (w : RowTakes (bind_by_name resource o) home rule y) → NameMatches rule.resource_names w.name → NamedOrAll w
+  by_names w (inl none) = inr (any_from (λ row. (row.step ≡ Bind) × RowTakes row home rule (EverythingIn scope)) table bind_all (13, omega arith, refl) (refl, record {
+    namespace = w.namespace;
+    own = [];
+    verb = w.verb;
+    text = w.text;
+    name = [];
+    over = (there w.namespace w.own w.over, refl, tt);
+    of_verbs = w.of_verbs;
+    of_resources = among w.text w.of_resources;
+    named = refl;
+    live = live_as home w.namespace rbac w.text w.name [] w.live;
+    allows = (w.allows.0, (w.allows.1.0, w.allows.1.1, inl none));
+  }))
+  by_names w (inr has) = inl (
+    any_from (λ row. (row.step ≡ Bind) × MatchesRow row rule) table (bind_by_name resource o) at (refl, (
+      any_from (VerbOk rule) (codes "bind" ∷ []) w.verb w.of_verbs w.allows.0,
+      w.allows.1.0,
+      any_from (HasRowResource rule) (resource ∷ []) w.text w.of_resources w.allows.1.1,
+    )),
+    subst (λ (t : Text). Contains rule.resource_names t) w.named has,
+  )
+
+  named_or_all : (w : RowTakes (bind_by_name resource o) home rule y) → NamedOrAll w
+  named_or_all w = by_names w w.allows.1.2
+
+in_two_first : (t : Text) → Contains (codes "clusterroles" ∷ []) t → Contains (codes "clusterroles" ∷ codes "roles" ∷ []) t
+in_two_first t (zero, low, is) = (0, omega arith, is)
+in_two_first t (suc k, low, is) = absurd (omega (arith, low))
+
+in_two_last : (t : Text) → Contains (codes "roles" ∷ []) t → Contains (codes "clusterroles" ∷ codes "roles" ∷ []) t
+in_two_last t (zero, low, is) = (1, omega arith, is)
+in_two_last t (suc k, low, is) = absurd (omega (arith, low))
+
+-- who goes on with roles isn't everything
+no_everything : (x y : NodeView) → IsNobody y → GoesOn x y → (scope : Option Text) → x ≢ EverythingIn scope
+no_everything (Somebody who) y is on scope e = cc
+no_everything (ClusterRoleIn role home) y is on scope e = cc
+no_everything (OwnRole role) y is on scope e = cc
+no_everything (EverythingIn None) y is on scope e = elim on [ ]
+no_everything (EverythingIn (Some namespace)) (Somebody who) is on scope e = elim is [ ]
+no_everything (EverythingIn (Some namespace)) (ClusterRoleIn role home) is on scope e = elim on [ ]
+no_everything (EverythingIn (Some namespace)) (OwnRole role) is on scope e = elim on [ ]
+no_everything (EverythingIn (Some namespace)) (EverythingIn home) is on scope e = elim on [ ]
+
+-- a written rule that binds the name makes it one that is bound
+bound_by : (h : Held) (rule : Rule) (name : Text) → BindsNamed rule name → IsWritten h rule → IsBoundName h name
+bound_by h rule name binds (inl (k, role, low, is, there)) = inl (k, role, low, is, any_from (λ r. BindsNamed r name) role.rules rule there binds)
+bound_by h rule name binds (inr (k, role, low, is, there)) = inr (k, role, low, is, any_from (λ r. BindsNamed r name) role.rules rule there binds)
+
+module _ (p : PolicyView) (ok : IsPolicy p) (steps : List Step) (x : NodeView) (held : HasOwnRole p.held x) where
+  module _ (h : HoldingView) (has : IsHolding p x h) where
+    all_taken : (scope : Option Text) → Contains steps Bind → RuleTakes Bind h.home h.rule (EverythingIn scope) → HasAll p steps x scope
+    all_taken scope among takes = (Bind, inl refl, among, takes_over p x Bind (EverythingIn scope) h.home h.rule (λ namespace verb t live allows. (allow_by p ok x namespace verb t).1 (h, has, live, allows)) takes)
+
+  -- the rule by which a node is taken over
+  module _ (step : Step) (y : NodeView) (t : TakesByStep p steps x step y) where
+    by : (h : HoldingView) × IsHolding p x h × RowTakes t.can.row h.home h.rule y
+    by =
+        let c = t.can in
+        let w = (allow_by p ok x (asked_in c.row.counts c.namespace) c.verb (Resource c.row.group c.text c.name)).0 c.allowed in
+        (w.0, w.1, record {
+          namespace = c.namespace;
+          own = c.own;
+          verb = c.verb;
+          text = c.text;
+          name = c.name;
+          over = c.over;
+          of_verbs = c.of_verbs;
+          of_resources = c.of_resources;
+          named = c.named;
+          live = w.2;
+          allows = w.3;
+        })
+
+    module _ (resource : Text) (o : Over) (same : t.can.row ≡ bind_by_name resource o) where
+      is_bind : step ≡ Bind
+      is_bind = sym t.can.of_step ∙ ap (λ (r : RowView). r.step) same
+
+      bind_among : Contains steps Bind
+      bind_among = subst (λ (s : Step). Contains steps s) is_bind t.among
+
+      in_table : Contains table (bind_by_name resource o)
+      in_table = subst (λ (r : RowView). Contains table r) same t.can.of_table
+
+      takes : RowTakes (bind_by_name resource o) by.0.home by.0.rule y
+      takes = subst (λ (r : RowView). RowTakes r by.0.home by.0.rule y) same by.2
+
+      bound : (name : Text) (scope : Option Text) → takes.own ≡ name → IsNobody y → (HasAll p steps x scope → IsUntold p steps x y) → BindsNamed by.0.rule takes.own ⊎ RuleTakes Bind by.0.home by.0.rule (EverythingIn scope) → IsBoundName p.held name
+      bound name scope is nobody hides (inl binds) = bound_by p.held by.0.rule name (subst (BindsNamed by.0.rule) is binds) (holding_written p ok x by.0 held (no_everything x y nobody t.goes_on) by.1)
+      bound name scope is nobody hides (inr all) = absurd (t.told (inl is_bind) (hides (all_taken by.0 by.1 scope bind_among all)))
+
+  hides_cluster_role : (role : ClusterRole) (scope : Option Text) → HasAll p steps x scope → IsUntold p steps x (ClusterRoleIn role scope)
+  hides_cluster_role role None all = all
+  hides_cluster_role role (Some namespace) all = inr (inl all)
+
+  pub cluster_role_bound : (step : Step) (role : ClusterRole) (scope : Option Text) → TakesByStep p steps x step (ClusterRoleIn role scope) → IsBoundName p.held role.name
+  cluster_role_bound step role scope t =
+      let y = ClusterRoleIn role scope in
+      let c = t.can in
+      let same = one_of_cluster_roles c.row c.of_table (over_cluster_role c.row.over c.row.counts role scope c.namespace c.own c.over) in
+      let w = takes step y t (codes "clusterroles") over.ClusterRoles same in
+      let h = (by step y t).0 in
+      bound step y t (codes "clusterroles") over.ClusterRoles same role.name scope w.over.1 tt (hides_cluster_role role scope) (named_or_all h.home h.rule (codes "clusterroles") over.ClusterRoles (in_table step y t (codes "clusterroles") over.ClusterRoles same) in_two_first y scope (λ namespace own is. is.0) w)
+
+  pub role_bound : (step : Step) (role : Role) → TakesByStep p steps x step (OwnRole role) → IsBoundName p.held role.name
+  role_bound step role t =
+      let y = OwnRole role in
+      let c = t.can in
+      let same = one_of_roles c.row c.of_table (over_role c.row.over c.row.counts role c.namespace c.own c.over) in
+      let w = takes step y t (codes "roles") over.Roles same in
+      let h = (by step y t).0 in
+      bound step y t (codes "roles") over.Roles same role.name (Some role.namespace) w.over.1 tt (λ all. inr all) (named_or_all h.home h.rule (codes "roles") over.Roles (in_table step y t (codes "roles") over.Roles same) in_two_last y (Some role.namespace) (λ namespace own is. is.0) w)

@@ -1,0 +1,50 @@
+-- How the graph of nodes is joined: principals by the words that they share, and other nodes one by one.
+use Rattle.std.specs.Prelude.{◌≡◌, ◌↔◌, ℕ, ◌<◌, List, [], Some, Contains, length, slice_get}
+use Rattle.std.specs.Prelude.{slice_index_or}
+use Rattle.rbac_terms.specs.Text.{Text}
+use Rattle.rbac_terms.specs.Principals.{Who}
+use Rattle.rbac_model.specs.Policies.{PolicyView}
+use Rattle.rbac_paths.specs.Nodes.{NodeView, Somebody, ClusterRoleIn, OwnRole, EverythingIn}
+use Rattle.rbac_paths.specs.SharedWords.{AreHadBy}
+use Rattle.rbac_paths.specs.TakingOver.{TakesOver}
+use Rattle.rbac_paths.specs.declared.steps.Step.{Step}
+
+-- x takes over somebody exactly if a word by which they can be had is among these
+abbrev pub TakesByWords : PolicyView → List Step → NodeView → List Text → Type 0
+TakesByWords p steps x ws = (who : Who) (had : List Text) → AreHadBy who had
+    → ((w : Text) × Contains ws w × Contains had w) ↔ TakesOver p steps x (Somebody who)
+
+-- a role, or everything
+abbrev pub IsNobody : NodeView → Type 0
+IsNobody (Somebody who) = ⊥
+IsNobody (ClusterRoleIn role scope) = Unit {0}
+IsNobody (OwnRole role) = Unit {0}
+IsNobody (EverythingIn scope) = Unit {0}
+
+-- the places of the roles among these, and of everything, that x takes over
+abbrev pub AreOthers : PolicyView → List Step → NodeView → List NodeView → List ℕ → Type 0
+AreOthers p steps x ys js = (j : ℕ) → Contains js j
+    ↔ ((y : NodeView) × (slice_get ys j ≡ Some y) × IsNobody y × TakesOver p steps x y)
+
+-- the words by which a node can be had: only somebody can be had by words
+abbrev pub IsHadBy : NodeView → List Text → Type 0
+IsHadBy (Somebody who) ws = AreHadBy who ws
+IsHadBy (ClusterRoleIn role scope) ws = ws ≡ []
+IsHadBy (OwnRole role) ws = ws ≡ []
+IsHadBy (EverythingIn scope) ws = ws ≡ []
+
+-- of the first nodes, as many as that: the words that each takes, and the others that it takes over
+pub record AreJoints (p : PolicyView) (steps : List Step) (ys : List NodeView) (count : ℕ)
+    (takes : List (List Text)) (also : List (List ℕ)) : Type 0 where
+  pub takes_len : length takes ≡ count
+  pub also_len : length also ≡ count
+  pub words : (k : ℕ) (y : NodeView) → k < count → slice_get ys k ≡ Some y
+      → TakesByWords p steps y (slice_index_or takes k [])
+  pub others : (k : ℕ) (y : NodeView) → k < count → slice_get ys k ≡ Some y
+      → AreOthers p steps y ys (slice_index_or also k [])
+
+-- of the first nodes, as many as that: the words by which each can be had
+pub record AreHad (ys : List NodeView) (count : ℕ) (had : List (List Text)) : Type 0 where
+  pub len : length had ≡ count
+  pub words : (k : ℕ) (y : NodeView) → k < count → slice_get ys k ≡ Some y
+      → IsHadBy y (slice_index_or had k [])
