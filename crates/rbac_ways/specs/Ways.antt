@@ -1,6 +1,6 @@
 -- Shortest ways through a graph whose edges go through sets of nodes.
-use Rattle.std.specs.Prelude.{◌≡◌, ℕ, zero, suc, ◌<◌, List, [], Option, None, MatchOption, Contains}
-use Rattle.std.specs.Prelude.{length, slice_index_or}
+use Rattle.std.specs.Prelude.{◌≡◌, ◌⊎◌, ◌↔◌, ℕ, zero, suc, ◌<◌, List, [], Option, None, Some, IsSome}
+use Rattle.std.specs.Prelude.{AllPairs, Contains, MatchOption, length, slice_index_or}
 use Rattle.rbac_ways.specs.declared.graph.Stop.{Stop}
 
 -- a graph: the sets that each node takes, and the nodes of each set
@@ -42,3 +42,14 @@ pub record AreStops (g : GraphView) (starts : List ℕ) (stops : List (Option St
   pub each : (j : ℕ) → j < length stops → MatchOption (slice_index_or stops j None)
       ((n : ℕ) → ¬ IsReachedIn g starts n j)
       (IsStop g starts j)
+
+-- fewer edges lead to i than to j, or as many, and i has the lesser number
+abbrev pub IsMetBefore : List (Option Stop) → ℕ → ℕ → Type 0
+IsMetBefore stops i j = (s t : Stop)
+    × (slice_index_or stops i None ≡ Some s) × (slice_index_or stops j None ≡ Some t)
+    × ((s.edges < t.edges) ⊎ ((s.edges ≡ t.edges) × (i < j)))
+
+-- exactly the nodes that have stops, in order of how many edges lead there, and then of their numbers
+pub record AreInOrder (stops : List (Option Stop)) (order : List ℕ) : Type 0 where
+  pub exact : (j : ℕ) → Contains order j ↔ IsSome (slice_index_or stops j None)
+  pub ordered : AllPairs (IsMetBefore stops) order

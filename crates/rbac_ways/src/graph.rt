@@ -30,3 +30,13 @@ pub struct Stop {
     /// The node before it; the node itself, if no edge leads to it.
     pub before: usize,
 }
+
+/// The nodes that ways lead to.
+#[derive(Drop)]
+pub struct Reached {
+    /// For each node of the graph, where it is on a shortest way, if a way leads there.
+    pub stops: Vec<Option<Stop>>,
+    /// The nodes that ways lead to, in order of how many edges lead there, and then of their
+    /// numbers.
+    pub order: Vec<usize>,
+}

@@ -7,6 +7,6 @@ mod joining;
 mod meeting;
 mod search;
 
-pub use graph::{Graph, Stop};
+pub use graph::{Graph, Reached, Stop};
 pub use joining::turned;
 pub use search::shortest_ways;

@@ -1,27 +1,27 @@
 //! The search, level by level: first the starts, then the nodes that one edge leads to, and so on.
 
 ghost use Rattle.std.specs.Prelude.{◌≡◌, IfOk};
-ghost use Rattle.rbac_ways.specs.Ways.{AreStops};
+ghost use Rattle.rbac_ways.specs.Ways.{AreInOrder, AreStops};
 
-use crate::graph::{Graph, Stop};
+use crate::graph::{Graph, Reached};
 use crate::meeting::{first_level, next_level};
 use std::alloc::{AllocError, Global};
 
-/// For each node of the graph, where it is on a shortest way from a start, if a way leads there
-/// (own). Of several nodes that can be before it, the one with the least number is told. Each set is
-/// gone through once. Fails only if it runs out of memory.
-pub fn shortest_ways(
-    alloc: Global,
-    graph: &Graph,
-    starts: &[usize],
-) -> Result<Vec<Option<Stop>>, AllocError>
-    ensures { IfOk result (λ stops. AreStops graph.now starts.now stops.items) }
+/// For each node of the graph, where it is on a shortest way from a start, if a way leads there, and
+/// the nodes that ways lead to, in the order in which they are met: by the number of edges, and then
+/// by their own (own). Of several nodes that can be before it, the one with the least number is told.
+/// Each set is gone through once. Fails only if it runs out of memory.
+pub fn shortest_ways(alloc: Global, graph: &Graph, starts: &[usize]) -> Result<Reached, AllocError>
+    ensures stops { IfOk result (λ reached. AreStops graph.now starts.now reached.stops.items) }
+    ensures order { IfOk result (λ reached. AreInOrder reached.stops.items reached.order.items) }
 {
     let mut passed = vec![in alloc; false; graph.sets.as_slice().len()]?;
     let mut stops = vec![in alloc; None; graph.takes.as_slice().len()]?;
     let mut level = first_level(alloc, starts, &mut stops)?;
+    let mut order = Vec::new(alloc);
     let mut edges = 0;
     while !level.is_empty() {
+        order.extend_from_slice(level.as_slice())?;
         edges += 1;
         level = next_level(
             alloc,
@@ -32,5 +32,5 @@ pub fn shortest_ways(
             &mut stops,
         )?;
     }
-    Ok(stops)
+    Ok(Reached { stops, order })
 }

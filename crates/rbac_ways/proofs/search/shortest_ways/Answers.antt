@@ -1,9 +1,10 @@
-use Rattle.std.proofs.Common.{rules, ap, ◌≡◌, ◌∙◌, ◌<◌, ◌+◌, [], ℕ, List, Option, None, arith, false, length, replicate, subst}
+use Rattle.std.proofs.Common.{rules, ap, sym, ◌++◌, ◌≡◌, ◌∙◌, ◌<◌, ◌+◌, [], ℕ, List, Option, None, arith, false, length, replicate, subst}
 use Rattle.std.proofs.lemmas.List.{length-replicate, nil_from_length}
 use Rattle.rbac_ways.specs.Ways.{GraphView}
 use Rattle.rbac_ways.specs.Meeting.{IsAfterLeast, IsMetTo, IsNextTo, IsFirstStop, MeetsNodes}
 use Rattle.std.specs.Prelude.{Contains}
 use Rattle.rbac_ways.specs.declared.graph.Stop.{Stop}
+use Rattle.rbac_ways.proofs.Orders.{AreInOrderTo, in_order_all, in_order_more, in_order_none}
 use Rattle.rbac_ways.proofs.Searching.{all_unmet, met_all, met_first, met_next, none_passed}
 use Rattle.rbac_ways.proofs.search.shortest_ways.Goals as goal
 
@@ -22,6 +23,7 @@ loop-alloc-init c =
       met = met_first g c.args.starts.now c.first_level.new.stops.items c.in_ok-level.level.items meets c.in_ok-level.ensures.ordered;
       sets = ap length unpassed ∙ length-replicate set_count false ∙ sets;
       passed = rw unpassed (none_passed g set_count c.first_level.new.stops.items);
+      order = in_order_none c.first_level.new.stops.items c.new-order.result.items c.new-order.ensures.items;
       room = let all = all_unmet (length g.takes) in let room = meets.room in omega (arith, all, room);
     }
 
@@ -30,16 +32,22 @@ loop-alloc-preserved c =
     let g = c.args.graph.now in
     let old = c.loop-alloc.level.items in
     let next = c.in_ok-level-2.level.items in
-    let meets : MeetsNodes (IsNextTo g old) (IsAfterLeast g old (c.loop-alloc.edges + 1)) c.loop-alloc.stops.items c.next_level.new.stops.items [] next = rw c.as_slice-in-loop-alloc.ensures.value at c.in_ok-level-2.ensures.meets in
+    let meets : MeetsNodes (IsNextTo g old) (IsAfterLeast g old (c.loop-alloc.edges + 1)) c.loop-alloc.stops.items c.next_level.new.stops.items [] next = rw c.as_slice-in-loop-alloc-2.ensures.value at c.in_ok-level-2.ensures.meets in
+    let order : c.extend_from_slice.new.self.items ≡ c.loop-alloc.order.items ++ old = c.in_ok-extend_from_slice.ensures.items ∙ ap (λ (xs : List ℕ). c.loop-alloc.order.items ++ xs) c.as_slice-in-loop-alloc.ensures.value in
     record {
       met = met_next g c.args.starts.now c.loop-alloc.edges c.loop-alloc.stops.items c.next_level.new.stops.items old next c.loop-alloc.invariant.met meets c.in_ok-level-2.ensures.ordered;
       sets = c.in_ok-level-2.ensures.sets ∙ c.loop-alloc.invariant.sets;
       passed = c.in_ok-level-2.ensures.met;
+      order = subst (λ (xs : List ℕ). AreInOrderTo (c.loop-alloc.edges + 1) c.next_level.new.stops.items xs) (sym order)
+          (in_order_more g c.args.starts.now c.loop-alloc.edges c.loop-alloc.stops.items c.next_level.new.stops.items old next c.loop-alloc.invariant.met meets c.loop-alloc.order.items c.loop-alloc.invariant.order);
       room = let had = c.loop-alloc.invariant.room in let room = meets.room in let len = c.loop-alloc.level.ok.0 in let some : 0 < c.loop-alloc.level.len = search rules in omega (arith, had, room, some, len);
     }
 
 pub returns : goal.returns
 returns c =
     let none : c.loop-alloc.level.items ≡ [] = nil_from_length c.loop-alloc.level.items (let none : c.loop-alloc.level.len ≡ 0 = search rules in let len = c.loop-alloc.level.ok.0 in omega (arith, none, len)) in
-    met_all c.args.graph.now c.args.starts.now c.loop-alloc.edges c.loop-alloc.stops.items
-    (subst (λ (level : List ℕ). IsMetTo c.args.graph.now c.args.starts.now c.loop-alloc.edges c.loop-alloc.stops.items level) none c.loop-alloc.invariant.met)
+    let met = subst (λ (level : List ℕ). IsMetTo c.args.graph.now c.args.starts.now c.loop-alloc.edges c.loop-alloc.stops.items level) none c.loop-alloc.invariant.met in
+    record {
+      stops = met_all c.args.graph.now c.args.starts.now c.loop-alloc.edges c.loop-alloc.stops.items met;
+      order = in_order_all c.args.graph.now c.args.starts.now c.loop-alloc.edges c.loop-alloc.stops.items met c.loop-alloc.order.items c.loop-alloc.invariant.order;
+    }
