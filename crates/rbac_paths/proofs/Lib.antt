@@ -14,12 +14,15 @@ pub mod GatheredRoles
 pub mod Gathering
 pub mod GivenGrants
 pub mod Giving
+pub mod GraphOf
 pub mod Grants
 pub mod Mapped
 pub mod NodeWords
 pub mod NodesAdded
 pub mod NodesInOrder
 pub mod OnePowers
+pub mod Others
+pub mod Paths
 pub mod PrincipalsWith
 pub mod RolePlaces
 pub mod RoleRules
@@ -31,3 +34,4 @@ pub mod Telling
 pub mod Untold
 pub mod WordsAdded
 pub mod WordsOfWhom
+pub mod WordsTaken

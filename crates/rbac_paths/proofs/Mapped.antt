@@ -1,7 +1,9 @@
 -- What is in a list of values, and in what order.
-use Rattle.std.proofs.Common.{◌≡◌, ◌⊎◌, List, [], ◌∷◌, AllPairs, Contains, IsSome, None, Option, Some, ap, arith, false, inl, inr, map, refl, suc, true, zero}
+use Rattle.std.proofs.Common.{◌≡◌, ◌∙◌, ◌<◌, ◌⊎◌, ℕ, All, List, [], ◌∷◌, AllPairs, Contains, IsSome, None, Option, Some, ap, arith, false, get_or, inl, inr, length, map, refl, slice_get, subst, suc, true, zero}
+use Rattle.std.specs.Option.{option_map}
 use Rattle.std.proofs.lemmas.List.Elements.{All-map}
 use Rattle.std.proofs.lemmas.List.Kept.{AllPairs-cons}
+use Rattle.std.proofs.lemmas.Option.{get_or_from_slice_get, slice_get-map, slice_get_read, slice_get_within}
 
 pub some_is : {X : Type 0} (o : Option X) → IsSome o → (x : X) × (o ≡ Some x)
 some_is None is = absurd (let both : false ≡ true = is in cc)
@@ -36,3 +38,12 @@ module _ {X Y : Type 0} (f : X → Y) where
   pairs_map R (x ∷ xs) pairs =
       AllPairs-cons R (f x) (map f xs) (All-map (R (f x)) f xs (λ k d within. pairs 0 (suc k) d (omega arith) (omega arith)))
       (pairs_map R xs (λ i j d low within. pairs (suc i) (suc j) d (omega arith) (omega arith)))
+
+  -- what is read at a place
+  pub mapped_at : (xs : List X) (k : ℕ) (x : X) → k < length xs → x ≡ get_or xs k x → slice_get (map f xs) k ≡ Some (f x)
+  mapped_at xs k x low is = slice_get-map f xs k ∙ ap (option_map f) (slice_get_read xs (length xs) k x refl low is)
+
+  pub mapped_has : (P : Y → Type 0) (xs : List X) (k : ℕ) (x : X) → k < length xs → x ≡ get_or xs k x → All P (map f xs) → P (f x)
+  mapped_has P xs k x low is all =
+      let at = mapped_at xs k x low is in
+      subst P (get_or_from_slice_get (map f xs) k (f x) (f x) at) (all k (f x) (slice_get_within (map f xs) k (f x) at))

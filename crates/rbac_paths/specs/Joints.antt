@@ -1,13 +1,19 @@
 -- How the graph of nodes is joined: principals by the words that they share, and other nodes one by one.
-use Rattle.std.specs.Prelude.{◌≡◌, ◌↔◌, ℕ, ◌<◌, List, [], Some, Contains, length, slice_get}
+use Rattle.std.specs.Prelude.{◌≡◌, ◌↔◌, ℕ, ◌<◌, List, [], Some, Any, Contains, length, slice_get}
 use Rattle.std.specs.Prelude.{slice_index_or}
 use Rattle.rbac_terms.specs.Text.{Text}
 use Rattle.rbac_terms.specs.Principals.{Who}
+use Rattle.rbac_terms.specs.declared.matching.Rule.{Rule}
 use Rattle.rbac_model.specs.Policies.{PolicyView}
+use Rattle.rbac_paths.specs.Having.{HoldingView}
 use Rattle.rbac_paths.specs.Nodes.{NodeView, Somebody, ClusterRoleIn, OwnRole, EverythingIn}
+use Rattle.rbac_paths.specs.Rows.{MatchesRow}
 use Rattle.rbac_paths.specs.SharedWords.{AreHadBy}
+use Rattle.rbac_paths.specs.Steps.{RowView, table}
 use Rattle.rbac_paths.specs.TakingOver.{TakesOver}
 use Rattle.rbac_paths.specs.declared.steps.Step.{Step}
+use Rattle.rbac_paths.specs.declared.table.Over.{Over}
+use Rattle.rbac_paths.specs.declared.table.Over.TheVariants as over
 
 -- x takes over somebody exactly if a word by which they can be had is among these
 abbrev pub TakesByWords : PolicyView → List Step → NodeView → List Text → Type 0
@@ -21,10 +27,38 @@ IsNobody (ClusterRoleIn role scope) = Unit {0}
 IsNobody (OwnRole role) = Unit {0}
 IsNobody (EverythingIn scope) = Unit {0}
 
--- the places of the roles among these, and of everything, that x takes over
+-- at that place among these is a role, or everything, that x takes over
+abbrev pub IsOther : PolicyView → List Step → NodeView → List NodeView → ℕ → Type 0
+IsOther p steps x ys j = (y : NodeView) × (slice_get ys j ≡ Some y) × IsNobody y × TakesOver p steps x y
+
+-- exactly those places
 abbrev pub AreOthers : PolicyView → List Step → NodeView → List NodeView → List ℕ → Type 0
-AreOthers p steps x ys js = (j : ℕ) → Contains js j
-    ↔ ((y : NodeView) × (slice_get ys j ≡ Some y) × IsNobody y × TakesOver p steps x y)
+AreOthers p steps x ys js = (j : ℕ) → Contains js j ↔ IsOther p steps x ys j
+
+-- no user and no group is taken over
+abbrev pub IsOverNobody : Over → Type 0
+IsOverNobody over.Users = ⊥
+IsOverNobody over.Groups = ⊥
+IsOverNobody over.Accounts = ⊥
+IsOverNobody over.Everything = Unit {0}
+IsOverNobody over.ClusterRoles = Unit {0}
+IsOverNobody over.Roles = Unit {0}
+
+-- the row is over roles or everything, and the rule matches it
+abbrev pub MatchesOverOthers : Rule → RowView → Type 0
+MatchesOverOthers rule row = IsOverNobody row.over × MatchesRow row rule
+
+-- some row of the step is so
+unfoldable pub MayTakeBy : Rule → Step → Type 0
+MayTakeBy rule step = Any (λ row. (row.step ≡ step) × MatchesOverOthers rule row) table
+
+-- some row of these steps is so for the holding's rule
+unfoldable pub SomeMayTake : List Step → HoldingView → Type 0
+SomeMayTake steps h = Any (MayTakeBy h.rule) steps
+
+-- that is so for some of these holdings: only then do they take over roles or everything
+abbrev pub MayTakeOthers : List Step → List HoldingView → Type 0
+MayTakeOthers steps hs = Any (SomeMayTake steps) hs
 
 -- the words by which a node can be had: only somebody can be had by words
 abbrev pub IsHadBy : NodeView → List Text → Type 0

@@ -7,6 +7,7 @@ pub mod Joints
 pub mod Lines
 pub mod NodeLists
 pub mod Nodes
+pub mod Paths
 pub mod Powers
 pub mod Principals
 pub mod Rows

@@ -5,6 +5,7 @@
 mod all_steps;
 mod bound_names;
 mod finding;
+mod graph;
 mod holding;
 mod laws;
 mod line;

@@ -1,0 +1,94 @@
+-- The graph that is joined by words and by single edges has an edge exactly where a node takes over another.
+use Rattle.std.proofs.Common.{◌≡◌, ◌↔◌, ◌⊎◌, ◌∙◌, ◌<◌, ◌+◌, ◌++◌, ℕ, List, [], ◌∷◌, Option, Some, IfOk, Result, Ok, Err, Contains, ap, arith, get_or, inl, inr, length, slice_get, subst, sym}
+use Rattle.std.proofs.lemmas.Bool.{cases_lt}
+use Rattle.std.proofs.lemmas.List.{get_or_append_left, get_or_at, length_push}
+use Rattle.std.proofs.lemmas.Option.{same_Some, slice_get_within}
+use Rattle.rbac_terms.specs.Text.{Text}
+use Rattle.rbac_terms.specs.Principals.{Who}
+use Rattle.rbac_model.specs.Policies.{PolicyView}
+use Rattle.rbac_ways.specs.Joining.{IsListedAt, SharesWord}
+use Rattle.rbac_ways.specs.Ways.{GraphView, IsEdge}
+use Rattle.rbac_paths.specs.Joints.{AreHad, AreJoints, AreOthers, IsHadBy, IsNobody, TakesByWords}
+use Rattle.rbac_paths.specs.Nodes.{NodeView, Somebody, ClusterRoleIn, OwnRole, EverythingIn}
+use Rattle.rbac_paths.specs.Paths.{IsGraphOf}
+use Rattle.rbac_paths.specs.TakingOver.{TakesOver}
+use Rattle.rbac_paths.specs.declared.steps.Step.{Step}
+
+-- two facts of what went well are one
+pub ok_both : {X E : Type 0} (r : Result X E) (P Q R : X → Type 0) → ((x : X) → P x → Q x → R x) → IfOk r P → IfOk r Q → IfOk r R
+ok_both (Ok x) P Q R both first second = both x first second
+ok_both (Err e) P Q R both first second = tt
+
+-- what is said of each place holds with one more pushed
+pushed : {X : Type 0} (P : ℕ → NodeView → X → Type 0) (ys : List NodeView) (d : X) (xs : List X) (x : X) (count : ℕ) → length xs ≡ count
+    → ((k : ℕ) (y : NodeView) → k < count → slice_get ys k ≡ Some y → P k y (get_or xs k d)) → ((y : NodeView) → slice_get ys count ≡ Some y → P count y x)
+    → (k : ℕ) (y : NodeView) → k < count + 1 → slice_get ys k ≡ Some y → P k y (get_or (xs ++ x ∷ []) k d)
+pushed {X} P ys d xs x count len each last k y low at = elim (cases_lt k count) [
+  | inl less ↦ subst (P k y) (sym (get_or_append_left xs (x ∷ []) d k (let same = len in omega (arith, less, same)))) (each k y less at)
+  | inr high ↦ (
+      let same : k ≡ count = omega (arith, low, high) in
+      let end : length xs ≡ k = len ∙ sym same in
+      subst (P k y) (sym (get_or_at xs x [] d k end)) (subst (λ (i : ℕ). P i y x) (sym same) (last y (subst (λ (i : ℕ). slice_get ys i ≡ Some y) same at)))
+    )
+]
+
+module _ (p : PolicyView) (steps : List Step) (ys : List NodeView) where
+  pub joints_more : (count : ℕ) (takes : List (List Text)) (also : List (List ℕ)) (ws : List Text) (js : List ℕ) → AreJoints p steps ys count takes also
+      → ((y : NodeView) → slice_get ys count ≡ Some y → TakesByWords p steps y ws) → ((y : NodeView) → slice_get ys count ≡ Some y → AreOthers p steps y ys js)
+      → AreJoints p steps ys (count + 1) (takes ++ ws ∷ []) (also ++ js ∷ [])
+  joints_more count takes also ws js j words others = record {
+    takes_len = length_push takes ws ∙ ap (λ (n : ℕ). n + 1) j.takes_len;
+    also_len = length_push also js ∙ ap (λ (n : ℕ). n + 1) j.also_len;
+    words = pushed (λ k y x. TakesByWords p steps y x) ys [] takes ws count j.takes_len j.words words;
+    others = pushed (λ k y x. AreOthers p steps y ys x) ys [] also js count j.also_len j.others others;
+  }
+
+  pub had_more : (count : ℕ) (had : List (List Text)) (ws : List Text) → AreHad ys count had → ((y : NodeView) → slice_get ys count ≡ Some y → IsHadBy y ws) → AreHad ys (count + 1) (had ++ ws ∷ [])
+  had_more count had ws h words = record {
+    len = length_push had ws ∙ ap (λ (n : ℕ). n + 1) h.len;
+    words = pushed (λ k y x. IsHadBy y x) ys [] had ws count h.len h.words words;
+  }
+
+  module _ (takes had : List (List Text)) (also : List (List ℕ)) (joints : AreJoints p steps ys (length ys) takes also) (are : AreHad ys (length ys) had) where
+    -- roles and everything have no words
+    nobody_had : (j : ℕ) (y : NodeView) (w : Text) → slice_get ys j ≡ Some y → IsNobody y → Contains (get_or had j []) w → ⊥
+    nobody_had j (Somebody who) w at is c = elim is [ ]
+    nobody_had j (ClusterRoleIn role scope) w at is c = let low = (subst (λ (ws : List Text). Contains ws w) (are.words j (ClusterRoleIn role scope) (slice_get_within ys j (ClusterRoleIn role scope) at) at) c).1 in omega (arith, low)
+    nobody_had j (OwnRole role) w at is c = let low = (subst (λ (ws : List Text). Contains ws w) (are.words j (OwnRole role) (slice_get_within ys j (OwnRole role) at) at) c).1 in omega (arith, low)
+    nobody_had j (EverythingIn scope) w at is c = let low = (subst (λ (ws : List Text). Contains ws w) (are.words j (EverythingIn scope) (slice_get_within ys j (EverythingIn scope) at) at) c).1 in omega (arith, low)
+
+    abbrev Joined : ℕ → ℕ → Type 0
+    Joined i j = SharesWord takes had i j ⊎ IsListedAt also i j
+
+    module _ (i j : ℕ) (x : NodeView) (at : slice_get ys i ≡ Some x) where
+      listed : (y : NodeView) → slice_get ys j ≡ Some y → IsListedAt also i j → TakesOver p steps x y
+      listed y there l =
+          let o = (joints.others i x (slice_get_within ys i x at) at j).0 l in
+          subst (λ (z : NodeView). TakesOver p steps x z) (same_Some o.0 y (sym o.1 ∙ there)) o.3
+
+      to_nobody : (y : NodeView) → slice_get ys j ≡ Some y → IsNobody y → Joined i j ↔ TakesOver p steps x y
+      to_nobody y there is = (
+        λ e. elim e [ | inl s ↦ absurd (nobody_had j y s.0 there is s.2) | inr l ↦ listed y there l ],
+        λ t. inr ((joints.others i x (slice_get_within ys i x at) at j).1 (y, there, is, t)),
+      )
+
+      pub joined : (y : NodeView) → slice_get ys j ≡ Some y → Joined i j ↔ TakesOver p steps x y
+      joined (Somebody who) there =
+          let share = joints.words i x (slice_get_within ys i x at) at who (get_or had j []) (are.words j (Somebody who) (slice_get_within ys j (Somebody who) there) there) in (
+            λ e. elim e [ | inl s ↦ share.0 (s.0, s.1, s.2) | inr l ↦ listed (Somebody who) there l ],
+            λ t. (let s = share.1 t in inl (s.0, s.1, s.2)),
+          )
+      joined (ClusterRoleIn role scope) there = to_nobody (ClusterRoleIn role scope) there tt
+      joined (OwnRole role) there = to_nobody (OwnRole role) there tt
+      joined (EverythingIn scope) there = to_nobody (EverythingIn scope) there tt
+
+    pub graph_is : (g : GraphView) → length g.takes ≡ length takes → ((i j : ℕ) → IsEdge g i j ↔ ((j < length takes) × Joined i j)) → IsGraphOf p steps ys g
+    graph_is g len edges = record {
+      len = len ∙ joints.takes_len;
+      edges = λ i j x y at there. (
+        let is = joined i j x at y there in (
+          λ e. is.0 ((edges i j).0 e).1,
+          λ t. (edges i j).1 (subst (λ (n : ℕ). j < n) (sym joints.takes_len) (slice_get_within ys j y there), is.1 t),
+        )
+      );
+    }

@@ -1,0 +1,120 @@
+-- The roles that a node takes over, and everything, one after another.
+use Rattle.std.proofs.Common.{◌≡◌, ◌↔◌, ◌∙◌, ◌⊎◌, ◌<◌, ◌+◌, ◌++◌, ℕ, List, [], ◌∷◌, Option, None, Some, IsSome, MatchOption, Any, Contains, false, refl, true, arith, inl, inr, length, slice_get, subst, sym}
+use Rattle.std.proofs.lemmas.Bool.{cases_eq}
+use Rattle.std.proofs.lemmas.List.Elements.{Contains-append_left, Contains-push, Contains-push_cases}
+use Rattle.std.proofs.lemmas.Option.{same_Some, slice_get_within}
+use Rattle.rbac_terms.specs.Matching.{VerbOk}
+use Rattle.rbac_terms.specs.Text.{Text}
+use Rattle.rbac_terms.specs.declared.matching.Rule.{Rule}
+use Rattle.rbac_model.proofs.OwnWords.{any_from}
+use Rattle.rbac_model.specs.Policies.{IsPolicy, PolicyView}
+use Rattle.rbac_paths.specs.Having.{AreHoldings, HoldingView}
+use Rattle.rbac_paths.specs.Joints.{AreOthers, IsNobody, IsOther, IsOverNobody, MatchesOverOthers, MayTakeBy, MayTakeOthers, SomeMayTake}
+use Rattle.rbac_paths.specs.Nodes.{NodeView, Somebody, ClusterRoleIn, OwnRole, EverythingIn}
+use Rattle.rbac_paths.specs.Rows.{AreOfStep, HasRowResource, MatchesRow}
+use Rattle.rbac_paths.specs.Steps.{RowView, table}
+use Rattle.rbac_paths.specs.Taking.{IsOver, RowTakes, RuleTakes}
+use Rattle.rbac_paths.specs.TakingOver.{TakesOver}
+use Rattle.rbac_paths.specs.Told.{HoldingTakes, HoldingsTake, IsFirstTold}
+use Rattle.rbac_paths.specs.declared.steps.Step.{Step}
+use Rattle.rbac_paths.specs.declared.table.Counts.{Counts}
+use Rattle.rbac_paths.specs.declared.table.Over.{Over}
+use Rattle.rbac_paths.specs.declared.table.Over.TheVariants as over
+use Rattle.rbac_paths.proofs.AllowedBy.{in_holdings}
+
+-- what rows of a step say of a rule is what the table says
+pub may_take : (step : Step) (rows : List RowView) → AreOfStep step table rows → (rule : Rule) → Any (MatchesOverOthers rule) rows ↔ MayTakeBy rule step
+unfolding MayTakeBy
+may_take step rows of rule = (
+  λ a. (let there = (of a.1).0 (a.0, a.2, a.3) in any_from (λ row. (row.step ≡ step) × MatchesOverOthers rule row) table a.1 there.0 (there.1, a.4)),
+  λ a. any_from (MatchesOverOthers rule) rows a.1 ((of a.1).1 ((a.0, a.2, a.3), a.4.0)) a.4.1,
+)
+
+-- a row that takes over a role or everything is over roles or everything, and the rule matches it
+over_nobody : (o : Over) (counts : Counts) (y : NodeView) (namespace own : Text) → IsNobody y → IsOver o counts y namespace own → IsOverNobody o
+over_nobody over.Users counts (Somebody who) namespace own nobody is = nobody
+over_nobody over.Users counts (ClusterRoleIn role scope) namespace own nobody is = is
+over_nobody over.Users counts (OwnRole role) namespace own nobody is = is
+over_nobody over.Users counts (EverythingIn scope) namespace own nobody is = is
+over_nobody over.Groups counts (Somebody who) namespace own nobody is = nobody
+over_nobody over.Groups counts (ClusterRoleIn role scope) namespace own nobody is = is
+over_nobody over.Groups counts (OwnRole role) namespace own nobody is = is
+over_nobody over.Groups counts (EverythingIn scope) namespace own nobody is = is
+over_nobody over.Accounts counts (Somebody who) namespace own nobody is = nobody
+over_nobody over.Accounts counts (ClusterRoleIn role scope) namespace own nobody is = is
+over_nobody over.Accounts counts (OwnRole role) namespace own nobody is = is
+over_nobody over.Accounts counts (EverythingIn scope) namespace own nobody is = is
+over_nobody over.Everything counts y namespace own nobody is = tt
+over_nobody over.ClusterRoles counts y namespace own nobody is = tt
+over_nobody over.Roles counts y namespace own nobody is = tt
+
+matches : (h : HoldingView) (y : NodeView) (row : RowView) → IsNobody y → RowTakes row h.home h.rule y → MatchesOverOthers h.rule row
+matches h y row nobody w = (over_nobody row.over row.counts y w.namespace w.own nobody w.over, (
+  any_from (VerbOk h.rule) row.verbs w.verb w.of_verbs w.allows.0,
+  w.allows.1.0,
+  any_from (HasRowResource h.rule) row.resources w.text w.of_resources w.allows.1.1,
+))
+
+matches_step : (h : HoldingView) (y : NodeView) (step : Step) → IsNobody y → RuleTakes step h.home h.rule y → MayTakeBy h.rule step
+unfolding MayTakeBy
+matches_step h y step nobody a =
+    any_from (λ row. (row.step ≡ step) × MatchesOverOthers h.rule row) table a.1 (a.0, a.2, a.3) (a.4.0, matches h y a.1 nobody a.4.1)
+
+may_others : (hs : List HoldingView) (steps : List Step) (y : NodeView) (step : Step) → IsNobody y → Contains steps step → HoldingsTake step hs y → MayTakeOthers steps hs
+unfolding HoldingsTake HoldingTakes SomeMayTake
+may_others hs steps y step nobody among a =
+    any_from (λ h. SomeMayTake steps h) hs a.1 (a.0, a.2, a.3) (any_from (MayTakeBy a.1.rule) steps step among (matches_step a.1 y step nobody a.4))
+
+-- a node is taken over exactly if that is told by some step
+pub told_some : (p : PolicyView) (steps : List Step) (x y : NodeView) (o : Option Step) → MatchOption o (TakesOver p steps x y → ⊥) (IsFirstTold p steps x y) → IsSome o ↔ TakesOver p steps x y
+told_some p steps x y None none = (λ is. absurd (let both : false ≡ true = is in cc), λ t. absurd (none t))
+told_some p steps x y (Some step) first = (λ is. (step, first.1.holds), λ t. refl)
+
+module _ (p : PolicyView) (steps : List Step) (x : NodeView) (ys : List NodeView) where
+  -- a node none of whose rules matches such a row takes over none
+  pub no_others : IsPolicy p → (hs : List HoldingView) → AreHoldings p x hs → (MayTakeOthers steps hs → ⊥) → (js : List ℕ) → js ≡ [] → AreOthers p steps x ys js
+  no_others ok hs are none js empty j = (
+    λ c. absurd (let low = (subst (λ (ks : List ℕ). Contains ks j) empty c).1 in omega (arith, low)),
+    λ o. absurd (let t = o.3 in none (may_others hs steps o.0 t.0 o.2 t.1.among (in_holdings p ok x hs are t.0 o.0 t.1.can))),
+  )
+
+  -- those below a place
+  abbrev pub AreOthersBelow : ℕ → List ℕ → Type 0
+  AreOthersBelow bound js = (j : ℕ) → Contains js j ↔ ((j < bound) × IsOther p steps x ys j)
+
+  pub others_none : (js : List ℕ) → js ≡ [] → AreOthersBelow 0 js
+  others_none js empty j = (
+    λ c. absurd (let low = (subst (λ (ks : List ℕ). Contains ks j) empty c).1 in omega (arith, low)),
+    λ w. absurd (let low = w.0 in omega (arith, low)),
+  )
+
+  module _ (place : ℕ) (y : NodeView) (at : slice_get ys place ≡ Some y) (js : List ℕ) (below : AreOthersBelow place js) where
+    pub others_more : IsNobody y × TakesOver p steps x y → AreOthersBelow (place + 1) (js ++ place ∷ [])
+    others_more is j = (
+      λ c. elim (Contains-push_cases js place j c) [
+        | inl old ↦ (let w = (below j).0 old in (let low = w.0 in omega (arith, low), w.1))
+        | inr same ↦ (omega (arith, same), (y, subst (λ (k : ℕ). slice_get ys k ≡ Some y) same at, is.0, is.1))
+      ],
+      λ w. elim (cases_eq j place) [
+        | inl same ↦ subst (λ (k : ℕ). Contains (js ++ place ∷ []) k) (sym same) (Contains-push js place)
+        | inr other ↦ Contains-append_left js (place ∷ []) j ((below j).1 (let low = w.0 in omega (arith, low, other), w.1))
+      ],
+    )
+
+    pub others_same : (IsNobody y × TakesOver p steps x y → ⊥) → AreOthersBelow (place + 1) js
+    others_same none j = (
+      λ c. (let w = (below j).0 c in (let low = w.0 in omega (arith, low), w.1)),
+      λ w. elim (cases_eq j place) [
+        | inl same ↦ absurd (
+            let o = w.1 in
+            let is : y ≡ o.0 = same_Some y o.0 (sym (subst (λ (k : ℕ). slice_get ys k ≡ Some y) (sym same) at) ∙ o.1) in
+            none (subst (λ (z : NodeView). IsNobody z × TakesOver p steps x z) (sym is) (o.2, o.3)))
+        | inr other ↦ (below j).1 (let low = w.0 in omega (arith, low, other), w.1)
+      ],
+    )
+
+  pub others_all : (bound : ℕ) (js : List ℕ) → length ys ≡ bound → AreOthersBelow bound js → AreOthers p steps x ys js
+  others_all bound js end below j = (
+    λ c. ((below j).0 c).1,
+    λ o. (below j).1 (let low = slice_get_within ys j o.0 o.1 in omega (arith, low, end), o),
+  )

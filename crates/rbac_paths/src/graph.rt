@@ -1,0 +1,206 @@
+//! The graph of nodes: an edge leads from each node to each that it takes over.
+
+ghost use Rattle.std.specs.Prelude.{◌≡◌, ◌↔◌, All, Any, IfOk, IsTrue, length, map};
+ghost use Rattle.rbac_terms.specs.Principals.{Who};
+ghost use Rattle.rbac_model.specs.Policies.{IsPolicy, PolicyView};
+ghost use Rattle.rbac_paths.specs.Having.{AreHoldings};
+ghost use Rattle.rbac_paths.specs.Joints.{AreHad, AreOthers, IsHadBy, IsNobody, IsOverNobody};
+ghost use Rattle.rbac_paths.specs.Joints.{MatchesOverOthers, MayTakeBy, MayTakeOthers, SomeMayTake};
+ghost use Rattle.rbac_paths.specs.Joints.{TakesByWords};
+ghost use Rattle.rbac_paths.specs.Nodes.{Somebody, node_of};
+ghost use Rattle.rbac_paths.specs.Paths.{IsGraphOf};
+ghost use Rattle.rbac_paths.specs.TakingOver.{GoesOn, TakesOver};
+ghost use Rattle.rbac_paths.specs.Told.{HasItsRole};
+
+use crate::holding::{Holding, holdings_of, rule_of_all};
+use crate::node::Node;
+use crate::rows::WordRow;
+use crate::table::Over;
+use crate::told::{StepRows, first_told};
+use crate::words::{taken_words, words_of_whom};
+use rbac_model::Policy;
+use rbac_subjects::SubjectIndex;
+use rbac_terms::{Items, Rule, Words};
+use rbac_ways::Graph;
+use std::alloc::{AllocError, Global};
+
+/// The graph of these nodes, by these steps. Users and groups are joined by the words that they share
+/// with who takes them over, so that many who take many are written once; roles and everything are
+/// asked for one by one.
+pub(crate) fn graph_of<'p>(
+    alloc: Global,
+    policy: &'p Policy,
+    index: &SubjectIndex<'p>,
+    steps: &[StepRows],
+    nodes: &[Node<'p>],
+) -> Result<Graph, AllocError>
+    requires policy { IsPolicy policy.now }
+    requires index { index.now ≡ policy.now }
+    requires held { All (HasItsRole policy.now.held) (map node_of nodes.now) }
+    ensures { IfOk result (λ g. IsGraphOf policy.now steps.now (map node_of nodes.now) g) }
+{
+    let all = rule_of_all(alloc)?;
+    let mut takes = Vec::with_capacity(alloc, nodes.len())?;
+    let mut also = Vec::with_capacity(alloc, nodes.len())?;
+    for node in nodes {
+        let holdings = holdings_of(alloc, policy, index, &all, *node)?;
+        takes.push(words_taken(alloc, steps, holdings.as_slice(), *node)?)?;
+        also.push(others_taken(alloc, steps, holdings.as_slice(), *node, nodes)?)?;
+    }
+    let had_by = words_of_nodes(alloc, nodes)?;
+    Graph::joined(alloc, takes.as_slice(), had_by.as_slice(), also.as_slice())
+}
+
+// The words that a node takes; it has exactly these holdings.
+fn words_taken(
+    alloc: Global,
+    steps: &[StepRows],
+    holdings: &[Holding<'_>],
+    node: Node<'_>,
+) -> Result<Words, AllocError>
+    ensures { (p : PolicyView) → IsPolicy p → AreHoldings p (node_of node.entry) holdings.now
+        → IfOk result (λ ws. TakesByWords p steps.now (node_of node.entry) ws) }
+{
+    if goes_further(node) {
+        taken_words(alloc, steps, holdings)
+    } else {
+        Ok(Words::new(alloc))
+    }
+}
+
+// Whether a node goes on to users and groups at all.
+fn goes_further(node: Node<'_>) -> bool
+    ensures { (who : Who) → IsTrue result ↔ GoesOn (node_of node.entry) (Somebody who) }
+{
+    !matches!(node, Node::Everything(None))
+}
+
+// The places of the roles among these nodes, and of everything, that a node takes over; it has exactly
+// these holdings.
+fn others_taken(
+    alloc: Global,
+    steps: &[StepRows],
+    holdings: &[Holding<'_>],
+    from: Node<'_>,
+    nodes: &[Node<'_>],
+) -> Result<Items<usize>, AllocError>
+    ensures { (p : PolicyView) → IsPolicy p → AreHoldings p (node_of from.entry) holdings.now
+        → IfOk result
+        (λ js. AreOthers p steps.now (node_of from.entry) (map node_of nodes.now) js) }
+{
+    if may_take_others(steps, holdings) {
+        others_among(alloc, steps, holdings, from, nodes)
+    } else {
+        Ok(Items::new(alloc))
+    }
+}
+
+// The same, where each of the nodes is asked for.
+fn others_among(
+    alloc: Global,
+    steps: &[StepRows],
+    holdings: &[Holding<'_>],
+    from: Node<'_>,
+    nodes: &[Node<'_>],
+) -> Result<Items<usize>, AllocError>
+    ensures { (p : PolicyView) → IsPolicy p → AreHoldings p (node_of from.entry) holdings.now
+        → IfOk result
+        (λ js. AreOthers p steps.now (node_of from.entry) (map node_of nodes.now) js) }
+{
+    let mut others = Vec::new(alloc);
+    for (place, to) in nodes.iter().enumerate() {
+        if takes_other(steps, holdings, from, *to) {
+            others.push(place)?;
+        }
+    }
+    Ok(Items::from_vec(others))
+}
+
+// Whether a node, which has exactly these holdings, takes over another that is a role or everything.
+fn takes_other(
+    steps: &[StepRows],
+    holdings: &[Holding<'_>],
+    from: Node<'_>,
+    to: Node<'_>,
+) -> bool
+    ensures { (p : PolicyView) → IsPolicy p → AreHoldings p (node_of from.entry) holdings.now
+        → IsTrue result ↔ (IsNobody (node_of to.entry)
+        × TakesOver p steps.now (node_of from.entry) (node_of to.entry)) }
+{
+    is_nobody(to) && first_told(steps, holdings, from, to).is_some()
+}
+
+// Whether a node is a role, or everything.
+fn is_nobody(node: Node<'_>) -> bool
+    ensures { IsTrue result ↔ IsNobody (node_of node.entry) }
+{
+    !matches!(node, Node::Somebody(_))
+}
+
+// Whether a rule of these holdings matches some row of the steps that is over roles or everything.
+// Most nodes have none, and so aren't asked about each role in each scope.
+fn may_take_others(steps: &[StepRows], holdings: &[Holding<'_>]) -> bool
+    ensures { IsTrue result ↔ MayTakeOthers steps.now holdings.now }
+{
+    holdings.iter().any(|held| some_may_take(steps, held))
+}
+
+// Whether the holding's rule matches some row of the steps that is over roles or everything.
+#[tactic(auto, unfolding(crate::specs::Joints::SomeMayTake))]
+fn some_may_take(steps: &[StepRows], held: &Holding<'_>) -> bool
+    ensures { IsTrue result ↔ SomeMayTake steps.now held.now }
+{
+    steps.iter().any(|step| may_take_by(step, held.rule))
+}
+
+// Whether the rule matches some row of the step that is over roles or everything.
+fn may_take_by(step: &StepRows, rule: &Rule) -> bool
+    ensures { IsTrue result ↔ MayTakeBy rule.now step.now }
+{
+    some_is_over_others(step.rows(), rule)
+}
+
+// Whether the rule matches some of these rows that is over roles or everything.
+fn some_is_over_others(rows: &[WordRow], rule: &Rule) -> bool
+    ensures { IsTrue result ↔ Any (MatchesOverOthers rule.now) rows.now }
+{
+    rows.iter().any(|row| is_over_others(row, rule))
+}
+
+// Whether the row is over roles or everything, and the rule matches it.
+fn is_over_others(row: &WordRow, rule: &Rule) -> bool
+    ensures { IsTrue result ↔ MatchesOverOthers rule.now row.now }
+{
+    is_over_nobody(row.over) && row.matches(rule)
+}
+
+// Whether what is taken over is no user and no group.
+fn is_over_nobody(over: Over) -> bool
+    ensures { IsTrue result ↔ IsOverNobody over }
+{
+    match over {
+        Over::Users | Over::Groups | Over::Accounts => false,
+        Over::Everything | Over::ClusterRoles | Over::Roles => true,
+    }
+}
+
+// The words by which each of these nodes can be had.
+fn words_of_nodes(alloc: Global, nodes: &[Node<'_>]) -> Result<Vec<Words>, AllocError>
+    ensures { IfOk result (λ had. AreHad (map node_of nodes.now) (length nodes.now) had.items) }
+{
+    let mut all = Vec::with_capacity(alloc, nodes.len())?;
+    for node in nodes {
+        all.push(words_of_node(alloc, *node)?)?;
+    }
+    Ok(all)
+}
+
+// The words by which a node can be had.
+fn words_of_node(alloc: Global, node: Node<'_>) -> Result<Words, AllocError>
+    ensures { IfOk result (IsHadBy (node_of node.entry)) }
+{
+    match node {
+        Node::Somebody(who) => words_of_whom(alloc, who),
+        _ => Ok(Words::new(alloc)),
+    }
+}
