@@ -15,6 +15,7 @@ pub mod Gathering
 pub mod GivenGrants
 pub mod Giving
 pub mod GraphOf
+pub mod GraphWays
 pub mod Grants
 pub mod Mapped
 pub mod NodeWords
@@ -22,7 +23,7 @@ pub mod NodesAdded
 pub mod NodesInOrder
 pub mod OnePowers
 pub mod Others
-pub mod Paths
+pub mod PathsFound
 pub mod PrincipalsWith
 pub mod RolePlaces
 pub mod RoleRules
@@ -31,6 +32,7 @@ pub mod Scopes
 pub mod SharedWords
 pub mod Taken
 pub mod Telling
+pub mod Tracing
 pub mod Untold
 pub mod WordsAdded
 pub mod WordsOfWhom

@@ -17,3 +17,4 @@ pub mod Taking
 pub mod TakingOver
 pub mod Telling
 pub mod Told
+pub mod Tracing

@@ -3,6 +3,7 @@
 
 ghost use Rattle.std.specs.Prelude.{◌⊎◌, ◌↔◌, Any, Contains, IfOk, IsTrue, OnOk};
 ghost use Rattle.rbac_terms.specs.Text.{Text};
+ghost use Rattle.rbac_model.specs.Policies.{IsPolicy};
 ghost use Rattle.rbac_paths.specs.BoundNames.{AreBoundNames, BindsNamed};
 ghost use Rattle.rbac_paths.specs.Rows.{AreOfStep, MatchesRow};
 ghost use Rattle.rbac_paths.specs.SharedWords.{AddsWords};
@@ -17,7 +18,8 @@ use std::alloc::{AllocError, Global};
 
 /// The names of roles that rules of this policy let one bind, in order, each once.
 pub(crate) fn bound_names(alloc: Global, policy: &Policy) -> Result<Vec<Word>, AllocError>
-    ensures { IfOk result (λ names. AreBoundNames policy.now.held names.items) }
+    ensures names { IfOk result (λ names. AreBoundNames policy.now.held names.items) }
+    ensures policy { OnOk result (IsPolicy policy.now) }
 {
     let rows = rows_of(alloc, Step::Bind)?;
     let mut names = Vec::new(alloc);

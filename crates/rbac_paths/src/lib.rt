@@ -2,6 +2,7 @@
 //! which.
 #![tactic(auto)]
 
+mod all_paths;
 mod all_steps;
 mod bound_names;
 mod finding;
@@ -21,6 +22,7 @@ mod taking_over;
 mod told;
 mod words;
 
+pub use all_paths::{Path, paths};
 pub use all_steps::powers;
 pub use laws::powers_are_one;
 pub use line::put_power;

@@ -52,8 +52,8 @@ loop-role-2-preserved c =
       c.loop-role-2-test.true c.role-item-in-loop-role-2.is had.2 (subst (λ (rules : List Rule). OfRules rules old new) c.as_slice-in-loop-role-2-2.ensures c.in_ok-add_names-2.ensures),
     )
 
-pub returns : goal.returns
-returns c =
+pub returns-clause-names : goal.returns-clause-names
+returns-clause-names c =
     let items = c.cluster_roles-role-items.result.now in
     let names = c.loop-role-2.names.items in
     let had = c.loop-role-2.invariant in

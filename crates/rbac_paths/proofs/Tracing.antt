@@ -1,0 +1,151 @@
+-- Paths by where their nodes are on shortest ways, one after another.
+use Rattle.std.proofs.Common.{◌≡◌, ◌≢◌, ◌↔◌, ◌∙◌, ◌⊎◌, ◌<◌, ◌≤◌, ◌+◌, ◌++◌, ℕ, List, [], ◌∷◌, Option, MatchOption, None, Some, AllPairs, Any, Contains, ap, ap₂, arith, get_or, inl, inr, length, refl, slice_get, subst, sym, take}
+use Rattle.std.specs.declared.cmp.Ordering.TheVariants.{Less}
+use Rattle.std.proofs.lemmas.Bool.{cases_eq}
+use Rattle.std.proofs.lemmas.List.{get_or_default, get_or-take, length-take}
+use Rattle.std.proofs.lemmas.List.Elements.{Contains-append_left, Contains-push, Contains-push_cases}
+use Rattle.std.proofs.lemmas.List.Quantifiers.{all_pairs_push}
+use Rattle.std.proofs.lemmas.Option.{get_or_from_slice_get, same_Some, slice_get_within}
+use Rattle.rbac_terms.specs.Principals.{Who}
+use Rattle.rbac_terms.specs.Text.{text_cmp}
+use Rattle.rbac_model.proofs.LabelSets.{any_push}
+use Rattle.rbac_model.proofs.Stairs.{take_read}
+use Rattle.rbac_model.specs.Policies.{PolicyView}
+use Rattle.rbac_ways.specs.Ways.{AreInOrder, IsMetBefore}
+use Rattle.rbac_ways.specs.declared.graph.Stop.{Stop}
+use Rattle.rbac_paths.specs.NodeLists.{node_text}
+use Rattle.rbac_paths.specs.Nodes.{NodeView}
+use Rattle.rbac_paths.specs.Paths.{IsNearer, PathView}
+use Rattle.rbac_paths.specs.TakingOver.{TakesOver}
+use Rattle.rbac_paths.specs.Tracing.{AreLinked, ArePathsAt, HasKeyAt, HasKeyOf, IsPathAt, IsUnled, TakesAt}
+use Rattle.rbac_paths.specs.declared.steps.Step.{Step}
+
+-- ---- places below a bound, one after another
+
+abbrev pub AreBelow : (ℕ → Type 0) → ℕ → List ℕ → Type 0
+AreBelow P bound js = (j : ℕ) → Contains js j ↔ ((j < bound) × P j)
+
+module _ (P : ℕ → Type 0) where
+  pub below_none : (js : List ℕ) → js ≡ [] → AreBelow P 0 js
+  below_none js empty j = (
+    λ c. absurd (let low = (subst (λ (ks : List ℕ). Contains ks j) empty c).1 in omega (arith, low)),
+    λ w. absurd (let low = w.0 in omega (arith, low)),
+  )
+
+  module _ (place : ℕ) (js : List ℕ) (below : AreBelow P place js) where
+    pub below_more : P place → AreBelow P (place + 1) (js ++ place ∷ [])
+    below_more is j = (
+      λ c. elim (Contains-push_cases js place j c) [
+        | inl old ↦ (let w = (below j).0 old in (let low = w.0 in omega (arith, low), w.1))
+        | inr same ↦ (omega (arith, same), subst P same is)
+      ],
+      λ w. elim (cases_eq j place) [
+        | inl same ↦ subst (λ (k : ℕ). Contains (js ++ place ∷ []) k) (sym same) (Contains-push js place)
+        | inr other ↦ Contains-append_left js (place ∷ []) j ((below j).1 (let low = w.0 in omega (arith, low, other), w.1))
+      ],
+    )
+
+    pub below_same : (P place → ⊥) → AreBelow P (place + 1) js
+    below_same none j = (
+      λ c. (let w = (below j).0 c in (let low = w.0 in omega (arith, low), w.1)),
+      λ w. elim (cases_eq j place) [
+        | inl same ↦ absurd (none (subst P same w.1))
+        | inr other ↦ (below j).1 (let low = w.0 in omega (arith, low, other), w.1)
+      ],
+    )
+
+  pub all_below : (bound : ℕ) (js : List ℕ) → ((j : ℕ) → P j → j < bound) → AreBelow P bound js → (j : ℕ) → Contains js j ↔ P j
+  all_below bound js within below j = (λ c. ((below j).0 c).1, λ is. (below j).1 (within j is, is))
+
+pub keyed_here : (ys : List NodeView) (who : Who) (j : ℕ) (y : NodeView) → slice_get ys j ≡ Some y → HasKeyAt ys who j → HasKeyOf who y
+keyed_here ys who j y at has = subst (HasKeyOf who) (same_Some has.0 y (sym has.1 ∙ at)) has.2
+
+-- ---- one path
+
+-- what an answer says, where it is none, and where it is one
+pub matched_none : {X : Type 0} (o : Option X) (N : Type 0) (P : X → Type 0) → ((x : X) → o ≡ Some x → ⊥) → MatchOption o N P → N
+matched_none None N P none m = m
+matched_none (Some x) N P none m = absurd (none x refl)
+
+pub matched_some : {X : Type 0} (o : Option X) (N : Type 0) (P : X → Type 0) (x : X) → o ≡ Some x → MatchOption o N P → P x
+matched_some {X = X} o N P x is m = subst (λ (v : Option X). MatchOption v N P) is m
+
+module _ (p : PolicyView) (steps : List Step) (ys : List NodeView) (stops : List (Option Stop)) where
+  abbrev stop_at : ℕ → Option Stop
+  stop_at j = get_or stops j None
+
+  pub unmet : (j : ℕ) → stop_at j ≡ None → IsUnled stops j
+  unmet j none s at = absurd (let both : None ≡ Some s = sym none ∙ at in cc)
+
+  pub start : (j : ℕ) (s : Stop) → stop_at j ≡ Some s → s.edges ≡ 0 → IsUnled stops j
+  start j s at none t there = ap (λ (x : Stop). x.edges) (same_Some t s (sym there ∙ at)) ∙ none
+
+  -- who is before takes over the node
+  pub takes_both : AreLinked p steps ys stops → (j : ℕ) (s : Stop) → stop_at j ≡ Some s → s.edges ≢ 0 → (x y : NodeView) → slice_get ys s.before ≡ Some x → slice_get ys j ≡ Some y → TakesOver p steps x y
+  takes_both linked j s at led x y before here =
+      let w = linked j s at led in
+      subst (λ (z : NodeView). TakesOver p steps z y) (same_Some w.0 x (sym w.2 ∙ before)) (subst (λ (z : NodeView). TakesOver p steps w.0 z) (same_Some w.1 y (sym w.3 ∙ here)) w.4)
+
+  -- ---- several
+
+  module _ (up : AllPairs (λ y z. text_cmp (node_text y) (node_text z) ≡ Less) ys) where
+    abbrev Path : ℕ → PathView → Type 0
+    Path j x = IsPathAt p steps ys stops j x
+
+    printed : (i j : ℕ) (x y : NodeView) → i < j → slice_get ys i ≡ Some x → slice_get ys j ≡ Some y → text_cmp (node_text x) (node_text y) ≡ Less
+    printed i j x y low at there =
+        ap₂ (λ (a : NodeView) (b : NodeView). text_cmp (node_text a) (node_text b)) (sym (get_or_from_slice_get ys i x x at)) (sym (get_or_from_slice_get ys j y x there)) ∙ up i j x low (slice_get_within ys j y there)
+
+    nearer : (i j : ℕ) (x y : PathView) → IsMetBefore stops i j → Path i x → Path j y → IsNearer x y
+    nearer i j x y met a b =
+        let first : x.count ≡ met.0.edges = a.count ∙ ap (λ (s : Stop). s.edges) (same_Some a.stop met.0 (sym a.at ∙ met.2)) in
+        let second : y.count ≡ met.1.edges = b.count ∙ ap (λ (s : Stop). s.edges) (same_Some b.stop met.1 (sym b.at ∙ met.3)) in
+        elim met.4 [
+          | inl fewer ↦ inl (omega (arith, fewer, first, second))
+          | inr same ↦ inr (first ∙ same.0 ∙ sym second, printed i j x.node y.node same.1 a.node b.node)
+        ]
+
+    pub paths_none : (xs : List PathView) → xs ≡ [] → ArePathsAt p steps ys stops [] xs
+    paths_none xs empty = record {
+      each = λ x c. absurd (let low = (subst (λ (zs : List PathView). Contains zs x) empty c).1 in omega (arith, low));
+      has = λ j c. absurd (let low = c.1 in omega (arith, low));
+      ordered = λ i j d low within. absurd (let len = ap length empty in omega (arith, low, within, len));
+    }
+
+    module _ (places : List ℕ) (place : ℕ) (xs : List PathView) (are : ArePathsAt p steps ys stops places xs) where
+      each_before : (x : PathView) → Contains xs x → (j : ℕ) × Contains (places ++ place ∷ []) j × Path j x
+      each_before x c = let w = are.each x c in (w.0, Contains-append_left places (place ∷ []) w.0 w.1, w.2)
+
+      pub paths_same : IsUnled stops place → ArePathsAt p steps ys stops (places ++ place ∷ []) xs
+      paths_same unled = record {
+        each = each_before;
+        has = λ j c. elim (Contains-push_cases places place j c) [
+          | inl old ↦ are.has j old
+          | inr same ↦ inl (subst (IsUnled stops) same unled)
+        ];
+        ordered = are.ordered;
+      }
+
+      pub paths_more : ((j : ℕ) → Contains places j → IsMetBefore stops j place) → (x : PathView) → Path place x → ArePathsAt p steps ys stops (places ++ place ∷ []) (xs ++ x ∷ [])
+      paths_more later x is = record {
+        each = λ z c. elim (Contains-push_cases xs x z c) [
+          | inl old ↦ each_before z old
+          | inr same ↦ (place, Contains-push places place, subst (Path place) same is)
+        ];
+        has = λ j c. elim (Contains-push_cases places place j c) [
+          | inl old ↦ (elim (are.has j old) [ inl unled ↦ inl unled | inr some ↦ inr ((any_push (Path j) xs x).1 (inl some)) ])
+          | inr same ↦ inr ((any_push (Path j) xs x).1 (inr (subst (λ (k : ℕ). Path k x) same is)))
+        ];
+        ordered = all_pairs_push IsNearer xs x are.ordered (λ k d low.
+            let w = are.each (get_or xs k d) (k, low, get_or_default xs k (get_or xs k d) d low) in
+            nearer w.0 place (get_or xs k d) x (later w.0 w.1) w.2 is);
+      }
+
+-- each node before a place of the order is met before the one there
+pub met_before : (stops : List (Option Stop)) (order : List ℕ) → AreInOrder stops order → (i place : ℕ) → i < length order → place ≡ get_or order i place → (j : ℕ) → Contains (take i order) j → IsMetBefore stops j place
+met_before stops order are i place low is j c =
+    let len = length-take i order in
+    let under : c.0 < i = omega (arith, c.1, len, low) in
+    let here : get_or order c.0 j ≡ j = sym (get_or-take i order c.0 j under) ∙ c.2 in
+    let first : get_or order c.0 place ≡ j = get_or_default order c.0 place j (omega (arith, under, low)) ∙ here in
+    subst (λ (k : ℕ). IsMetBefore stops k place) first (subst (λ (k : ℕ). IsMetBefore stops (get_or order c.0 place) k) (sym is) (are.ordered c.0 i place under low))

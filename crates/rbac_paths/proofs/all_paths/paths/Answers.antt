@@ -1,0 +1,89 @@
+use Rattle.std.proofs.Common.{◌≡◌, ◌↔◌, ◌∙◌, All, Bor, Contains, List, Option, ℕ, map, subst, sym}
+use Rattle.std.proofs.lemmas.Result.{IfOk-weaker}
+use Rattle.rbac_terms.specs.Principals.{Who}
+use Rattle.rbac_terms.specs.Text.{Text}
+use Rattle.rbac_ways.specs.Ways.{AreStops}
+use Rattle.rbac_paths.specs.NodeLists.{AreNodes}
+use Rattle.rbac_paths.specs.Nodes.{NodeView, Somebody, node_of}
+use Rattle.rbac_paths.specs.Paths.{ArePaths, IsGraphOf}
+use Rattle.rbac_paths.specs.Principals.{IsOneWith}
+use Rattle.rbac_paths.specs.Told.{HasItsRole}
+use Rattle.rbac_paths.specs.Tracing.{AreLinked, ArePathsAt, HasKeyAt}
+use Rattle.rbac_paths.specs.declared.node.Node.{Node}
+use Rattle.rbac_paths.specs.declared.steps.Step.{Step}
+use Rattle.rbac_paths.proofs.PathsFound.{are_paths, held, in_order, linked}
+use Rattle.rbac_paths.proofs.all_paths.paths.Goals as goal
+
+pub nodes_of-requires-clause-names : goal.nodes_of-requires-clause-names
+nodes_of-requires-clause-names c = rw c.as_slice-2.ensures.value (in_order c.in_ok-names.names.items c.in_ok-names.ensures.names.ascending)
+
+pub graph_of-requires-clause-held : goal.graph_of-requires-clause-held
+graph_of-requires-clause-held c =
+    let p = c.args.policy.now in
+    let names = c.in_ok-names.names.items in
+    let all = map (λ (who : Bor Who). who.now) c.as_slice.result.now in
+    let ys = map node_of c.in_ok-nodes.nodes.items in
+    let are = subst (λ (ns : List Text). AreNodes p all ns ys) c.as_slice-2.ensures.value c.in_ok-nodes.ensures in
+    subst (λ (ns : List Node). All (HasItsRole p.held) (map node_of ns)) (sym c.as_slice-4.ensures.value) (held p c.in_ok-names.ensures.policy all names c.in_ok-names.ensures.names ys are)
+
+pub paths_by-requires-clause-held : goal.paths_by-requires-clause-held
+paths_by-requires-clause-held c =
+    let p = c.args.policy.now in
+    let names = c.in_ok-names.names.items in
+    let all = map (λ (who : Bor Who). who.now) c.as_slice.result.now in
+    let ys = map node_of c.in_ok-nodes.nodes.items in
+    let are = subst (λ (ns : List Text). AreNodes p all ns ys) c.as_slice-2.ensures.value c.in_ok-nodes.ensures in
+    subst (λ (ns : List Node). All (HasItsRole p.held) (map node_of ns)) (sym c.as_slice-8.ensures.value) (held p c.in_ok-names.ensures.policy all names c.in_ok-names.ensures.names ys are)
+
+pub paths_by-requires-clause-linked : goal.paths_by-requires-clause-linked
+paths_by-requires-clause-linked c =
+    let p = c.args.policy.now in
+    let steps = c.args.steps.now in
+    let who = c.args.who.now in
+    let names = c.in_ok-names.names.items in
+    let all = map (λ (who : Bor Who). who.now) c.as_slice.result.now in
+    let nodes = c.in_ok-nodes.nodes.items in
+    let ys = map node_of nodes in
+    let g = c.in_ok-graph.graph in
+    let starts = c.in_ok-starts.starts.items in
+    let stops = c.in_ok-reached.reached.stops.items in
+    let rows : c.as_slice-7.result.now ≡ steps = c.as_slice-7.ensures.value ∙ c.in_ok-rows.ensures in
+    let are = subst (λ (ns : List Text). AreNodes p all ns ys) c.as_slice-2.ensures.value c.in_ok-nodes.ensures in
+    let exact = subst (λ (ws : List (Bor Who)). (other : Who) → Contains (map (λ (each : Bor Who). each.now) ws) other ↔ IsOneWith c.args.principals.now who other) (sym c.as_slice.ensures.value) c.in_ok-all.ensures.exact in
+    let graph = subst (λ (ns : List Node). IsGraphOf p steps (map node_of ns) g) c.as_slice-4.ensures.value
+        (subst (λ (ss : List Step). IsGraphOf p ss (map node_of c.as_slice-4.result.now) g) (c.as_slice-3.ensures.value ∙ c.in_ok-rows.ensures) c.in_ok-graph.ensures) in
+    let keyed = subst (λ (ns : List Node). (j : ℕ) → Contains starts j ↔ HasKeyAt (map node_of ns) who j) c.as_slice-5.ensures.value c.in_ok-starts.ensures in
+    let found = subst (λ (js : List ℕ). AreStops g js stops) c.as_slice-6.ensures.value c.in_ok-reached.ensures.stops in
+    let links = linked p c.in_ok-names.ensures.policy all names c.in_ok-names.ensures.names ys are steps c.args.principals.now who exact g graph starts keyed stops found in
+    subst (λ (ns : List Node). AreLinked p c.as_slice-7.result.now (map node_of ns) stops) (sym c.as_slice-8.ensures.value)
+    (subst (λ (ss : List Step). AreLinked p ss ys stops) (sym rows) links)
+
+pub returns : goal.returns
+returns c =
+    let p = c.args.policy.now in
+    let steps = c.args.steps.now in
+    let who = c.args.who.now in
+    let names = c.in_ok-names.names.items in
+    let all = map (λ (who : Bor Who). who.now) c.as_slice.result.now in
+    let nodes = c.in_ok-nodes.nodes.items in
+    let ys = map node_of nodes in
+    let g = c.in_ok-graph.graph in
+    let starts = c.in_ok-starts.starts.items in
+    let stops = c.in_ok-reached.reached.stops.items in
+    let order = c.in_ok-reached.reached.order.items in
+    let rows : c.as_slice-7.result.now ≡ steps = c.as_slice-7.ensures.value ∙ c.in_ok-rows.ensures in
+    let are = subst (λ (ns : List Text). AreNodes p all ns ys) c.as_slice-2.ensures.value c.in_ok-nodes.ensures in
+    let exact = subst (λ (ws : List (Bor Who)). (other : Who) → Contains (map (λ (each : Bor Who). each.now) ws) other ↔ IsOneWith c.args.principals.now who other) (sym c.as_slice.ensures.value) c.in_ok-all.ensures.exact in
+    let graph = subst (λ (ns : List Node). IsGraphOf p steps (map node_of ns) g) c.as_slice-4.ensures.value
+        (subst (λ (ss : List Step). IsGraphOf p ss (map node_of c.as_slice-4.result.now) g) (c.as_slice-3.ensures.value ∙ c.in_ok-rows.ensures) c.in_ok-graph.ensures) in
+    let keyed = subst (λ (ns : List Node). (j : ℕ) → Contains starts j ↔ HasKeyAt (map node_of ns) who j) c.as_slice-5.ensures.value c.in_ok-starts.ensures in
+    let found = subst (λ (js : List ℕ). AreStops g js stops) c.as_slice-6.ensures.value c.in_ok-reached.ensures.stops in
+    IfOk-weaker c.paths_by.result _ _
+    (λ made is. (
+      all,
+      exact,
+      are_paths p c.in_ok-names.ensures.policy all names c.in_ok-names.ensures.names ys are steps c.args.principals.now who exact g graph starts keyed stops found order c.in_ok-reached.ensures.order made.items
+      (subst (λ (ns : List Node). ArePathsAt p steps (map node_of ns) stops order made.items) c.as_slice-8.ensures.value
+      (subst (λ (ss : List Step). ArePathsAt p ss (map node_of c.as_slice-8.result.now) stops order made.items) rows is)),
+    ))
+    c.paths_by.ensures

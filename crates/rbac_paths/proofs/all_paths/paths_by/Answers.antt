@@ -1,0 +1,32 @@
+use Rattle.std.proofs.Common.{◌≡◌, ◌∙◌, ◌+◌, ◌++◌, ◌∷◌, [], List, MatchOption, Option, ℕ, arith, get_or, map, refl, subst, sym, take}
+use Rattle.std.proofs.lemmas.List.{get_or_default, take_all, take_more}
+use Rattle.rbac_ways.specs.Ways.{AreInOrder}
+use Rattle.rbac_ways.specs.declared.graph.Stop.{Stop}
+use Rattle.rbac_paths.specs.Nodes.{node_of}
+use Rattle.rbac_paths.specs.Tracing.{ArePathsAt, IsPathAt, IsUnled}
+use Rattle.rbac_paths.proofs.Tracing.{matched_none, matched_some, met_before, paths_more, paths_none, paths_same}
+use Rattle.rbac_paths.proofs.all_paths.paths_by.Goals as goal
+use Rattle.rbac_paths.proofs.all_paths.paths_by.Goals.{in-Some+in_ok-push, in_default}
+
+pub loop-place-preserved : goal.loop-place-preserved
+loop-place-preserved c =
+    let p = c.args.policy.now in
+    let steps = c.args.steps.now in
+    let ys = map node_of c.args.nodes.now in
+    let stops = c.args.reached.now.stops.items in
+    let items = c.as_slice-place-items.result.now in
+    let i = c.loop-place.place-index in
+    let place = get_or items i 0 in
+    let xs = c.loop-place.paths.items in
+    let same : c.as_slice-stops.result.now ≡ stops = c.as_slice-stops.ensures.value in
+    let in_order = subst (λ (order : List ℕ). AreInOrder stops order) (sym c.as_slice-place-items.ensures.value) c.requires.order in
+    let later = met_before stops items in_order i place c.loop-place-test.true (get_or_default items i 0 place c.loop-place-test.true) in
+    let path = subst (λ (ss : List (Option Stop)). MatchOption c.in_ok-path.field-0 (IsUnled ss place) (IsPathAt p steps ys ss place)) same c.in_ok-path.ensures in
+    rw (take_more items i 0 c.loop-place-test.true) (elim c.match-branch-3.branch [
+      | in-Some+in_ok-push w ↦ rw (w.paths-is, w.in_ok-push.ensures.items)
+          (paths_more p steps ys stops c.requires.ordered (take i items) place xs c.loop-place.invariant later _
+          (matched_some c.in_ok-path.field-0 (IsUnled stops place) (IsPathAt p steps ys stops place) _ w.in-Some.is path))
+      | in_default w ↦ rw w.paths-is
+          (paths_same p steps ys stops c.requires.ordered (take i items) place xs c.loop-place.invariant
+          (matched_none c.in_ok-path.field-0 (IsUnled stops place) (IsPathAt p steps ys stops place) w.in_default.not-Some path))
+    ])

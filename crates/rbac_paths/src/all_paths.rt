@@ -1,0 +1,188 @@
+//! Whom and what somebody comes to.
+
+ghost use Rattle.std.specs.Prelude.{◌≡◌, ◌↔◌, ℕ, All, AllPairs, Contains, IfOk, IsTrue, List};
+ghost use Rattle.std.specs.Prelude.{MatchOption, map};
+ghost use Rattle.std.specs.declared.cmp.Ordering.TheVariants.{Less};
+ghost use Rattle.rbac_terms.specs.Principals.{Who};
+ghost use Rattle.rbac_terms.specs.Text.{text_cmp};
+ghost use Rattle.rbac_model.specs.Lists.{IsAscendingBy};
+ghost use Rattle.rbac_model.specs.Policies.{IsPolicy};
+ghost use Rattle.rbac_model.specs.Unions.{who_name};
+ghost use Rattle.rbac_ways.specs.Ways.{AreInOrder};
+ghost use Rattle.rbac_paths.specs.Having.{rule_of_all};
+ghost use Rattle.rbac_paths.specs.NodeLists.{node_text};
+ghost use Rattle.rbac_paths.specs.Nodes.{Somebody, node_of};
+ghost use Rattle.rbac_paths.specs.Paths.{ArePaths};
+ghost use Rattle.rbac_paths.specs.Principals.{IsOneWith};
+ghost use Rattle.rbac_paths.specs.Told.{HasItsRole};
+ghost use Rattle.rbac_paths.specs.Tracing.{AreLinked, ArePathsAt, HasKeyAt, HasKeyOf};
+ghost use Rattle.rbac_paths.specs.Tracing.{IsPathAt, IsUnled};
+
+use crate::bound_names::bound_names;
+use crate::graph::graph_of;
+use crate::holding::{holdings_of, rule_of_all};
+use crate::node::Node;
+use crate::nodes::nodes_of;
+use crate::principals::principals_with;
+use crate::steps::Step;
+use crate::told::{StepRows, first_told, rows_of_steps};
+use rbac_model::Policy;
+use rbac_subjects::SubjectIndex;
+use rbac_terms::{Principal, Rule};
+use rbac_ways::{Reached, Stop, shortest_ways};
+use std::alloc::{AllocError, Global};
+use std::marker::Model;
+
+/// A node that somebody comes to, and the last step of a path there that has the fewest steps.
+/// Contracts see its nodes by what they refer to.
+#[derive(Drop)]
+pub struct Path<'p> {
+    /// How many steps lead there, at least.
+    pub count: usize,
+    /// The node.
+    pub node: Node<'p>,
+    /// The node before it: of several the first as printed.
+    pub before: Node<'p>,
+    /// The first step by which that takes over the node.
+    pub step: Step,
+}
+
+impl<'p> Model for Path<'p> {
+    ghost use Rattle.rbac_paths.specs.Nodes.{node_of};
+    ghost use Rattle.rbac_paths.specs.Paths.{PathView};
+
+    ghost Value = { PathView };
+
+    ghost view = { λ x. record {
+      count = x.count;
+      node = node_of x.node;
+      before = node_of x.before;
+      step = x.step;
+    } };
+}
+
+/// The nodes that somebody comes to by these steps, itself aside, each once, with the last step of a
+/// path that has the fewest, in order of how many steps lead there, and then of how the nodes are
+/// printed (own). Nodes are the users and groups given, with the one asked about in the place of the
+/// one with its key; the roles, where they can be bound; and everything in a scope. Fails only if it
+/// runs out of memory.
+pub fn paths<'p>(
+    alloc: Global,
+    policy: &'p Policy,
+    index: &SubjectIndex<'p>,
+    principals: &'p [Principal],
+    who: &'p Principal,
+    steps: &[Step],
+) -> Result<Vec<Path<'p>>, AllocError>
+    requires index { index.now ≡ policy.now }
+    requires ordered { IsAscendingBy who_name principals.now }
+    ensures { IfOk result (λ found. (all : List Who)
+        × ((other : Who) → Contains all other ↔ IsOneWith principals.now who.now other)
+        × ArePaths policy.now all steps.now (Somebody who.now) found.items) }
+{
+    let rows = rows_of_steps(alloc, steps)?;
+    let all = principals_with(alloc, principals, who)?;
+    let names = bound_names(alloc, policy)?;
+    let nodes = nodes_of(alloc, policy, all.as_slice(), names.as_slice())?;
+    let graph = graph_of(alloc, policy, index, rows.as_slice(), nodes.as_slice())?;
+    let starts = places_of(alloc, nodes.as_slice(), who)?;
+    let reached = shortest_ways(alloc, &graph, starts.as_slice())?;
+    paths_by(alloc, policy, index, rows.as_slice(), nodes.as_slice(), &reached)
+}
+
+// The places of those among these nodes that have somebody's key.
+fn places_of(alloc: Global, nodes: &[Node<'_>], who: &Principal) -> Result<Vec<usize>, AllocError>
+    ensures { IfOk result (λ places. (j : ℕ)
+        → Contains places.items j ↔ HasKeyAt (map node_of nodes.now) who.now j) }
+{
+    let mut places = Vec::new(alloc);
+    for (place, node) in nodes.iter().enumerate() {
+        if has_key_of(*node, who) {
+            places.push(place)?;
+        }
+    }
+    Ok(places)
+}
+
+// Whether a node is somebody with this one's key.
+fn has_key_of(node: Node<'_>, who: &Principal) -> bool
+    ensures { IsTrue result ↔ HasKeyOf who.now (node_of node.entry) }
+{
+    match node {
+        Node::Somebody(other) => other.key() == who.key(),
+        _ => false,
+    }
+}
+
+// The paths to the nodes that were reached.
+fn paths_by<'p>(
+    alloc: Global,
+    policy: &'p Policy,
+    index: &SubjectIndex<'p>,
+    steps: &[StepRows],
+    nodes: &[Node<'p>],
+    reached: &Reached,
+) -> Result<Vec<Path<'p>>, AllocError>
+    requires policy { IsPolicy policy.now }
+    requires index { index.now ≡ policy.now }
+    requires held { All (HasItsRole policy.now.held) (map node_of nodes.now) }
+    requires ordered { AllPairs (λ y z. text_cmp (node_text y) (node_text z) ≡ Less)
+        (map node_of nodes.now) }
+    requires linked { AreLinked policy.now steps.now (map node_of nodes.now) reached.now.stops.items }
+    requires order { AreInOrder reached.now.stops.items reached.now.order.items }
+    ensures { IfOk result (λ found. ArePathsAt policy.now steps.now (map node_of nodes.now)
+        reached.now.stops.items reached.now.order.items found.items) }
+{
+    let all = rule_of_all(alloc)?;
+    let stops = reached.stops.as_slice();
+    let mut paths = Vec::new(alloc);
+    for place in reached.order.as_slice() {
+        if let Some(path) = path_at(alloc, policy, index, &all, steps, nodes, stops, *place)? {
+            paths.push(path)?;
+        }
+    }
+    Ok(paths)
+}
+
+// The path to the node at this place, if an edge leads there.
+fn path_at<'p>(
+    alloc: Global,
+    policy: &Policy,
+    index: &SubjectIndex<'_>,
+    all: &Rule,
+    steps: &[StepRows],
+    nodes: &[Node<'p>],
+    stops: &[Option<Stop>],
+    place: usize,
+) -> Result<Option<Path<'p>>, AllocError>
+    requires policy { IsPolicy policy.now }
+    requires index { index.now ≡ policy.now }
+    requires all { all.now ≡ rule_of_all }
+    requires held { All (HasItsRole policy.now.held) (map node_of nodes.now) }
+    requires linked { AreLinked policy.now steps.now (map node_of nodes.now) stops.now }
+    ensures { IfOk result (λ path. MatchOption path (IsUnled stops.now place)
+        (IsPathAt policy.now steps.now (map node_of nodes.now) stops.now place)) }
+{
+    let Some(Some(stop)) = stops.get(place) else {
+        return Ok(None);
+    };
+    if stop.edges == 0 {
+        return Ok(None);
+    }
+    let Some(before) = nodes.get(stop.before) else {
+        return Ok(None);
+    };
+    let Some(node) = nodes.get(place) else {
+        return Ok(None);
+    };
+    let holdings = holdings_of(alloc, policy, index, all, *before)?;
+    let Some(step) = first_told(steps, holdings.as_slice(), *before, *node) else {
+        return Ok(None);
+    };
+    Ok(Some(Path {
+        count: stop.edges,
+        node: *node,
+        before: *before,
+        step,
+    }))
+}
