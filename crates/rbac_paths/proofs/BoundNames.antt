@@ -1,5 +1,5 @@
 -- The names of the rules that let one bind roles.
-use Rattle.std.proofs.Common.{◌≡◌, ◌↔◌, ◌⊎◌, [], List, Any, Contains, arith, inl, inr}
+use Rattle.std.proofs.Common.{◌≡◌, ◌↔◌, [], List, Any, Contains, arith, inl, inr}
 use Rattle.std.specs.List.Retain.{DiffersFromLast, IsFiltered}
 use Rattle.std.specs.List.Sorted.{IsPermutation, IsSorted}
 use Rattle.std.specs.Cmp.Lexicographic.{texts_ties}
@@ -44,7 +44,7 @@ AddsOfBoth roles cluster_roles names = (between : List Text) × AddsOfRoles role
 both_add : (h : Held) (names : List Text) → AddsOfBoth h.roles h.cluster_roles names → (name : Text) → Contains names name ↔ IsBoundName h name
 both_add h names (between, first, second) name = (
   λ c. elim ((second name).0 c) [
-    | inl mid ↦ (elim ((first name).0 mid) [ | inl none ↦ absurd (let low = none.1 in omega (arith, low)) | inr is ↦ inl is ])
+    | inl mid ↦ (elim ((first name).0 mid) [ inl none ↦ absurd (let low = none.1 in omega (arith, low)) | inr is ↦ inl is ])
     | inr is ↦ inr is
   ],
   λ is. elim is [

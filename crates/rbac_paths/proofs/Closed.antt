@@ -1,11 +1,11 @@
 -- A role that is told as taken over has a name that some rule binds: who may bind any role of a scope takes over everything there.
-use Rattle.std.proofs.Common.{◌≡◌, ◌≢◌, ◌∙◌, ◌⊎◌, ◌+◌, ◌++◌, Bool, false, true, cond, filter, ℕ, zero, suc, List, [], ◌∷◌, Option, Some, None, Any, Contains, ap, arith, inl, inr, refl, slice_get, subst, sym}
+use Rattle.std.proofs.Common.{◌≡◌, ◌≢◌, ◌∙◌, ◌⊎◌, ◌+◌, Bool, false, true, cond, filter, ℕ, zero, suc, List, [], ◌∷◌, Option, Some, None, Any, Contains, ap, arith, inl, inr, refl, slice_get, subst, sym}
 use Rattle.std.specs.Prelude.{codes}
 use Rattle.std.specs.List.{flat_map}
 use Rattle.std.proofs.lemmas.List.Elements.{Contains-append_cases}
 use Rattle.std.proofs.lemmas.Option.{get_or_from_slice_get, slice_get-get_or, slice_get_within}
 use Rattle.rbac_terms.specs.Text.{Text}
-use Rattle.rbac_terms.specs.Matching.{NameMatches, VerbOk, WordMatches}
+use Rattle.rbac_terms.specs.Matching.{NameMatches, VerbOk}
 use Rattle.rbac_terms.specs.Targets.{Resource}
 use Rattle.rbac_terms.specs.declared.granting.Binding.{Binding}
 use Rattle.rbac_terms.specs.declared.granting.RoleRef.{RoleRef}
@@ -23,7 +23,7 @@ use Rattle.rbac_paths.specs.Joints.{IsNobody}
 use Rattle.rbac_paths.specs.Nodes.{NodeView, Somebody, ClusterRoleIn, OwnRole, EverythingIn}
 use Rattle.rbac_paths.specs.Rows.{HasRowResource, MatchesRow}
 use Rattle.rbac_paths.specs.Steps.{RowView, asked_in, row, table}
-use Rattle.rbac_paths.specs.Taking.{CanTakeOver, IsOver, RowTakes, RuleTakes, scope_namespace}
+use Rattle.rbac_paths.specs.Taking.{IsOver, RowTakes, RuleTakes, scope_namespace}
 use Rattle.rbac_paths.specs.TakingOver.{GoesOn, HasAll, IsUntold, TakesByStep}
 use Rattle.rbac_paths.proofs.AllowedBy.{allow_by}
 use Rattle.rbac_paths.proofs.ByRules.{takes_over}
@@ -166,25 +166,31 @@ module _ (home : Option Text) (rule : Rule) (resource : Text) (o : Over) (at : C
   NamedOrAll w = BindsNamed rule w.own ⊎ RuleTakes Bind home rule (EverythingIn scope)
 
   by_names : (w : RowTakes (bind_by_name resource o) home rule y) → NameMatches rule.resource_names w.name → NamedOrAll w
-  by_names w (inl none) = inr (any_from (λ row. (row.step ≡ Bind) × RowTakes row home rule (EverythingIn scope)) table bind_all (13, omega arith, refl) (refl, record {
-    namespace = w.namespace;
-    own = [];
-    verb = w.verb;
-    text = w.text;
-    name = [];
-    over = (there w.namespace w.own w.over, refl, tt);
-    of_verbs = w.of_verbs;
-    of_resources = among w.text w.of_resources;
-    named = refl;
-    live = live_as home w.namespace rbac w.text w.name [] w.live;
-    allows = (w.allows.0, (w.allows.1.0, w.allows.1.1, inl none));
-  }))
+  by_names w (inl none) = inr (any_from (λ row. (row.step ≡ Bind) × RowTakes row home rule (EverythingIn scope)) table bind_all (13, omega arith, refl) (
+    refl,
+    record {
+      namespace = w.namespace;
+      own = [];
+      verb = w.verb;
+      text = w.text;
+      name = [];
+      over = (there w.namespace w.own w.over, refl, tt);
+      of_verbs = w.of_verbs;
+      of_resources = among w.text w.of_resources;
+      named = refl;
+      live = live_as home w.namespace rbac w.text w.name [] w.live;
+      allows = (w.allows.0, (w.allows.1.0, w.allows.1.1, inl none));
+    },
+  ))
   by_names w (inr has) = inl (
-    any_from (λ row. (row.step ≡ Bind) × MatchesRow row rule) table (bind_by_name resource o) at (refl, (
-      any_from (VerbOk rule) (codes "bind" ∷ []) w.verb w.of_verbs w.allows.0,
-      w.allows.1.0,
-      any_from (HasRowResource rule) (resource ∷ []) w.text w.of_resources w.allows.1.1,
-    )),
+    any_from (λ row. (row.step ≡ Bind) × MatchesRow row rule) table (bind_by_name resource o) at (
+      refl,
+      (
+        any_from (VerbOk rule) (codes "bind" ∷ []) w.verb w.of_verbs w.allows.0,
+        w.allows.1.0,
+        any_from (HasRowResource rule) (resource ∷ []) w.text w.of_resources w.allows.1.1,
+      ),
+    ),
     subst (λ (t : Text). Contains rule.resource_names t) w.named has,
   )
 
@@ -225,20 +231,23 @@ module _ (p : PolicyView) (ok : IsPolicy p) (steps : List Step) (x : NodeView) (
     by : (h : HoldingView) × IsHolding p x h × RowTakes t.can.row h.home h.rule y
     by =
         let c = t.can in
-        let w = (allow_by p ok x (asked_in c.row.counts c.namespace) c.verb (Resource c.row.group c.text c.name)).0 c.allowed in
-        (w.0, w.1, record {
-          namespace = c.namespace;
-          own = c.own;
-          verb = c.verb;
-          text = c.text;
-          name = c.name;
-          over = c.over;
-          of_verbs = c.of_verbs;
-          of_resources = c.of_resources;
-          named = c.named;
-          live = w.2;
-          allows = w.3;
-        })
+        let w = (allow_by p ok x (asked_in c.row.counts c.namespace) c.verb (Resource c.row.group c.text c.name)).0 c.allowed in (
+          w.0,
+          w.1,
+          record {
+            namespace = c.namespace;
+            own = c.own;
+            verb = c.verb;
+            text = c.text;
+            name = c.name;
+            over = c.over;
+            of_verbs = c.of_verbs;
+            of_resources = c.of_resources;
+            named = c.named;
+            live = w.2;
+            allows = w.3;
+          },
+        )
 
     module _ (resource : Text) (o : Over) (same : t.can.row ≡ bind_by_name resource o) where
       is_bind : step ≡ Bind

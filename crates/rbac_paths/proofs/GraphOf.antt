@@ -29,7 +29,7 @@ pushed {X} P ys d xs x count len each last k y low at = elim (cases_lt k count) 
       let same : k ≡ count = omega (arith, low, high) in
       let end : length xs ≡ k = len ∙ sym same in
       subst (P k y) (sym (get_or_at xs x [] d k end)) (subst (λ (i : ℕ). P i y x) (sym same) (last y (subst (λ (i : ℕ). slice_get ys i ≡ Some y) same at)))
-    )
+      )
 ]
 
 module _ (p : PolicyView) (steps : List Step) (ys : List NodeView) where
@@ -68,14 +68,14 @@ module _ (p : PolicyView) (steps : List Step) (ys : List NodeView) where
 
       to_nobody : (y : NodeView) → slice_get ys j ≡ Some y → IsNobody y → Joined i j ↔ TakesOver p steps x y
       to_nobody y there is = (
-        λ e. elim e [ | inl s ↦ absurd (nobody_had j y s.0 there is s.2) | inr l ↦ listed y there l ],
+        λ e. elim e [ inl s ↦ absurd (nobody_had j y s.0 there is s.2) | inr l ↦ listed y there l ],
         λ t. inr ((joints.others i x (slice_get_within ys i x at) at j).1 (y, there, is, t)),
       )
 
       pub joined : (y : NodeView) → slice_get ys j ≡ Some y → Joined i j ↔ TakesOver p steps x y
       joined (Somebody who) there =
           let share = joints.words i x (slice_get_within ys i x at) at who (get_or had j []) (are.words j (Somebody who) (slice_get_within ys j (Somebody who) there) there) in (
-            λ e. elim e [ | inl s ↦ share.0 (s.0, s.1, s.2) | inr l ↦ listed (Somebody who) there l ],
+            λ e. elim e [ inl s ↦ share.0 (s.0, s.1, s.2) | inr l ↦ listed (Somebody who) there l ],
             λ t. (let s = share.1 t in inl (s.0, s.1, s.2)),
           )
       joined (ClusterRoleIn role scope) there = to_nobody (ClusterRoleIn role scope) there tt
@@ -86,9 +86,9 @@ module _ (p : PolicyView) (steps : List Step) (ys : List NodeView) where
     graph_is g len edges = record {
       len = len ∙ joints.takes_len;
       edges = λ i j x y at there. (
-        let is = joined i j x at y there in (
-          λ e. is.0 ((edges i j).0 e).1,
-          λ t. (edges i j).1 (subst (λ (n : ℕ). j < n) (sym joints.takes_len) (slice_get_within ys j y there), is.1 t),
-        )
-      );
+          let is = joined i j x at y there in (
+            λ e. is.0 ((edges i j).0 e).1,
+            λ t. (edges i j).1 (subst (λ (n : ℕ). j < n) (sym joints.takes_len) (slice_get_within ys j y there), is.1 t),
+          )
+          );
     }

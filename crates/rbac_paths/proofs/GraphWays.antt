@@ -68,9 +68,9 @@ module _ (GoesTo : NodeView → NodeView → Type 0) (IsStart : NodeView → Typ
   one_place i j y at there = elim (cases_lt i j) [
     | inl low ↦ absurd (irreflexive y (is_less i j y y at there low))
     | inr high ↦ (elim (cases_lt j i) [
-        | inl low ↦ absurd (irreflexive y (is_less j i y y there at low))
-        | inr same ↦ omega (arith, high, same)
-      ])
+      | inl low ↦ absurd (irreflexive y (is_less j i y y there at low))
+      | inr same ↦ omega (arith, high, same)
+    ])
   ]
 
   -- the fewest edges are the fewest steps
@@ -92,14 +92,14 @@ module _ (GoesTo : NodeView → NodeView → Type 0) (IsStart : NodeView → Typ
     fewest = fewest n b x there least.0;
     goes = (of.edges b j x y there at).0 least.1;
     first = λ m less few goes. (
-      let r = reached n m few.leads in
-      let low : r.0 < b = elim (cases_lt r.0 b) [
-        | inl low ↦ low
-        | inr high ↦ absurd (elim (cases_lt b r.0) [
+        let r = reached n m few.leads in
+        let low : r.0 < b = elim (cases_lt r.0 b) [
+          | inl low ↦ low
+          | inr high ↦ absurd (elim (cases_lt b r.0) [
             | inl more ↦ both_less m x less (is_less b r.0 x m there r.1 more)
             | inr same ↦ irreflexive m (subst (λ (v : NodeView). text_cmp (node_text m) (node_text v) ≡ Less) (same_Some x m (sym there ∙ ap (slice_get ys) (let is : b ≡ r.0 = omega (arith, high, same) in is) ∙ r.1)) less)
           ])
-      ] in
-      least.2 r.0 low (nearest n r.0 m r.1 few) ((of.edges r.0 j m y r.1 at).1 goes)
-    );
+        ] in
+        least.2 r.0 low (nearest n r.0 m r.1 few) ((of.edges r.0 j m y r.1 at).1 goes)
+        );
   }

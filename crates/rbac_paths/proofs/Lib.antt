@@ -25,6 +25,7 @@ pub mod OnePowers
 pub mod Others
 pub mod PathsFound
 pub mod PrincipalsWith
+pub mod Reasons
 pub mod RolePlaces
 pub mod RoleRules
 pub mod RuleWords

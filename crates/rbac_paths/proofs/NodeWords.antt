@@ -10,7 +10,7 @@ use Rattle.rbac_terms.specs.declared.granting.Role.{Role}
 use Rattle.rbac_model.specs.Policies.{IsHeld, PolicyView, cluster_role_name, role_name}
 use Rattle.rbac_model.proofs.OneList.{one_of_name}
 use Rattle.rbac_text.specs.Choice.{choice_and_tab, choice_text}
-use Rattle.rbac_text.specs.Row.{field_and_tab, tab}
+use Rattle.rbac_text.specs.Row.{tab}
 use Rattle.rbac_text.proofs.Choices.{choice_text-one, field-one}
 use Rattle.rbac_paths.specs.NodeLists.{IsNode, node_text, where_text, who_or_what}
 use Rattle.rbac_paths.specs.Nodes.{NodeView, Somebody, ClusterRoleIn, OwnRole, EverythingIn}

@@ -49,11 +49,14 @@ over_nobody over.ClusterRoles counts y namespace own nobody is = tt
 over_nobody over.Roles counts y namespace own nobody is = tt
 
 matches : (h : HoldingView) (y : NodeView) (row : RowView) → IsNobody y → RowTakes row h.home h.rule y → MatchesOverOthers h.rule row
-matches h y row nobody w = (over_nobody row.over row.counts y w.namespace w.own nobody w.over, (
-  any_from (VerbOk h.rule) row.verbs w.verb w.of_verbs w.allows.0,
-  w.allows.1.0,
-  any_from (HasRowResource h.rule) row.resources w.text w.of_resources w.allows.1.1,
-))
+matches h y row nobody w = (
+  over_nobody row.over row.counts y w.namespace w.own nobody w.over,
+  (
+    any_from (VerbOk h.rule) row.verbs w.verb w.of_verbs w.allows.0,
+    w.allows.1.0,
+    any_from (HasRowResource h.rule) row.resources w.text w.of_resources w.allows.1.1,
+  ),
+)
 
 matches_step : (h : HoldingView) (y : NodeView) (step : Step) → IsNobody y → RuleTakes step h.home h.rule y → MayTakeBy h.rule step
 unfolding MayTakeBy

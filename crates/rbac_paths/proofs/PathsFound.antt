@@ -146,9 +146,9 @@ module _ (p : PolicyView) (ok : IsPolicy p) (all : List Who) (names : List Text)
               elim (one_or_none (stop_at j)) [
                 | inl none ↦ absurd (subst (λ (o : Option Stop). MatchOption o ((k : ℕ) → IsReachedIn g starts k j → ⊥) (IsStop g starts j)) none (found.each j low) n way)
                 | inr some ↦ (elim (paths.has j ((ordered.exact j).1 (subst (λ (o : Option Stop). IsSome o) (sym some.1) refl))) [
-                    | inl unled ↦ absurd (differ (leads Goes IsStart ys g starts by_graph 0 j y at (subst (λ (k : ℕ). IsReachedIn g starts k j) (unled some.0 some.1) (is_stop j some.0 some.1).nearest.leads)))
-                    | inr path ↦ (path.0, path.1, path.2, path.3, same_Some path.1.node y (sym path.4.node ∙ at))
-                  ])
+                  | inl unled ↦ absurd (differ (leads Goes IsStart ys g starts by_graph 0 j y at (subst (λ (k : ℕ). IsReachedIn g starts k j) (unled some.0 some.1) (is_stop j some.0 some.1).nearest.leads)))
+                  | inr path ↦ (path.0, path.1, path.2, path.3, same_Some path.1.node y (sym path.4.node ∙ at))
+                ])
               ]
 
           pub are_paths : ArePaths p all steps (Somebody who) xs

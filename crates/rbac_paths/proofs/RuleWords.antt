@@ -1,5 +1,5 @@
 -- The words that a rule takes by a row are those of its names, or the one for any.
-use Rattle.std.proofs.Common.{◌≡◌, ◌≢◌, ◌↔◌, [], List, Option, Some, None, Any, Contains, arith, refl, subst, sym}
+use Rattle.std.proofs.Common.{◌≡◌, ◌≢◌, ◌↔◌, List, Option, Some, None, Any, Contains, arith, refl, subst, sym}
 use Rattle.rbac_terms.specs.Text.{Text}
 use Rattle.rbac_terms.specs.declared.matching.Rule.{Rule}
 use Rattle.rbac_model.proofs.OwnWords.{any_from}

@@ -1,5 +1,5 @@
 -- Words that are added, one after another.
-use Rattle.std.proofs.Common.{◌≡◌, ◌∙◌, ◌++◌, ◌∷◌, [], ◌↔◌, ◌⊎◌, ◌+◌, ◌<◌, ℕ, List, Any, Contains, ap, arith, inl, inr, length, subst, sym, take}
+use Rattle.std.proofs.Common.{◌≡◌, ◌∙◌, ◌++◌, ◌∷◌, [], ◌↔◌, ◌+◌, ◌<◌, ℕ, List, Any, Contains, ap, arith, inl, inr, length, subst, sym, take}
 use Rattle.std.specs.Prelude.{get_or}
 use Rattle.std.proofs.lemmas.List.{take_all, take_more}
 use Rattle.std.proofs.lemmas.List.Elements.{Contains-append_cases, Contains-append_left, Contains-append_right, Contains-push, Contains-push_cases}

@@ -7,9 +7,11 @@ pub mod Joints
 pub mod Lines
 pub mod NodeLists
 pub mod Nodes
+pub mod PathLines
 pub mod Paths
 pub mod Powers
 pub mod Principals
+pub mod Reasons
 pub mod Rows
 pub mod SharedWords
 pub mod Steps

@@ -87,7 +87,14 @@ pub fn paths<'p>(
     let graph = graph_of(alloc, policy, index, rows.as_slice(), nodes.as_slice())?;
     let starts = places_of(alloc, nodes.as_slice(), who)?;
     let reached = shortest_ways(alloc, &graph, starts.as_slice())?;
-    paths_by(alloc, policy, index, rows.as_slice(), nodes.as_slice(), &reached)
+    paths_by(
+        alloc,
+        policy,
+        index,
+        rows.as_slice(),
+        nodes.as_slice(),
+        &reached,
+    )
 }
 
 // The places of those among these nodes that have somebody's key.

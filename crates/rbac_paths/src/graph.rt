@@ -117,12 +117,7 @@ fn others_among(
 }
 
 // Whether a node, which has exactly these holdings, takes over another that is a role or everything.
-fn takes_other(
-    steps: &[StepRows],
-    holdings: &[Holding<'_>],
-    from: Node<'_>,
-    to: Node<'_>,
-) -> bool
+fn takes_other(steps: &[StepRows], holdings: &[Holding<'_>], from: Node<'_>, to: Node<'_>) -> bool
     ensures { (p : PolicyView) → IsPolicy p → AreHoldings p (node_of from.entry) holdings.now
         → IsTrue result ↔ (IsNobody (node_of to.entry)
         × TakesOver p steps.now (node_of from.entry) (node_of to.entry)) }

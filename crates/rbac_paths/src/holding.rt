@@ -38,7 +38,7 @@ impl<'p> Model for Holding<'p> {
 
 impl<'p> Holding<'p> {
     // What a grant gives those whom its binding names.
-    fn by(grant: Grant<'p>) -> Self
+    pub(crate) fn by(grant: Grant<'p>) -> Self
         ensures { result ≡ grant_holding (grant_of grant.entry) }
     {
         Holding {
@@ -152,7 +152,7 @@ fn of_cluster_role<'p>(
 
 // The cluster roles whose written rules a cluster role has: itself, if it is plain, or those that it
 // gathers from.
-fn sources_of<'p>(
+pub(crate) fn sources_of<'p>(
     alloc: Global,
     policy: &'p Policy,
     role: &'p ClusterRole,

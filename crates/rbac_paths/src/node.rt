@@ -34,7 +34,7 @@ pub(crate) fn put_node(line: &mut Vec<u8>, node: Node<'_>) -> Result<(), AllocEr
 }
 
 // Adds who or what a node is.
-fn put_what(line: &mut Vec<u8>, node: Node<'_>) -> Result<(), AllocError>
+pub(crate) fn put_what(line: &mut Vec<u8>, node: Node<'_>) -> Result<(), AllocError>
     ensures { OnOk result
         (line.new.items ≡ line.old.items ++ field_and_tab (who_or_what (node_of node.entry))) }
 {
@@ -59,7 +59,7 @@ fn put_where(line: &mut Vec<u8>, node: Node<'_>) -> Result<(), AllocError>
 }
 
 // Adds the name of a cluster role as one field, and the tab after it.
-fn put_cluster_role(line: &mut Vec<u8>, role: &ClusterRole) -> Result<(), AllocError>
+pub(crate) fn put_cluster_role(line: &mut Vec<u8>, role: &ClusterRole) -> Result<(), AllocError>
     ensures { OnOk result (line.new.items
         ≡ line.old.items ++ field_and_tab (codes "ClusterRole/" ++ role.now.name)) }
 {
@@ -70,7 +70,7 @@ fn put_cluster_role(line: &mut Vec<u8>, role: &ClusterRole) -> Result<(), AllocE
 }
 
 // Adds the name of a role of a namespace as one field, and the tab after it.
-fn put_own_role(line: &mut Vec<u8>, role: &Role) -> Result<(), AllocError>
+pub(crate) fn put_own_role(line: &mut Vec<u8>, role: &Role) -> Result<(), AllocError>
     ensures { OnOk result (line.new.items ≡ line.old.items
         ++ field_and_tab (codes "Role/" ++ role.now.namespace ++ codes "/" ++ role.now.name)) }
 {

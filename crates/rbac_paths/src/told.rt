@@ -1,12 +1,13 @@
 //! By which steps one node takes over another, as is told.
 
-ghost use Rattle.std.specs.Prelude.{◌≡◌, ◌↔◌, ◌⊎◌, IfOk, IsTrue, MatchOption, None, Some};
+ghost use Rattle.std.specs.Prelude.{◌≡◌, ◌↔◌, ◌⊎◌, Any, IfOk, IsTrue, MatchOption, None, Some};
 ghost use Rattle.std.specs.Option.{option_copied};
 ghost use Rattle.rbac_model.specs.Policies.{IsPolicy, PolicyView};
 ghost use Rattle.rbac_paths.specs.Having.{AreHoldings};
 ghost use Rattle.rbac_paths.specs.Nodes.{ClusterRoleIn, node_of};
 ghost use Rattle.rbac_paths.specs.Rows.{AreOfStep};
 ghost use Rattle.rbac_paths.specs.Steps.{table};
+ghost use Rattle.rbac_paths.specs.Taking.{RowTakes};
 ghost use Rattle.rbac_paths.specs.TakingOver.{GoesOn, TakesOver, Writes};
 ghost use Rattle.rbac_paths.specs.Told.{HoldingTakes, HoldingsBind, HoldingsHaveAll, HoldingsTake};
 ghost use Rattle.rbac_paths.specs.Told.{HoldingsTell, IsFirstTold, IsUntoldOf};
@@ -15,8 +16,7 @@ use crate::holding::Holding;
 use crate::node::Node;
 use crate::rows::{WordRow, rows_of};
 use crate::steps::Step;
-use crate::taking_over::takes_some;
-use rbac_terms::{ClusterRole, Word};
+use rbac_terms::{ClusterRole, Rule, Word};
 use std::alloc::{AllocError, Global};
 use std::marker::Model;
 
@@ -40,7 +40,8 @@ impl Model for StepRows {
 }
 
 impl StepRows {
-    fn of(alloc: Global, step: Step) -> Result<Self, AllocError>
+    // The rows of the step.
+    pub(crate) fn of(alloc: Global, step: Step) -> Result<Self, AllocError>
         ensures { IfOk result (λ rows. rows ≡ step) }
     {
         let rows = rows_of(alloc, step)?;
@@ -70,11 +71,20 @@ impl StepRows {
     }
 
     // Whether this rule takes over the node by the step.
-    fn is_taken_by(&self, held: &Holding<'_>, to: Node<'_>) -> bool
+    pub(crate) fn is_taken_by(&self, held: &Holding<'_>, to: Node<'_>) -> bool
         ensures { IsTrue result ↔ HoldingTakes self.now held.now (node_of to.entry) }
     {
         takes_some(self.rows.as_slice(), held.home, held.rule, to)
     }
+}
+
+// Whether the rule takes over a node by these rows where a binding in this namespace, or in none, is
+// live.
+fn takes_some(rows: &[WordRow], home: Option<&Word>, rule: &Rule, node: Node<'_>) -> bool
+    ensures { IsTrue result
+        ↔ Any (λ row. RowTakes row (option_copied home.entry) rule.now (node_of node.entry)) rows.now }
+{
+    rows.iter().any(|row| row.is_taken_by(home, rule, node))
 }
 
 /// These steps, in their order, each with its rows.

@@ -51,7 +51,7 @@ paths_by-requires-clause-linked c =
     let are = subst (λ (ns : List Text). AreNodes p all ns ys) c.as_slice-2.ensures.value c.in_ok-nodes.ensures in
     let exact = subst (λ (ws : List (Bor Who)). (other : Who) → Contains (map (λ (each : Bor Who). each.now) ws) other ↔ IsOneWith c.args.principals.now who other) (sym c.as_slice.ensures.value) c.in_ok-all.ensures.exact in
     let graph = subst (λ (ns : List Node). IsGraphOf p steps (map node_of ns) g) c.as_slice-4.ensures.value
-        (subst (λ (ss : List Step). IsGraphOf p ss (map node_of c.as_slice-4.result.now) g) (c.as_slice-3.ensures.value ∙ c.in_ok-rows.ensures) c.in_ok-graph.ensures) in
+    (subst (λ (ss : List Step). IsGraphOf p ss (map node_of c.as_slice-4.result.now) g) (c.as_slice-3.ensures.value ∙ c.in_ok-rows.ensures) c.in_ok-graph.ensures) in
     let keyed = subst (λ (ns : List Node). (j : ℕ) → Contains starts j ↔ HasKeyAt (map node_of ns) who j) c.as_slice-5.ensures.value c.in_ok-starts.ensures in
     let found = subst (λ (js : List ℕ). AreStops g js stops) c.as_slice-6.ensures.value c.in_ok-reached.ensures.stops in
     let links = linked p c.in_ok-names.ensures.policy all names c.in_ok-names.ensures.names ys are steps c.args.principals.now who exact g graph starts keyed stops found in
@@ -75,7 +75,7 @@ returns c =
     let are = subst (λ (ns : List Text). AreNodes p all ns ys) c.as_slice-2.ensures.value c.in_ok-nodes.ensures in
     let exact = subst (λ (ws : List (Bor Who)). (other : Who) → Contains (map (λ (each : Bor Who). each.now) ws) other ↔ IsOneWith c.args.principals.now who other) (sym c.as_slice.ensures.value) c.in_ok-all.ensures.exact in
     let graph = subst (λ (ns : List Node). IsGraphOf p steps (map node_of ns) g) c.as_slice-4.ensures.value
-        (subst (λ (ss : List Step). IsGraphOf p ss (map node_of c.as_slice-4.result.now) g) (c.as_slice-3.ensures.value ∙ c.in_ok-rows.ensures) c.in_ok-graph.ensures) in
+    (subst (λ (ss : List Step). IsGraphOf p ss (map node_of c.as_slice-4.result.now) g) (c.as_slice-3.ensures.value ∙ c.in_ok-rows.ensures) c.in_ok-graph.ensures) in
     let keyed = subst (λ (ns : List Node). (j : ℕ) → Contains starts j ↔ HasKeyAt (map node_of ns) who j) c.as_slice-5.ensures.value c.in_ok-starts.ensures in
     let found = subst (λ (js : List ℕ). AreStops g js stops) c.as_slice-6.ensures.value c.in_ok-reached.ensures.stops in
     IfOk-weaker c.paths_by.result _ _
@@ -83,7 +83,7 @@ returns c =
       all,
       exact,
       are_paths p c.in_ok-names.ensures.policy all names c.in_ok-names.ensures.names ys are steps c.args.principals.now who exact g graph starts keyed stops found order c.in_ok-reached.ensures.order made.items
-      (subst (λ (ns : List Node). ArePathsAt p steps (map node_of ns) stops order made.items) c.as_slice-8.ensures.value
-      (subst (λ (ss : List Step). ArePathsAt p ss (map node_of c.as_slice-8.result.now) stops order made.items) rows is)),
+          (subst (λ (ns : List Node). ArePathsAt p steps (map node_of ns) stops order made.items) c.as_slice-8.ensures.value
+          (subst (λ (ss : List Step). ArePathsAt p ss (map node_of c.as_slice-8.result.now) stops order made.items) rows is)),
     ))
     c.paths_by.ensures

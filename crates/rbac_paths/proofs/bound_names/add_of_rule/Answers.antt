@@ -1,4 +1,4 @@
-use Rattle.std.proofs.Common.{◌≡◌, ◌∙◌, ◌++◌, List, Contains, ap, refl, subst, sym}
+use Rattle.std.proofs.Common.{◌≡◌, ◌∙◌, ◌++◌, List, Contains, ap, subst, sym}
 use Rattle.std.proofs.lemmas.List.Elements.{same_from_all_zip}
 use Rattle.rbac_terms.specs.Text.{Text}
 use Rattle.rbac_paths.specs.BoundNames.{BindsNamed}

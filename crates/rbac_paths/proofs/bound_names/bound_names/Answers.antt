@@ -1,4 +1,4 @@
-use Rattle.std.proofs.Common.{◌≡◌, ◌∙◌, [], Any, List, ap, arith, subst, sym, take}
+use Rattle.std.proofs.Common.{◌∙◌, [], Any, List, ap, arith, subst, sym}
 use Rattle.rbac_terms.specs.Text.{Text}
 use Rattle.rbac_terms.specs.declared.granting.ClusterRole.{ClusterRole}
 use Rattle.rbac_terms.specs.declared.granting.Role.{Role}
@@ -30,8 +30,7 @@ pub loop-role-2-init : goal.loop-role-2-init
 loop-role-2-init c =
     let items = c.roles-role-items.result.now in
     let all : AddsOfRoles items [] c.loop-role.names.items = adds_each (λ role name. Any (λ rule. BindsNamed rule name) role.rules) items c.loop-role.role-index [] c.loop-role.names.items
-    (let end = c.loop-role-test.false in omega (arith, end)) c.loop-role.invariant in
-    (
+    (let end = c.loop-role-test.false in omega (arith, end)) c.loop-role.invariant in (
       c.loop-role.names.items,
       subst (λ (roles : List Role). AddsOfRoles roles [] c.loop-role.names.items) (c.roles-role-items.ensures.roles ∙ ap (λ (h : Held). h.roles) c.objects.ensures.held) all,
       adds_first (λ (role : ClusterRole) name. Any (λ rule. BindsNamed rule name) role.rules) c.loop-role.names.items,
@@ -44,12 +43,11 @@ pub loop-role-2-preserved : goal.loop-role-2-preserved
 loop-role-2-preserved c =
     let old = c.loop-role-2.names.items in
     let new = c.add_names-in-loop-role-2.new.names.items in
-    let had = c.loop-role-2.invariant in
-    (
+    let had = c.loop-role-2.invariant in (
       had.0,
       had.1,
       adds_more (λ role name. Any (λ rule. BindsNamed rule name) role.rules) c.cluster_roles-role-items.result.now c.loop-role-2.role-index c.role-item-in-loop-role-2.result had.0 old new
-      c.loop-role-2-test.true c.role-item-in-loop-role-2.is had.2 (subst (λ (rules : List Rule). OfRules rules old new) c.as_slice-in-loop-role-2-2.ensures c.in_ok-add_names-2.ensures),
+          c.loop-role-2-test.true c.role-item-in-loop-role-2.is had.2 (subst (λ (rules : List Rule). OfRules rules old new) c.as_slice-in-loop-role-2-2.ensures c.in_ok-add_names-2.ensures),
     )
 
 pub returns-clause-names : goal.returns-clause-names

@@ -1,4 +1,4 @@
-use Rattle.std.proofs.Common.{[], ◌↔◌, Any, Contains, arith, inl, inr}
+use Rattle.std.proofs.Common.{[], Any, arith}
 use Rattle.rbac_paths.specs.SharedWords.{StepTakesWord}
 use Rattle.rbac_paths.proofs.WordsAdded.{adds_each, adds_more, only_added}
 use Rattle.rbac_paths.proofs.words.taken_words.Goals as goal

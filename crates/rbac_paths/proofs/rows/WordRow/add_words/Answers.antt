@@ -2,7 +2,7 @@ use Rattle.std.proofs.Common.{◌≡◌, ◌↔◌, Any, false, List, None, Some
 use Rattle.std.specs.Option.{option_copied}
 use Rattle.rbac_terms.proofs.Cases.{on_ok}
 use Rattle.rbac_terms.specs.Text.{Text}
-use Rattle.rbac_paths.specs.SharedWords.{AddsWords, IsWordFor, LetsName, TakesWord}
+use Rattle.rbac_paths.specs.SharedWords.{IsWordFor, LetsName, TakesWord}
 use Rattle.rbac_paths.specs.Steps.{RowView}
 use Rattle.rbac_paths.specs.declared.table.Names.TheVariants as names
 use Rattle.rbac_paths.proofs.RuleWords.{any_name, own_names}

@@ -1,0 +1,169 @@
+//! Why one node takes over another.
+
+ghost use Rattle.std.specs.Prelude.{◌≡◌, ◌≤◌, Any, Contains, IfOk, MatchOption, length};
+ghost use Rattle.std.specs.Option.{option_copied};
+ghost use Rattle.rbac_model.specs.Lists.{IsFirstAt};
+ghost use Rattle.rbac_model.specs.Policies.{IsPolicy};
+ghost use Rattle.rbac_paths.specs.Nodes.{ClusterRoleIn, OwnRole, Somebody, node_of};
+ghost use Rattle.rbac_paths.specs.Reasons.{AnswersFirstIn, IsReason, reason_view};
+ghost use Rattle.rbac_paths.specs.Taking.{CanTakeOver, IsFirstTaking, RuleTakes, TakesNone};
+ghost use Rattle.rbac_paths.specs.Told.{HasItsRole};
+ghost use Rattle.rbac_terms.specs.declared.matching.Rule.{Rule};
+
+use crate::holding::{Holding, sources_of};
+use crate::node::Node;
+use crate::steps::Step;
+use crate::told::StepRows;
+use rbac_model::{Grant, Policy, SourceRole, naming_place};
+use rbac_subjects::SubjectIndex;
+use rbac_terms::{ClusterRole, Principal, Role, Rules, Word};
+use std::alloc::{AllocError, Global};
+
+/// Why one node takes over another by a step (own).
+#[derive(Clone, Copy)]
+pub enum Reason<'p> {
+    /// A user or a group by this grant, the first that lets it: with the place, from 0, of the first
+    /// subject of the grant's binding that names it.
+    Grant(Grant<'p>, usize),
+    /// A role by a rule, the first that lets it: with the role where the rule is written, and its
+    /// place there, from 0.
+    Rule(SourceRole<'p>, usize),
+    /// Everything in a scope by having it.
+    All,
+}
+
+/// Why a node takes over another by a step; `None` only if it doesn't. Fails only if it runs out of
+/// memory.
+pub fn reason_of<'p>(
+    alloc: Global,
+    policy: &'p Policy,
+    index: &SubjectIndex<'p>,
+    from: Node<'p>,
+    step: Step,
+    to: Node<'_>,
+) -> Result<Option<Reason<'p>>, AllocError>
+    requires policy { IsPolicy policy.now }
+    requires index { index.now ≡ policy.now }
+    requires role { HasItsRole policy.now.held (node_of from) }
+    ensures { IfOk result (λ r. MatchOption r
+        (¬ CanTakeOver policy.now (node_of from.entry) step (node_of to.entry))
+        (λ r. IsReason policy.now (node_of from.entry) step (node_of to.entry) (reason_view r))) }
+{
+    let rows = StepRows::of(alloc, step)?;
+    match from {
+        Node::Somebody(who) => Ok(by_grant(policy, index, &rows, who, to)),
+        Node::ClusterRole(role, scope) => by_cluster_role(alloc, policy, &rows, role, scope, to),
+        Node::Role(role) => Ok(by_role(policy, &rows, role, to)),
+        Node::Everything(_) => Ok(Some(Reason::All)),
+    }
+}
+
+// The grant by which somebody takes over a node.
+fn by_grant<'p>(
+    policy: &'p Policy,
+    index: &SubjectIndex<'p>,
+    rows: &StepRows,
+    who: &Principal,
+    to: Node<'_>,
+) -> Option<Reason<'p>>
+    requires policy { IsPolicy policy.now }
+    requires index { index.now ≡ policy.now }
+    ensures { MatchOption result
+        (¬ CanTakeOver policy.now (Somebody who.now) rows.now (node_of to.entry))
+        (λ r. IsReason policy.now (Somebody who.now) rows.now (node_of to.entry) (reason_view r)) }
+{
+    let no = first_taking(policy, index, who, rows, to)?;
+    let grant = policy.grant(no);
+    let subject = naming_place(grant.binding, who)?;
+    Some(Reason::Grant(grant, subject))
+}
+
+// The number of the first grant by which somebody takes over a node.
+fn first_taking(
+    policy: &Policy,
+    index: &SubjectIndex<'_>,
+    who: &Principal,
+    rows: &StepRows,
+    to: Node<'_>,
+) -> Option<u32>
+    requires { index.now ≡ policy.now }
+    ensures { MatchOption result
+        (TakesNone policy.now who.now rows.now (node_of to.entry))
+        (IsFirstTaking policy.now who.now rows.now (node_of to.entry)) }
+{
+    let mut from = 0;
+    while let Some((start, end)) = index.next_named(who, from) {
+        if let Some(no) = first_in_run(policy, start, end, rows, to) {
+            return Some(no);
+        }
+        from = end;
+    }
+    None
+}
+
+// The first of the grants numbered from `start` up to `end` whose rule takes over a node.
+fn first_in_run(policy: &Policy, start: u32, end: u32, rows: &StepRows, to: Node<'_>) -> Option<u32>
+    requires ordered { start ≤ end }
+    requires within { end ≤ length policy.now.grants }
+    ensures { AnswersFirstIn policy.now rows.now (node_of to.entry) start end result }
+{
+    for no in start..end {
+        if rows.is_taken_by(&Holding::by(policy.grant(no)), to) {
+            return Some(no);
+        }
+    }
+    None
+}
+
+// The rule by which a role takes over a node where it is bound.
+fn by_role<'p>(policy: &Policy, rows: &StepRows, role: &'p Role, to: Node<'_>) -> Option<Reason<'p>>
+    ensures { MatchOption result
+        (¬ CanTakeOver policy.now (OwnRole role.now) rows.now (node_of to.entry))
+        (λ r. IsReason policy.now (OwnRole role.now) rows.now (node_of to.entry) (reason_view r)) }
+{
+    let place = first_rule(rows, Some(&role.namespace), &role.rules, to)?;
+    Some(Reason::Rule(SourceRole::Role(role), place))
+}
+
+// The rule by which a cluster role takes over a node where it is bound: its own, or one that it
+// gathers.
+fn by_cluster_role<'p>(
+    alloc: Global,
+    policy: &'p Policy,
+    rows: &StepRows,
+    role: &'p ClusterRole,
+    scope: Option<&Word>,
+    to: Node<'_>,
+) -> Result<Option<Reason<'p>>, AllocError>
+    requires { Contains policy.now.held.cluster_roles role.now }
+    ensures { IfOk result (λ r. MatchOption r
+        (¬ CanTakeOver policy.now
+        (ClusterRoleIn role.now (option_copied scope.entry)) rows.now (node_of to.entry))
+        (λ r. IsReason policy.now
+        (ClusterRoleIn role.now (option_copied scope.entry)) rows.now (node_of to.entry)
+        (reason_view r))) }
+{
+    let sources = sources_of(alloc, policy, role)?;
+    for source in sources.as_slice() {
+        if let Some(place) = first_rule(rows, scope, &source.rules, to) {
+            return Ok(Some(Reason::Rule(SourceRole::ClusterRole(source), place)));
+        }
+    }
+    Ok(None)
+}
+
+// The place of the first of these rules that takes over a node where a binding in this namespace, or
+// in none, is live.
+fn first_rule(rows: &StepRows, home: Option<&Word>, rules: &Rules, to: Node<'_>) -> Option<usize>
+    ensures { MatchOption result
+        (¬ Any (λ r. RuleTakes rows.now (option_copied home.entry) r (node_of to.entry)) rules.now)
+        (λ at. (r : Rule) × IsFirstAt
+        (λ r. RuleTakes rows.now (option_copied home.entry) r (node_of to.entry)) rules.now at r) }
+{
+    for (place, rule) in rules.as_slice().iter().enumerate() {
+        if rows.is_taken_by(&Holding { home, rule }, to) {
+            return Some(place);
+        }
+    }
+    None
+}
