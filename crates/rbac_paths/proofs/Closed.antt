@@ -24,7 +24,7 @@ use Rattle.rbac_paths.specs.Nodes.{NodeView, Somebody, ClusterRoleIn, OwnRole, E
 use Rattle.rbac_paths.specs.Rows.{HasRowResource, MatchesRow}
 use Rattle.rbac_paths.specs.Steps.{RowView, asked_in, row, table}
 use Rattle.rbac_paths.specs.Taking.{IsOver, RowTakes, RuleTakes, scope_namespace}
-use Rattle.rbac_paths.specs.TakingOver.{GoesOn, HasAll, IsUntold, TakesByStep}
+use Rattle.rbac_paths.specs.TakingOver.{MayGoOn, HasAll, IsUntold, TakesByStep}
 use Rattle.rbac_paths.proofs.AllowedBy.{allow_by}
 use Rattle.rbac_paths.proofs.ByRules.{takes_over}
 use Rattle.rbac_paths.proofs.Mapped.{one_element}
@@ -206,7 +206,7 @@ in_two_last t (zero, low, is) = (1, omega arith, is)
 in_two_last t (suc k, low, is) = absurd (omega (arith, low))
 
 -- who goes on with roles isn't everything
-no_everything : (x y : NodeView) → IsNobody y → GoesOn x y → (scope : Option Text) → x ≢ EverythingIn scope
+no_everything : (x y : NodeView) → IsNobody y → MayGoOn x y → (scope : Option Text) → x ≢ EverythingIn scope
 no_everything (Somebody who) y is on scope e = cc
 no_everything (ClusterRoleIn role home) y is on scope e = cc
 no_everything (OwnRole role) y is on scope e = cc

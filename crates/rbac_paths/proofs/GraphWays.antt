@@ -1,5 +1,5 @@
 -- The paths between nodes are the ways through the graph of the nodes.
-use Rattle.std.proofs.Common.{◌≡◌, ◌≢◌, ◌∙◌, ◌<◌, ◌↔◌, ◌⊎◌, ℕ, zero, suc, List, Option, Some, None, MatchOption, Contains, AllPairs, slice_get, length, ap, ap₂, arith, inl, inr, refl, subst, sym}
+use Rattle.std.proofs.Common.{◌≡◌, ◌∙◌, ◌<◌, ◌↔◌, ℕ, zero, suc, List, Some, Contains, AllPairs, slice_get, length, ap, ap₂, arith, inl, inr, subst, sym}
 use Rattle.std.specs.Prelude.{get_or}
 use Rattle.std.specs.Ordering.{ordering_reverse}
 use Rattle.std.specs.declared.cmp.Ordering.TheVariants.{Less, Greater}
@@ -7,8 +7,7 @@ use Rattle.std.proofs.lemmas.Bool.{cases_lt}
 use Rattle.std.proofs.lemmas.Cmp.{nat_list_cmp_total}
 use Rattle.std.proofs.lemmas.Option.{same_Some, slice_get_within, slice_get-get_or, get_or_from_slice_get}
 use Rattle.rbac_terms.specs.Text.{text_cmp}
-use Rattle.rbac_ways.specs.Ways.{GraphView, IsEdge, IsLeastBefore, IsNearest, IsReachedIn, IsStop}
-use Rattle.rbac_ways.specs.declared.graph.Stop.{Stop}
+use Rattle.rbac_ways.specs.Ways.{GraphView, IsEdge, IsLeastBefore, IsNearest, IsReachedIn}
 use Rattle.rbac_paths.specs.NodeLists.{node_text}
 use Rattle.rbac_paths.specs.Nodes.{NodeView}
 use Rattle.rbac_paths.specs.Paths.{IsBeforeOn, IsFewest, LeadsTo}

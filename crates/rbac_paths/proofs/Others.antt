@@ -1,5 +1,5 @@
 -- The roles that a node takes over, and everything, one after another.
-use Rattle.std.proofs.Common.{◌≡◌, ◌↔◌, ◌∙◌, ◌⊎◌, ◌<◌, ◌+◌, ◌++◌, ℕ, List, [], ◌∷◌, Option, None, Some, IsSome, MatchOption, Any, Contains, false, refl, true, arith, inl, inr, length, slice_get, subst, sym}
+use Rattle.std.proofs.Common.{◌≡◌, ◌↔◌, ◌∙◌, ◌<◌, ◌+◌, ◌++◌, ℕ, List, [], ◌∷◌, Option, None, Some, IsSome, MatchOption, Any, Contains, false, refl, true, arith, inl, inr, length, slice_get, subst, sym}
 use Rattle.std.proofs.lemmas.Bool.{cases_eq}
 use Rattle.std.proofs.lemmas.List.Elements.{Contains-append_left, Contains-push, Contains-push_cases}
 use Rattle.std.proofs.lemmas.Option.{same_Some, slice_get_within}
@@ -11,7 +11,7 @@ use Rattle.rbac_model.specs.Policies.{IsPolicy, PolicyView}
 use Rattle.rbac_paths.specs.Having.{AreHoldings, HoldingView}
 use Rattle.rbac_paths.specs.Joints.{AreOthers, IsNobody, IsOther, IsOverNobody, MatchesOverOthers, MayTakeBy, MayTakeOthers, SomeMayTake}
 use Rattle.rbac_paths.specs.Nodes.{NodeView, Somebody, ClusterRoleIn, OwnRole, EverythingIn}
-use Rattle.rbac_paths.specs.Rows.{AreOfStep, HasRowResource, MatchesRow}
+use Rattle.rbac_paths.specs.Rows.{AreOfStep, HasRowResource}
 use Rattle.rbac_paths.specs.Steps.{RowView, table}
 use Rattle.rbac_paths.specs.Taking.{IsOver, RowTakes, RuleTakes}
 use Rattle.rbac_paths.specs.TakingOver.{TakesOver}

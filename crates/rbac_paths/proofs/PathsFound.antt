@@ -11,15 +11,15 @@ use Rattle.std.proofs.lemmas.Option.{same_Some}
 use Rattle.rbac_terms.specs.Principals.{Who, who_key}
 use Rattle.rbac_terms.specs.Text.{Text, text_cmp}
 use Rattle.rbac_model.specs.Policies.{IsPolicy, PolicyView}
-use Rattle.rbac_ways.specs.Ways.{AreInOrder, AreStops, GraphView, IsEdge, IsLeastBefore, IsReachedIn, IsStop}
+use Rattle.rbac_ways.specs.Ways.{AreInOrder, AreStops, GraphView, IsLeastBefore, IsReachedIn, IsStop}
 use Rattle.rbac_ways.specs.declared.graph.Stop.{Stop}
 use Rattle.rbac_paths.specs.BoundNames.{AreBoundNames}
 use Rattle.rbac_paths.specs.NodeLists.{AreNodes, IsNamedOf, IsNode}
 use Rattle.rbac_paths.specs.Nodes.{NodeView, Somebody, ClusterRoleIn, OwnRole, EverythingIn}
-use Rattle.rbac_paths.specs.Paths.{ArePaths, ComesTo, GoesTo, IsFewest, IsGraphOf, IsPath, PathView}
+use Rattle.rbac_paths.specs.Paths.{ArePaths, GoesTo, IsFewest, IsGraphOf, IsPath, PathView}
 use Rattle.rbac_paths.specs.Principals.{IsOneWith}
 use Rattle.rbac_paths.specs.TakingOver.{TakesOver}
-use Rattle.rbac_paths.specs.Told.{HasItsRole, IsFirstTold}
+use Rattle.rbac_paths.specs.Told.{HasItsRole}
 use Rattle.rbac_paths.specs.Tracing.{AreLinked, ArePathsAt, HasKeyAt, HasKeyOf, IsPathAt}
 use Rattle.rbac_paths.specs.declared.steps.Step.{Step}
 use Rattle.rbac_paths.proofs.Closed.{HasOwnRole, cluster_role_bound, role_bound}

@@ -1,5 +1,5 @@
 -- Paths by where their nodes are on shortest ways, one after another.
-use Rattle.std.proofs.Common.{◌≡◌, ◌≢◌, ◌↔◌, ◌∙◌, ◌⊎◌, ◌<◌, ◌≤◌, ◌+◌, ◌++◌, ℕ, List, [], ◌∷◌, Option, MatchOption, None, Some, AllPairs, Any, Contains, ap, ap₂, arith, get_or, inl, inr, length, refl, slice_get, subst, sym, take}
+use Rattle.std.proofs.Common.{◌≡◌, ◌≢◌, ◌↔◌, ◌∙◌, ◌<◌, ◌+◌, ◌++◌, ℕ, List, [], ◌∷◌, Option, MatchOption, None, Some, AllPairs, Contains, ap, ap₂, arith, get_or, inl, inr, length, refl, slice_get, subst, sym, take}
 use Rattle.std.specs.declared.cmp.Ordering.TheVariants.{Less}
 use Rattle.std.proofs.lemmas.Bool.{cases_eq}
 use Rattle.std.proofs.lemmas.List.{get_or_default, get_or-take, length-take}
@@ -9,7 +9,6 @@ use Rattle.std.proofs.lemmas.Option.{get_or_from_slice_get, same_Some, slice_get
 use Rattle.rbac_terms.specs.Principals.{Who}
 use Rattle.rbac_terms.specs.Text.{text_cmp}
 use Rattle.rbac_model.proofs.LabelSets.{any_push}
-use Rattle.rbac_model.proofs.Stairs.{take_read}
 use Rattle.rbac_model.specs.Policies.{PolicyView}
 use Rattle.rbac_ways.specs.Ways.{AreInOrder, IsMetBefore}
 use Rattle.rbac_ways.specs.declared.graph.Stop.{Stop}
@@ -17,7 +16,7 @@ use Rattle.rbac_paths.specs.NodeLists.{node_text}
 use Rattle.rbac_paths.specs.Nodes.{NodeView}
 use Rattle.rbac_paths.specs.Paths.{IsNearer, PathView}
 use Rattle.rbac_paths.specs.TakingOver.{TakesOver}
-use Rattle.rbac_paths.specs.Tracing.{AreLinked, ArePathsAt, HasKeyAt, HasKeyOf, IsPathAt, IsUnled, TakesAt}
+use Rattle.rbac_paths.specs.Tracing.{AreLinked, ArePathsAt, HasKeyAt, HasKeyOf, IsPathAt, IsUnled}
 use Rattle.rbac_paths.specs.declared.steps.Step.{Step}
 
 -- ---- places below a bound, one after another

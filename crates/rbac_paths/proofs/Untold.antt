@@ -10,7 +10,7 @@ use Rattle.rbac_model.specs.Policies.{IsPolicy, PolicyView}
 use Rattle.rbac_paths.specs.Having.{AreHoldings, HoldingView}
 use Rattle.rbac_paths.specs.Nodes.{NodeView, Somebody, ClusterRoleIn, OwnRole, EverythingIn}
 use Rattle.rbac_paths.specs.Taking.{CanTakeOver}
-use Rattle.rbac_paths.specs.TakingOver.{BindsNode, GoesOn, HasAll, IsUntold, IsUntoldBy, TakesByStep, TakesOver, Writes}
+use Rattle.rbac_paths.specs.TakingOver.{BindsNode, MayGoOn, HasAll, IsUntold, IsUntoldBy, TakesByStep, TakesOver, WritesRoles}
 use Rattle.rbac_paths.specs.Told.{HoldingsBind, HoldingsHaveAll, HoldingsTake, HoldingsTell, IsFirstTold, IsUntoldOf}
 use Rattle.rbac_paths.specs.declared.steps.Step.{Step}
 use Rattle.rbac_paths.specs.declared.steps.Step.TheVariants.{Bind}
@@ -37,7 +37,7 @@ module _ (p : PolicyView) (ok : IsPolicy p) (x : NodeView) (hs : List HoldingVie
 
   have_all : (scope : Option Text) → HasAll p steps x scope → HoldingsHaveAll steps hs scope
   unfolding HoldingsHaveAll
-  have_all scope w = any_from (λ s. Writes s × HoldingsTake s hs (EverythingIn scope)) steps w.0 w.2 (w.1, in_holdings p ok x hs are w.0 (EverythingIn scope) w.3)
+  have_all scope w = any_from (λ s. WritesRoles s × HoldingsTake s hs (EverythingIn scope)) steps w.0 w.2 (w.1, in_holdings p ok x hs are w.0 (EverythingIn scope) w.3)
 
   -- by binding
   binds : (y : NodeView) → HoldingsBind steps hs y → BindsNode p steps x y
@@ -59,7 +59,7 @@ module _ (p : PolicyView) (ok : IsPolicy p) (x : NodeView) (hs : List HoldingVie
     untold_of = untold_too (HasAll p steps x) (HoldingsHaveAll steps hs) (BindsNode p steps x) (HoldingsBind steps hs) have_all bind y
 
     -- told by what it has is told
-    takes_by : GoesOn x y → (s : Step) → Contains steps s → HoldingsTell steps hs y s → TakesByStep p steps x s y
+    takes_by : MayGoOn x y → (s : Step) → Contains steps s → HoldingsTell steps hs y s → TakesByStep p steps x s y
     takes_by on s among told = record { goes_on = on; among = among; can = by_holdings p ok x hs are s y told.0; told = λ writes untold. told.1 writes (untold_of untold) }
 
     told_by : (s : Step) → TakesByStep p steps x s y → HoldingsTell steps hs y s
@@ -84,7 +84,7 @@ module _ (steps : List Step) (hs : List HoldingView) (y : NodeView) where
         let at = read_contains steps w.0 w.1.among in
         none at.0 w.0 (all at.0 w.0 at.1) at.1 (told_by p ok x hs are steps y w.0 w.1)
 
-    pub first_told : GoesOn x y → (k : ℕ) (s : Step) → slice_get steps k ≡ Some s → HoldingsTell steps hs y s → ToldNoneTo steps hs y k → IsFirstTold p steps x y s
+    pub first_told : MayGoOn x y → (k : ℕ) (s : Step) → slice_get steps k ≡ Some s → HoldingsTell steps hs y s → ToldNoneTo steps hs y k → IsFirstTold p steps x y s
     first_told on k s here told none = (
       k,
       record {

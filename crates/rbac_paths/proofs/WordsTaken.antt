@@ -1,5 +1,5 @@
 -- A node takes over somebody exactly if it takes a word by which they can be had.
-use Rattle.std.proofs.Common.{◌≡◌, ◌↔◌, List, [], Any, Contains, arith, sym, subst}
+use Rattle.std.proofs.Common.{◌≡◌, ◌↔◌, List, [], Any, Contains, arith}
 use Rattle.rbac_terms.specs.Text.{Text}
 use Rattle.rbac_terms.specs.Principals.{Who}
 use Rattle.rbac_model.proofs.OwnWords.{any_from}
@@ -10,7 +10,7 @@ use Rattle.rbac_paths.specs.Nodes.{NodeView, Somebody}
 use Rattle.rbac_paths.specs.SharedWords.{AreHadBy, StepTakesWord, TakeWord, TakesWord}
 use Rattle.rbac_paths.specs.Steps.{table}
 use Rattle.rbac_paths.specs.Taking.{RowTakes, RuleTakes}
-use Rattle.rbac_paths.specs.TakingOver.{GoesOn, TakesOver}
+use Rattle.rbac_paths.specs.TakingOver.{MayGoOn, TakesOver}
 use Rattle.rbac_paths.specs.Told.{HoldingTakes, HoldingsTake}
 use Rattle.rbac_paths.specs.declared.steps.Step.{Step}
 use Rattle.rbac_paths.proofs.AllowedBy.{by_holdings, in_holdings}
@@ -20,7 +20,7 @@ module _ (p : PolicyView) (ok : IsPolicy p) (x : NodeView) (hs : List HoldingVie
   by_step : (w : Text) → Contains had w → (h : HoldingView) (s : Step) → StepTakesWord h.home h.rule w s → RuleTakes s h.home h.rule (Somebody who)
   by_step w in_had h s a = any_from (λ row. (row.step ≡ s) × RowTakes row h.home h.rule (Somebody who)) table a.1 (a.0, a.2, a.3) (a.4.0, (row_shares a.1 h.home h.rule who had of).0 (w, in_had, a.4.1))
 
-  by_word : (w : Text) → Contains had w → GoesOn x (Somebody who) → TakeWord steps hs w → TakesOver p steps x (Somebody who)
+  by_word : (w : Text) → Contains had w → MayGoOn x (Somebody who) → TakeWord steps hs w → TakesOver p steps x (Somebody who)
   unfolding HoldingsTake HoldingTakes
   by_word w in_had on a =
       let h = a.1 in
@@ -42,13 +42,13 @@ module _ (p : PolicyView) (ok : IsPolicy p) (x : NodeView) (hs : List HoldingVie
       let by_steps = any_from (StepTakesWord h.home h.rule w) steps s t.1.among by_row in
       (w, shares.1, any_from (λ h. Any (StepTakesWord h.home h.rule w) steps) hs h (held.0, held.2, held.3) by_steps)
 
-pub takes_by_words : (p : PolicyView) → IsPolicy p → (x : NodeView) (hs : List HoldingView) → AreHoldings p x hs → (steps : List Step) → ((who : Who) → GoesOn x (Somebody who)) → (ws : List Text) → ((w : Text) → Contains ws w ↔ TakeWord steps hs w) → TakesByWords p steps x ws
+pub takes_by_words : (p : PolicyView) → IsPolicy p → (x : NodeView) (hs : List HoldingView) → AreHoldings p x hs → (steps : List Step) → ((who : Who) → MayGoOn x (Somebody who)) → (ws : List Text) → ((w : Text) → Contains ws w ↔ TakeWord steps hs w) → TakesByWords p steps x ws
 takes_by_words p ok x hs are steps on ws exact who had of = (
   λ s. by_word p ok x hs are steps who had of s.0 s.2 (on who) ((exact s.0).0 s.1),
   λ t. (let w = some_word p ok x hs are steps who had of t in (w.0, (exact w.0).1 w.2, w.1)),
 )
 
-pub takes_none : (p : PolicyView) (x : NodeView) (steps : List Step) → ((who : Who) → GoesOn x (Somebody who) → ⊥) → TakesByWords p steps x []
+pub takes_none : (p : PolicyView) (x : NodeView) (steps : List Step) → ((who : Who) → MayGoOn x (Somebody who) → ⊥) → TakesByWords p steps x []
 takes_none p x steps off who had of = (
   λ s. absurd (let low = s.1.1 in omega (arith, low)),
   λ t. absurd (off who t.1.goes_on),

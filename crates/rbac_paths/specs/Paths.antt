@@ -44,8 +44,8 @@ abbrev pub GoesTo : PolicyView → List Who → List Step → NodeView → NodeV
 GoesTo p all steps x y = IsNode p all y × TakesOver p steps x y
 
 -- n steps lead from the start to y
-abbrev pub ComesTo : PolicyView → List Who → List Step → NodeView → ℕ → NodeView → Type 0
-ComesTo p all steps start n y = LeadsTo (GoesTo p all steps) (λ x. x ≡ start) n y
+abbrev pub StepsLeadTo : PolicyView → List Who → List Step → NodeView → ℕ → NodeView → Type 0
+StepsLeadTo p all steps start n y = LeadsTo (GoesTo p all steps) (λ x. x ≡ start) n y
 
 -- a node that somebody comes to: how many steps lead there, and the last of them
 pub record PathView : Type 0 where
@@ -74,6 +74,6 @@ IsNearer x y = (x.count < y.count)
 pub record ArePaths (p : PolicyView) (all : List Who) (steps : List Step) (start : NodeView)
     (xs : List PathView) : Type 0 where
   pub each : All (IsPath p all steps start) xs
-  pub complete : (n : ℕ) (y : NodeView) → y ≢ start → ComesTo p all steps start n y
+  pub complete : (n : ℕ) (y : NodeView) → y ≢ start → StepsLeadTo p all steps start n y
       → Any (λ x. x.node ≡ y) xs
   pub ordered : AllPairs IsNearer xs

@@ -8,12 +8,12 @@ use Rattle.rbac_paths.specs.declared.steps.Step.{Step}
 use Rattle.rbac_paths.specs.declared.steps.Step.TheVariants.{Bind, Escalate}
 
 -- by a step one writes what roles have, or who has them
-abbrev pub Writes : Step → Type 0
-Writes step = (step ≡ Bind) ⊎ (step ≡ Escalate)
+abbrev pub WritesRoles : Step → Type 0
+WritesRoles step = (step ≡ Bind) ⊎ (step ≡ Escalate)
 
 -- by writing, if that is among the steps, the node takes over everything in the scope
 abbrev pub HasAll : PolicyView → List Step → NodeView → Option Text → Type 0
-HasAll p steps x scope = (step : Step) × Writes step × Contains steps step
+HasAll p steps x scope = (step : Step) × WritesRoles step × Contains steps step
     × CanTakeOver p x step (EverythingIn scope)
 
 -- by binding, if that is among the steps, the node takes over the other
@@ -37,23 +37,23 @@ IsUntold p steps x y = IsUntoldBy (HasAll p steps x) (BindsNode p steps x) y
 
 -- who has everything in the cluster comes to nothing more, and who has everything in a namespace goes on
 -- with users and groups alone (own)
-abbrev pub GoesOn : NodeView → NodeView → Type 0
-GoesOn (EverythingIn None) y = ⊥
-GoesOn (EverythingIn (Some namespace)) (Somebody who) = Unit {0}
-GoesOn (EverythingIn (Some namespace)) (ClusterRoleIn role scope) = ⊥
-GoesOn (EverythingIn (Some namespace)) (OwnRole role) = ⊥
-GoesOn (EverythingIn (Some namespace)) (EverythingIn scope) = ⊥
-GoesOn (Somebody who) y = Unit {0}
-GoesOn (ClusterRoleIn role scope) y = Unit {0}
-GoesOn (OwnRole role) y = Unit {0}
+abbrev pub MayGoOn : NodeView → NodeView → Type 0
+MayGoOn (EverythingIn None) y = ⊥
+MayGoOn (EverythingIn (Some namespace)) (Somebody who) = Unit {0}
+MayGoOn (EverythingIn (Some namespace)) (ClusterRoleIn role scope) = ⊥
+MayGoOn (EverythingIn (Some namespace)) (OwnRole role) = ⊥
+MayGoOn (EverythingIn (Some namespace)) (EverythingIn scope) = ⊥
+MayGoOn (Somebody who) y = Unit {0}
+MayGoOn (ClusterRoleIn role scope) y = Unit {0}
+MayGoOn (OwnRole role) y = Unit {0}
 
 -- by one of these steps x takes over y, and that is told
 pub record TakesByStep (p : PolicyView) (steps : List Step) (x : NodeView) (step : Step)
     (y : NodeView) : Type 0 where
-  pub goes_on : GoesOn x y
+  pub goes_on : MayGoOn x y
   pub among : Contains steps step
   pub can : CanTakeOver p x step y
-  pub told : Writes step → ¬ IsUntold p steps x y
+  pub told : WritesRoles step → ¬ IsUntold p steps x y
 
 -- x takes over y by some of these steps
 abbrev pub TakesOver : PolicyView → List Step → NodeView → NodeView → Type 0

@@ -10,7 +10,7 @@ use Rattle.rbac_model.specs.Policies.{AreGathered, GrantView, Held, IsPlain, Pol
 use Rattle.rbac_paths.specs.Having.{HoldingView}
 use Rattle.rbac_paths.specs.Nodes.{NodeView, Somebody, ClusterRoleIn, OwnRole, EverythingIn}
 use Rattle.rbac_paths.specs.Taking.{RuleTakes}
-use Rattle.rbac_paths.specs.TakingOver.{IsUntoldBy, TakesByStep, Writes}
+use Rattle.rbac_paths.specs.TakingOver.{IsUntoldBy, TakesByStep, WritesRoles}
 use Rattle.rbac_paths.specs.declared.steps.Step.{Step}
 use Rattle.rbac_paths.specs.declared.steps.Step.TheVariants.{Bind}
 
@@ -54,7 +54,7 @@ HoldingsTake step hs y = Any (λ h. HoldingTakes step h y) hs
 -- by writing, if that is among the steps, they take over everything in the scope
 unfoldable pub HoldingsHaveAll : List Step → List HoldingView → Option Text → Type 0
 HoldingsHaveAll steps hs scope =
-    Any (λ s. Writes s × HoldingsTake s hs (EverythingIn scope)) steps
+    Any (λ s. WritesRoles s × HoldingsTake s hs (EverythingIn scope)) steps
 
 -- by binding, if that is among the steps, they take over the node
 unfoldable pub HoldingsBind : List Step → List HoldingView → NodeView → Type 0
@@ -66,7 +66,7 @@ IsUntoldOf steps hs y = IsUntoldBy (HoldingsHaveAll steps hs) (HoldingsBind step
 
 -- by the step they take over the node, and that is told
 abbrev pub HoldingsTell : List Step → List HoldingView → NodeView → Step → Type 0
-HoldingsTell steps hs y step = HoldingsTake step hs y × (Writes step → ¬ IsUntoldOf steps hs y)
+HoldingsTell steps hs y step = HoldingsTake step hs y × (WritesRoles step → ¬ IsUntoldOf steps hs y)
 
 -- the first of these steps by which x takes over y, as is told
 abbrev pub IsFirstTold : PolicyView → List Step → NodeView → NodeView → Step → Type 0

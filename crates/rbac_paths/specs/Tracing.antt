@@ -1,5 +1,5 @@
 -- While paths are told by where their nodes are on shortest ways through the graph of nodes.
-use Rattle.std.specs.Prelude.{◌≡◌, ◌≢◌, ◌⊎◌, ℕ, List, Option, Some, None, All, AllPairs, Any, Contains}
+use Rattle.std.specs.Prelude.{◌≡◌, ◌≢◌, ◌⊎◌, ℕ, List, Option, Some, None, AllPairs, Any, Contains}
 use Rattle.std.specs.Prelude.{slice_get, slice_index_or}
 use Rattle.rbac_terms.specs.Principals.{Who, who_key}
 use Rattle.rbac_model.specs.Policies.{PolicyView}

@@ -9,7 +9,7 @@ ghost use Rattle.rbac_paths.specs.Joints.{MatchesOverOthers, MayTakeBy, MayTakeO
 ghost use Rattle.rbac_paths.specs.Joints.{TakesByWords};
 ghost use Rattle.rbac_paths.specs.Nodes.{Somebody, node_of};
 ghost use Rattle.rbac_paths.specs.Paths.{IsGraphOf};
-ghost use Rattle.rbac_paths.specs.TakingOver.{GoesOn, TakesOver};
+ghost use Rattle.rbac_paths.specs.TakingOver.{MayGoOn, TakesOver};
 ghost use Rattle.rbac_paths.specs.Told.{HasItsRole};
 
 use crate::holding::{Holding, holdings_of, rule_of_all};
@@ -70,7 +70,7 @@ fn words_taken(
 
 // Whether a node goes on to users and groups at all.
 fn goes_further(node: Node<'_>) -> bool
-    ensures { (who : Who) → IsTrue result ↔ GoesOn (node_of node.entry) (Somebody who) }
+    ensures { (who : Who) → IsTrue result ↔ MayGoOn (node_of node.entry) (Somebody who) }
 {
     !matches!(node, Node::Everything(None))
 }

@@ -21,7 +21,7 @@ pub enum Step {
     Nodes,
     /// Binds roles that it doesn't have.
     Bind,
-    /// Writes rules that it doesn't have.
+    /// WritesRoles rules that it doesn't have.
     Escalate,
     /// Approves certificates that sign in as anyone.
     Certificates,

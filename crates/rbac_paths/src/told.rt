@@ -8,7 +8,7 @@ ghost use Rattle.rbac_paths.specs.Nodes.{ClusterRoleIn, node_of};
 ghost use Rattle.rbac_paths.specs.Rows.{AreOfStep};
 ghost use Rattle.rbac_paths.specs.Steps.{table};
 ghost use Rattle.rbac_paths.specs.Taking.{RowTakes};
-ghost use Rattle.rbac_paths.specs.TakingOver.{GoesOn, TakesOver, Writes};
+ghost use Rattle.rbac_paths.specs.TakingOver.{MayGoOn, TakesOver, WritesRoles};
 ghost use Rattle.rbac_paths.specs.Told.{HoldingTakes, HoldingsBind, HoldingsHaveAll, HoldingsTake};
 ghost use Rattle.rbac_paths.specs.Told.{HoldingsTell, IsFirstTold, IsUntoldOf};
 
@@ -124,7 +124,7 @@ pub(crate) fn first_told(
 
 // Whether a node goes on to the other.
 fn goes_on(from: Node<'_>, to: Node<'_>) -> bool
-    ensures { IsTrue result ↔ GoesOn (node_of from.entry) (node_of to.entry) }
+    ensures { IsTrue result ↔ MayGoOn (node_of from.entry) (node_of to.entry) }
 {
     match from {
         Node::Everything(None) => false,
@@ -143,7 +143,7 @@ fn is_told(rows: &StepRows, steps: &[StepRows], holdings: &[Holding<'_>], to: No
 
 // Whether one writes by this step what roles have, or who has them.
 fn writes(step: Step) -> bool
-    ensures { IsTrue result ↔ Writes step }
+    ensures { IsTrue result ↔ WritesRoles step }
 {
     step == Step::Bind || step == Step::Escalate
 }

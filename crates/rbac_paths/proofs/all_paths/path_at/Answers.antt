@@ -1,4 +1,4 @@
-use Rattle.std.proofs.Common.{◌≡◌, ◌∙◌, List, MatchOption, None, Option, Some, arith, get_or, map, refl, slice_get, subst, sym}
+use Rattle.std.proofs.Common.{◌≡◌, ◌∙◌, List, MatchOption, None, Option, Some, arith, get_or, map, refl, subst, sym}
 use Rattle.rbac_paths.specs.Having.{AreHoldings, HoldingView}
 use Rattle.rbac_paths.specs.Nodes.{node_of}
 use Rattle.rbac_paths.specs.TakingOver.{TakesOver}

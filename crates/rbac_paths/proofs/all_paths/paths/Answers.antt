@@ -1,11 +1,11 @@
-use Rattle.std.proofs.Common.{◌≡◌, ◌↔◌, ◌∙◌, All, Bor, Contains, List, Option, ℕ, map, subst, sym}
+use Rattle.std.proofs.Common.{◌≡◌, ◌↔◌, ◌∙◌, All, Bor, Contains, List, ℕ, map, subst, sym}
 use Rattle.std.proofs.lemmas.Result.{IfOk-weaker}
 use Rattle.rbac_terms.specs.Principals.{Who}
 use Rattle.rbac_terms.specs.Text.{Text}
 use Rattle.rbac_ways.specs.Ways.{AreStops}
 use Rattle.rbac_paths.specs.NodeLists.{AreNodes}
-use Rattle.rbac_paths.specs.Nodes.{NodeView, Somebody, node_of}
-use Rattle.rbac_paths.specs.Paths.{ArePaths, IsGraphOf}
+use Rattle.rbac_paths.specs.Nodes.{node_of}
+use Rattle.rbac_paths.specs.Paths.{IsGraphOf}
 use Rattle.rbac_paths.specs.Principals.{IsOneWith}
 use Rattle.rbac_paths.specs.Told.{HasItsRole}
 use Rattle.rbac_paths.specs.Tracing.{AreLinked, ArePathsAt, HasKeyAt}

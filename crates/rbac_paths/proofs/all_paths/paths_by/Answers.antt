@@ -1,10 +1,10 @@
-use Rattle.std.proofs.Common.{◌≡◌, ◌∙◌, ◌+◌, ◌++◌, ◌∷◌, [], List, MatchOption, Option, ℕ, arith, get_or, map, refl, subst, sym, take}
-use Rattle.std.proofs.lemmas.List.{get_or_default, take_all, take_more}
+use Rattle.std.proofs.Common.{◌≡◌, ◌+◌, List, MatchOption, Option, ℕ, get_or, map, subst, sym, take}
+use Rattle.std.proofs.lemmas.List.{get_or_default, take_more}
 use Rattle.rbac_ways.specs.Ways.{AreInOrder}
 use Rattle.rbac_ways.specs.declared.graph.Stop.{Stop}
 use Rattle.rbac_paths.specs.Nodes.{node_of}
-use Rattle.rbac_paths.specs.Tracing.{ArePathsAt, IsPathAt, IsUnled}
-use Rattle.rbac_paths.proofs.Tracing.{matched_none, matched_some, met_before, paths_more, paths_none, paths_same}
+use Rattle.rbac_paths.specs.Tracing.{IsPathAt, IsUnled}
+use Rattle.rbac_paths.proofs.Tracing.{matched_none, matched_some, met_before, paths_more, paths_same}
 use Rattle.rbac_paths.proofs.all_paths.paths_by.Goals as goal
 use Rattle.rbac_paths.proofs.all_paths.paths_by.Goals.{in-Some+in_ok-push, in_default}
 

@@ -1,4 +1,4 @@
-use Rattle.std.proofs.Common.{◌≡◌, ◌∙◌, Some, arith, length, map, slice_get, sym}
+use Rattle.std.proofs.Common.{◌≡◌, ◌∙◌, Some, arith, length, map, slice_get}
 use Rattle.std.proofs.lemmas.List.{length-map}
 use Rattle.std.proofs.lemmas.Option.{slice_get_within}
 use Rattle.rbac_paths.specs.Nodes.{node_of}

@@ -1,9 +1,8 @@
 use Rattle.std.proofs.Common.{◌≡◌, ◌∙◌, List, Some, ℕ, arith, length, map, slice_get, subst, sym}
 use Rattle.std.proofs.lemmas.List.{length-map}
 use Rattle.std.proofs.lemmas.Option.{same_Some}
-use Rattle.rbac_terms.specs.Text.{Text}
 use Rattle.rbac_paths.specs.Having.{AreHoldings, HoldingView}
-use Rattle.rbac_paths.specs.Joints.{AreHad, AreJoints, AreOthers, TakesByWords}
+use Rattle.rbac_paths.specs.Joints.{AreJoints, AreOthers, TakesByWords}
 use Rattle.rbac_paths.specs.Nodes.{NodeView, node_of}
 use Rattle.rbac_paths.specs.Told.{HasItsRole}
 use Rattle.rbac_paths.proofs.GraphOf.{graph_is, joints_more, ok_both}

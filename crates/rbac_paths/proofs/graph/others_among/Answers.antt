@@ -3,7 +3,7 @@ use Rattle.std.proofs.lemmas.List.{length-map}
 use Rattle.rbac_paths.specs.Joints.{AreOthers}
 use Rattle.rbac_paths.specs.Nodes.{node_of}
 use Rattle.rbac_paths.proofs.Mapped.{mapped_at}
-use Rattle.rbac_paths.proofs.Others.{others_all, others_more, others_none, others_same}
+use Rattle.rbac_paths.proofs.Others.{others_all, others_more, others_same}
 use Rattle.rbac_paths.proofs.graph.others_among.Goals as goal
 use Rattle.rbac_paths.proofs.graph.others_among.Goals.{then-takes_other+in_ok-push, else-takes_other}
 
