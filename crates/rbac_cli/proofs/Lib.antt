@@ -9,6 +9,7 @@ pub mod OneMeant
 pub mod OneReason
 pub mod OneRun
 pub mod PageLemmas
+pub mod PathsNamed
 pub mod PlusLemmas
 pub mod Printed
 pub mod RowsLeftLemmas

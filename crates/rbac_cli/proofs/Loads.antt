@@ -11,7 +11,7 @@ use Rattle.rbac_model.specs.Policies.{PolicyView}
 use Rattle.rbac_model.specs.declared.objects.Object.{Object}
 use Rattle.rbac_manifest.specs.Load.{HasTooManyGrants, document_fault, fault_from, file_refusal, in_file}
 use Rattle.rbac_question.specs.declared.command.Action.{Action}
-use Rattle.rbac_question.specs.declared.command.Action.TheVariants.{CanI, WhoCan, Rules, Matrix, Lint, Powers, Diff}
+use Rattle.rbac_question.specs.declared.command.Action.TheVariants.{CanI, WhoCan, Rules, Matrix, Lint, Powers, Paths, Diff}
 use Rattle.rbac_question.specs.declared.command.Action.TheVariants as action
 use Rattle.rbac_question.specs.declared.command.Change.{Change}
 use Rattle.rbac_question.specs.declared.command.Change.TheVariants.{Over}
@@ -34,6 +34,7 @@ over (Rules who scope) inputs (Single l) h = tt
 over (Matrix options after limit) inputs (Single l) h = tt
 over (Lint only skip) inputs (Single l) h = tt
 over Powers inputs (Single l) h = tt
+over (Paths who steps) inputs (Single l) h = tt
 over action.Universe inputs (Single l) h = tt
 over (Diff n change) inputs (Single l) h = h
 over (CanI who quiet why q) inputs (Pair x y) h = h
@@ -42,6 +43,7 @@ over (Rules who scope) inputs (Pair x y) h = h
 over (Matrix options after limit) inputs (Pair x y) h = h
 over (Lint only skip) inputs (Pair x y) h = h
 over Powers inputs (Pair x y) h = h
+over (Paths who steps) inputs (Pair x y) h = h
 over action.Universe inputs (Pair x y) h = h
 over (Diff n change) inputs (Pair x y) h = tt
 
@@ -231,3 +233,4 @@ of_diff P (Matrix options mark limit) before after is h = absurd is
 of_diff P action.Universe before after is h = absurd is
 of_diff P (Lint only skip) before after is h = absurd is
 of_diff P Powers before after is h = absurd is
+of_diff P (Paths who steps) before after is h = absurd is

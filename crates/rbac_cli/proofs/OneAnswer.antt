@@ -27,15 +27,17 @@ use Rattle.rbac_index.proofs.ListedLemmas.{one_listed}
 use Rattle.rbac_manifest.specs.Load.{LoadedView}
 use Rattle.rbac_lint.proofs.OneLines.{one_wanted}
 use Rattle.rbac_diff.proofs.OneChanges.{one_changes}
+use Rattle.rbac_paths.specs.Paths.{ArePathsOf, PathView}
 use Rattle.rbac_paths.specs.Powers.{ArePowers, PowerView}
+use Rattle.rbac_paths.specs.declared.steps.Step.{Step}
 use Rattle.rbac_document.proofs.OneDocument.{one_document}
 use Rattle.rbac_question.specs.declared.command.Action.{Action}
-use Rattle.rbac_question.specs.declared.command.Action.TheVariants.{CanI, WhoCan, Rules, Matrix, Universe, Lint, Powers, Diff}
+use Rattle.rbac_question.specs.declared.command.Action.TheVariants.{CanI, WhoCan, Rules, Matrix, Universe, Lint, Powers, Paths, Diff}
 use Rattle.rbac_question.specs.declared.command.HolderOptions.{HolderOptions}
 use Rattle.rbac_question.specs.declared.command.MatrixOptions.{MatrixOptions}
 use Rattle.rbac_question.specs.declared.command.Question.{Question}
 use Rattle.rbac_cli.specs.HolderLines.{AreHolderLines, joined_lines}
-use Rattle.rbac_cli.specs.Out.{Answers, IsAllowed, IsDenied, rules_text, findings_text, findings_status, wanted_meant, powers_text, changes_text, changes_status, line_unless}
+use Rattle.rbac_cli.specs.Out.{Answers, IsAllowed, IsDenied, rules_text, findings_text, findings_status, wanted_meant, powers_text, paths_text, changes_text, changes_status, line_unless}
 use Rattle.rbac_cli.specs.MatrixPage.{AreRows, AreListedRows}
 use Rattle.rbac_cli.specs.Meant.{IsScopeMeant, requested_meant}
 use Rattle.rbac_cli.specs.declared.exports.Exports.{Exports}
@@ -247,11 +249,15 @@ not_both held entries who q (t, n, meant, allows) (u, m, means, none) =
     let same = one_meant entries q t u n m meant means in
     none (subst (λ x. Allows held who m q.verb x) same.0 (subst (λ x. Allows held who x q.verb t) same.1 allows))
 
--- what is known of powers
+-- what is known of powers and of paths
 abbrev pub PowersOne : Type 0
 PowersOne = (p : PolicyView) (xs others : List PowerView) → ArePowers p xs → ArePowers p others → xs ≡ others
 
-module _ (powers_one : PowersOne) where
+abbrev pub PathsOne : Type 0
+PathsOne = (p : PolicyView) (principals : List Who) (steps : List Step) (who : Who) (xs others : List PathView) → ArePathsOf p principals steps who xs
+    → ArePathsOf p principals steps who others → xs ≡ others
+
+module _ (powers_one : PowersOne) (paths_one : PathsOne) where
   pub one_answer : (e : Exports) (action : Action) (text other : List ℕ) (status ending : Status) → Answers e action text status → Answers e action other ending
       → (text ≡ other) × (status ≡ ending)
   one_answer (Single l) (CanI who quiet why q) text other status ending (inl (a, (r, is, e), s)) (inl (b, (o, are, f), t)) = (
@@ -274,6 +280,8 @@ module _ (powers_one : PowersOne) where
   one_answer (Single l) Universe text other status ending (is, s) (are, t) = (one_document l.lists text other is are, s ∙ sym t)
   one_answer (Single l) Powers text other status ending (xs, are, e, s) (ys, those, f, t) =
       (e ∙ ap powers_text (powers_one l.policy xs ys are those) ∙ sym f, s ∙ sym t)
+  one_answer (Single l) (Paths who steps) text other status ending (xs, are, e, s) (ys, those, f, t) =
+      (e ∙ ap paths_text (paths_one l.policy l.principals (vec_items steps) who xs ys are those) ∙ sym f, s ∙ sym t)
   one_answer (Single l) (Diff n change) text other status ending a b = absurd a
   one_answer (Pair before after) (Diff n change) text other status ending (xs, are, e, s) (ys, those, f, t) =
       let one = one_changes before after xs ys are those in
@@ -285,3 +293,4 @@ module _ (powers_one : PowersOne) where
   one_answer (Pair before after) Universe text other status ending a b = absurd a
   one_answer (Pair before after) (Lint only skip) text other status ending a b = absurd a
   one_answer (Pair before after) Powers text other status ending a b = absurd a
+  one_answer (Pair before after) (Paths who steps) text other status ending a b = absurd a

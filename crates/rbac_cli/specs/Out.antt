@@ -19,11 +19,13 @@ use Rattle.rbac_lint.specs.declared.finding.Finding.{Finding}
 use Rattle.rbac_lint.specs.Wanted.{WantedView, AreWanted}
 use Rattle.rbac_paths.specs.Powers.{ArePowers, PowerView}
 use Rattle.rbac_paths.specs.Lines.{power_text}
+use Rattle.rbac_paths.specs.Paths.{ArePathsOf, PathView}
+use Rattle.rbac_paths.specs.PathLines.{path_text}
 use Rattle.rbac_diff.specs.Changes.{ChangeView, AreChanges}
 use Rattle.rbac_diff.specs.Lines.{change_text}
 use Rattle.rbac_question.specs.declared.command.Action.{Action}
 use Rattle.rbac_question.specs.declared.command.Action.TheVariants.{CanI, WhoCan, Rules, Matrix}
-use Rattle.rbac_question.specs.declared.command.Action.TheVariants.{Universe, Lint, Powers, Diff}
+use Rattle.rbac_question.specs.declared.command.Action.TheVariants.{Universe, Lint, Powers, Paths, Diff}
 use Rattle.rbac_question.specs.declared.command.Question.{Question}
 use Rattle.rbac_rules.specs.Effective.{RuleView, AreEffective}
 use Rattle.rbac_index.specs.WhoCan.{AreListedHolders}
@@ -99,6 +101,10 @@ findings_status (f ∷ found) = One
 abbrev pub powers_text : List PowerView → Text
 powers_text xs = flat_map power_text xs
 
+-- a line for each path, in order
+abbrev pub paths_text : List PathView → Text
+paths_text xs = flat_map path_text xs
+
 -- a line for each change, in order
 abbrev pub changes_text : List ChangeView → Text
 changes_text xs = flat_map change_text xs
@@ -113,7 +119,8 @@ changes_status (x ∷ xs) = One
 -- for each rule that somebody has, and 0 (own); `matrix` a page of the rows that are listed over a
 -- universe of the lists, and 0 (own); `universe` the Universe document of the lists, and 0 (own);
 -- `lint` a line for each finding that is asked for, and 1 if there is one (own); `powers` a line for
--- each step that a user or a group can take, and 0 (own); `diff` a line for each change from the first
+-- each step that a user or a group can take, and 0 (own); `paths` a line for each node that somebody
+-- comes to by the steps that are asked for, and 0 (own); `diff` a line for each change from the first
 -- policy to the second, and 1 if there is one (own)
 abbrev pub Answers : Exports → Action → List ℕ → Status → Type 0
 Answers (Single l) (CanI who quiet why q) text status =
@@ -145,6 +152,9 @@ Answers (Single l) (Lint only skip_system) text status =
     × (text ≡ findings_text found) × (status ≡ findings_status found)
 Answers (Single l) Powers text status =
     (xs : List PowerView) × ArePowers l.policy xs × (text ≡ powers_text xs) × (status ≡ Zero)
+Answers (Single l) (Paths who steps) text status =
+    (xs : List PathView) × ArePathsOf l.policy l.principals (vec_items steps) who xs
+    × (text ≡ paths_text xs) × (status ≡ Zero)
 Answers (Pair before after) (Diff n change) text status =
     (xs : List ChangeView) × AreChanges before after xs
     × (text ≡ changes_text xs) × (status ≡ changes_status xs)

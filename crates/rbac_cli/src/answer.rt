@@ -11,6 +11,7 @@ use crate::lint::print_findings;
 use crate::matrix::print_matrix;
 use crate::outcome::Status;
 use crate::output::Output;
+use crate::paths::print_paths;
 use crate::powers::print_powers;
 use crate::rules::print_rules;
 use crate::stop::Stop;
@@ -62,6 +63,9 @@ pub(crate) fn print_answer<W: Write + Drop>(
             print_findings(alloc, export, only, *skip_system, output)
         }
         Action::Powers => print_powers(alloc, export, output),
+        Action::Paths { principal, steps } => {
+            print_paths(alloc, export, principal, steps.as_slice(), output)
+        }
         Action::Diff { .. } => unreachable!(),
     }
 }

@@ -16,6 +16,7 @@ mod meaning;
 mod outcome;
 mod output;
 mod pages;
+mod paths;
 mod powers;
 mod row_ends;
 mod rows_left;
@@ -31,7 +32,7 @@ pub use rbac_command::{UsageFault, command_of};
 pub use rbac_manifest::{At, Cause, LoadFault};
 pub use rbac_question::{
     Action, Asked, AskedFor, Change, Command, HolderOptions, MatrixOptions, Question,
-    QuestionFault, Scope,
+    QuestionFault, Scope, Step,
 };
 pub use rbac_streams::{
     Failed, Input, InputFault, Sink, Source, read_file, read_input, read_slice,

@@ -5,41 +5,45 @@ use Rattle.std.specs.Str.{bytes_eq}
 use Rattle.std.proofs.lemmas.Slice.Eq.{bytes_eq-Decides}
 use Rattle.clap.specs.Words.{Row, Text, first_of}
 use Rattle.rbac_question.specs.Lines.{CanIParts, WhoCanParts, RulesParts, MatrixParts, LintParts, MeansCanI, MeansWhoCan, MeansRules, MeansMatrix, MeansLint, MeansDiff, AcceptsCanI, AcceptsQuestion, RefusesCanI, RefusesQuestion, RefusesRules, RefusesMatrix, RefusesLint, RefusesDiff, HasBadToken, IsMarkGiven}
+use Rattle.rbac_question.specs.PathsLines.{PathsParts, MeansPaths, RefusesPaths}
 use Rattle.rbac_question.specs.declared.command.Action.{Action}
-use Rattle.rbac_question.specs.declared.command.Action.TheVariants.{CanI, WhoCan, Rules, Matrix, Universe, Lint, Powers, Diff}
+use Rattle.rbac_question.specs.declared.command.Action.TheVariants.{CanI, WhoCan, Rules, Matrix, Universe, Lint, Powers, Paths, Diff}
 use Rattle.rbac_question.specs.declared.fault.QuestionFault.{QuestionFault}
-use Rattle.rbac_question.specs.declared.fault.QuestionFault.TheVariants.{EmptyWord, UrlSubresource, BadToken, BadPrincipal, BadCode, BadChange, NoMemory}
+use Rattle.rbac_question.specs.declared.fault.QuestionFault.TheVariants.{EmptyWord, UrlSubresource, BadToken, BadPrincipal, BadCode, BadChange, BadStep, NoMemory}
 use Rattle.rbac_question.specs.declared.line.DiffLine.{DiffLine}
 use Rattle.rbac_command.specs.MatrixOptions.{matrix_options_in}
-use Rattle.rbac_command.specs.Meaning.{question_in, parts_in, who_can_in, rules_line_in, lint_in, diff_in, is_known, DoesAction, IsNumberAt, RefusesAction}
+use Rattle.rbac_command.specs.Meaning.{question_in, parts_in, who_can_in, rules_line_in, paths_line_in, lint_in, diff_in, is_known, DoesAction, IsNumberAt, RefusesAction}
 
-first_of_eight : (a b c d e f g h : Bool) → a || (b || (c || (d || (e || (f || (g || h)))))) ≡ true
-    → b ≡ false → c ≡ false → d ≡ false → e ≡ false → f ≡ false → g ≡ false → h ≡ false → a ≡ true
-first_of_eight true b c d e f g h i j k l m n o p = refl
-first_of_eight false true c d e f g h i j k l m n o p = cc
-first_of_eight false false true d e f g h i j k l m n o p = cc
-first_of_eight false false false true e f g h i j k l m n o p = cc
-first_of_eight false false false false true f g h i j k l m n o p = cc
-first_of_eight false false false false false true g h i j k l m n o p = cc
-first_of_eight false false false false false false true h i j k l m n o p = cc
-first_of_eight false false false false false false false true i j k l m n o p = cc
-first_of_eight false false false false false false false false i j k l m n o p = cc
+first_of_nine : (a b c d e f g h i : Bool) → a || (b || (c || (d || (e || (f || (g || (h || i))))))) ≡ true
+    → b ≡ false → c ≡ false → d ≡ false → e ≡ false → f ≡ false → g ≡ false → h ≡ false → i ≡ false → a ≡ true
+first_of_nine true b c d e f g h i j k l m n o p q r = refl
+first_of_nine false true c d e f g h i j k l m n o p q r = cc
+first_of_nine false false true d e f g h i j k l m n o p q r = cc
+first_of_nine false false false true e f g h i j k l m n o p q r = cc
+first_of_nine false false false false true f g h i j k l m n o p q r = cc
+first_of_nine false false false false false true g h i j k l m n o p q r = cc
+first_of_nine false false false false false false true h i j k l m n o p q r = cc
+first_of_nine false false false false false false false true i j k l m n o p q r = cc
+first_of_nine false false false false false false false false true j k l m n o p q r = cc
+first_of_nine false false false false false false false false false j k l m n o p q r = cc
 
 -- a known name that is none of the others is `can-i`
-pub the_other : (name : Text) (is_matrix is_who_can is_rules is_universe is_lint is_powers is_diff : Bool) → is_known name ≡ true
+pub the_other : (name : Text) (is_matrix is_who_can is_rules is_universe is_lint is_powers is_paths is_diff : Bool) → is_known name ≡ true
     → is_matrix ≡ bytes_eq name (codes "matrix") → is_matrix ≡ false
     → is_who_can ≡ bytes_eq name (codes "who-can") → is_who_can ≡ false
     → is_rules ≡ bytes_eq name (codes "rules") → is_rules ≡ false
     → is_universe ≡ bytes_eq name (codes "universe") → is_universe ≡ false
     → is_lint ≡ bytes_eq name (codes "lint") → is_lint ≡ false
     → is_powers ≡ bytes_eq name (codes "powers") → is_powers ≡ false
+    → is_paths ≡ bytes_eq name (codes "paths") → is_paths ≡ false
     → is_diff ≡ bytes_eq name (codes "diff") → is_diff ≡ false
     → name ≡ codes "can-i"
-the_other name is_matrix is_who_can is_rules is_universe is_lint is_powers is_diff known m no_matrix w no_who_can r no_rules u no_universe l no_lint p no_powers d no_diff =
+the_other name is_matrix is_who_can is_rules is_universe is_lint is_powers is_paths is_diff known m no_matrix w no_who_can r no_rules u no_universe l no_lint p no_powers a no_paths d no_diff =
     (bytes_eq-Decides name (codes "can-i")).0
-    (first_of_eight (bytes_eq name (codes "can-i")) (bytes_eq name (codes "who-can")) (bytes_eq name (codes "rules")) (bytes_eq name (codes "matrix"))
-    (bytes_eq name (codes "universe")) (bytes_eq name (codes "lint")) (bytes_eq name (codes "powers")) (bytes_eq name (codes "diff")) known (sym w ∙ no_who_can) (sym r ∙ no_rules)
-    (sym m ∙ no_matrix) (sym u ∙ no_universe) (sym l ∙ no_lint) (sym p ∙ no_powers) (sym d ∙ no_diff))
+    (first_of_nine (bytes_eq name (codes "can-i")) (bytes_eq name (codes "who-can")) (bytes_eq name (codes "rules")) (bytes_eq name (codes "matrix"))
+    (bytes_eq name (codes "universe")) (bytes_eq name (codes "lint")) (bytes_eq name (codes "powers")) (bytes_eq name (codes "paths"))
+    (bytes_eq name (codes "diff")) known (sym w ∙ no_who_can) (sym r ∙ no_rules)
+    (sym m ∙ no_matrix) (sym u ∙ no_universe) (sym l ∙ no_lint) (sym p ∙ no_powers) (sym a ∙ no_paths) (sym d ∙ no_diff))
 
 as_can_i : (name : Text) (rows : List Row) (r : Result Action QuestionFault) → name ≡ codes "can-i"
     → MatchResult r (λ a. AcceptsCanI (parts_in rows) × MeansCanI (parts_in rows) a) (RefusesCanI (parts_in rows))
@@ -51,6 +55,7 @@ as_can_i name rows (Ok (Matrix options after limit)) e h = absurd h.1
 as_can_i name rows (Ok (Lint only skip_system)) e h = absurd h.1
 as_can_i name rows (Ok Universe) e h = absurd h.1
 as_can_i name rows (Ok Powers) e h = absurd h.1
+as_can_i name rows (Ok (Paths principal chosen)) e h = absurd h.1
 as_can_i name rows (Ok (Diff before change)) e h = absurd h.1
 as_can_i name rows (Err EmptyWord) e h = inl (e, h)
 as_can_i name rows (Err UrlSubresource) e h = inl (e, h)
@@ -58,6 +63,7 @@ as_can_i name rows (Err BadToken) e h = absurd h
 as_can_i name rows (Err BadPrincipal) e h = absurd h
 as_can_i name rows (Err BadCode) e h = absurd h
 as_can_i name rows (Err BadChange) e h = absurd h
+as_can_i name rows (Err BadStep) e h = absurd h
 as_can_i name rows (Err NoMemory) e h = tt
 
 pub can_i_line : (name : Text) (rows : List Row) (l : CanIParts) (r : Result Action QuestionFault) → name ≡ codes "can-i" → l ≡ parts_in rows
@@ -76,6 +82,7 @@ as_who_can name rows (Ok (Matrix options after limit)) e h = absurd h.1
 as_who_can name rows (Ok (Lint only skip_system)) e h = absurd h.1
 as_who_can name rows (Ok Universe) e h = absurd h.1
 as_who_can name rows (Ok Powers) e h = absurd h.1
+as_who_can name rows (Ok (Paths principal chosen)) e h = absurd h.1
 as_who_can name rows (Ok (Diff before change)) e h = absurd h.1
 as_who_can name rows (Err EmptyWord) e h = inr (e, h)
 as_who_can name rows (Err UrlSubresource) e h = inr (e, h)
@@ -83,6 +90,7 @@ as_who_can name rows (Err BadToken) e h = absurd h
 as_who_can name rows (Err BadPrincipal) e h = absurd h
 as_who_can name rows (Err BadCode) e h = absurd h
 as_who_can name rows (Err BadChange) e h = absurd h
+as_who_can name rows (Err BadStep) e h = absurd h
 as_who_can name rows (Err NoMemory) e h = tt
 
 pub who_can_line : (name : Text) (rows : List Row) (l : WhoCanParts) (r : Result Action QuestionFault) → name ≡ codes "who-can" → l ≡ who_can_in rows
@@ -101,13 +109,15 @@ as_rules name rows (Ok (Matrix options after limit)) e h = absurd h
 as_rules name rows (Ok (Lint only skip_system)) e h = absurd h
 as_rules name rows (Ok Universe) e h = absurd h
 as_rules name rows (Ok Powers) e h = absurd h
+as_rules name rows (Ok (Paths principal chosen)) e h = absurd h
 as_rules name rows (Ok (Diff before change)) e h = absurd h
 as_rules name rows (Err EmptyWord) e h = absurd h
 as_rules name rows (Err UrlSubresource) e h = absurd h
 as_rules name rows (Err BadToken) e h = absurd h
-as_rules name rows (Err BadPrincipal) e h = (e, h)
+as_rules name rows (Err BadPrincipal) e h = (inl e, h)
 as_rules name rows (Err BadCode) e h = absurd h
 as_rules name rows (Err BadChange) e h = absurd h
+as_rules name rows (Err BadStep) e h = absurd h
 as_rules name rows (Err NoMemory) e h = tt
 
 pub rules_line : (name : Text) (rows : List Row) (l : RulesParts) (r : Result Action QuestionFault) → name ≡ codes "rules" → l ≡ rules_line_in rows
@@ -115,6 +125,33 @@ pub rules_line : (name : Text) (rows : List Row) (l : RulesParts) (r : Result Ac
     → MatchResult r (DoesAction name rows) (RefusesAction name rows)
 rules_line name rows l r e same h =
     as_rules name rows r e (subst (λ (parts : RulesParts). MatchResult r (MeansRules parts) (RefusesRules parts)) same h)
+
+as_paths : (name : Text) (rows : List Row) (r : Result Action QuestionFault) → name ≡ codes "paths"
+    → MatchResult r (MeansPaths (paths_line_in rows)) (RefusesPaths (paths_line_in rows))
+    → MatchResult r (DoesAction name rows) (RefusesAction name rows)
+as_paths name rows (Ok (CanI principal quiet why question)) e h = absurd h
+as_paths name rows (Ok (WhoCan options question)) e h = absurd h
+as_paths name rows (Ok (Rules principal scope)) e h = absurd h
+as_paths name rows (Ok (Matrix options after limit)) e h = absurd h
+as_paths name rows (Ok (Lint only skip_system)) e h = absurd h
+as_paths name rows (Ok Universe) e h = absurd h
+as_paths name rows (Ok Powers) e h = absurd h
+as_paths name rows (Ok (Paths principal chosen)) e h = (e, h)
+as_paths name rows (Ok (Diff before change)) e h = absurd h
+as_paths name rows (Err EmptyWord) e h = absurd h
+as_paths name rows (Err UrlSubresource) e h = absurd h
+as_paths name rows (Err BadToken) e h = absurd h
+as_paths name rows (Err BadPrincipal) e h = (inr e, h)
+as_paths name rows (Err BadCode) e h = absurd h
+as_paths name rows (Err BadChange) e h = absurd h
+as_paths name rows (Err BadStep) e h = (e, h)
+as_paths name rows (Err NoMemory) e h = tt
+
+pub paths_line : (name : Text) (rows : List Row) (l : PathsParts) (r : Result Action QuestionFault) → name ≡ codes "paths" → l ≡ paths_line_in rows
+    → MatchResult r (MeansPaths l) (RefusesPaths l)
+    → MatchResult r (DoesAction name rows) (RefusesAction name rows)
+paths_line name rows l r e same h =
+    as_paths name rows r e (subst (λ (parts : PathsParts). MatchResult r (MeansPaths parts) (RefusesPaths parts)) same h)
 
 as_lint : (name : Text) (rows : List Row) (r : Result Action QuestionFault) → name ≡ codes "lint"
     → MatchResult r (MeansLint (lint_in rows)) (RefusesLint (lint_in rows))
@@ -126,6 +163,7 @@ as_lint name rows (Ok (Matrix options after limit)) e h = absurd h
 as_lint name rows (Ok (Lint only skip_system)) e h = (e, h)
 as_lint name rows (Ok Universe) e h = absurd h
 as_lint name rows (Ok Powers) e h = absurd h
+as_lint name rows (Ok (Paths principal chosen)) e h = absurd h
 as_lint name rows (Ok (Diff before change)) e h = absurd h
 as_lint name rows (Err EmptyWord) e h = absurd h
 as_lint name rows (Err UrlSubresource) e h = absurd h
@@ -133,6 +171,7 @@ as_lint name rows (Err BadToken) e h = absurd h
 as_lint name rows (Err BadPrincipal) e h = absurd h
 as_lint name rows (Err BadCode) e h = (e, h)
 as_lint name rows (Err BadChange) e h = absurd h
+as_lint name rows (Err BadStep) e h = absurd h
 as_lint name rows (Err NoMemory) e h = tt
 
 pub lint_line : (name : Text) (rows : List Row) (l : LintParts) (r : Result Action QuestionFault) → name ≡ codes "lint" → l ≡ lint_in rows
@@ -153,6 +192,7 @@ matrix_line name rows l (Ok (Matrix options after limit)) e v f n h =
 matrix_line name rows l (Ok (Lint only skip_system)) e v f n h = absurd h
 matrix_line name rows l (Ok Universe) e v f n h = absurd h
 matrix_line name rows l (Ok Powers) e v f n h = absurd h
+matrix_line name rows l (Ok (Paths principal chosen)) e v f n h = absurd h
 matrix_line name rows l (Ok (Diff before change)) e v f n h = absurd h
 matrix_line name rows l (Err EmptyWord) e v f n h = absurd h
 matrix_line name rows l (Err UrlSubresource) e v f n h = absurd h
@@ -160,6 +200,7 @@ matrix_line name rows l (Err BadToken) e v f n h = (e, subst HasBadToken f h)
 matrix_line name rows l (Err BadPrincipal) e v f n h = absurd h
 matrix_line name rows l (Err BadCode) e v f n h = absurd h
 matrix_line name rows l (Err BadChange) e v f n h = absurd h
+matrix_line name rows l (Err BadStep) e v f n h = absurd h
 matrix_line name rows l (Err NoMemory) e v f n h = tt
 
 as_diff : (name : Text) (rows : List Row) (r : Result Action QuestionFault) → name ≡ codes "diff"
@@ -171,6 +212,7 @@ as_diff name rows (Ok (Rules principal scope)) e h = absurd h
 as_diff name rows (Ok (Matrix options after limit)) e h = absurd h
 as_diff name rows (Ok Universe) e h = absurd h
 as_diff name rows (Ok Powers) e h = absurd h
+as_diff name rows (Ok (Paths principal chosen)) e h = absurd h
 as_diff name rows (Ok (Lint only skip_system)) e h = absurd h
 as_diff name rows (Ok (Diff before change)) e h = (e, h)
 as_diff name rows (Err EmptyWord) e h = absurd h
@@ -179,6 +221,7 @@ as_diff name rows (Err BadToken) e h = absurd h
 as_diff name rows (Err BadPrincipal) e h = absurd h
 as_diff name rows (Err BadCode) e h = absurd h
 as_diff name rows (Err BadChange) e h = (e, h)
+as_diff name rows (Err BadStep) e h = absurd h
 as_diff name rows (Err NoMemory) e h = tt
 
 pub diff_line : (name : Text) (rows : List Row) (l : DiffLine) (r : Result Action QuestionFault) → name ≡ codes "diff" → l ≡ diff_in rows

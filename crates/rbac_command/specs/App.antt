@@ -91,6 +91,10 @@ limit_rule = record (new_rule (codes "limit")) {
 abbrev pub only_rule : Rule
 only_rule = record (new_rule (codes "only")) { long = Some (codes "only"); value_names = 1 }
 
+-- `--steps STEPS`
+abbrev pub steps_rule : Rule
+steps_rule = record (new_rule (codes "steps")) { long = Some (codes "steps"); value_names = 1 }
+
 -- `--skip-system`
 abbrev pub skip_system_rule : Rule
 skip_system_rule = flag_rule (codes "skip-system")
@@ -138,6 +142,10 @@ with_scope a =
 abbrev pub with_question : App → App
 with_question a = with_rule (with_rule (with_rule a verb_rule) target_rule) files_rule
 
+-- who is asked about, and of which files
+abbrev pub with_who : App → App
+with_who a = with_rule (with_rule a who_rule) files_rule
+
 -- can-i --as USER [--groups A,B] [--group G].. [-n NS] [-A] [--in-namespace] [--subresource S] [-q]
 -- [--why] VERB TARGET [FILE]..
 abbrev pub can_i_app : App
@@ -154,10 +162,8 @@ who_can_app = with_question (with_holder_options (with_scope (new_app (codes "wh
 -- rules [--groups A,B] [--group G].. [-n NS] [-A] WHO [FILE]..
 abbrev pub rules_app : App
 rules_app =
-    with_rule (with_rule
-    (with_rule (with_rule
-    (with_groups (new_app (codes "rules"))) namespace_rule) all_rule) who_rule)
-    files_rule
+    with_who (with_rule
+    (with_rule (with_groups (new_app (codes "rules"))) namespace_rule) all_rule)
 
 -- matrix [--every] [--once] [--after TOKEN] [--limit N] [FILE]..
 abbrev pub matrix_app : App
@@ -179,6 +185,10 @@ lint_app =
 -- powers [FILE]..
 abbrev pub powers_app : App
 powers_app = with_rule (new_app (codes "powers")) files_rule
+
+-- paths [--groups A,B] [--group G].. [--steps STEPS] WHO [FILE]..
+abbrev pub paths_app : App
+paths_app = with_who (with_rule (with_groups (new_app (codes "paths"))) steps_rule)
 
 -- diff --before FILE.. [--after FILE..] [--without FILE..] [--with FILE..]
 abbrev pub diff_app : App
@@ -205,6 +215,6 @@ bare_app = as_program (new_app (codes "rbacaudit"))
 unfoldable pub rbac_app : App
 rbac_app =
     with_subcommand (with_subcommand (with_subcommand (with_subcommand
-    (with_subcommand (with_subcommand
+    (with_subcommand (with_subcommand (with_subcommand
     (with_subcommand (with_subcommand bare_app can_i_app.top) who_can_app.top) rules_app.top)
-    matrix_app.top) universe_app.top) lint_app.top) powers_app.top) diff_app.top
+    matrix_app.top) universe_app.top) lint_app.top) powers_app.top) paths_app.top) diff_app.top

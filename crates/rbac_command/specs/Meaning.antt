@@ -6,13 +6,16 @@ use Rattle.std.specs.Str.{bytes_eq}
 use Rattle.std.specs.Str.Parse.{IsNumeral, without_leading_plus, digits_value}
 use Rattle.clap.specs.Words.{Row, Text, fault_of, first_of, kind_of, one_of, subcommand_of}
 use Rattle.clap.specs.Kinds.{IsAmong}
-use Rattle.rbac_question.specs.Lines.{QuestionParts, CanIParts, WhoCanParts, RulesParts, LintParts}
+use Rattle.rbac_question.specs.Lines.{QuestionParts, CanIParts, WhoCanParts, WhoParts}
+use Rattle.rbac_question.specs.Lines.{RulesParts, LintParts}
 use Rattle.rbac_question.specs.Lines.{MeansCanI, MeansWhoCan, MeansRules, MeansLint, AcceptsCanI}
 use Rattle.rbac_question.specs.Lines.{AcceptsQuestion, RefusesCanI, RefusesQuestion, HasBadToken}
 use Rattle.rbac_question.specs.Lines.{HasBadPrincipal, HasBadCode, HasBadChange, IsMarkGiven, MeansDiff}
+use Rattle.rbac_question.specs.PathsLines.{PathsParts, MeansPaths, RefusesPaths}
 use Rattle.rbac_question.specs.declared.command.Action.{Action}
 use Rattle.rbac_question.specs.declared.command.Action.TheVariants.{CanI, WhoCan, Rules, Matrix}
-use Rattle.rbac_question.specs.declared.command.Action.TheVariants.{Universe, Lint, Powers, Diff}
+use Rattle.rbac_question.specs.declared.command.Action.TheVariants.{Universe, Lint, Powers, Paths}
+use Rattle.rbac_question.specs.declared.command.Action.TheVariants.{Diff}
 use Rattle.rbac_question.specs.declared.command.Command.{Command}
 use Rattle.rbac_question.specs.declared.fault.QuestionFault.{QuestionFault}
 use Rattle.rbac_question.specs.declared.fault.QuestionFault.TheVariants as question
@@ -64,15 +67,25 @@ parts_in rows = record {
 abbrev pub who_can_in : List Row → WhoCanParts
 who_can_in rows = record { options = holder_options_in rows; question = question_in rows }
 
+-- the parts of a line that name somebody
+abbrev pub who_in : List Row → WhoParts
+who_in rows = record {
+  key = value_at (codes "who") rows;
+  groups = value_at (codes "groups") rows;
+  whole_groups = texts_at (codes "group") rows;
+}
+
 -- the parts of a `rules` line
 abbrev pub rules_line_in : List Row → RulesParts
 rules_line_in rows = record {
-  who = value_at (codes "who") rows;
-  groups = value_at (codes "groups") rows;
-  whole_groups = texts_at (codes "group") rows;
+  who = who_in rows;
   namespace = value_at (codes "namespace") rows;
   all_namespaces = has_flag (codes "all") rows;
 }
+
+-- the parts of a `paths` line
+abbrev pub paths_line_in : List Row → PathsParts
+paths_line_in rows = record { who = who_in rows; steps = first_of (codes "steps") rows }
 
 -- the parts of a `lint` line
 abbrev pub lint_in : List Row → LintParts
@@ -116,7 +129,8 @@ is_known name = bytes_eq name (codes "can-i")
     || (bytes_eq name (codes "matrix")
     || (bytes_eq name (codes "universe")
     || (bytes_eq name (codes "lint")
-    || (bytes_eq name (codes "powers") || bytes_eq name (codes "diff")))))))
+    || (bytes_eq name (codes "powers")
+    || (bytes_eq name (codes "paths") || bytes_eq name (codes "diff"))))))))
 
 -- what the subcommand of that name does, according to its matches
 abbrev pub DoesAction : Text → List Row → Action → Type 0
@@ -135,6 +149,8 @@ DoesAction name rows Universe = name ≡ codes "universe"
 DoesAction name rows (Lint only skip_system) =
     (name ≡ codes "lint") × MeansLint (lint_in rows) (Lint only skip_system)
 DoesAction name rows Powers = name ≡ codes "powers"
+DoesAction name rows (Paths principal chosen) =
+    (name ≡ codes "paths") × MeansPaths (paths_line_in rows) (Paths principal chosen)
 DoesAction name rows (Diff before change) =
     (name ≡ codes "diff") × MeansDiff (diff_in rows) (Diff before change)
 
@@ -151,16 +167,18 @@ Means (Some p) c = MeansRows p.0 p.1 c
 -- ---- refusals
 
 -- the refusal of a subcommand's matches: out of memory may come at any time; besides it, `matrix`
--- has only U4, `rules` only U5, `lint` only U6 and `diff` only U7, no other has these, and `universe`
--- and `powers` have none
+-- has only U4, `rules` only U5, `lint` only U6, `diff` only U7 and `paths` only U5 and U8, no other
+-- has these, and `universe` and `powers` have none
 abbrev pub RefusesAction : Text → List Row → QuestionFault → Type 0
 RefusesAction name rows question.NoMemory = Unit {0}
 RefusesAction name rows question.BadToken = (name ≡ codes "matrix")
     × HasBadToken (first_of (codes "after") rows)
-RefusesAction name rows question.BadPrincipal = (name ≡ codes "rules")
-    × HasBadPrincipal (rules_line_in rows)
+RefusesAction name rows question.BadPrincipal = ((name ≡ codes "rules") ⊎ (name ≡ codes "paths"))
+    × HasBadPrincipal (who_in rows)
 RefusesAction name rows question.BadCode = (name ≡ codes "lint")
     × HasBadCode (first_of (codes "only") rows)
+RefusesAction name rows question.BadStep = (name ≡ codes "paths")
+    × RefusesPaths (paths_line_in rows) question.BadStep
 RefusesAction name rows question.BadChange = (name ≡ codes "diff") × HasBadChange (diff_in rows)
 RefusesAction name rows e = ((name ≡ codes "can-i") × RefusesCanI (parts_in rows) e)
     ⊎ ((name ≡ codes "who-can") × RefusesQuestion (question_in rows) e)

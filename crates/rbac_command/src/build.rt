@@ -11,7 +11,7 @@ ghost use Rattle.rbac_command.specs.App.{group_rule, in_namespace_rule, only_rul
 ghost use Rattle.rbac_command.specs.App.{with_scope, with_question, can_i_app, who_can_app};
 ghost use Rattle.rbac_command.specs.App.{rules_app, matrix_app, universe_app, lint_app, bare_app};
 ghost use Rattle.rbac_command.specs.App.{rbac_app, before_files_rule, after_files_rule, diff_app};
-ghost use Rattle.rbac_command.specs.App.{powers_app};
+ghost use Rattle.rbac_command.specs.App.{powers_app, paths_app, steps_rule, with_who};
 ghost use Rattle.rbac_command.specs.App.{without_files_rule, with_files_rule, skip_system_rule};
 ghost use Rattle.rbac_command.specs.Flags.{flag_rule};
 
@@ -158,6 +158,25 @@ exit status is 0 even if there is no line; 2 is an error.
 Examples:
   rbacaudit powers cluster.json namespaced.json
   rbacaudit powers *.json | grep '^secrets'";
+
+const PATHS_MORE: &str = "A line has eleven fields, joined by tabs:
+  STEPS    the least number of steps that lead from WHO to TO
+  TO       u:USER, g:GROUP, a role that can be bound, or * for everything
+  WHERE    where the role or * counts: a namespace, or * for the whole cluster; - for u: and g:
+  FROM     the one before TO on the way: WHO, or the TO of a line above
+  WHERE    where FROM counts
+  STEP     how FROM takes over TO, as in powers --help
+  BINDING  the first binding that grants FROM this
+  ROLE     the role that the binding names
+  SOURCE   the role that contains the rule: ROLE, or a role that an aggregated ROLE gathers
+  RULE     the number of the rule in SOURCE, from 1
+  SUBJECT  the number of the first subject in BINDING that is FROM or a group of it, from 1
+If FROM is a role, BINDING and SUBJECT are -; if it is *, all five are. Follow FROM upwards to WHO.
+
+WHO is as in rules --help. The exit status is 0 even if there is no line; 2 is an error.
+
+Example:
+  rbacaudit paths --steps run,exec,impersonate u:alice cluster.json namespaced.json";
 
 const DIFF_MORE: &str = "A line has eight fields, joined by tabs; - is an empty field:
   CHANGE     + for what the change allows, - for what it takes away
@@ -407,6 +426,18 @@ fn only_arg<'a>(alloc: Global) -> Arg<'a>
     )
 }
 
+fn steps_arg<'a>(alloc: Global) -> Arg<'a>
+    ensures rule { rule_of result ≡ steps_rule }
+    ensures local { result.global ≡ false }
+{
+    option(
+        alloc,
+        "steps",
+        "STEPS",
+        "Only these steps count, e.g. run,exec (default: all of powers)",
+    )
+}
+
 fn skip_system_arg<'a>(alloc: Global) -> Arg<'a>
     ensures rule { rule_of result ≡ skip_system_rule }
     ensures local { result.global ≡ false }
@@ -519,6 +550,15 @@ fn with_question<'a>(alloc: Global, command: Built<'a>) -> Built<'a>
     with(command, files_arg(alloc))
 }
 
+fn with_who<'a>(alloc: Global, command: Built<'a>) -> Built<'a>
+    requires { IfOk command (λ c. (fields_of c).has_globals ≡ false) }
+    ensures app { IfOk result (λ r. IsOkAnd command.entry (λ c. app_of r ≡ with_who (app_of c))) }
+    ensures local { IfOk result (λ r. (fields_of r).has_globals ≡ false) }
+{
+    let command = with(command, who_arg(alloc));
+    with(command, files_arg(alloc))
+}
+
 // A command with this name and no arguments, whose help ends with `more`.
 fn named<'a>(alloc: Global, name: &'a str, about: &'a str, more: &'a str) -> Command<'a>
     ensures app { app_of result ≡ new_app name.entry.now }
@@ -573,8 +613,7 @@ fn rules<'a>(alloc: Global) -> Built<'a>
     let command = with_groups(alloc, Ok(command));
     let command = with(command, namespace_arg(alloc, RULES_NAMESPACE));
     let command = with(command, all_arg(alloc, RULES_ALL));
-    let command = with(command, who_arg(alloc));
-    with(command, files_arg(alloc))
+    with_who(alloc, command)
 }
 
 fn matrix<'a>(alloc: Global) -> Built<'a>
@@ -632,6 +671,21 @@ fn powers<'a>(alloc: Global) -> Built<'a>
         POWERS_MORE,
     );
     with(Ok(command), files_arg(alloc))
+}
+
+fn paths<'a>(alloc: Global) -> Built<'a>
+    ensures app { IfOk result (λ r. app_of r ≡ paths_app) }
+    ensures local { IfOk result (λ r. (fields_of r).has_globals ≡ false) }
+{
+    let command = named(
+        alloc,
+        "paths",
+        "List what WHO can come to: each user, group and role it can take over, step by step",
+        PATHS_MORE,
+    );
+    let command = with_groups(alloc, Ok(command));
+    let command = with(command, steps_arg(alloc));
+    with_who(alloc, command)
 }
 
 fn diff<'a>(alloc: Global) -> Built<'a>
@@ -696,5 +750,6 @@ pub(crate) fn program<'a>(alloc: Global) -> Result<Command<'a>, AllocError>
     let command = with_sub(command, universe(alloc))?;
     let command = with_sub(command, lint(alloc))?;
     let command = with_sub(command, powers(alloc))?;
+    let command = with_sub(command, paths(alloc))?;
     with_sub(command, diff(alloc))
 }

@@ -10,6 +10,6 @@ mod read;
 pub use fault::UsageFault;
 pub use rbac_question::{
     Action, Asked, AskedFor, Change, Command, HolderOptions, MatrixOptions, Question,
-    QuestionFault, Scope,
+    QuestionFault, Scope, Step,
 };
 pub use read::command_of;

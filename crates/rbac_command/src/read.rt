@@ -11,7 +11,7 @@ ghost use Rattle.rbac_command.specs.MatrixOptions.{matrix_options_in};
 ghost use Rattle.rbac_command.specs.Meaning.{IsNumberAt, files_in, diff_files_in, question_in};
 ghost use Rattle.rbac_command.specs.Meaning.{parts_in, is_known, DoesAction, RefusesAction, Means};
 ghost use Rattle.rbac_command.specs.Meaning.{IsCauseOf, IsUsageFault, IsAnswer, who_can_in};
-ghost use Rattle.rbac_command.specs.Meaning.{rules_line_in};
+ghost use Rattle.rbac_command.specs.Meaning.{who_in, rules_line_in, paths_line_in};
 ghost use Rattle.rbac_command.specs.Meaning.{lint_in, diff_in};
 ghost use Rattle.rbac_command.specs.Values.{value_at, has_flag, texts_at};
 
@@ -22,8 +22,8 @@ use crate::matrix_options::matrix_options_of;
 use clap::ArgMatches;
 use clap::error::ErrorKind;
 use rbac_question::{
-    Action, CanILine, Command, DiffLine, LintLine, MatrixLine, QuestionFault, QuestionLine,
-    RulesLine, WhoCanLine,
+    Action, CanILine, Command, DiffLine, LintLine, MatrixLine, PathsLine, QuestionFault,
+    QuestionLine, RulesLine, WhoCanLine, WhoLine,
 };
 use std::alloc::{AllocError, Global};
 
@@ -93,21 +93,41 @@ fn who_can_line_of<'a>(matches: &ArgMatches<'a>) -> WhoCanLine<'a>
     }
 }
 
+// The parts of a line that name somebody.
+fn who_line_of<'m, 'a>(matches: &'m ArgMatches<'a>) -> WhoLine<'m, 'a>
+    ensures { result ≡ who_in (rows_of (found_of matches.now)) }
+{
+    let key = text_of(matches, "who");
+    let groups = text_of(matches, "groups");
+    let whole_groups = values_of(matches, "group");
+    WhoLine {
+        key,
+        groups,
+        whole_groups,
+    }
+}
+
 // The parts of a `rules` line.
 fn rules_line_of<'m, 'a>(matches: &'m ArgMatches<'a>) -> RulesLine<'m, 'a>
     ensures { result ≡ rules_line_in (rows_of (found_of matches.now)) }
 {
-    let who = text_of(matches, "who");
-    let groups = text_of(matches, "groups");
-    let whole_groups = values_of(matches, "group");
+    let who = who_line_of(matches);
     let namespace = text_of(matches, "namespace");
     let all_namespaces = flag_of(matches, "all");
     RulesLine {
         who,
-        groups,
-        whole_groups,
         namespace,
         all_namespaces,
+    }
+}
+
+// The parts of a `paths` line.
+fn paths_line_of<'m, 'a>(matches: &'m ArgMatches<'a>) -> PathsLine<'m, 'a>
+    ensures { result ≡ paths_line_in (rows_of (found_of matches.now)) }
+{
+    PathsLine {
+        who: who_line_of(matches),
+        steps: value_of(matches, "steps"),
     }
 }
 
@@ -250,6 +270,9 @@ fn action_of(alloc: Global, name: &str, matches: &ArgMatches<'_>) -> Result<Acti
     if name == "powers" {
         return Ok(Action::Powers);
     }
+    if name == "paths" {
+        return Action::paths(alloc, &paths_line_of(matches));
+    }
     if name == "diff" {
         return Action::diff(&diff_line_of(matches));
     }
@@ -281,7 +304,7 @@ fn meaning_of(alloc: Global, matches: &ArgMatches<'_>) -> Result<Command, Questi
 
 /// The command that the words mean; the first word is the program's name.
 ///
-/// U1 if `clap` refuses the words, or help or the version is asked for, then U2 to U7.
+/// U1 if `clap` refuses the words, or help or the version is asked for, then U2 to U8.
 pub fn command_of(alloc: Global, words: &[String]) -> Result<Command, UsageFault>
     ensures { IsAnswer (map string_bytes words.now) result }
 {

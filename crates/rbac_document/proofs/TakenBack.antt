@@ -127,6 +127,7 @@ taken_back inputs l lists is can =
       kept = rw objects is.kept;
       policy = is.policy;
       few = is.few;
+      principals = is.principals ∙ sym (ap (principals_of l.policy.held) accounts);
       catalogue = is.catalogue ∙ sym (λ i. record { is_given = is_given i; entries = entries i });
       lists = rw documents (sym (all_given l.policy.held l.catalogue (namespaces_in (all_contents (inputs ++ text ∷ []))) (accounts_in (all_contents (inputs ++ text ∷ []))) (documents_in gs) lists));
       replaced = rw (objects, namespaces, accounts) is.replaced;

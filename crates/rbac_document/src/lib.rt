@@ -9,4 +9,4 @@ mod quoted;
 
 pub use document::put_document;
 pub use laws::{documents_are_one, documents_are_taken_back, once_each_is_the_same_universe};
-pub use order::once_each;
+pub use order::{once_each, principals_once_each};

@@ -4,9 +4,10 @@ ghost use Rattle.std.specs.Prelude.{◌≡◌, IfOk, List};
 ghost use Rattle.rbac_terms.specs.Text.{Text};
 ghost use Rattle.rbac_model.specs.Lists.{by_name, IsOnceEach};
 ghost use Rattle.rbac_document.specs.Document.{AreOnceEach};
+ghost use Rattle.rbac_document.specs.Names.{principal_name};
 
 use rbac_terms::{Items, Principal, Word};
-use rbac_universe::{ListedResource, UniverseLists};
+use rbac_universe::{ListedResource, Principals, UniverseLists};
 use std::alloc::AllocError;
 use std::cmp::Ordering;
 
@@ -86,13 +87,21 @@ pub fn once_each(lists: UniverseLists) -> Result<UniverseLists, AllocError>
         urls,
     } = lists;
     Ok(UniverseLists {
-        principals: in_order(principals)?,
+        principals: principals_once_each(principals)?,
         namespaces: in_order(namespaces)?,
         verbs: in_order(verbs)?,
         resources: in_order(resources)?,
         names: in_order(names)?,
         urls: in_order(urls)?,
     })
+}
+
+/// The same principals, each once, by key and then by the groups given (own). Fails only if it runs
+/// out of memory.
+pub fn principals_once_each(principals: Principals) -> Result<Principals, AllocError>
+    ensures { IfOk result (IsOnceEach (by_name principal_name) principals) }
+{
+    in_order(principals)
 }
 
 // The entries of a list, each once and in order.

@@ -1,2 +1,3 @@
 pub mod LastGiven
+pub mod NoGroups
 pub mod Walks

@@ -1,7 +1,8 @@
 //! The lists that are derived from what is kept.
 
-ghost use Rattle.std.specs.Prelude.{◌≡◌, ◌++◌, IfOk, OnOk, map};
+ghost use Rattle.std.specs.Prelude.{◌≡◌, ◌++◌, [], All, IfOk, OnOk, map};
 ghost use Rattle.std.specs.List.{flat_map, filter_map};
+ghost use Rattle.rbac_terms.specs.Principals.{given_of};
 ghost use Rattle.rbac_lists.specs.Derived.{principals_of, namespaces_of, verbs_of, resources_of};
 ghost use Rattle.rbac_lists.specs.Derived.{names_of, urls_of, listed};
 
@@ -15,13 +16,16 @@ use rbac_terms::{Binding, Role, Word, Words};
 use rbac_universe::{ListedResource, ListedResources, Principals};
 use std::alloc::{AllocError, Global};
 
-// The principals that bindings name, and the users of service accounts.
-pub(crate) fn principals_of(
+/// The principals that bindings name, and the users of service accounts, as they come: one is listed
+/// as often as it is named (own). None has groups that it was given. Fails only if it runs out of
+/// memory.
+pub fn principals_of(
     alloc: Global,
     objects: &Objects,
     accounts: &[Account],
 ) -> Result<Principals, AllocError>
-    ensures { IfOk result (λ list. list ≡ principals_of objects.now accounts.now) }
+    ensures list { IfOk result (λ list. list ≡ principals_of objects.now accounts.now) }
+    ensures given { IfOk result (All (λ who. given_of who ≡ [])) }
 {
     let mut principals = Vec::new(alloc);
     for binding in objects.bindings() {

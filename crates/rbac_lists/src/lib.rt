@@ -9,5 +9,6 @@ mod principals;
 mod texts;
 mod universe_lists;
 
+pub use derived_lists::principals_of;
 pub use given_lists::{Account, GivenLists};
 pub use universe_lists::lists_of;

@@ -5,8 +5,10 @@ use Rattle.rbac_model.specs.Kept.{AreKept}
 use Rattle.rbac_model.specs.Policies.{PolicyView, Held, IsHeld, GrantView, AreGrantsOf, OneListOfGrants}
 use Rattle.rbac_catalogue.specs.Catalogue.{CatalogueView}
 use Rattle.rbac_universe.specs.declared.lists.UniverseLists.{UniverseLists}
+use Rattle.rbac_lists.specs.Derived.{principals_of}
 use Rattle.rbac_lists.specs.Meant.{lists_meant}
 use Rattle.rbac_terms.specs.Text.{Text}
+use Rattle.rbac_terms.specs.Principals.{Who}
 use Rattle.rbac_model.proofs.OneList.{one_list}
 use Rattle.rbac_manifest.specs.declared.replacement.Replaced.{Replaced}
 use Rattle.rbac_manifest.specs.Names.{names_given}
@@ -53,17 +55,10 @@ one_policy kept grants objects p q a b =
     let listed : p.grants ≡ q.grants = grants q.held b.policy.0 p.grants q.grants (subst P held a.policy.1) b.policy.1 in
     ap (λ (h : Held). policy_of h p.grants) held ∙ ap (λ (gs : List GrantView). policy_of q.held gs) listed
 
--- a policy, with the catalogue, the lists and what was replaced, determines what is loaded
-loaded_of : PolicyView → CatalogueView → UniverseLists → List Replaced → LoadedView
-loaded_of policy catalogue lists replaced = record { policy = policy; catalogue = catalogue; lists = lists; replaced = replaced }
-
-same_loaded : (l m : LoadedView) → l.policy ≡ m.policy → l.catalogue ≡ m.catalogue → l.lists ≡ m.lists → l.replaced ≡ m.replaced → l ≡ m
-unfolding loaded_of
-same_loaded l m a b c d =
-    ap (λ (x : PolicyView). loaded_of x l.catalogue l.lists l.replaced) a
-    ∙ ap (λ (x : CatalogueView). loaded_of m.policy x l.lists l.replaced) b
-    ∙ ap (λ (x : UniverseLists). loaded_of m.policy m.catalogue x l.replaced) c
-    ∙ ap (λ (x : List Replaced). loaded_of m.policy m.catalogue m.lists x) d
+-- the parts determine what is loaded
+same_loaded : (l m : LoadedView) → l.policy ≡ m.policy → l.catalogue ≡ m.catalogue → l.principals ≡ m.principals → l.lists ≡ m.lists
+    → l.replaced ≡ m.replaced → l ≡ m
+same_loaded l m a b c d e = λ i. record { policy = a i; catalogue = b i; principals = c i; lists = d i; replaced = e i }
 
 -- what was replaced is one list
 one_replaced : (names : List (List Text)) (a b : List Replaced) → AreReplaced names a → AreReplaced names b → a ≡ b
@@ -75,7 +70,9 @@ one_load kept grants inputs l m a b =
     let found : l.catalogue ≡ m.catalogue = a.catalogue ∙ sym b.catalogue in
     let meant : (h : Held) (c : CatalogueView) → UniverseLists =
     λ h c. lists_meant h c (namespaces_in (all_contents inputs)) (accounts_in (all_contents inputs)) (documents_in (all_contents inputs)) in
+    let named : (h : Held) → List Who = λ h. principals_of h (accounts_in (all_contents inputs)) in
     same_loaded l m policy found
+    (a.principals ∙ ap (λ (p : PolicyView). named p.held) policy ∙ sym b.principals)
     (a.lists ∙ ap (λ (p : PolicyView). meant p.held l.catalogue) policy ∙ ap (λ (c : CatalogueView). meant m.policy.held c) found ∙ sym b.lists)
     (one_replaced (names_given (objects_in (all_contents inputs)) (namespaces_in (all_contents inputs)) (accounts_in (all_contents inputs))) l.replaced m.replaced a.replaced b.replaced)
 

@@ -2,6 +2,7 @@
 use Rattle.std.proofs.Common.{◌≡◌, ℕ, List, None, inr, subst, ap}
 use Rattle.rbac_model.specs.Kept.{AreKept}
 use Rattle.rbac_model.specs.Policies.{PolicyView}
+use Rattle.rbac_lists.specs.Derived.{principals_of}
 use Rattle.rbac_lists.specs.Meant.{lists_meant}
 use Rattle.rbac_manifest.specs.declared.fault.LoadFault.{LoadFault}
 use Rattle.rbac_manifest.specs.declared.replacement.Replaced.{Replaced}
@@ -12,7 +13,7 @@ use Rattle.rbac_manifest.specs.Load.{LoadedView, IsLoaded, HasFault, HasTooManyG
 use Rattle.rbac_manifest.specs.Changed.{IsResolved}
 
 abbrev pub view_of : ContentsView → PolicyView → List Replaced → LoadedView
-view_of g p rs = record { policy = p; catalogue = g.catalogue; lists = lists_meant p.held g.catalogue g.namespaces g.accounts g.documents; replaced = rs }
+view_of g p rs = record { policy = p; catalogue = g.catalogue; principals = principals_of p.held g.accounts; lists = lists_meant p.held g.catalogue g.namespaces g.accounts g.documents; replaced = rs }
 
 pub loaded : (inputs : List (List ℕ)) (g : ContentsView) (p : PolicyView) (rs : List Replaced)
     → g ≡ sorted_contents (all_contents inputs)
@@ -27,6 +28,7 @@ loaded inputs g p rs e accepted is replaced = record {
   policy = is.policy;
   few = is.few;
   catalogue = ap (λ h. h.catalogue) e;
+  principals = ap (λ h. principals_of p.held h.accounts) e;
   lists = ap (λ h. lists_meant p.held g.catalogue h.namespaces h.accounts h.documents) e;
   replaced = subst (λ h. AreReplaced (names_given h.objects h.namespaces h.accounts) rs) e replaced;
 }

@@ -15,7 +15,9 @@ use Rattle.rbac_manifest.specs.Contents.{objects_in, namespaces_in, accounts_in,
 use Rattle.rbac_manifest.specs.Contents.{documents_in}
 use Rattle.rbac_catalogue.specs.Catalogue.{CatalogueView}
 use Rattle.rbac_universe.specs.declared.lists.UniverseLists.{UniverseLists}
+use Rattle.rbac_lists.specs.Derived.{principals_of}
 use Rattle.rbac_lists.specs.Meant.{lists_meant}
+use Rattle.rbac_terms.specs.Principals.{Who}
 use Rattle.rbac_model.specs.declared.objects.Object.{Object}
 use Rattle.rbac_model.specs.Kept.{AreKept}
 use Rattle.rbac_model.specs.Policies.{Held, PolicyView, IsPolicy, HasTooMany, most_grants}
@@ -145,24 +147,27 @@ all_contents inputs = flat_map contents_of_file inputs
 
 -- ---- what is loaded
 
--- what contracts see of what was loaded: a policy, a catalogue, the lists of a universe, and which
--- objects were replaced
+-- what contracts see of what was loaded: a policy, a catalogue, the principals that it names, the lists
+-- of a universe, and which objects were replaced
 pub record LoadedView : Type 0 where
   pub policy : PolicyView
   pub catalogue : CatalogueView
+  pub principals : List Who
   pub lists : UniverseLists
   pub replaced : List Replaced
 
 -- every document is accepted; of each kind, namespace and name the last object is kept (own); the
 -- grants follow from what is kept, and there are no more than there may be; the catalogue is that
--- of all API resource lists; the lists are those that all of this means; and the objects listed as
--- replaced are those that several documents give
+-- of all API resource lists; the principals are those that bindings and ServiceAccount objects name;
+-- the lists are those that all of this means; and the objects listed as replaced are those that several
+-- documents give
 pub record IsLoaded (inputs : List (List ℕ)) (l : LoadedView) : Type 0 where
   pub accepted : document_fault inputs ≡ None
   pub kept : AreKept (objects_in (all_contents inputs)) l.policy.held
   pub policy : IsPolicy l.policy
   pub few : length l.policy.grants ≤ most_grants
   pub catalogue : l.catalogue ≡ catalogue_in (all_contents inputs)
+  pub principals : l.principals ≡ principals_of l.policy.held (accounts_in (all_contents inputs))
   pub lists : l.lists
       ≡ lists_meant l.policy.held l.catalogue (namespaces_in (all_contents inputs))
       (accounts_in (all_contents inputs)) (documents_in (all_contents inputs))

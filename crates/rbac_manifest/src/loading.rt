@@ -1,6 +1,6 @@
 //! Reads inputs into what they give and the policy that follows from it.
 
-ghost use Rattle.std.specs.Prelude.{◌≡◌, ◌≢◌, OnOk, IfOk, IfErr, None, Some};
+ghost use Rattle.std.specs.Prelude.{◌≡◌, ◌≢◌, [], All, OnOk, IfOk, IfErr, None, Some};
 ghost use Rattle.rbac_manifest.specs.declared.fault.Cause.TheVariants.{NoMemory};
 ghost use Rattle.rbac_manifest.specs.Load.{file_refusal, contents_of_file};
 ghost use Rattle.rbac_manifest.specs.Load.{document_fault, all_contents, too_many, IsLoaded};
@@ -11,6 +11,7 @@ ghost use Rattle.rbac_manifest.specs.Names.{names_given};
 ghost use Rattle.rbac_manifest.specs.Reads.{Yields};
 ghost use Rattle.rbac_manifest.specs.Replaced.{AreReplaced, replaced_name};
 ghost use Rattle.rbac_model.specs.Lists.{IsAscendingBy};
+ghost use Rattle.rbac_terms.specs.Principals.{given_of};
 
 use crate::content::Content;
 use crate::contents::Contents;
@@ -18,11 +19,11 @@ use crate::document_list::text_contents;
 use crate::fault::{Cause, LoadFault, Refusal};
 use crate::replacement::{Replaced, replaced_of};
 use rbac_catalogue::Catalogue;
-use rbac_lists::{Account, GivenLists, lists_of};
+use rbac_lists::{Account, GivenLists, lists_of, principals_of};
 use rbac_model::{Object, Objects, Policy, ResolveFault};
 use rbac_streams::Input;
 use rbac_terms::Word;
-use rbac_universe::UniverseLists;
+use rbac_universe::{Principals, UniverseLists};
 use simdutf8::basic::from_utf8;
 use std::alloc::{AllocError, Global};
 use std::marker::Model;
@@ -39,6 +40,7 @@ pub struct Export {
 }
 
 impl Model for Export {
+    ghost use Rattle.rbac_lists.specs.Derived.{principals_of};
     ghost use Rattle.rbac_lists.specs.Meant.{lists_meant};
     ghost use Rattle.rbac_manifest.specs.Load.{LoadedView};
     ghost use Rattle.rbac_manifest.specs.Replaced.{replaced_name};
@@ -49,6 +51,7 @@ impl Model for Export {
     ghost view = { λ l. record {
       policy = l.policy;
       catalogue = l.catalogue;
+      principals = principals_of l.policy.held l.accounts.items;
       lists = lists_meant l.policy.held l.catalogue l.namespaces.items l.accounts.items
           l.documents.items;
       replaced = l.replaced.items;
@@ -70,6 +73,16 @@ impl Export {
         ensures { result.now ≡ self.now.catalogue }
     {
         &self.catalogue
+    }
+
+    /// The principals that bindings name, and the users of ServiceAccount objects, as often as they
+    /// are named, whatever a Universe document lists (own). They are derived anew on each call. Fails
+    /// only if it runs out of memory.
+    pub fn principals(&self, alloc: Global) -> Result<Principals, AllocError>
+        ensures principals { IfOk result (λ list. list ≡ self.now.principals) }
+        ensures given { IfOk result (All (λ who. given_of who ≡ [])) }
+    {
+        principals_of(alloc, self.policy().objects(), self.accounts.as_slice())
     }
 
     /// The objects given by several documents, in order of kind, namespace and name, each with how

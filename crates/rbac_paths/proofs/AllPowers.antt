@@ -26,7 +26,7 @@ use Rattle.rbac_paths.proofs.Mapped.{some_is}
 
 -- ---- a power is told by its step, who and where
 
-one_first : {X : Type 0} (P : X → Type 0) (xs : List X) (i j : ℕ) (x y : X) → IsFirstAt P xs i x → IsFirstAt P xs j y → i ≡ j
+pub one_first : {X : Type 0} (P : X → Type 0) (xs : List X) (i j : ℕ) (x y : X) → IsFirstAt P xs i x → IsFirstAt P xs j y → i ≡ j
 one_first P xs i j x y a b = elim (cases_order i j) [
   | inl same ↦ same
   | inr less ↦ elim less [
@@ -35,7 +35,7 @@ one_first P xs i j x y a b = elim (cases_order i j) [
   ]
 ]
 
-same_first : {X : Type 0} (P : X → Type 0) (xs : List X) (i j : ℕ) (x y : X) → IsFirstAt P xs i x → IsFirstAt P xs j y → x ≡ y
+pub same_first : {X : Type 0} (P : X → Type 0) (xs : List X) (i j : ℕ) (x y : X) → IsFirstAt P xs i x → IsFirstAt P xs j y → x ≡ y
 same_first P xs i j x y a b = same_Some x y (sym a.here ∙ ap (λ (k : ℕ). slice_get xs k) (one_first P xs i j x y a b) ∙ b.here)
 
 place_tells : (who other : Text) (a b : Option Text) → who_and_where who a ≡ who_and_where other b → (who ≡ other) × (a ≡ b)

@@ -21,7 +21,9 @@ pub mod Mapped
 pub mod NodeWords
 pub mod NodesAdded
 pub mod NodesInOrder
+pub mod OnePaths
 pub mod OnePowers
+pub mod OneReason
 pub mod Others
 pub mod PathsFound
 pub mod PrincipalsWith

@@ -1,5 +1,5 @@
 -- The roles that a node takes over, and everything, one after another.
-use Rattle.std.proofs.Common.{◌≡◌, ◌↔◌, ◌∙◌, ◌<◌, ◌+◌, ◌++◌, ℕ, List, [], ◌∷◌, Option, None, Some, IsSome, MatchOption, Any, Contains, false, refl, true, arith, inl, inr, length, slice_get, subst, sym}
+use Rattle.std.proofs.Common.{◌≡◌, ◌↔◌, ◌∙◌, ◌<◌, ◌+◌, ◌++◌, ℕ, Bor, List, [], ◌∷◌, Option, None, Some, IsSome, MatchOption, Any, Contains, false, refl, true, arith, inl, inr, length, slice_get, subst, sym}
 use Rattle.std.proofs.lemmas.Bool.{cases_eq}
 use Rattle.std.proofs.lemmas.List.Elements.{Contains-append_left, Contains-push, Contains-push_cases}
 use Rattle.std.proofs.lemmas.Option.{same_Some, slice_get_within}
@@ -69,9 +69,9 @@ may_others hs steps y step nobody among a =
     any_from (λ h. SomeMayTake steps h) hs a.1 (a.0, a.2, a.3) (any_from (MayTakeBy a.1.rule) steps step among (matches_step a.1 y step nobody a.4))
 
 -- a node is taken over exactly if that is told by some step
-pub told_some : (p : PolicyView) (steps : List Step) (x y : NodeView) (o : Option Step) → MatchOption o (TakesOver p steps x y → ⊥) (IsFirstTold p steps x y) → IsSome o ↔ TakesOver p steps x y
+pub told_some : (p : PolicyView) (steps : List Step) (x y : NodeView) (o : Option (Bor Step)) → MatchOption o (TakesOver p steps x y → ⊥) (λ s. IsFirstTold p steps x y s.now) → IsSome o ↔ TakesOver p steps x y
 told_some p steps x y None none = (λ is. absurd (let both : false ≡ true = is in cc), λ t. absurd (none t))
-told_some p steps x y (Some step) first = (λ is. (step, first.1.holds), λ t. refl)
+told_some p steps x y (Some step) first = (λ is. (step.now, first.1.holds), λ t. refl)
 
 module _ (p : PolicyView) (steps : List Step) (x : NodeView) (ys : List NodeView) where
   -- a node none of whose rules matches such a row takes over none

@@ -138,6 +138,7 @@ module _ (p : PolicyView) (ok : IsPolicy p) (all : List Who) (names : List Text)
                 fewest = subst (λ (n : ℕ). IsFewest Goes IsStart n x.node) (sym at.count) (fewest Goes IsStart ys g starts by_graph s.edges j x.node at.node is.nearest);
                 before = before Goes IsStart ys g starts by_graph m.0 j s.before x.node x.before at.node at.before least;
                 step = at.step;
+                reason = at.reason;
               }
 
           some_path : (n j : ℕ) (y : NodeView) → y ≢ Somebody who → slice_get ys j ≡ Some y → IsReachedIn g starts n j → Any (λ x. x.node ≡ y) xs

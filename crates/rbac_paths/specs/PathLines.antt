@@ -38,6 +38,6 @@ reason_line x ByAll = all_line
 
 -- the line of a path: how many steps, the node, the node before it, the step between them, and why that is
 -- one
-abbrev pub path_text : PathView → ReasonView → Text
-path_text x reason = decimal x.count ++ tab ∷ node_text x.node ++ node_text x.before
-    ++ field_and_tab (step_word x.step) ++ reason_line x.before reason
+abbrev pub path_text : PathView → Text
+path_text x = decimal x.count ++ tab ∷ node_text x.node ++ node_text x.before
+    ++ field_and_tab (step_word x.step) ++ reason_line x.before x.reason

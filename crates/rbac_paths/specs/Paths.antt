@@ -1,13 +1,15 @@
 -- The paths from somebody to whom and what they come to.
 use Rattle.std.specs.Prelude.{◌≡◌, ◌≢◌, ◌↔◌, ◌⊎◌, ◌<◌, ◌+◌, ℕ, zero, suc, List, Some, All, AllPairs, Any}
-use Rattle.std.specs.Prelude.{length, slice_get}
+use Rattle.std.specs.Prelude.{Contains, length, slice_get}
 use Rattle.std.specs.declared.cmp.Ordering.TheVariants.{Less}
 use Rattle.rbac_terms.specs.Text.{text_cmp}
 use Rattle.rbac_terms.specs.Principals.{Who}
 use Rattle.rbac_model.specs.Policies.{PolicyView}
 use Rattle.rbac_ways.specs.Ways.{GraphView, IsEdge}
 use Rattle.rbac_paths.specs.NodeLists.{IsNode, node_text}
-use Rattle.rbac_paths.specs.Nodes.{NodeView}
+use Rattle.rbac_paths.specs.Nodes.{NodeView, Somebody}
+use Rattle.rbac_paths.specs.Principals.{IsOneWith}
+use Rattle.rbac_paths.specs.Reasons.{IsReason, ReasonView}
 use Rattle.rbac_paths.specs.TakingOver.{TakesOver}
 use Rattle.rbac_paths.specs.Told.{IsFirstTold}
 use Rattle.rbac_paths.specs.declared.steps.Step.{Step}
@@ -47,15 +49,16 @@ GoesTo p all steps x y = IsNode p all y × TakesOver p steps x y
 abbrev pub StepsLeadTo : PolicyView → List Who → List Step → NodeView → ℕ → NodeView → Type 0
 StepsLeadTo p all steps start n y = LeadsTo (GoesTo p all steps) (λ x. x ≡ start) n y
 
--- a node that somebody comes to: how many steps lead there, and the last of them
+-- a node that somebody comes to: how many steps lead there, the last of them, and why that is one
 pub record PathView : Type 0 where
   pub count : ℕ
   pub node : NodeView
   pub before : NodeView
   pub step : Step
+  pub reason : ReasonView
 
 -- a path from the start with the fewest steps: its last one goes from the first node as printed that
--- such a path can have there, by the first of the steps that are told
+-- such a path can have there, by the first of the steps that are told, for the first reason
 pub record IsPath (p : PolicyView) (all : List Who) (steps : List Step) (start : NodeView)
     (x : PathView) : Type 0 where
   pub others : ℕ
@@ -63,6 +66,7 @@ pub record IsPath (p : PolicyView) (all : List Who) (steps : List Step) (start :
   pub fewest : IsFewest (GoesTo p all steps) (λ y. y ≡ start) x.count x.node
   pub before : IsBeforeOn (GoesTo p all steps) (λ y. y ≡ start) others x.node x.before
   pub step : IsFirstTold p steps x.before x.node x.step
+  pub reason : IsReason p x.before x.step x.node x.reason
 
 -- fewer steps lead to x, or as many, and x is printed before y
 abbrev pub IsNearer : PathView → PathView → Type 0
@@ -77,3 +81,10 @@ pub record ArePaths (p : PolicyView) (all : List Who) (steps : List Step) (start
   pub complete : (n : ℕ) (y : NodeView) → y ≢ start → StepsLeadTo p all steps start n y
       → Any (λ x. x.node ≡ y) xs
   pub ordered : AllPairs IsNearer xs
+
+-- the paths from who is asked about, where the nodes' users and groups are these, with the one asked
+-- about in the place of the one with its key
+abbrev pub ArePathsOf : PolicyView → List Who → List Step → Who → List PathView → Type 0
+ArePathsOf p principals steps who xs = (all : List Who)
+    × ((other : Who) → Contains all other ↔ IsOneWith principals who other)
+    × ArePaths p all steps (Somebody who) xs

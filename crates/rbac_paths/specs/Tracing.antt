@@ -6,6 +6,7 @@ use Rattle.rbac_model.specs.Policies.{PolicyView}
 use Rattle.rbac_ways.specs.declared.graph.Stop.{Stop}
 use Rattle.rbac_paths.specs.Nodes.{NodeView, Somebody, ClusterRoleIn, OwnRole, EverythingIn}
 use Rattle.rbac_paths.specs.Paths.{IsNearer, PathView}
+use Rattle.rbac_paths.specs.Reasons.{IsReason}
 use Rattle.rbac_paths.specs.TakingOver.{TakesOver}
 use Rattle.rbac_paths.specs.Told.{IsFirstTold}
 use Rattle.rbac_paths.specs.declared.steps.Step.{Step}
@@ -45,6 +46,7 @@ pub record IsPathAt (p : PolicyView) (steps : List Step) (ys : List NodeView)
   pub node : slice_get ys j ≡ Some x.node
   pub before : slice_get ys stop.before ≡ Some x.before
   pub step : IsFirstTold p steps x.before x.node x.step
+  pub reason : IsReason p x.before x.step x.node x.reason
 
 -- the paths to the nodes at these places, but for those that no edge leads to, in order
 pub record ArePathsAt (p : PolicyView) (steps : List Step) (ys : List NodeView)

@@ -1,9 +1,8 @@
 //! Whom and what somebody comes to.
 
-ghost use Rattle.std.specs.Prelude.{◌≡◌, ◌↔◌, ℕ, All, AllPairs, Contains, IfOk, IsTrue, List};
+ghost use Rattle.std.specs.Prelude.{◌≡◌, ◌↔◌, ℕ, All, AllPairs, Contains, IfOk, IsTrue};
 ghost use Rattle.std.specs.Prelude.{MatchOption, map};
 ghost use Rattle.std.specs.declared.cmp.Ordering.TheVariants.{Less};
-ghost use Rattle.rbac_terms.specs.Principals.{Who};
 ghost use Rattle.rbac_terms.specs.Text.{text_cmp};
 ghost use Rattle.rbac_model.specs.Lists.{IsAscendingBy};
 ghost use Rattle.rbac_model.specs.Policies.{IsPolicy};
@@ -11,10 +10,11 @@ ghost use Rattle.rbac_model.specs.Unions.{who_name};
 ghost use Rattle.rbac_ways.specs.Ways.{AreInOrder};
 ghost use Rattle.rbac_paths.specs.Having.{rule_of_all};
 ghost use Rattle.rbac_paths.specs.NodeLists.{node_text};
-ghost use Rattle.rbac_paths.specs.Nodes.{Somebody, node_of};
-ghost use Rattle.rbac_paths.specs.Paths.{ArePaths};
-ghost use Rattle.rbac_paths.specs.Principals.{IsOneWith};
-ghost use Rattle.rbac_paths.specs.Told.{HasItsRole};
+ghost use Rattle.rbac_paths.specs.Nodes.{node_of};
+ghost use Rattle.rbac_paths.specs.Paths.{ArePathsOf};
+ghost use Rattle.rbac_paths.specs.Reasons.{IsReason, reason_view};
+ghost use Rattle.rbac_paths.specs.TakingOver.{TakesOver};
+ghost use Rattle.rbac_paths.specs.Told.{HasItsRole, IsFirstTold};
 ghost use Rattle.rbac_paths.specs.Tracing.{AreLinked, ArePathsAt, HasKeyAt, HasKeyOf};
 ghost use Rattle.rbac_paths.specs.Tracing.{IsPathAt, IsUnled};
 
@@ -24,6 +24,7 @@ use crate::holding::{holdings_of, rule_of_all};
 use crate::node::Node;
 use crate::nodes::nodes_of;
 use crate::principals::principals_with;
+use crate::reason::{Reason, reason_of};
 use crate::steps::Step;
 use crate::told::{StepRows, first_told, rows_of_steps};
 use rbac_model::Policy;
@@ -45,11 +46,14 @@ pub struct Path<'p> {
     pub before: Node<'p>,
     /// The first step by which that takes over the node.
     pub step: Step,
+    /// Why it is one.
+    pub reason: Reason<'p>,
 }
 
 impl<'p> Model for Path<'p> {
     ghost use Rattle.rbac_paths.specs.Nodes.{node_of};
     ghost use Rattle.rbac_paths.specs.Paths.{PathView};
+    ghost use Rattle.rbac_paths.specs.Reasons.{reason_view};
 
     ghost Value = { PathView };
 
@@ -58,6 +62,7 @@ impl<'p> Model for Path<'p> {
       node = node_of x.node;
       before = node_of x.before;
       step = x.step;
+      reason = reason_view x.reason;
     } };
 }
 
@@ -76,9 +81,8 @@ pub fn paths<'p>(
 ) -> Result<Vec<Path<'p>>, AllocError>
     requires index { index.now ≡ policy.now }
     requires ordered { IsAscendingBy who_name principals.now }
-    ensures { IfOk result (λ found. (all : List Who)
-        × ((other : Who) → Contains all other ↔ IsOneWith principals.now who.now other)
-        × ArePaths policy.now all steps.now (Somebody who.now) found.items) }
+    ensures { IfOk result (λ found.
+        ArePathsOf policy.now principals.now steps.now who.now found.items) }
 {
     let rows = rows_of_steps(alloc, steps)?;
     let all = principals_with(alloc, principals, who)?;
@@ -154,8 +158,8 @@ fn paths_by<'p>(
 // The path to the node at this place, if an edge leads there.
 fn path_at<'p>(
     alloc: Global,
-    policy: &Policy,
-    index: &SubjectIndex<'_>,
+    policy: &'p Policy,
+    index: &SubjectIndex<'p>,
     all: &Rule,
     steps: &[StepRows],
     nodes: &[Node<'p>],
@@ -182,8 +186,7 @@ fn path_at<'p>(
     let Some(node) = nodes.get(place) else {
         return Ok(None);
     };
-    let holdings = holdings_of(alloc, policy, index, all, *before)?;
-    let Some(step) = first_told(steps, holdings.as_slice(), *before, *node) else {
+    let Some((step, reason)) = last_step(alloc, policy, index, all, steps, *before, *node)? else {
         return Ok(None);
     };
     Ok(Some(Path {
@@ -191,5 +194,58 @@ fn path_at<'p>(
         node: *node,
         before: *before,
         step,
+        reason,
     }))
+}
+
+// The first of these steps by which a node takes over another, as is told, and why it is one; `None`
+// if there is none.
+fn last_step<'p>(
+    alloc: Global,
+    policy: &'p Policy,
+    index: &SubjectIndex<'p>,
+    all: &Rule,
+    steps: &[StepRows],
+    from: Node<'p>,
+    to: Node<'_>,
+) -> Result<Option<(Step, Reason<'p>)>, AllocError>
+    requires policy { IsPolicy policy.now }
+    requires index { index.now ≡ policy.now }
+    requires all { all.now ≡ rule_of_all }
+    requires role { HasItsRole policy.now.held (node_of from) }
+    ensures { IfOk result (λ told. MatchOption told
+        (¬ TakesOver policy.now steps.now (node_of from.entry) (node_of to.entry))
+        (λ t. IsFirstTold policy.now steps.now (node_of from.entry) (node_of to.entry) t.0
+        × IsReason policy.now (node_of from.entry) t.0 (node_of to.entry) (reason_view t.1))) }
+{
+    let Some(rows) = first_step(alloc, policy, index, all, steps, from, to)? else {
+        return Ok(None);
+    };
+    let Some(reason) = reason_of(alloc, policy, index, from, rows, to)? else {
+        return Ok(None);
+    };
+    Ok(Some((rows.step(), reason)))
+}
+
+// The first of these steps by which a node takes over another, as is told; `None` if there is none.
+fn first_step<'s>(
+    alloc: Global,
+    policy: &Policy,
+    index: &SubjectIndex<'_>,
+    all: &Rule,
+    steps: &'s [StepRows],
+    from: Node<'_>,
+    to: Node<'_>,
+) -> Result<Option<&'s StepRows>, AllocError>
+    requires policy { IsPolicy policy.now }
+    requires index { index.now ≡ policy.now }
+    requires all { all.now ≡ rule_of_all }
+    requires role { HasItsRole policy.now.held (node_of from) }
+    ensures { IfOk result (λ told. MatchOption told
+        (¬ TakesOver policy.now steps.now (node_of from.entry) (node_of to.entry))
+        (λ rows.
+        IsFirstTold policy.now steps.now (node_of from.entry) (node_of to.entry) rows.now)) }
+{
+    let holdings = holdings_of(alloc, policy, index, all, from)?;
+    Ok(first_told(steps, holdings.as_slice(), from, to))
 }

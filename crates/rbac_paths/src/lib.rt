@@ -25,10 +25,10 @@ mod words;
 
 pub use all_paths::{Path, paths};
 pub use all_steps::powers;
-pub use laws::powers_are_one;
+pub use laws::{paths_are_one, powers_are_one};
 pub use line::put_power;
 pub use node::Node;
 pub use path_line::put_path;
 pub use power::{Power, Powers};
-pub use reason::{Reason, reason_of};
+pub use reason::Reason;
 pub use steps::Step;

@@ -22,15 +22,14 @@ use std::alloc::AllocError;
 /// in the binding, joined by tabs, with a newline at the end. Where the node before is a role, `-`
 /// stands for the binding and the subject; where it is everything, for all five. If it runs out of
 /// memory, a prefix of the line may have been added.
-pub fn put_path(line: &mut Vec<u8>, path: &Path<'_>, reason: Reason<'_>) -> Result<(), AllocError>
-    ensures { OnOk result (line.new.items
-        ≡ line.old.items ++ path_text path.now (reason_view reason.entry)) }
+pub fn put_path(line: &mut Vec<u8>, path: &Path<'_>) -> Result<(), AllocError>
+    ensures { OnOk result (line.new.items ≡ line.old.items ++ path_text path.now) }
 {
     put_count(line, path.count)?;
     put_node(line, path.node)?;
     put_node(line, path.before)?;
     put_field_and_tab(line, path.step.word())?;
-    put_reason(line, path.before, reason)
+    put_reason(line, path.before, path.reason)
 }
 
 // Adds a number in decimal digits, and the tab after it.

@@ -12,7 +12,6 @@ ghost use Rattle.rbac_terms.specs.declared.matching.Rule.{Rule};
 
 use crate::holding::{Holding, sources_of};
 use crate::node::Node;
-use crate::steps::Step;
 use crate::told::StepRows;
 use rbac_model::{Grant, Policy, SourceRole, naming_place};
 use rbac_subjects::SubjectIndex;
@@ -39,21 +38,21 @@ pub fn reason_of<'p>(
     policy: &'p Policy,
     index: &SubjectIndex<'p>,
     from: Node<'p>,
-    step: Step,
+    rows: &StepRows,
     to: Node<'_>,
 ) -> Result<Option<Reason<'p>>, AllocError>
     requires policy { IsPolicy policy.now }
     requires index { index.now ≡ policy.now }
     requires role { HasItsRole policy.now.held (node_of from) }
     ensures { IfOk result (λ r. MatchOption r
-        (¬ CanTakeOver policy.now (node_of from.entry) step (node_of to.entry))
-        (λ r. IsReason policy.now (node_of from.entry) step (node_of to.entry) (reason_view r))) }
+        (¬ CanTakeOver policy.now (node_of from.entry) rows.now (node_of to.entry))
+        (λ r. IsReason policy.now (node_of from.entry) rows.now (node_of to.entry)
+        (reason_view r))) }
 {
-    let rows = StepRows::of(alloc, step)?;
     match from {
-        Node::Somebody(who) => Ok(by_grant(policy, index, &rows, who, to)),
-        Node::ClusterRole(role, scope) => by_cluster_role(alloc, policy, &rows, role, scope, to),
-        Node::Role(role) => Ok(by_role(policy, &rows, role, to)),
+        Node::Somebody(who) => Ok(by_grant(policy, index, rows, who, to)),
+        Node::ClusterRole(role, scope) => by_cluster_role(alloc, policy, rows, role, scope, to),
+        Node::Role(role) => Ok(by_role(policy, rows, role, to)),
         Node::Everything(_) => Ok(Some(Reason::All)),
     }
 }

@@ -40,8 +40,8 @@ impl Model for StepRows {
 }
 
 impl StepRows {
-    // The rows of the step.
-    pub(crate) fn of(alloc: Global, step: Step) -> Result<Self, AllocError>
+    // The step with its rows.
+    fn of(alloc: Global, step: Step) -> Result<Self, AllocError>
         ensures { IfOk result (λ rows. rows ≡ step) }
     {
         let rows = rows_of(alloc, step)?;
@@ -56,7 +56,7 @@ impl StepRows {
     }
 
     // The step.
-    fn step(&self) -> Step
+    pub(crate) fn step(&self) -> Step
         ensures { result ≡ self.now }
     {
         self.step
@@ -100,23 +100,23 @@ pub(crate) fn rows_of_steps(alloc: Global, steps: &[Step]) -> Result<Vec<StepRow
 
 /// The first of these steps by which a node takes over another, as is told; the first has exactly
 /// these holdings. `None` exactly if there is none.
-pub(crate) fn first_told(
-    steps: &[StepRows],
+pub(crate) fn first_told<'s>(
+    steps: &'s [StepRows],
     holdings: &[Holding<'_>],
     from: Node<'_>,
     to: Node<'_>,
-) -> Option<Step>
+) -> Option<&'s StepRows>
     ensures { (p : PolicyView) → IsPolicy p → AreHoldings p (node_of from.entry) holdings.now
         → MatchOption result
         (¬ TakesOver p steps.now (node_of from.entry) (node_of to.entry))
-        (IsFirstTold p steps.now (node_of from.entry) (node_of to.entry)) }
+        (λ rows. IsFirstTold p steps.now (node_of from.entry) (node_of to.entry) rows.now) }
 {
     if !goes_on(from, to) {
         return None;
     }
     for rows in steps {
         if is_told(rows, steps, holdings, to) {
-            return Some(rows.step());
+            return Some(rows);
         }
     }
     None

@@ -1,2 +1,3 @@
+pub mod Named
 pub mod Texts
 pub mod TypeWords

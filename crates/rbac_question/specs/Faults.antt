@@ -1,9 +1,9 @@
-use Rattle.std.specs.Prelude.{List, ℕ, codes}
+use Rattle.std.specs.Prelude.{◌++◌, List, ℕ, codes}
 use Rattle.rbac_question.specs.declared.fault.QuestionFault.{QuestionFault}
 use Rattle.rbac_question.specs.declared.fault.QuestionFault.TheVariants.{EmptyWord, UrlSubresource}
 use Rattle.rbac_question.specs.declared.fault.QuestionFault.TheVariants.{BadToken, BadPrincipal}
 use Rattle.rbac_question.specs.declared.fault.QuestionFault.TheVariants.{BadCode, BadChange}
-use Rattle.rbac_question.specs.declared.fault.QuestionFault.TheVariants.{NoMemory}
+use Rattle.rbac_question.specs.declared.fault.QuestionFault.TheVariants.{BadStep, NoMemory}
 use Rattle.rbac_token.specs.declared.fault.TokenFault.{TokenFault}
 use Rattle.rbac_token.specs.declared.fault.TokenFault.TheVariants as token
 
@@ -15,6 +15,8 @@ fault_text BadToken = codes "U4 bad token"
 fault_text BadPrincipal = codes "U5 bad principal"
 fault_text BadCode = codes "U6 bad code"
 fault_text BadChange = codes "U7 give either --after, or --with or --without"
+fault_text BadStep = codes "U8 steps are impersonate, token, run, exec, secrets, nodes, bind, "
+    ++ codes "escalate, certificates, webhooks"
 fault_text NoMemory = codes "out of memory"
 
 -- why a text is no token, as the refusal of the line that contains it

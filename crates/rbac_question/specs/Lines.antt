@@ -21,7 +21,7 @@ use Rattle.rbac_question.specs.declared.fault.QuestionFault.{QuestionFault}
 use Rattle.rbac_question.specs.declared.fault.QuestionFault.TheVariants.{EmptyWord, UrlSubresource}
 use Rattle.rbac_question.specs.declared.fault.QuestionFault.TheVariants.{BadToken, BadPrincipal}
 use Rattle.rbac_question.specs.declared.fault.QuestionFault.TheVariants.{BadCode, BadChange}
-use Rattle.rbac_question.specs.declared.fault.QuestionFault.TheVariants.{NoMemory}
+use Rattle.rbac_question.specs.declared.fault.QuestionFault.TheVariants.{BadStep, NoMemory}
 use Rattle.rbac_question.specs.declared.line.DiffLine.{DiffLine}
 
 -- the parts of a line that ask a question; the text of an option that isn't given is empty
@@ -47,12 +47,16 @@ pub record WhoCanParts : Type 0 where
   pub options : HolderOptions
   pub question : QuestionParts
 
--- the parts of a `rules` line; the text of an option that isn't given is empty, and there is a text
--- for each `--group`, in order
-pub record RulesParts : Type 0 where
-  pub who : Text
+-- the parts of a line that name somebody: WHO, what follows `--groups`, empty if it isn't given, and
+-- a text for each `--group`, in order
+pub record WhoParts : Type 0 where
+  pub key : Text
   pub groups : Text
   pub whole_groups : List Text
+
+-- the parts of a `rules` line; the text of an option that isn't given is empty
+pub record RulesParts : Type 0 where
+  pub who : WhoParts
   pub namespace : Text
   pub all_namespaces : Bool
 
@@ -125,10 +129,10 @@ MeansWhoCan l action = ⊥
 -- WHO names the principal: `u:` and a user's name, who is given the groups of `--groups` and
 -- `--group`, or `g:` and a group's name, where none of these options is given or all are empty;
 -- neither name is empty (own)
-abbrev pub NamesPrincipal : RulesParts → Who → Type 0
-NamesPrincipal l (AsUser name given) = (l.who ≡ codes "u:" ++ name) × (name ≢ [])
+abbrev pub NamesPrincipal : WhoParts → Who → Type 0
+NamesPrincipal l (AsUser name given) = (l.key ≡ codes "u:" ++ name) × (name ≢ [])
     × (given ≡ groups_given l.groups l.whole_groups)
-NamesPrincipal l (AsMember group) = (l.who ≡ codes "g:" ++ group) × (group ≢ [])
+NamesPrincipal l (AsMember group) = (l.key ≡ codes "g:" ++ group) × (group ≢ [])
     × (l.groups ≡ []) × All (λ whole. whole ≡ []) l.whole_groups
 
 -- `-A` is all of the cluster at once and wins over `-n`; an empty or missing `-n` is anywhere
@@ -139,7 +143,7 @@ scope_meant false given = if length given == 0 then Anywhere else Namespace give
 
 -- what a `rules` line means: it asks for the rules that the principal has there
 abbrev pub MeansRules : RulesParts → Action → Type 0
-MeansRules l (Rules principal scope) = NamesPrincipal l principal
+MeansRules l (Rules principal scope) = NamesPrincipal l.who principal
     × (scope ≡ scope_meant l.all_namespaces l.namespace)
 MeansRules l action = ⊥
 
@@ -213,6 +217,7 @@ RefusesQuestion l BadToken = ⊥
 RefusesQuestion l BadPrincipal = ⊥
 RefusesQuestion l BadCode = ⊥
 RefusesQuestion l BadChange = ⊥
+RefusesQuestion l BadStep = ⊥
 RefusesQuestion l NoMemory = Unit {0}
 
 -- a `can-i` line without U2 and U3; here an empty USER is U2 too (own)
@@ -227,6 +232,7 @@ RefusesCanI l BadToken = ⊥
 RefusesCanI l BadPrincipal = ⊥
 RefusesCanI l BadCode = ⊥
 RefusesCanI l BadChange = ⊥
+RefusesCanI l BadStep = ⊥
 RefusesCanI l NoMemory = Unit {0}
 
 -- U4: a text is given that isn't the token of any mark, with or without `--every` (own)
@@ -242,21 +248,27 @@ RefusesMatrix l BadToken = HasBadToken l.after
 RefusesMatrix l BadPrincipal = ⊥
 RefusesMatrix l BadCode = ⊥
 RefusesMatrix l BadChange = ⊥
+RefusesMatrix l BadStep = ⊥
 RefusesMatrix l NoMemory = Unit {0}
 
 -- U5: WHO, `--groups` and `--group` name no principal (own)
-abbrev pub HasBadPrincipal : RulesParts → Type 0
+abbrev pub HasBadPrincipal : WhoParts → Type 0
 HasBadPrincipal l = (p : Who) → ¬ NamesPrincipal l p
 
--- the refusal of a `rules` line; out of memory may come at any time
+-- the refusal of the parts that name somebody; out of memory may come at any time
+abbrev pub RefusesWho : WhoParts → QuestionFault → Type 0
+RefusesWho l EmptyWord = ⊥
+RefusesWho l UrlSubresource = ⊥
+RefusesWho l BadToken = ⊥
+RefusesWho l BadPrincipal = HasBadPrincipal l
+RefusesWho l BadCode = ⊥
+RefusesWho l BadChange = ⊥
+RefusesWho l BadStep = ⊥
+RefusesWho l NoMemory = Unit {0}
+
+-- the refusal of a `rules` line
 abbrev pub RefusesRules : RulesParts → QuestionFault → Type 0
-RefusesRules l EmptyWord = ⊥
-RefusesRules l UrlSubresource = ⊥
-RefusesRules l BadToken = ⊥
-RefusesRules l BadPrincipal = HasBadPrincipal l
-RefusesRules l BadCode = ⊥
-RefusesRules l BadChange = ⊥
-RefusesRules l NoMemory = Unit {0}
+RefusesRules l e = RefusesWho l.who e
 
 -- U6: a text is given of which a part between commas isn't the word of a code; an empty text has one
 -- part, which is empty (own)
@@ -272,6 +284,7 @@ RefusesLint l BadToken = ⊥
 RefusesLint l BadPrincipal = ⊥
 RefusesLint l BadCode = HasBadCode l.only
 RefusesLint l BadChange = ⊥
+RefusesLint l BadStep = ⊥
 RefusesLint l NoMemory = Unit {0}
 
 -- U7: the files tell of no change, or of more than one (own)

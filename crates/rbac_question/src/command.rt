@@ -1,6 +1,7 @@
 //! What a command line says.
 
 use crate::asked::Asked;
+use rbac_paths::Step;
 use rbac_terms::{Principal, Scope, Word};
 use rbac_token::Mark;
 
@@ -103,6 +104,13 @@ pub enum Action {
     },
     /// Lists who can act as others, or come to do so.
     Powers,
+    /// Lists whom a principal can come to act as, step by step.
+    Paths {
+        /// Who is asked about, as of `rules`.
+        principal: Principal,
+        /// The steps that count: each at most once, in the order of the table.
+        steps: Vec<Step>,
+    },
     /// Lists what a change lets users do, and what it takes from them.
     Diff {
         /// How many of the files tell what was before the change: the first ones.

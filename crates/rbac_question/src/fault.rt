@@ -7,6 +7,10 @@ use std::alloc::{AllocError, AllocFailed};
 use std::error::Error;
 use std::fmt;
 
+// The text of U8, which lists the words of all steps.
+const BAD_STEP: &str = "U8 steps are impersonate, token, run, exec, secrets, nodes, bind, \
+    escalate, certificates, webhooks";
+
 /// Why the texts of a line are refused (own).
 #[derive(Debug, Drop, Clone, Copy, PartialEq, Eq)]
 pub enum QuestionFault {
@@ -22,6 +26,8 @@ pub enum QuestionFault {
     BadCode,
     /// U7: a `diff` has neither `--after` nor `--with` or `--without`, or it has both.
     BadChange,
+    /// U8: a part of what follows `--steps`, between its commas, isn't the word of a step.
+    BadStep,
     /// Out of memory.
     NoMemory,
 }
@@ -75,6 +81,7 @@ impl fmt::Display for QuestionFault {
             QuestionFault::BadPrincipal => "U5 bad principal",
             QuestionFault::BadCode => "U6 bad code",
             QuestionFault::BadChange => "U7 give either --after, or --with or --without",
+            QuestionFault::BadStep => BAD_STEP,
             QuestionFault::NoMemory => "out of memory",
         };
         f.write_str(text)

@@ -6,9 +6,14 @@ mod asked;
 mod command;
 mod fault;
 mod line;
+mod paths_line;
+mod who;
 
 pub use asked::{Asked, AskedFor};
 pub use command::{Action, Change, Command, HolderOptions, MatrixOptions, Question};
 pub use fault::QuestionFault;
 pub use line::{CanILine, DiffLine, LintLine, MatrixLine, QuestionLine, RulesLine, WhoCanLine};
+pub use paths_line::PathsLine;
+pub use rbac_paths::Step;
 pub use rbac_terms::Scope;
+pub use who::WhoLine;

@@ -1,17 +1,14 @@
 //! What the texts of a line mean.
 
-ghost use Rattle.std.specs.Prelude.{◌≡◌, ◌≢◌, ◌++◌, ◌∷◌, ◌⊎◌, ◌↔◌, [], All, Some, true, filter};
-ghost use Rattle.std.specs.Prelude.{IfOk, IfErr, OnOk, MatchOption, MatchResult, map, option_map};
-ghost use Rattle.rbac_terms.specs.Text.{Text};
-ghost use Rattle.rbac_terms.specs.Principals.{AsUser, AsMember};
+ghost use Rattle.std.specs.Prelude.{◌≡◌, ◌⊎◌, ◌↔◌, All, Some, true};
+ghost use Rattle.std.specs.Prelude.{IfOk, IfErr, MatchOption, MatchResult, map, option_map};
 ghost use Rattle.rbac_token.specs.Marks.{IsTokenOfMark};
-ghost use Rattle.rbac_question.specs.Lines.{groups_given, is_not_empty, names_in};
 ghost use Rattle.rbac_question.specs.Lines.{namespace_meant, options_meant};
 ghost use Rattle.rbac_question.specs.Lines.{IsQuestion, MeansCanI};
 ghost use Rattle.rbac_question.specs.Lines.{MeansWhoCan, MeansMatrix, LacksWord, AcceptsQuestion};
 ghost use Rattle.rbac_question.specs.Lines.{RefusesQuestion, AcceptsCanI, RefusesCanI};
 ghost use Rattle.rbac_question.specs.Lines.{RefusesMatrix, HasBadToken, MeansRules};
-ghost use Rattle.rbac_question.specs.Lines.{RefusesRules, HasBadPrincipal, NamesPrincipal};
+ghost use Rattle.rbac_question.specs.Lines.{RefusesRules, HasBadPrincipal};
 ghost use Rattle.rbac_question.specs.Lines.{scope_meant, parts_between, comma, IsCode, code_word};
 ghost use Rattle.rbac_question.specs.Lines.{IsCodeWord, AreCodesIn, HasBadCode, MeansLint};
 ghost use Rattle.rbac_question.specs.Lines.{RefusesLint, MeansDiff, RefusesDiff};
@@ -19,7 +16,8 @@ ghost use Rattle.rbac_question.specs.Lines.{RefusesLint, MeansDiff, RefusesDiff}
 use crate::asked::{Asked, check_target};
 use crate::command::{Action, Change, HolderOptions, MatrixOptions, Question};
 use crate::fault::QuestionFault;
-use rbac_terms::{ModelFault, Principal, Scope, Word, Words};
+use crate::who::{WhoLine, principal_from, principal_of};
+use rbac_terms::{Scope, Word};
 use rbac_token::{Mark, mark_of_token};
 use std::alloc::{AllocError, Global};
 use std::marker::Model;
@@ -114,14 +112,8 @@ impl<'a> Model for WhoCanLine<'a> {
 /// The parts of a `rules` line; the text of an option that isn't given is empty.
 #[derive(Drop)]
 pub struct RulesLine<'m, 'a> {
-    /// WHO: a principal's key, `u:` and a user's name or `g:` and a group's. It is taken as it is,
-    /// like the name after `--as`: a backslash is a backslash, also where a line of output would
-    /// print it as `\\`.
-    pub who: &'a str,
-    /// The names after `--groups`, not yet split.
-    pub groups: &'a str,
-    /// The name after each `--group`, in order, if it is given.
-    pub whole_groups: Option<&'m [&'a str]>,
+    /// The parts that name who is asked about.
+    pub who: WhoLine<'m, 'a>,
     /// The name after `-n`.
     pub namespace: &'a str,
     /// Whether `-A` is given.
@@ -129,16 +121,12 @@ pub struct RulesLine<'m, 'a> {
 }
 
 impl<'m, 'a> Model for RulesLine<'m, 'a> {
-    ghost use Rattle.std.specs.Prelude.{map, option_map};
-    ghost use Rattle.rbac_question.specs.Lines.{names_in};
     ghost use Rattle.rbac_question.specs.Lines.{RulesParts};
 
     ghost Value = { RulesParts };
 
     ghost view = { λ l. record {
-      who = l.who.now;
-      groups = l.groups.now;
-      whole_groups = names_in (option_map (λ names. map (λ n. n.now) names.now) l.whole_groups);
+      who = l.who;
       namespace = l.namespace.now;
       all_namespaces = l.all_namespaces;
     } };
@@ -202,50 +190,6 @@ pub struct DiffLine {
     pub with_files: usize,
 }
 
-// The mark of a user's key.
-const USER: &[u8] = b"u:";
-
-// The mark of the key of a member of a group.
-const MEMBER: &[u8] = b"g:";
-
-// The groups that `--groups` and `--group` give: the parts of the first between commas, and then each
-// of the others whole, in order, without those that are empty (own).
-fn groups_from(alloc: Global, text: &str, whole: Option<&[&str]>) -> Result<Words, AllocError>
-    ensures { IfOk result (λ groups. groups ≡ groups_given text.now
-        (names_in (option_map (λ names. map (λ n. n.now) names.now) whole.entry))) }
-{
-    let mut groups = Vec::new(alloc);
-    for part in text.split(',') {
-        push_group(alloc, part, &mut groups)?;
-    }
-    if let Some(names) = whole {
-        push_groups(alloc, names, &mut groups)?;
-    }
-    Ok(Words::from_vec(groups))
-}
-
-// Adds the groups whose names aren't empty, in order.
-fn push_groups(alloc: Global, names: &[&str], groups: &mut Vec<Word>) -> Result<(), AllocError>
-    ensures { OnOk result (groups.new.items
-        ≡ groups.old.items ++ filter is_not_empty (map (λ n. n.now) names.now)) }
-{
-    for name in names {
-        push_group(alloc, name, groups)?;
-    }
-    Ok(())
-}
-
-// Adds a group, if its name isn't empty.
-fn push_group(alloc: Global, name: &str, groups: &mut Vec<Word>) -> Result<(), AllocError>
-    ensures { OnOk result
-        (groups.new.items ≡ groups.old.items ++ filter is_not_empty (name.now ∷ [])) }
-{
-    if !name.is_empty() {
-        groups.push(Word::from_slice(alloc, name.as_bytes())?)?;
-    }
-    Ok(())
-}
-
 // The namespace that `-A` and `-n` mean (own): with `-A` the empty one, otherwise the one given, or
 // `default` if none is given.
 fn namespace_from(alloc: Global, all: bool, given: &str) -> Result<Word, AllocError>
@@ -258,106 +202,6 @@ fn namespace_from(alloc: Global, all: bool, given: &str) -> Result<Word, AllocEr
         return Word::from_slice(alloc, b"default".as_slice());
     }
     Word::from_slice(alloc, given.as_bytes())
-}
-
-// The user who asks, with the groups given.
-fn principal_from(
-    alloc: Global,
-    user: &[u8],
-    groups: &str,
-    whole_groups: Option<&[&str]>,
-) -> Result<Principal, QuestionFault>
-    requires { user.now ≢ [] }
-    ensures { MatchResult result
-        (λ principal. principal ≡ AsUser user.now (groups_given groups.now
-        (names_in (option_map (λ names. map (λ n. n.now) names.now) whole_groups.entry))))
-        (λ e. e ≡ QuestionFault.NoMemory) }
-{
-    let name = Word::from_slice(alloc, user)?;
-    let given = groups_from(alloc, groups, whole_groups)?;
-    user_from(alloc, &name, &given)
-}
-
-// A user with these groups.
-fn user_from(alloc: Global, name: &Word, groups: &Words) -> Result<Principal, QuestionFault>
-    requires { name.now ≢ [] }
-    ensures { MatchResult result
-        (λ principal. principal ≡ AsUser name.now groups.now)
-        (λ e. e ≡ QuestionFault.NoMemory) }
-{
-    match Principal::user(alloc, name, groups) {
-        Ok(principal) => Ok(principal),
-        Err(ModelFault::NoMemory) => Err(QuestionFault::NoMemory),
-        Err(ModelFault::EmptyName | ModelFault::BadTarget) => unreachable!(),
-    }
-}
-
-// A member of this group.
-fn member_from(alloc: Global, group: &[u8]) -> Result<Principal, QuestionFault>
-    requires { group.now ≢ [] }
-    ensures { MatchResult result
-        (λ principal. principal ≡ AsMember group.now)
-        (λ e. e ≡ QuestionFault.NoMemory) }
-{
-    let name = Word::from_slice(alloc, group)?;
-    match Principal::group(alloc, &name) {
-        Ok(principal) => Ok(principal),
-        Err(ModelFault::NoMemory) => Err(QuestionFault::NoMemory),
-        Err(ModelFault::EmptyName | ModelFault::BadTarget) => unreachable!(),
-    }
-}
-
-// The name behind the mark of a principal's key; none if the key has another mark or ends there.
-fn name_behind<'a>(mark: &[u8], key: &'a str) -> Option<&'a [u8]>
-    ensures { MatchOption result
-        ((name : Text) → key.now ≡ mark.now ++ name → name ≡ [])
-        (λ name. (key.now ≡ mark.now ++ name.now) × (name.now ≢ [])) }
-{
-    let name = key.as_bytes().strip_prefix(mark)?;
-    if name.is_empty() {
-        return None;
-    }
-    Some(name)
-}
-
-// Whether all of these names are empty.
-fn are_empty(names: &[&str]) -> bool
-    ensures { (result ≡ true) ↔ All (λ name. name.now ≡ []) names.now }
-{
-    names.iter().all(|name| name.is_empty())
-}
-
-// Whether an option that may be repeated gives no name, or only empty ones.
-fn names_none(names: Option<&[&str]>) -> bool
-    ensures { (result ≡ true) ↔ All (λ name. name ≡ [])
-        (names_in (option_map (λ names. map (λ n. n.now) names.now) names.entry)) }
-{
-    match names {
-        Some(names) => are_empty(names),
-        None => true,
-    }
-}
-
-// Whether no groups are given: each `--groups` and `--group` is empty, or isn't there.
-fn lacks_groups(line: &RulesLine<'_, '_>) -> bool
-    ensures { (result ≡ true)
-        ↔ ((line.now.groups ≡ []) × All (λ whole. whole ≡ []) line.now.whole_groups) }
-{
-    line.groups.is_empty() && names_none(line.whole_groups)
-}
-
-// The principal that WHO, `--groups` and `--group` name: U5 if there is none.
-fn principal_of(alloc: Global, line: &RulesLine<'_, '_>) -> Result<Principal, QuestionFault>
-    ensures answer { MatchResult result (NamesPrincipal line.now) (RefusesRules line.now) }
-    ensures unnamed { HasBadPrincipal line.now → result ≡ Err QuestionFault.BadPrincipal }
-{
-    if let Some(user) = name_behind(USER, line.who) {
-        return principal_from(alloc, user, line.groups, line.whole_groups);
-    }
-    match name_behind(MEMBER, line.who) {
-        Some(group) if lacks_groups(line) => member_from(alloc, group),
-        _ => Err(QuestionFault::BadPrincipal),
-    }
 }
 
 // Where `-A` and `-n` ask for rules (own): with `-A` in all of the cluster at once, otherwise in
@@ -550,10 +394,10 @@ impl Action {
     /// allocated.
     pub fn rules(alloc: Global, line: &RulesLine<'_, '_>) -> Result<Self, QuestionFault>
         ensures answer { MatchResult result (MeansRules line.now) (RefusesRules line.now) }
-        ensures unnamed { HasBadPrincipal line.now → result ≡ Err QuestionFault.BadPrincipal }
+        ensures unnamed { HasBadPrincipal line.now.who → result ≡ Err QuestionFault.BadPrincipal }
     {
         Ok(Action::Rules {
-            principal: principal_of(alloc, line)?,
+            principal: principal_of(alloc, &line.who)?,
             scope: scope_from(alloc, line.all_namespaces, line.namespace)?,
         })
     }

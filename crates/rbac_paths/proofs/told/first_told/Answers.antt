@@ -16,8 +16,8 @@ pub returns-then-is_told : goal.returns-then-is_told
 returns-then-is_told c p ok are =
     let steps = c.args.steps.now in
     let i = c.loop-rows.rows-index in
-    rw c.step.ensures (first_told steps c.args.holdings.now (node_of c.args.to) p ok (node_of c.args.from) are (c.goes_on.ensures.0 (search rules)) i c.rows-item.result
-    (slice_get_read steps _ i c.rows-item.result refl c.loop-rows-test.true c.rows-item.is) (c.if-is_told.ensures.0 refl) c.loop-rows.invariant)
+    first_told steps c.args.holdings.now (node_of c.args.to) p ok (node_of c.args.from) are (c.goes_on.ensures.0 (search rules)) i c.rows-item.result
+    (slice_get_read steps _ i c.rows-item.result refl c.loop-rows-test.true c.rows-item.is) (c.if-is_told.ensures.0 refl) c.loop-rows.invariant
 
 pub returns : goal.returns
 returns c p ok are =

@@ -1,0 +1,42 @@
+-- The paths over the users and groups that are named, each once.
+use Rattle.std.proofs.Common.{◌≡◌, ◌↔◌, ◌∙◌, ℕ, List, [], ◌∷◌, All, Contains, ap, get_or, inl, inr, subst, sym, ◌<◌, length, arith}
+use Rattle.std.specs.declared.cmp.Ordering.TheVariants.{Less}
+use Rattle.std.proofs.lemmas.List.{get_or_default}
+use Rattle.std.proofs.lemmas.Map.Keys.{Less-from_sorted}
+use Rattle.rbac_terms.specs.Text.{Text}
+use Rattle.rbac_terms.specs.Principals.{Who, given_of, who_key}
+use Rattle.rbac_model.specs.Lists.{by_name, IsAscendingBy, IsOnceEach}
+use Rattle.rbac_model.specs.Policies.{PolicyView}
+use Rattle.rbac_model.specs.Unions.{who_name}
+use Rattle.rbac_document.specs.Names.{principal_name}
+use Rattle.rbac_paths.specs.Paths.{ArePathsOf, PathView}
+use Rattle.rbac_paths.specs.Principals.{IsOneWith}
+use Rattle.rbac_paths.specs.declared.steps.Step.{Step}
+
+-- who is given no groups is named by its key alone
+key_alone : (who : Who) → given_of who ≡ [] → principal_name who ≡ who_name who
+key_alone who none = ap (λ (gs : List Text). who_key who ∷ gs) none
+
+-- in order of their names those that are given no groups are in order of their keys
+pub by_keys : (named each : List Who) → All (λ who. given_of who ≡ []) named → IsOnceEach (by_name principal_name) named each → IsAscendingBy who_name each
+by_keys named each none once i j d lt l =
+    let alone : (k : ℕ) → k < length each → principal_name (get_or each k d) ≡ who_name (get_or each k d) = λ k low.
+    (let w = (once.same (get_or each k d)).0 (k, low, get_or_default each k (get_or each k d) d low) in
+    key_alone (get_or each k d) (subst (λ (who : Who). given_of who ≡ []) w.2 (none w.0 (get_or each k d) w.1))) in
+    let less = Less-from_sorted (by_name principal_name) each i j d once.ascending lt l in
+    rw (sym (alone i (omega (arith, lt, l))), sym (alone j l)) less
+
+module _ (principals named : List Who) (same : (who : Who) → Contains principals who ↔ Contains named who) where
+  one_too : (asked other : Who) → IsOneWith principals asked other ↔ IsOneWith named asked other
+  one_too asked other = (
+    λ is. elim is [ inl e ↦ inl e | inr w ↦ inr ((same other).0 w.0, w.1) ],
+    λ is. elim is [ inl e ↦ inl e | inr w ↦ inr ((same other).1 w.0, w.1) ],
+  )
+
+  -- the paths are the same over a list of the same users and groups
+  pub paths_too : (p : PolicyView) (steps : List Step) (who : Who) (xs : List PathView) → ArePathsOf p principals steps who xs → ArePathsOf p named steps who xs
+  paths_too p steps who xs (all, exact, are) = (
+    all,
+    λ other. (λ c. (one_too who other).0 ((exact other).0 c), λ w. (exact other).1 ((one_too who other).1 w)),
+    are,
+  )

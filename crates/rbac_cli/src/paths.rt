@@ -1,0 +1,71 @@
+//! Whom and what somebody comes to, as an answer.
+
+ghost use Rattle.std.specs.Prelude.{◌≡◌, ◌↔◌, Contains, IfOk, Vec, false, vec_items};
+ghost use Rattle.rbac_terms.specs.Principals.{Who};
+ghost use Rattle.rbac_model.specs.Lists.{IsAscendingBy};
+ghost use Rattle.rbac_model.specs.Unions.{who_name};
+ghost use Rattle.rbac_paths.specs.declared.steps.Step.{Step as PathStep};
+ghost use Rattle.rbac_question.specs.declared.command.Action.TheVariants.{Paths as ListsPaths};
+ghost use Rattle.rbac_cli.specs.Out.{paths_text};
+ghost use Rattle.rbac_cli.specs.Printing.{EndsPrinting};
+ghost use Rattle.rbac_cli.specs.declared.exports.Exports.TheVariants.{Single};
+
+use crate::lines::{Lines, print_lines};
+use crate::outcome::Status;
+use crate::output::Output;
+use crate::stop::Stop;
+use rbac_document::principals_once_each;
+use rbac_manifest::Export;
+use rbac_paths::{Path, Step, paths, put_path};
+use rbac_subjects::SubjectIndex;
+use rbac_terms::Principal;
+use rbac_universe::Principals;
+use std::alloc::{AllocError, Global};
+use std::io::Write;
+use std::slice::Iter;
+
+/// Prints whom and what the principal comes to by these steps, a line for each.
+pub(crate) fn print_paths<W: Write + Drop>(
+    alloc: Global,
+    export: &Export,
+    principal: &Principal,
+    steps: &[Step],
+    output: &mut Output<'_, W>,
+) -> Result<Status, Stop>
+    requires { output.old.sink.now.has_failed ≡ false }
+    ensures { (chosen : Vec PathStep) → vec_items chosen ≡ steps.now
+        → EndsPrinting W.contents output.old output.new (Single export.now)
+        (ListsPaths principal.now chosen) result }
+{
+    let policy = export.policy();
+    let index = SubjectIndex::build(alloc, policy)?;
+    let principals = principals_of(alloc, export)?;
+    let found = paths(alloc, policy, &index, principals.as_slice(), principal, steps)?;
+    print_lines(alloc, &mut found.as_slice().iter(), Status::Zero, output)
+}
+
+// The users and groups that bindings and ServiceAccount objects name, each once, in order of keys.
+fn principals_of(alloc: Global, export: &Export) -> Result<Principals, AllocError>
+    ensures ordered { IfOk result (IsAscendingBy who_name) }
+    ensures exact { IfOk result
+        (λ each. (who : Who) → Contains each who ↔ Contains export.now.principals who) }
+{
+    principals_once_each(export.principals(alloc)?)
+}
+
+impl Lines for Iter<'_, Path<'_>> {
+    ghost use Rattle.std.specs.Prelude.{length};
+    ghost use Rattle.std.specs.Slice.Iter.{iter_rest};
+
+    ghost are_left = { λ paths text. text ≡ paths_text (iter_rest paths) };
+
+    ghost most_left = { λ paths. length (iter_rest paths) };
+
+    fn put_next(&mut self, line: &mut Vec<u8>) -> Result<bool, AllocError> {
+        let Some(path) = self.next() else {
+            return Ok(false);
+        };
+        put_path(line, path)?;
+        Ok(true)
+    }
+}
