@@ -25,6 +25,9 @@ function __rbacaudit_options
         case powers
             echo '(?!)'
             string split ' ' 'h/help'
+        case paths
+            echo '^(--(groups|group|steps))$'
+            string split ' ' 'groups= group= steps= h/help'
         case diff
             echo '^(--(before|after|without|with))$'
             string split ' ' 'before= after= without= with= h/help'
@@ -80,12 +83,13 @@ complete -c rbacaudit -n '__rbacaudit_words -eq 0 ""' -a matrix -d 'List everyth
 complete -c rbacaudit -n '__rbacaudit_words -eq 0 ""' -a universe -d 'Print the Universe that matrix makes of the files, as JSON'
 complete -c rbacaudit -n '__rbacaudit_words -eq 0 ""' -a lint -d 'List what is wrong with the roles'
 complete -c rbacaudit -n '__rbacaudit_words -eq 0 ""' -a powers -d 'List who can act as others or gain permissions'
+complete -c rbacaudit -n '__rbacaudit_words -eq 0 ""' -a paths -d 'List what WHO can come to'
 complete -c rbacaudit -n '__rbacaudit_words -eq 0 ""' -a diff -d 'List what a change lets users do and takes from them'
-complete -c rbacaudit -n '__rbacaudit_lacks help "" can-i who-can rules matrix universe lint powers diff' -s h -l help -d 'Print help'
+complete -c rbacaudit -n '__rbacaudit_lacks help "" can-i who-can rules matrix universe lint powers paths diff' -s h -l help -d 'Print help'
 complete -c rbacaudit -n '__rbacaudit_lacks version ""' -s V -l version -d 'Print version'
 complete -c rbacaudit -n '__rbacaudit_lacks as can-i' -l as -x -d 'User to check'
-complete -c rbacaudit -n '__rbacaudit_lacks groups can-i rules' -l groups -x -d 'Groups of the user beside the implied ones (default: none)'
-complete -c rbacaudit -n '__rbacaudit_words -ge 0 can-i rules' -l group -x -d 'One more group, whole, commas and all (default: none)'
+complete -c rbacaudit -n '__rbacaudit_lacks groups can-i rules paths' -l groups -x -d 'Groups of the user beside the implied ones (default: none)'
+complete -c rbacaudit -n '__rbacaudit_words -ge 0 can-i rules paths' -l group -x -d 'One more group, whole, commas and all (default: none)'
 complete -c rbacaudit -n '__rbacaudit_lacks namespace can-i who-can' -s n -l namespace -x -d 'Namespace to check (default: default)'
 complete -c rbacaudit -n '__rbacaudit_lacks all-namespaces can-i who-can' -s A -l all-namespaces -d 'Check all namespaces at once'
 complete -c rbacaudit -n '__rbacaudit_lacks in-namespace can-i who-can' -l in-namespace -d 'Ask in the namespace also about a cluster-scoped type'
@@ -105,6 +109,8 @@ complete -c rbacaudit -n '__rbacaudit_lacks after matrix' -l after -x \
 complete -c rbacaudit -n '__rbacaudit_lacks limit matrix' -l limit -x -d 'List at most N rows, 1 to 1000000 (default: all)'
 complete -c rbacaudit -n '__rbacaudit_lacks only lint' -l only -x -d 'List only findings of these codes (default: all)'
 complete -c rbacaudit -n '__rbacaudit_lacks skip-system lint' -l skip-system -d 'Leave out what Kubernetes brings'
+complete -c rbacaudit -n '__rbacaudit_lacks steps paths' -l steps -x -k \
+    -a 'impersonate token run exec secrets nodes bind escalate certificates webhooks' -d 'Only these steps count (default: all of powers)'
 complete -c rbacaudit -n '__rbacaudit_lacks before diff' -l before -x -k -a '(__fish_complete_suffix .json)' \
     -d 'JSON of kubectl get -o json or --raw as it was before the change'
 complete -c rbacaudit -n '__rbacaudit_lacks after diff' -l after -x -k -a '(__fish_complete_suffix .json)' \
@@ -116,7 +122,7 @@ complete -c rbacaudit -n '__rbacaudit_lacks with diff' -l with -x -k -a '(__fish
 complete -c rbacaudit -n '__rbacaudit_words -eq 0 can-i who-can' -k -d 'Verb to check' \
     -a 'get list watch create update patch delete deletecollection use bind escalate impersonate'
 complete -c rbacaudit -n '__rbacaudit_words -ge 2 can-i who-can' -k -a '(__fish_complete_suffix .json)'
-complete -c rbacaudit -n '__rbacaudit_words -ge 1 rules' -k -a '(__fish_complete_suffix .json)'
+complete -c rbacaudit -n '__rbacaudit_words -ge 1 rules paths' -k -a '(__fish_complete_suffix .json)'
 complete -c rbacaudit -n '__rbacaudit_words -ge 0 matrix universe lint powers' -k -a '(__fish_complete_suffix .json)'
 complete -c rbacaudit -n '__rbacaudit_has before diff' -k -a '(__fish_complete_suffix .json)'
 complete -c rbacaudit -n '__rbacaudit_has after diff' -k -a '(__fish_complete_suffix .json)'

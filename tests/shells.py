@@ -75,6 +75,11 @@ def spellings(short, long):
     return (short, long) if short else (long,)
 
 
+def steps():
+    """The steps that help of powers describes."""
+    return re.findall(r'^  ([a-z]+) {2,}[a-z].*$', help_of('powers'), re.M)
+
+
 def default_of(text):
     return ''.join(DEFAULT.findall(text))
 
@@ -349,7 +354,7 @@ def may_be_repeated(text):
 
 
 def of_options():
-    """Lines that end in an option, each with all that is to be offered: none twice that is given once, and no word for a value."""
+    """Lines that end in an option, each with all that is to be offered: none twice that is given once, and of values steps alone."""
     for command in ('', *commands()):
         here = options(*command.split())
         line = ' '.join(['rbacaudit', *command.split(), ''])
@@ -359,9 +364,9 @@ def of_options():
             for name in names if text not in ('Print help', 'Print version') else ():
                 yield line + name + (' x' if value else '') + ' -', [other for others in left for other in others]
                 if value and value != 'FILE':
-                    yield line + name + ' ', []
+                    yield line + name + ' ', steps() if value == 'STEPS' else []
             if value:
-                if value != 'FILE':
+                if value not in ('FILE', 'STEPS'):
                     yield line + names[-1] + '=', []
                 yield line + names[-1] + '=x --', [other for others in left for other in others if len(other) > 2]
 
@@ -386,6 +391,10 @@ def of_words():
     yield 'rbacaudit rules ', []
     yield 'rbacaudit rules -n shop --groups a,b ', []
     yield 'rbacaudit rules u:system:serviceaccount:shop:ci -An shop --', ['--groups', '--group', '--help']
+    yield 'rbacaudit p', ['powers', 'paths']
+    yield 'rbacaudit paths --steps e', ['exec', 'escalate']
+    yield 'rbacaudit paths --steps run,exec ', []
+    yield 'rbacaudit paths u:system:serviceaccount:shop:ci --steps=run --', ['--groups', '--group', '--help']
     yield 'rbacaudit u', ['universe']
     yield 'rbacaudit matrix --once --', ['--every', '--after', '--limit', '--help']
     yield 'rbacaudit d', ['diff']
@@ -402,6 +411,8 @@ OF_FILES = {
     'rbacaudit who-can get pods a': {'a.json'},
     'rbacaudit rules g:dev ': {'a.json', 'b.json', 'sub'},
     'rbacaudit rules --groups dev u:system:serviceaccount:shop:ci a': {'a.json'},
+    'rbacaudit paths --steps run u:kim ': {'a.json', 'b.json', 'sub'},
+    'rbacaudit paths g:dev --steps=run,exec a': {'a.json'},
     'rbacaudit matrix ': {'a.json', 'b.json', 'sub'},
     'rbacaudit matrix --limit 3 a.json b': {'b.json'},
     'rbacaudit matrix --once a': {'a.json'},

@@ -20,9 +20,13 @@ PROGRAM = os.path.join(TOP, 'crates', 'rbacaudit', 'out', 'rbacaudit')
 KINDS = {
     'VERB': 'verb',  # help has three examples, and a line may have any verb: the usual ones are offered
     'FILE': 'file',  # an export is a file of JSON: such files are offered, and the folders on the way to them
+    'STEPS': 'step',  # the first of them is offered, as nothing is after a comma
 }
-# The words of a kind: the verbs of a server's requests, and those that Kubernetes checks beside them.
-WORDS = {'verb': 'get list watch create update patch delete deletecollection use bind escalate impersonate'}
+# The words of a kind: the verbs of a server's requests, and those that Kubernetes checks beside them; and the steps of powers.
+WORDS = {
+    'verb': 'get list watch create update patch delete deletecollection use bind escalate impersonate',
+    'step': 'impersonate token run exec secrets nodes bind escalate certificates webhooks',
+}
 # After these a line has nothing else that counts, so that nothing else is offered.
 LAST = '--help', '--version'
 # How help says that an option may be given again; no other may.
