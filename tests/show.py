@@ -31,7 +31,7 @@ from written import contents, same
 SHOW = os.path.join(TOP, 'plugin', 'rbacaudit-show')
 EXAMPLES = os.path.join(TOP, 'examples')
 MEMORY = 60_000  # kilobytes that a million lines may take
-EXPECTED = ('no command of rbacaudit prints this: expected lines of can-i, who-can, rules, matrix, lint, powers or diff; '
+EXPECTED = ('no command of rbacaudit prints this: expected lines of can-i, who-can, rules, matrix, lint, powers, paths or diff; '
             'rbacaudit-show --help lists their fields')
 
 
@@ -149,6 +149,28 @@ exec     g:devs  shop   RoleBinding…  ClusterRole…  ClusterRole/…  2     1
 secrets  u:bob   *      ClusterRole…  ClusterRole…  ClusterRole/…  10    3
 secrets  u:eve   \x2a   RoleBinding…  Role/*/r      Role/*/r       1     1
 '''
+# From a group, from everything in a namespace that is called *, from a role in a namespace, and from a user.
+PATHS = tabs(r'''
+1 * \x2a g:devs - bind RoleBinding/*/devs Role/*/lead Role/*/lead 2 1
+1 ClusterRole/edit shop g:devs - bind ClusterRoleBinding/devs ClusterRole/binds ClusterRole/binds 10 3
+2 u:system:serviceaccount:*:ci - * \x2a impersonate - - - - -
+2 u:system:serviceaccount:shop:ci - ClusterRole/edit shop run - ClusterRole/edit ClusterRole/edit-run 1 -
+3 * * u:system:serviceaccount:shop:ci - escalate ClusterRoleBinding/ci ClusterRole/ci ClusterRole/ci 1 1''')
+PATHS_TABLE = r'''STEPS  TO                               WHERE  FROM                             WHERE  STEP         BINDING                  ROLE               SOURCE                RULE  SUBJECT
+1      *                                \x2a   g:devs                           -      bind         RoleBinding/*/devs       Role/*/lead        Role/*/lead           2     1
+1      ClusterRole/edit                 shop   g:devs                           -      bind         ClusterRoleBinding/devs  ClusterRole/binds  ClusterRole/binds     10    3
+2      u:system:serviceaccount:*:ci     -      *                                \x2a   impersonate  -                        -                  -                     -     -
+2      u:system:serviceaccount:shop:ci  -      ClusterRole/edit                 shop   run          -                        ClusterRole/edit   ClusterRole/edit-run  1     -
+3      *                                *      u:system:serviceaccount:shop:ci  -      escalate     ClusterRoleBinding/ci    ClusterRole/ci     ClusterRole/ci        1     1
+'''
+# (179 columns, of which blanks take 20: 159 become 60. All that have more than 7 have 7 at last, which is 8 too many: the first four give two)
+PATHS_80 = r'''STEPS  TO     WHERE  FROM   WHERE  STEP   BIND…  ROLE     SOURCE   RULE  SUBJECT
+1      *      \x2a   g:de…  -      bind   Role…  Role/*…  Role/*…  2     1
+1      Clus…  shop   g:de…  -      bind   Clus…  Cluste…  Cluste…  10    3
+2      u:sy…  -      *      \x2a   impe…  -      -        -        -     -
+2      u:sy…  -      Clus…  shop   run    -      Cluste…  Cluste…  1     -
+3      *      *      u:sy…  -      esca…  Clus…  Cluste…  Cluste…  1     1
+'''
 DIFF = tabs(r'''
 + g:devs shop list - secrets * RoleBinding/shop/devs
 - u:bob * * apps * \x2a ClusterRoleBinding/bobs
@@ -215,6 +237,14 @@ COMMANDS = {
         'step who where ' + OF_WHY, ('exec', 'g:devs', 'shop', 'RoleBinding/shop/devs', 'ClusterRole/edit', 'ClusterRole/edit-exec', 2, 1),
         ('secrets', 'u:bob', None, 'ClusterRoleBinding/bobs', 'ClusterRole/ops', 'ClusterRole/ops', 10, 3),
         ('secrets', 'u:eve', '*', 'RoleBinding/*/eve', 'Role/*/r', 'Role/*/r', 1, 1)), ['g:devs', 'u:bob', 'u:eve']),
+    'paths': (PATHS, PATHS_TABLE, PATHS_80, objects(
+        'steps who where from from_where step ' + OF_WHY,
+        (1, '*', '*', 'g:devs', '', 'bind', 'RoleBinding/*/devs', 'Role/*/lead', 'Role/*/lead', 2, 1),
+        (1, 'ClusterRole/edit', 'shop', 'g:devs', '', 'bind', 'ClusterRoleBinding/devs', 'ClusterRole/binds', 'ClusterRole/binds', 10, 3),
+        (2, 'u:system:serviceaccount:*:ci', '', '*', '*', 'impersonate', '', '', '', None, None),
+        (2, 'u:system:serviceaccount:shop:ci', '', 'ClusterRole/edit', 'shop', 'run', '', 'ClusterRole/edit', 'ClusterRole/edit-run', 1, None),
+        (3, '*', None, 'u:system:serviceaccount:shop:ci', '', 'escalate', 'ClusterRoleBinding/ci', 'ClusterRole/ci', 'ClusterRole/ci', 1, 1)),
+              ['*', 'ClusterRole/edit', 'u:system:serviceaccount:*:ci', 'u:system:serviceaccount:shop:ci', '*']),
     'diff': (DIFF, DIFF_TABLE, DIFF_80, objects(
         'change ' + OF_ROW, ('+', 'g:devs', 'shop', 'list', '', 'secrets', None, 'RoleBinding/shop/devs'),
         ('-', 'u:bob', None, '*', 'apps', '*', '*', 'ClusterRoleBinding/bobs'),
@@ -308,7 +338,7 @@ def commands(it):
 
 
 # Commands whose rows have colors: the codes of each row.
-COLORS = {'can-i --why': ['', ''], 'who-can': ['', ''], 'rules': ['', ''], 'lint': [''] * 5, 'powers': [''] * 3, 'diff': ['1;32', '31', '31'], 'matrix': ['', '', '1', ''],
+COLORS = {'can-i --why': ['', ''], 'who-can': ['', ''], 'rules': ['', ''], 'lint': [''] * 5, 'powers': [''] * 3, 'paths': [''] * 5, 'diff': ['1;32', '31', '31'], 'matrix': ['', '', '1', ''],
           'diff --summary': ['1;32', '31', '1', '1']}
 
 
@@ -425,6 +455,13 @@ def power_of(name):
     return '\t'.join(('bind', field_of('g:' + name), place, *(field_of(text % name) for text in ('RoleBinding/%s/b', 'Role/%s/r', 'ClusterRole/%s')), '1', '2')) + '\n'
 
 
+def path_of(name):
+    """The same of a line of paths, from a role of a namespace to everything in it."""
+    place = '\\x2a' if name == '*' else field_of(name)
+    source, role = field_of('Role/%s/s' % name), field_of('Role/%s/r' % name)
+    return '\t'.join(('2', '*', place, role, place, 'escalate', '-', role, source, '3', '-')) + '\n'
+
+
 def texts(it):
     """Names of strangers come back from JSON as they were, and their objects are ASCII but for what is to be seen."""
     lines, wanted = zip(*strangers())
@@ -448,6 +485,9 @@ def texts(it):
     it.same('in powers', [tuple(line.values()) for line in objects_in(it.run(given, '-o', 'json')[1])], [
         ('bind', 'g:' + name, name, 'RoleBinding/%s/b' % name, 'Role/%s/r' % name, 'ClusterRole/' + name, 1, 2) for name in NAMES if name])
     it.same('in powers, as names', it.run(given, '-o', 'name')[1].decode(), ''.join(field_of('g:' + name) + '\n' for name in NAMES if name))
+    given = ''.join(path_of(name) for name in NAMES if name)
+    it.same('in paths', [tuple(line.values()) for line in objects_in(it.run(given, '-o', 'json')[1])], [
+        (2, '*', name, 'Role/%s/r' % name, name, 'escalate', '', 'Role/%s/r' % name, 'Role/%s/s' % name, 3, None) for name in NAMES if name])
     it.same('every byte as an escape', objects_in(it.run(''.join(
         'u:\\x%02x\tClusterRoleBinding/b\n' % at for at in range(128)), '-o', 'json')[1]),
             [{'who': 'u:' + chr(at), 'binding': 'ClusterRoleBinding/b'} for at in range(128)])
@@ -555,6 +595,10 @@ def refusals(it):
                        ('no list', RULES.splitlines()[0].replace('[get,list]', 'get')), ('a list with an empty word', RULES.splitlines()[0].replace('[get,list]', '[get,,list]')),
                        ('no sign', DIFF.splitlines()[0].replace('+', '=')), ('no step', POWERS.splitlines()[0].replace('exec', 'exe', 1)), ('no step, but a head', POWERS.splitlines()[0].replace('exec', 'STEP', 1)),
                        ('a step of nobody', POWERS.splitlines()[0].replace('g:devs', 'devs')), ('a step by no binding', POWERS.splitlines()[0].replace('RoleBinding', 'Role')),
+                       ('a path of no step', PATHS.replace('1', '0', 1).splitlines()[0]), ('a path to nobody', PATHS.splitlines()[1].replace('ClusterRole/edit', 'edit')),
+                       ('a path to all but one', PATHS.splitlines()[0].replace('*', '**', 1)), ('a path from nobody', PATHS.splitlines()[0].replace('g:devs', 'devs')),
+                       ('a path by no step', PATHS.splitlines()[0].replace('bind', '-', 1)), ('a path by no role', PATHS.splitlines()[0].replace('Role/*/lead', 'Role/lead', 1)),
+                       ('a path by a binding without a name', PATHS.splitlines()[1].replace('Binding/devs', 'Binding/')), ('a path by half a rule', PATHS.splitlines()[0][:-1] + '--'),
                        ('no token', 'next\ta b'), ('next without a token', 'next')):
         for words in ([], ['-o', 'json'], ['-o', 'name']):
             it.same('refused %s: %s' % (words, name), it.run(line + '\n', *words), (2, b'', 'rbacaudit-show: standard input line 1: %s\n' % EXPECTED))
@@ -567,6 +611,9 @@ def refusals(it):
             ('a reason among holders', HOLDERS, WHY, 'no line of who-can as before: expected 2 fields: WHO BINDING'),
             ('a power among changes', DIFF, POWERS, 'no line of diff as before: expected 8 fields: CHANGE WHO NAMESPACE VERB GROUP RESOURCE NAME BINDING'),
             ('a change among powers', POWERS, DIFF, 'no line of powers as before: expected 8 fields: STEP WHO WHERE BINDING ROLE SOURCE RULE SUBJECT'),
+            ('a power among paths', PATHS, POWERS,
+             'no line of paths as before: expected 11 fields: STEPS TO WHERE FROM WHERE STEP BINDING ROLE SOURCE RULE SUBJECT'),
+            ('a path among rules', RULES, PATHS, 'no line of rules as before: expected 10 fields: BINDING ROLE SOURCE RULE SUBJECT VERBS GROUPS RESOURCES NAMES URLS'),
             ('a file among findings', LINT, FILES, 'no line of lint as before: expected 5 fields: CODE NAME OBJECT PLACE DETAIL'),
             ('a finding after yes', 'yes\n', LINT, 'no line of can-i as before: expected yes, no, or 5 fields: BINDING ROLE SOURCE RULE SUBJECT')):
         status, out, err = it.run(before + line, '-o', 'json')
@@ -647,7 +694,7 @@ SHOP = ['shop.json']
 ASKED = ([*'can-i --as kim@example.com --groups shop-developers -n shop --why list pods'.split(), *SHOP], [*'can-i --as kim get pods'.split(), *SHOP],
          [*'who-can -n shop update deployments.apps'.split(), *SHOP], [*'who-can -n shop --any-name --why update configmaps'.split(), *SHOP],
          ['rules', 'u:system:serviceaccount:shop:ci', *SHOP], ['matrix', *SHOP, 'shop-universe.json'], ['matrix', '--limit', '3', *SHOP, 'shop-universe.json'],
-         ['lint', 'lint.json'], ['powers', *SHOP], ['diff', '--before', *SHOP, '--after', *SHOP, 'shop-change.json'])
+         ['lint', 'lint.json'], ['powers', *SHOP], ['paths', 'u:dana@example.com', *SHOP], ['diff', '--before', *SHOP, '--after', *SHOP, 'shop-change.json'])
 
 
 def text_of(field):
@@ -688,12 +735,12 @@ def answers():
 
 
 def worked():
-    """The lines of the worked examples (rows.json, and the powers of rows_paths.json)."""
+    """The lines of the worked examples (rows.json, and the powers and paths of rows_paths.json)."""
     with open(os.path.join(TOP, 'tests', 'rows.json'), encoding='utf-8') as file:
         groups = json.load(file)
     with open(os.path.join(TOP, 'tests', 'rows_paths.json'), encoding='utf-8') as file:
         examples = (example for group in json.load(file).values() for example in group)
-        groups['powers'] = [{'asks': [it for it in example.get('asks', ()) if it[0] == 'powers']} for example in examples]
+        groups['paths'] = [{'asks': [it for it in example['asks'] if not it[0].startswith('who-can')]} for example in examples]
     wrong, count = [], 0
     for example in (example for group in groups.values() for example in group):
         asks = [(it[0], it[2]) for it in example.get('asks', ()) if len(it) == 3 and not it[0].startswith('universe')]
