@@ -29,7 +29,7 @@ import plugin_show
 import plugin_terminal
 from common import PROGRAM, TOP, checked, skipped, tested
 from plugin_room import KIM, PLUGIN, SHELLS, in_each_shell
-from shells import VERBS, commands, contents, options, options_in, renders
+from shells import VERBS, commands, contents, options, options_in, renders, steps
 
 COMPLETER = os.path.join(TOP, 'plugin', 'kubectl_complete-rbacaudit')
 MAN = os.path.join(TOP, 'man', 'kubectl-rbacaudit.1')
@@ -59,7 +59,7 @@ def tools(it):
     it.expect('versions', ['--version'], 0, VERSIONS)
     for line, said in ((['--help'], 'kubectl rbacaudit who-can'), (['-h'], '--partial'), (['export', '--help'], 'incomplete.txt'),
                        (['universe', '-h'], 'Universe document'), (['can-i', '--help'], '--why'),
-                       (['who-can', '-Ah'], 'with kubectl rbacaudit who-can'), (['rules', '-h'], 'u:USER or g:GROUP'), (['matrix', '-h'], '--after'), (['lint', '--help'], 'dangling-role'), (['powers', '-h'], 'act as a user, a group'),
+                       (['who-can', '-Ah'], 'with kubectl rbacaudit who-can'), (['rules', '-h'], 'u:USER or g:GROUP'), (['matrix', '-h'], '--after'), (['lint', '--help'], 'dangling-role'), (['powers', '-h'], 'act as a user, a group'), (['paths', '-h'], 'with kubectl rbacaudit paths'),
                        (['diff', '--help'], 'objects that the change deletes'), (['diff', '-h'], 'folder with a kustomization'), (['read', '-h'], 'refused')):
         status, out, err = got = it.run(*line)
         it.checked('help: %s' % ' '.join(line), (status, err) == (0, '') and said.lower() in out.lower(), got)
@@ -136,7 +136,7 @@ OF_EXPORT = {('--force',): '', ('-n', '--namespace'): 'NS', ('--context',): 'NAM
              ('--request-timeout',): 'TIME', ('--as',): 'USER', ('--as-group',): 'GROUP'}
 NOTHING, FILES, FOLDERS = ':4', ':0', ':16'
 COMPLETED = [
-    ([''], ['can-i', 'who-can', 'rules', 'matrix', 'powers', 'lint', 'diff', 'read', 'universe', 'page', 'export'], NOTHING),
+    ([''], ['can-i', 'who-can', 'rules', 'matrix', 'powers', 'paths', 'lint', 'diff', 'read', 'universe', 'page', 'export'], NOTHING),
     (['m'], ['matrix'], NOTHING),
     (['-'], ['-h', '--help', '-V', '--version'], NOTHING), (['no', ''], [], NOTHING),
     (['no', '-'], [], NOTHING),
@@ -150,6 +150,8 @@ COMPLETED = [
     (['rules', '--groups', 'x', 'u:kim', 'y', ''], [], FILES),
     (['matrix', '--limit', ''], [], NOTHING),
     (['matrix', '--limit=3', 'a'], [], FILES), (['lint', '--export', ''], [], FOLDERS),
+    (['p'], ['powers', 'paths', 'page'], NOTHING), (['paths', ''], [], NOTHING), (['paths', '--steps', 'e'], ['exec', 'escalate'], NOTHING),
+    (['paths', '--steps=r'], ['run'], NOTHING), (['paths', '--steps', 'run,exec', '--group', ''], [], NOTHING), (['paths', '--steps', 'run', 'u:kim', ''], [], FILES),
     (['powers', ''], [], FILES), (['powers', '--export', ''], [], FOLDERS), (['powers', 'a', '--exp'], ['--export'], NOTHING),
     (['lint', '--only', ''], [], NOTHING), (['lint', '--only', 'L6', 'a'], [], FILES),
     (['lint', '--kubeconfig', 'x'], [], FILES),
@@ -202,7 +204,7 @@ def completions(it):
         *found, last = ended.stdout.decode().splitlines()
         return [line.partition('\t')[0] for line in found], last
 
-    for words_, found, last in COMPLETED:
+    for words_, found, last in [*COMPLETED, (['paths', '--steps', ''], steps(), NOTHING)]:
         got = offered(words_)
         it.checked('completions of %s' % words_, (sorted(got[0]), got[1]) == (sorted(found), last),
                    got)

@@ -69,6 +69,9 @@ def principals(it):
                         mistyped + 'write u:system:serviceaccount:shop:ci, or g:system:serviceaccount:shop:ci\n'),
                        (['--groups', 'x', 'g:dev'], of_group), (['g:dev', 'f.json', '--group=x'], of_group)):
         it.expect('rules %s' % line, ['rules', *line], 2, '', 'rbacaudit: U5 bad principal\n' + said)
+    for line, said in ((['kim'], mistyped + 'write u:kim, or g:kim\n'), (['--steps', 'run', 'x', 'u:kim'], mistyped + 'write u:x, or g:x\n'),
+                       (['--groups', 'x', 'g:dev'], of_group)):
+        it.expect('paths %s' % line, ['paths', *line], 2, '', 'rbacaudit: U5 bad principal\n' + said)
     status, out, err = got = it.run('rules', '')
     it.checked('an empty WHO', (status, out) == (2, '') and err.startswith('rbacaudit: U') and 'write u:' not in err, got)
     it.checked('no call is made', not it.lines('calls'), 'calls')

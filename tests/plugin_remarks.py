@@ -255,8 +255,9 @@ def users(it):
                                 'write --groups shop-developers\n'),
             ('LEE', OTHER_USER % ('LEE', 'lee')), (HOSTILE.upper(), OTHER_USER % ('A"B\\\\C\\x09D\\\\X09', SHOWN))):
         asks(it, name, said)
-    it.expect('rules u:', ['rules', '--export', 'prod', 'u:g:idle'], 0, '', FOR_GROUP % ('g:idle', 'g:idle'))
-    it.expect('rules of a user whom a binding names', ['rules', '--export', 'prod', 'u:lee'], 0, '')
+    for command in ('rules', 'paths'):
+        it.expect('%s u:' % command, [command, '--export', 'prod', 'u:g:idle'], 0, '', FOR_GROUP % ('g:idle', 'g:idle'))
+        it.expect('%s of a user whom a binding names' % command, [command, '--export', 'prod', 'u:lee'], 0, '')
     it.expect('of a fresh export', ['can-i', '--as', 'kim', '-n', 'shop', 'delete', 'pods'], 1, 'no\n', NO_USER % ('kim', NO_GROUPS))
     it.expect('who-can asks about nobody', ['who-can', '--export', 'prod', '-n', 'shop', 'get', 'pods'], 0, DANA + DEVELOPERS)
 
@@ -271,7 +272,8 @@ def accounts(it):
                         ('prometheus', 'system:serviceaccount:monitoring:prometheus'), ('twin', twin), ('a:twin', 'system:serviceaccount:a:twin'),
                         ('sa:shop:cii', 'system:serviceaccount:shop:cii'), ('sa:cii', 'system:serviceaccount:NS:cii')):
         asks(it, name, FOR_ACCOUNT % (name, '--as ' + meant))
-    it.expect('rules', ['rules', '--export', 'prod', 'u:ci'], 0, '', FOR_ACCOUNT % ('ci', 'u:' + ci))
+    for command in ('rules', 'paths'):
+        it.expect(command, [command, '--export', 'prod', 'u:ci'], 0, '', FOR_ACCOUNT % ('ci', 'u:' + ci))
     it.write(json.dumps(of_kinds([{'apiVersion': 'v1', 'kind': 'ServiceAccount', 'metadata': {'name': 'idler', 'namespace': 'shop'}}],
                                  'ServiceAccount')), 'prod', 'accounts.json')
     asks(it, 'idler', FOR_ACCOUNT % ('idler', '--as system:serviceaccount:shop:idler'))
@@ -302,7 +304,8 @@ def groups(it):
     asks(it, 'kim', '', '--group', 'a\nb', '--group', 'idle')
     for who, said in (('a\nb', ''), ('idle', ''), ('typo', ' typo: check the spelling'), ('lee', ' lee, but a user of that name: write u:lee'),
                       ('g:idle', ' g:idle: write g:idle'), ('a,b', ' a,b: check the spelling'), ('system:x', '')):
-        it.expect('rules g:%r' % who, ['rules', '--export', 'prod', 'g:' + who], 0, '', said and NO_GROUP % said)
+        for command in ('rules', 'paths'):
+            it.expect('%s g:%r' % (command, who), [command, '--export', 'prod', 'g:' + who], 0, '', said and NO_GROUP % said)
 
 
 @in_each_shell

@@ -128,7 +128,8 @@ ANSWERS = [
     (['who-can', '-A', '--why', 'delete', TYPE], 0, 'u:{3}' + WHY), (['rules', 'u:' + USER], 0, RULES),
     (['matrix', 'u.json'], 0, 'u:{3}\t-\tdelete\t-\t{2}\t-\tClusterRoleBinding/{0}\nend\n'),
     (['lint'], 1, 'L4\tescalation\tClusterRole/{1}\t2\tbind\n'),
-    (['powers'], 0, 'bind\tu:{3}\t*\tClusterRoleBinding/{0}\tClusterRole/{1}\tClusterRole/{1}\t2\t1\n')]
+    (['powers'], 0, 'bind\tu:{3}\t*\tClusterRoleBinding/{0}\tClusterRole/{1}\tClusterRole/{1}\t2\t1\n'),
+    (['paths', 'u:' + USER], 0, '1\t*\t*\tu:{3}\t-\tbind\tClusterRoleBinding/{0}\tClusterRole/{1}\tClusterRole/{1}\t2\t1\n')]
 
 
 @in_each_shell

@@ -6,12 +6,14 @@ parts_of() {
     wanted=
     case $1 in
         rules | powers | lint | diff) needed='cluster.json namespaced.json' ;;
+        paths) needed='cluster.json namespaced.json accounts.json' ;;
         matrix) needed='cluster.json namespaced.json namespaces.json accounts.json api' ;;
         *) needed='cluster.json namespaced.json api' ;;
     esac
     [ -z "$asked_in" ] || wanted=namespaces.json
-    case $asker in
-        system:serviceaccount:*) wanted="$wanted accounts.json" ;;
+    case $needed,$asker in
+        *accounts.json*) ;;
+        *,system:serviceaccount:*) wanted="$wanted accounts.json" ;;
     esac
 }
 
@@ -226,7 +228,7 @@ name_list() {
 set_most() {
     case $1 in
         can-i | who-can) most=3 ;;
-        rules) most=2 ;;
+        rules | paths) most=2 ;;
         *) most=1 ;;
     esac
 }
@@ -319,7 +321,7 @@ answer_question() {
     parts_of "$command"
     open_export
     case $command in
-        can-i | who-can | rules) remark_on_question "$@" ;;
+        can-i | who-can | rules | paths) remark_on_question "$@" ;;
     esac
     shift
     [ -z "$own$place_of" ] || set -- --in-namespace "$@"
@@ -329,8 +331,8 @@ answer_question() {
     exit "$answered"
 }
 
-# Leaves in `verb`, `type` and `object` what a question is about: no type if that is a URL. For rules,
-# leaves in `asker` or `members` the user or the group whose key WHO is.
+# Leaves in `verb`, `type` and `object` what a question is about: no type if that is a URL. For rules
+# and paths, leaves in `asker` or `members` the user or the group whose key WHO is.
 find_target() {
     verb=
     type=
@@ -341,7 +343,7 @@ find_target() {
             verb=$found
             find_place 3 "$@"
             ;;
-        rules)
+        rules | paths)
             case $found in
                 u:*) asker=${found#u:} ;;
                 g:*)
@@ -418,7 +420,7 @@ namespace what somebody may do in the whole cluster; --once leaves them out"
 is_kept() {
     [ "$format" != sarif ] || return 0
     case $command$stale in
-        who-can?* | rules?* | powers?*) ;;
+        who-can?* | rules?* | powers?* | paths?*) ;;
         *) has_words ;;
     esac
 }

@@ -23,7 +23,7 @@ UNNAMED=$FIELD'
 { keys[$1] }
 !accounts { named[$1]; low = tolower($1); if (!(low in alike)) alike[low] = $1 }
 END {
-    command = ENVIRON["ASKED"]; asker = ENVIRON["ASKER"]; home = ENVIRON["HOME_SPACE"]
+    is_who = ENVIRON["ASKED"] ~ /^(rules|paths)$/; asker = ENVIRON["ASKER"]; home = ENVIRON["HOME_SPACE"]
     count = split(ENVIRON["MEMBERS"], member, "\n")
     for (at = 1; at <= count; at++) if (member[at] != "") {
         given = 1
@@ -55,7 +55,7 @@ function of_group(name) {
     if (name ~ /^g:./) return ": write " group(substr(name, 3))
     if (("u:" printed(name)) in named) return ", but a user of that name: write " user(name)
     if (is_alike("g:" name)) return ", but the group " other ": check the spelling"
-    if (name ~ /,/ && command != "rules") return ": --groups splits at commas, and --group doesn\047t"
+    if (name ~ /,/ && !is_who) return ": --groups splits at commas, and --group doesn\047t"
     return ""
 }
 function is_alike(key) {
@@ -63,9 +63,9 @@ function is_alike(key) {
     if (key in alike) other = substr(alike[key], 3)
     return key in alike
 }
-function user(name) { return (command == "rules" ? "u:" : "--as ") name }
+function user(name) { return (is_who ? "u:" : "--as ") name }
 function group(name) {
-    return command == "rules" ? "g:" name : (name ~ /,/ ? "--group " : "--groups ") name
+    return is_who ? "g:" name : (name ~ /,/ ? "--group " : "--groups ") name
 }
 # The user name of the service account that a name was meant for, or nothing.
 function account(name,    is_told, rest, count, part) {

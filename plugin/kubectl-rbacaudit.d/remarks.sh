@@ -318,13 +318,17 @@ and this matrix has what they gather"
             ! has_same_lines || return 0
             differs='has other powers'
             ;;
+        paths00)
+            ! has_same_lines || return 0
+            differs='has other paths'
+            ;;
         *) return 0 ;;
     esac
     report "the cluster $differs now, because of stale aggregates (L6 of lint): $stale"
 }
 
-# Whether both answers have the same holders, the same rules by the same bindings, or the same powers:
-# wherever a rule is written.
+# Whether both answers have the same holders, the same rules by the same bindings, the same powers, or the
+# same paths: wherever a rule is written.
 has_same_lines() {
     has_lines_of "$scratch/answer" "$scratch/written" &&
         has_lines_of "$scratch/written" "$scratch/answer"
@@ -334,6 +338,7 @@ has_same_lines() {
 has_lines_of() {
     LC_ALL=C awk -F '\t' '
         { line = NF == 10 ? $1 FS $6 FS $7 FS $8 FS $9 FS $10 : NF == 8 ? $1 FS $2 FS $3 : $1 }
+        NF == 11 { line = $1 FS $2 FS $3 FS $4 FS $5 FS $6 }
         !begun { there[line]; next }
         !(line in there) { lacks = 1 }
         END { exit lacks }' "$1" begun=1 "$2"

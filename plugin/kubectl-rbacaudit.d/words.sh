@@ -24,7 +24,7 @@ read_word() {
         case $1 in
             --) literal=yes ;;
             --help) help=yes ;;
-            --as | --groups | --group | --namespace | --subresource | --limit | --only) awaits=$1 ;;
+            --as | --groups | --group | --namespace | --subresource | --limit | --only | --steps) awaits=$1 ;;
             --after) [ "$command" = diff ] || awaits=$1 ;;
             --as=* | --groups=* | --group=* | --namespace=* | --subresource=*)
                 take_value "${1%%=*}" "${1#*=}"
