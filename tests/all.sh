@@ -1,9 +1,9 @@
 #!/usr/bin/env bash
 # The whole gate: each edit still fits, every proof, must-fail edit and test by `rt ci`, which wrong bodies a change wants
 # tried, what only a process can show, the kubectl plugin, completions and man page, the page in a browser, lines as tables
-# and as JSON, what make dist packs, random matrices, universes, rules, changes and powers, bad documents, refused memory,
-# reads and writes, and each public call by itself. The last line counts all of it, as `N passed, M failed`; if a test
-# skipped something that this machine lacks, the last line but one says what.
+# and as JSON, what make dist packs, random matrices, universes, rules, changes, powers and paths, bad documents, refused
+# memory, reads and writes, and each public call by itself. The last line counts all of it, as `N passed, M failed`; if a
+# test skipped something that this machine lacks, the last line but one says what.
 set -u
 cd "$(dirname "$0")/.."
 log=$(mktemp)

@@ -105,6 +105,27 @@ TAKERS = [
 ]
 POWERS = ''.join('%s\t%s\tdev\tRoleBinding/dev/t\tRole/dev/taker\tRole/dev/taker\t%d\t%d\n' % line for line in [
     ('impersonate', 'g:dev', 2, 1), ('impersonate', CI_KEY, 2, 2), ('secrets', 'g:dev', 1, 1), ('secrets', CI_KEY, 1, 2)])
+# What the account can take over by binding and by escalating, beside those: each kind of node, and each kind of reason.
+MAKER = 'makers-of-pods-in-all-shops'
+OWNERS = [
+    item('ClusterRole', {'name': MAKER}, rules=[{'verbs': ['create'], 'apiGroups': [''], 'resources': ['pods']}]),
+    item('ClusterRole', {'name': 'binder'}, rules=[
+        {'verbs': ['bind'], 'apiGroups': ['rbac.authorization.k8s.io'], 'resources': ['clusterroles'], 'resourceNames': [MAKER]}]),
+    item('ClusterRoleBinding', {'name': 'u'}, roleRef=role_ref('ClusterRole', 'binder'),
+         subjects=[{'kind': 'ServiceAccount', 'namespace': 'dev', 'name': 'ci'}]),
+    item('Role', {'namespace': 'dev', 'name': 'escalator'}, rules=[
+        {'verbs': ['escalate'], 'apiGroups': ['rbac.authorization.k8s.io'], 'resources': ['roles']}]),
+    item('RoleBinding', {'namespace': 'dev', 'name': 'u'}, roleRef=role_ref('Role', 'escalator'),
+         subjects=[{'kind': 'ServiceAccount', 'name': 'ci'}]),
+    item('ServiceAccount', {'namespace': 'dev', 'name': 'bot'}, 'v1'),
+    item('ServiceAccount', {'namespace': 'prod', 'name': 'bot'}, 'v1'),
+]
+PATHS = ''.join('\t'.join(fields) + '\n' for fields in (
+    ('1', CI_KEY, '-', 'u:kim', '-', 'impersonate', 'RoleBinding/dev/t', 'Role/dev/taker', 'Role/dev/taker', '2', '1'),
+    ('2', '*', 'dev', CI_KEY, '-', 'escalate', 'RoleBinding/dev/u', 'Role/dev/escalator', 'Role/dev/escalator', '1', '1'),
+    ('2', 'ClusterRole/' + MAKER, '*', CI_KEY, '-', 'bind', 'ClusterRoleBinding/u', 'ClusterRole/binder', 'ClusterRole/binder', '1', '1'),
+    ('3', 'u:system:serviceaccount:dev:bot', '-', '*', 'dev', 'impersonate', *'-----'),
+    ('3', 'u:system:serviceaccount:prod:bot', '-', 'ClusterRole/' + MAKER, '*', 'run', '-', 'ClusterRole/' + MAKER, 'ClusterRole/' + MAKER, '1', '-')))
 # What the two bindings of the worked export bring: to the group dev, and to the subject at a place.
 GROUP_RULES = ''.join('ClusterRoleBinding/a\tClusterRole/admin\tClusterRole/%s\t%s\n' % (LONG, rest) for rest in (
     '1\t1\t[get]\t[-]\t[pods]\t[]\t[]', '2\t1\t[get]\t[]\t[]\t[]\t[/healthz*]'))
@@ -200,6 +221,22 @@ def long_rules():
     lines = ['ClusterRoleBinding/b\tClusterRole/r\tClusterRole/r\t%d\t1\t[get]\t[-]\t[pods]\t[%s,x]\t[]\n'
              % (number, name.replace(',', '\\x2c')) for number, name in enumerate(names, 1)]
     return Case('rules with long names', ['rules', 'u:kim'], given, 0, ''.join(lines))
+
+
+def few_paths():
+    return Case('paths', ['paths', 'g:dev'], export(*WORKED, *TAKERS), 0,
+                '1\t%s\t-\tg:dev\t-\timpersonate\tRoleBinding/dev/t\tRole/dev/taker\tRole/dev/taker\t2\t1\n' % CI_KEY)
+
+
+def long_paths():
+    """Users with ever longer names who can be impersonated, so that memory is taken after a piece was written."""
+    names = [letter * size for letter, size in (('a', 40_000), ('b', 40_000), ('c', 150_000), ('d', 600_000))]
+    given = export(
+        item('ClusterRole', {'name': 'r'}, rules=[{'verbs': ['impersonate'], 'apiGroups': [''], 'resources': ['users']}]),
+        item('ClusterRoleBinding', {'name': 'b'}, roleRef=role_ref('ClusterRole', 'r'), subjects=users('kim')),
+        item('ClusterRoleBinding', {'name': 'c'}, roleRef=role_ref('ClusterRole', 'gone'), subjects=users(*names)))
+    return Case('paths with long names', ['paths', 'u:kim'], given, 0, ''.join(
+        '1\tu:%s\t-\tu:kim\t-\timpersonate\tClusterRoleBinding/b\tClusterRole/r\tClusterRole/r\t1\t1\n' % name for name in names))
 
 
 # The worked export after a change: its first role allows more, and one user takes the place of another.
@@ -404,6 +441,10 @@ def answers():
     yield Case('lint --skip-system', ['lint', '--skip-system'], export(*WORKED, *SLIPS), 1, OTHER_FINDINGS)
     yield Case('lint, no findings', ['lint'], export(*WORKED), 0)
     yield Case('powers', ['powers'], export(*WORKED, *TAKERS), 0, POWERS)
+    yield few_paths()
+    yield Case('paths --groups --steps', ['paths', '--groups', 'ops,dev', '--steps', 'run,impersonate,bind,escalate', 'u:kim'],
+               export(*WORKED, *TAKERS, *OWNERS), 0, PATHS)
+    yield Case('paths to nobody', ['paths', '--steps', 'webhooks,exec', 'g:dev'], export(*WORKED, *TAKERS), 0)
     yield Case('lint, no findings left', ['lint', '--only', 'L6', '--skip-system'], export(*WORKED, *SLIPS), 0)
 
 
@@ -461,6 +502,8 @@ def faults(room):
     yield Case('U5', ['rules', '--groups', 'ops', 'g:dev'], b'', 2, err='U5 bad principal')
     yield Case('U6', ['lint', '--only', 'L1,'], b'', 2, err='U6 bad code')
     yield Case('U7', ['diff', '--before', missing, '--after', missing, '--with', missing], b'', 2, err='U7 give either --after, or --with or --without')
+    yield Case('U8', ['paths', '--steps', 'run,', 'u:kim', missing], b'', 2,
+               err='U8 steps are impersonate, token, run, exec, secrets, nodes, bind, escalate, certificates, webhooks')
     yield Case('a word that is not UTF-8', ['can-i', '--as', b'al\xffce', 'get', 'pods'], b'', 2, err='argument 3: not UTF-8')
     yield Case('I1', [*alice, missing], b'', 2, err='file 1: I1 read fault')
     yield Case('I2', [*alice, '/dev/zero'], b'', 2, err='file 1: I2 too long', step=7)
@@ -486,7 +529,7 @@ def parser_texts():
 def refused_memory(shim, room):
     """Every growth of memory in turn, and every growth from each on; two sweeps at a time."""
     cases = [(case, False) for case in (*answers(), *examples(), *changes(room), *matrices(), *parser_texts(), *faults(room))]
-    cases += [(case, True) for case in (long_matrix(), long_bindings(), long_holders(), long_rules(), long_changes(room))]
+    cases += [(case, True) for case in (long_matrix(), long_bindings(), long_holders(), long_rules(), long_paths(), long_changes(room))]
     cases += [(long_lists(), False)]
     asked = [(case, must_cut, mode) for case, must_cut in cases for mode in (False, True)]
     with concurrent.futures.ThreadPoolExecutor(2) as pool:
@@ -499,7 +542,7 @@ def refused_memory(shim, room):
 def failed_reads(shim, room):
     """Each read in turn, of an input that comes in pieces of 100 bytes and of one that comes byte by byte."""
     small = Case('can-i', ALICE_GETS_PODS, export(), 1, 'no\n')
-    cases = (can_i(), 100), (few_rules(), 100), (few_reasons(), 100), (few_changes(room), 100), (few_put_over(room), 100), (small, 1)
+    cases = (can_i(), 100), (few_rules(), 100), (few_reasons(), 100), (few_paths(), 100), (few_changes(room), 100), (few_put_over(room), 100), (small, 1)
     for (case, piece), error in itertools.product(cases, (errno.EIO, errno.EINTR)):
         for mode in (False, True):
             met = sweep(shim, case, 'read', is_read_fault(case), error, mode, piece)
@@ -520,7 +563,7 @@ def endless_input(shim):
 
 def failed_writes(shim, room):
     """Each write in turn: of a long text as it is written in pieces, and of short ones that are taken at once or byte by byte."""
-    shorts = few_holders(), few_reasons(), each_binding(), few_rules(), few_changes(room), few_lists(), findings(), odd_names()
+    shorts = few_holders(), few_reasons(), each_binding(), few_rules(), few_paths(), few_changes(room), few_lists(), findings(), odd_names()
     longs = (long_matrix(), 0), (long_matrix(), 10_000), (long_rules(), 0), (long_changes(room), 0), (long_lists(), 10_000)
     pieces = [*longs, *itertools.product(shorts, (0, 1))]
     for (case, piece), error in itertools.product(pieces, (errno.ENOSPC, errno.EINTR, 0)):
@@ -599,7 +642,7 @@ def pipes():
 def disks_with_room(folder):
     """A disk with room for so many bytes: it gets them, and the line says how many."""
     listing = long_matrix()
-    shorts = can_i(), few_holders(), few_reasons(), few_rules(), few_changes(folder), few_lists()
+    shorts = can_i(), few_holders(), few_reasons(), few_rules(), few_paths(), few_changes(folder), few_lists()
     rooms = [(case, size) for case in shorts for size in range(len(case.whole[1]) + 1)]
     rooms += [(listing, size) for size in (FULL - 1, FULL, FULL + 1, 2 * FULL, len(listing.whole[1]) - 1)]
     wrong = [(case.name, size) for case, size in rooms if not fills(case, size)]

@@ -6,8 +6,8 @@ long, with names that mean something else in another place. Each answer of the p
 the definition. Then the laws are looked for in the program's answers alone: following a line's node before leads to the one
 asked about in as many lines; `paths` and `who-can --indirect` agree; and whoever has no line in `powers` comes to nobody.
 
-First of all the same is asked about the example cluster, of which some numbers are known. The program has only `powers` yet
-(BUILT): the definition answers the other commands in its place.
+First of all the same is asked about the example cluster, of which some numbers are known. The program has `powers` and `paths`
+(BUILT): the definition answers `who-can --indirect` in its place.
 
 `paths.py SEED COUNT` tries other exports. `paths.py --reference COMMAND WORD.. [FILE]..` prints the lines of the definition,
 such as `paths.py --reference paths u:kim cluster.json`, without FILE those of standard input. `paths.py --rows` compares the
@@ -43,7 +43,7 @@ GROUPS = ['', 'apps', 'batch', 'rbac.authorization.k8s.io', 'extensions']
 RESOURCES = ['pods', 'jobs', 'users', 'roles', 'serviceaccounts', 'nodes', 'secrets/x', 'pods/log', '*/exec', '*/token', '*/proxy', '*/approval',
              '*/*', '/']
 # The commands that the program has.
-BUILT = {'powers'}
+BUILT = {'powers', 'paths'}
 # How many lines `powers` has of each step over the example cluster.
 POWERS = {'impersonate': 10, 'token': 10, 'run': 15, 'exec': 12, 'secrets': 15, 'nodes': 6, 'bind': 7, 'escalate': 6, 'certificates': 5, 'webhooks': 5}
 

@@ -17,6 +17,7 @@ import tempfile
 
 from common import PODS, PROGRAM, TOP, V1, V1BETA1, bare, checked, export, tested
 from meaning import document_text
+from paths import BUILT
 from transcripts import (example_cluster, links_and_heads, loop_of_pages, spaced_bindings,
                          transcripts)
 
@@ -26,11 +27,12 @@ LEAST = b'{"apiVersion":"v1","kind":"List"}'
 # The user, the verb or the target is empty.
 EMPTY_WORDS = (['can-i', '--as', '', 'get', 'pods'], ['can-i', '--as', 'alice', '', 'pods'], ['can-i', '--as', 'alice', 'get', ''],
                ['who-can', '', 'pods'], ['who-can', 'get', ''], ['who-can', '--any-name', 'get', ''])
-# WHO is no key, or groups are given to a group.
+# WHO is no key, or groups are given to a group. The words of `rules` are those of `paths` too, but for -A.
 NOBODY = (['rules', ''], ['rules', 'u:'], ['rules', 'g:'], ['rules', 'kim'], ['rules', 'u'], ['rules', ':kim'], ['rules', 'x:kim'],
           ['rules', 'U:kim'], ['rules', ' u:kim'], ['rules', '-A', 's:kim'], ['rules', '--groups', 'ops', 'g:dev'],
           ['rules', 'g:dev', '--groups=,'], ['rules', '--group', 'ops', 'g:dev'], ['rules', '--group', '', '--group', ',', 'g:dev'],
           ['rules', '--group=ops', 'u:'], ['rules', '--groups', 'ops', 'u:'], ['rules', '--groups=', 'g:'])
+NOBODY += tuple(['paths', *words[1:]] for words in NOBODY if '-A' not in words)
 # The side before a change isn't given, or more than the files of a change.
 NO_CHANGES = ([], ['a'], ['a', 'b'], ['--after', 'a'], ['--with', 'a'], ['--without', 'a', '--with', 'b'],
               *([*words, '--before', 'a', '--after', 'b'] for words in (['c'], ['-n', 'dev'], ['--why'], ['-q'], ['--limit', '1'])),
@@ -40,9 +42,9 @@ BAD_CHANGES = ([], ['--before', 'b'], ['--after', 'b', '--with', 'c'], ['--witho
                ['--after', 'b', '--without', 'c', '--with', 'd'])
 
 
-# The steps of powers, as their help describes them.
-STEPS = [b'  %-12s  ' % step for step in (b'impersonate', b'token', b'run', b'exec', b'secrets', b'nodes', b'bind', b'escalate', b'certificates',
-                                          b'webhooks')]
+# The steps of the table, in its order.
+STEPS = ('impersonate', 'token', 'run', 'exec', 'secrets', 'nodes', 'bind', 'escalate', 'certificates', 'webhooks')
+BAD_STEP = b'rbacaudit: U8 steps are impersonate, token, run, exec, secrets, nodes, bind, escalate, certificates, webhooks\n'
 
 
 def run(words, given=b'', **how):
@@ -83,6 +85,7 @@ def listed(version, kind, *items):
 ALICE_GETS_PODS = ['can-i', '--as', 'alice', 'get', 'pods']
 BOUND = binding('RoleBinding', 'b', 'Role', 'r', 'default')
 GRANTED = export(role('default', 'r', [PODS]), BOUND)
+CI = {'apiVersion': 'v1', 'kind': 'ServiceAccount', 'metadata': {'namespace': 'dev', 'name': 'ci'}}
 
 
 def streams():
@@ -97,7 +100,8 @@ def streams():
     for words in NOBODY:
         expect('no principal: %r' % (words,), words, 2, err=b'rbacaudit: U5 bad principal\n')
     expect('rules of nobody have status 0', ['rules', 'u:kim'], 0, given=GRANTED)
-    expect('groups of a group that are empty', ['rules', '--groups=', '--group=', '--group=', 'g:dev'], 0, given=GRANTED)
+    for command in ('rules', 'paths'):
+        expect('groups of a group that are empty: %s' % command, [command, '--groups=', '--group=', '--group=', 'g:dev'], 0, given=GRANTED)
     expect('a subresource of a URL has status 2',
            ['can-i', '--as', 'alice', '--subresource', 'log', 'get', '/healthz'], 2,
            err=b'rbacaudit: U3 subresource with a URL\n')
@@ -130,7 +134,10 @@ def streams():
         for words in BAD_CHANGES:
             expect('no change before a missing file: %s' % ' '.join(words), ['diff', '--before', missing, *words], 2,
                    err=b'rbacaudit: U7 give either --after, or --with or --without\n')
-        expect('no principal before a missing file', ['rules', 'kim', missing], 2, err=b'rbacaudit: U5 bad principal\n')
+        for command in ('rules', 'paths'):
+            expect('no principal before a missing file: %s' % command, [command, 'kim', missing], 2, err=b'rbacaudit: U5 bad principal\n')
+        expect('no principal before no step', ['paths', '--steps', 'runs', 'kim', missing], 2, err=b'rbacaudit: U5 bad principal\n')
+        expect('no step before a missing file', ['paths', '--steps', 'runs', 'u:kim', missing], 2, err=BAD_STEP)
         expect('rules of two files', ['rules', 'u:alice', roles, bindings], 0,
                b'RoleBinding/default/b\tRole/default/r\tRole/default/r\t1\t1\t[get]\t[-]\t[pods]\t[]\t[]\n')
         expect('WHO first, and then files', ['rules', roles, 'u:alice'], 2, err=b'rbacaudit: U5 bad principal\n')
@@ -172,12 +179,12 @@ def changes_of(roles, bindings, missing):
 def help_and_usage():
     """Help on standard output with status 0; a refused line on standard error with status 2."""
     for words in (['--help'], ['can-i', '--help'], ['who-can', '--help'], ['rules', '--help'], ['matrix', '--help'], ['universe', '--help'],
-                  ['lint', '--help'], ['powers', '--help'], ['diff', '--help'], ['-h'], ['lint', '-h']):
+                  ['lint', '--help'], ['powers', '--help'], ['paths', '--help'], ['diff', '--help'], ['-h'], ['lint', '-h']):
         ended = run(words)
         checked('%s is on standard output' % ' '.join(words),
              ended.returncode == 0 and b'Usage' in ended.stdout and not ended.stderr, repr(ended))
     commands = run(['--help']).stdout
-    for command in (b'can-i', b'who-can', b'rules', b'matrix', b'universe', b'lint', b'powers', b'diff'):
+    for command in (b'can-i', b'who-can', b'rules', b'matrix', b'universe', b'lint', b'powers', b'paths', b'diff'):
         checked('help names %s' % command.decode(), command in commands, repr(commands))
     options = run(['can-i', '--help']).stdout
     for option in (b'--as', b'--groups', b'--group <G>', b'-n, --namespace', b'-A, --all-namespaces', b'--in-namespace', b'--subresource', b'-q, --quiet',
@@ -185,13 +192,15 @@ def help_and_usage():
         checked('help names %s' % option.decode(), option in options, repr(options))
     for line in (b'Namespace to check (default: default)', b'five fields, joined by tabs', b'rbacaudit can-i --as alice -n dev get pods'):
         checked('help of can-i says "%s"' % line.decode(), line in options, repr(options))
-    for command in ('who-can', 'rules', 'matrix', 'lint', 'powers', 'diff'):
+    for command in ('who-can', 'rules', 'matrix', 'lint', 'powers', 'paths', 'diff'):
         text = run([command, '--help']).stdout
         checked('help of %s names FILE and has an example' % command, b'FILE' in text and b'rbacaudit %s ' % command.encode() in text, repr(text))
     for option in (b'--every', b'--once', b'--after <TOKEN>', b'--limit <N>'):
         checked('help names %s' % option.decode(), option in run(['matrix', '--help']).stdout)
     for said in (b'--groups <A,B>', b'--group <G>', b'-n, --namespace <NS>', b'-A, --all-namespaces', b'ten fields, joined by tabs', b'[] is the empty list'):
         checked('help of rules says "%s"' % said.decode(), said in run(['rules', '--help']).stdout)
+    for said in (b'--groups <A,B>', b'--group <G>', b'--steps <STEPS>', b'WHO', b'eleven fields, joined by tabs', b'Follow FROM upwards to WHO'):
+        checked('help of paths says "%s"' % said.decode(), said in run(['paths', '--help']).stdout)
     for said in (b'[FILE]', b'matrix over the same files and this document lists the same rows'):
         checked('help of universe says "%s"' % said.decode(), said in run(['universe', '--help']).stdout)
     for said in (b'--before <FILE>', b'--after <FILE>', b'--without <FILE>', b'--with <FILE>', b'eight fields, joined by tabs'):
@@ -212,6 +221,7 @@ def help_and_usage():
         for form in (['matrix'], ['matrix', '--every']):
             expect('%r is a token of %s' % (text, ' '.join(form)), [*form, '--after', token_of(text)], 0, b'end\n', given=export())
     codes()
+    steps()
     expect('--version prints name and version', ['--version'], 0, b'rbacaudit 0.1.0\n')
     expect('-V is --version', ['-V'], 0, b'rbacaudit 0.1.0\n')
     expect('a word that is not UTF-8', ['can-i', '--as', b'al\xffce', 'get', 'pods'], 2,
@@ -232,7 +242,11 @@ def help_and_usage():
                   ['matrix', '--once', '--once'], ['matrix', '--once=x'], ['who-can', '--once', 'get', 'pods'], ['lint', '--once'],
                   ['universe', '--once'], ['universe', '--every'], ['universe', '--limit', '1'], ['universe', '--after', 'MQ'], ['universe', '-n', 'dev'],
                   ['powers', '-n', 'dev'], ['powers', '-A'], ['powers', '--as', 'a'], ['powers', '--every'], ['powers', '--why'], ['powers', '--only', 'run'],
-                  ['powers', '--limit', '1'], ['power'],
+                  ['powers', '--limit', '1'], ['power'], ['powers', '--steps', 'run'], ['rules', '--steps', 'run', 'u:a'],
+                  ['paths'], ['path', 'u:a'], ['paths', '-n', 'dev', 'u:a'], ['paths', '-A', 'u:a'], ['paths', '--as', 'a', 'u:a'], ['paths', '--why', 'u:a'],
+                  ['paths', '--every', 'u:a'], ['paths', '--limit', '1', 'u:a'], ['paths', '--only', 'L1', 'u:a'], ['paths', '--step', 'run', 'u:a'],
+                  ['paths', '--steps', 'run', '--steps', 'exec', 'u:a'], ['paths', '--steps', '-run', 'u:a'],
+                  ['paths', '--groups', 'a', '--groups', 'b', 'u:a'], ['paths', '--groups', '-a', 'u:a'], ['paths', '--group', '-a', 'u:a'],
                   ['matrix', '--limit', '1', '--limit', '1'], ['matrix', '--after', 'MQ', '--after', 'MQ'], ['matrix', '-n', 'dev'],
                   ['lint', '--limit', '1'], ['lint', '-n', 'dev'], ['help'], ['rules'], ['rules', '-A'], ['rules', '--why', 'u:a'], ['rules', '-q', 'u:a'],
                   ['rules', '--as', 'a', 'u:a'], ['rules', '-A', '-A', 'u:a'], ['rules', '--groups', 'a', '--groups', 'b', 'u:a'],
@@ -244,7 +258,7 @@ def help_and_usage():
              ended.returncode == 2 and not ended.stdout and b'Usage' in ended.stderr, repr(ended))
     for words, option in ((['diff', '--before', '--after', 'a'], b'--before <FILE>'), (['diff', '--after', 'a', '--before'], b'--before <FILE>'),
                           (['diff', '--before', 'a', '--with'], b'--with <FILE>'), (['diff', '--without', '--before', 'a'], b'--without <FILE>'),
-                          (['lint', '--only'], b'--only <CODES>')):
+                          (['lint', '--only'], b'--only <CODES>'), (['paths', 'u:a', '--steps'], b'--steps <STEPS>')):
         ended = run(words)
         checked('refused: %s' % ' '.join(words), ended.returncode == 2 and not ended.stdout and option in ended.stderr, repr(ended))
     for limit in ('0', '1000001', '4294967297', '-1', '1.5', 'x', ''):
@@ -262,6 +276,26 @@ def codes():
     expect('no code in a word of its own', ['lint', '--only', ''], 2, err=b'rbacaudit: U6 bad code\n', given=GRANTED)
     for text in ('L1', 'L7', 'L7,L6,L5,L4,L3,L2,L1', 'L1,L1', ','.join(['L6'] * 1000)):
         expect('%.30r are codes' % text, ['lint', '--only', text], 0, given=GRANTED)
+
+
+def steps():
+    """Lists of steps that are refused, and which lines those that are taken leave: alice can read secrets, and create Pods, where an account is."""
+    rules = [{'verbs': [verb], 'apiGroups': [''], 'resources': [resource]} for verb, resource in (('get', 'secrets'), ('create', 'pods'))]
+    given = export(role('dev', 'r', rules), binding('RoleBinding', 'b', 'Role', 'r', 'dev'), CI)
+    line = '1\tu:system:serviceaccount:dev:ci\t-\tu:alice\t-\t%s\tRoleBinding/dev/b\tRole/dev/r\tRole/dev/r\t%d\t1\n'
+    by_secrets, by_run = (line % told for told in (('secrets', 1), ('run', 2)))
+    for text in ('', ',', ',run', 'run,', 'run,,exec', 'Run', 'RUN', 'run,Exec', 'runs', 'ru', 'run exec', 'run;exec', ' run', 'run ', 'run, exec', 'run\t',
+                 'run\n', 'impersonat', 'impersonates', 'tokens', 'secret', 'node', 'binds', 'escalation', 'certificate', 'webhook', 'runexec', '*', 'all',
+                 'none', '1', 'L1', 'create', 'pods', 'r\uff55n'):
+        for form in (['paths', '--steps=' + text, 'u:alice'], ['paths', '--groups', 'ops', 'u:alice', '--steps=' + text]):
+            expect('%r are no steps: %s' % (text, ' '.join(form)), form, 2, err=BAD_STEP, given=given)
+    expect('no step in a word of its own', ['paths', '--steps', '', 'u:alice'], 2, err=BAD_STEP, given=given)
+    others = [step for step in STEPS if step not in ('run', 'secrets')]
+    for text, wanted in (('run', by_run), ('secrets', by_secrets), ('secrets,run', by_run), ('run,secrets', by_run), ('secrets,secrets', by_secrets),
+                         ('secrets,run,secrets', by_run), (','.join(STEPS), by_run), (','.join(STEPS[::-1]), by_run), (','.join(['secrets'] * 1000), by_secrets),
+                         (','.join(others), ''), *((step, '') for step in others)):
+        expect('steps %.60s' % text, ['paths', '--steps', text, 'u:alice'], 0, wanted.encode(), given=given)
+    expect('all steps', ['paths', 'u:alice'], 0, by_run.encode(), given=given)
 
 
 def full_disk():
@@ -284,9 +318,11 @@ def little_memory():
 
 
 def rows():
-    """The worked rows of rows.json, each under the rule that it shows."""
+    """The worked rows of rows.json, each under the rule that it shows; and those of rows_paths.json, as far as the program has the command."""
     with open(os.path.join(TOP, 'tests', 'rows.json'), encoding='utf-8') as file:
         table = json.load(file)
+    with open(os.path.join(TOP, 'tests', 'rows_paths.json'), encoding='utf-8') as file:
+        table['lines'] += ({**row, 'asks': [ask for ask in row['asks'] if ask[0].split(' ')[0] in BUILT]} for row in json.load(file)['lines'])
     answers(table['answers'])
     lines(table['lines'])
     changes(table['changes'])
@@ -434,8 +470,30 @@ def powers_streams():
         checked('powers on a full disk', (ended.returncode, ended.stderr) == (2, b'rbacaudit: write failed after 0 bytes\n'), repr(ended))
     expect('powers of a bad document', ['powers'], 2, err=b'rbacaudit: file 1: M2 not an object\n', given=b'[]')
     text = run(['powers', '--help']).stdout
-    for said in (*STEPS, b'eight fields, joined by tabs', b'* is the whole cluster'):
+    for said in (*(b'  %-12s  ' % step.encode() for step in STEPS), b'eight fields, joined by tabs', b'* is the whole cluster'):
         checked('help of powers says "%s"' % said.decode(), said in text, repr(text))
+
+
+def paths_streams():
+    """Paths by an export in files, to which other documents add nothing, of a bad document, of nothing, and on a full disk."""
+    runs = cluster_role('r', [{'verbs': ['create'], 'apiGroups': [''], 'resources': ['pods']}])
+    line = b'1\tu:system:serviceaccount:dev:ci\t-\tu:alice\t-\trun\tClusterRoleBinding/b\tClusterRole/r\tClusterRole/r\t1\t1\n'
+    asked = ['paths', 'u:alice']
+    with tempfile.TemporaryDirectory() as room:
+        files = put_files(room, 'paths', [[runs], [binding('ClusterRoleBinding', 'b', 'ClusterRole', 'r'), CI]])[1:]
+        others = put_files(room, 'other', [
+            [{'apiVersion': 'rbacaudit/v1', 'kind': 'Universe', 'principals': [], 'namespaces': []}],
+            [{'kind': 'APIResourceList', 'groupVersion': 'v1', 'resources': [{'name': 'pods', 'namespaced': False}]}]])[1:]
+        expect('paths of two files', [*asked, *files], 0, line)
+        expect('a universe hides nobody, and an API resource list says nothing', [*asked, *files, *others], 0, line)
+        expect('paths of a file and a missing one', [*asked, files[0], room], 2, err=b'rbacaudit: file 2: I1 read fault\n')
+        expect('WHO first, and then the files of paths', ['paths', files[0], 'u:alice'], 2, err=b'rbacaudit: U5 bad principal\n')
+        with open('/dev/full', 'wb') as full:
+            ended = run([*asked, *files], stdout=full)
+        checked('paths on a full disk', (ended.returncode, ended.stderr) == (2, b'rbacaudit: write failed after 0 bytes\n'), repr(ended))
+    expect('paths of a bad document', asked, 2, err=b'rbacaudit: file 1: M2 not an object\n', given=b'[]')
+    expect('paths of no roles', asked, 0, given=export(BOUND))
+    expect('paths of too many grants', asked, 2, err=b'rbacaudit: M11 too many grants\n', given=export(*many_grants(1001)))
 
 
 def universe(**lists):
@@ -515,5 +573,5 @@ def ring():
 
 if __name__ == '__main__':
     sys.exit(tested(streams, help_and_usage, full_disk, little_memory, rows, matrix_streams, universe_streams, rules_streams, lint_streams,
-                    powers_streams, limits, universe_limits, ring, transcripts, links_and_heads, spaced_bindings, loop_of_pages,
+                    powers_streams, paths_streams, limits, universe_limits, ring, transcripts, links_and_heads, spaced_bindings, loop_of_pages,
                     example_cluster))
