@@ -90,6 +90,15 @@ measure_universe() {
         "$(least "$audit" universe "$file")" "$(($(python3 least.py --memory "$audit" universe "$file") / 1024))"
 }
 
+# One line for whom somebody comes to: how many lines, the time beside can-i, the ratio of both, and the memory.
+measure_paths() {
+    local name=$1 file=$2 who=$3 answer paths
+    answer=$(ask "$file")
+    paths=$(least "$audit" paths "$who" "$file")
+    printf '%-44s %9d lines  can-i %5d ms  paths %5d ms %4d MB  ratio %s\n' "$name" "$("$audit" paths "$who" "$file" | wc -l)" "$answer" "$paths" \
+        "$(($(python3 least.py --memory "$audit" paths "$who" "$file") / 1024))" "$(python3 -c "print('%.2f' % ($paths / max(1, $answer)))")"
+}
+
 # One line for each shape of real clusters: its rows, the time of `matrix` over it, and the ratio to can-i over an export; and the rows
 # and the time with --once.
 measure_shapes() {
@@ -139,6 +148,12 @@ typed_reader/build.sh "$room/typed_reader" 2> /dev/null || echo 'the typed Rust 
 python3 generate_export.py 10000 40000 400 7 "$room/export.json" > /dev/null
 measure_reading "reading, 10000 roles, 40000 bindings" "$room/export.json"
 measure_universe "universe, 10000 roles, 40000 bindings" "$room/export.json"
+who=$("$audit" powers "$room/export.json" | awk -F '\t' '$1 == "run" && $2 ~ /^u:/ && $3 != "*" && !who {who = $2} END {print who}')
+measure_paths "paths, 10000 roles, 40000 bindings" "$room/export.json" "$who"
+for size in "50000 1000 100" "100000 1000 300"; do
+    python3 generate_runners.py $size "$room/runners.json"
+    measure_paths "paths, accounts, namespaces, everywhere $size" "$room/runners.json" u:system:serviceaccount:ns00000:account-001000
+done
 measure_diff "diff, equal exports" "$room/export.json" --after "$room/export.json"
 python3 change_export.py bindings 100 "$room/export.json" "$room/changed.json"
 measure_diff "diff, a hundred changed bindings" "$room/export.json" --after "$room/changed.json"
