@@ -1,9 +1,10 @@
 -- The paths over the users and groups that are named, each once.
-use Rattle.std.proofs.Common.{◌≡◌, ◌↔◌, ◌∙◌, ℕ, List, [], ◌∷◌, All, Contains, ap, get_or, inl, inr, subst, sym, ◌<◌, length, arith}
+use Rattle.std.proofs.Common.{◌≡◌, ◌↔◌, ◌∙◌, ℕ, List, [], ◌∷◌, All, Contains, ap, ap₂, get_or, inl, inr, subst, sym, ◌<◌, length, arith}
+use Rattle.std.specs.Cmp.Lexicographic.{slice_cmp}
 use Rattle.std.specs.declared.cmp.Ordering.TheVariants.{Less}
 use Rattle.std.proofs.lemmas.List.{get_or_default}
 use Rattle.std.proofs.lemmas.Map.Keys.{Less-from_sorted}
-use Rattle.rbac_terms.specs.Text.{Text}
+use Rattle.rbac_terms.specs.Text.{Text, text_cmp}
 use Rattle.rbac_terms.specs.Principals.{Who, given_of, who_key}
 use Rattle.rbac_model.specs.Lists.{by_name, IsAscendingBy, IsOnceEach}
 use Rattle.rbac_model.specs.Policies.{PolicyView}
@@ -24,7 +25,7 @@ by_keys named each none once i j d lt l =
     (let w = (once.same (get_or each k d)).0 (k, low, get_or_default each k (get_or each k d) d low) in
     key_alone (get_or each k d) (subst (λ (who : Who). given_of who ≡ []) w.2 (none w.0 (get_or each k d) w.1))) in
     let less = Less-from_sorted (by_name principal_name) each i j d once.ascending lt l in
-    rw (sym (alone i (omega (arith, lt, l))), sym (alone j l)) less
+    ap₂ (λ (m : List Text) (n : List Text). slice_cmp text_cmp m n) (sym (alone i (omega (arith, lt, l)))) (sym (alone j l)) ∙ less
 
 module _ (principals named : List Who) (same : (who : Who) → Contains principals who ↔ Contains named who) where
   one_too : (asked other : Who) → IsOneWith principals asked other ↔ IsOneWith named asked other

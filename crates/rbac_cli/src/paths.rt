@@ -1,6 +1,7 @@
 //! Whom and what somebody comes to, as an answer.
 
 ghost use Rattle.std.specs.Prelude.{◌≡◌, ◌↔◌, Contains, IfOk, Vec, false, vec_items};
+ghost use Rattle.std.specs.Global.{Global};
 ghost use Rattle.rbac_terms.specs.Principals.{Who};
 ghost use Rattle.rbac_model.specs.Lists.{IsAscendingBy};
 ghost use Rattle.rbac_model.specs.Unions.{who_name};
@@ -33,7 +34,7 @@ pub(crate) fn print_paths<W: Write + Drop>(
     output: &mut Output<'_, W>,
 ) -> Result<Status, Stop>
     requires { output.old.sink.now.has_failed ≡ false }
-    ensures { (chosen : Vec PathStep) → vec_items chosen ≡ steps.now
+    ensures { (chosen : Vec PathStep Global) → vec_items chosen ≡ steps.now
         → EndsPrinting W.contents output.old output.new (Single export.now)
         (ListsPaths principal.now chosen) result }
 {

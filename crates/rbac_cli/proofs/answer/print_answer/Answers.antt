@@ -1,3 +1,4 @@
+use Rattle.std.proofs.Common.{sym}
 use Rattle.std.proofs.lemmas.Result.{err_from_is_err_and}
 use Rattle.rbac_question.specs.declared.command.Action.TheVariants.{CanI}
 use Rattle.rbac_cli.specs.declared.exports.Exports.TheVariants.{Single, Pair}
@@ -37,3 +38,6 @@ returns-in-Pair g c =
     let over = rw c.in-Pair.is at c.requires.over in
     rw c.in-Pair.is (of_diff (λ (a : Action). EndsPrinting g.W.Write.contents c.args.output.now c.print_changes.new.output (Pair c.in-Pair.before c.in-Pair.after) a c.print_changes.result)
     c.args.action.now c.in-Pair.before c.in-Pair.after over c.print_changes.ensures)
+
+pub returns-in-Paths : goal.returns-in-Paths
+returns-in-Paths g c = rw (c.in-Single.is, c.in-Paths.is) (c.print_paths.ensures c.in-Paths.steps (sym c.as_slice-in-Paths.ensures.value))
