@@ -1,7 +1,6 @@
 -- The paths over the users and groups that are named, each once.
 use Rattle.std.proofs.Common.{◌≡◌, ◌↔◌, ◌∙◌, ℕ, List, [], ◌∷◌, All, Contains, ap, ap₂, get_or, inl, inr, subst, sym, ◌<◌, length, arith}
 use Rattle.std.specs.Cmp.Lexicographic.{slice_cmp}
-use Rattle.std.specs.declared.cmp.Ordering.TheVariants.{Less}
 use Rattle.std.proofs.lemmas.List.{get_or_default}
 use Rattle.std.proofs.lemmas.Map.Keys.{Less-from_sorted}
 use Rattle.rbac_terms.specs.Text.{Text, text_cmp}

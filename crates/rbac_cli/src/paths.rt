@@ -41,7 +41,14 @@ pub(crate) fn print_paths<W: Write + Drop>(
     let policy = export.policy();
     let index = SubjectIndex::build(alloc, policy)?;
     let principals = principals_of(alloc, export)?;
-    let found = paths(alloc, policy, &index, principals.as_slice(), principal, steps)?;
+    let found = paths(
+        alloc,
+        policy,
+        &index,
+        principals.as_slice(),
+        principal,
+        steps,
+    )?;
     print_lines(alloc, &mut found.as_slice().iter(), Status::Zero, output)
 }
 

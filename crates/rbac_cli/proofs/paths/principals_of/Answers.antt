@@ -1,4 +1,4 @@
-use Rattle.std.proofs.Common.{◌≡◌, ◌↔◌, List, Contains, subst}
+use Rattle.std.proofs.Common.{◌↔◌, List, Contains, subst}
 use Rattle.std.proofs.lemmas.Result.{IfOk-weaker}
 use Rattle.rbac_terms.specs.Principals.{Who}
 use Rattle.rbac_cli.proofs.PathsNamed.{by_keys}

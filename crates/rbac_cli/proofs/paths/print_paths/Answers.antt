@@ -1,5 +1,4 @@
 use Rattle.std.proofs.Common.{List, ap, refl, subst, sym, ◌∙◌}
-use Rattle.rbac_terms.specs.Principals.{Who}
 use Rattle.rbac_paths.specs.Paths.{ArePathsOf}
 use Rattle.rbac_paths.specs.declared.steps.Step.{Step}
 use Rattle.rbac_question.specs.declared.command.Action.TheVariants.{Paths}
