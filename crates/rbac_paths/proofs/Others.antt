@@ -1,6 +1,7 @@
 -- The roles that a node takes over, and everything, one after another.
-use Rattle.std.proofs.Common.{◌≡◌, ◌↔◌, ◌∙◌, ◌<◌, ◌+◌, ◌++◌, ℕ, Bor, List, [], ◌∷◌, Option, None, Some, IsSome, MatchOption, Any, Contains, false, refl, true, arith, inl, inr, length, slice_get, subst, sym}
+use Rattle.std.proofs.Common.{◌≡◌, ◌↔◌, ◌∙◌, ◌<◌, ◌+◌, ◌++◌, ℕ, Bor, List, [], ◌∷◌, Option, None, Some, IsSome, MatchOption, Any, Contains, false, refl, true, ap, arith, get_or, inl, inr, length, slice_get, subst, sym, take}
 use Rattle.std.proofs.lemmas.Bool.{cases_eq}
+use Rattle.std.proofs.lemmas.List.{take_more}
 use Rattle.std.proofs.lemmas.List.Elements.{Contains-append_left, Contains-push, Contains-push_cases}
 use Rattle.std.proofs.lemmas.Option.{same_Some, slice_get_within}
 use Rattle.rbac_terms.specs.Matching.{VerbOk}
@@ -9,7 +10,7 @@ use Rattle.rbac_terms.specs.declared.matching.Rule.{Rule}
 use Rattle.rbac_model.proofs.OwnWords.{any_from}
 use Rattle.rbac_model.specs.Policies.{IsPolicy, PolicyView}
 use Rattle.rbac_paths.specs.Having.{AreHoldings, HoldingView}
-use Rattle.rbac_paths.specs.Joints.{AreOthers, IsNobody, IsOther, IsOverNobody, MatchesOverOthers, MayTakeBy, MayTakeOthers, SomeMayTake}
+use Rattle.rbac_paths.specs.Joints.{AreOthers, AreOverOthers, DecideOn, IsAboutNode, IsNobody, IsOther, IsOverNobody, MatchesOverOthers, MayTakeBy, SomeMayTake}
 use Rattle.rbac_paths.specs.Nodes.{NodeView, Somebody, ClusterRoleIn, OwnRole, EverythingIn}
 use Rattle.rbac_paths.specs.Rows.{AreOfStep, HasRowResource}
 use Rattle.rbac_paths.specs.Steps.{RowView, table}
@@ -20,7 +21,7 @@ use Rattle.rbac_paths.specs.declared.steps.Step.{Step}
 use Rattle.rbac_paths.specs.declared.table.Counts.{Counts}
 use Rattle.rbac_paths.specs.declared.table.Over.{Over}
 use Rattle.rbac_paths.specs.declared.table.Over.TheVariants as over
-use Rattle.rbac_paths.proofs.AllowedBy.{in_holdings}
+use Rattle.rbac_paths.proofs.AllowedBy.{by_holdings, in_holdings}
 
 -- what rows of a step say of a rule is what the table says
 pub may_take : (step : Step) (rows : List RowView) → AreOfStep step table rows → (rule : Rule) → Any (MatchesOverOthers rule) rows ↔ MayTakeBy rule step
@@ -63,22 +64,65 @@ unfolding MayTakeBy
 matches_step h y step nobody a =
     any_from (λ row. (row.step ≡ step) × MatchesOverOthers h.rule row) table a.1 (a.0, a.2, a.3) (a.4.0, matches h y a.1 nobody a.4.1)
 
-may_others : (hs : List HoldingView) (steps : List Step) (y : NodeView) (step : Step) → IsNobody y → Contains steps step → HoldingsTake step hs y → MayTakeOthers steps hs
+-- those of one more holding
+module _ (steps : List Step) (hs : List HoldingView) (i : ℕ) (h : HoldingView) (low : i < length hs) (at : h ≡ get_or hs i h) (few : List HoldingView) (is : AreOverOthers steps (take i hs) few) where
+  one_more : take (i + 1) hs ≡ take i hs ++ h ∷ []
+  one_more = take_more hs i h low ∙ ap (λ (z : HoldingView). take i hs ++ z ∷ []) (sym at)
+
+  pub over_more : SomeMayTake steps h → AreOverOthers steps (take (i + 1) hs) (few ++ h ∷ [])
+  over_more may = subst (λ (zs : List HoldingView). AreOverOthers steps zs (few ++ h ∷ [])) (sym one_more) (λ z. (
+    λ c. elim (Contains-push_cases few h z c) [
+      | inl old ↦ (let w = (is z).0 old in (Contains-append_left (take i hs) (h ∷ []) z w.0, w.1))
+      | inr same ↦ (subst (λ (v : HoldingView). Contains (take i hs ++ h ∷ []) v) same (Contains-push (take i hs) h), subst (λ (v : HoldingView). SomeMayTake steps v) same may)
+    ],
+    λ w. elim (Contains-push_cases (take i hs) h z w.0) [
+      | inl old ↦ Contains-append_left few (h ∷ []) z ((is z).1 (old, w.1))
+      | inr same ↦ subst (λ (v : HoldingView). Contains (few ++ h ∷ []) v) same (Contains-push few h)
+    ],
+  ))
+
+  pub over_same : (SomeMayTake steps h → ⊥) → AreOverOthers steps (take (i + 1) hs) few
+  over_same none = subst (λ (zs : List HoldingView). AreOverOthers steps zs few) (sym one_more) (λ z. (
+    λ c. (let w = (is z).0 c in (Contains-append_left (take i hs) (h ∷ []) z w.0, w.1)),
+    λ w. elim (Contains-push_cases (take i hs) h z w.0) [
+      | inl old ↦ (is z).1 (old, w.1)
+      | inr same ↦ absurd (none (subst (λ (v : HoldingView). SomeMayTake steps v) (sym same) w.1))
+    ],
+  ))
+
+-- of a node's holdings those decide about roles and everything whose rules match a row over such
+pub few_decide : (p : PolicyView) → IsPolicy p → (x : NodeView) (hs : List HoldingView) → AreHoldings p x hs → (steps : List Step) (few : List HoldingView)
+    → AreOverOthers steps hs few
+    → DecideOn p steps x few IsNobody
 unfolding HoldingsTake HoldingTakes SomeMayTake
-may_others hs steps y step nobody among a =
-    any_from (λ h. SomeMayTake steps h) hs a.1 (a.0, a.2, a.3) (any_from (MayTakeBy a.1.rule) steps step among (matches_step a.1 y step nobody a.4))
+few_decide p ok x hs are steps few is step y among nobody = (
+  λ a. by_holdings p ok x hs are step y (any_from (λ h. RuleTakes step h.home h.rule y) hs a.1 ((is a.1).0 (a.0, a.2, a.3)).0 a.4),
+  λ c. (let w = in_holdings p ok x hs are step y c in
+      any_from (λ h. RuleTakes step h.home h.rule y) few w.1 ((is w.1).1 ((w.0, w.2, w.3), any_from (MayTakeBy w.1.rule) steps step among (matches_step w.1 y step nobody w.4))) w.4),
+)
+
+-- what decides about roles and everything decides about one of them
+pub about_node : (p : PolicyView) (steps : List Step) (x : NodeView) (hs : List HoldingView) → DecideOn p steps x hs IsNobody → (y : NodeView) → IsNobody y
+    → DecideOn p steps x hs (IsAboutNode y)
+about_node p steps x hs decide y nobody step z among (inl same) = decide step z among (subst IsNobody (sym same) nobody)
+about_node p steps x hs decide y nobody step z among (inr is) = decide step z among is
 
 -- a node is taken over exactly if that is told by some step
 pub told_some : (p : PolicyView) (steps : List Step) (x y : NodeView) (o : Option (Bor Step)) → MatchOption o (TakesOver p steps x y → ⊥) (λ s. IsFirstTold p steps x y s.now) → IsSome o ↔ TakesOver p steps x y
 told_some p steps x y None none = (λ is. absurd (let both : false ≡ true = is in cc), λ t. absurd (none t))
 told_some p steps x y (Some step) first = (λ is. (step.now, first.1.holds), λ t. refl)
 
+pub no_items : (hs : List HoldingView) → length hs ≡ 0 → hs ≡ []
+no_items [] e = refl
+no_items (h ∷ hs) e = absurd (omega (arith, e))
+
 module _ (p : PolicyView) (steps : List Step) (x : NodeView) (ys : List NodeView) where
   -- a node none of whose rules matches such a row takes over none
-  pub no_others : IsPolicy p → (hs : List HoldingView) → AreHoldings p x hs → (MayTakeOthers steps hs → ⊥) → (js : List ℕ) → js ≡ [] → AreOthers p steps x ys js
-  no_others ok hs are none js empty j = (
+  pub no_others : DecideOn p steps x [] IsNobody → (js : List ℕ) → js ≡ [] → AreOthers p steps x ys js
+  unfolding HoldingsTake
+  no_others decide js empty j = (
     λ c. absurd (let low = (subst (λ (ks : List ℕ). Contains ks j) empty c).1 in omega (arith, low)),
-    λ o. absurd (let t = o.3 in none (may_others hs steps o.0 t.0 o.2 t.1.among (in_holdings p ok x hs are t.0 o.0 t.1.can))),
+    λ o. absurd (let t = o.3 in let a = (decide t.0 o.0 t.1.among o.2).1 t.1.can in let low = a.2 in omega (arith, low)),
   )
 
   -- those below a place

@@ -8,8 +8,8 @@ use Rattle.rbac_model.proofs.OwnWords.{any_from}
 use Rattle.rbac_model.proofs.Stairs.{read_contains}
 use Rattle.rbac_model.specs.Policies.{IsPolicy, PolicyView}
 use Rattle.rbac_paths.specs.Having.{AreHoldings, HoldingView}
+use Rattle.rbac_paths.specs.Joints.{DecideOn, IsAboutNode, IsNobody}
 use Rattle.rbac_paths.specs.Nodes.{NodeView, Somebody, ClusterRoleIn, OwnRole, EverythingIn}
-use Rattle.rbac_paths.specs.Taking.{CanTakeOver}
 use Rattle.rbac_paths.specs.TakingOver.{BindsNode, MayGoOn, HasAll, IsUntold, IsUntoldBy, TakesByStep, TakesOver, WritesRoles}
 use Rattle.rbac_paths.specs.Told.{HoldingsBind, HoldingsHaveAll, HoldingsTake, HoldingsTell, IsFirstTold, IsUntoldOf}
 use Rattle.rbac_paths.specs.declared.steps.Step.{Step}
@@ -21,49 +21,51 @@ either f g (inl a) = inl (f a)
 either f g (inr b) = inr (g b)
 
 -- what is untold is so as well where all is taken over in more scopes and by binding more nodes
-untold_too : (A C : Option Text → Type 0) (B D : NodeView → Type 0) → ((scope : Option Text) → A scope → C scope) → ((y : NodeView) → B y → D y) → (y : NodeView) → IsUntoldBy A B y → IsUntoldBy C D y
+untold_too : (A C : Option Text → Type 0) (B D : NodeView → Type 0) → ((scope : Option Text) → A scope → C scope) → ((y : NodeView) → IsNobody y → B y → D y) → (y : NodeView) → IsUntoldBy A B y → IsUntoldBy C D y
 untold_too A C B D f g (Somebody who) u = u
 untold_too A C B D f g (EverythingIn None) u = u
 untold_too A C B D f g (EverythingIn (Some namespace)) u = f None u
 untold_too A C B D f g (ClusterRoleIn role None) u = f None u
-untold_too A C B D f g (ClusterRoleIn role (Some namespace)) u = either (f None) (either (f (Some namespace)) (g (ClusterRoleIn role None))) u
+untold_too A C B D f g (ClusterRoleIn role (Some namespace)) u = either (f None) (either (f (Some namespace)) (g (ClusterRoleIn role None) tt)) u
 untold_too A C B D f g (OwnRole role) u = either (f None) (f (Some role.namespace)) u
 
-module _ (p : PolicyView) (ok : IsPolicy p) (x : NodeView) (hs : List HoldingView) (are : AreHoldings p x hs) (steps : List Step) where
+module _ (p : PolicyView) (x : NodeView) (hs : List HoldingView) (steps : List Step) (y : NodeView) (decide : DecideOn p steps x hs (IsAboutNode y)) where
   -- everything in a scope
   has_all : (scope : Option Text) → HoldingsHaveAll steps hs scope → HasAll p steps x scope
   unfolding HoldingsHaveAll
-  has_all scope a = (a.1, a.4.0, (a.0, a.2, a.3), by_holdings p ok x hs are a.1 (EverythingIn scope) a.4.1)
+  has_all scope a = (a.1, a.4.0, (a.0, a.2, a.3), (decide a.1 (EverythingIn scope) (a.0, a.2, a.3) (inr tt)).0 a.4.1)
 
   have_all : (scope : Option Text) → HasAll p steps x scope → HoldingsHaveAll steps hs scope
   unfolding HoldingsHaveAll
-  have_all scope w = any_from (λ s. WritesRoles s × HoldingsTake s hs (EverythingIn scope)) steps w.0 w.2 (w.1, in_holdings p ok x hs are w.0 (EverythingIn scope) w.3)
+  have_all scope w = any_from (λ s. WritesRoles s × HoldingsTake s hs (EverythingIn scope)) steps w.0 w.2 (w.1, (decide w.0 (EverythingIn scope) w.2 (inr tt)).1 w.3)
 
   -- by binding
-  binds : (y : NodeView) → HoldingsBind steps hs y → BindsNode p steps x y
+  binds : (z : NodeView) → IsNobody z → HoldingsBind steps hs z → BindsNode p steps x z
   unfolding HoldingsBind
-  binds y a = (
-    subst (λ (s : Step). Contains steps s) a.4.0 (a.0, a.2, a.3),
-    subst (λ (s : Step). CanTakeOver p x s y) a.4.0 (by_holdings p ok x hs are a.1 y a.4.1),
-  )
+  binds z nobody a =
+      let among = subst (λ (s : Step). Contains steps s) a.4.0 (a.0, a.2, a.3) in
+      (among, (decide Bind z among (inr nobody)).0 (subst (λ (s : Step). HoldingsTake s hs z) a.4.0 a.4.1))
 
-  bind : (y : NodeView) → BindsNode p steps x y → HoldingsBind steps hs y
+  bind : (z : NodeView) → IsNobody z → BindsNode p steps x z → HoldingsBind steps hs z
   unfolding HoldingsBind
-  bind y w = any_from (λ s. (s ≡ Bind) × HoldingsTake s hs y) steps Bind w.0 (refl, in_holdings p ok x hs are Bind y w.1)
+  bind z nobody w = any_from (λ s. (s ≡ Bind) × HoldingsTake s hs z) steps Bind w.0 (refl, (decide Bind z w.0 (inr nobody)).1 w.1)
 
-  module _ (y : NodeView) where
-    is_untold : IsUntoldOf steps hs y → IsUntold p steps x y
-    is_untold = untold_too (HoldingsHaveAll steps hs) (HasAll p steps x) (HoldingsBind steps hs) (BindsNode p steps x) has_all binds y
+  is_untold : IsUntoldOf steps hs y → IsUntold p steps x y
+  is_untold = untold_too (HoldingsHaveAll steps hs) (HasAll p steps x) (HoldingsBind steps hs) (BindsNode p steps x) has_all binds y
 
-    untold_of : IsUntold p steps x y → IsUntoldOf steps hs y
-    untold_of = untold_too (HasAll p steps x) (HoldingsHaveAll steps hs) (BindsNode p steps x) (HoldingsBind steps hs) have_all bind y
+  untold_of : IsUntold p steps x y → IsUntoldOf steps hs y
+  untold_of = untold_too (HasAll p steps x) (HoldingsHaveAll steps hs) (BindsNode p steps x) (HoldingsBind steps hs) have_all bind y
 
-    -- told by what it has is told
-    takes_by : MayGoOn x y → (s : Step) → Contains steps s → HoldingsTell steps hs y s → TakesByStep p steps x s y
-    takes_by on s among told = record { goes_on = on; among = among; can = by_holdings p ok x hs are s y told.0; told = λ writes untold. told.1 writes (untold_of untold) }
+  -- told by what it has is told
+  takes_by : MayGoOn x y → (s : Step) → Contains steps s → HoldingsTell steps hs y s → TakesByStep p steps x s y
+  takes_by on s among told = record { goes_on = on; among = among; can = (decide s y among (inl refl)).0 told.0; told = λ writes untold. told.1 writes (untold_of untold) }
 
-    told_by : (s : Step) → TakesByStep p steps x s y → HoldingsTell steps hs y s
-    told_by s takes = (in_holdings p ok x hs are s y takes.can, λ writes untold. takes.told writes (is_untold untold))
+  told_by : (s : Step) → TakesByStep p steps x s y → HoldingsTell steps hs y s
+  told_by s takes = ((decide s y takes.among (inl refl)).1 takes.can, λ writes untold. takes.told writes (is_untold untold))
+
+-- all that a node has decides
+pub all_decide : (p : PolicyView) → IsPolicy p → (x : NodeView) (hs : List HoldingView) → AreHoldings p x hs → (steps : List Step) (y : NodeView) → DecideOn p steps x hs (IsAboutNode y)
+all_decide p ok x hs are steps y step z among about = (by_holdings p ok x hs are step z, in_holdings p ok x hs are step z)
 
 -- none of the first steps is told
 abbrev pub ToldNoneTo : List Step → List HoldingView → NodeView → ℕ → Type 0
@@ -78,18 +80,18 @@ module _ (steps : List Step) (hs : List HoldingView) (y : NodeView) where
         isnt (subst (λ (z : Step). HoldingsTell steps hs y z) is told))
   ]
 
-  module _ (p : PolicyView) (ok : IsPolicy p) (x : NodeView) (are : AreHoldings p x hs) where
+  module _ (p : PolicyView) (x : NodeView) (decide : DecideOn p steps x hs (IsAboutNode y)) where
     pub takes_none : (count : ℕ) → ((k : ℕ) (s : Step) → slice_get steps k ≡ Some s → k < count) → ToldNoneTo steps hs y count → ¬ TakesOver p steps x y
     takes_none count all none w =
         let at = read_contains steps w.0 w.1.among in
-        none at.0 w.0 (all at.0 w.0 at.1) at.1 (told_by p ok x hs are steps y w.0 w.1)
+        none at.0 w.0 (all at.0 w.0 at.1) at.1 (told_by p x hs steps y decide w.0 w.1)
 
     pub first_told : MayGoOn x y → (k : ℕ) (s : Step) → slice_get steps k ≡ Some s → HoldingsTell steps hs y s → ToldNoneTo steps hs y k → IsFirstTold p steps x y s
     first_told on k s here told none = (
       k,
       record {
         here = here;
-        holds = takes_by p ok x hs are steps y on s (contains_read steps k s here) told;
-        none_before = λ i other low there takes. none i other low there (told_by p ok x hs are steps y other takes);
+        holds = takes_by p x hs steps y decide on s (contains_read steps k s here) told;
+        none_before = λ i other low there takes. none i other low there (told_by p x hs steps y decide other takes);
       },
     )

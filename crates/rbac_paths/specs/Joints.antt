@@ -1,5 +1,5 @@
 -- How the graph of nodes is joined: principals by the words that they share, and other nodes one by one.
-use Rattle.std.specs.Prelude.{◌≡◌, ◌↔◌, ℕ, ◌<◌, List, [], Some, Any, Contains, length, slice_get}
+use Rattle.std.specs.Prelude.{◌≡◌, ◌↔◌, ◌⊎◌, ℕ, ◌<◌, List, [], Some, Any, Contains, length, slice_get}
 use Rattle.std.specs.Prelude.{slice_index_or}
 use Rattle.rbac_terms.specs.Text.{Text}
 use Rattle.rbac_terms.specs.Principals.{Who}
@@ -10,7 +10,9 @@ use Rattle.rbac_paths.specs.Nodes.{NodeView, Somebody, ClusterRoleIn, OwnRole, E
 use Rattle.rbac_paths.specs.Rows.{MatchesRow}
 use Rattle.rbac_paths.specs.SharedWords.{AreHadBy}
 use Rattle.rbac_paths.specs.Steps.{RowView, table}
+use Rattle.rbac_paths.specs.Taking.{CanTakeOver}
 use Rattle.rbac_paths.specs.TakingOver.{TakesOver}
+use Rattle.rbac_paths.specs.Told.{HoldingsTake}
 use Rattle.rbac_paths.specs.declared.steps.Step.{Step}
 use Rattle.rbac_paths.specs.declared.table.Over.{Over}
 use Rattle.rbac_paths.specs.declared.table.Over.TheVariants as over
@@ -56,9 +58,20 @@ MayTakeBy rule step = Any (λ row. (row.step ≡ step) × MatchesOverOthers rule
 unfoldable pub SomeMayTake : List Step → HoldingView → Type 0
 SomeMayTake steps h = Any (MayTakeBy h.rule) steps
 
--- that is so for some of these holdings: only then do they take over roles or everything
-abbrev pub MayTakeOthers : List Step → List HoldingView → Type 0
-MayTakeOthers steps hs = Any (SomeMayTake steps) hs
+-- those of the holdings of which that is so
+abbrev pub AreOverOthers : List Step → List HoldingView → List HoldingView → Type 0
+AreOverOthers steps hs few = (h : HoldingView) → Contains few h
+    ↔ (Contains hs h × SomeMayTake steps h)
+
+-- of the nodes that this is about, these holdings take over by one of the steps what x takes over
+abbrev pub DecideOn : PolicyView → List Step → NodeView → List HoldingView → (NodeView → Type 0)
+    → Type 0
+DecideOn p steps x hs IsAbout = (step : Step) (y : NodeView) → Contains steps step → IsAbout y
+    → HoldingsTake step hs y ↔ CanTakeOver p x step y
+
+-- about a node, and about roles and everything, by which it may be untold
+abbrev pub IsAboutNode : NodeView → NodeView → Type 0
+IsAboutNode y z = (z ≡ y) ⊎ IsNobody z
 
 -- the words by which a node can be had: only somebody can be had by words
 abbrev pub IsHadBy : NodeView → List Text → Type 0

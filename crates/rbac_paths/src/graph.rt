@@ -4,8 +4,9 @@ ghost use Rattle.std.specs.Prelude.{◌≡◌, ◌↔◌, All, Any, IfOk, IsTrue
 ghost use Rattle.rbac_terms.specs.Principals.{Who};
 ghost use Rattle.rbac_model.specs.Policies.{IsPolicy, PolicyView};
 ghost use Rattle.rbac_paths.specs.Having.{AreHoldings};
-ghost use Rattle.rbac_paths.specs.Joints.{AreHad, AreOthers, IsHadBy, IsNobody, IsOverNobody};
-ghost use Rattle.rbac_paths.specs.Joints.{MatchesOverOthers, MayTakeBy, MayTakeOthers, SomeMayTake};
+ghost use Rattle.rbac_paths.specs.Joints.{AreHad, AreOthers, AreOverOthers, DecideOn, IsHadBy};
+ghost use Rattle.rbac_paths.specs.Joints.{IsNobody, IsOverNobody, MatchesOverOthers, MayTakeBy};
+ghost use Rattle.rbac_paths.specs.Joints.{SomeMayTake};
 ghost use Rattle.rbac_paths.specs.Joints.{TakesByWords};
 ghost use Rattle.rbac_paths.specs.Nodes.{Somebody, node_of};
 ghost use Rattle.rbac_paths.specs.Paths.{IsGraphOf};
@@ -88,11 +89,12 @@ fn others_taken(
         → IfOk result
         (λ js. AreOthers p steps.now (node_of from.entry) (map node_of nodes.now) js) }
 {
-    if may_take_others(steps, holdings) {
-        others_among(alloc, steps, holdings, from, nodes)
-    } else {
-        Ok(Items::new(alloc))
+    let few = over_others(alloc, steps, holdings)?;
+    let few = few.as_slice();
+    if few.is_empty() {
+        return Ok(Items::new(alloc));
     }
+    others_among(alloc, steps, few, from, nodes)
 }
 
 // The same, where each of the nodes is asked for.
@@ -103,7 +105,8 @@ fn others_among(
     from: Node<'_>,
     nodes: &[Node<'_>],
 ) -> Result<Items<usize>, AllocError>
-    ensures { (p : PolicyView) → IsPolicy p → AreHoldings p (node_of from.entry) holdings.now
+    ensures { (p : PolicyView)
+        → DecideOn p steps.now (node_of from.entry) holdings.now IsNobody
         → IfOk result
         (λ js. AreOthers p steps.now (node_of from.entry) (map node_of nodes.now) js) }
 {
@@ -116,9 +119,10 @@ fn others_among(
     Ok(Items::from_vec(others))
 }
 
-// Whether a node, which has exactly these holdings, takes over another that is a role or everything.
+// Whether a node takes over another that is a role or everything; these holdings decide that.
 fn takes_other(steps: &[StepRows], holdings: &[Holding<'_>], from: Node<'_>, to: Node<'_>) -> bool
-    ensures { (p : PolicyView) → IsPolicy p → AreHoldings p (node_of from.entry) holdings.now
+    ensures { (p : PolicyView)
+        → DecideOn p steps.now (node_of from.entry) holdings.now IsNobody
         → IsTrue result ↔ (IsNobody (node_of to.entry)
         × TakesOver p steps.now (node_of from.entry) (node_of to.entry)) }
 {
@@ -132,12 +136,23 @@ fn is_nobody(node: Node<'_>) -> bool
     !matches!(node, Node::Somebody(_))
 }
 
-// Whether a rule of these holdings matches some row of the steps that is over roles or everything.
-// Most nodes have none, and so aren't asked about each role in each scope.
-fn may_take_others(steps: &[StepRows], holdings: &[Holding<'_>]) -> bool
-    ensures { IsTrue result ↔ MayTakeOthers steps.now holdings.now }
+// Those of the holdings whose rules match some row of the steps that is over roles or everything.
+// Most nodes have none, and so aren't asked about each role in each scope; the others have few.
+fn over_others<'p>(
+    alloc: Global,
+    steps: &[StepRows],
+    holdings: &[Holding<'p>],
+) -> Result<Vec<Holding<'p>>, AllocError>
+    ensures { IfOk result (λ few. AreOverOthers steps.now holdings.now few.items) }
 {
-    holdings.iter().any(|held| some_may_take(steps, held))
+    let mut few = Vec::new(alloc);
+    for held in holdings {
+        if some_may_take(steps, held) {
+            let Holding { home, rule } = *held;
+            few.push(Holding { home, rule })?;
+        }
+    }
+    Ok(few)
 }
 
 // Whether the holding's rule matches some row of the steps that is over roles or everything.

@@ -2,8 +2,8 @@
 
 ghost use Rattle.std.specs.Prelude.{◌≡◌, ◌↔◌, ◌⊎◌, Any, IfOk, IsTrue, MatchOption, None, Some};
 ghost use Rattle.std.specs.Option.{option_copied};
-ghost use Rattle.rbac_model.specs.Policies.{IsPolicy, PolicyView};
-ghost use Rattle.rbac_paths.specs.Having.{AreHoldings};
+ghost use Rattle.rbac_model.specs.Policies.{PolicyView};
+ghost use Rattle.rbac_paths.specs.Joints.{DecideOn, IsAboutNode};
 ghost use Rattle.rbac_paths.specs.Nodes.{ClusterRoleIn, node_of};
 ghost use Rattle.rbac_paths.specs.Rows.{AreOfStep};
 ghost use Rattle.rbac_paths.specs.Steps.{table};
@@ -98,15 +98,16 @@ pub(crate) fn rows_of_steps(alloc: Global, steps: &[Step]) -> Result<Vec<StepRow
     Ok(all)
 }
 
-/// The first of these steps by which a node takes over another, as is told; the first has exactly
-/// these holdings. `None` exactly if there is none.
+/// The first of these steps by which a node takes over another, as is told; the holdings of the first,
+/// or as many of them as decide that. `None` exactly if there is none.
 pub(crate) fn first_told<'s>(
     steps: &'s [StepRows],
     holdings: &[Holding<'_>],
     from: Node<'_>,
     to: Node<'_>,
 ) -> Option<&'s StepRows>
-    ensures { (p : PolicyView) → IsPolicy p → AreHoldings p (node_of from.entry) holdings.now
+    ensures { (p : PolicyView) → DecideOn p steps.now (node_of from.entry) holdings.now
+        (IsAboutNode (node_of to.entry))
         → MatchOption result
         (¬ TakesOver p steps.now (node_of from.entry) (node_of to.entry))
         (λ rows. IsFirstTold p steps.now (node_of from.entry) (node_of to.entry) rows.now) }

@@ -13,13 +13,13 @@ loop-rows-preserved c =
     (λ told. (let both = c.if-is_told.ensures.1 told in cc)) c.loop-rows.invariant
 
 pub returns-then-is_told : goal.returns-then-is_told
-returns-then-is_told c p ok are =
+returns-then-is_told c p decide =
     let steps = c.args.steps.now in
     let i = c.loop-rows.rows-index in
-    first_told steps c.args.holdings.now (node_of c.args.to) p ok (node_of c.args.from) are (c.goes_on.ensures.0 (search rules)) i c.rows-item.result
+    first_told steps c.args.holdings.now (node_of c.args.to) p (node_of c.args.from) decide (c.goes_on.ensures.0 (search rules)) i c.rows-item.result
     (slice_get_read steps _ i c.rows-item.result refl c.loop-rows-test.true c.rows-item.is) (c.if-is_told.ensures.0 refl) c.loop-rows.invariant
 
 pub returns : goal.returns
-returns c p ok are =
-    takes_none c.args.steps.now c.args.holdings.now (node_of c.args.to) p ok (node_of c.args.from) are c.loop-rows.rows-index
+returns c p decide =
+    takes_none c.args.steps.now c.args.holdings.now (node_of c.args.to) p (node_of c.args.from) decide c.loop-rows.rows-index
     (λ k s there. (let low = slice_get_within c.args.steps.now k s there in let end = c.loop-rows-test.false in omega (arith, low, end))) c.loop-rows.invariant
