@@ -1,24 +1,26 @@
 -- The roles that a node takes over, and everything, one after another.
-use Rattle.std.proofs.Common.{◌≡◌, ◌↔◌, ◌∙◌, ◌<◌, ◌+◌, ◌++◌, ℕ, Bor, List, [], ◌∷◌, Option, None, Some, IsSome, MatchOption, Any, Contains, false, refl, true, ap, arith, get_or, inl, inr, length, slice_get, subst, sym, take}
+use Rattle.std.proofs.Common.{◌≡◌, ◌⊎◌, ◌↔◌, ◌∙◌, ◌<◌, ◌+◌, ◌++◌, ℕ, Bor, List, [], ◌∷◌, Option, None, Some, IsSome, MatchOption, Any, Contains, false, refl, true, ap, arith, get_or, inl, inr, length, slice_get, subst, sym, take}
 use Rattle.std.proofs.lemmas.Bool.{cases_eq}
 use Rattle.std.proofs.lemmas.List.{take_more}
 use Rattle.std.proofs.lemmas.List.Elements.{Contains-append_left, Contains-push, Contains-push_cases}
 use Rattle.std.proofs.lemmas.Option.{same_Some, slice_get_within}
 use Rattle.rbac_terms.specs.Matching.{VerbOk}
+use Rattle.rbac_terms.specs.Targets.{Resource}
 use Rattle.rbac_terms.specs.Text.{Text}
 use Rattle.rbac_terms.specs.declared.matching.Rule.{Rule}
 use Rattle.rbac_model.proofs.OwnWords.{any_from}
-use Rattle.rbac_model.specs.Policies.{IsPolicy, PolicyView}
+use Rattle.rbac_model.specs.Policies.{IsPolicy, Live, PolicyView}
 use Rattle.rbac_paths.specs.Having.{AreHoldings, HoldingView}
-use Rattle.rbac_paths.specs.Joints.{AreOthers, AreOverOthers, DecideOn, IsAboutNode, IsNobody, IsOther, IsOverNobody, MatchesOverOthers, MayTakeBy, SomeMayTake}
+use Rattle.rbac_paths.specs.Joints.{AreOthers, AreOverOthers, CountsAt, DecideOn, IsAboutNode, IsNobody, IsOther, IsOverNobody, MatchesOverOthers, MayTakeBy, SomeMayTake, scope_at}
 use Rattle.rbac_paths.specs.Nodes.{NodeView, Somebody, ClusterRoleIn, OwnRole, EverythingIn}
 use Rattle.rbac_paths.specs.Rows.{AreOfStep, HasRowResource}
-use Rattle.rbac_paths.specs.Steps.{RowView, table}
-use Rattle.rbac_paths.specs.Taking.{IsOver, RowTakes, RuleTakes}
+use Rattle.rbac_paths.specs.Steps.{RowView, asked_in, table}
+use Rattle.rbac_paths.specs.Taking.{IsOver, RowTakes, RuleTakes, scope_namespace}
 use Rattle.rbac_paths.specs.TakingOver.{TakesOver}
 use Rattle.rbac_paths.specs.Told.{HoldingTakes, HoldingsTake, IsFirstTold}
 use Rattle.rbac_paths.specs.declared.steps.Step.{Step}
 use Rattle.rbac_paths.specs.declared.table.Counts.{Counts}
+use Rattle.rbac_paths.specs.declared.table.Counts.TheVariants as counted
 use Rattle.rbac_paths.specs.declared.table.Over.{Over}
 use Rattle.rbac_paths.specs.declared.table.Over.TheVariants as over
 use Rattle.rbac_paths.proofs.AllowedBy.{by_holdings, in_holdings}
@@ -63,6 +65,48 @@ matches_step : (h : HoldingView) (y : NodeView) (step : Step) → IsNobody y →
 unfolding MayTakeBy
 matches_step h y step nobody a =
     any_from (λ row. (row.step ≡ step) × MatchesOverOthers h.rule row) table a.1 (a.0, a.2, a.3) (a.4.0, matches h y a.1 nobody a.4.1)
+
+-- a rule takes over a role, or everything, only where it counts
+at_scope : (home : Option Text) (counts : Counts) (namespace : Text) (scope : Option Text) (group text name : Text) → Live home (asked_in counts namespace) (Resource group text name) → namespace ≡ scope_namespace scope
+    → (home ≡ None) ⊎ (home ≡ scope)
+at_scope None counts namespace scope group text name live e = inl refl
+at_scope (Some own) counted.ClusterWide namespace scope group text name live e = absurd (live.0 refl)
+at_scope (Some own) counted.InNamespaces namespace None group text name live e = absurd (live.0 e)
+at_scope (Some own) counted.InNamespaces namespace (Some there) group text name live e = inr (ap Some (live.1 ∙ e))
+
+over_scope : (o : Over) (counts : Counts) (y : NodeView) (namespace own : Text) → IsNobody y → IsOver o counts y namespace own → namespace ≡ scope_namespace (scope_at y)
+over_scope o counts (Somebody who) namespace own nobody is = absurd nobody
+over_scope over.Users counts (ClusterRoleIn role scope) namespace own nobody is = absurd is
+over_scope over.Groups counts (ClusterRoleIn role scope) namespace own nobody is = absurd is
+over_scope over.Accounts counts (ClusterRoleIn role scope) namespace own nobody is = absurd is
+over_scope over.Everything counts (ClusterRoleIn role scope) namespace own nobody is = absurd is
+over_scope over.ClusterRoles counts (ClusterRoleIn role scope) namespace own nobody is = is.0
+over_scope over.Roles counts (ClusterRoleIn role scope) namespace own nobody is = absurd is
+over_scope over.Users counts (OwnRole role) namespace own nobody is = absurd is
+over_scope over.Groups counts (OwnRole role) namespace own nobody is = absurd is
+over_scope over.Accounts counts (OwnRole role) namespace own nobody is = absurd is
+over_scope over.Everything counts (OwnRole role) namespace own nobody is = absurd is
+over_scope over.ClusterRoles counts (OwnRole role) namespace own nobody is = absurd is
+over_scope over.Roles counts (OwnRole role) namespace own nobody is = is.0
+over_scope over.Users counts (EverythingIn scope) namespace own nobody is = absurd is
+over_scope over.Groups counts (EverythingIn scope) namespace own nobody is = absurd is
+over_scope over.Accounts counts (EverythingIn scope) namespace own nobody is = absurd is
+over_scope over.Everything counts (EverythingIn scope) namespace own nobody is = is.0
+over_scope over.ClusterRoles counts (EverythingIn scope) namespace own nobody is = absurd is
+over_scope over.Roles counts (EverythingIn scope) namespace own nobody is = absurd is
+
+counts_there : (h : HoldingView) (y : NodeView) (step : Step) → IsNobody y → RuleTakes step h.home h.rule y → CountsAt (scope_at y) h
+counts_there h y step nobody a =
+    let row = a.1 in
+    let w = a.4.1 in
+    at_scope h.home row.counts w.namespace (scope_at y) row.group w.text w.name w.live (over_scope row.over row.counts y w.namespace w.own nobody w.over)
+
+pub some_counts : (p : PolicyView) (steps : List Step) (x : NodeView) (hs : List HoldingView) → DecideOn p steps x hs IsNobody → (y : NodeView) → IsNobody y → TakesOver p steps x y
+    → Any (CountsAt (scope_at y)) hs
+unfolding HoldingsTake HoldingTakes
+some_counts p steps x hs decide y nobody t =
+    let a = (decide t.0 y t.1.among nobody).1 t.1.can in
+    any_from (CountsAt (scope_at y)) hs a.1 (a.0, a.2, a.3) (counts_there a.1 y t.0 nobody a.4)
 
 -- those of one more holding
 module _ (steps : List Step) (hs : List HoldingView) (i : ℕ) (h : HoldingView) (low : i < length hs) (at : h ≡ get_or hs i h) (few : List HoldingView) (is : AreOverOthers steps (take i hs) few) where

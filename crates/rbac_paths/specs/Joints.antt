@@ -1,5 +1,5 @@
 -- How the graph of nodes is joined: principals by the words that they share, and other nodes one by one.
-use Rattle.std.specs.Prelude.{◌≡◌, ◌↔◌, ◌⊎◌, ℕ, ◌<◌, List, [], Some, Any, Contains, length, slice_get}
+use Rattle.std.specs.Prelude.{◌≡◌, ◌↔◌, ◌⊎◌, ℕ, ◌<◌, List, [], Option, None, Some, Any, Contains, length, slice_get}
 use Rattle.std.specs.Prelude.{slice_index_or}
 use Rattle.rbac_terms.specs.Text.{Text}
 use Rattle.rbac_terms.specs.Principals.{Who}
@@ -62,6 +62,17 @@ SomeMayTake steps h = Any (MayTakeBy h.rule) steps
 abbrev pub AreOverOthers : List Step → List HoldingView → List HoldingView → Type 0
 AreOverOthers steps hs few = (h : HoldingView) → Contains few h
     ↔ (Contains hs h × SomeMayTake steps h)
+
+-- where a role is, or everything
+abbrev pub scope_at : NodeView → Option Text
+scope_at (Somebody who) = None
+scope_at (ClusterRoleIn role scope) = scope
+scope_at (OwnRole role) = Some role.namespace
+scope_at (EverythingIn scope) = scope
+
+-- a rule that counts there, or in the whole cluster, counts in the scope
+abbrev pub CountsAt : Option Text → HoldingView → Type 0
+CountsAt scope h = (h.home ≡ None) ⊎ (h.home ≡ scope)
 
 -- of the nodes that this is about, these holdings take over by one of the steps what x takes over
 abbrev pub DecideOn : PolicyView → List Step → NodeView → List HoldingView → (NodeView → Type 0)

@@ -1,12 +1,13 @@
 //! The graph of nodes: an edge leads from each node to each that it takes over.
 
 ghost use Rattle.std.specs.Prelude.{◌≡◌, ◌↔◌, All, Any, IfOk, IsTrue, length, map};
+ghost use Rattle.std.specs.Option.{option_copied};
 ghost use Rattle.rbac_terms.specs.Principals.{Who};
 ghost use Rattle.rbac_model.specs.Policies.{IsPolicy, PolicyView};
 ghost use Rattle.rbac_paths.specs.Having.{AreHoldings};
-ghost use Rattle.rbac_paths.specs.Joints.{AreHad, AreOthers, AreOverOthers, DecideOn, IsHadBy};
+ghost use Rattle.rbac_paths.specs.Joints.{AreHad, AreOthers, AreOverOthers, CountsAt, DecideOn, IsHadBy};
 ghost use Rattle.rbac_paths.specs.Joints.{IsNobody, IsOverNobody, MatchesOverOthers, MayTakeBy};
-ghost use Rattle.rbac_paths.specs.Joints.{SomeMayTake};
+ghost use Rattle.rbac_paths.specs.Joints.{SomeMayTake, scope_at};
 ghost use Rattle.rbac_paths.specs.Joints.{TakesByWords};
 ghost use Rattle.rbac_paths.specs.Nodes.{Somebody, node_of};
 ghost use Rattle.rbac_paths.specs.Paths.{IsGraphOf};
@@ -21,7 +22,7 @@ use crate::told::{StepRows, first_told};
 use crate::words::{taken_words, words_of_whom};
 use rbac_model::Policy;
 use rbac_subjects::SubjectIndex;
-use rbac_terms::{Items, Rule, Words};
+use rbac_terms::{Items, Rule, Word, Words};
 use rbac_ways::Graph;
 use std::alloc::{AllocError, Global};
 
@@ -126,7 +127,47 @@ fn takes_other(steps: &[StepRows], holdings: &[Holding<'_>], from: Node<'_>, to:
         → IsTrue result ↔ (IsNobody (node_of to.entry)
         × TakesOver p steps.now (node_of from.entry) (node_of to.entry)) }
 {
-    is_nobody(to) && first_told(steps, holdings, from, to).is_some()
+    is_nobody(to) && takes_nobody(steps, holdings, from, to)
+}
+
+// Whether a node takes over a role, or everything; these holdings decide that. Where they count is
+// asked first, since in most scopes none does.
+fn takes_nobody(steps: &[StepRows], holdings: &[Holding<'_>], from: Node<'_>, to: Node<'_>) -> bool
+    ensures { (p : PolicyView)
+        → DecideOn p steps.now (node_of from.entry) holdings.now IsNobody
+        → IsNobody (node_of to.entry)
+        → IsTrue result ↔ TakesOver p steps.now (node_of from.entry) (node_of to.entry) }
+{
+    count_at(holdings, scope_at(to)) && first_told(steps, holdings, from, to).is_some()
+}
+
+// Where a role is, or everything.
+fn scope_at<'p>(node: Node<'p>) -> Option<&'p Word>
+    ensures { option_copied result ≡ scope_at (node_of node.entry) }
+{
+    match node {
+        Node::Somebody(_) => None,
+        Node::ClusterRole(_, scope) | Node::Everything(scope) => scope,
+        Node::Role(role) => Some(&role.namespace),
+    }
+}
+
+// Whether some of these holdings counts in the scope.
+fn count_at(holdings: &[Holding<'_>], scope: Option<&Word>) -> bool
+    ensures { IsTrue result ↔ Any (CountsAt (option_copied scope.entry)) holdings.now }
+{
+    holdings.iter().any(|held| counts_at(held, scope))
+}
+
+// Whether the holding counts in the scope.
+fn counts_at(held: &Holding<'_>, scope: Option<&Word>) -> bool
+    ensures { IsTrue result ↔ CountsAt (option_copied scope.entry) held.now }
+{
+    match (held.home, scope) {
+        (None, _) => true,
+        (Some(home), Some(there)) => home == there,
+        (Some(_), None) => false,
+    }
 }
 
 // Whether a node is a role, or everything.
