@@ -598,6 +598,8 @@ def refusals(it):
                        ('a path of no step', PATHS.replace('1', '0', 1).splitlines()[0]), ('a path to nobody', PATHS.splitlines()[1].replace('ClusterRole/edit', 'edit')),
                        ('a path to all but one', PATHS.splitlines()[0].replace('*', '**', 1)), ('a path from nobody', PATHS.splitlines()[0].replace('g:devs', 'devs')),
                        ('a path by no step', PATHS.splitlines()[0].replace('bind', '-', 1)), ('a path by no role', PATHS.splitlines()[0].replace('Role/*/lead', 'Role/lead', 1)),
+                       ('a path to a Role without a namespace', PATHS.splitlines()[1].replace('ClusterRole/edit', 'Role/edit')),
+                       ('a path by more than no role', PATHS.splitlines()[2].replace('-\t-\t-', '-\t-x\t-', 1)),
                        ('a path by a binding without a name', PATHS.splitlines()[1].replace('Binding/devs', 'Binding/')), ('a path by half a rule', PATHS.splitlines()[0][:-1] + '--'),
                        ('no token', 'next\ta b'), ('next without a token', 'next')):
         for words in ([], ['-o', 'json'], ['-o', 'name']):
