@@ -571,7 +571,33 @@ def ring():
     expect('their written rules', ['who-can', '-A', 'delete', 'pods'], 0, given=export(*items))
 
 
+def long_paths():
+    """A chain of three hundred accounts, each of which runs pods where the next one is; and two thousand accounts that all run pods everywhere,
+    of which alice gets the token of one."""
+    def subject(number):
+        return {'kind': 'ServiceAccount', 'namespace': 'n%03d' % number, 'name': 'x'}
+
+    def key(home, name):
+        return 'u:system:serviceaccount:%s:%s' % (home, name)
+
+    runs = cluster_role('r', [{'verbs': ['create'], 'apiGroups': [''], 'resources': ['pods']}])
+    items = [{**binding('RoleBinding', 'b', 'ClusterRole', 'r', 'n%03d' % (i + 1)), 'subjects': [subject(i)]} for i in range(300)]
+    chain = ''.join('%d\t%s\t-\t%s\t-\trun\tRoleBinding/n%03d/b\tClusterRole/r\tClusterRole/r\t1\t1\n'
+                    % (i, key('n%03d' % i, 'x'), key('n%03d' % (i - 1), 'x'), i) for i in range(1, 300))
+    expect('a chain of three hundred accounts', ['paths', key('n000', 'x')], 0, chain.encode(), given=export(runs, *items))
+
+    names = ['a%04d' % i for i in range(2000)]
+    accounts = [{'apiVersion': 'v1', 'kind': 'ServiceAccount', 'metadata': {'namespace': 'dev', 'name': name}} for name in names]
+    token = cluster_role('t', [{'verbs': ['create'], 'apiGroups': [''], 'resources': ['serviceaccounts/token'], 'resourceNames': ['a0007']}])
+    all_run = {**binding('ClusterRoleBinding', 'c', 'ClusterRole', 'r'), 'subjects': [{'kind': 'Group', 'name': 'system:serviceaccounts'}]}
+    lines = ['1\t%s\t-\tu:alice\t-\ttoken\tClusterRoleBinding/b\tClusterRole/t\tClusterRole/t\t1\t1\n' % key('dev', 'a0007')]
+    lines += ['2\t%s\t-\t%s\t-\trun\tClusterRoleBinding/c\tClusterRole/r\tClusterRole/r\t1\t1\n' % (key('dev', name), key('dev', 'a0007'))
+              for name in names if name != 'a0007']
+    expect('two thousand accounts that take over each other', ['paths', 'u:alice'], 0, ''.join(lines).encode(),
+           given=export(runs, token, all_run, binding('ClusterRoleBinding', 'b', 'ClusterRole', 't'), *accounts))
+
+
 if __name__ == '__main__':
     sys.exit(tested(streams, help_and_usage, full_disk, little_memory, rows, matrix_streams, universe_streams, rules_streams, lint_streams,
-                    powers_streams, paths_streams, limits, universe_limits, ring, transcripts, links_and_heads, spaced_bindings, loop_of_pages,
+                    powers_streams, paths_streams, limits, universe_limits, ring, long_paths, transcripts, links_and_heads, spaced_bindings, loop_of_pages,
                     example_cluster))
